@@ -1,0 +1,11 @@
+pub mod Census
+pub mod Invariant
+pub mod Rows
+pub mod Awaiting
+pub mod Handshake
+pub mod HandshakeRows
+pub mod Every
+pub mod Runs
+pub mod Derived
+pub mod Theorem
+mod Worked
