@@ -8,4 +8,5 @@ pub mod Every
 pub mod Runs
 pub mod Derived
 pub mod Theorem
+pub mod Bits
 mod Worked

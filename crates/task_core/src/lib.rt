@@ -1,4 +1,8 @@
-//! What a task cell stands on: the machine of moves and its laws.
+//! What a task cell stands on: its word and the steps on it, the machine of moves and its laws, and the traits of an executor's own types.
 #![tactic(auto)]
 
 pub mod moves;
+pub mod traits;
+pub mod word;
+
+pub use traits::{Future, Poll, Schedule, ScheduleInfo, TaskPoll, Wake, WithInfo, Yields};

@@ -1,0 +1,98 @@
+//! What a row counts.
+
+use std::fmt;
+use std::sync::atomic::{AtomicU64, Ordering};
+
+/// A number that goes up one by one.
+#[derive(Drop)]
+pub struct Counter {
+    count: AtomicU64,
+}
+
+impl Counter {
+    /// A counter at zero.
+    pub fn new() -> Counter {
+        Counter {
+            count: AtomicU64::new(0),
+        }
+    }
+
+    /// Counts one more.
+    pub fn add_one(&self) {
+        self.count.fetch_add(1, Ordering::SeqCst);
+    }
+
+    /// The number so far.
+    pub fn get(&self) -> u64 {
+        self.count.load(Ordering::SeqCst)
+    }
+}
+
+/// The counters of one row, which its futures, outputs and schedule values share.
+#[derive(Drop)]
+pub struct Counters {
+    /// Polls of futures.
+    pub polls: Counter,
+    /// Calls of schedule values.
+    pub schedules: Counter,
+    /// Drops of futures.
+    pub future_drops: Counter,
+    /// Drops of schedule values.
+    pub scheduler_drops: Counter,
+    /// Drops of outputs.
+    pub output_drops: Counter,
+}
+
+impl Counters {
+    /// Counters at zero.
+    pub fn new() -> Counters {
+        Counters {
+            polls: Counter::new(),
+            schedules: Counter::new(),
+            future_drops: Counter::new(),
+            scheduler_drops: Counter::new(),
+            output_drops: Counter::new(),
+        }
+    }
+
+    /// The four numbers that a row prints.
+    pub fn counts(&self) -> Counts {
+        Counts {
+            polls: self.polls.get(),
+            schedules: self.schedules.get(),
+            future_drops: self.future_drops.get(),
+            scheduler_drops: self.scheduler_drops.get(),
+        }
+    }
+}
+
+/// The four numbers that a row prints.
+#[derive(Clone, Copy, Debug, PartialEq, Eq)]
+pub struct Counts {
+    polls: u64,
+    schedules: u64,
+    future_drops: u64,
+    scheduler_drops: u64,
+}
+
+impl Counts {
+    /// The numbers in the order in which they are printed.
+    pub fn new(polls: u64, schedules: u64, future_drops: u64, scheduler_drops: u64) -> Counts {
+        Counts {
+            polls,
+            schedules,
+            future_drops,
+            scheduler_drops,
+        }
+    }
+}
+
+impl fmt::Display for Counts {
+    fn fmt<W: fmt::Write>(&self, f: &mut fmt::Formatter<W>) -> fmt::Result {
+        let polls = self.polls;
+        let schedules = self.schedules;
+        let future_drops = self.future_drops;
+        let scheduler_drops = self.scheduler_drops;
+        write!(f, "{polls},{schedules},{future_drops},{scheduler_drops}")
+    }
+}

@@ -1,0 +1,82 @@
+//! What each row works with, and what it answers.
+ghost use Rattle.std.specs.Prelude.{◌≡◌, IsTrue};
+
+use crate::rows::counters::{Counters, Counts};
+use crate::rows::flag::Flag;
+use crate::rows::future::{Behaviour, RowFuture};
+use crate::surroundings::{RowRunnable, RowTask, Scheduler, Surroundings};
+use async_task::spawn;
+use std::alloc::{AllocError, Global};
+use std::sync::{Arc, Wait};
+
+// Room in the queue: more than any row needs.
+const ROOM: usize = 8;
+
+/// Surroundings of a row's own, and its counters.
+#[derive(Drop)]
+pub struct Fixture<R: Wait + Drop> {
+    /// The queue of the row.
+    pub surroundings: Surroundings<R>,
+    /// The counters of the row.
+    pub counters: Arc<Counters>,
+    rt: R,
+    alloc: Global,
+}
+
+impl<R: Wait + Drop + Copy> Fixture<R> {
+    /// Surroundings with an empty queue, and counters at zero.
+    pub fn new(rt: R, alloc: Global) -> Result<Fixture<R>, AllocError> {
+        let surroundings = Surroundings::new(rt, alloc, ROOM)?;
+        let counters = Arc::new(alloc, Counters::new())?;
+        Ok(Fixture {
+            surroundings,
+            counters,
+            rt,
+            alloc,
+        })
+    }
+
+    /// Spawns a task whose future behaves like that.
+    pub fn spawn(
+        &self,
+        behaviour: Behaviour,
+    ) -> Result<(RowRunnable<'_, R>, RowTask<'_, R>), AllocError> {
+        let future = RowFuture::new(behaviour, Arc::try_clone(&self.counters)?);
+        let scheduler = Scheduler::new(Arc::try_clone(&self.counters)?);
+        match spawn(self.rt, self.alloc, future, scheduler, &self.surroundings) {
+            Ok(handles) => Ok(handles),
+            Err(refused) => {
+                drop(refused);
+                Err(AllocError)
+            }
+        }
+    }
+
+    /// An awaiter of that number.
+    pub fn flag(&self, number: u64) -> Result<Flag, AllocError> {
+        Flag::new(self.alloc, number)
+    }
+
+    /// The counters now.
+    pub fn counts(&self) -> Counts {
+        self.counters.counts()
+    }
+
+    /// The row's end: it agrees where what it saw did, and where its counters are the expected ones.
+    pub fn end(&self, agrees: bool, expected: Counts) -> Played {
+        let counts = self.counts();
+        Played {
+            counts,
+            agrees: agrees && counts == expected,
+        }
+    }
+}
+
+/// What a row answers.
+#[derive(Clone, Copy, Debug)]
+pub struct Played {
+    /// The counters at its end.
+    pub counts: Counts,
+    /// Whether all that it saw is what the row states.
+    pub agrees: bool,
+}
