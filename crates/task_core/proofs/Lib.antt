@@ -1,10 +1,10 @@
 pub mod Census
+pub mod Scenes
 pub mod Invariant
-pub mod Rows
+pub mod InvariantRows
 pub mod Awaiting
 pub mod Handshake
 pub mod HandshakeRows
-pub mod Every
 pub mod Runs
 pub mod Derived
 pub mod Theorem

@@ -6,10 +6,11 @@ use Rattle.task_core.specs.Position.{Position, Act}
 use Rattle.task_core.specs.Table.{Outcome, rule}
 use Rattle.task_core.specs.Machine.{Machine, Step, opening, scene, begins, after, moves, step, run_from, run, how_many, polls_future}
 use Rattle.task_core.proofs.Census.{Census, plus, weigh, census, nobody}
-use Rattle.task_core.proofs.Invariant.{Holds, Kept}
+use Rattle.task_core.proofs.Invariant.{Holds, Kept, kept_by_rule}
 use Rattle.task_core.proofs.Awaiting.{Awaiting, join, none, await, awaiting, fits}
-use Rattle.task_core.proofs.Handshake.{HandshakeHolds, HandshakeKept}
-use Rattle.task_core.proofs.Every.{every_row, every_shake}
+use Rattle.task_core.proofs.Handshake.{HandshakeHolds, HandshakeKept, handshake_kept_by_rule}
+use Rattle.task_core.proofs.InvariantRows.{every_row}
+use Rattle.task_core.proofs.HandshakeRows.{every_handshake_row}
 use Rattle.task_core.specs.Word.{bit, opening_word}
 
 -- all parties but number i
@@ -116,8 +117,8 @@ moves_stays m i act None e h = tt
 moves_stays m i act (Some p) e h =
     let holds = subst (Holds m.limit m.word m.slots m.trace) (split m.parties i p e) h.holds in
     after_stays m i p (rule (scene m) act p) e
-    (every_row act p (scene m) m.trace (census (others m.parties i)) (ap (nat_lt 0) (polling m.parties ∙ ap (λ (c : Census). c.polling) (split m.parties i p e))) holds)
-    (λ k. every_shake act p k (scene m) m.trace (census (others m.parties i)) (awaiting k (others m.parties i)) (fits k (others m.parties i)) holds
+    (kept_by_rule act p (every_row act p) (scene m) m.trace (census (others m.parties i)) (ap (nat_lt 0) (polling m.parties ∙ ap (λ (c : Census). c.polling) (split m.parties i p e))) holds)
+    (λ k. handshake_kept_by_rule act p (every_handshake_row act p) k (scene m) m.trace (census (others m.parties i)) (awaiting k (others m.parties i)) (fits k (others m.parties i)) holds
     (subst (HandshakeHolds k m.word m.slots m.trace) (split_awaiting k m.parties i p e) (h.shakes k)))
 
 run_stays : (m : Option Machine) (steps : List Step) → Stays m → Stays (run_from m steps)
