@@ -1,4 +1,4 @@
-//! The worked rows of the task cell: small scenes whose counters and answers are known, played and printed.
+//! The worked rows of the task cell: short sequences of calls whose counters and answers are known, run and printed.
 #![tactic(auto)]
 
 mod rows;

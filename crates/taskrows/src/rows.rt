@@ -1,5 +1,7 @@
 //! The worked rows: which are run, and what is printed of each.
-ghost use Rattle.std.specs.Prelude.{◌≡◌, ◌≤◌, length, IfOk};
+ghost use Rattle.std.specs.Prelude.{◌≡◌, ◌≢◌, ◌==◌, ◌<◌, ◌≤◌, ◌↔◌, if◌then◌else◌, []};
+ghost use Rattle.std.specs.Prelude.{IsTrue, IsSome, IfSome, IfOk, IsOkAnd};
+ghost use Rattle.taskrows.specs.Arguments.{AskForRows};
 
 mod awaiting;
 mod cancelling;
@@ -11,7 +13,7 @@ pub mod future;
 mod scheduling;
 mod table;
 
-use fixture::Played;
+use fixture::Outcome;
 use std::alloc::{AllocError, Global};
 use std::io;
 use std::sync::Wait;
@@ -30,6 +32,9 @@ pub fn rows<R, W: io::Write, E: io::Write>(
 ) -> u8
 where
     R: Wait + Drop + Copy,
+    ensures status { result ≤ 2 }
+    ensures asked { AskForRows args.now → result ≤ 1 }
+    ensures refused { ¬ AskForRows args.now → 1 ≤ result }
 {
     answer(rt, alloc, args, out, err).unwrap_or(1)
 }
@@ -44,30 +49,49 @@ fn answer<R, W: io::Write, E: io::Write>(
 ) -> io::Result<u8>
 where
     R: Wait + Drop + Copy,
+    ensures asked { AskForRows args.now → IfOk result (λ status. status ≤ 1) }
+    ensures refused { ¬ AskForRows args.now → IfOk result (λ status. status ≡ 2) }
+{
+    let Some(asked) = asked_rows(args) else {
+        writeln!(err, "usage: taskrows [threads]")?;
+        err.flush()?;
+        return Ok(2);
+    };
+    print_rows(rt, alloc, asked, out)
+}
+
+// The rows that the arguments ask for.
+fn asked_rows(args: &[String]) -> Option<&'static [Row]>
+    ensures known { IsSome result ↔ AskForRows args.now }
+    ensures all { args.now ≡ [] → IfSome result (λ asked. asked.now ≡ Row.ALL) }
+    ensures threads { args.now ≢ [] → IfSome result (λ asked. asked.now ≡ []) }
 {
     match args {
-        [] => print_rows(rt, alloc, &Row::ALL, out),
-        [word] if word.as_str() == "threads" => print_rows(rt, alloc, &[], out),
-        _ => {
-            writeln!(err, "usage: taskrows [threads]")?;
-            err.flush()?;
-            Ok(2)
-        }
+        [] => Some(&Row::ALL),
+        [word] if word.as_str() == "threads" => Some(&[]),
+        _ => None,
     }
 }
 
-// Runs and prints these rows: 0 where all agree, else 1.
+// Runs these rows, prints a line for each and the last line, and answers the status.
 fn print_rows<R, W: io::Write>(rt: R, alloc: Global, rows: &[Row], out: &mut W) -> io::Result<u8>
 where
     R: Wait + Drop + Copy,
+    ensures { IfOk result (λ status. status ≤ 1) }
 {
     let mut agreeing = 0;
     for row in rows {
-        if print_row(*row, row.play(rt, alloc), out)? {
+        if print_row(*row, row.run(rt, alloc), out)? {
             agreeing += 1;
         }
     }
-    let total = rows.len();
+    print_total(agreeing, rows.len(), out)
+}
+
+// Prints the last line. The status is 0 where all rows agree, else 1.
+fn print_total<W: io::Write>(agreeing: usize, total: usize, out: &mut W) -> io::Result<u8>
+    ensures { IfOk result (λ status. status ≡ (if agreeing == total then 0 else 1)) }
+{
     writeln!(out, "rows ok: {agreeing} of {total}")?;
     out.flush()?;
     Ok(u8::from(agreeing != total))
@@ -76,15 +100,21 @@ where
 // Prints what a row answered, and says whether it agrees.
 fn print_row<W: io::Write>(
     row: Row,
-    played: Result<Played, AllocError>,
+    outcome: Result<Outcome, AllocError>,
     out: &mut W,
-) -> io::Result<bool> {
-    let Ok(played) = played else {
+) -> io::Result<bool>
+    ensures { IfOk result (λ agrees.
+        IsTrue agrees ↔ IsOkAnd outcome (λ ended. IsTrue ended.agrees)) }
+{
+    let Ok(outcome) = outcome else {
         writeln!(out, "{row} NO MEMORY")?;
         return Ok(false);
     };
-    let counts = played.counts;
-    let mark = if played.agrees { "" } else { " FAILED" };
+    let counts = outcome.counts;
+    let mark = if outcome.agrees { "" } else { " FAILED" };
     writeln!(out, "{row} {counts}{mark}")?;
-    Ok(played.agrees)
+    Ok(outcome.agrees)
 }
+
+#[cfg(test)]
+mod tests;

@@ -1,5 +1,5 @@
 //! The surroundings of a row's task: the queue of its Runnables, and the schedule value that pushes there.
-ghost use Rattle.std.specs.Prelude.{⊤};
+ghost use Rattle.std.specs.Prelude.{⊤, ◌≡◌};
 
 use crate::rows::counters::Counters;
 use crate::rows::flag::Flag;

@@ -1,22 +1,29 @@
 //! The rows in which a Task is polled.
+ghost use Rattle.std.specs.Prelude.{◌≡◌, ◌↔◌, IsTrue, IfOk};
+ghost use Rattle.taskrows.specs.Polled.{IsReadyWith};
+ghost use Rattle.taskrows.specs.Row.{AgreesAt};
 
 use crate::rows::counters::Counts;
-use crate::rows::fixture::{Fixture, Played};
+use crate::rows::fixture::{Fixture, Outcome};
 use crate::rows::future::{Behaviour, Output};
 use async_task::{TaskClosed, TaskPoll};
 use std::alloc::AllocError;
 use std::sync::Wait;
 
 // Whether a Task's poll answered ready with that number.
-fn is_ready_with(polled: &TaskPoll<Result<Output, TaskClosed>>, number: u64) -> bool {
+fn is_ready_with(polled: &TaskPoll<Result<Output, TaskClosed>>, number: u64) -> bool
+    ensures { IsTrue result ↔ IsReadyWith polled.now number }
+{
     match polled {
-        TaskPoll::Ready(Ok(output)) => output.number() == number,
+        TaskPoll::Ready(Ok(output)) => output.number == number,
         _ => false,
     }
 }
 
 /// The Task is polled before and after the run, which wakes its awaiter; the second poll gets the output.
-pub fn cancel_join<R: Wait + Drop + Copy>(fixture: &Fixture<R>) -> Result<Played, AllocError> {
+pub fn cancel_join<R: Wait + Drop + Copy>(fixture: &Fixture<R>) -> Result<Outcome, AllocError>
+    ensures { IfOk result (AgreesAt 1 0 1 1) }
+{
     let flag = fixture.flag(1)?;
     let (runnable, mut task) = fixture.spawn(Behaviour::Ready(1))?;
     let waits = matches!(task.poll(&flag), TaskPoll::Pending) && flag.wakes() == 0;
@@ -30,7 +37,9 @@ pub fn cancel_join<R: Wait + Drop + Copy>(fixture: &Fixture<R>) -> Result<Played
 }
 
 /// A second poll whose clone is refused leaves the stored awaiter, which the run then wakes.
-pub fn refused_clone<R: Wait + Drop + Copy>(fixture: &Fixture<R>) -> Result<Played, AllocError> {
+pub fn refused_clone<R: Wait + Drop + Copy>(fixture: &Fixture<R>) -> Result<Outcome, AllocError>
+    ensures { IfOk result (AgreesAt 1 0 1 0) }
+{
     let stored = fixture.flag(1)?;
     let refusing = fixture.flag(2)?;
     refusing.refuse_next_clone();
@@ -39,15 +48,15 @@ pub fn refused_clone<R: Wait + Drop + Copy>(fixture: &Fixture<R>) -> Result<Play
     let refused = matches!(task.poll(&refusing), TaskPoll::NoMemory) && stored.wakes() == 0;
     runnable.run();
     let woken = stored.wakes() == 1 && refusing.wakes() == 0;
-    let played = fixture.end(waits && refused && woken, Counts::new(1, 0, 1, 0));
+    let outcome = fixture.end(waits && refused && woken, Counts::new(1, 0, 1, 0));
     drop(task);
-    Ok(played)
+    Ok(outcome)
 }
 
 /// The run of a task that was detached while it was awaited wakes the awaiter.
-pub fn awaiter_completes<R: Wait + Drop + Copy>(
-    fixture: &Fixture<R>,
-) -> Result<Played, AllocError> {
+pub fn awaiter_completes<R: Wait + Drop + Copy>(fixture: &Fixture<R>) -> Result<Outcome, AllocError>
+    ensures { IfOk result (AgreesAt 1 0 1 1) }
+{
     let flag = fixture.flag(1)?;
     let (runnable, mut task) = fixture.spawn(Behaviour::Ready(1))?;
     let waits = matches!(task.poll(&flag), TaskPoll::Pending);
@@ -59,26 +68,31 @@ pub fn awaiter_completes<R: Wait + Drop + Copy>(
 }
 
 /// The last run of a task that was detached while it was awaited forgets the awaiter, which is dropped unwoken.
-pub fn awaiter_orphan<R: Wait + Drop + Copy>(fixture: &Fixture<R>) -> Result<Played, AllocError> {
+pub fn awaiter_orphan<R: Wait + Drop + Copy>(fixture: &Fixture<R>) -> Result<Outcome, AllocError>
+    ensures { IfOk result (AgreesAt 1 1 1 1) }
+{
     let flag = fixture.flag(1)?;
     let (runnable, mut task) = fixture.spawn(Behaviour::Pending)?;
     let waits = matches!(task.poll(&flag), TaskPoll::Pending);
     task.detach();
     let rescheduled = runnable.run();
+    let closing = fixture.surroundings.infos_are(&[false]);
     let closed = fixture.surroundings.run_next() == Some(false);
     let forgotten = flag.wakes() == 0 && flag.clones() == 1 && flag.drops() == 1;
-    let agrees = waits && !rescheduled && closed && forgotten;
+    let agrees = waits && !rescheduled && closing && closed && forgotten;
     Ok(fixture.end(agrees, Counts::new(1, 1, 1, 1)))
 }
 
 /// The output of a future is what the Task's poll answers.
-pub fn sum<R: Wait + Drop + Copy>(fixture: &Fixture<R>) -> Result<Played, AllocError> {
+pub fn sum<R: Wait + Drop + Copy>(fixture: &Fixture<R>) -> Result<Outcome, AllocError>
+    ensures { IfOk result (AgreesAt 1 0 1 0) }
+{
     let flag = fixture.flag(1)?;
     let (runnable, mut task) = fixture.spawn(Behaviour::Sum(1, 2))?;
     let rescheduled = runnable.run();
     let polled = task.poll(&flag);
     let agrees = !rescheduled && is_ready_with(&polled, 3);
-    let played = fixture.end(agrees, Counts::new(1, 0, 1, 0));
+    let outcome = fixture.end(agrees, Counts::new(1, 0, 1, 0));
     drop(task);
-    Ok(played)
+    Ok(outcome)
 }

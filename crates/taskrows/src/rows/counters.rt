@@ -1,4 +1,5 @@
 //! What a row counts.
+ghost use Rattle.std.specs.Prelude.{◌≡◌};
 
 use std::fmt;
 use std::sync::atomic::{AtomicU64, Ordering};
@@ -69,15 +70,27 @@ impl Counters {
 /// The four numbers that a row prints.
 #[derive(Clone, Copy, Debug, PartialEq, Eq)]
 pub struct Counts {
-    polls: u64,
-    schedules: u64,
-    future_drops: u64,
-    scheduler_drops: u64,
+    /// Polls of futures.
+    pub polls: u64,
+    /// Calls of schedule values.
+    pub schedules: u64,
+    /// Drops of futures.
+    pub future_drops: u64,
+    /// Drops of schedule values.
+    pub scheduler_drops: u64,
 }
 
 impl Counts {
-    /// The numbers in the order in which they are printed.
-    pub fn new(polls: u64, schedules: u64, future_drops: u64, scheduler_drops: u64) -> Counts {
+    /// The numbers, in the order in which they are printed.
+    pub fn new(polls: u64, schedules: u64, future_drops: u64, scheduler_drops: u64) -> Counts
+        ensures { result
+            ≡ record {
+              polls = polls;
+              schedules = schedules;
+              future_drops = future_drops;
+              scheduler_drops = scheduler_drops;
+            } }
+    {
         Counts {
             polls,
             schedules,

@@ -1,5 +1,5 @@
 //! What each row works with, and what it answers.
-ghost use Rattle.std.specs.Prelude.{◌≡◌, IsTrue};
+ghost use Rattle.std.specs.Prelude.{◌≡◌, ◌↔◌, IsTrue, IfOk};
 
 use crate::rows::counters::{Counters, Counts};
 use crate::rows::flag::Flag;
@@ -17,8 +17,7 @@ const ROOM: usize = 8;
 pub struct Fixture<R: Wait + Drop> {
     /// The queue of the row.
     pub surroundings: Surroundings<R>,
-    /// The counters of the row.
-    pub counters: Arc<Counters>,
+    counters: Arc<Counters>,
     rt: R,
     alloc: Global,
 }
@@ -43,29 +42,32 @@ impl<R: Wait + Drop + Copy> Fixture<R> {
     ) -> Result<(RowRunnable<'_, R>, RowTask<'_, R>), AllocError> {
         let future = RowFuture::new(behaviour, Arc::try_clone(&self.counters)?);
         let scheduler = Scheduler::new(Arc::try_clone(&self.counters)?);
-        match spawn(self.rt, self.alloc, future, scheduler, &self.surroundings) {
-            Ok(handles) => Ok(handles),
-            Err(refused) => {
-                drop(refused);
-                Err(AllocError)
-            }
-        }
+        spawn(self.rt, self.alloc, future, scheduler, &self.surroundings).map_err(|_| AllocError)
     }
 
     /// An awaiter of that number.
-    pub fn flag(&self, number: u64) -> Result<Flag, AllocError> {
+    pub fn flag(&self, number: u64) -> Result<Flag, AllocError>
+        ensures { IfOk result (λ flag. flag.number ≡ number) }
+    {
         Flag::new(self.alloc, number)
     }
 
-    /// The counters now.
+    /// The numbers that the row would print now.
     pub fn counts(&self) -> Counts {
         self.counters.counts()
     }
 
+    /// The number of outputs that were dropped.
+    pub fn output_drops(&self) -> u64 {
+        self.counters.output_drops.get()
+    }
+
     /// The row's end: it agrees where what it saw did, and where its counters are the expected ones.
-    pub fn end(&self, agrees: bool, expected: Counts) -> Played {
+    pub fn end(&self, agrees: bool, expected: Counts) -> Outcome
+        ensures { IsTrue result.agrees ↔ (IsTrue agrees × (result.counts ≡ expected)) }
+    {
         let counts = self.counts();
-        Played {
+        Outcome {
             counts,
             agrees: agrees && counts == expected,
         }
@@ -74,7 +76,7 @@ impl<R: Wait + Drop + Copy> Fixture<R> {
 
 /// What a row answers.
 #[derive(Clone, Copy, Debug)]
-pub struct Played {
+pub struct Outcome {
     /// The counters at its end.
     pub counts: Counts,
     /// Whether all that it saw is what the row states.

@@ -1,5 +1,5 @@
 //! The awaiter of the rows.
-ghost use Rattle.std.specs.Prelude.{⊤, ◌≡◌, ◌↔◌, IsTrue};
+ghost use Rattle.std.specs.Prelude.{⊤, ◌≡◌, ◌↔◌, IsTrue, IfOk, IfSome};
 
 use crate::rows::counters::Counter;
 use async_task::Wake;
@@ -18,13 +18,16 @@ struct FlagCounters {
 
 /// An awaiter that counts its clones, wakes and drops, all clones together. A wake by value is not counted as a drop.
 pub struct Flag {
-    number: u64,
+    /// What tells it from other flags; its clones have the same.
+    pub number: u64,
     counters: Arc<FlagCounters>,
 }
 
 impl Flag {
-    /// A flag of that number, which tells it from others.
-    pub fn new(alloc: Global, number: u64) -> Result<Flag, AllocError> {
+    /// A flag of that number.
+    pub fn new(alloc: Global, number: u64) -> Result<Flag, AllocError>
+        ensures { IfOk result (λ flag. flag.number ≡ number) }
+    {
         let counters = FlagCounters {
             clones: Counter::new(),
             wakes: Counter::new(),
@@ -72,7 +75,7 @@ impl Wake for Flag {
 
     ghost woken_by_ref = { λ _. ⊤ };
 
-    ghost cloned = { λ _ _. ⊤ };
+    ghost cloned = { λ flag clone. IfSome clone (λ other. other.number ≡ flag.number) };
 
     ghost compared = { λ flag other answer. IsTrue answer ↔ (flag.number ≡ other.number) };
 

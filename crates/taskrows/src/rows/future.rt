@@ -1,5 +1,6 @@
 //! The futures of the rows and their outputs.
-ghost use Rattle.std.specs.Prelude.{⊤};
+ghost use Rattle.std.specs.Prelude.{◌≡◌};
+ghost use Rattle.task_core.specs.Poll.{IfReady};
 
 use crate::rows::counters::Counters;
 use async_task::{Future, Poll, Yields};
@@ -18,13 +19,16 @@ pub enum Behaviour {
 
 /// A future that counts its polls and its drop.
 pub struct RowFuture {
-    behaviour: Behaviour,
+    /// What it does when it is polled.
+    pub behaviour: Behaviour,
     counters: Arc<Counters>,
 }
 
 impl RowFuture {
     /// A future that does this and counts here.
-    pub fn new(behaviour: Behaviour, counters: Arc<Counters>) -> RowFuture {
+    pub fn new(behaviour: Behaviour, counters: Arc<Counters>) -> RowFuture
+        ensures { result.behaviour ≡ behaviour }
+    {
         RowFuture {
             behaviour,
             counters,
@@ -32,7 +36,9 @@ impl RowFuture {
     }
 
     // Ready with that number. Where the counters cannot be shared once more it is pending, and no row agrees with that.
-    fn ready(&self, number: u64) -> Poll<Output> {
+    fn ready(&self, number: u64) -> Poll<Output>
+        ensures { IfReady result (λ output. output.number ≡ number) }
+    {
         match Arc::try_clone(&self.counters) {
             Ok(counters) => Poll::Ready(Output { number, counters }),
             Err(_) => Poll::Pending,
@@ -56,7 +62,9 @@ impl Yields for RowFuture {
 }
 
 impl<W> Future<W> for RowFuture {
-    ghost polled = { λ _ _ _ _. ⊤ };
+    ghost use Rattle.taskrows.specs.Behaviour.{IsPolled};
+
+    ghost polled = { λ old _ answer new. IsPolled old.behaviour answer new.behaviour };
 
     fn poll(&mut self, _waker: &W) -> Poll<Output> {
         self.counters.polls.add_one();
@@ -70,17 +78,9 @@ impl<W> Future<W> for RowFuture {
 
 /// The output of a future of the rows: a number, whose drop is counted.
 pub struct Output {
-    number: u64,
-    counters: Arc<Counters>,
-}
-
-impl Output {
     /// The number.
-    pub fn number(&self) -> u64
-        ensures { result ≡ self.now.number }
-    {
-        self.number
-    }
+    pub number: u64,
+    counters: Arc<Counters>,
 }
 
 impl Drop for Output {

@@ -1,13 +1,17 @@
 //! The rows in which a Runnable is scheduled by hand.
+ghost use Rattle.std.specs.Prelude.{IfOk};
+ghost use Rattle.taskrows.specs.Row.{AgreesAt};
 
 use crate::rows::counters::Counts;
-use crate::rows::fixture::{Fixture, Played};
+use crate::rows::fixture::{Fixture, Outcome};
 use crate::rows::future::Behaviour;
 use std::alloc::AllocError;
 use std::sync::Wait;
 
 /// A Runnable is scheduled three times, and goes through the queue each time.
-pub fn schedule_counter<R: Wait + Drop + Copy>(fixture: &Fixture<R>) -> Result<Played, AllocError> {
+pub fn schedule_counter<R: Wait + Drop + Copy>(fixture: &Fixture<R>) -> Result<Outcome, AllocError>
+    ensures { IfOk result (AgreesAt 0 3 0 0) }
+{
     let (runnable, task) = fixture.spawn(Behaviour::Pending)?;
     let surroundings = &fixture.surroundings;
     runnable.schedule();
@@ -19,7 +23,7 @@ pub fn schedule_counter<R: Wait + Drop + Copy>(fixture: &Fixture<R>) -> Result<P
         queued = queued && surroundings.queued() == 1;
     }
     let agrees = queued && surroundings.infos_are(&[false, false, false]);
-    let played = fixture.end(agrees, Counts::new(0, 3, 0, 0));
+    let outcome = fixture.end(agrees, Counts::new(0, 3, 0, 0));
     drop(task);
-    Ok(played)
+    Ok(outcome)
 }

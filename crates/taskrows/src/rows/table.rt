@@ -1,29 +1,44 @@
 //! The list of the rows.
+ghost use Rattle.std.specs.Prelude.{IfOk};
 
-use crate::rows::fixture::{Fixture, Played};
+use crate::rows::fixture::{Fixture, Outcome};
 use crate::rows::{awaiting, cancelling, detaching, scheduling};
 use std::alloc::{AllocError, Global};
 use std::fmt;
 use std::sync::Wait;
 
-/// A row, with its number.
+/// A row, and its number.
 #[derive(Clone, Copy, Debug, PartialEq, Eq)]
 pub enum Row {
+    /// A Runnable's drop, then `detach`.
     DropAndDetach = 1,
+    /// `detach`, then the Runnable's drop.
     DetachAndDrop = 2,
+    /// `detach`, then a run that completes.
     DetachAndRun = 3,
+    /// A run that completes, then `detach`.
     RunAndDetach = 4,
+    /// The Task's drop, then a run.
     CancelAndRun = 5,
+    /// A poll of the Task before the run and one after it.
     CancelJoin = 6,
+    /// `detach`, then a run that ends pending.
     LastRun = 13,
+    /// A poll whose awaiter refuses to be cloned, after one that stored another awaiter.
     RefusedClone = 15,
+    /// A poll of the Task, `detach`, and a run that completes.
     AwaiterCompletes = 21,
+    /// A poll of the Task, `detach`, and a run that ends pending.
     AwaiterOrphan = 22,
+    /// `schedule`, three times.
     ScheduleCounter = 23,
+    /// A future that adds, and a poll of its Task.
     Sum = 24,
 }
 
 impl Row {
+    ghost use Rattle.taskrows.specs.Row.{AgreesAs};
+
     /// The rows of a run without arguments, in order of number.
     pub const ALL: [Row; 12] = [
         Row::DropAndDetach,
@@ -58,8 +73,10 @@ impl Row {
         }
     }
 
-    /// Plays the row in surroundings of its own. Without memory for them, or for its handles, it is not played.
-    pub fn play<R: Wait + Drop + Copy>(self, rt: R, alloc: Global) -> Result<Played, AllocError> {
+    /// Runs the row in surroundings of its own, unless memory for them or for what it spawns is refused.
+    pub fn run<R: Wait + Drop + Copy>(self, rt: R, alloc: Global) -> Result<Outcome, AllocError>
+        ensures { IfOk result (AgreesAs self) }
+    {
         let fixture = Fixture::new(rt, alloc)?;
         match self {
             Row::DropAndDetach => detaching::drop_and_detach(&fixture),

@@ -1,0 +1,45 @@
+-- The steps of the table that tell what their party knows of the word that it finds.
+use Rattle.std.proofs.Common.{◌≡◌, ℕ, ◌<◌, List, ◌∷◌, get_or, sym, ap, ◌∙◌, subst, arith}
+use mathlib.Core.Option.{some}
+use lib.ListN.{get_elem?}
+use Rattle.atomic_table.specs.Table.{State as Board, Me, Allows}
+use Rattle.task_core.specs.Word.{State, state_of}
+use Rattle.task_core.specs.declared.moves.Position.{Position}
+use Rattle.task_core.specs.declared.moves.Act.{Act}
+use Rattle.task_core.proofs.Bits.{state_of_number_of}
+use Rattle.async_task.specs.declared.table.Slot.{Slot}
+use Rattle.async_task.specs.declared.table.Deed.{Deed}
+use Rattle.async_task.specs.declared.table.Member.{Member}
+use Rattle.async_task.specs.declared.table.View.{View}
+use Rattle.async_task.specs.Rule.{member, view, Running, Ruled}
+use Rattle.async_task.specs.Steps.{head_of, Makes}
+use Rattle.async_task.specs.Knows.{Knows}
+use Rattle.async_task.proofs.Facts.{law, low}
+use Rattle.async_task.proofs.Seen.{over_stays, closed_stays}
+use Rattle.async_task.proofs.Allowed.{Owes, spawned, steps_always}
+
+module _ (F T A : Type 0) (limit : ℕ) where
+  abbrev M : Type 0
+  M = Me (Slot F T A) View
+
+  abbrev B : Type 0
+  B = Board (Slot F T A) View
+
+  -- what the first party of a seat knows of the word that stands
+  knows : (s : B) (r : Running {F = F} {T = T} {A = A} limit s) (id : ℕ) (v : View) (l : ℕ) (p : Position) (ds : List Deed) (us : List Member) → limit < 36028797018963968
+      → get_elem? s.views id ≡ some v → v ≡ view l (member p ds ∷ us) → Knows ds r.machine.word
+  knows s r id v l p ds us capped at is = let k = r.told.each id 0 v (member p ds) at (ap (λ (w : View). get_elem? w.members 0) is) in record {
+    over = λ e. over_stays limit k.0 r.log r.machine ds r.told.reaches k.1.did e;
+    closed = λ e. closed_stays limit k.0 r.log r.machine ds r.told.reaches k.1.did e;
+    room = (let h = low r.machine (law limit r.log r.machine r.told.reaches) in let e = r.limited in omega arith);
+  }
+
+  -- a load, a fetch or a store that tells it
+  pub steps_knowing : (slots id : ℕ) (me : M) (l : ℕ) (p : Position) (ds : List Deed) (us : List Member) (acts : State → List Act) (write : ℕ → ℕ) → slots ≡ 2
+      → me.0 ≡ view l (member p ds ∷ us) → Owes F T A limit acts write p ds us me.1
+      → Allows (Ruled {F = F} {T = T} {A = A} limit) slots id me 0 write (λ r m. Makes (acts (state_of r)) (state_of r) me m × Knows (head_of me.0.members).deeds (state_of r))
+  steps_knowing slots id me l p ds us acts write two is owes s r deep at fits = let run = spawned F T A limit s id me.0 l (member p ds ∷ us) r at is in
+      let o = steps_always F T A limit slots id me l p ds us acts write two is owes s r deep at fits in
+      let same : run.machine.word ≡ state_of (get_or s.words 0 0) = sym (ap state_of run.word_is ∙ state_of_number_of run.machine.word) in
+      let known = subst (λ (z : State × List Deed). Knows z.1 z.0) (λ i. (same i, sym (ap (λ (w : View). (head_of w.members).deeds) is) i)) (knows s run id me.0 l p ds us r.capped at is) in
+      (o.0, o.1, o.2, o.3, (o.4, known))

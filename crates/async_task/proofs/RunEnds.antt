@@ -1,0 +1,154 @@
+-- What the calls that end a run come to, step after step.
+use Rattle.std.proofs.Common.{◌≡◌, ℕ, Bool, true, false, not, ◌&&◌, List, [], ◌∷◌, ◌++◌, ap, ◌∙◌, subst}
+use Rattle.atomic_table.specs.Table.{Me}
+use Rattle.std.specs.Prelude.{nat_lt, ◌||◌}
+use Rattle.task_core.specs.Word.{State}
+use Rattle.task_core.specs.declared.moves.Rest.TheVariants.{Ended}
+use Rattle.task_core.specs.declared.moves.Way.TheVariants.{OfRun}
+use Rattle.task_core.specs.declared.moves.After.TheVariants.{ThenEnds}
+use Rattle.task_core.specs.declared.moves.Position.{Position}
+use Rattle.task_core.specs.declared.moves.Position.TheVariants.{At, Leaving, Deliverer, Pending, Ready, Cleared, OutputInHand}
+use Rattle.task_core.specs.declared.moves.Act.TheVariants.{AnswerReady, AnswerPending, DropFuture, StoreOutput, Complete, CompleteDetached, DropOutput, EndClosed, Reschedule, EndIdle, EndOrphaned, HandOver, EndCall}
+use Rattle.task_core.specs.declared.moves.Answer.{Answer}
+use Rattle.task_core.specs.declared.moves.Answer.TheVariants.{Ran}
+use Rattle.task_core.specs.Table.{notifies}
+use Rattle.async_task.specs.declared.table.Slot.{Slot}
+use Rattle.async_task.specs.declared.table.Slot.TheVariants.{Empty}
+use Rattle.async_task.specs.declared.table.Deed.{Deed}
+use Rattle.async_task.specs.declared.table.View.{View}
+use Rattle.async_task.specs.declared.cell.Party.{Party}
+use Rattle.async_task.specs.declared.cell.ends.PendingEnd.{PendingEnd}
+use Rattle.async_task.specs.declared.cell.ends.PendingEnd.TheVariants.{Closed, Rescheduled, Idle, Orphaned}
+use Rattle.async_task.specs.Calls.{row, act, position, limit_of, handed_over, rest_of, StandsWith, Stands, GoesWith, Goes}
+use Rattle.async_task.specs.RunPaths.{kept, not_claimed, detached, ready, closed_meanwhile, woken_meanwhile, idle, orphaned}
+use Rattle.async_task.specs.RunCalls.{Rests, Completes, keeps, finds_closed, finds_detached, Stores, ClosesPending, EndsReady, EndsUnready, AnswersPending, stays_pending, clears, EndsPending, is_closed, is_rescheduled, is_idle, is_orphaned}
+use Rattle.async_task.proofs.Moved as moved
+use Rattle.async_task.proofs.RunRest.{ended_call}
+
+unkept : (w : State) → w.task ≡ true → w.closed ≡ false → (w.task && not w.closed) ≡ true
+unkept w h k = ap (λ b. b && not w.closed) h ∙ ap not k
+
+module _ {F T A : Type 0} where
+  pub limit_same : (path : List Deed) (at : Position) (held : List (ℕ × Slot F T A)) (p q : Party F T A) → GoesWith path at held p q → limit_of q ≡ limit_of p
+  limit_same path at held p q g = ap (λ (m : Me (Slot F T A) View). m.0.limit) g.is
+
+  -- the output
+  pub completes_cell : (p q : Party F T A) (w : State) → Completes p q w → q.seat.table_id ≡ p.seat.table_id
+  completes_cell p q w (keeps h k g) = g.cell
+  completes_cell p q w (finds_closed y h k g) = g.cell
+  completes_cell p q w (finds_detached y h g) = g.cell
+
+  pub output_left : (p q : Party F T A) (w : State) → Completes p q w → (w.task && not w.closed) ≡ false → (y : Slot F T A) × StandsWith (OutputInHand w.awaiter) ((0, y) ∷ []) q
+  output_left p q w (keeps h k g) e = let z = unkept w h k in absurd (cc)
+  output_left p q w (finds_closed y h k g) e = (y, moved.stands p q _ (OutputInHand w.awaiter) ((0, y) ∷ []) g)
+  output_left p q w (finds_detached y h g) e = (y, moved.stands p q _ (OutputInHand w.awaiter) ((0, y) ∷ []) g)
+
+  pub stores_kept : (p q : Party F T A) (w : State) → Completes p q w → (w.task && not w.closed) ≡ true → Stores w p q
+  stores_kept p q w (keeps h k g) e = (_, kept h k, g)
+  stores_kept p q w (finds_closed y h k g) e = let z : (w.task && not w.closed) ≡ false = ap (λ b. b && not w.closed) h ∙ ap not k in absurd (cc)
+  stores_kept p q w (finds_detached y h g) e = let z : (w.task && not w.closed) ≡ false = ap (λ b. b && not w.closed) h in absurd (cc)
+
+  pub stores_dropped : (p q r : Party F T A) (w : State) → Completes p q w → (w.task && not w.closed) ≡ false
+      → ((due : Bool) (y : Slot F T A) → StandsWith (OutputInHand due) ((0, y) ∷ []) q → Goes (act DropOutput ∷ []) (notifies due OfRun) q r) → Stores w p r
+  stores_dropped p q r w (keeps h k g) e drops = let z = unkept w h k in absurd (cc)
+  stores_dropped p q r w (finds_closed y h k g) e drops = (
+    _,
+    not_claimed h k,
+    moved.goes_on p q r (act DropFuture ∷ act StoreOutput ∷ row Complete w ∷ []) (act DropOutput ∷ []) (OutputInHand w.awaiter) (notifies w.awaiter OfRun) ((0, y) ∷ []) [] g
+        (drops w.awaiter y (moved.stands p q (act DropFuture ∷ act StoreOutput ∷ row Complete w ∷ []) (OutputInHand w.awaiter) ((0, y) ∷ []) g)),
+  )
+  stores_dropped p q r w (finds_detached y h g) e drops = (
+    _,
+    detached h,
+    moved.goes_on p q r (act DropFuture ∷ act StoreOutput ∷ row CompleteDetached w ∷ []) (act DropOutput ∷ []) (OutputInHand w.awaiter) (notifies w.awaiter OfRun) ((0, y) ∷ []) [] g
+        (drops w.awaiter y (moved.stands p q (act DropFuture ∷ act StoreOutput ∷ row CompleteDetached w ∷ []) (OutputInHand w.awaiter) ((0, y) ∷ []) g)),
+  )
+
+  pub ready_rest : (Woken : Type 0) (w : State) (y : Slot F T A) (p q r s t : Party F T A) → GoesWith (act AnswerReady ∷ []) Ready ((0, y) ∷ []) p q → GoesWith [] Ready ((0, Empty) ∷ []) q r → Stores w r s → Rests Woken w.awaiter s t → EndsReady Woken p t
+  ready_rest Woken w y p q r s t f g x z = (
+    act AnswerReady ∷ (x.0 ++ z.0),
+    ready w x.0 z.0 x.1 z.1,
+    moved.goes_on p q t (act AnswerReady ∷ []) (x.0 ++ z.0) Ready (At Ended) ((0, y) ∷ []) [] f
+        (moved.goes_on q r t [] (x.0 ++ z.0) Ready (At Ended) ((0, Empty) ∷ []) [] g
+        (moved.goes_on r s t x.0 z.0 (notifies w.awaiter OfRun) (At Ended) [] [] x.2 z.2)),
+  )
+
+  -- a closed task
+  pub closes_rest : (Woken : Type 0) (w : State) (p q r s : Party F T A) → GoesWith [] Cleared ((0, Empty) ∷ []) p q → Goes (row EndClosed w ∷ []) (notifies w.awaiter OfRun) q r → Rests Woken w.awaiter r s → ClosesPending Woken p s
+  closes_rest Woken w p q r s g h x = (
+    w,
+    x.0,
+    x.1,
+    moved.goes_on p q s [] (row EndClosed w ∷ x.0) Cleared (At Ended) ((0, Empty) ∷ []) [] g
+        (moved.goes_on q r s (row EndClosed w ∷ []) x.0 (notifies w.awaiter OfRun) (At Ended) [] [] h x.2),
+  )
+
+  pub pending_clears : (held : List (ℕ × Slot F T A)) (p q : Party F T A) (b : Bool) → AnswersPending held p q b → b ≡ true → GoesWith (act AnswerPending ∷ act DropFuture ∷ []) Cleared held p q
+  pending_clears held p q true (clears g) e = g
+  pending_clears held p q false (stays_pending g) e = absurd (cc)
+
+  pub pending_stays : (held : List (ℕ × Slot F T A)) (p q : Party F T A) (b : Bool) → AnswersPending held p q b → b ≡ false → GoesWith (act AnswerPending ∷ []) Pending held p q
+  pending_stays held p q true (clears g) e = absurd (cc)
+  pending_stays held p q false (stays_pending g) e = g
+
+  pub handed_on : (woken : Bool) (answer : Answer) (p q r : Party F T A) → Stands (Deliverer woken (ThenEnds answer)) p → Goes (act HandOver ∷ []) (handed_over (position p)) p q
+      → Goes (act EndCall ∷ []) (rest_of (position q)) q r → Goes (act HandOver ∷ act EndCall ∷ []) (At Ended) p r
+  handed_on woken answer p q r s g h = let g' : Goes (act HandOver ∷ []) (Leaving answer Ended) p q = subst (λ (at : Position). Goes (act HandOver ∷ []) at p q) (ap handed_over (moved.position_is p (Deliverer woken (ThenEnds answer)) [] s)) g in
+      moved.goes_on p q r (act HandOver ∷ []) (act EndCall ∷ []) (Leaving answer Ended) (At Ended) [] [] g' (ended_call answer Ended q r (moved.stands p q (act HandOver ∷ []) (Leaving answer Ended) [] g') h)
+
+  -- after a poll that answered Pending, by how the run ends
+  pub closed_left : (y : Slot F T A) (p q : Party F T A) (e : PendingEnd) → EndsPending y p q e → e ≡ Closed → GoesWith (act DropFuture ∷ []) Cleared ((0, y) ∷ []) p q
+  closed_left y p q e (is_closed g) h = g
+  closed_left y p q e (is_rescheduled w a b g) h = absurd (cc)
+  closed_left y p q e (is_idle w a b d g) h = absurd (cc)
+  closed_left y p q e (is_orphaned w a b d g) h = absurd (cc)
+
+  pub rescheduled_left : (y : Slot F T A) (p q : Party F T A) (e : PendingEnd) → EndsPending y p q e → e ≡ Rescheduled → (w : State) × (w.closed ≡ false) × (w.scheduled ≡ true) × Goes (row Reschedule w ∷ []) (Deliverer true (ThenEnds (Ran true))) p q
+  rescheduled_left y p q e (is_closed g) h = absurd (cc)
+  rescheduled_left y p q e (is_rescheduled w a b g) h = (w, a, b, g)
+  rescheduled_left y p q e (is_idle w a b d g) h = absurd (cc)
+  rescheduled_left y p q e (is_orphaned w a b d g) h = absurd (cc)
+
+  pub idle_left : (y : Slot F T A) (p q : Party F T A) (e : PendingEnd) → EndsPending y p q e → e ≡ Idle
+      → (w : State) × (w.closed ≡ false) × (w.scheduled ≡ false) × ((nat_lt 1 w.references || w.task) ≡ true) × Goes (row EndIdle w ∷ act EndCall ∷ []) (At Ended) p q
+  idle_left y p q e (is_closed g) h = absurd (cc)
+  idle_left y p q e (is_rescheduled w a b g) h = absurd (cc)
+  idle_left y p q e (is_idle w a b d g) h = (w, a, b, d, g)
+  idle_left y p q e (is_orphaned w a b d g) h = absurd (cc)
+
+  pub orphan_left : (y : Slot F T A) (p q : Party F T A) (e : PendingEnd) → EndsPending y p q e → e ≡ Orphaned
+      → (w : State) × (w.closed ≡ false) × (w.scheduled ≡ false) × ((nat_lt 1 w.references || w.task) ≡ false) × Goes (row EndOrphaned w ∷ []) (Deliverer false (ThenEnds (Ran false))) p q
+  orphan_left y p q e (is_closed g) h = absurd (cc)
+  orphan_left y p q e (is_rescheduled w a b g) h = absurd (cc)
+  orphan_left y p q e (is_idle w a b d g) h = absurd (cc)
+  orphan_left y p q e (is_orphaned w a b d g) h = (w, a, b, d, g)
+
+  module _ (Woken : Type 0) (Scheduled : Bool → Type 0) where
+    pub found_closed_first : (y : Slot F T A) (p q r : Party F T A) → GoesWith (act AnswerPending ∷ act DropFuture ∷ []) Cleared ((0, y) ∷ []) p q → ClosesPending Woken q r → EndsUnready Woken Scheduled false p r
+    found_closed_first y p q r f x = (_, closed_meanwhile x.0 x.1 x.2, moved.goes_on p q r (act AnswerPending ∷ act DropFuture ∷ []) (row EndClosed x.0 ∷ x.1) Cleared (At Ended) ((0, y) ∷ []) [] f x.3)
+
+    pub found_closed_later : (y : Slot F T A) (p q r s : Party F T A) → GoesWith (act AnswerPending ∷ []) Pending ((0, y) ∷ []) p q → GoesWith (act DropFuture ∷ []) Cleared ((0, y) ∷ []) q r → ClosesPending Woken r s → EndsUnready Woken Scheduled false p s
+    found_closed_later y p q r s f g x = found_closed_first y p r s (moved.goes_on p q r (act AnswerPending ∷ []) (act DropFuture ∷ []) Pending Cleared ((0, y) ∷ []) ((0, y) ∷ []) f g) x
+
+    pub found_idle : (y : Slot F T A) (p q r : Party F T A) → GoesWith (act AnswerPending ∷ []) Pending ((0, y) ∷ []) p q
+        → (w : State) × (w.closed ≡ false) × (w.scheduled ≡ false) × ((nat_lt 1 w.references || w.task) ≡ true) × Goes (row EndIdle w ∷ act EndCall ∷ []) (At Ended) q r → EndsUnready Woken Scheduled false p r
+    found_idle y p q r f x = (_, idle x.0 x.1 x.2 x.3, moved.goes_on p q r (act AnswerPending ∷ []) (row EndIdle x.0 ∷ act EndCall ∷ []) Pending (At Ended) ((0, y) ∷ []) [] f x.4)
+
+    pub found_woken : (y : Slot F T A) (p q r s : Party F T A) → GoesWith (act AnswerPending ∷ []) Pending ((0, y) ∷ []) p q
+        → (w : State) × (w.closed ≡ false) × (w.scheduled ≡ true) × Goes (row Reschedule w ∷ []) (Deliverer true (ThenEnds (Ran true))) q r → Scheduled true → Goes (act HandOver ∷ act EndCall ∷ []) (At Ended) r s → EndsUnready Woken Scheduled true p s
+    found_woken y p q r s f x fact h = (
+      _,
+      woken_meanwhile x.0 x.1 x.2 fact,
+      moved.goes_on p q s (act AnswerPending ∷ []) (row Reschedule x.0 ∷ act HandOver ∷ act EndCall ∷ []) Pending (At Ended) ((0, y) ∷ []) [] f
+          (moved.goes_on q r s (row Reschedule x.0 ∷ []) (act HandOver ∷ act EndCall ∷ []) (Deliverer true (ThenEnds (Ran true))) (At Ended) [] [] x.3 h),
+    )
+
+    pub found_orphaned : (y : Slot F T A) (p q r s : Party F T A) → GoesWith (act AnswerPending ∷ []) Pending ((0, y) ∷ []) p q
+        → (w : State) × (w.closed ≡ false) × (w.scheduled ≡ false) × ((nat_lt 1 w.references || w.task) ≡ false) × Goes (row EndOrphaned w ∷ []) (Deliverer false (ThenEnds (Ran false))) q r
+        → Scheduled false → Goes (act HandOver ∷ act EndCall ∷ []) (At Ended) r s → EndsUnready Woken Scheduled false p s
+    found_orphaned y p q r s f x fact h = (
+      _,
+      orphaned x.0 x.1 x.2 x.3 fact,
+      moved.goes_on p q s (act AnswerPending ∷ []) (row EndOrphaned x.0 ∷ act HandOver ∷ act EndCall ∷ []) Pending (At Ended) ((0, y) ∷ []) [] f
+          (moved.goes_on q r s (row EndOrphaned x.0 ∷ []) (act HandOver ∷ act EndCall ∷ []) (Deliverer false (ThenEnds (Ran false))) (At Ended) [] [] x.4 h),
+    )

@@ -1,0 +1,131 @@
+-- What the calls of a run and of a Runnable's drop come to, step after step.
+use Rattle.std.proofs.Common.{◌≡◌, ℕ, Bool, true, false, List, [], ◌∷◌, ◌++◌, Option, Some, None, refl, ap, subst}
+use Rattle.task_core.specs.Word.{State}
+use Rattle.task_core.specs.declared.moves.Closer.{Closer}
+use Rattle.task_core.specs.declared.moves.Rest.{Rest}
+use Rattle.task_core.specs.declared.moves.Rest.TheVariants.{Ended}
+use Rattle.task_core.specs.declared.moves.Way.{Way}
+use Rattle.task_core.specs.declared.moves.Way.TheVariants.{OfRun, OfDrop}
+use Rattle.task_core.specs.declared.moves.Closer.TheVariants.{DroppedRunnable}
+use Rattle.task_core.specs.declared.moves.Position.{Position}
+use Rattle.task_core.specs.declared.moves.Position.TheVariants.{At, Leaving, Notifier, GivingUp, AwaiterInHand, FutureInHand}
+use Rattle.task_core.specs.declared.moves.Act.TheVariants.{EndCall, WakeAwaiter, DropFuture, Unschedule}
+use Rattle.task_core.specs.declared.moves.Answer.{Answer}
+use Rattle.task_core.specs.declared.moves.Answer.TheVariants.{Ran, Nothing}
+use Rattle.task_core.specs.Table.{goes_on, goes_off, notifies}
+use Rattle.async_task.specs.declared.table.Slot.{Slot}
+use Rattle.async_task.specs.declared.table.Slot.TheVariants.{Empty}
+use Rattle.async_task.specs.declared.table.Deed.{Deed}
+use Rattle.async_task.specs.declared.cell.Party.{Party}
+use Rattle.async_task.specs.Calls.{row, act, closing_way, position, holds, way_of, rest_of, Stands, GoesWith, Goes, Notifies, misses, finds_none, takes_awaiter}
+use Rattle.async_task.specs.RunPaths.{missed, none_there, taken, nobody, woken, rests, DiscardStart, discards, closed_run}
+use Rattle.async_task.specs.RunCalls.{Releases, TakesDue, takes_none, takes_one, HasTaken, has_none, has_one, Wakes, Rests, Closes, Discards}
+use Rattle.async_task.proofs.Moved as moved
+
+module _ {F T A : Type 0} where
+  pub at_way : (way : Way) (hand : Option ℕ) (path : List Deed) (p q : Party F T A) → Stands (Notifier way) p → GoesWith path (goes_on hand (way_of (position p))) (holds p) p q → Goes path (goes_on hand way) p q
+  at_way way hand path p q s g = subst (λ (z : Way × List (ℕ × Slot F T A)). GoesWith path (goes_on hand z.0) z.1 p q)
+      (λ i. (ap way_of (moved.position_is p (Notifier way) [] s) i, moved.held_is p (Notifier way) [] s i)) g
+
+  pub took_due : (way : Way) (p q : Party F T A) (r : Option A) → Stands (Notifier way) p → Notifies p q r → TakesDue way true p q r
+  took_due way p q r s (misses w g) = takes_none _ (missed w) (at_way way None _ p q s g)
+  took_due way p q r s (finds_none w v g) = takes_none _ (none_there w v) (at_way way None _ p q s g)
+  took_due way p q r s (takes_awaiter w v i a g) = takes_one i a _ (taken w v) (at_way way (Some i) _ p q s g)
+
+  pub due_cell : (way : Way) (due : Bool) (p q : Party F T A) (r : Option A) → TakesDue way due p q r → q.seat.table_id ≡ p.seat.table_id
+  due_cell way due p q r (takes_none path n g) = g.cell
+  due_cell way due p q r (takes_one i a path n g) = g.cell
+
+  -- an awaiter in hand was woken
+  pub woke : (Woken : Type 0) (way : Way) (i : ℕ) (a : A) (p q : Party F T A) → Stands (AwaiterInHand i way) p → Woken → GoesWith (act WakeAwaiter ∷ []) (goes_off (way_of (position p))) (holds p) p q → Wakes Woken way (Some a) p q
+  woke Woken way i a p q s fact g = (
+    act WakeAwaiter ∷ [],
+    woken fact,
+    subst (λ (z : Way × List (ℕ × Slot F T A)). GoesWith (act WakeAwaiter ∷ []) (goes_off z.0) z.1 p q)
+        (λ j. (ap way_of (moved.position_is p (AwaiterInHand i way) [] s) j, moved.held_is p (AwaiterInHand i way) [] s j)) g,
+  )
+
+  pub woke_nobody : (Woken : Type 0) (way : Way) (p : Party F T A) → Stands (goes_off way) p → Wakes Woken way None p p
+  woke_nobody Woken way p s = ([], nobody, record { cell = refl; is = s })
+
+  -- .. by what it has
+  pub wakes_has : (Woken : Type 0) (way : Way) (a : A) (r : Option A) (p q : Party F T A) → HasTaken way p r → r ≡ Some a → Woken
+      → GoesWith (act WakeAwaiter ∷ []) (goes_off (way_of (position p))) (holds p) p q → Wakes Woken way r p q
+  wakes_has Woken way a r p q (has_none s) e fact g = absurd (cc)
+  wakes_has Woken way a r p q (has_one i b s) e fact g = woke Woken way i b p q s fact g
+
+  pub wakes_none : (Woken : Type 0) (way : Way) (r : Option A) (p : Party F T A) → HasTaken way p r → r ≡ None → Wakes Woken way r p p
+  wakes_none Woken way r p (has_none s) e = woke_nobody Woken way p s
+  wakes_none Woken way r p (has_one i b s) e = absurd (cc)
+
+  pub has_hand : (way : Way) (a : A) (r : Option A) (p : Party F T A) → HasTaken way p r → r ≡ Some a → (i : ℕ) × Stands (AwaiterInHand i way) p
+  has_hand way a r p (has_none s) e = absurd (cc)
+  has_hand way a r p (has_one i b s) e = (i, s)
+
+  pub ended_call : (answer : Answer) (r : Rest) (p q : Party F T A) → Stands (Leaving answer r) p → Goes (act EndCall ∷ []) (rest_of (position p)) p q → Goes (act EndCall ∷ []) (At r) p q
+  ended_call answer r p q s g = subst (λ (at : Position). Goes (act EndCall ∷ []) at p q) (ap rest_of (moved.position_is p (Leaving answer r) [] s)) g
+
+  -- in a run, what was taken is woken after the reference was given up
+  pub run_gives_up : (due : Bool) (p q : Party F T A) (r : Option A) → TakesDue OfRun due p q r → (hand : Option ℕ) × Stands (GivingUp hand (Ran false)) q
+  run_gives_up due p q r (takes_none path n g) = (None, moved.stands p q path (GivingUp None (Ran false)) [] g)
+  run_gives_up due p q r (takes_one i a path n g) = (Some i, moved.stands p q path (GivingUp (Some i) (Ran false)) [] g)
+
+  abbrev pub Released : Party F T A → Party F T A → Type 0
+  Released q r = (hand : Option ℕ) (answer : Answer) → Stands (GivingUp hand answer) q → Releases hand answer q r
+
+  pub run_has : (due : Bool) (p q q' : Party F T A) (r : Option A) → TakesDue OfRun due p q r → Released q q' → HasTaken OfRun q' r
+  run_has due p q q' r (takes_none path n g) rel = let x = rel None (Ran false) (moved.stands p q path (GivingUp None (Ran false)) [] g) in has_none (moved.stands q q' x.0 (Leaving (Ran false) Ended) [] x.2)
+  run_has due p q q' r (takes_one i a path n g) rel = let x = rel (Some i) (Ran false) (moved.stands p q path (GivingUp (Some i) (Ran false)) [] g) in has_one i a (moved.stands q q' x.0 (AwaiterInHand i OfRun) [] x.2)
+
+  pub rested : (Woken : Type 0) (due : Bool) (p q q' s t : Party F T A) (r : Option A) → TakesDue OfRun due p q r → Released q q' → ((way : Way) → HasTaken way q' r → Wakes Woken way r q' s)
+      → (Stands (Leaving (Ran false) Ended) s → Goes (act EndCall ∷ []) (At Ended) s t) → Rests Woken due p t
+  rested Woken due p q q' s t r (takes_none n np g) rel wake ends = let x = rel None (Ran false) (moved.stands p q n (GivingUp None (Ran false)) [] g) in
+      let k = wake OfRun (has_none (moved.stands q q' x.0 (Leaving (Ran false) Ended) [] x.2)) in let z = ends (moved.stands q' s k.0 (Leaving (Ran false) Ended) [] k.2) in (
+        n ++ (x.0 ++ (k.0 ++ act EndCall ∷ [])),
+        rests due false n x.0 k.0 np x.1 k.1,
+        moved.goes_on p q t n (x.0 ++ (k.0 ++ act EndCall ∷ [])) (GivingUp None (Ran false)) (At Ended) [] [] g
+            (moved.goes_on q q' t x.0 (k.0 ++ act EndCall ∷ []) (Leaving (Ran false) Ended) (At Ended) [] [] x.2 (moved.goes_on q' s t k.0 (act EndCall ∷ []) (Leaving (Ran false) Ended) (At Ended) [] [] k.2 z)),
+      )
+  rested Woken due p q q' s t r (takes_one i a n np g) rel wake ends = let x = rel (Some i) (Ran false) (moved.stands p q n (GivingUp (Some i) (Ran false)) [] g) in
+      let k = wake OfRun (has_one i a (moved.stands q q' x.0 (AwaiterInHand i OfRun) [] x.2)) in let z = ends (moved.stands q' s k.0 (Leaving (Ran false) Ended) [] k.2) in (
+        n ++ (x.0 ++ (k.0 ++ act EndCall ∷ [])),
+        rests due true n x.0 k.0 np x.1 k.1,
+        moved.goes_on p q t n (x.0 ++ (k.0 ++ act EndCall ∷ [])) (GivingUp (Some i) (Ran false)) (At Ended) [] [] g
+            (moved.goes_on q q' t x.0 (k.0 ++ act EndCall ∷ []) (AwaiterInHand i OfRun) (At Ended) [] [] x.2 (moved.goes_on q' s t k.0 (act EndCall ∷ []) (Leaving (Ran false) Ended) (At Ended) [] [] k.2 z)),
+      )
+
+  -- in a drop, it is woken before
+  pub drop_has : (due : Bool) (p q : Party F T A) (r : Option A) → TakesDue OfDrop due p q r → HasTaken OfDrop q r
+  drop_has due p q r (takes_none path n g) = has_none (moved.stands p q path (GivingUp None Nothing) [] g)
+  drop_has due p q r (takes_one i a path n g) = has_one i a (moved.stands p q path (AwaiterInHand i OfDrop) [] g)
+
+  pub discard_rest : (Woken : Type 0) (d : Deed) (w : State) (p o q s t u : Party F T A) (r : Option A) → DiscardStart d → Goes (d ∷ act DropFuture ∷ row Unschedule w ∷ []) (notifies w.awaiter OfDrop) p o → TakesDue OfDrop w.awaiter o q r
+      → Wakes Woken OfDrop r q s → Releases None Nothing s t → Goes (act EndCall ∷ []) (At Ended) t u → Discards Woken p u
+  discard_rest Woken d w p o q s t u r start f (takes_none n np g) k x z = (
+    d ∷ act DropFuture ∷ row Unschedule w ∷ (n ++ (k.0 ++ (x.0 ++ act EndCall ∷ []))),
+    discards d w false n k.0 x.0 start np k.1 x.1,
+    moved.goes_on p o u (d ∷ act DropFuture ∷ row Unschedule w ∷ []) (n ++ (k.0 ++ (x.0 ++ act EndCall ∷ []))) (notifies w.awaiter OfDrop) (At Ended) [] [] f
+        (moved.goes_on o q u n (k.0 ++ (x.0 ++ act EndCall ∷ [])) (GivingUp None Nothing) (At Ended) [] [] g
+        (moved.goes_on q s u k.0 (x.0 ++ act EndCall ∷ []) (GivingUp None Nothing) (At Ended) [] [] k.2 (moved.goes_on s t u x.0 (act EndCall ∷ []) (Leaving Nothing Ended) (At Ended) [] [] x.2 z))),
+  )
+  discard_rest Woken d w p o q s t u r start f (takes_one i a n np g) k x z = (
+    d ∷ act DropFuture ∷ row Unschedule w ∷ (n ++ (k.0 ++ (x.0 ++ act EndCall ∷ []))),
+    discards d w true n k.0 x.0 start np k.1 x.1,
+    moved.goes_on p o u (d ∷ act DropFuture ∷ row Unschedule w ∷ []) (n ++ (k.0 ++ (x.0 ++ act EndCall ∷ []))) (notifies w.awaiter OfDrop) (At Ended) [] [] f
+        (moved.goes_on o q u n (k.0 ++ (x.0 ++ act EndCall ∷ [])) (AwaiterInHand i OfDrop) (At Ended) [] [] g
+        (moved.goes_on q s u k.0 (x.0 ++ act EndCall ∷ []) (GivingUp None Nothing) (At Ended) [] [] k.2 (moved.goes_on s t u x.0 (act EndCall ∷ []) (Leaving Nothing Ended) (At Ended) [] [] x.2 z))),
+  )
+
+  -- the future was dropped, and SCHEDULED cleared
+  pub unscheduled : (closer : Closer) (w : State) (p q r : Party F T A) → GoesWith [] (FutureInHand closer) ((0, Empty) ∷ []) p q
+      → Goes (act DropFuture ∷ row Unschedule w ∷ []) (notifies w.awaiter (closing_way (position q))) q r → Goes (act DropFuture ∷ row Unschedule w ∷ []) (notifies w.awaiter (closing_way (FutureInHand closer))) p r
+  unscheduled closer w p q r g h = let way = closing_way (FutureInHand closer) in moved.goes_on p q r [] (act DropFuture ∷ row Unschedule w ∷ []) (FutureInHand closer) (notifies w.awaiter way) ((0, Empty) ∷ []) [] g
+      (subst (λ (z : Way). Goes (act DropFuture ∷ row Unschedule w ∷ []) (notifies w.awaiter z) q r)
+      (ap closing_way (moved.position_is q (FutureInHand closer) ((0, Empty) ∷ []) (moved.stands p q [] (FutureInHand closer) ((0, Empty) ∷ []) g))) h)
+
+  pub discard_first : (d : Deed) (w : State) (y : Slot F T A) (p q r s : Party F T A) → GoesWith (d ∷ []) (FutureInHand DroppedRunnable) ((0, y) ∷ []) p q → GoesWith [] (FutureInHand DroppedRunnable) ((0, Empty) ∷ []) q r
+      → Goes (act DropFuture ∷ row Unschedule w ∷ []) (notifies w.awaiter (closing_way (position r))) r s → Goes (d ∷ act DropFuture ∷ row Unschedule w ∷ []) (notifies w.awaiter OfDrop) p s
+  discard_first d w y p q r s f g h = moved.goes_on p q s (d ∷ []) (act DropFuture ∷ row Unschedule w ∷ []) (FutureInHand DroppedRunnable) (notifies w.awaiter OfDrop) ((0, y) ∷ []) [] f (unscheduled DroppedRunnable w q r s g h)
+
+  pub close_rest : (Woken : Type 0) (w : State) (p q r : Party F T A) → Goes (act DropFuture ∷ row Unschedule w ∷ []) (notifies w.awaiter OfRun) p q → Rests Woken w.awaiter q r → Closes Woken p r
+  close_rest Woken w p q r g x = (act DropFuture ∷ row Unschedule w ∷ x.0, closed_run w x.0 x.1, moved.goes_on p q r (act DropFuture ∷ row Unschedule w ∷ []) x.0 (notifies w.awaiter OfRun) (At Ended) [] [] g x.2)

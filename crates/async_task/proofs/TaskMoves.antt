@@ -1,0 +1,193 @@
+-- What the steps of a cancel and of a detach come to for the party that made them.
+use Rattle.std.proofs.Common.{◌≡◌, ℕ, Bool, true, false, not, ◌&&◌, ◌||◌, List, [], ◌∷◌, ◌++◌, Option, Some, None, refl, sym, ap, ◌∙◌, subst, arith}
+use Rattle.std.specs.Prelude.{nat_lt, nat_eq, if◌then◌else◌}
+use Rattle.std.proofs.lemmas.Bool.Decides.{nat_tests}
+use Rattle.task_core.specs.Word.{State, is_open, state_of, number_of}
+use Rattle.task_core.proofs.Bits.{state_of_number_of}
+use Rattle.task_core.specs.declared.moves.Answer.{Answer}
+use Rattle.task_core.specs.declared.moves.Answer.TheVariants.{Nothing}
+use Rattle.task_core.specs.declared.moves.Position.{Position}
+use Rattle.task_core.specs.declared.moves.Position.TheVariants.{At, Deliverer, Emptier, OutputCloser, Detacher, Leaving, Notifier, AwaiterInHand}
+use Rattle.task_core.specs.declared.moves.Rest.{Rest}
+use Rattle.task_core.specs.declared.moves.Rest.TheVariants.{Task, Ended}
+use Rattle.task_core.specs.declared.moves.After.TheVariants.{ThenEnds}
+use Rattle.task_core.specs.declared.moves.Way.{Way}
+use Rattle.task_core.specs.declared.moves.Way.TheVariants.{OfCancel}
+use Rattle.task_core.specs.declared.moves.Act.TheVariants.{CancelOver, CancelBusy, CancelIdle, GiveUpOutput, DropOutput, DetachOrphan, DetachLast, Detach, EndCall, MissNotify, BeginNotify, TakeAwaiter, EndNotify, WakeAwaiter}
+use Rattle.task_core.specs.Table.{notifies, cancels_after, goes_off, goes_on as way_on}
+use Rattle.task_core.specs.Theorem.{owns_awaiter}
+use Rattle.async_task.specs.declared.table.Slot.{Slot}
+use Rattle.async_task.specs.declared.table.Deed.{Deed}
+use Rattle.async_task.specs.declared.cell.Party.{Party}
+use Rattle.async_task.specs.declared.cell.cancel.Cancelled.{Cancelled}
+use Rattle.async_task.specs.declared.cell.detach.Detached.{Detached}
+use Rattle.async_task.specs.declared.cell.cancel.Cancelled.TheVariants.{Over, Busy, Idle}
+use Rattle.async_task.specs.declared.cell.detach.Detached.TheVariants.{Unclaimed, Shared, Last, Orphaned}
+use Rattle.async_task.specs.Rule.{has_work}
+use Rattle.async_task.specs.Steps.{Carries, Makes}
+use Rattle.async_task.specs.Calls.{row, act, position, holds, way_of, rest_of, Notifies, misses, finds_none, takes_awaiter, StandsWith, Stands, GoesWith, Goes, as_task}
+use Rattle.async_task.specs.TaskScripts.{looking_over, cancelling, detaching, giving_task_up}
+use Rattle.async_task.specs.TaskPaths.{Notice, not_due, missed, found_none, woke, closed_by, given_up_by, Cancels, Detaches, GivesTaskUp}
+use Rattle.async_task.proofs.Moved.{moved, goes, goes_on, stands, position_is, held_is}
+use Rattle.async_task.proofs.TaskOwed.{both, over, neither, none_left, last_orphan, closed_claimed, idle_cancel}
+
+-- a word that is written only where the test holds
+pub opened : (b : Bool) (v w : State) → Some v ≡ (if b then Some w else None) → (b ≡ true) × (v ≡ w)
+opened true v w e = (refl, cc)
+opened false v w e = absurd (cc)
+
+module _ {F T A : Type 0} where
+  -- the party is where it was
+  pub record Same (p q : Party F T A) : Type 0 where
+    pub cell : q.seat.table_id ≡ p.seat.table_id
+    pub me : q.seat.me ≡ p.seat.me
+
+  pub here : (p q : Party F T A) (at : Position) (held : List (ℕ × Slot F T A)) → StandsWith at held p → Same p q → GoesWith [] at held p q
+  here p q at held s e = record { cell = e.cell; is = e.me ∙ s }
+
+  -- .. after a step without an act
+  pub stays_here : (p q r : Party F T A) (n : ℕ) (w : State) → Stands (as_task n) p → Same p q → r.seat.table_id ≡ q.seat.table_id → Makes [] w q.seat.me r.seat.me → Same p r
+  stays_here p q r n w s e cell m = let x = moved [] w (At (Task n)) [] q r (stands p q [] (At (Task n)) [] (here p q (At (Task n)) [] s e)) m in
+      let g = goes_on p q r [] [] (At (Task n)) (At (Task n)) [] [] (here p q (At (Task n)) [] s e) (goes q r [] (At (Task n)) [] cell x.viewed x.carried) in
+      record { cell = g.cell; me = g.is ∙ sym s }
+
+  bare : (a b : Bool) (q : Position) (l : List (ℕ × Slot F T A)) → a ≡ false → b ≡ false → Carries {F = F} {T = T} {A = A} false a false b q [] l → l ≡ []
+  bare a b q l e f c = subst (λ (z : Bool × Bool). Carries {F = F} {T = T} {A = A} false z.0 false z.1 q [] l) (λ i. (e i, f i)) c
+
+  -- the load of a cancel, on an open task
+  pub looks_on : (p q r : Party F T A) (n : ℕ) (w : State) → Stands (as_task n) p → Same p q → r.seat.table_id ≡ q.seat.table_id → is_open w ≡ true → Makes (looking_over w) w q.seat.me r.seat.me → Same p r
+  looks_on p q r n w s e cell now m = stays_here p q r n w s e cell (subst (λ b. Makes (if b then [] else CancelOver ∷ EndCall ∷ []) w q.seat.me r.seat.me) now m)
+
+  -- .. and on one that is over
+  pub looks_over : (p q r : Party F T A) (n : ℕ) (w : State) → Stands (as_task n) p → Same p q → r.seat.table_id ≡ q.seat.table_id → is_open w ≡ false → Makes (looking_over w) w q.seat.me r.seat.me → Cancels n p r Over
+  looks_over p q r n w s e cell now m = let g = here p q (At (Task n)) [] s e in
+      let x = moved (CancelOver ∷ EndCall ∷ []) w (At (Task n)) [] q r (stands p q [] (At (Task n)) [] g) (subst (λ b. Makes (if b then [] else CancelOver ∷ EndCall ∷ []) w q.seat.me r.seat.me) now m) in
+      let path : List Deed = row CancelOver w ∷ act EndCall ∷ [] in
+      let o = goes_on p q r [] path (At (Task n)) (At (Task n)) [] [] g (goes q r path (At (Task n)) [] cell x.viewed x.carried) in
+      (w, over (is_open w) now, o)
+
+  -- the row of a cancel
+  pub closes : (p q r : Party F T A) (n : ℕ) (w : State) → Stands (as_task n) p → Same p q → r.seat.table_id ≡ q.seat.table_id → is_open w ≡ true → Makes (cancelling w) w q.seat.me r.seat.me → Cancels n p r (closed_by w)
+  closes p q r n w s e cell now m = made (w.scheduled || w.running) refl m
+    where
+      g : GoesWith [] (At (Task n)) [] p q
+      g = here p q (At (Task n)) [] s e
+
+      made : (b : Bool) → (w.scheduled || w.running) ≡ b → Makes (if b then CancelBusy ∷ [] else CancelIdle ∷ []) w q.seat.me r.seat.me → Cancels n p r (if b then Busy w.awaiter else Idle w.awaiter)
+      made true is m = let x = moved (CancelBusy ∷ []) w (At (Task n)) [] q r (stands p q [] (At (Task n)) [] g) m in
+          let path : List Deed = row CancelBusy w ∷ [] in let at : Position = notifies w.awaiter (OfCancel n) in let i = idle_cancel w.awaiter n in
+          let o = goes_on p q r [] path (At (Task n)) at [] [] g (goes q r path at [] cell x.viewed (bare (has_work at) (owns_awaiter at) at r.seat.me.1 i.0 i.1 x.carried)) in
+          (w, refl, both (is_open w) (w.scheduled || w.running) now is, o)
+      made false is m = let x = moved (CancelIdle ∷ []) w (At (Task n)) [] q r (stands p q [] (At (Task n)) [] g) m in
+          let path : List Deed = row CancelIdle w ∷ [] in let at : Position = Deliverer false (cancels_after w.awaiter n) in
+          let o = goes_on p q r [] path (At (Task n)) at [] [] g (goes q r path at [] cell x.viewed x.carried) in
+          (w, refl, neither (is_open w) w.scheduled w.running now is, o)
+
+  pub closes_at : (p q r : Party F T A) (n k : ℕ) (w : State) (result : Cancelled) → Stands (as_task n) p → Same p q → r.seat.table_id ≡ q.seat.table_id → k ≡ number_of w → is_open w ≡ true → result ≡ closed_by w
+      → Makes (cancelling (state_of k)) (state_of k) q.seat.me r.seat.me → Cancels n p r result
+  closes_at p q r n k w result s e cell is now by m = subst (Cancels n p r) (sym by) (closes p q r n w s e cell now (subst (λ (v : State). Makes (cancelling v) v q.seat.me r.seat.me) (ap state_of is ∙ state_of_number_of w) m))
+
+  -- the row of a detach
+  pub gives_up : (p q r : Party F T A) (n : ℕ) (w : State) → Stands (as_task n) p → Same p q → r.seat.table_id ≡ q.seat.table_id → Makes (detaching w) w q.seat.me r.seat.me → Detaches p r (given_up_by w)
+  gives_up p q r n w s e cell m = made (w.completed && not w.closed) (nat_lt 0 w.references) w.closed refl refl refl m
+    where
+      g : GoesWith [] (At (Task n)) [] p q
+      g = here p q (At (Task n)) [] s e
+
+      made : (a b c : Bool) → (w.completed && not w.closed) ≡ a → nat_lt 0 w.references ≡ b → w.closed ≡ c
+          → Makes (if a then GiveUpOutput ∷ [] else (if b then Detach ∷ EndCall ∷ [] else (if c then DetachLast ∷ [] else DetachOrphan ∷ []))) w q.seat.me r.seat.me
+          → Detaches p r (if a then Unclaimed else (if b then Shared else (if c then Last else Orphaned)))
+      made true b c claimed counted closed m = let x = moved (GiveUpOutput ∷ []) w (At (Task n)) [] q r (stands p q [] (At (Task n)) [] g) m in
+          let path : List Deed = row GiveUpOutput w ∷ [] in let y = x.carried in
+          (w, y.0, claimed, y.1, goes_on p q r [] path (At (Task n)) OutputCloser [] ((0, y.0) ∷ []) g (goes q r path OutputCloser ((0, y.0) ∷ []) cell x.viewed y.2))
+      made false true c claimed counted closed m = let x = moved (Detach ∷ EndCall ∷ []) w (At (Task n)) [] q r (stands p q [] (At (Task n)) [] g) m in
+          let path : List Deed = row Detach w ∷ act EndCall ∷ [] in
+          (w, both (nat_lt 0 w.references) (not (w.completed && not w.closed)) counted (over (w.completed && not w.closed) claimed), goes_on p q r [] path (At (Task n)) (At Ended) [] [] g (goes q r path (At Ended) [] cell x.viewed x.carried))
+      made false false true claimed counted closed m = let x = moved (DetachLast ∷ []) w (At (Task n)) [] q r (stands p q [] (At (Task n)) [] g) m in
+          let path : List Deed = row DetachLast w ∷ [] in let at : Position = Emptier None Nothing in let y = x.carried in
+          (w, y.0, both (nat_eq w.references 0) w.closed (none_left w.references counted) closed, goes_on p q r [] path (At (Task n)) at [] ((1, y.0) ∷ []) g (goes q r path at ((1, y.0) ∷ []) cell x.viewed y.2))
+      made false false false claimed counted closed m = let x = moved (DetachOrphan ∷ []) w (At (Task n)) [] q r (stands p q [] (At (Task n)) [] g) m in
+          let path : List Deed = row DetachOrphan w ∷ [] in let at : Position = Deliverer false (ThenEnds Nothing) in
+          (w, last_orphan w.references w.completed w.closed counted claimed closed, goes_on p q r [] path (At (Task n)) at [] [] g (goes q r path at [] cell x.viewed x.carried))
+
+  pub gives_up_at : (p q r : Party F T A) (n k : ℕ) (w : State) (result : Detached) → Stands (as_task n) p → Same p q → r.seat.table_id ≡ q.seat.table_id → k ≡ number_of w → result ≡ given_up_by w
+      → Makes (detaching (state_of k)) (state_of k) q.seat.me r.seat.me → Detaches p r result
+  gives_up_at p q r n k w result s e cell is by m = subst (Detaches p r) (sym by) (gives_up p q r n w s e cell (subst (λ (v : State). Makes (detaching v) v q.seat.me r.seat.me) (ap state_of is ∙ state_of_number_of w) m))
+
+  -- the Task is given up whose output was dropped
+  pub gives_rest : (p q r : Party F T A) (w : State) → Goes (act DropOutput ∷ []) Detacher p q → r.seat.table_id ≡ q.seat.table_id → w.closed ≡ true → Makes (giving_task_up w) w q.seat.me r.seat.me → GivesTaskUp p r (nat_eq w.references 0)
+  gives_rest p q r w g cell closed m = subst (λ b. GivesTaskUp p r b) (tests w.references) (made (nat_lt 0 w.references) refl m)
+    where
+      tests : (k : ℕ) → not (nat_lt 0 k) ≡ nat_eq k 0
+      tests k = grind (arith, nat_tests)
+
+      made : (b : Bool) → nat_lt 0 w.references ≡ b → Makes (if b then Detach ∷ EndCall ∷ [] else DetachLast ∷ []) w q.seat.me r.seat.me → GivesTaskUp p r (not b)
+      made true counted m = let x = moved (Detach ∷ EndCall ∷ []) w Detacher [] q r (stands p q (act DropOutput ∷ []) Detacher [] g) m in
+          let path : List Deed = row Detach w ∷ act EndCall ∷ [] in (
+            w,
+            both (nat_lt 0 w.references) (not (w.completed && not w.closed)) counted (over (w.completed && not w.closed) (closed_claimed w.completed w.closed closed)),
+            goes_on p q r (act DropOutput ∷ []) path Detacher (At Ended) [] [] g (goes q r path (At Ended) [] cell x.viewed x.carried),
+          )
+      made false counted m = let x = moved (DetachLast ∷ []) w Detacher [] q r (stands p q (act DropOutput ∷ []) Detacher [] g) m in
+          let path : List Deed = row DetachLast w ∷ [] in let at : Position = Emptier None Nothing in let y = x.carried in (
+            w,
+            y.0,
+            both (nat_eq w.references 0) w.closed (none_left w.references counted) closed,
+            goes_on p q r (act DropOutput ∷ []) path Detacher at [] ((1, y.0) ∷ []) g (goes q r path at ((1, y.0) ∷ []) cell x.viewed y.2),
+          )
+
+  -- the call ends
+  pub ends : (p q r : Party F T A) (path : List Deed) (answer : Answer) (x : Rest) → Goes path (Leaving answer x) p q → Goes (act EndCall ∷ []) (rest_of (position q)) q r → Goes (path ++ act EndCall ∷ []) (At x) p r
+  ends p q r path answer x g e = goes_on p q r path (act EndCall ∷ []) (Leaving answer x) (At x) [] [] g
+      (subst (λ at. Goes (act EndCall ∷ []) (rest_of at) q r) (position_is q (Leaving answer x) [] (stands p q path (Leaving answer x) [] g)) e)
+
+  -- a notifier of a cancel, on its way on
+  of_cancel : (p q : Party F T A) (n : ℕ) (path : List Deed) (hand : Option ℕ) → Stands (Notifier (OfCancel n)) p → GoesWith path (way_on hand (way_of (position p))) (holds p) p q → Goes path (way_on hand (OfCancel n)) p q
+  of_cancel p q n path hand s g = subst (λ (z : Way × List (ℕ × Slot F T A)). GoesWith path (way_on hand z.0) z.1 p q)
+      (λ i. (ap way_of (position_is p (Notifier (OfCancel n)) [] s) i, held_is p (Notifier (OfCancel n)) [] s i)) g
+
+  -- .. without an awaiter in hand
+  finds_nothing : (Woken : Type 0) (p q : Party F T A) (n : ℕ) → Stands (Notifier (OfCancel n)) p → Notifies p q None → (path : List Deed) × Notice Woken true path × Goes path (Leaving Nothing (Task n)) p q
+  finds_nothing Woken p q n s (misses w g) = let path : List Deed = row MissNotify w ∷ [] in (path, missed w, of_cancel p q n path None s g)
+  finds_nothing Woken p q n s (finds_none w v g) = let path : List Deed = row BeginNotify w ∷ act TakeAwaiter ∷ row EndNotify v ∷ [] in (path, found_none w v, of_cancel p q n path None s g)
+
+  -- .. and with one
+  pub has_awaiter : (p q : Party F T A) (n : ℕ) (a : A) → Stands (Notifier (OfCancel n)) p → Notifies p q (Some a)
+      → (w v : State) × (i : ℕ) × Goes (row BeginNotify w ∷ act TakeAwaiter ∷ row EndNotify v ∷ []) (AwaiterInHand i (OfCancel n)) p q
+  has_awaiter p q n a s (takes_awaiter w v i b g) = (w, v, i, of_cancel p q n (row BeginNotify w ∷ act TakeAwaiter ∷ row EndNotify v ∷ []) (Some i) s g)
+
+  wakes : (p q r : Party F T A) (n i : ℕ) (path : List Deed) → Goes path (AwaiterInHand i (OfCancel n)) p q → GoesWith (act WakeAwaiter ∷ []) (goes_off (way_of (position q))) (holds q) q r → Goes (path ++ act WakeAwaiter ∷ []) (Leaving Nothing (Task n)) p r
+  wakes p q r n i path g w = let s = stands p q path (AwaiterInHand i (OfCancel n)) [] g in
+      goes_on p q r path (act WakeAwaiter ∷ []) (AwaiterInHand i (OfCancel n)) (Leaving Nothing (Task n)) [] [] g
+      (subst (λ (z : Position × List (ℕ × Slot F T A)). GoesWith (act WakeAwaiter ∷ []) (goes_off (way_of z.0)) z.1 q r) (λ k. (position_is q (AwaiterInHand i (OfCancel n)) [] s k, held_is q (AwaiterInHand i (OfCancel n)) [] s k)) w)
+
+  -- how a cancel ends that has closed the task
+  abbrev pub Ends : Type 0 → Bool → ℕ → Party F T A → Party F T A → Type 0
+  Ends Woken due n p q = (path : List Deed) × Notice Woken due path × Goes (path ++ act EndCall ∷ []) (as_task n) p q
+
+  pub ends_at_once : (Woken : Type 0) (p r : Party F T A) (n : ℕ) (due : Bool) → due ≡ false → Stands (notifies due (OfCancel n)) p → Goes (act EndCall ∷ []) (rest_of (position p)) p r → Ends Woken due n p r
+  ends_at_once Woken p r n true is s e = absurd (cc)
+  ends_at_once Woken p r n false is s e = ([], not_due, ends p p r [] Nothing (Task n) (record { cell = refl; is = s }) e)
+
+  pub ends_without : (Woken : Type 0) (p q r : Party F T A) (n : ℕ) (due : Bool) → due ≡ true → Stands (notifies due (OfCancel n)) p → Notifies p q None → Goes (act EndCall ∷ []) (rest_of (position q)) q r → Ends Woken due n p r
+  ends_without Woken p q r n false is s told e = absurd (cc)
+  ends_without Woken p q r n true is s told e = let x = finds_nothing Woken p q n s told in (x.0, x.1, ends p q r x.0 Nothing (Task n) x.2 e)
+
+  pub ends_woken : (Woken : Type 0) (p q r t : Party F T A) (n : ℕ) (due : Bool) (a : A) → due ≡ true → Stands (notifies due (OfCancel n)) p → Notifies p q (Some a) → Woken
+      → GoesWith (act WakeAwaiter ∷ []) (goes_off (way_of (position q))) (holds q) q r → Goes (act EndCall ∷ []) (rest_of (position r)) r t → Ends Woken due n p t
+  ends_woken Woken p q r t n false a is s told fact w e = absurd (cc)
+  ends_woken Woken p q r t n true a is s told fact w e = let x = has_awaiter p q n a s told in let path : List Deed = row BeginNotify x.0 ∷ act TakeAwaiter ∷ row EndNotify x.1 ∷ [] in
+      (path ++ act WakeAwaiter ∷ [], woke x.0 x.1 fact, ends p r t (path ++ act WakeAwaiter ∷ []) Nothing (Task n) (wakes p q r n x.2 path x.3 w) e)
+
+  -- where such a cancel is before it ends
+  pub leaving_without : (p q : Party F T A) (n : ℕ) (due : Bool) → due ≡ true → Stands (notifies due (OfCancel n)) p → Notifies p q None → Stands (Leaving Nothing (Task n)) q
+  leaving_without p q n false is s told = absurd (cc)
+  leaving_without p q n true is s told = let x = finds_nothing (Unit {0}) p q n s told in stands p q x.0 (Leaving Nothing (Task n)) [] x.2
+
+  pub in_hand : (p q : Party F T A) (n : ℕ) (due : Bool) (a : A) → due ≡ true → Stands (notifies due (OfCancel n)) p → Notifies p q (Some a) → (path : List Deed) × (i : ℕ) × Goes path (AwaiterInHand i (OfCancel n)) p q
+  in_hand p q n false a is s told = absurd (cc)
+  in_hand p q n true a is s told = let x = has_awaiter p q n a s told in (row BeginNotify x.0 ∷ act TakeAwaiter ∷ row EndNotify x.1 ∷ [], x.2, x.3)
+
+  pub leaving_woken : (p q r : Party F T A) (n : ℕ) (due : Bool) (a : A) → due ≡ true → Stands (notifies due (OfCancel n)) p → Notifies p q (Some a)
+      → GoesWith (act WakeAwaiter ∷ []) (goes_off (way_of (position q))) (holds q) q r → (path : List Deed) × Goes path (Leaving Nothing (Task n)) p r
+  leaving_woken p q r n due a is s told w = let x = in_hand p q n due a is s told in (x.0 ++ act WakeAwaiter ∷ [], wakes p q r n x.1 x.0 x.2 w)

@@ -1,0 +1,8 @@
+use Rattle.std.proofs.Common.{◌∷◌, []}
+use Rattle.task_core.specs.declared.moves.Position.TheVariants.{Ready}
+use Rattle.async_task.specs.declared.table.Slot.TheVariants.{Output}
+use Rattle.async_task.specs.Calls.{GoesWith}
+use Rattle.async_task.proofs.cell.Cell.complete.Given as goal
+
+abbrev pub invariant-loop : goal.invariant-loop
+invariant-loop g l = GoesWith [] Ready ((0, Output l.fn.output) ∷ []) l.fn.party l.party

@@ -1,0 +1,17 @@
+pub mod Rule
+pub mod Steps
+pub mod Calls
+pub mod Seats
+pub mod Spawns
+pub mod LastWord
+pub mod Scripts
+pub mod StartScripts
+pub mod Starts
+pub mod RunScripts
+pub mod RunPaths
+pub mod RunCalls
+pub mod TaskScripts
+pub mod Knows
+pub mod TaskPaths
+pub mod PollScripts
+pub mod PollPaths

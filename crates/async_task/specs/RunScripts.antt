@@ -1,0 +1,63 @@
+-- The acts that the steps of a run and of a Runnable's drop make.
+use Rattle.std.specs.Prelude.{◌||◌, nat_lt, if◌then◌else◌, List, [], ◌∷◌, unwrap_or}
+use Rattle.std.specs.Option.{option_or}
+use Rattle.task_core.specs.Word.{State}
+use Rattle.task_core.specs.Rows.{written, row}
+use Rattle.task_core.specs.declared.moves.Act.{Act}
+use Rattle.task_core.specs.declared.moves.Act.TheVariants.{Unschedule, DropFuture, GiveUpReference, GiveUpLastReference, EmptySlots, DiscardOpen, DiscardClosed, AnswerReady, StoreOutput, Complete, CompleteDetached, DropOutput, AnswerPending, Reschedule, EndIdle, EndOrphaned, EndCall, EndClosed}
+
+-- SCHEDULED is cleared, after the future was dropped
+abbrev pub unscheduling : State → List Act
+unscheduling w = DropFuture ∷ Unschedule ∷ []
+
+-- the reference is given up
+abbrev pub giving_up : State → List Act
+giving_up w = if nat_lt 1 w.references || w.task then GiveUpReference ∷ [] else GiveUpLastReference ∷ []
+
+-- the last party has emptied the place of the awaiter
+abbrev pub emptying : State → List Act
+emptying w = EmptySlots ∷ []
+
+-- a Runnable that is dropped closes the task
+abbrev pub discarding : State → List Act
+discarding w = if w.closed then DiscardClosed ∷ [] else DiscardOpen ∷ []
+
+-- the poll of the future has answered Ready
+abbrev pub answering_ready : State → List Act
+answering_ready w = AnswerReady ∷ []
+
+-- the run ends, after the future was dropped and the output stored
+abbrev pub completing : State → List Act
+completing w = if w.task then DropFuture ∷ StoreOutput ∷ Complete ∷ [] else DropFuture ∷ StoreOutput ∷ CompleteDetached ∷ []
+
+-- .. and finds that the word has changed
+abbrev pub missing_completion : State → List Act
+missing_completion w = []
+
+-- the output was dropped
+abbrev pub dropping_output : State → List Act
+dropping_output w = DropOutput ∷ []
+
+-- the poll of the future has answered Pending; where the task is closed, the future is dropped next
+abbrev pub answering_pending : State → List Act
+answering_pending w = if w.closed then AnswerPending ∷ DropFuture ∷ [] else AnswerPending ∷ []
+
+-- the run of an open task ends
+abbrev pub ending_pending : State → List Act
+ending_pending w = if w.scheduled then Reschedule ∷ [] else (if nat_lt 1 w.references || w.task then EndIdle ∷ EndCall ∷ [] else EndOrphaned ∷ [])
+
+-- .. and finds that the word has changed: where the task is closed, the future is dropped next
+abbrev pub missing_end : State → List Act
+missing_end w = if w.closed then DropFuture ∷ [] else []
+
+-- the run of a closed task ends, after the future was dropped
+abbrev pub ending_closed : State → List Act
+ending_closed w = EndClosed ∷ []
+
+-- the word that a run leaves that ends with an output
+abbrev pub completed_word : State → State
+completed_word w = if w.task then written Complete w else written CompleteDetached w
+
+-- .. and one that ends without an output on an open task: each of the three rows where it fits
+abbrev pub after_pending : State → State
+after_pending w = unwrap_or (option_or (option_or (row 0 Reschedule w) (row 0 EndIdle w)) (row 0 EndOrphaned w)) w

@@ -1,0 +1,25 @@
+-- The acts that the steps make which several calls have.
+use Rattle.std.specs.Prelude.{◌||◌, if◌then◌else◌, List, [], ◌∷◌}
+use Rattle.task_core.specs.Word.{State}
+use Rattle.task_core.specs.declared.moves.Act.{Act}
+use Rattle.task_core.specs.declared.moves.Act.TheVariants.{EndCall, BeginNotify, MissNotify, TakeAwaiter, EndNotify, WakeAwaiter, DropAwaiter}
+
+-- the call ends
+abbrev pub ending : State → List Act
+ending w = EndCall ∷ []
+
+-- the awaiter slot is taken, and emptied, unless another party is at it
+abbrev pub taking_awaiter : State → List Act
+taking_awaiter w = if w.notifying || w.registering then MissNotify ∷ [] else BeginNotify ∷ TakeAwaiter ∷ []
+
+-- the awaiter slot is given back
+abbrev pub releasing_awaiter : State → List Act
+releasing_awaiter w = EndNotify ∷ []
+
+-- the awaiter in hand was woken
+abbrev pub waking : State → List Act
+waking w = WakeAwaiter ∷ []
+
+-- the awaiter in hand was dropped
+abbrev pub dropping : State → List Act
+dropping w = DropAwaiter ∷ []

@@ -1,0 +1,36 @@
+-- How a Runnable is taken up by a run.
+use Rattle.std.specs.Prelude.{◌≡◌, Bool, true, false, [], ◌∷◌}
+use Rattle.task_core.specs.Word.{State}
+use Rattle.task_core.specs.declared.moves.Position.TheVariants.{At, FutureInHand, Polling}
+use Rattle.task_core.specs.declared.moves.Rest.TheVariants.{Lent}
+use Rattle.task_core.specs.declared.moves.Closer.TheVariants.{ClosedRun}
+use Rattle.task_core.specs.declared.moves.Act.TheVariants.{TakeUpClosed, StartRun, StartPoll}
+use Rattle.async_task.specs.declared.table.Slot.{Slot}
+use Rattle.async_task.specs.declared.table.View.{View}
+use Rattle.async_task.specs.declared.cell.Party.{Party}
+use Rattle.async_task.specs.Rule.{member, view, fresh, IsFuture}
+use Rattle.task_core.specs.declared.moves.Position.{Position}
+use Rattle.async_task.specs.Steps.{head_of, tail_of}
+use Rattle.async_task.specs.Calls.{row, act, deeds, limit_of, GoesWith}
+
+module _ {F T A : Type 0} where
+  -- the seat of a run that has started: its own party, and the waker that its poll is lent
+  abbrev pub polling_view : State → Party F T A → View
+  polling_view w p = view (limit_of p) (member Polling (act StartPoll ∷ row StartRun w ∷ deeds p) ∷ fresh (At Lent) ∷ [])
+
+  -- the task was closed; or the run has started
+  pub data TakesUp (p q : Party F T A) : Bool → Type 0 where
+    finds_closed : (w : State) (y : Slot F T A) → w.closed ≡ true → IsFuture y → GoesWith (row TakeUpClosed w ∷ []) (FutureInHand ClosedRun) ((0, y) ∷ []) p q → TakesUp p q false
+    starts : (w : State) (y : Slot F T A) → w.closed ≡ false → IsFuture y → q.seat.table_id ≡ p.seat.table_id → q.seat.me ≡ (polling_view w p, (0, y) ∷ []) → TakesUp p q true
+
+  -- a run that has started and has the future, with its waker beside it
+  abbrev pub IsLending : Slot F T A → Party F T A → Type 0
+  IsLending y p = p.seat.me ≡ (view (limit_of p) (member Polling (deeds p) ∷ fresh (At Lent) ∷ []), (0, y) ∷ [])
+
+-- a waker that is lent, beside its run
+abbrev pub lends_at : Position → Position → Bool
+lends_at (At Lent) Polling = true
+lends_at _ _ = false
+
+abbrev pub is_lent : View → Bool
+is_lent v = lends_at (head_of v.members).at (head_of (tail_of v.members)).at

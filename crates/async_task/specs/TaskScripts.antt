@@ -1,0 +1,45 @@
+-- The acts that the steps of a Task make beside its polls.
+use Rattle.std.specs.Prelude.{◌+◌, not, ◌&&◌, ◌||◌, nat_lt, true, false, if◌then◌else◌, List, [], ◌∷◌}
+use Rattle.task_core.specs.Word.{State, is_open, orphan_word}
+use Rattle.task_core.specs.declared.moves.Act.{Act}
+use Rattle.task_core.specs.declared.moves.Act.TheVariants.{LookFinished, CancelOver, CancelBusy, CancelIdle, GiveUpOutput, DropOutput, DetachOrphan, DetachLast, Detach, EndCall}
+
+-- the load of `is_finished`
+abbrev pub looking_finished : State → List Act
+looking_finished w = LookFinished ∷ EndCall ∷ []
+
+-- a load that says nothing
+abbrev pub watching : State → List Act
+watching w = []
+
+-- the load of a cancel, which ends where the task is over
+abbrev pub looking_over : State → List Act
+looking_over w = if is_open w then [] else CancelOver ∷ EndCall ∷ []
+
+-- a cancel closes an open task
+abbrev pub cancelling : State → List Act
+cancelling w = if w.scheduled || w.running then CancelBusy ∷ [] else CancelIdle ∷ []
+
+-- .. and writes this word
+abbrev pub cancelled : State → State
+cancelled w = if w.scheduled || w.running then record w { closed = true } else record w { scheduled = true; closed = true; references = w.references + 1 }
+
+-- the Task is given up
+abbrev pub detaching : State → List Act
+detaching w =
+    if w.completed && not w.closed then GiveUpOutput ∷ []
+    else (if nat_lt 0 w.references then Detach ∷ EndCall ∷ [] else (if w.closed then DetachLast ∷ [] else DetachOrphan ∷ []))
+
+-- .. and this word written
+abbrev pub detached : State → State
+detached w =
+    if w.completed && not w.closed then record w { closed = true }
+    else (if nat_lt 0 w.references || w.closed then record w { task = false } else orphan_word)
+
+-- the output in hand was dropped
+abbrev pub dropping_output : State → List Act
+dropping_output w = DropOutput ∷ []
+
+-- .. and the Task is given up, which is closed
+abbrev pub giving_task_up : State → List Act
+giving_task_up w = if nat_lt 0 w.references then Detach ∷ EndCall ∷ [] else DetachLast ∷ []

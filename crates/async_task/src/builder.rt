@@ -1,0 +1,94 @@
+//! Spawning a task.
+ghost use Rattle.std.specs.Prelude.{◌≡◌, IfErr};
+
+use crate::cell::{Cell, Runnable, RunnableParty};
+use crate::handles::Task;
+use crate::handles::task::TaskParty;
+use std::alloc::Allocator;
+use std::sync::Wait;
+use task_core::word::LIMIT;
+use task_core::{Schedule, Wake, Yields};
+
+/// What a spawn is given beside the future and the schedule value.
+#[derive(Debug, Drop)]
+pub struct Builder<M> {
+    metadata: M,
+    limit: u64,
+}
+
+/// A spawn was refused for want of memory: what it was given.
+#[derive(Debug, Drop)]
+pub struct SpawnError<M, G, Q> {
+    /// The builder.
+    pub builder: Builder<M>,
+    /// What makes the future; of the free `spawn`, the future.
+    pub maker: G,
+    /// The schedule value.
+    pub schedule: Q,
+}
+
+impl Builder<()> {
+    /// A builder without metadata, whose tasks may have `LIMIT` references.
+    pub fn new() -> Builder<()>
+        ensures metadata { result.metadata ≡ tt }
+        ensures limit { result.limit ≡ LIMIT }
+    {
+        Builder {
+            metadata: (),
+            limit: LIMIT,
+        }
+    }
+}
+
+/// Spawns a future: its Runnable, which is due, and its Task. The memory is found before anything else is done.
+///
+/// `rt` is what the handles may wait by, `alloc` where the memory comes from, `schedule` what Runnables are handed to,
+/// and `around` what each handle carries. An `Err` hands everything back as it was given.
+pub fn spawn<R, F, Q, A, X, B>(
+    rt: R,
+    alloc: B,
+    future: F,
+    schedule: Q,
+    around: X,
+) -> Result<(Runnable<R, F, Q, (), A, X, B>, Task<R, F, Q, (), A, X, B>), SpawnError<(), F, Q>>
+where
+    R: Wait + Drop,
+    F: Yields,
+    A: Wake,
+    X: Copy,
+    B: Allocator + Copy,
+    Q: Schedule<Runnable<R, F, Q, (), A, X, B>> + Drop,
+    ensures { IfErr result (λ e. (e.maker ≡ future) × (e.schedule ≡ schedule)) }
+{
+    match Cell::make(rt, alloc, schedule, (), LIMIT) {
+        Ok((first, second, seat)) => {
+            let (runnable, task) = first.fill(seat, future);
+            let runnable = RunnableParty {
+                cell: first,
+                party: runnable,
+            };
+            let task = TaskParty {
+                cell: second,
+                party: task,
+            };
+            Ok((
+                Runnable {
+                    inner: runnable,
+                    around,
+                },
+                Task {
+                    inner: task,
+                    around,
+                },
+            ))
+        }
+        Err((schedule, metadata)) => Err(SpawnError {
+            builder: Builder {
+                metadata,
+                limit: LIMIT,
+            },
+            maker: future,
+            schedule,
+        }),
+    }
+}

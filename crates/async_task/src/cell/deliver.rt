@@ -1,0 +1,97 @@
+//! Handing a Runnable over to the schedule value.
+ghost use Rattle.std.specs.Prelude.{◌≡◌, ℕ, ◌∷◌, [], Bool, false};
+ghost use Rattle.std.specs.Arc.{arc_value};
+ghost use Rattle.task_core.specs.declared.moves.Position.TheVariants.{At, Deliverer};
+ghost use Rattle.task_core.specs.declared.moves.Rest.{Rest};
+ghost use Rattle.task_core.specs.declared.moves.After.{After};
+ghost use Rattle.task_core.specs.declared.moves.Act.TheVariants.{HandOver, EndCall};
+ghost use Rattle.async_task.specs.Calls.{Stands, Goes, IsNew, act, position, handed_over, limit_of, as_runnable, as_ended};
+
+use super::{Cell, Party, Runnable, RunnableParty};
+use crate::steps::common::HandingOver;
+use std::alloc::Allocator;
+use std::sync::{Arc, Wait};
+use task_core::{Schedule, ScheduleInfo, Wake, Yields};
+
+impl<R: Drop, F: Yields, Q: Drop, M: Drop, A: Drop, B: Allocator> Cell<R, F, Q, M, A, B> {
+    // The Runnable of a deliverer, or of a Runnable that is scheduled again. One load.
+    pub(crate) fn hand_over(&self, party: &mut Party<F, F::Output, A>) -> Party<F, F::Output, A>
+        requires cell { party.old.seat.table_id ≡ self.now.table.shared.table_id }
+        requires party { (woken : Bool) × (next : After) × Stands (Deliverer woken next) party.old }
+        ensures path { Goes (act HandOver ∷ []) (handed_over (position party.old)) party.old party.new }
+        ensures runnable { IsNew as_runnable party.old result }
+    {
+        let seat = self.table.shared.split_seat::<HandingOver>(&mut party.seat);
+        Party { seat }
+    }
+
+    // The Runnable that a Runnable becomes when it is scheduled again. One load.
+    fn hand_again(&self, party: &mut Party<F, F::Output, A>) -> Party<F, F::Output, A>
+        requires cell { party.old.seat.table_id ≡ self.now.table.shared.table_id }
+        requires party { Stands as_runnable party.old }
+        ensures path { Goes (act HandOver ∷ []) (handed_over as_runnable) party.old party.new }
+        ensures runnable { IsNew as_runnable party.old result }
+    {
+        let seat = self.table.shared.split_seat::<HandingOver>(&mut party.seat);
+        Party { seat }
+    }
+}
+
+impl<R: Wait + Drop, F: Yields, Q: Drop, M: Drop, A: Wake, B: Allocator> Cell<R, F, Q, M, A, B> {
+    // One more share of the cell. It asks for no memory; where it is refused all the same, it is tried again.
+    pub(crate) fn share(this: &Arc<Self, B>) -> Arc<Self, B>
+        ensures { arc_value result ≡ arc_value this.now }
+    {
+        for _ in this.rt.forever() {
+            if let Ok(share) = Arc::try_clone(this) {
+                return share;
+            }
+        }
+        unreachable!()
+    }
+
+    // Hands the Runnable of a deliverer to the schedule value. The act stands in the list before the schedule value is called.
+    pub(crate) fn deliver<X: Copy>(
+        this: &Arc<Self, B>,
+        party: &mut Party<F, F::Output, A>,
+        around: X,
+        woken_while_running: bool,
+    )
+    where
+        Q: Schedule<Runnable<R, F, Q, M, A, X, B>>,
+        requires cell { (party.old.seat.table_id ≡ (arc_value this.now).table.shared.table_id) × (limit_of party.old ≡ (arc_value this.now).limit) }
+        requires party { (next : After) × Stands (Deliverer woken_while_running next) party.old }
+        ensures path { Goes (act HandOver ∷ []) (handed_over (position party.old)) party.old party.new }
+        ensures fact { (n : _) × Q.scheduled (arc_value this.now).schedule n (record { woken_while_running = woken_while_running }) }
+    {
+        let inner = RunnableParty {
+            cell: Cell::share(this),
+            party: this.hand_over(party),
+        };
+        let runnable = Runnable { inner, around };
+        let info = ScheduleInfo {
+            woken_while_running,
+        };
+        this.schedule.schedule(runnable, info);
+    }
+
+    /// Hands a Runnable to the schedule value again, with `woken_while_running` false. It makes no step on the word but loads.
+    pub fn schedule<X: Copy>(this: &Arc<Self, B>, party: &mut Party<F, F::Output, A>, around: X)
+    where
+        Q: Schedule<Runnable<R, F, Q, M, A, X, B>>,
+        requires cell { (party.old.seat.table_id ≡ (arc_value this.now).table.shared.table_id) × (limit_of party.old ≡ (arc_value this.now).limit) }
+        requires party { Stands as_runnable party.old }
+        ensures path { Goes (act HandOver ∷ act EndCall ∷ []) as_ended party.old party.new }
+        ensures fact { (n : _) × Q.scheduled (arc_value this.now).schedule n (record { woken_while_running = false }) }
+    {
+        let inner = RunnableParty {
+            cell: Cell::share(this),
+            party: this.hand_again(party),
+        };
+        let info = ScheduleInfo {
+            woken_while_running: false,
+        };
+        this.schedule.schedule(Runnable { inner, around }, info);
+        this.end(party);
+    }
+}

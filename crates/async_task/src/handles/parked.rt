@@ -1,0 +1,61 @@
+//! Handles without the surroundings, to be kept in a queue or a store that stands in the surroundings.
+//! They must be unparked again; nothing is dropped of one that is forgotten.
+
+use super::task::{Task, TaskParty};
+use crate::cell::{Runnable, RunnableParty};
+use std::alloc::{Allocator, Global};
+use std::sync::Wait;
+use task_core::{Schedule, Wake, Yields};
+
+/// A Runnable without the surroundings. It counts as the Runnable, and can't be dropped: it is unparked.
+pub struct ParkedRunnable<R, F: Yields, Q, M, A, B: Allocator = Global> {
+    pub(crate) inner: RunnableParty<R, F, Q, M, A, B>,
+}
+
+impl<R: Wait + Drop, F: Yields, Q: Drop, M: Drop, A: Wake, B: Allocator> ParkedRunnable<
+    R,
+    F,
+    Q,
+    M,
+    A,
+    B,
+> {
+    /// The metadata that the builder was given.
+    pub fn metadata(&self) -> &M {
+        self.inner.cell.metadata()
+    }
+
+    /// The Runnable again, with these surroundings. It makes no step.
+    pub fn unpark<X: Copy>(self, around: X) -> Runnable<R, F, Q, M, A, X, B> {
+        let ParkedRunnable { inner } = self;
+        Runnable { inner, around }
+    }
+}
+
+/// A Task without the surroundings. It counts as the Task, and can't be dropped: it is unparked.
+pub struct ParkedTask<R, F: Yields, Q, M, A, B: Allocator = Global> {
+    pub(crate) inner: TaskParty<R, F, Q, M, A, B>,
+}
+
+impl<R: Wait + Drop, F: Yields, Q: Drop, M: Drop, A: Wake, B: Allocator> ParkedTask<
+    R,
+    F,
+    Q,
+    M,
+    A,
+    B,
+> {
+    /// The metadata that the builder was given.
+    pub fn metadata(&self) -> &M {
+        self.inner.cell.metadata()
+    }
+
+    /// The Task again, with these surroundings. It makes no step.
+    pub fn unpark<X: Copy>(self, around: X) -> Task<R, F, Q, M, A, X, B>
+    where
+        Q: Schedule<Runnable<R, F, Q, M, A, X, B>>,
+    {
+        let ParkedTask { inner } = self;
+        Task { inner, around }
+    }
+}

@@ -1,0 +1,13 @@
+//! A task cell on one atomic word, and the handles that executors use.
+#![tactic(auto)]
+
+pub mod builder;
+pub mod cell;
+pub mod handles;
+pub mod steps;
+pub mod table;
+
+pub use builder::{Builder, SpawnError, spawn};
+pub use cell::{Cell, Party, Runnable, TaskWaker};
+pub use handles::{ParkedRunnable, ParkedTask, Task, TaskClosed};
+pub use task_core::{Future, Poll, Schedule, ScheduleInfo, TaskPoll, Wake, WithInfo, Yields};

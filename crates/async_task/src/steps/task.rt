@@ -1,0 +1,65 @@
+//! Steps of a Task beside its polls.
+ghost use Rattle.async_task.specs.Knows.{known};
+ghost use Rattle.async_task.specs.TaskScripts.{looking_finished, watching, looking_over, cancelling, detaching, dropping_output, giving_task_up};
+
+use super::Script;
+use crate::table::{Slot, View};
+use atomic_table::Play;
+
+/// A step that always makes its acts, and tells what its party knows of the word by what it has seen before.
+pub struct Knowing<P: Script> {
+    script: P,
+}
+
+impl<F, T, A, P: Script> Play<Slot<F, T, A>, View> for Knowing<P> {
+    ghost then = { known P.acts };
+}
+
+/// The load of `is_finished`.
+pub struct LookingFinished;
+
+impl Script for LookingFinished {
+    ghost acts = { looking_finished };
+}
+
+/// A load before a compare and exchange.
+pub struct Watching;
+
+impl Script for Watching {
+    ghost acts = { watching };
+}
+
+/// The load of a cancel.
+pub struct LookingOver;
+
+impl Script for LookingOver {
+    ghost acts = { looking_over };
+}
+
+/// A cancel closes the task.
+pub struct Cancelling;
+
+impl Script for Cancelling {
+    ghost acts = { cancelling };
+}
+
+/// The Task is given up.
+pub struct Detaching;
+
+impl Script for Detaching {
+    ghost acts = { detaching };
+}
+
+/// The output in hand was dropped.
+pub struct DroppingOutput;
+
+impl Script for DroppingOutput {
+    ghost acts = { dropping_output };
+}
+
+/// The Task is given up whose output was dropped.
+pub struct GivingTaskUp;
+
+impl Script for GivingTaskUp {
+    ghost acts = { giving_task_up };
+}

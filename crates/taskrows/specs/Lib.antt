@@ -1,0 +1,4 @@
+pub mod Arguments
+pub mod Behaviour
+pub mod Polled
+pub mod Row

@@ -1,0 +1,11 @@
+use Rattle.std.specs.Prelude.{◌≡◌, ℕ, Result, Ok, Err}
+use Rattle.task_core.specs.declared.traits.TaskPoll.{TaskPoll}
+use Rattle.task_core.specs.declared.traits.TaskPoll.TheVariants.{Pending, Ready, NoMemory}
+use Rattle.taskrows.specs.declared.rows.future.Output.{Output}
+
+-- a Task's poll answered ready with that number
+abbrev pub IsReadyWith : {E : Type 0} → TaskPoll (Result Output E) → ℕ → Type 0
+IsReadyWith (Ready (Ok output)) number = output.number ≡ number
+IsReadyWith (Ready (Err closed)) number = ⊥
+IsReadyWith Pending number = ⊥
+IsReadyWith NoMemory number = ⊥

@@ -1,0 +1,28 @@
+use Rattle.std.specs.Prelude.{◌≡◌, ℕ, IsTrue}
+use Rattle.taskrows.specs.declared.rows.fixture.Outcome.{Outcome}
+use Rattle.taskrows.specs.declared.rows.table.Row.{Row}
+use Rattle.taskrows.specs.declared.rows.table.Row.TheVariants.{DropAndDetach, DetachAndDrop, DetachAndRun, RunAndDetach}
+use Rattle.taskrows.specs.declared.rows.table.Row.TheVariants.{CancelAndRun, CancelJoin, LastRun, RefusedClone}
+use Rattle.taskrows.specs.declared.rows.table.Row.TheVariants.{AwaiterCompletes, AwaiterOrphan, ScheduleCounter, Sum}
+
+-- a row that agrees ends with these polls, schedule calls, drops of the future and drops of the schedule value
+abbrev pub AgreesAt : ℕ → ℕ → ℕ → ℕ → Outcome → Type 0
+AgreesAt polls schedules futures schedulers outcome =
+    IsTrue outcome.agrees
+    → outcome.counts
+    ≡ record { polls = polls; schedules = schedules; future_drops = futures; scheduler_drops = schedulers }
+
+-- a row that agrees ends with the numbers that the table of the rows has for it
+abbrev pub AgreesAs : Row → Outcome → Type 0
+AgreesAs DropAndDetach = AgreesAt 0 0 1 1
+AgreesAs DetachAndDrop = AgreesAt 0 0 1 1
+AgreesAs DetachAndRun = AgreesAt 1 0 1 1
+AgreesAs RunAndDetach = AgreesAt 1 0 1 1
+AgreesAs CancelAndRun = AgreesAt 0 0 1 1
+AgreesAs CancelJoin = AgreesAt 1 0 1 1
+AgreesAs LastRun = AgreesAt 1 1 1 1
+AgreesAs RefusedClone = AgreesAt 1 0 1 0
+AgreesAs AwaiterCompletes = AgreesAt 1 0 1 1
+AgreesAs AwaiterOrphan = AgreesAt 1 1 1 1
+AgreesAs ScheduleCounter = AgreesAt 0 3 0 0
+AgreesAs Sum = AgreesAt 1 0 1 0
