@@ -6,7 +6,7 @@ ghost use Rattle.async_task.specs.Calls.{limit_of, deeds, holds, is_empty, posit
 ghost use Rattle.task_core.specs.declared.moves.Position.TheVariants.{At};
 ghost use Rattle.task_core.specs.declared.moves.Rest.TheVariants.{Runnable};
 
-use crate::table::{Law, Slot, View};
+use crate::table::{Kept, Law, Slot, View};
 use atomic_table::{Seat, Table};
 use std::alloc::{Allocator, Global};
 use std::sync::{Arc, Wait};
@@ -18,7 +18,7 @@ pub type Board<F, T, A, B> = Table<Slot<F, T, A>, View, u64, Law, B>;
 /// What the handles of one task share: the word and the places, the schedule value and the metadata.
 #[derive(Drop)]
 pub struct Cell<R, F: Yields, Q, M, A, B: Allocator = Global> {
-    pub(crate) table: Board<F, F::Output, A, B>,
+    pub(crate) table: Board<F, Kept<F>, A, B>,
     pub(crate) schedule: Q,
     metadata: M,
     pub(crate) limit: u64,
@@ -44,7 +44,7 @@ impl<F, T, A> Party<F, T, A> {
 /// A share of a cell, and the party of its Runnable.
 pub(crate) struct RunnableParty<R, F: Yields, Q, M, A, B: Allocator> {
     pub(crate) cell: Arc<Cell<R, F, Q, M, A, B>, B>,
-    pub(crate) party: Party<F, F::Output, A>,
+    pub(crate) party: Party<F, Kept<F>, A>,
     ghost seated: { party.seat.table_id ≡ (arc_value cell).table.shared.table_id },
     ghost limited: { limit_of party ≡ (arc_value cell).limit },
     ghost placed: { party.seat.me.0 ≡ view (limit_of party) (member (At Runnable) (deeds party) ∷ []) },

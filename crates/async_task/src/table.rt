@@ -1,6 +1,7 @@
 //! The table of a cell: its one word, its slots, and what a seat knows.
 use atomic_table::TableRule;
 use std::collections::LinkedList;
+use task_core::Yields;
 use task_core::moves::{Act, Position};
 use task_core::word::Word;
 
@@ -15,6 +16,14 @@ pub enum Slot<F, T, A> {
     Output(T),
     /// The awaiter of a poll of the Task.
     Awaiter(A),
+}
+
+/// An output, and that it meets what its future's type states.
+#[derive(Drop)]
+pub struct Kept<F: Yields> {
+    /// The output.
+    pub output: F::Output,
+    ghost meets: { ∥ F.Yields.meets output ∥₁ },
 }
 
 /// An act, and the word that it found, where it is a row or a load.

@@ -13,16 +13,16 @@ ghost use Rattle.async_task.specs.Calls.{Stands, StandsWith, Goes, GoesWith, Not
 use super::{Cell, Party};
 use crate::steps::Always;
 use crate::steps::common::{Dropping, Ending, ReleasingAwaiter, TakingAwaiter, Waking};
-use crate::table::Slot;
+use crate::table::{Kept, Slot};
 use std::alloc::Allocator;
 use task_core::word::{AWAITER, NOTIFYING, Word};
 use task_core::{Wake, Yields};
 
 impl<R: Drop, F: Yields, Q: Drop, M: Drop, A: Drop, B: Allocator> Cell<R, F, Q, M, A, B> {
     // Takes the stored awaiter, unless another party is at it. Both steps are single fetches, never tried again.
-    pub(crate) fn notify(&self, party: &mut Party<F, F::Output, A>) -> Option<A>
+    pub(crate) fn notify(&self, party: &mut Party<F, Kept<F>, A>) -> Option<A>
         requires cell { party.old.seat.table_id ≡ self.now.table.shared.table_id }
-        requires party { (way : Way) × (held : List (ℕ × Slot F F.Output A)) × StandsWith (Notifier way) held party.old }
+        requires party { (way : Way) × (held : List (ℕ × Slot F _ A)) × StandsWith (Notifier way) held party.old }
         ensures { Notifies party.old party.new result }
     {
         let shared = &self.table.shared;
@@ -40,7 +40,7 @@ impl<R: Drop, F: Yields, Q: Drop, M: Drop, A: Drop, B: Allocator> Cell<R, F, Q, 
     }
 
     // Takes the stored awaiter where AWAITER was found.
-    pub(crate) fn take_due(&self, party: &mut Party<F, F::Output, A>, due: bool) -> Option<A>
+    pub(crate) fn take_due(&self, party: &mut Party<F, Kept<F>, A>, due: bool) -> Option<A>
         requires cell { party.old.seat.table_id ≡ self.now.table.shared.table_id }
         requires party { (way : Way) × Stands (notifies due way) party.old }
         ensures { (way : Way) → Stands (notifies due way) party.old → TakesDue way due party.old party.new result }
@@ -49,18 +49,18 @@ impl<R: Drop, F: Yields, Q: Drop, M: Drop, A: Drop, B: Allocator> Cell<R, F, Q, 
     }
 
     // Writes down that the awaiter in hand was woken. One load.
-    pub(crate) fn note_woken(&self, party: &mut Party<F, F::Output, A>)
+    pub(crate) fn note_woken(&self, party: &mut Party<F, Kept<F>, A>)
         requires cell { party.old.seat.table_id ≡ self.now.table.shared.table_id }
-        requires party { (i : ℕ) × (way : Way) × (held : List (ℕ × Slot F F.Output A)) × StandsWith (AwaiterInHand i way) held party.old }
+        requires party { (i : ℕ) × (way : Way) × (held : List (ℕ × Slot F _ A)) × StandsWith (AwaiterInHand i way) held party.old }
         ensures { GoesWith (act WakeAwaiter ∷ []) (goes_off (way_of (position party.old))) (holds party.old) party.old party.new }
     {
         self.table.shared.load::<Always<Waking>>(&mut party.seat, 0);
     }
 
     // Writes down that the awaiter in hand was dropped. One load.
-    pub(crate) fn note_dropped(&self, party: &mut Party<F, F::Output, A>)
+    pub(crate) fn note_dropped(&self, party: &mut Party<F, Kept<F>, A>)
         requires cell { party.old.seat.table_id ≡ self.now.table.shared.table_id }
-        requires party { (i : ℕ) × (way : Way) × (held : List (ℕ × Slot F F.Output A)) × StandsWith (AwaiterInHand i way) held party.old × (may_drop way ≡ true) }
+        requires party { (i : ℕ) × (way : Way) × (held : List (ℕ × Slot F _ A)) × StandsWith (AwaiterInHand i way) held party.old × (may_drop way ≡ true) }
         ensures { GoesWith (act DropAwaiter ∷ []) (goes_off (way_of (position party.old))) (holds party.old) party.old party.new }
     {
         self.table
@@ -69,7 +69,7 @@ impl<R: Drop, F: Yields, Q: Drop, M: Drop, A: Drop, B: Allocator> Cell<R, F, Q, 
     }
 
     // Writes down that the call has ended. One load.
-    pub(crate) fn end(&self, party: &mut Party<F, F::Output, A>)
+    pub(crate) fn end(&self, party: &mut Party<F, Kept<F>, A>)
         requires cell { party.old.seat.table_id ≡ self.now.table.shared.table_id }
         requires party { (answer : Answer) × (r : Rest) × Stands (Leaving answer r) party.old }
         ensures { Goes (act EndCall ∷ []) (rest_of (position party.old)) party.old party.new }
@@ -80,7 +80,7 @@ impl<R: Drop, F: Yields, Q: Drop, M: Drop, A: Drop, B: Allocator> Cell<R, F, Q, 
 
 impl<R: Drop, F: Yields, Q: Drop, M: Drop, A: Wake, B: Allocator> Cell<R, F, Q, M, A, B> {
     // Wakes the awaiter that was taken.
-    pub(crate) fn wake_taken(&self, party: &mut Party<F, F::Output, A>, awaiter: Option<A>)
+    pub(crate) fn wake_taken(&self, party: &mut Party<F, Kept<F>, A>, awaiter: Option<A>)
         requires cell { party.old.seat.table_id ≡ self.now.table.shared.table_id }
         requires party { (way : Way) × HasTaken way party.old awaiter }
         ensures { (way : Way) → HasTaken way party.old awaiter → Wakes ((a : A) × A.woken a) way awaiter party.old party.new }

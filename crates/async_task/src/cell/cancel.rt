@@ -13,6 +13,7 @@ ghost use Rattle.async_task.specs.Calls.{Stands, Goes, act, position, limit_of, 
 use super::{Cell, Party, Runnable};
 use crate::steps::Exchange;
 use crate::steps::task::{Cancelling, Knowing, LookingOver};
+use crate::table::Kept;
 use std::alloc::Allocator;
 use std::sync::{Arc, Wait};
 use task_core::word::Word;
@@ -49,7 +50,7 @@ fn closed_as(word: Word) -> Cancelled
 
 impl<R: Wait + Drop, F: Yields, Q: Drop, M: Drop, A: Wake, B: Allocator> Cell<R, F, Q, M, A, B> {
     /// Closes the task, if it is not over. Its future is dropped by the run or the Runnable that there is, or else by one that is handed over here.
-    pub fn cancel<X: Copy>(this: &Arc<Self, B>, party: &mut Party<F, F::Output, A>, around: X)
+    pub fn cancel<X: Copy>(this: &Arc<Self, B>, party: &mut Party<F, Kept<F>, A>, around: X)
     where
         Q: Schedule<Runnable<R, F, Q, M, A, X, B>>,
         requires cell { (party.old.seat.table_id ≡ (arc_value this.now).table.shared.table_id) × (limit_of party.old ≡ (arc_value this.now).limit) }
@@ -67,7 +68,7 @@ impl<R: Wait + Drop, F: Yields, Q: Drop, M: Drop, A: Wake, B: Allocator> Cell<R,
     }
 
     // The row of a cancel.
-    fn close_task(&self, party: &mut Party<F, F::Output, A>) -> Cancelled
+    fn close_task(&self, party: &mut Party<F, Kept<F>, A>) -> Cancelled
         requires cell { party.old.seat.table_id ≡ self.now.table.shared.table_id }
         requires party { (n : ℕ) × Stands (as_task n) party.old }
         ensures { (n : ℕ) → Stands (as_task n) party.old → Cancels n party.old party.new result }
@@ -93,7 +94,7 @@ impl<R: Wait + Drop, F: Yields, Q: Drop, M: Drop, A: Wake, B: Allocator> Cell<R,
     }
 
     // The awaiter is taken and woken, if one is due, and the call ends.
-    fn leave_closed(&self, party: &mut Party<F, F::Output, A>, due: bool)
+    fn leave_closed(&self, party: &mut Party<F, Kept<F>, A>, due: bool)
         requires cell { party.old.seat.table_id ≡ self.now.table.shared.table_id }
         requires party { (n : ℕ) × Stands (notifies due (OfCancel n)) party.old }
         ensures { (n : ℕ) → Stands (notifies due (OfCancel n)) party.old → (path : List Deed) × Notice ((a : A) × A.woken a) due path × Goes (path ++ act EndCall ∷ []) (as_task n) party.old party.new }

@@ -15,7 +15,7 @@ ghost use Rattle.async_task.specs.Calls.{Stands, StandsWith, Goes, GoesWith, row
 use super::{Cell, Party};
 use crate::steps::poll::{Claiming, HandingOut};
 use crate::steps::{Always, Exchange};
-use crate::table::Slot;
+use crate::table::{Kept, Slot};
 use std::alloc::Allocator;
 use std::sync::Wait;
 use task_core::word::Word;
@@ -23,9 +23,9 @@ use task_core::{Wake, Yields};
 
 impl<R: Drop, F: Yields, Q: Drop, M: Drop, A: Drop, B: Allocator> Cell<R, F, Q, M, A, B> {
     // Hands the output out, and ends the poll. One load.
-    fn hand_out(&self, party: &mut Party<F, F::Output, A>) -> F::Output
+    fn hand_out(&self, party: &mut Party<F, Kept<F>, A>) -> Kept<F>
         requires cell { party.old.seat.table_id ≡ self.now.table.shared.table_id }
-        requires party { (i : ℕ) × (y : Slot F F.Output A) × StandsWith (Claimer i) ((0, y) ∷ []) party.old × IsOutput y }
+        requires party { (i : ℕ) × (y : Slot F _ A) × StandsWith (Claimer i) ((0, y) ∷ []) party.old × IsOutput y }
         ensures { Goes (act HandOutOutput ∷ act EndCall ∷ []) (as_task (poll_number (position party.old))) party.old party.new }
     {
         let shared = &self.table.shared;
@@ -39,9 +39,9 @@ impl<R: Drop, F: Yields, Q: Drop, M: Drop, A: Drop, B: Allocator> Cell<R, F, Q, 
 
 impl<R: Wait + Drop, F: Yields, Q: Drop, M: Drop, A: Wake, B: Allocator> Cell<R, F, Q, M, A, B> {
     // Takes the stored awaiter, and wakes it, unless its wake wakes the caller.
-    pub(crate) fn take_awaiter(&self, party: &mut Party<F, F::Output, A>, awaiter: &A)
+    pub(crate) fn take_awaiter(&self, party: &mut Party<F, Kept<F>, A>, awaiter: &A)
         requires cell { party.old.seat.table_id ≡ self.now.table.shared.table_id }
-        requires party { (way : Way) × (held : List (ℕ × Slot F F.Output A)) × StandsWith (Notifier way) held party.old × (may_drop way ≡ true) }
+        requires party { (way : Way) × (held : List (ℕ × Slot F _ A)) × StandsWith (Notifier way) held party.old × (may_drop way ≡ true) }
         ensures { (path : List Deed) × TakePath A.woken A.compared awaiter.now path × GoesWith path (goes_off (way_of (position party.old))) (holds party.old) party.old party.new }
     {
         if let Some(taken) = self.notify(party) {
@@ -56,11 +56,11 @@ impl<R: Wait + Drop, F: Yields, Q: Drop, M: Drop, A: Wake, B: Allocator> Cell<R,
     }
 
     // Takes the output of a task that was seen completed and open. Only the Task closes such a task.
-    fn claim(&self, party: &mut Party<F, F::Output, A>) -> Word
+    fn claim(&self, party: &mut Party<F, Kept<F>, A>) -> Word
         requires cell { party.old.seat.table_id ≡ self.now.table.shared.table_id }
         requires party { (looked : Bool) × (n : ℕ) × Stands (claims_from looked n) party.old }
         ensures found { has_output result ≡ true }
-        ensures path { (y : Slot F F.Output A) × IsOutput y × GoesWith (row ClaimOutput result ∷ []) (notifies result.awaiter (OfClaim (poll_number (position party.old)))) ((0, y) ∷ []) party.old party.new }
+        ensures path { (y : Slot F _ A) × IsOutput y × GoesWith (row ClaimOutput result ∷ []) (notifies result.awaiter (OfClaim (poll_number (position party.old)))) ((0, y) ∷ []) party.old party.new }
     {
         let shared = &self.table.shared;
         for _ in self.rt.forever() {
@@ -82,9 +82,9 @@ impl<R: Wait + Drop, F: Yields, Q: Drop, M: Drop, A: Wake, B: Allocator> Cell<R,
     }
 
     // Takes the stored awaiter where the word that was found says that there is one.
-    fn take_awaiter_of(&self, party: &mut Party<F, F::Output, A>, awaiter: &A, found: Word)
+    fn take_awaiter_of(&self, party: &mut Party<F, Kept<F>, A>, awaiter: &A, found: Word)
         requires cell { party.old.seat.table_id ≡ self.now.table.shared.table_id }
-        requires party { (i : ℕ) × (held : List (ℕ × Slot F F.Output A)) × StandsWith (notifies found.awaiter (OfClaim i)) held party.old }
+        requires party { (i : ℕ) × (held : List (ℕ × Slot F _ A)) × StandsWith (notifies found.awaiter (OfClaim i)) held party.old }
         ensures { (path : List Deed) × TakePathIf A.woken A.compared awaiter.now found.awaiter path × GoesWith path (Claimer (poll_number (position party.old))) (holds party.old) party.old party.new }
     {
         if found.awaiter() {
@@ -93,7 +93,7 @@ impl<R: Wait + Drop, F: Yields, Q: Drop, M: Drop, A: Wake, B: Allocator> Cell<R,
     }
 
     // Claims the output, takes the stored awaiter where there is one, and hands the output out.
-    pub(crate) fn take_output(&self, party: &mut Party<F, F::Output, A>, awaiter: &A) -> F::Output
+    pub(crate) fn take_output(&self, party: &mut Party<F, Kept<F>, A>, awaiter: &A) -> Kept<F>
         requires cell { party.old.seat.table_id ≡ self.now.table.shared.table_id }
         requires party { (looked : Bool) × (n : ℕ) × Stands (claims_from looked n) party.old }
         ensures { (path : List Deed) × ClaimPath A.woken A.compared awaiter.now path × Goes path (as_task (poll_number (position party.old))) party.old party.new }

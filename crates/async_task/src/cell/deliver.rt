@@ -9,13 +9,14 @@ ghost use Rattle.async_task.specs.Calls.{Stands, Goes, IsNew, act, position, han
 
 use super::{Cell, Party, Runnable, RunnableParty};
 use crate::steps::common::HandingOver;
+use crate::table::Kept;
 use std::alloc::Allocator;
 use std::sync::{Arc, Wait};
 use task_core::{Schedule, ScheduleInfo, Wake, Yields};
 
 impl<R: Drop, F: Yields, Q: Drop, M: Drop, A: Drop, B: Allocator> Cell<R, F, Q, M, A, B> {
     // The Runnable of a deliverer, or of a Runnable that is scheduled again. One load.
-    pub(crate) fn hand_over(&self, party: &mut Party<F, F::Output, A>) -> Party<F, F::Output, A>
+    pub(crate) fn hand_over(&self, party: &mut Party<F, Kept<F>, A>) -> Party<F, Kept<F>, A>
         requires cell { party.old.seat.table_id ≡ self.now.table.shared.table_id }
         requires party { (woken : Bool) × (next : After) × Stands (Deliverer woken next) party.old }
         ensures path { Goes (act HandOver ∷ []) (handed_over (position party.old)) party.old party.new }
@@ -26,7 +27,7 @@ impl<R: Drop, F: Yields, Q: Drop, M: Drop, A: Drop, B: Allocator> Cell<R, F, Q, 
     }
 
     // The Runnable that a Runnable becomes when it is scheduled again. One load.
-    fn hand_again(&self, party: &mut Party<F, F::Output, A>) -> Party<F, F::Output, A>
+    fn hand_again(&self, party: &mut Party<F, Kept<F>, A>) -> Party<F, Kept<F>, A>
         requires cell { party.old.seat.table_id ≡ self.now.table.shared.table_id }
         requires party { Stands as_runnable party.old }
         ensures path { Goes (act HandOver ∷ []) (handed_over as_runnable) party.old party.new }
@@ -53,7 +54,7 @@ impl<R: Wait + Drop, F: Yields, Q: Drop, M: Drop, A: Wake, B: Allocator> Cell<R,
     // Hands the Runnable of a deliverer to the schedule value. The act stands in the list before the schedule value is called.
     pub(crate) fn deliver<X: Copy>(
         this: &Arc<Self, B>,
-        party: &mut Party<F, F::Output, A>,
+        party: &mut Party<F, Kept<F>, A>,
         around: X,
         woken_while_running: bool,
     )
@@ -76,7 +77,7 @@ impl<R: Wait + Drop, F: Yields, Q: Drop, M: Drop, A: Wake, B: Allocator> Cell<R,
     }
 
     /// Hands a Runnable to the schedule value again, with `woken_while_running` false. It makes no step on the word but loads.
-    pub fn schedule<X: Copy>(this: &Arc<Self, B>, party: &mut Party<F, F::Output, A>, around: X)
+    pub fn schedule<X: Copy>(this: &Arc<Self, B>, party: &mut Party<F, Kept<F>, A>, around: X)
     where
         Q: Schedule<Runnable<R, F, Q, M, A, X, B>>,
         requires cell { (party.old.seat.table_id ≡ (arc_value this.now).table.shared.table_id) × (limit_of party.old ≡ (arc_value this.now).limit) }

@@ -14,6 +14,7 @@ ghost use Rattle.async_task.specs.Calls.{Stands, StandsWith, Goes, act, deeds, l
 use super::{Cell, Party, Runnable};
 use crate::steps::task::{Detaching, DroppingOutput, GivingTaskUp, Knowing, Watching};
 use crate::steps::{Always, Exchange};
+use crate::table::Kept;
 use std::alloc::Allocator;
 use std::sync::{Arc, Wait};
 use task_core::word::{TASK, Word};
@@ -61,9 +62,9 @@ fn given_up_as(word: Word) -> Detached
 
 impl<R: Drop, F: Yields, Q: Drop, M: Drop, A: Drop, B: Allocator> Cell<R, F, Q, M, A, B> {
     // Writes down that the output in hand was dropped, and gives its place back. One load.
-    fn note_output_dropped(&self, party: &mut Party<F, F::Output, A>)
+    fn note_output_dropped(&self, party: &mut Party<F, Kept<F>, A>)
         requires cell { party.old.seat.table_id ≡ self.now.table.shared.table_id }
-        requires party { (y : Slot F F.Output A) × StandsWith OutputCloser ((0, y) ∷ []) party.old × IsEmpty y }
+        requires party { (y : Slot F _ A) × StandsWith OutputCloser ((0, y) ∷ []) party.old × IsEmpty y }
         ensures { Goes (act DropOutput ∷ []) Detacher party.old party.new }
     {
         self.table
@@ -72,9 +73,9 @@ impl<R: Drop, F: Yields, Q: Drop, M: Drop, A: Drop, B: Allocator> Cell<R, F, Q, 
     }
 
     // The output that nobody claimed is dropped, and then the Task given up, by a single fetch. Whether the slots are to be emptied.
-    fn drop_unclaimed(&self, party: &mut Party<F, F::Output, A>) -> bool
+    fn drop_unclaimed(&self, party: &mut Party<F, Kept<F>, A>) -> bool
         requires cell { party.old.seat.table_id ≡ self.now.table.shared.table_id }
-        requires party { (y : Slot F F.Output A) × StandsWith OutputCloser ((0, y) ∷ []) party.old × (saw_closed (deeds party.old) ≡ true) }
+        requires party { (y : Slot F _ A) × StandsWith OutputCloser ((0, y) ∷ []) party.old × (saw_closed (deeds party.old) ≡ true) }
         ensures { GivesTaskUp party.old party.new result }
     {
         self.clear(party, 0);
@@ -89,7 +90,7 @@ impl<R: Drop, F: Yields, Q: Drop, M: Drop, A: Drop, B: Allocator> Cell<R, F, Q, 
 
 impl<R: Wait + Drop, F: Yields, Q: Drop, M: Drop, A: Wake, B: Allocator> Cell<R, F, Q, M, A, B> {
     /// Gives the Task up. An output that nobody claimed is dropped, and an open task without another handle is closed, and scheduled once more.
-    pub fn detach<X: Copy>(this: &Arc<Self, B>, party: &mut Party<F, F::Output, A>, around: X)
+    pub fn detach<X: Copy>(this: &Arc<Self, B>, party: &mut Party<F, Kept<F>, A>, around: X)
     where
         Q: Schedule<Runnable<R, F, Q, M, A, X, B>>,
         requires cell { (party.old.seat.table_id ≡ (arc_value this.now).table.shared.table_id) × (limit_of party.old ≡ (arc_value this.now).limit) }
@@ -116,7 +117,7 @@ impl<R: Wait + Drop, F: Yields, Q: Drop, M: Drop, A: Wake, B: Allocator> Cell<R,
     }
 
     // The row of a detach.
-    fn give_task_up(&self, party: &mut Party<F, F::Output, A>) -> Detached
+    fn give_task_up(&self, party: &mut Party<F, Kept<F>, A>) -> Detached
         requires cell { party.old.seat.table_id ≡ self.now.table.shared.table_id }
         requires party { (n : ℕ) × Stands (as_task n) party.old }
         ensures { Detaches party.old party.new result }

@@ -12,16 +12,17 @@ ghost use Rattle.async_task.specs.RunCalls.{Discards};
 use super::{Cell, Party};
 use crate::steps::Always;
 use crate::steps::run::Discarding;
+use crate::table::Kept;
 use std::alloc::Allocator;
 use task_core::word::CLOSED;
 use task_core::{Wake, Yields};
 
 impl<R: Drop, F: Yields, Q: Drop, M: Drop, A: Drop, B: Allocator> Cell<R, F, Q, M, A, B> {
     // The task is closed, and its future taken over: a single fetch, never tried again.
-    pub(crate) fn discard_start(&self, party: &mut Party<F, F::Output, A>)
+    pub(crate) fn discard_start(&self, party: &mut Party<F, Kept<F>, A>)
         requires cell { party.old.seat.table_id ≡ self.now.table.shared.table_id }
         requires party { Stands as_runnable party.old }
-        ensures { (d : Deed) × (y : Slot F F.Output A) × DiscardStart d × GoesWith (d ∷ []) (FutureInHand DroppedRunnable) ((0, y) ∷ []) party.old party.new × IsFuture y }
+        ensures { (d : Deed) × (y : Slot F _ A) × DiscardStart d × GoesWith (d ∷ []) (FutureInHand DroppedRunnable) ((0, y) ∷ []) party.old party.new × IsFuture y }
     {
         self.table
             .shared
@@ -31,7 +32,7 @@ impl<R: Drop, F: Yields, Q: Drop, M: Drop, A: Drop, B: Allocator> Cell<R, F, Q, 
 
 impl<R: Drop, F: Yields, Q: Drop, M: Drop, A: Wake, B: Allocator> Cell<R, F, Q, M, A, B> {
     /// Drops a Runnable: the task is closed, its future dropped, and an awaiter that waits is woken.
-    pub fn discard_runnable(&self, party: &mut Party<F, F::Output, A>)
+    pub fn discard_runnable(&self, party: &mut Party<F, Kept<F>, A>)
         requires cell { party.old.seat.table_id ≡ self.now.table.shared.table_id }
         requires party { Stands as_runnable party.old }
         ensures { Discards ((a : A) × A.woken a) party.old party.new }

@@ -15,7 +15,7 @@ use crate::steps::run::{
     AnsweringPending, AnsweringReady, Completing, DroppingOutput, EndingClosed, EndingPending,
 };
 use crate::steps::{Always, Exchange};
-use crate::table::Slot;
+use crate::table::{Kept, Slot};
 use std::alloc::Allocator;
 use std::sync::Wait;
 use task_core::Yields;
@@ -55,10 +55,10 @@ fn ended(word: Word) -> Word
 
 impl<R: Drop, F: Yields, Q: Drop, M: Drop, A: Drop, B: Allocator> Cell<R, F, Q, M, A, B> {
     // The poll has answered Ready. One load.
-    pub(crate) fn answer_ready(&self, party: &mut Party<F, F::Output, A>)
+    pub(crate) fn answer_ready(&self, party: &mut Party<F, Kept<F>, A>)
         requires cell { party.old.seat.table_id ≡ self.now.table.shared.table_id }
-        requires party { (held : List (ℕ × Slot F F.Output A)) × StandsWith Polling held party.old }
-        ensures { (held : List (ℕ × Slot F F.Output A)) → StandsWith Polling held party.old → GoesWith (act AnswerReady ∷ []) Ready held party.old party.new }
+        requires party { (held : List (ℕ × Slot F _ A)) × StandsWith Polling held party.old }
+        ensures { (held : List (ℕ × Slot F _ A)) → StandsWith Polling held party.old → GoesWith (act AnswerReady ∷ []) Ready held party.old party.new }
     {
         self.table
             .shared
@@ -66,10 +66,10 @@ impl<R: Drop, F: Yields, Q: Drop, M: Drop, A: Drop, B: Allocator> Cell<R, F, Q, 
     }
 
     // The poll has answered Pending. Whether the task is closed, so that the future is to be dropped. One load.
-    pub(crate) fn answer_pending(&self, party: &mut Party<F, F::Output, A>) -> Word
+    pub(crate) fn answer_pending(&self, party: &mut Party<F, Kept<F>, A>) -> Word
         requires cell { party.old.seat.table_id ≡ self.now.table.shared.table_id }
-        requires party { (held : List (ℕ × Slot F F.Output A)) × StandsWith Polling held party.old }
-        ensures { (held : List (ℕ × Slot F F.Output A)) → StandsWith Polling held party.old → AnswersPending held party.old party.new result.closed }
+        requires party { (held : List (ℕ × Slot F _ A)) × StandsWith Polling held party.old }
+        ensures { (held : List (ℕ × Slot F _ A)) → StandsWith Polling held party.old → AnswersPending held party.old party.new result.closed }
     {
         let shared = &self.table.shared;
         let found = shared.load::<Always<AnsweringPending>>(&mut party.seat, 0);
@@ -77,10 +77,10 @@ impl<R: Drop, F: Yields, Q: Drop, M: Drop, A: Drop, B: Allocator> Cell<R, F, Q, 
     }
 
     // The output that nobody will claim is dropped. One load.
-    pub(crate) fn drop_output(&self, party: &mut Party<F, F::Output, A>)
+    pub(crate) fn drop_output(&self, party: &mut Party<F, Kept<F>, A>)
         requires cell { party.old.seat.table_id ≡ self.now.table.shared.table_id }
-        requires party { (due : Bool) × (y : Slot F F.Output A) × StandsWith (OutputInHand due) ((0, y) ∷ []) party.old }
-        ensures { (due : Bool) (y : Slot F F.Output A) → StandsWith (OutputInHand due) ((0, y) ∷ []) party.old → Goes (act DropOutput ∷ []) (notifies due OfRun) party.old party.new }
+        requires party { (due : Bool) × (y : Slot F _ A) × StandsWith (OutputInHand due) ((0, y) ∷ []) party.old }
+        ensures { (due : Bool) (y : Slot F _ A) → StandsWith (OutputInHand due) ((0, y) ∷ []) party.old → Goes (act DropOutput ∷ []) (notifies due OfRun) party.old party.new }
     {
         self.clear(party, 0);
         self.table
@@ -89,10 +89,10 @@ impl<R: Drop, F: Yields, Q: Drop, M: Drop, A: Drop, B: Allocator> Cell<R, F, Q, 
     }
 
     // The end step of a run of a closed task, after its future was dropped: a single fetch, never tried again.
-    pub(crate) fn end_closed(&self, party: &mut Party<F, F::Output, A>) -> Word
+    pub(crate) fn end_closed(&self, party: &mut Party<F, Kept<F>, A>) -> Word
         requires cell { party.old.seat.table_id ≡ self.now.table.shared.table_id }
-        requires party { (y : Slot F F.Output A) × StandsWith Cleared ((0, y) ∷ []) party.old }
-        ensures { (y : Slot F F.Output A) → StandsWith Cleared ((0, y) ∷ []) party.old → Goes (row EndClosed result ∷ []) (notifies result.awaiter OfRun) party.old party.new }
+        requires party { (y : Slot F _ A) × StandsWith Cleared ((0, y) ∷ []) party.old }
+        ensures { (y : Slot F _ A) → StandsWith Cleared ((0, y) ∷ []) party.old → Goes (row EndClosed result ∷ []) (notifies result.awaiter OfRun) party.old party.new }
     {
         let shared = &self.table.shared;
         let found = shared.fetch_and::<Always<EndingClosed>>(
@@ -106,10 +106,10 @@ impl<R: Drop, F: Yields, Q: Drop, M: Drop, A: Drop, B: Allocator> Cell<R, F, Q, 
 
 impl<R: Wait + Drop, F: Yields, Q: Drop, M: Drop, A: Drop, B: Allocator> Cell<R, F, Q, M, A, B> {
     // The end step of a run with its output, after its future was dropped. It is tried again where the word has changed.
-    pub(crate) fn complete(&self, party: &mut Party<F, F::Output, A>, output: F::Output) -> Word
+    pub(crate) fn complete(&self, party: &mut Party<F, Kept<F>, A>, output: Kept<F>) -> Word
         requires cell { party.old.seat.table_id ≡ self.now.table.shared.table_id }
-        requires party { (y : Slot F F.Output A) × StandsWith Ready ((0, y) ∷ []) party.old }
-        ensures { (y : Slot F F.Output A) → StandsWith Ready ((0, y) ∷ []) party.old → Completes party.old party.new result }
+        requires party { (y : Slot F _ A) × StandsWith Ready ((0, y) ∷ []) party.old }
+        ensures { (y : Slot F _ A) → StandsWith Ready ((0, y) ∷ []) party.old → Completes party.old party.new result }
     {
         let shared = &self.table.shared;
         drop(shared.exchange(&mut party.seat, 0, Slot::Output(output)));
@@ -132,15 +132,11 @@ impl<R: Wait + Drop, F: Yields, Q: Drop, M: Drop, A: Drop, B: Allocator> Cell<R,
     }
 
     // The end step of a run without an output. It is tried again where the word has changed.
-    pub(crate) fn end_pending(
-        &self,
-        party: &mut Party<F, F::Output, A>,
-        mut word: Word,
-    ) -> PendingEnd
+    pub(crate) fn end_pending(&self, party: &mut Party<F, Kept<F>, A>, mut word: Word) -> PendingEnd
         requires cell { party.old.seat.table_id ≡ self.now.table.shared.table_id }
         requires unclosed { word.closed ≡ false }
-        requires party { (y : Slot F F.Output A) × StandsWith Pending ((0, y) ∷ []) party.old × IsFuture y }
-        ensures { (y : Slot F F.Output A) → StandsWith Pending ((0, y) ∷ []) party.old → EndsPending y party.old party.new result }
+        requires party { (y : Slot F _ A) × StandsWith Pending ((0, y) ∷ []) party.old × IsFuture y }
+        ensures { (y : Slot F _ A) → StandsWith Pending ((0, y) ∷ []) party.old → EndsPending y party.old party.new result }
     {
         let shared = &self.table.shared;
         for _ in self.rt.forever() {

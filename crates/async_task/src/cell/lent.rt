@@ -11,7 +11,7 @@ ghost use Rattle.async_task.specs.Starts.{IsLending, is_lent};
 
 use super::{Cell, Party, Runnable};
 use crate::steps::start::{Lending, TakingBack};
-use crate::table::{Slot, View};
+use crate::table::{Kept, Slot, View};
 use atomic_table::{Perch, Seat};
 use std::alloc::{Allocator, Global};
 use std::sync::{Arc, Wait};
@@ -20,7 +20,7 @@ use task_core::{Future, Poll, Schedule, Wake, Yields};
 /// A share of a cell, and the perch on which the seat of a waker rests that is lent.
 struct LentSeat<R, F: Yields, Q, M, A, B: Allocator> {
     cell: Arc<Cell<R, F, Q, M, A, B>, B>,
-    perch: Perch<Slot<F, F::Output, A>, View>,
+    perch: Perch<Slot<F, Kept<F>, A>, View>,
     ghost seated: { perch.table_id ≡ (arc_value cell).table.shared.table_id },
     ghost lent: { is_lent perch.view ≡ true },
 }
@@ -67,7 +67,7 @@ fn taken<S, R: Wait>(rt: &R, perch: &Perch<S, View>) -> Seat<S, View>
 }
 
 // Polls the future where it lies.
-fn polled<W, F: Future<W>, A>(slot: &mut Slot<F, F::Output, A>, waker: &W) -> Poll<F::Output>
+fn polled<W, F: Future<W>, A>(slot: &mut Slot<F, Kept<F>, A>, waker: &W) -> Poll<F::Output>
     requires { IsFuture slot.old }
     ensures future { IsFuture slot.new }
     ensures meets { IfReady result F.Yields.meets }
@@ -83,19 +83,19 @@ impl<R: Wait + Drop, F: Yields, Q: Drop, M: Drop, A: Wake, B: Allocator> Cell<R,
     // One poll of a run that has started, with a waker that it is lent. No lock is held, and the future stays in its place.
     pub(crate) fn poll_future<X: Copy>(
         this: Arc<Self, B>,
-        party: Party<F, F::Output, A>,
+        party: Party<F, Kept<F>, A>,
         around: X,
-    ) -> (Arc<Self, B>, Party<F, F::Output, A>, Poll<F::Output>)
+    ) -> (Arc<Self, B>, Party<F, Kept<F>, A>, Poll<F::Output>)
     where
         F: Future<TaskWaker<R, F, Q, M, A, X, B>>,
         Q: Schedule<Runnable<R, F, Q, M, A, X, B>>,
         requires cell { party.seat.table_id ≡ (arc_value this).table.shared.table_id }
-        requires party { (y : Slot F F.Output A) × IsLending y party × IsFuture y }
+        requires party { (y : Slot F _ A) × IsLending y party × IsFuture y }
         ensures cell { result.0 ≡ this }
         ensures seat { result.1.seat.table_id ≡ party.seat.table_id }
         ensures limit { limit_of result.1 ≡ limit_of party }
         ensures deeds { deeds result.1 ≡ deeds party }
-        ensures party { (y : Slot F F.Output A) × StandsWith Polling ((0, y) ∷ []) result.1 × IsFuture y }
+        ensures party { (y : Slot F _ A) × StandsWith Polling ((0, y) ∷ []) result.1 × IsFuture y }
         ensures meets { IfReady result.2 F.Yields.meets }
         ensures fact { (f : _) × (w : _) × (g : _) × F.polled f w result.2 g }
     {

@@ -13,6 +13,7 @@ use super::{Cell, Party};
 use crate::steps::Always;
 use crate::steps::common::Ending;
 use crate::steps::poll::{Looking, LookingAgain};
+use crate::table::Kept;
 use std::alloc::Allocator;
 use std::sync::Wait;
 use task_core::word::Word;
@@ -45,7 +46,7 @@ fn has_to_wait(word: Word) -> bool
 
 impl<R: Drop, F: Yields, Q: Drop, M: Drop, A: Drop, B: Allocator> Cell<R, F, Q, M, A, B> {
     // The first look of a poll. It is no look of the poll where the output is there to be claimed.
-    fn look(&self, party: &mut Party<F, F::Output, A>) -> Word
+    fn look(&self, party: &mut Party<F, Kept<F>, A>) -> Word
         requires cell { party.old.seat.table_id ≡ self.now.table.shared.table_id }
         requires party { (n : ℕ) × Stands (as_task n) party.old }
         ensures { Looks party.old party.new result }
@@ -55,7 +56,7 @@ impl<R: Drop, F: Yields, Q: Drop, M: Drop, A: Drop, B: Allocator> Cell<R, F, Q, 
     }
 
     // The look of a poll that has registered, which ends there where it has to wait.
-    fn look_again(&self, party: &mut Party<F, F::Output, A>) -> Word
+    fn look_again(&self, party: &mut Party<F, Kept<F>, A>) -> Word
         requires cell { party.old.seat.table_id ≡ self.now.table.shared.table_id }
         requires party { (i : ℕ) × Stands (LookingAt i) party.old }
         ensures { LooksAgain party.old party.new result }
@@ -65,7 +66,7 @@ impl<R: Drop, F: Yields, Q: Drop, M: Drop, A: Drop, B: Allocator> Cell<R, F, Q, 
     }
 
     // Writes down that the poll has ended. One load.
-    fn end_poll(&self, party: &mut Party<F, F::Output, A>)
+    fn end_poll(&self, party: &mut Party<F, Kept<F>, A>)
         requires cell { party.old.seat.table_id ≡ self.now.table.shared.table_id }
         requires party { (i : ℕ) × (answer : PollAnswer) × Stands (Answering i answer) party.old }
         ensures { Goes (act EndCall ∷ []) (as_task (poll_number (position party.old))) party.old party.new }
@@ -76,7 +77,7 @@ impl<R: Drop, F: Yields, Q: Drop, M: Drop, A: Drop, B: Allocator> Cell<R, F, Q, 
 
 impl<R: Wait + Drop, F: Yields, Q: Drop, M: Drop, A: Wake, B: Allocator> Cell<R, F, Q, M, A, B> {
     // Answers ready without output: takes the stored awaiter, and ends the poll.
-    fn answer_closed(&self, party: &mut Party<F, F::Output, A>, awaiter: &A)
+    fn answer_closed(&self, party: &mut Party<F, Kept<F>, A>, awaiter: &A)
         requires cell { party.old.seat.table_id ≡ self.now.table.shared.table_id }
         requires party { (i : ℕ) × Stands (Notifier (OfPoll i)) party.old }
         ensures { (taken : List Deed) × TakePath A.woken A.compared awaiter.now taken × Goes (taken ++ (act EndCall ∷ [])) (as_task (poll_number (position party.old))) party.old party.new }
@@ -86,7 +87,7 @@ impl<R: Wait + Drop, F: Yields, Q: Drop, M: Drop, A: Wake, B: Allocator> Cell<R,
     }
 
     // Looks again, after the awaiter was registered, and answers by what it finds.
-    fn answer(&self, party: &mut Party<F, F::Output, A>, awaiter: &A) -> TaskPoll<Option<F::Output>>
+    fn answer(&self, party: &mut Party<F, Kept<F>, A>, awaiter: &A) -> TaskPoll<Option<Kept<F>>>
         requires cell { party.old.seat.table_id ≡ self.now.table.shared.table_id }
         requires party { (i : ℕ) × Stands (LookingAt i) party.old }
         ensures { (path : List Deed) × AnswerPath A.woken A.compared awaiter.now path result × Goes path (as_task (poll_number (position party.old))) party.old party.new }
@@ -105,12 +106,9 @@ impl<R: Wait + Drop, F: Yields, Q: Drop, M: Drop, A: Wake, B: Allocator> Cell<R,
     /// Answers with the output, once there is one, or without one, where the task was closed and its future is gone.
     ///
     /// Where there is no answer yet, a clone of the awaiter is registered in the place of the one before, and is woken once there is one.
+    /// The output comes with the fact that it meets what the future's type states.
     /// A poll registers at most once. It waits for nobody, but tries a step anew where another party changed the word meanwhile.
-    pub fn poll(
-        &self,
-        party: &mut Party<F, F::Output, A>,
-        awaiter: &A,
-    ) -> TaskPoll<Option<F::Output>>
+    pub fn poll(&self, party: &mut Party<F, Kept<F>, A>, awaiter: &A) -> TaskPoll<Option<Kept<F>>>
         requires cell { party.old.seat.table_id ≡ self.now.table.shared.table_id }
         requires party { (n : ℕ) × Stands (as_task n) party.old }
         ensures path { (path : List Deed) × PollPath A.cloned A.woken A.woken_by_ref A.compared awaiter.now path result × Goes path (as_task (poll_number (position party.old))) party.old party.new }

@@ -14,24 +14,24 @@ ghost use Rattle.async_task.specs.RunCalls.{GivesUp, Releases, Rests};
 use super::{Cell, Party};
 use crate::steps::Always;
 use crate::steps::run::{Emptying, GivingReferenceUp};
-use crate::table::Slot;
+use crate::table::{Kept, Slot};
 use std::alloc::Allocator;
 use task_core::word::{REFERENCE, Word};
 use task_core::{Wake, Yields};
 
 impl<R: Drop, F: Yields, Q: Drop, M: Drop, A: Drop, B: Allocator> Cell<R, F, Q, M, A, B> {
     // Drops what is in the place of the table that the party took last, and leaves nothing there.
-    pub(crate) fn clear(&self, party: &mut Party<F, F::Output, A>, place: usize)
+    pub(crate) fn clear(&self, party: &mut Party<F, Kept<F>, A>, place: usize)
         requires cell { party.old.seat.table_id ≡ self.now.table.shared.table_id }
-        requires party { (at : Position) × (y : Slot F F.Output A) × (held : List (ℕ × Slot F F.Output A)) × StandsWith at ((place, y) ∷ held) party.old }
-        ensures { (at : Position) (y : Slot F F.Output A) (held : List (ℕ × Slot F F.Output A)) → StandsWith at ((place, y) ∷ held) party.old → GoesWith [] at ((place, Empty) ∷ held) party.old party.new }
+        requires party { (at : Position) × (y : Slot F _ A) × (held : List (ℕ × Slot F _ A)) × StandsWith at ((place, y) ∷ held) party.old }
+        ensures { (at : Position) (y : Slot F _ A) (held : List (ℕ × Slot F _ A)) → StandsWith at ((place, y) ∷ held) party.old → GoesWith [] at ((place, Empty) ∷ held) party.old party.new }
     {
         let shared = &self.table.shared;
         drop(shared.exchange(&mut party.seat, place, Slot::Empty));
     }
 
     // The reference is given up: a single fetch, never tried again. Whether it was the last handle.
-    pub(crate) fn give_up(&self, party: &mut Party<F, F::Output, A>) -> bool
+    pub(crate) fn give_up(&self, party: &mut Party<F, Kept<F>, A>) -> bool
         requires cell { party.old.seat.table_id ≡ self.now.table.shared.table_id }
         requires party { (hand : Option ℕ) × (answer : Answer) × Stands (GivingUp hand answer) party.old }
         ensures { (hand : Option ℕ) (answer : Answer) → Stands (GivingUp hand answer) party.old → GivesUp hand answer party.old party.new result }
@@ -42,10 +42,10 @@ impl<R: Drop, F: Yields, Q: Drop, M: Drop, A: Drop, B: Allocator> Cell<R, F, Q, 
     }
 
     // The last party empties the place of the awaiter, and gives it back. One load.
-    pub(crate) fn empty(&self, party: &mut Party<F, F::Output, A>)
+    pub(crate) fn empty(&self, party: &mut Party<F, Kept<F>, A>)
         requires cell { party.old.seat.table_id ≡ self.now.table.shared.table_id }
-        requires party { (hand : Option ℕ) × (answer : Answer) × (y : Slot F F.Output A) × StandsWith (Emptier hand answer) ((1, y) ∷ []) party.old }
-        ensures { (hand : Option ℕ) (answer : Answer) (y : Slot F F.Output A) → StandsWith (Emptier hand answer) ((1, y) ∷ []) party.old → Goes (act EmptySlots ∷ []) (after_giving_up hand answer) party.old party.new }
+        requires party { (hand : Option ℕ) × (answer : Answer) × (y : Slot F _ A) × StandsWith (Emptier hand answer) ((1, y) ∷ []) party.old }
+        ensures { (hand : Option ℕ) (answer : Answer) (y : Slot F _ A) → StandsWith (Emptier hand answer) ((1, y) ∷ []) party.old → Goes (act EmptySlots ∷ []) (after_giving_up hand answer) party.old party.new }
     {
         self.clear(party, 1);
         self.table
@@ -54,7 +54,7 @@ impl<R: Drop, F: Yields, Q: Drop, M: Drop, A: Drop, B: Allocator> Cell<R, F, Q, 
     }
 
     // The reference is given up; who had the last one empties the places.
-    pub(crate) fn release(&self, party: &mut Party<F, F::Output, A>)
+    pub(crate) fn release(&self, party: &mut Party<F, Kept<F>, A>)
         requires cell { party.old.seat.table_id ≡ self.now.table.shared.table_id }
         requires party { (hand : Option ℕ) × (answer : Answer) × Stands (GivingUp hand answer) party.old }
         ensures { (hand : Option ℕ) (answer : Answer) → Stands (GivingUp hand answer) party.old → Releases hand answer party.old party.new }
@@ -67,7 +67,7 @@ impl<R: Drop, F: Yields, Q: Drop, M: Drop, A: Drop, B: Allocator> Cell<R, F, Q, 
 
 impl<R: Drop, F: Yields, Q: Drop, M: Drop, A: Wake, B: Allocator> Cell<R, F, Q, M, A, B> {
     // The rest of a run, after its end step. The awaiter that was taken is woken last.
-    pub(crate) fn finish(&self, party: &mut Party<F, F::Output, A>, due: bool)
+    pub(crate) fn finish(&self, party: &mut Party<F, Kept<F>, A>, due: bool)
         requires cell { party.old.seat.table_id ≡ self.now.table.shared.table_id }
         requires party { Stands (notifies due OfRun) party.old }
         ensures { Rests ((a : A) × A.woken a) due party.old party.new }

@@ -17,7 +17,7 @@ use crate::steps::poll::{
     BeginningRegister, EndingNotified, EndingRegister, FindingNotifier, Refusing,
 };
 use crate::steps::{Always, Exchange};
-use crate::table::Slot;
+use crate::table::{Kept, Slot};
 use std::alloc::Allocator;
 use std::sync::Wait;
 use task_core::word::Word;
@@ -25,7 +25,7 @@ use task_core::{Wake, Yields};
 
 impl<R: Drop, F: Yields, Q: Drop, M: Drop, A: Drop, B: Allocator> Cell<R, F, Q, M, A, B> {
     // Writes down that the clone was refused, and that the poll ends so. One load.
-    fn note_refused(&self, party: &mut Party<F, F::Output, A>)
+    fn note_refused(&self, party: &mut Party<F, Kept<F>, A>)
         requires cell { party.old.seat.table_id ≡ self.now.table.shared.table_id }
         requires party { (i : ℕ) × Stands (Registrar i) party.old }
         ensures { Goes (act RefuseClone ∷ act EndCall ∷ []) (as_task (poll_number (position party.old))) party.old party.new }
@@ -36,7 +36,7 @@ impl<R: Drop, F: Yields, Q: Drop, M: Drop, A: Drop, B: Allocator> Cell<R, F, Q, 
     }
 
     // Writes down that the clone which a notifier made useless was dropped. One load.
-    fn note_clone_dropped(&self, party: &mut Party<F, F::Output, A>)
+    fn note_clone_dropped(&self, party: &mut Party<F, Kept<F>, A>)
         requires cell { party.old.seat.table_id ≡ self.now.table.shared.table_id }
         requires party { (i : ℕ) × Stands (RefusedClone i) party.old }
         ensures { Goes (act DropAwaiter ∷ []) (Looking (poll_number (position party.old))) party.old party.new }
@@ -47,7 +47,7 @@ impl<R: Drop, F: Yields, Q: Drop, M: Drop, A: Drop, B: Allocator> Cell<R, F, Q, 
     }
 
     // Writes down that the clone which was taken out again was woken. One load.
-    fn note_clone_woken(&self, party: &mut Party<F, F::Output, A>)
+    fn note_clone_woken(&self, party: &mut Party<F, Kept<F>, A>)
         requires cell { party.old.seat.table_id ≡ self.now.table.shared.table_id }
         requires party { (i : ℕ) × Stands (CloneInHand i) party.old }
         ensures { Goes (act WakeAwaiter ∷ []) (Looking (poll_number (position party.old))) party.old party.new }
@@ -56,9 +56,9 @@ impl<R: Drop, F: Yields, Q: Drop, M: Drop, A: Drop, B: Allocator> Cell<R, F, Q, 
     }
 
     // Puts the clone into the awaiter slot, and drops what stood there.
-    fn store(&self, party: &mut Party<F, F::Output, A>, clone: A)
+    fn store(&self, party: &mut Party<F, Kept<F>, A>, clone: A)
         requires cell { party.old.seat.table_id ≡ self.now.table.shared.table_id }
-        requires party { (i : ℕ) × (hand : Option ℕ) × (y : Slot F F.Output A) × StandsWith (after_storing i hand) ((1, y) ∷ []) party.old × Waits hand y }
+        requires party { (i : ℕ) × (hand : Option ℕ) × (y : Slot F _ A) × StandsWith (after_storing i hand) ((1, y) ∷ []) party.old × Waits hand y }
         ensures { (stood : Bool) × GoesWith (dropped_if stood) (Registered (poll_number (position party.old))) ((1, Awaiter clone) ∷ []) party.old party.new }
     {
         let shared = &self.table.shared;
@@ -72,7 +72,7 @@ impl<R: Drop, F: Yields, Q: Drop, M: Drop, A: Drop, B: Allocator> Cell<R, F, Q, 
 
 impl<R: Wait + Drop, F: Yields, Q: Drop, M: Drop, A: Wake, B: Allocator> Cell<R, F, Q, M, A, B> {
     // Takes the awaiter slot, and answers whether it did: it does not where there is a notifier.
-    fn begin_register(&self, party: &mut Party<F, F::Output, A>) -> bool
+    fn begin_register(&self, party: &mut Party<F, Kept<F>, A>) -> bool
         requires cell { party.old.seat.table_id ≡ self.now.table.shared.table_id }
         requires party { (i : ℕ) × Stands (Registrar i) party.old }
         ensures { BeginsRegister party.old party.new result }
@@ -97,7 +97,7 @@ impl<R: Wait + Drop, F: Yields, Q: Drop, M: Drop, A: Wake, B: Allocator> Cell<R,
     }
 
     // Gives the awaiter slot back with the clone in it, and answers whether it did: it does not where there is a notifier.
-    fn end_register(&self, party: &mut Party<F, F::Output, A>) -> bool
+    fn end_register(&self, party: &mut Party<F, Kept<F>, A>) -> bool
         requires cell { party.old.seat.table_id ≡ self.now.table.shared.table_id }
         requires party { (i : ℕ) × (clone : A) × StandsWith (Registered i) ((1, Awaiter clone) ∷ []) party.old }
         ensures { EndsRegister party.old party.new result }
@@ -122,7 +122,7 @@ impl<R: Wait + Drop, F: Yields, Q: Drop, M: Drop, A: Wake, B: Allocator> Cell<R,
     }
 
     // Takes the clone out again, since a notifier came, and gives the awaiter slot back. A notifier stays while the slot is the Task's.
-    fn take_back(&self, party: &mut Party<F, F::Output, A>) -> A
+    fn take_back(&self, party: &mut Party<F, Kept<F>, A>) -> A
         requires cell { party.old.seat.table_id ≡ self.now.table.shared.table_id }
         requires party { (i : ℕ) × (clone : A) × StandsWith (Registered i) ((1, Awaiter clone) ∷ []) party.old }
         ensures same { holds party.old ≡ (1, Awaiter result) ∷ [] }
@@ -151,7 +151,7 @@ impl<R: Wait + Drop, F: Yields, Q: Drop, M: Drop, A: Wake, B: Allocator> Cell<R,
     }
 
     // Registers a clone of the caller's awaiter, or wakes one where a notifier came before or meanwhile.
-    fn register_clone(&self, party: &mut Party<F, F::Output, A>, awaiter: &A, clone: A)
+    fn register_clone(&self, party: &mut Party<F, Kept<F>, A>, awaiter: &A, clone: A)
         requires cell { party.old.seat.table_id ≡ self.now.table.shared.table_id }
         requires party { (i : ℕ) × Stands (Registrar i) party.old }
         requires cloned { A.cloned awaiter.now (Some clone) }
@@ -170,7 +170,7 @@ impl<R: Wait + Drop, F: Yields, Q: Drop, M: Drop, A: Wake, B: Allocator> Cell<R,
     }
 
     // Registers the caller's awaiter, and answers whether it did: a clone that is refused ends the poll.
-    pub(crate) fn register(&self, party: &mut Party<F, F::Output, A>, awaiter: &A) -> bool
+    pub(crate) fn register(&self, party: &mut Party<F, Kept<F>, A>, awaiter: &A) -> bool
         requires cell { party.old.seat.table_id ≡ self.now.table.shared.table_id }
         requires party { (i : ℕ) × Stands (Registrar i) party.old }
         ensures { Registers A.cloned A.woken A.woken_by_ref awaiter.now party.old party.new result }

@@ -17,6 +17,7 @@ use super::ends::PendingEnd;
 use super::{Cell, Party, Runnable};
 use crate::steps::Always;
 use crate::steps::run::Unscheduling;
+use crate::table::Kept;
 use std::alloc::Allocator;
 use std::sync::{Arc, Wait};
 use task_core::word::Word;
@@ -31,9 +32,9 @@ fn keeps_output(found: Word) -> bool
 
 impl<R: Drop, F: Yields, Q: Drop, M: Drop, A: Drop, B: Allocator> Cell<R, F, Q, M, A, B> {
     // SCHEDULED is cleared, after the future was dropped: a single fetch, never tried again.
-    pub(crate) fn unschedule(&self, party: &mut Party<F, F::Output, A>) -> Word
+    pub(crate) fn unschedule(&self, party: &mut Party<F, Kept<F>, A>) -> Word
         requires cell { party.old.seat.table_id ≡ self.now.table.shared.table_id }
-        requires party { (closer : Closer) × (y : Slot F F.Output A) × StandsWith (FutureInHand closer) ((0, y) ∷ []) party.old × IsEmpty y }
+        requires party { (closer : Closer) × (y : Slot F _ A) × StandsWith (FutureInHand closer) ((0, y) ∷ []) party.old × IsEmpty y }
         ensures { Goes (act DropFuture ∷ row Unschedule result ∷ []) (notifies result.awaiter (closing_way (position party.old))) party.old party.new }
     {
         let found = self
@@ -46,10 +47,10 @@ impl<R: Drop, F: Yields, Q: Drop, M: Drop, A: Drop, B: Allocator> Cell<R, F, Q, 
 
 impl<R: Wait + Drop, F: Yields, Q: Drop, M: Drop, A: Drop, B: Allocator> Cell<R, F, Q, M, A, B> {
     // The end step of a run with its output, which is dropped where nobody will claim it.
-    pub(crate) fn store_output(&self, party: &mut Party<F, F::Output, A>, output: F::Output) -> Word
+    pub(crate) fn store_output(&self, party: &mut Party<F, Kept<F>, A>, output: Kept<F>) -> Word
         requires cell { party.old.seat.table_id ≡ self.now.table.shared.table_id }
-        requires party { (y : Slot F F.Output A) × StandsWith Ready ((0, y) ∷ []) party.old }
-        ensures { (y : Slot F F.Output A) → StandsWith Ready ((0, y) ∷ []) party.old → Stores result party.old party.new }
+        requires party { (y : Slot F _ A) × StandsWith Ready ((0, y) ∷ []) party.old }
+        ensures { (y : Slot F _ A) → StandsWith Ready ((0, y) ∷ []) party.old → Stores result party.old party.new }
     {
         let found = self.complete(party, output);
         if keeps_output(found) {
@@ -62,9 +63,9 @@ impl<R: Wait + Drop, F: Yields, Q: Drop, M: Drop, A: Drop, B: Allocator> Cell<R,
 
 impl<R: Drop, F: Yields, Q: Drop, M: Drop, A: Wake, B: Allocator> Cell<R, F, Q, M, A, B> {
     // A run of a task that was closed before, from where it has taken the future over.
-    pub(crate) fn close_run(&self, party: &mut Party<F, F::Output, A>)
+    pub(crate) fn close_run(&self, party: &mut Party<F, Kept<F>, A>)
         requires cell { party.old.seat.table_id ≡ self.now.table.shared.table_id }
-        requires party { (y : Slot F F.Output A) × StandsWith (FutureInHand ClosedRun) ((0, y) ∷ []) party.old }
+        requires party { (y : Slot F _ A) × StandsWith (FutureInHand ClosedRun) ((0, y) ∷ []) party.old }
         ensures { Closes ((a : A) × A.woken a) party.old party.new }
     {
         self.clear(party, 0);
@@ -73,9 +74,9 @@ impl<R: Drop, F: Yields, Q: Drop, M: Drop, A: Wake, B: Allocator> Cell<R, F, Q, 
     }
 
     // A run of a task that was closed meanwhile, from where its poll answered Pending.
-    pub(crate) fn finish_cleared(&self, party: &mut Party<F, F::Output, A>)
+    pub(crate) fn finish_cleared(&self, party: &mut Party<F, Kept<F>, A>)
         requires cell { party.old.seat.table_id ≡ self.now.table.shared.table_id }
-        requires party { (y : Slot F F.Output A) × StandsWith Cleared ((0, y) ∷ []) party.old }
+        requires party { (y : Slot F _ A) × StandsWith Cleared ((0, y) ∷ []) party.old }
         ensures { ClosesPending ((a : A) × A.woken a) party.old party.new }
     {
         self.clear(party, 0);
@@ -86,9 +87,9 @@ impl<R: Drop, F: Yields, Q: Drop, M: Drop, A: Wake, B: Allocator> Cell<R, F, Q, 
 
 impl<R: Wait + Drop, F: Yields, Q: Drop, M: Drop, A: Wake, B: Allocator> Cell<R, F, Q, M, A, B> {
     // A run, from where its poll answered Ready.
-    pub(crate) fn finish_ready(&self, party: &mut Party<F, F::Output, A>, output: F::Output)
+    pub(crate) fn finish_ready(&self, party: &mut Party<F, Kept<F>, A>, output: Kept<F>)
         requires cell { party.old.seat.table_id ≡ self.now.table.shared.table_id }
-        requires party { (y : Slot F F.Output A) × StandsWith Polling ((0, y) ∷ []) party.old }
+        requires party { (y : Slot F _ A) × StandsWith Polling ((0, y) ∷ []) party.old }
         ensures { EndsReady ((a : A) × A.woken a) party.old party.new }
     {
         self.answer_ready(party);
@@ -100,7 +101,7 @@ impl<R: Wait + Drop, F: Yields, Q: Drop, M: Drop, A: Wake, B: Allocator> Cell<R,
     // Hands the Runnable of a run over that has ended, which ends the call.
     pub(crate) fn hand_on<X: Copy>(
         this: &Arc<Self, B>,
-        party: &mut Party<F, F::Output, A>,
+        party: &mut Party<F, Kept<F>, A>,
         around: X,
         woken: bool,
     )
@@ -118,13 +119,13 @@ impl<R: Wait + Drop, F: Yields, Q: Drop, M: Drop, A: Wake, B: Allocator> Cell<R,
     // A run, from where its poll answered Pending. Whether the task was woken meanwhile.
     pub(crate) fn finish_pending<X: Copy>(
         this: &Arc<Self, B>,
-        party: &mut Party<F, F::Output, A>,
+        party: &mut Party<F, Kept<F>, A>,
         around: X,
     ) -> bool
     where
         Q: Schedule<Runnable<R, F, Q, M, A, X, B>>,
         requires cell { (party.old.seat.table_id ≡ (arc_value this.now).table.shared.table_id) × (limit_of party.old ≡ (arc_value this.now).limit) }
-        requires party { (y : Slot F F.Output A) × StandsWith Polling ((0, y) ∷ []) party.old × IsFuture y }
+        requires party { (y : Slot F _ A) × StandsWith Polling ((0, y) ∷ []) party.old × IsFuture y }
         ensures { EndsUnready ((a : A) × A.woken a) (λ b. (n : _) × Q.scheduled (arc_value this.now).schedule n (record { woken_while_running = b })) result party.old party.new }
     {
         let found = this.answer_pending(party);

@@ -9,7 +9,7 @@ ghost use Rattle.async_task.specs.LastWord.{IsLastWord};
 
 use super::{Board, Cell, Party};
 use crate::steps::spawn::{Filling, Opening, Spawning};
-use crate::table::{Slot, View};
+use crate::table::{Kept, Slot, View};
 use atomic_table::{Refused, Seat, Table};
 use std::alloc::{AllocError, Allocator};
 use std::sync::{Arc, Wait};
@@ -63,9 +63,9 @@ impl<R: Drop, F: Yields, Q: Drop, M: Drop, A: Drop, B: Allocator> Cell<R, F, Q, 
     /// Puts the future in, by the seat of a cell whose memory was found: the Runnable and the Task.
     pub fn fill(
         &self,
-        mut seat: Seat<Slot<F, F::Output, A>, View>,
+        mut seat: Seat<Slot<F, Kept<F>, A>, View>,
         future: F,
-    ) -> (Party<F, F::Output, A>, Party<F, F::Output, A>)
+    ) -> (Party<F, Kept<F>, A>, Party<F, Kept<F>, A>)
         requires cell { seat.table_id ≡ self.now.table.shared.table_id }
         requires seat { seat.me ≡ (laid_view self.now.limit, []) }
         ensures cell { (result.0.seat.table_id ≡ self.now.table.shared.table_id) × (result.1.seat.table_id ≡ self.now.table.shared.table_id) }
@@ -82,9 +82,9 @@ impl<R: Drop, F: Yields, Q: Drop, M: Drop, A: Drop, B: Allocator> Cell<R, F, Q, 
     }
 
     /// Takes the cell apart by a party that is left: the last word, and what it means.
-    pub fn into_word(self, party: Party<F, F::Output, A>) -> u64
+    pub fn into_word(self, party: Party<F, Kept<F>, A>) -> u64
         requires cell { party.seat.table_id ≡ self.table.shared.table_id }
-        requires party { (at : Position) × (held : List (ℕ × Slot F F.Output A)) × StandsWith at held party }
+        requires party { (at : Position) × (held : List (ℕ × Slot F _ A)) × StandsWith at held party }
         ensures { IsLastWord self.limit result party }
     {
         let Cell {
@@ -119,14 +119,7 @@ impl<R: Wait + Drop, F: Yields, Q: Drop, M: Drop, A: Wake, B: Allocator + Copy> 
         schedule: Q,
         metadata: M,
         limit: u64,
-    ) -> Result<
-        (
-            Arc<Self, B>,
-            Arc<Self, B>,
-            Seat<Slot<F, F::Output, A>, View>,
-        ),
-        (Q, M),
-    >
+    ) -> Result<(Arc<Self, B>, Arc<Self, B>, Seat<Slot<F, Kept<F>, A>, View>), (Q, M)>
         requires { limit < 2 ^ 55 }
         ensures shares { IfOk result (λ made. arc_value made.1 ≡ arc_value made.0) }
         ensures given { IfOk result (λ made. ((arc_value made.0).metadata ≡ metadata) × ((arc_value made.0).schedule ≡ schedule) × ((arc_value made.0).limit ≡ limit)) }

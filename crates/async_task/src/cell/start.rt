@@ -6,6 +6,7 @@ ghost use Rattle.async_task.specs.Starts.{TakesUp};
 use super::{Cell, Party};
 use crate::steps::start::{StartingRun, TakingUpClosed};
 use crate::steps::{Always, Exchange};
+use crate::table::Kept;
 use std::alloc::Allocator;
 use std::sync::Wait;
 use task_core::Yields;
@@ -13,7 +14,7 @@ use task_core::word::Word;
 
 impl<R: Wait + Drop, F: Yields, Q: Drop, M: Drop, A: Drop, B: Allocator> Cell<R, F, Q, M, A, B> {
     // Takes the future for a run: true where the run has started, false where the task was closed.
-    pub(crate) fn take_up(&self, party: &mut Party<F, F::Output, A>) -> bool
+    pub(crate) fn take_up(&self, party: &mut Party<F, Kept<F>, A>) -> bool
         requires cell { party.old.seat.table_id ≡ self.now.table.shared.table_id }
         requires party { Stands as_runnable party.old }
         ensures { TakesUp party.old party.new result }

@@ -12,6 +12,7 @@ ghost use Rattle.async_task.specs.RunPaths.{RunPath};
 ghost use Rattle.async_task.specs.RunCalls.{Closes, EndsReady, EndsUnready};
 
 use super::{Cell, Party, Runnable, TaskWaker};
+use crate::table::Kept;
 use std::alloc::Allocator;
 use std::sync::{Arc, Wait};
 use task_core::{Future, Poll, Schedule, Wake, Yields};
@@ -22,9 +23,9 @@ impl<R: Wait + Drop, F: Yields, Q: Drop, M: Drop, A: Wake, B: Allocator> Cell<R,
     /// True where the task was woken meanwhile, and its Runnable was handed to the schedule value.
     pub fn run<X: Copy>(
         this: Arc<Self, B>,
-        party: Party<F, F::Output, A>,
+        party: Party<F, Kept<F>, A>,
         around: X,
-    ) -> (Arc<Self, B>, Party<F, F::Output, A>, bool)
+    ) -> (Arc<Self, B>, Party<F, Kept<F>, A>, bool)
     where
         F: Future<TaskWaker<R, F, Q, M, A, X, B>>,
         Q: Schedule<Runnable<R, F, Q, M, A, X, B>>,
@@ -41,7 +42,7 @@ impl<R: Wait + Drop, F: Yields, Q: Drop, M: Drop, A: Wake, B: Allocator> Cell<R,
         let (this, party, answer) = Cell::poll_future(this, party, around);
         match answer {
             Poll::Ready(output) => {
-                let ended = this.end_ready_run(party, output);
+                let ended = this.end_ready_run(party, Kept { output });
                 (this, ended, false)
             }
             Poll::Pending => {
@@ -54,7 +55,7 @@ impl<R: Wait + Drop, F: Yields, Q: Drop, M: Drop, A: Wake, B: Allocator> Cell<R,
 
 // The parts of a run, each of a party by value.
 impl<R: Wait + Drop, F: Yields, Q: Drop, M: Drop, A: Wake, B: Allocator> Cell<R, F, Q, M, A, B> {
-    fn begin_run(&self, mut party: Party<F, F::Output, A>) -> (Party<F, F::Output, A>, bool)
+    fn begin_run(&self, mut party: Party<F, Kept<F>, A>) -> (Party<F, Kept<F>, A>, bool)
         requires cell { party.seat.table_id ≡ self.now.table.shared.table_id }
         requires party { Stands as_runnable party }
         ensures { TakesUp party result.0 result.1 }
@@ -63,9 +64,9 @@ impl<R: Wait + Drop, F: Yields, Q: Drop, M: Drop, A: Wake, B: Allocator> Cell<R,
         (party, started)
     }
 
-    fn end_closed_run(&self, mut party: Party<F, F::Output, A>) -> Party<F, F::Output, A>
+    fn end_closed_run(&self, mut party: Party<F, Kept<F>, A>) -> Party<F, Kept<F>, A>
         requires cell { party.seat.table_id ≡ self.now.table.shared.table_id }
-        requires party { (y : Slot F F.Output A) × StandsWith (FutureInHand ClosedRun) ((0, y) ∷ []) party }
+        requires party { (y : Slot F _ A) × StandsWith (FutureInHand ClosedRun) ((0, y) ∷ []) party }
         ensures { Closes ((a : A) × A.woken a) party result }
     {
         self.close_run(&mut party);
@@ -74,11 +75,11 @@ impl<R: Wait + Drop, F: Yields, Q: Drop, M: Drop, A: Wake, B: Allocator> Cell<R,
 
     fn end_ready_run(
         &self,
-        mut party: Party<F, F::Output, A>,
-        output: F::Output,
-    ) -> Party<F, F::Output, A>
+        mut party: Party<F, Kept<F>, A>,
+        output: Kept<F>,
+    ) -> Party<F, Kept<F>, A>
         requires cell { party.seat.table_id ≡ self.now.table.shared.table_id }
-        requires party { (y : Slot F F.Output A) × StandsWith Polling ((0, y) ∷ []) party }
+        requires party { (y : Slot F _ A) × StandsWith Polling ((0, y) ∷ []) party }
         ensures { EndsReady ((a : A) × A.woken a) party result }
     {
         self.finish_ready(&mut party, output);
@@ -87,13 +88,13 @@ impl<R: Wait + Drop, F: Yields, Q: Drop, M: Drop, A: Wake, B: Allocator> Cell<R,
 
     fn end_pending_run<X: Copy>(
         this: &Arc<Self, B>,
-        mut party: Party<F, F::Output, A>,
+        mut party: Party<F, Kept<F>, A>,
         around: X,
-    ) -> (Party<F, F::Output, A>, bool)
+    ) -> (Party<F, Kept<F>, A>, bool)
     where
         Q: Schedule<Runnable<R, F, Q, M, A, X, B>>,
         requires cell { (party.seat.table_id ≡ (arc_value this.now).table.shared.table_id) × (limit_of party ≡ (arc_value this.now).limit) }
-        requires party { (y : Slot F F.Output A) × StandsWith Polling ((0, y) ∷ []) party × IsFuture y }
+        requires party { (y : Slot F _ A) × StandsWith Polling ((0, y) ∷ []) party × IsFuture y }
         ensures { EndsUnready ((a : A) × A.woken a) (λ woken. (n : _) × Q.scheduled (arc_value this.now).schedule n (record { woken_while_running = woken })) result.1 party result.0 }
     {
         let woken = Cell::finish_pending(this, &mut party, around);

@@ -2,10 +2,12 @@
 ghost use Rattle.std.specs.Prelude.{◌≡◌, ℕ, ◌∷◌, [], true};
 ghost use Rattle.std.specs.Arc.{arc_value};
 ghost use Rattle.async_task.specs.Rule.{view, member};
+ghost use Rattle.async_task.specs.PollPaths.{IfOutput};
 ghost use Rattle.async_task.specs.Calls.{deeds, position, holds, limit_of, is_empty, is_task};
 
 use super::parked::ParkedTask;
 use crate::cell::{Cell, Party, Runnable};
+use crate::table::Kept;
 use std::alloc::{Allocator, Global};
 use std::sync::{Arc, Wait};
 use task_core::{Schedule, TaskPoll, Wake, Yields};
@@ -17,7 +19,7 @@ pub struct TaskClosed;
 /// A share of a cell, and the party of its Task.
 pub(crate) struct TaskParty<R, F: Yields, Q, M, A, B: Allocator> {
     pub(crate) cell: Arc<Cell<R, F, Q, M, A, B>, B>,
-    pub(crate) party: Party<F, F::Output, A>,
+    pub(crate) party: Party<F, Kept<F>, A>,
     ghost seated: { party.seat.table_id ≡ (arc_value cell).table.shared.table_id },
     ghost limited: { limit_of party ≡ (arc_value cell).limit },
     ghost placed: { is_task (position party) ≡ true },
@@ -39,7 +41,7 @@ impl<R: Wait + Drop, F: Yields, Q: Drop, M: Drop, A: Wake, B: Allocator> TaskPar
     }
 
     // One poll of the Task.
-    fn poll(&mut self, awaiter: &A) -> TaskPoll<Option<F::Output>> {
+    fn poll(&mut self, awaiter: &A) -> TaskPoll<Option<Kept<F>>> {
         self.cell.poll(&mut self.party, awaiter)
     }
 }
@@ -132,11 +134,15 @@ where
     }
 
     /// Answers with the output once there is one, or with `TaskClosed`. Otherwise the awaiter is registered, to be woken then.
-    pub fn poll(&mut self, awaiter: &A) -> TaskPoll<Result<F::Output, TaskClosed>> {
+    /// The output meets what the type of the future states.
+    pub fn poll(&mut self, awaiter: &A) -> TaskPoll<Result<F::Output, TaskClosed>>
+        ensures meets { IfOutput result (λ output. ∥ F.Yields.meets output ∥₁) }
+    {
         match self.inner.poll(awaiter) {
             TaskPoll::Pending => TaskPoll::Pending,
             TaskPoll::NoMemory => TaskPoll::NoMemory,
-            TaskPoll::Ready(output) => TaskPoll::Ready(output.ok_or(TaskClosed)),
+            TaskPoll::Ready(Some(kept)) => TaskPoll::Ready(Ok(kept.output)),
+            TaskPoll::Ready(None) => TaskPoll::Ready(Err(TaskClosed)),
         }
     }
 }

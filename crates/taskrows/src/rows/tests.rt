@@ -3,7 +3,9 @@ ghost use Rattle.std.specs.Prelude.{⊤};
 
 use super::*;
 use crate::surroundings::Scheduler;
-use async_task::{Runnable, Schedule, ScheduleInfo, SpawnError, Task, TaskClosed, TaskPoll, spawn};
+use async_task::{
+    Cell, Runnable, Schedule, ScheduleInfo, SpawnError, Task, TaskClosed, TaskPoll, spawn,
+};
 use counters::{Counters, Counts};
 use fixture::Fixture;
 use flag::Flag;
@@ -237,4 +239,32 @@ fn a_refused_spawn_hands_everything_back(rt: HostRuntime) -> Result<(), Fail> {
         }
     }
     panic!(rt; "no heap has room")
+}
+
+// A cell of the tests.
+type TestCell<R> = Cell<R, RowFuture, Dropping, (), Flag, Global>;
+
+// The calls of the cell itself, by two parties: its word after a spawn, and the last one, after the Runnable was dropped and the Task detached.
+#[test]
+fn a_cell_ends_with_its_last_word(rt: HostRuntime) -> Result<(), Fail> {
+    let counters = Arc::new(rt.alloc(), Counters::new())?;
+    let future = RowFuture::new(Behaviour::Pending, Arc::try_clone(&counters)?);
+    let scheduler = Scheduler::new(Arc::try_clone(&counters)?);
+    let made = TestCell::make(rt, rt.alloc(), Dropping { scheduler }, (), 4);
+    let Ok((cell, other, seat)) = made else {
+        panic!(rt; "no memory");
+    };
+    let (mut runnable, mut task) = cell.fill(seat, future);
+    assert_eq!(rt; cell.word().bits(), 0x111);
+    cell.discard_runnable(&mut runnable);
+    runnable.let_go();
+    assert_eq!(rt; cell.word().bits(), 0x18);
+    Cell::detach(&cell, &mut task, ());
+    drop(other);
+    let Some(last) = Arc::into_inner(cell) else {
+        task.let_go();
+        panic!(rt; "the cell is shared");
+    };
+    assert_eq!(rt; last.into_word(task), 0x08);
+    Ok(())
 }

@@ -35,6 +35,13 @@ returns-then-notifying g c = let s = c.requires.party in let w = state_of c.fetc
       | then-notifying-via-else-notifying+then-registering z ↦ right w.notifying w.registering (ap (λ w. w.registering) (sym b) ∙ (sym z.registering.ensures ∙ z.if-registering.true))
     ] in missed s.0 s.1 _ _ w s.2 c.fetch_or-found.ensures.0 c.fetch_or-found.ensures.2 is
 
+pub exchange-requires : goal.exchange-requires
+exchange-requires g c = let s = c.requires.party in let w = state_of c.fetch_or-found.result in let b = c.from_bits-found.ensures in
+    let is = neither w.notifying w.registering (ap (λ w. w.notifying) (sym b) ∙ (sym c.notifying.ensures ∙ c.if-notifying.false)) (ap (λ w. w.registering) (sym b) ∙ (sym c.registering.ensures ∙ c.if-registering.false)) in
+    let t = taken s.0 s.1 c.args.party.now (record { seat = c.fetch_or-found.new.seat }) w s.2 c.fetch_or-found.ensures.0 c.fetch_or-found.ensures.2 is in
+    let at = stands c.args.party.now (record { seat = c.fetch_or-found.new.seat }) (row BeginNotify w ∷ act TakeAwaiter ∷ []) (Releaser t.hand s.0) ((1, t.value) ∷ s.1) t.goes in
+    (c.fetch_or-found.ensures.0 ∙ c.requires.cell, (t.value, first_held (record { seat = c.fetch_or-found.new.seat }) (Releaser t.hand s.0) 1 t.value s.1 at))
+
 pub fetch_and-requires : goal.fetch_and-requires
 fetch_and-requires g c = let s = c.requires.party in let w = state_of c.fetch_or-found.result in let b = c.from_bits-found.ensures in let e = c.exchange.ensures in
     let is = neither w.notifying w.registering (ap (λ w. w.notifying) (sym b) ∙ (sym c.notifying.ensures ∙ c.if-notifying.false)) (ap (λ w. w.registering) (sym b) ∙ (sym c.registering.ensures ∙ c.if-registering.false)) in

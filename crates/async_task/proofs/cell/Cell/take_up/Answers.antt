@@ -2,6 +2,7 @@ use Rattle.std.proofs.Common.{rules, sym, ap, ◌∙◌, subst}
 use Rattle.atomic_table.specs.Table.{Me}
 use Rattle.task_core.specs.Word.{State}
 use Rattle.async_task.specs.declared.table.Slot.{Slot}
+use Rattle.async_task.specs.declared.table.Kept.{Kept}
 use Rattle.async_task.specs.declared.table.View.{View}
 use Rattle.async_task.specs.Steps.{Makes}
 use Rattle.async_task.specs.StartScripts.{taking_up_closed}
@@ -35,6 +36,6 @@ pub loop-preserved : goal.loop-preserved
 loop-preserved g c = let e = c.compare_exchange-found.ensures in
     let same = unmoved c.loop.word c.in-Some-start_run.next c.args.party.now (record { seat = c.loop.seat }) c.requires.party (sym c.in-Some-start_run.is ∙ c.start_run.ensures) c.loop.invariant.looked in record {
       same_cell = e.0 ∙ c.loop.invariant.same_cell;
-      looked = subst (λ (z : State × Me (Slot g.row.F.Denot g.row.F-Output.Denot g.row.A.Denot) View). Makes (taking_up_closed z.0) z.0 z.1 c.compare_exchange-found.new.seat.me) (λ i. (sym c.from_bits-word-in-loop.ensures i, same i))
+      looked = subst (λ (z : State × Me (Slot g.row.F.Denot (Kept g.row.F.Denot g.row.F-Output.Denot g.F.Yields) g.row.A.Denot) View). Makes (taking_up_closed z.0) z.0 z.1 c.compare_exchange-found.new.seat.me) (λ i. (sym c.from_bits-word-in-loop.ensures i, same i))
           (e.2.1 (λ z. c.if-found-bits.false (z ∙ (c.bits.ensures ∙ sym c.bits-in-loop-2.ensures))));
     }
