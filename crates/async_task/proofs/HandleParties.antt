@@ -1,12 +1,9 @@
 -- What a handle keeps of its party between two calls.
 use Rattle.std.proofs.Common.{◌≡◌, ℕ, true, List, [], ◌∷◌, refl, sym, ap, ◌∙◌, subst}
-use Rattle.atomic_table.specs.Table.{Me}
 use Rattle.task_core.specs.declared.moves.Position.{Position}
 use Rattle.task_core.specs.declared.moves.Position.TheVariants.{At}
 use Rattle.task_core.specs.declared.moves.Rest.TheVariants.{Task}
-use Rattle.async_task.specs.declared.table.Slot.{Slot}
 use Rattle.async_task.specs.declared.table.Deed.{Deed}
-use Rattle.async_task.specs.declared.table.View.{View}
 use Rattle.async_task.specs.declared.cell.Party.{Party}
 use Rattle.async_task.specs.Rule.{member, view}
 use Rattle.async_task.specs.Calls.{deeds, position, holds, limit_of, is_empty, is_task, Stands, Goes, as_task}
@@ -28,19 +25,6 @@ module _ {F T A : Type 0} where
   pub stands_task : (p : Party F T A) → p.seat.me.0 ≡ view (limit_of p) (member (position p) (deeds p) ∷ []) → is_task (position p) ≡ true → is_empty (holds p) ≡ true → (n : ℕ) × Stands (as_task n) p
   stands_task p alone placed free = let n = at_task (position p) placed in
       (n.0, stands_alone p (as_task n.0) (alone ∙ ap (λ at. view (limit_of p) (member at (deeds p) ∷ [])) n.1) free)
-
-  -- a party that stands somewhere is alone there, and has no place of the table
-  pub alone_at : (p : Party F T A) (at : Position) → Stands at p → p.seat.me.0 ≡ view (limit_of p) (member (position p) (deeds p) ∷ [])
-  alone_at p at s = ap (λ (m : Me (Slot F T A) View). m.0) s ∙ ap (λ at. view (limit_of p) (member at (deeds p) ∷ [])) (sym (moved.position_is p at [] s))
-
-  pub task_at : (p : Party F T A) (n : ℕ) → Stands (as_task n) p → is_task (position p) ≡ true
-  task_at p n s = ap is_task (moved.position_is p (as_task n) [] s)
-
-  pub free_at : (p : Party F T A) (at : Position) → Stands at p → is_empty (holds p) ≡ true
-  free_at p at s = ap is_empty (moved.held_is p at [] s)
-
-  pub limit_goes : (p q : Party F T A) (path : List Deed) (at : Position) → Goes path at p q → limit_of q ≡ limit_of p
-  limit_goes p q path at g = ap (λ (m : Me (Slot F T A) View). m.0.limit) g.is
 
   -- .. also where the Task stood before
   pub stands_again : (p q : Party F T A) (path : List Deed) (n : ℕ) → Stands (as_task n) p → Goes path (position p) p q → Stands (as_task n) q
