@@ -1,11 +1,15 @@
 //! Spawning a task.
-ghost use Rattle.std.specs.Prelude.{◌≡◌, IfErr};
+ghost use Rattle.std.specs.Prelude.{◌≡◌, [], IfErr};
+ghost use Rattle.std.specs.Arc.{arc_value};
+ghost use Rattle.async_task.specs.Rule.{laid_view};
 
 use crate::cell::{Cell, Runnable, RunnableParty};
 use crate::handles::Task;
 use crate::handles::task::TaskParty;
+use crate::table::{Kept, Slot, View};
+use atomic_table::Seat;
 use std::alloc::Allocator;
-use std::sync::Wait;
+use std::sync::{Arc, Wait};
 use task_core::word::LIMIT;
 use task_core::{Schedule, Wake, Yields};
 
@@ -40,6 +44,46 @@ impl Builder<()> {
     }
 }
 
+// The handles of a task whose memory was found: the future is put in by the seat, and each handle gets one of the shares.
+fn handles_of<R, F, Q, M, A, X, B>(
+    first: Arc<Cell<R, F, Q, M, A, B>, B>,
+    second: Arc<Cell<R, F, Q, M, A, B>, B>,
+    seat: Seat<Slot<F, Kept<F>, A>, View>,
+    future: F,
+    around: X,
+) -> (Runnable<R, F, Q, M, A, X, B>, Task<R, F, Q, M, A, X, B>)
+where
+    R: Wait + Drop,
+    F: Yields,
+    M: Drop,
+    A: Wake,
+    X: Copy,
+    B: Allocator,
+    Q: Schedule<Runnable<R, F, Q, M, A, X, B>> + Drop,
+    requires shares { arc_value second ≡ arc_value first }
+    requires seat { (seat.table_id ≡ (arc_value first).table.shared.table_id) × (seat.me ≡ (laid_view (arc_value first).limit, [])) }
+{
+    let (runnable, task) = first.fill(seat, future);
+    let runnable = RunnableParty {
+        cell: first,
+        party: runnable,
+    };
+    let task = TaskParty {
+        cell: second,
+        party: task,
+    };
+    (
+        Runnable {
+            inner: runnable,
+            around,
+        },
+        Task {
+            inner: task,
+            around,
+        },
+    )
+}
+
 /// Spawns a future: its Runnable, which is due, and its Task. The memory is found before anything else is done.
 ///
 /// `rt` is what the handles may wait by, `alloc` where the memory comes from, `schedule` what Runnables are handed to,
@@ -61,27 +105,7 @@ where
     ensures { IfErr result (λ e. (e.maker ≡ future) × (e.schedule ≡ schedule)) }
 {
     match Cell::make(rt, alloc, schedule, (), LIMIT) {
-        Ok((first, second, seat)) => {
-            let (runnable, task) = first.fill(seat, future);
-            let runnable = RunnableParty {
-                cell: first,
-                party: runnable,
-            };
-            let task = TaskParty {
-                cell: second,
-                party: task,
-            };
-            Ok((
-                Runnable {
-                    inner: runnable,
-                    around,
-                },
-                Task {
-                    inner: task,
-                    around,
-                },
-            ))
-        }
+        Ok((first, second, seat)) => Ok(handles_of(first, second, seat, future, around)),
         Err((schedule, metadata)) => Err(SpawnError {
             builder: Builder {
                 metadata,
