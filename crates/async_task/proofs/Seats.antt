@@ -1,5 +1,5 @@
 -- How parties change their seats, and what the rule owes for it.
-use Rattle.std.proofs.Common.{◌≡◌, ℕ, zero, suc, ◌+◌, ◌<◌, ◌≢◌, Bool, false, Some, None, List, [], ◌∷◌, ◌++◌, length, set, sym, refl, ap, ◌∙◌, subst, ⊎_elim, ◌⊎◌, inl, inr, arith, length-set}
+use Rattle.std.proofs.Common.{◌≡◌, ℕ, zero, suc, ◌+◌, ◌<◌, ◌≢◌, Bool, true, false, Some, None, List, [], ◌∷◌, ◌++◌, length, set, sym, refl, ap, ◌∙◌, subst, ⊎_elim, ◌⊎◌, inl, inr, arith, length-set}
 use mathlib.Core.Option.{some, some-injective, some-ne-none}
 use native.Mathlib.Decide.{ℕ_discrete}
 use lib.ListN.{get_elem?}
@@ -25,7 +25,7 @@ use Rattle.async_task.specs.declared.table.Member.{Member}
 use Rattle.async_task.specs.declared.table.Stage.TheVariants.{Spawned}
 use Rattle.async_task.specs.declared.table.View.{View}
 use Rattle.async_task.specs.Rule.{deed, member, view, fresh, Entry, Told, has_work, Housed, Running, Ruled}
-use Rattle.async_task.specs.Calls.{handed_over}
+use Rattle.async_task.specs.Calls.{hands_over, handed_over}
 use Rattle.async_task.specs.Seats.{handing_over, runnable_of, lending, lent_of, taking_back, nobody}
 use Rattle.async_task.proofs.Told.{inside, at_append, regroups}
 use Rattle.async_task.proofs.Facts.{law, many_at, one_work}
@@ -143,7 +143,7 @@ module _ (F T A : Type 0) (limit : ℕ) where
   no_awaiter_after (ThenTask n) = refl
   no_awaiter_after (ThenNotifies n) = refl
 
-  -- a deliverer hands its Runnable over
+  -- a party hands a Runnable over
   hands_over_at : (id : ℕ) (v : View) (l : ℕ) (ds : List Deed) (p q : Position) (told : List Event) → v ≡ view l (member p ds ∷ [])
       → ((m : Machine) → leads (scene m) (HandOver ∷ []) p ≡ Some (steps (scene m) m.word q (At Runnable ∷ []) told)) → handed_over p ≡ q
       → has_work p ≡ false → has_work q ≡ false → owns_awaiter p ≡ false → owns_awaiter q ≡ false → count is_emptying told ≡ 0
@@ -181,11 +181,10 @@ module _ (F T A : Type 0) (limit : ℕ) where
       only u n zero x e = (e, λ z. omega arith)
       only u n (suc j) x e = absurd (some-ne-none x (sym e))
 
-  pub hands_over : (id : ℕ) (v : View) (l : ℕ) (ds : List Deed) (woken : Bool) (next : After) → v ≡ view l (member (Deliverer woken next) ds ∷ []) → Splits Rule id v (handing_over v) (runnable_of v)
-  hands_over id v l ds woken next is = hands_over_at id v l ds (Deliverer woken next) (goes_after next) (HandedOver woken ∷ []) is (λ m. refl) refl refl (no_work_after next) refl (no_awaiter_after next) refl
-
-  pub hands_on : (id : ℕ) (v : View) (l : ℕ) (ds : List Deed) → v ≡ view l (member (At Runnable) ds ∷ []) → Splits Rule id v (handing_over v) (runnable_of v)
-  hands_on id v l ds is = hands_over_at id v l ds (At Runnable) (Leaving Nothing Ended) (HandedOver false ∷ []) is (λ m. refl) refl refl refl refl refl refl
+  pub splits : (id : ℕ) (v : View) (l : ℕ) (ds : List Deed) (p : Position) → hands_over p ≡ true → v ≡ view l (member p ds ∷ []) → Splits Rule id v (handing_over v) (runnable_of v)
+  splits id v l ds (Deliverer woken next) e is = hands_over_at id v l ds (Deliverer woken next) (goes_after next) (HandedOver woken ∷ []) is (λ m. refl) refl refl (no_work_after next) refl (no_awaiter_after next) refl
+  splits id v l ds (At Runnable) e is = hands_over_at id v l ds (At Runnable) (Leaving Nothing Ended) (HandedOver false ∷ []) is (λ m. refl) refl refl refl refl refl refl
+  splits id v l ds _ e is = absurd (cc)
 
   -- a run lends its waker: both parties of its seat go to a new one
   pub lends : (id : ℕ) (v : View) (l : ℕ) (u w : Member) → v ≡ view l (u ∷ w ∷ []) → Splits Rule id v (lending v) (lent_of v)

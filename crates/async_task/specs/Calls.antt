@@ -89,7 +89,13 @@ module _ {F T A : Type 0} where
     finds_none : (w v : State) → GoesWith (row BeginNotify w ∷ act TakeAwaiter ∷ row EndNotify v ∷ []) (goes_on None (way_of (position p))) (holds p) p q → Notifies p q None
     takes_awaiter : (w v : State) (i : ℕ) (a : A) → GoesWith (row BeginNotify w ∷ act TakeAwaiter ∷ row EndNotify v ∷ []) (goes_on (Some i) (way_of (position p))) (holds p) p q → Notifies p q (Some a)
 
--- where a party stands once it has handed its Runnable over
+-- a party that hands a Runnable over: a deliverer, or a Runnable that is scheduled again
+abbrev pub hands_over : Position → Bool
+hands_over (At Runnable) = true
+hands_over (Deliverer woken next) = true
+hands_over p = false
+
+-- where it stands once it has handed the Runnable over
 abbrev pub handed_over : Position → Position
 handed_over (At Runnable) = Leaving Nothing Ended
 handed_over (Deliverer woken next) = goes_after next

@@ -1,11 +1,12 @@
 //! Handing a Runnable over to the schedule value.
-ghost use Rattle.std.specs.Prelude.{◌≡◌, ℕ, ◌∷◌, [], Bool, false};
+ghost use Rattle.std.specs.Prelude.{◌≡◌, ℕ, ◌∷◌, [], true, false};
 ghost use Rattle.std.specs.Arc.{arc_value};
+ghost use Rattle.task_core.specs.declared.moves.Position.{Position};
 ghost use Rattle.task_core.specs.declared.moves.Position.TheVariants.{At, Deliverer};
 ghost use Rattle.task_core.specs.declared.moves.Rest.{Rest};
 ghost use Rattle.task_core.specs.declared.moves.After.{After};
 ghost use Rattle.task_core.specs.declared.moves.Act.TheVariants.{HandOver, EndCall};
-ghost use Rattle.async_task.specs.Calls.{Stands, Goes, IsNew, act, position, handed_over, limit_of, as_runnable, as_ended};
+ghost use Rattle.async_task.specs.Calls.{Stands, Goes, IsNew, act, position, hands_over, handed_over, limit_of, as_runnable, as_ended};
 
 use super::{Cell, Party, Runnable, RunnableParty};
 use crate::steps::common::HandingOver;
@@ -15,22 +16,11 @@ use std::sync::{Arc, Wait};
 use task_core::{Schedule, ScheduleInfo, Wake, Yields};
 
 impl<R: Drop, F: Yields, Q: Drop, M: Drop, A: Drop, B: Allocator> Cell<R, F, Q, M, A, B> {
-    // The Runnable of a deliverer, or of a Runnable that is scheduled again. One load.
-    pub(crate) fn hand_over(&self, party: &mut Party<F, Kept<F>, A>) -> Party<F, Kept<F>, A>
+    // The Runnable of a party that hands one over. One load.
+    fn hand_over(&self, party: &mut Party<F, Kept<F>, A>) -> Party<F, Kept<F>, A>
         requires cell { party.old.seat.table_id ≡ self.now.table.shared.table_id }
-        requires party { (woken : Bool) × (next : After) × Stands (Deliverer woken next) party.old }
+        requires party { (at : Position) × (hands_over at ≡ true) × Stands at party.old }
         ensures path { Goes (act HandOver ∷ []) (handed_over (position party.old)) party.old party.new }
-        ensures runnable { IsNew as_runnable party.old result }
-    {
-        let seat = self.table.shared.split_seat::<HandingOver>(&mut party.seat);
-        Party { seat }
-    }
-
-    // The Runnable that a Runnable becomes when it is scheduled again. One load.
-    fn hand_again(&self, party: &mut Party<F, Kept<F>, A>) -> Party<F, Kept<F>, A>
-        requires cell { party.old.seat.table_id ≡ self.now.table.shared.table_id }
-        requires party { Stands as_runnable party.old }
-        ensures path { Goes (act HandOver ∷ []) (handed_over as_runnable) party.old party.new }
         ensures runnable { IsNew as_runnable party.old result }
     {
         let seat = self.table.shared.split_seat::<HandingOver>(&mut party.seat);
@@ -51,7 +41,31 @@ impl<R: Wait + Drop, F: Yields, Q: Drop, M: Drop, A: Wake, B: Allocator> Cell<R,
         unreachable!()
     }
 
-    // Hands the Runnable of a deliverer to the schedule value. The act stands in the list before the schedule value is called.
+    // Hands a Runnable to the schedule value. The act stands in the list before the schedule value is called.
+    fn hand_to_schedule<X: Copy>(
+        this: &Arc<Self, B>,
+        party: &mut Party<F, Kept<F>, A>,
+        around: X,
+        woken_while_running: bool,
+    )
+    where
+        Q: Schedule<Runnable<R, F, Q, M, A, X, B>>,
+        requires cell { (party.old.seat.table_id ≡ (arc_value this.now).table.shared.table_id) × (limit_of party.old ≡ (arc_value this.now).limit) }
+        requires party { (at : Position) × (hands_over at ≡ true) × Stands at party.old }
+        ensures path { Goes (act HandOver ∷ []) (handed_over (position party.old)) party.old party.new }
+        ensures fact { (n : _) × Q.scheduled (arc_value this.now).schedule n (record { woken_while_running = woken_while_running }) }
+    {
+        let inner = RunnableParty {
+            cell: Cell::share(this),
+            party: this.hand_over(party),
+        };
+        let info = ScheduleInfo {
+            woken_while_running,
+        };
+        this.schedule.schedule(Runnable { inner, around }, info);
+    }
+
+    // Hands the Runnable of a deliverer to the schedule value.
     pub(crate) fn deliver<X: Copy>(
         this: &Arc<Self, B>,
         party: &mut Party<F, Kept<F>, A>,
@@ -65,15 +79,7 @@ impl<R: Wait + Drop, F: Yields, Q: Drop, M: Drop, A: Wake, B: Allocator> Cell<R,
         ensures path { Goes (act HandOver ∷ []) (handed_over (position party.old)) party.old party.new }
         ensures fact { (n : _) × Q.scheduled (arc_value this.now).schedule n (record { woken_while_running = woken_while_running }) }
     {
-        let inner = RunnableParty {
-            cell: Cell::share(this),
-            party: this.hand_over(party),
-        };
-        let runnable = Runnable { inner, around };
-        let info = ScheduleInfo {
-            woken_while_running,
-        };
-        this.schedule.schedule(runnable, info);
+        Cell::hand_to_schedule(this, party, around, woken_while_running);
     }
 
     /// Hands a Runnable to the schedule value again, with `woken_while_running` false. It makes no step on the word but loads.
@@ -85,14 +91,7 @@ impl<R: Wait + Drop, F: Yields, Q: Drop, M: Drop, A: Wake, B: Allocator> Cell<R,
         ensures path { Goes (act HandOver ∷ act EndCall ∷ []) as_ended party.old party.new }
         ensures fact { (n : _) × Q.scheduled (arc_value this.now).schedule n (record { woken_while_running = false }) }
     {
-        let inner = RunnableParty {
-            cell: Cell::share(this),
-            party: this.hand_again(party),
-        };
-        let info = ScheduleInfo {
-            woken_while_running: false,
-        };
-        this.schedule.schedule(Runnable { inner, around }, info);
+        Cell::hand_to_schedule(this, party, around, false);
         this.end(party);
     }
 }

@@ -1,8 +1,6 @@
-use Rattle.async_task.specs.declared.cell.Cell.{Cell}
-use Rattle.async_task.proofs.Moved.{fact_along}
+use Rattle.std.proofs.Common.{refl}
+use Rattle.task_core.specs.declared.moves.Position.TheVariants.{Deliverer}
 use Rattle.async_task.proofs.cell.Cell.deliver.Goals as goal
 
-pub returns-clause-fact : goal.returns-clause-fact
-returns-clause-fact g c = fact_along
-    (λ (z : Cell g.row.R.Denot g.row.F.Denot g.row.Q.Denot g.row.M.Denot g.row.A.Denot g.row.B.Denot g.row.F-Output.Denot g.F.Yields) n. g.Q.Schedule.scheduled z.schedule n (record { woken_while_running = c.args.woken_while_running }))
-    _ c.deref-2.ensures c.schedule.ensures
+pub hand_to_schedule-requires-clause-party : goal.hand_to_schedule-requires-clause-party
+hand_to_schedule-requires-clause-party g c = let s = c.requires.party in (Deliverer c.args.woken_while_running s.0, refl, s.1)
