@@ -5,7 +5,7 @@ use Rattle.task_core.specs.declared.moves.Closer.{Closer}
 use Rattle.task_core.specs.declared.moves.Rest.{Rest}
 use Rattle.task_core.specs.declared.moves.Rest.TheVariants.{Ended}
 use Rattle.task_core.specs.declared.moves.Way.{Way}
-use Rattle.task_core.specs.declared.moves.Way.TheVariants.{OfRun, OfDrop}
+use Rattle.task_core.specs.declared.moves.Way.TheVariants.{OfRun, OfDrop, OfCancel}
 use Rattle.task_core.specs.declared.moves.Closer.TheVariants.{DroppedRunnable}
 use Rattle.task_core.specs.declared.moves.Position.{Position}
 use Rattle.task_core.specs.declared.moves.Position.TheVariants.{At, Leaving, Notifier, GivingUp, AwaiterInHand, FutureInHand}
@@ -94,10 +94,16 @@ module _ {F T A : Type 0} where
             (moved.goes_on q q' t x.0 (k.0 ++ act EndCall ∷ []) (AwaiterInHand i OfRun) (At Ended) [] [] x.2 (moved.goes_on q' s t k.0 (act EndCall ∷ []) (Leaving (Ran false) Ended) (At Ended) [] [] k.2 z)),
       )
 
-  -- in a drop, it is woken before
+  -- in another call that goes on without an output it is woken at once
+  pub has_next : (way : Way) (due : Bool) (p q : Party F T A) (r : Option A) → goes_on None way ≡ goes_off way → ((i : ℕ) → goes_on (Some i) way ≡ AwaiterInHand i way) → TakesDue way due p q r → HasTaken way q r
+  has_next way due p q r none one (takes_none path n g) = has_none (subst (λ at. Stands at q) none (moved.stands p q path (goes_on None way) [] g))
+  has_next way due p q r none one (takes_one i a path n g) = has_one i a (subst (λ at. Stands at q) (one i) (moved.stands p q path (goes_on (Some i) way) [] g))
+
   pub drop_has : (due : Bool) (p q : Party F T A) (r : Option A) → TakesDue OfDrop due p q r → HasTaken OfDrop q r
-  drop_has due p q r (takes_none path n g) = has_none (moved.stands p q path (GivingUp None Nothing) [] g)
-  drop_has due p q r (takes_one i a path n g) = has_one i a (moved.stands p q path (AwaiterInHand i OfDrop) [] g)
+  drop_has due p q r d = has_next OfDrop due p q r refl (λ i. refl) d
+
+  pub cancel_has : (n : ℕ) (due : Bool) (p q : Party F T A) (r : Option A) → TakesDue (OfCancel n) due p q r → HasTaken (OfCancel n) q r
+  cancel_has n due p q r d = has_next (OfCancel n) due p q r refl (λ i. refl) d
 
   pub discard_rest : (Woken : Type 0) (d : Deed) (w : State) (p o q s t u : Party F T A) (r : Option A) → DiscardStart d → Goes (d ∷ act DropFuture ∷ row Unschedule w ∷ []) (notifies w.awaiter OfDrop) p o → TakesDue OfDrop w.awaiter o q r
       → Wakes Woken OfDrop r q s → Releases None Nothing s t → Goes (act EndCall ∷ []) (At Ended) t u → Discards Woken p u

@@ -7,14 +7,13 @@ use Rattle.task_core.proofs.Bits.{state_of_number_of}
 use Rattle.task_core.specs.declared.moves.Answer.{Answer}
 use Rattle.task_core.specs.declared.moves.Answer.TheVariants.{Nothing}
 use Rattle.task_core.specs.declared.moves.Position.{Position}
-use Rattle.task_core.specs.declared.moves.Position.TheVariants.{At, Deliverer, Emptier, OutputCloser, Detacher, Leaving, Notifier, AwaiterInHand}
+use Rattle.task_core.specs.declared.moves.Position.TheVariants.{At, Deliverer, Emptier, OutputCloser, Detacher, Leaving, AwaiterInHand}
 use Rattle.task_core.specs.declared.moves.Rest.{Rest}
 use Rattle.task_core.specs.declared.moves.Rest.TheVariants.{Task, Ended}
 use Rattle.task_core.specs.declared.moves.After.TheVariants.{ThenEnds}
-use Rattle.task_core.specs.declared.moves.Way.{Way}
 use Rattle.task_core.specs.declared.moves.Way.TheVariants.{OfCancel}
-use Rattle.task_core.specs.declared.moves.Act.TheVariants.{CancelOver, CancelBusy, CancelIdle, GiveUpOutput, DropOutput, DetachOrphan, DetachLast, Detach, EndCall, MissNotify, BeginNotify, TakeAwaiter, EndNotify, WakeAwaiter}
-use Rattle.task_core.specs.Table.{notifies, cancels_after, goes_off, goes_on as way_on}
+use Rattle.task_core.specs.declared.moves.Act.TheVariants.{CancelOver, CancelBusy, CancelIdle, GiveUpOutput, DropOutput, DetachOrphan, DetachLast, Detach, EndCall}
+use Rattle.task_core.specs.Table.{notifies, cancels_after}
 use Rattle.task_core.specs.Theorem.{owns_awaiter}
 use Rattle.async_task.specs.declared.table.Slot.{Slot}
 use Rattle.async_task.specs.declared.table.Deed.{Deed}
@@ -25,16 +24,25 @@ use Rattle.async_task.specs.declared.cell.cancel.Cancelled.TheVariants.{Over, Bu
 use Rattle.async_task.specs.declared.cell.detach.Detached.TheVariants.{Unclaimed, Shared, Last, Orphaned}
 use Rattle.async_task.specs.Rule.{has_work}
 use Rattle.async_task.specs.Steps.{Carries, Makes}
-use Rattle.async_task.specs.Calls.{row, act, position, holds, way_of, rest_of, Notifies, misses, finds_none, takes_awaiter, StandsWith, Stands, GoesWith, Goes, as_task}
+use Rattle.async_task.specs.Calls.{row, act, position, rest_of, StandsWith, Stands, GoesWith, Goes, as_task}
+use Rattle.async_task.specs.RunPaths.{NotifyPath, not_due as none_due, missed as miss, none_there, taken, WakePath, nobody, woken}
+use Rattle.async_task.specs.RunCalls.{TakesDue, takes_none, takes_one, Wakes}
 use Rattle.async_task.specs.TaskScripts.{looking_over, cancelling, detaching, giving_task_up}
 use Rattle.async_task.specs.TaskPaths.{Notice, not_due, missed, found_none, woke, closed_by, given_up_by, Cancels, Detaches, GivesTaskUp}
-use Rattle.async_task.proofs.Moved.{moved, goes, goes_on, stands, position_is, held_is}
+use Rattle.async_task.proofs.Moved.{moved, goes, goes_on, stands, position_is}
 use Rattle.async_task.proofs.TaskOwed.{both, over, neither, none_left, last_orphan, closed_claimed, idle_cancel}
 
 -- a word that is written only where the test holds
 pub opened : (b : Bool) (v w : State) → Some v ≡ (if b then Some w else None) → (b ≡ true) × (v ≡ w)
 opened true v w e = (refl, cc)
 opened false v w e = absurd (cc)
+
+-- what was taken and woken, of a cancel
+noticed : (Woken : Type 0) (due found : Bool) (n k : List Deed) → NotifyPath due found n → WakePath Woken found k → Notice Woken due (n ++ k)
+noticed Woken due found n k none_due nobody = not_due
+noticed Woken due found n k (miss w) nobody = missed w
+noticed Woken due found n k (none_there w v) nobody = found_none w v
+noticed Woken due found n k (taken w v) (woken fact) = woke w v fact
 
 module _ {F T A : Type 0} where
   -- the party is where it was
@@ -141,53 +149,18 @@ module _ {F T A : Type 0} where
   ends p q r path answer x g e = goes_on p q r path (act EndCall ∷ []) (Leaving answer x) (At x) [] [] g
       (subst (λ at. Goes (act EndCall ∷ []) (rest_of at) q r) (position_is q (Leaving answer x) [] (stands p q path (Leaving answer x) [] g)) e)
 
-  -- a notifier of a cancel, on its way on
-  of_cancel : (p q : Party F T A) (n : ℕ) (path : List Deed) (hand : Option ℕ) → Stands (Notifier (OfCancel n)) p → GoesWith path (way_on hand (way_of (position p))) (holds p) p q → Goes path (way_on hand (OfCancel n)) p q
-  of_cancel p q n path hand s g = subst (λ (z : Way × List (ℕ × Slot F T A)). GoesWith path (way_on hand z.0) z.1 p q)
-      (λ i. (ap way_of (position_is p (Notifier (OfCancel n)) [] s) i, held_is p (Notifier (OfCancel n)) [] s i)) g
-
-  -- .. without an awaiter in hand
-  finds_nothing : (Woken : Type 0) (p q : Party F T A) (n : ℕ) → Stands (Notifier (OfCancel n)) p → Notifies p q None → (path : List Deed) × Notice Woken true path × Goes path (Leaving Nothing (Task n)) p q
-  finds_nothing Woken p q n s (misses w g) = let path : List Deed = row MissNotify w ∷ [] in (path, missed w, of_cancel p q n path None s g)
-  finds_nothing Woken p q n s (finds_none w v g) = let path : List Deed = row BeginNotify w ∷ act TakeAwaiter ∷ row EndNotify v ∷ [] in (path, found_none w v, of_cancel p q n path None s g)
-
-  -- .. and with one
-  pub has_awaiter : (p q : Party F T A) (n : ℕ) (a : A) → Stands (Notifier (OfCancel n)) p → Notifies p q (Some a)
-      → (w v : State) × (i : ℕ) × Goes (row BeginNotify w ∷ act TakeAwaiter ∷ row EndNotify v ∷ []) (AwaiterInHand i (OfCancel n)) p q
-  has_awaiter p q n a s (takes_awaiter w v i b g) = (w, v, i, of_cancel p q n (row BeginNotify w ∷ act TakeAwaiter ∷ row EndNotify v ∷ []) (Some i) s g)
-
-  wakes : (p q r : Party F T A) (n i : ℕ) (path : List Deed) → Goes path (AwaiterInHand i (OfCancel n)) p q → GoesWith (act WakeAwaiter ∷ []) (goes_off (way_of (position q))) (holds q) q r → Goes (path ++ act WakeAwaiter ∷ []) (Leaving Nothing (Task n)) p r
-  wakes p q r n i path g w = let s = stands p q path (AwaiterInHand i (OfCancel n)) [] g in
-      goes_on p q r path (act WakeAwaiter ∷ []) (AwaiterInHand i (OfCancel n)) (Leaving Nothing (Task n)) [] [] g
-      (subst (λ (z : Position × List (ℕ × Slot F T A)). GoesWith (act WakeAwaiter ∷ []) (goes_off (way_of z.0)) z.1 q r) (λ k. (position_is q (AwaiterInHand i (OfCancel n)) [] s k, held_is q (AwaiterInHand i (OfCancel n)) [] s k)) w)
-
   -- how a cancel ends that has closed the task
   abbrev pub Ends : Type 0 → Bool → ℕ → Party F T A → Party F T A → Type 0
   Ends Woken due n p q = (path : List Deed) × Notice Woken due path × Goes (path ++ act EndCall ∷ []) (as_task n) p q
 
-  pub ends_at_once : (Woken : Type 0) (p r : Party F T A) (n : ℕ) (due : Bool) → due ≡ false → Stands (notifies due (OfCancel n)) p → Goes (act EndCall ∷ []) (rest_of (position p)) p r → Ends Woken due n p r
-  ends_at_once Woken p r n true is s e = absurd (cc)
-  ends_at_once Woken p r n false is s e = ([], not_due, ends p p r [] Nothing (Task n) (record { cell = refl; is = s }) e)
-
-  pub ends_without : (Woken : Type 0) (p q r : Party F T A) (n : ℕ) (due : Bool) → due ≡ true → Stands (notifies due (OfCancel n)) p → Notifies p q None → Goes (act EndCall ∷ []) (rest_of (position q)) q r → Ends Woken due n p r
-  ends_without Woken p q r n false is s told e = absurd (cc)
-  ends_without Woken p q r n true is s told e = let x = finds_nothing Woken p q n s told in (x.0, x.1, ends p q r x.0 Nothing (Task n) x.2 e)
-
-  pub ends_woken : (Woken : Type 0) (p q r t : Party F T A) (n : ℕ) (due : Bool) (a : A) → due ≡ true → Stands (notifies due (OfCancel n)) p → Notifies p q (Some a) → Woken
-      → GoesWith (act WakeAwaiter ∷ []) (goes_off (way_of (position q))) (holds q) q r → Goes (act EndCall ∷ []) (rest_of (position r)) r t → Ends Woken due n p t
-  ends_woken Woken p q r t n false a is s told fact w e = absurd (cc)
-  ends_woken Woken p q r t n true a is s told fact w e = let x = has_awaiter p q n a s told in let path : List Deed = row BeginNotify x.0 ∷ act TakeAwaiter ∷ row EndNotify x.1 ∷ [] in
-      (path ++ act WakeAwaiter ∷ [], woke x.0 x.1 fact, ends p r t (path ++ act WakeAwaiter ∷ []) Nothing (Task n) (wakes p q r n x.2 path x.3 w) e)
-
-  -- where such a cancel is before it ends
-  pub leaving_without : (p q : Party F T A) (n : ℕ) (due : Bool) → due ≡ true → Stands (notifies due (OfCancel n)) p → Notifies p q None → Stands (Leaving Nothing (Task n)) q
-  leaving_without p q n false is s told = absurd (cc)
-  leaving_without p q n true is s told = let x = finds_nothing (Unit {0}) p q n s told in stands p q x.0 (Leaving Nothing (Task n)) [] x.2
-
-  pub in_hand : (p q : Party F T A) (n : ℕ) (due : Bool) (a : A) → due ≡ true → Stands (notifies due (OfCancel n)) p → Notifies p q (Some a) → (path : List Deed) × (i : ℕ) × Goes path (AwaiterInHand i (OfCancel n)) p q
-  in_hand p q n false a is s told = absurd (cc)
-  in_hand p q n true a is s told = let x = has_awaiter p q n a s told in (row BeginNotify x.0 ∷ act TakeAwaiter ∷ row EndNotify x.1 ∷ [], x.2, x.3)
-
-  pub leaving_woken : (p q r : Party F T A) (n : ℕ) (due : Bool) (a : A) → due ≡ true → Stands (notifies due (OfCancel n)) p → Notifies p q (Some a)
-      → GoesWith (act WakeAwaiter ∷ []) (goes_off (way_of (position q))) (holds q) q r → (path : List Deed) × Goes path (Leaving Nothing (Task n)) p r
-  leaving_woken p q r n due a is s told w = let x = in_hand p q n due a is s told in (x.0 ++ act WakeAwaiter ∷ [], wakes p q r n x.1 x.0 x.2 w)
+  pub ends_noticed : (Woken : Type 0) (p q r t : Party F T A) (n : ℕ) (due : Bool) (x : Option A) → TakesDue (OfCancel n) due p q x → Wakes Woken (OfCancel n) x q r → Goes (act EndCall ∷ []) (rest_of (position r)) r t → Ends Woken due n p t
+  ends_noticed Woken p q r t n due x (takes_none path told g) k e = (
+    path ++ k.0,
+    noticed Woken due false path k.0 told k.1,
+    ends p r t (path ++ k.0) Nothing (Task n) (goes_on p q r path k.0 (Leaving Nothing (Task n)) (Leaving Nothing (Task n)) [] [] g k.2) e,
+  )
+  ends_noticed Woken p q r t n due x (takes_one i a path told g) k e = (
+    path ++ k.0,
+    noticed Woken due true path k.0 told k.1,
+    ends p r t (path ++ k.0) Nothing (Task n) (goes_on p q r path k.0 (AwaiterInHand i (OfCancel n)) (Leaving Nothing (Task n)) [] [] g k.2) e,
+  )

@@ -99,16 +99,8 @@ impl<R: Wait + Drop, F: Yields, Q: Drop, M: Drop, A: Wake, B: Allocator> Cell<R,
         requires party { (n : ℕ) × Stands (notifies due (OfCancel n)) party.old }
         ensures { (n : ℕ) → Stands (notifies due (OfCancel n)) party.old → (path : List Deed) × Notice ((a : A) × A.woken a) due path × Goes (path ++ act EndCall ∷ []) (as_task n) party.old party.new }
     {
-        if !due {
-            return self.end(party);
-        }
-        match self.notify(party) {
-            Some(awaiter) => {
-                awaiter.wake();
-                self.note_woken(party);
-                self.end(party);
-            }
-            None => self.end(party),
-        }
+        let awaiter = self.take_due(party, due);
+        self.wake_taken(party, awaiter);
+        self.end(party);
     }
 }

@@ -2,32 +2,34 @@ use Rattle.std.proofs.Common.{◌∙◌, []}
 use Rattle.task_core.specs.declared.moves.Answer.TheVariants.{Nothing}
 use Rattle.task_core.specs.declared.moves.Rest.TheVariants.{Task}
 use Rattle.task_core.specs.declared.moves.Way.TheVariants.{OfCancel}
-use Rattle.task_core.specs.declared.moves.Position.TheVariants.{AwaiterInHand, Leaving}
+use Rattle.task_core.specs.declared.moves.Position.TheVariants.{Leaving}
 use Rattle.async_task.proofs.Moved.{stands}
-use Rattle.async_task.proofs.TaskMoves.{ends_at_once, ends_without, ends_woken, in_hand, leaving_without, leaving_woken}
+use Rattle.async_task.proofs.RunRest.{due_cell, cancel_has}
+use Rattle.async_task.proofs.TaskMoves.{ends_noticed}
 use Rattle.async_task.proofs.cell.Cell.leave_closed.Goals as goal
 
-pub note_woken-requires-clause-party : goal.note_woken-requires-clause-party
-note_woken-requires-clause-party g c = let s = c.requires.party in let x = in_hand c.args.party.now c.notify.new.party s.0 c.args.due c.in-Some.awaiter c.if-not-due.false s.1 c.in-Some.ensures in
-    (x.1, OfCancel s.0, [], stands c.args.party.now c.notify.new.party x.0 (AwaiterInHand x.1 (OfCancel s.0)) [] x.2)
+pub take_due-awaiter-requires-clause-party : goal.take_due-awaiter-requires-clause-party
+take_due-awaiter-requires-clause-party g c = let s = c.requires.party in (OfCancel s.0, s.1)
 
-pub end-requires-in-Some-clause-cell : goal.end-requires-in-Some-clause-cell
-end-requires-in-Some-clause-cell g c = let s = c.requires.party in
-    let x = leaving_woken c.args.party.now c.notify.new.party c.note_woken.new.party s.0 c.args.due c.in-Some.awaiter c.if-not-due.false s.1 c.in-Some.ensures c.note_woken.ensures in x.1.cell ∙ c.requires.cell
+pub wake_taken-requires-clause-cell : goal.wake_taken-requires-clause-cell
+wake_taken-requires-clause-cell g c = let s = c.requires.party in
+    due_cell (OfCancel s.0) c.args.due c.args.party.now c.take_due-awaiter.new.party c.take_due-awaiter.result (c.take_due-awaiter.ensures (OfCancel s.0) s.1) ∙ c.requires.cell
 
-pub end-requires-in-Some-clause-party : goal.end-requires-in-Some-clause-party
-end-requires-in-Some-clause-party g c = let s = c.requires.party in
-    let x = leaving_woken c.args.party.now c.notify.new.party c.note_woken.new.party s.0 c.args.due c.in-Some.awaiter c.if-not-due.false s.1 c.in-Some.ensures c.note_woken.ensures in
-    (Nothing, Task s.0, stands c.args.party.now c.note_woken.new.party x.0 (Leaving Nothing (Task s.0)) [] x.1)
+pub wake_taken-requires-clause-party : goal.wake_taken-requires-clause-party
+wake_taken-requires-clause-party g c = let s = c.requires.party in
+    (OfCancel s.0, cancel_has s.0 c.args.due c.args.party.now c.take_due-awaiter.new.party c.take_due-awaiter.result (c.take_due-awaiter.ensures (OfCancel s.0) s.1))
 
-pub end-requires-in-None-clause-party : goal.end-requires-in-None-clause-party
-end-requires-in-None-clause-party g c = let s = c.requires.party in (Nothing, Task s.0, leaving_without c.args.party.now c.notify.new.party s.0 c.args.due c.if-not-due.false s.1 c.in-None.ensures)
+pub end-requires-clause-cell : goal.end-requires-clause-cell
+end-requires-clause-cell g c = let s = c.requires.party in let d = c.take_due-awaiter.ensures (OfCancel s.0) s.1 in
+    let k = c.wake_taken.ensures (OfCancel s.0) (cancel_has s.0 c.args.due c.args.party.now c.take_due-awaiter.new.party c.take_due-awaiter.result d) in
+    k.2.cell ∙ (due_cell (OfCancel s.0) c.args.due c.args.party.now c.take_due-awaiter.new.party c.take_due-awaiter.result d ∙ c.requires.cell)
 
-pub returns-then-not-due : goal.returns-then-not-due
-returns-then-not-due g c = λ n s. ends_at_once _ c.args.party.now c.end.new.party n c.args.due c.if-not-due.true s c.end.ensures
+pub end-requires-clause-party : goal.end-requires-clause-party
+end-requires-clause-party g c = let s = c.requires.party in
+    let k = c.wake_taken.ensures (OfCancel s.0) (cancel_has s.0 c.args.due c.args.party.now c.take_due-awaiter.new.party c.take_due-awaiter.result (c.take_due-awaiter.ensures (OfCancel s.0) s.1)) in
+    (Nothing, Task s.0, stands c.take_due-awaiter.new.party c.wake_taken.new.party k.0 (Leaving Nothing (Task s.0)) [] k.2)
 
-pub returns-in-None : goal.returns-in-None
-returns-in-None g c = λ n s. ends_without _ c.args.party.now c.notify.new.party c.end-in-None.new.party n c.args.due c.if-not-due.false s c.in-None.ensures c.end-in-None.ensures
-
-pub returns-in-Some : goal.returns-in-Some
-returns-in-Some g c = λ n s. ends_woken _ c.args.party.now c.notify.new.party c.note_woken.new.party c.end-in-Some.new.party n c.args.due c.in-Some.awaiter c.if-not-due.false s c.in-Some.ensures (c.in-Some.awaiter, c.wake.ensures) c.note_woken.ensures c.end-in-Some.ensures
+pub returns : goal.returns
+returns g c = λ n s. let d = c.take_due-awaiter.ensures (OfCancel n) s in
+    let k = c.wake_taken.ensures (OfCancel n) (cancel_has n c.args.due c.args.party.now c.take_due-awaiter.new.party c.take_due-awaiter.result d) in
+    ends_noticed _ c.args.party.now c.take_due-awaiter.new.party c.wake_taken.new.party c.end.new.party n c.args.due c.take_due-awaiter.result d k c.end.ensures
