@@ -47,6 +47,16 @@ counted_at count sums (x ∷ xs) zero p e = let is : count (weigh x) ≡ count (
 counted_at count sums (x ∷ xs) (suc k) p e = let h = counted_at count sums xs k p e in omega (arith, sums (weigh x) (census xs))
 
 module _ (F T A : Type 0) (limit : ℕ) where
+  -- a step without acts
+  pub does_nothing : (at : Position) (ds : List Deed) (us : List Member) (l : List (ℕ × Slot F T A)) → Owes F T A limit (λ _. []) (λ n. n) at ds us l
+  does_nothing at ds us l m f number x lt = record {
+    outcome = steps (scene m) m.word at [] [];
+    leads_to = refl;
+    writes = x;
+    idle = (refl, refl);
+    placing = stays refl refl (inr (refl, refl)) (inr (refl, refl));
+  }
+
   pub looks_finished : (n : ℕ) (ds : List Deed) (us : List Member) (l : List (ℕ × Slot F T A)) → Owes F T A limit looking_finished (λ n. n) (At (Task n)) ds us l
   looks_finished n ds us l m f x e lt = record {
     outcome = steps (scene m) m.word (At (Task n)) [] (CallEnds (Finished (not (is_open m.word))) ∷ []);

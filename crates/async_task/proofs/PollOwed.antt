@@ -307,13 +307,3 @@ module _ (F T A : Type 0) (limit : ℕ) where
   pub claims : (looked : Bool) (n : ℕ) (ds : List Deed) (us : List Member) (l : List (ℕ × Slot F T A)) (m : Machine) (new : ℕ) → Finds limit (claims_from looked n) ds us m → Fits ClaimOutput m.word new → Steps m (claims_from looked n) (ClaimOutput ∷ []) new l
   claims false n ds us l m new f fit = claims_first n ds us l m new f fit
   claims true n ds us l m new f fit = claims_later n ds us l m new f fit
-
-  -- a step without acts
-  pub does_nothing : (at : Position) (ds : List Deed) (us : List Member) (l : List (ℕ × Slot F T A)) → Owes F T A limit (λ _. []) (λ n. n) at ds us l
-  does_nothing at ds us l m f number x lt = record {
-    outcome = steps (scene m) m.word at [] [];
-    leads_to = refl;
-    writes = x;
-    idle = (refl, refl);
-    placing = stays refl refl (inr (refl, refl)) (inr (refl, refl));
-  }

@@ -22,7 +22,8 @@ use Rattle.async_task.specs.declared.cell.ends.PendingEnd.{PendingEnd}
 use Rattle.async_task.specs.declared.cell.ends.PendingEnd.TheVariants.{Rescheduled, Idle, Orphaned}
 use Rattle.async_task.specs.Rule.{IsFuture}
 use Rattle.async_task.specs.Steps.{Makes, Carried}
-use Rattle.async_task.specs.RunScripts.{giving_up, emptying, discarding, answering_ready, answering_pending, completing, dropping_output, ending_pending, missing_end, ending_closed}
+use Rattle.async_task.specs.Scripts.{dropping_output}
+use Rattle.async_task.specs.RunScripts.{giving_up, emptying, discarding, answering_ready, answering_pending, completing, ending_pending, missing_end, ending_closed}
 use Rattle.async_task.specs.Calls.{row, act, StandsWith, Stands, GoesWith, Goes}
 use Rattle.async_task.specs.RunPaths.{leaves_others, leaves_none, DiscardStart, found_open, found_closed}
 use Rattle.async_task.specs.RunCalls.{GivesUp, not_last, last, Releases, Completes, keeps, finds_closed, finds_detached, AnswersPending, stays_pending, clears, EndsPending, is_closed, is_rescheduled, is_idle, is_orphaned, ending_of}

@@ -29,7 +29,8 @@ use Rattle.async_task.specs.declared.table.Deed.{Deed}
 use Rattle.async_task.specs.declared.table.Member.{Member}
 use Rattle.async_task.specs.Rule.{has_work, IsFuture, IsOutput}
 use Rattle.async_task.specs.Steps.{then_leaves}
-use Rattle.async_task.specs.RunScripts.{giving_up, emptying, discarding, answering_ready, completing, missing_completion, dropping_output, answering_pending, ending_pending, missing_end, ending_closed, completed_word, after_pending}
+use Rattle.async_task.specs.Scripts.{dropping_output}
+use Rattle.async_task.specs.RunScripts.{giving_up, emptying, discarding, answering_ready, completing, answering_pending, ending_pending, missing_end, ending_closed, completed_word, after_pending}
 use Rattle.async_task.proofs.Facts.{queued}
 use Rattle.async_task.proofs.Acts.{apart}
 use Rattle.async_task.proofs.Leads.{leads_first, counted}
@@ -201,16 +202,7 @@ module _ (F T A : Type 0) (limit : ℕ) where
         placing = stays refl refl (inl refl) (inr (refl, refl));
       }
 
-  -- a word that changes in between changes nothing else
-  pub misses : (p : Position) (ds : List Deed) (us : List Member) (l : List (ℕ × Slot F T A)) → Owes F T A limit missing_completion (λ n. n) p ds us l
-  misses p ds us l m f x e lt = record {
-    outcome = steps (scene m) m.word p [] [];
-    leads_to = refl;
-    writes = e;
-    idle = (refl, refl);
-    placing = stays refl refl (inr (refl, refl)) (inr (refl, refl));
-  }
-
+  -- a word that changes in between changes nothing else, but that the task may be closed
   pub misses_end : (ds : List Deed) (us : List Member) (l : List (ℕ × Slot F T A)) → Owes F T A limit missing_end (λ n. n) Pending ds us l
   misses_end ds us l m f x e lt = by m.word.closed refl
     where

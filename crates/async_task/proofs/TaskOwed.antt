@@ -26,12 +26,13 @@ use Rattle.async_task.specs.declared.table.Deed.{Deed}
 use Rattle.async_task.specs.declared.table.Member.{Member}
 use Rattle.async_task.specs.Rule.{has_work}
 use Rattle.async_task.specs.Steps.{saw_closed}
-use Rattle.async_task.specs.TaskScripts.{watching, looking_over, cancelling, cancelled, detaching, detached, dropping_output, giving_task_up}
+use Rattle.async_task.specs.Scripts.{dropping_output}
+use Rattle.async_task.specs.TaskScripts.{looking_over, cancelling, cancelled, detaching, detached, giving_task_up}
 use Rattle.async_task.specs.Steps.{and_then}
 use Rattle.async_task.proofs.Acts.{apart, leads}
 use Rattle.async_task.proofs.Advance.{Finds, stays, gives_work, takes_output, takes_awaiter, Steps}
 use Rattle.async_task.proofs.Allowed.{Owes}
-use Rattle.async_task.proofs.Owed.{counted_at}
+use Rattle.async_task.proofs.Owed.{counted_at, does_nothing}
 
 never : {P : Type 0} → false ≡ true → P
 never e = absurd (cc)
@@ -79,20 +80,11 @@ no_future : (limit : ℕ) (w : State) (slots : Slots) (t : List Event) (c : Cens
 no_future limit w slots t c h e = grind arith
 
 module _ (F T A : Type 0) (limit : ℕ) where
-  pub watches : (p : Position) (ds : List Deed) (us : List Member) (l : List (ℕ × Slot F T A)) → Owes F T A limit watching (λ n. n) p ds us l
-  watches p ds us l m f x e lt = record {
-    outcome = steps (scene m) m.word p [] [];
-    leads_to = refl;
-    writes = e;
-    idle = (refl, refl);
-    placing = stays refl refl (inr (refl, refl)) (inr (refl, refl));
-  }
-
   pub looks_over : (n : ℕ) (ds : List Deed) (us : List Member) (l : List (ℕ × Slot F T A)) → Owes F T A limit looking_over (λ n. n) (At (Task n)) ds us l
   looks_over n ds us l m f x e lt = looks (is_open m.word) refl
     where
       looks : (b : Bool) → is_open m.word ≡ b → Steps m (At (Task n)) (if b then [] else CancelOver ∷ EndCall ∷ []) x l
-      looks true is = watches (At (Task n)) ds us l m f x e lt
+      looks true is = does_nothing F T A limit (At (Task n)) ds us l m f x e lt
       looks false is = record {
         outcome = steps (scene m) m.word (At (Task n)) [] (CallEnds Nothing ∷ []);
         leads_to = finds_it m (At (Task n)) CancelOver (EndCall ∷ []) (over (is_open m.word) is);

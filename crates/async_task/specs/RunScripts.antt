@@ -4,7 +4,7 @@ use Rattle.std.specs.Option.{option_or}
 use Rattle.task_core.specs.Word.{State}
 use Rattle.task_core.specs.Rows.{written, row}
 use Rattle.task_core.specs.declared.moves.Act.{Act}
-use Rattle.task_core.specs.declared.moves.Act.TheVariants.{Unschedule, DropFuture, GiveUpReference, GiveUpLastReference, EmptySlots, DiscardOpen, DiscardClosed, AnswerReady, StoreOutput, Complete, CompleteDetached, DropOutput, AnswerPending, Reschedule, EndIdle, EndOrphaned, EndCall, EndClosed}
+use Rattle.task_core.specs.declared.moves.Act.TheVariants.{Unschedule, DropFuture, GiveUpReference, GiveUpLastReference, EmptySlots, DiscardOpen, DiscardClosed, AnswerReady, StoreOutput, Complete, CompleteDetached, AnswerPending, Reschedule, EndIdle, EndOrphaned, EndCall, EndClosed}
 
 -- SCHEDULED is cleared, after the future was dropped
 abbrev pub unscheduling : State → List Act
@@ -29,14 +29,6 @@ answering_ready w = AnswerReady ∷ []
 -- the run ends, after the future was dropped and the output stored
 abbrev pub completing : State → List Act
 completing w = if w.task then DropFuture ∷ StoreOutput ∷ Complete ∷ [] else DropFuture ∷ StoreOutput ∷ CompleteDetached ∷ []
-
--- .. and finds that the word has changed
-abbrev pub missing_completion : State → List Act
-missing_completion w = []
-
--- the output was dropped
-abbrev pub dropping_output : State → List Act
-dropping_output w = DropOutput ∷ []
 
 -- the poll of the future has answered Pending; where the task is closed, the future is dropped next
 abbrev pub answering_pending : State → List Act

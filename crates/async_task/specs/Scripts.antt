@@ -2,7 +2,7 @@
 use Rattle.std.specs.Prelude.{◌||◌, if◌then◌else◌, List, [], ◌∷◌}
 use Rattle.task_core.specs.Word.{State}
 use Rattle.task_core.specs.declared.moves.Act.{Act}
-use Rattle.task_core.specs.declared.moves.Act.TheVariants.{EndCall, BeginNotify, MissNotify, TakeAwaiter, EndNotify, WakeAwaiter, DropAwaiter}
+use Rattle.task_core.specs.declared.moves.Act.TheVariants.{EndCall, BeginNotify, MissNotify, TakeAwaiter, EndNotify, WakeAwaiter, DropAwaiter, DropOutput}
 
 -- the call ends
 abbrev pub ending : State → List Act
@@ -23,3 +23,7 @@ waking w = WakeAwaiter ∷ []
 -- the awaiter in hand was dropped
 abbrev pub dropping : State → List Act
 dropping w = DropAwaiter ∷ []
+
+-- an output that nobody will claim was dropped
+abbrev pub dropping_output : State → List Act
+dropping_output w = DropOutput ∷ []

@@ -2,7 +2,7 @@
 use Rattle.std.specs.Prelude.{◌+◌, not, ◌&&◌, ◌||◌, nat_lt, true, false, if◌then◌else◌, List, [], ◌∷◌}
 use Rattle.task_core.specs.Word.{State, is_open, orphan_word}
 use Rattle.task_core.specs.declared.moves.Act.{Act}
-use Rattle.task_core.specs.declared.moves.Act.TheVariants.{LookFinished, CancelOver, CancelBusy, CancelIdle, GiveUpOutput, DropOutput, DetachOrphan, DetachLast, Detach, EndCall}
+use Rattle.task_core.specs.declared.moves.Act.TheVariants.{LookFinished, CancelOver, CancelBusy, CancelIdle, GiveUpOutput, DetachOrphan, DetachLast, Detach, EndCall}
 
 -- the load of `is_finished`
 abbrev pub looking_finished : State → List Act
@@ -36,10 +36,6 @@ detached w =
     if w.completed && not w.closed then record w { closed = true }
     else (if nat_lt 0 w.references || w.closed then record w { task = false } else orphan_word)
 
--- the output in hand was dropped
-abbrev pub dropping_output : State → List Act
-dropping_output w = DropOutput ∷ []
-
--- .. and the Task is given up, which is closed
+-- the Task is given up whose output was dropped
 abbrev pub giving_task_up : State → List Act
 giving_task_up w = if nat_lt 0 w.references then Detach ∷ EndCall ∷ [] else DetachLast ∷ []

@@ -12,7 +12,8 @@ ghost use Rattle.async_task.specs.TaskPaths.{given_up_by, Detaches, GivesTaskUp,
 ghost use Rattle.async_task.specs.Calls.{Stands, StandsWith, Goes, act, deeds, limit_of, as_task, as_ended};
 
 use super::{Cell, Party, Runnable};
-use crate::steps::task::{Detaching, DroppingOutput, GivingTaskUp, Knowing, Watching};
+use crate::steps::common::DroppingOutput;
+use crate::steps::task::{Detaching, GivingTaskUp, Knowing, Watching};
 use crate::steps::{Always, Exchange};
 use crate::table::Kept;
 use std::alloc::Allocator;

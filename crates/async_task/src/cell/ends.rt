@@ -11,8 +11,9 @@ ghost use Rattle.async_task.specs.RunScripts.{completed_word, after_pending};
 ghost use Rattle.async_task.specs.RunCalls.{Completes, AnswersPending, EndsPending, ending_of};
 
 use super::{Cell, Party};
+use crate::steps::common::DroppingOutput;
 use crate::steps::run::{
-    AnsweringPending, AnsweringReady, Completing, DroppingOutput, EndingClosed, EndingPending,
+    AnsweringPending, AnsweringReady, Completing, EndingClosed, EndingPending,
 };
 use crate::steps::{Always, Exchange};
 use crate::table::{Kept, Slot};

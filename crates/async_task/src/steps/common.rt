@@ -1,6 +1,6 @@
 //! Steps that several calls make.
 ghost use Rattle.async_task.specs.Seats.{handing_over, runnable_of};
-ghost use Rattle.async_task.specs.Scripts.{ending, taking_awaiter, releasing_awaiter, waking, dropping};
+ghost use Rattle.async_task.specs.Scripts.{ending, taking_awaiter, releasing_awaiter, waking, dropping, dropping_output};
 
 use super::Script;
 use crate::table::View;
@@ -39,6 +39,13 @@ pub struct Dropping;
 
 impl Script for Dropping {
     ghost acts = { dropping };
+}
+
+/// An output that nobody will claim was dropped.
+pub struct DroppingOutput;
+
+impl Script for DroppingOutput {
+    ghost acts = { dropping_output };
 }
 
 /// A deliverer hands its Runnable over, which gets a seat of its own.

@@ -1,5 +1,5 @@
 //! Steps of a run and of a Runnable's drop.
-ghost use Rattle.async_task.specs.RunScripts.{unscheduling, giving_up, emptying, discarding, answering_ready, completing, missing_completion, dropping_output, answering_pending, ending_pending, missing_end, ending_closed};
+ghost use Rattle.async_task.specs.RunScripts.{unscheduling, giving_up, emptying, discarding, answering_ready, completing, answering_pending, ending_pending, missing_end, ending_closed};
 
 use super::Script;
 
@@ -43,15 +43,6 @@ pub struct Completing;
 
 impl Script for Completing {
     ghost acts = { completing };
-
-    ghost missed = { missing_completion };
-}
-
-/// An output that nobody will claim was dropped.
-pub struct DroppingOutput;
-
-impl Script for DroppingOutput {
-    ghost acts = { dropping_output };
 }
 
 /// The poll of the future has answered Pending.

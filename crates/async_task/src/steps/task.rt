@@ -1,6 +1,6 @@
 //! Steps of a Task beside its polls.
 ghost use Rattle.async_task.specs.Knows.{known};
-ghost use Rattle.async_task.specs.TaskScripts.{looking_finished, watching, looking_over, cancelling, detaching, dropping_output, giving_task_up};
+ghost use Rattle.async_task.specs.TaskScripts.{looking_finished, watching, looking_over, cancelling, detaching, giving_task_up};
 
 use super::Script;
 use crate::table::{Slot, View};
@@ -48,13 +48,6 @@ pub struct Detaching;
 
 impl Script for Detaching {
     ghost acts = { detaching };
-}
-
-/// The output in hand was dropped.
-pub struct DroppingOutput;
-
-impl Script for DroppingOutput {
-    ghost acts = { dropping_output };
 }
 
 /// The Task is given up whose output was dropped.

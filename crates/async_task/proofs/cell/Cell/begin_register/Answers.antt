@@ -3,7 +3,8 @@ use Rattle.task_core.specs.declared.moves.Act.TheVariants.{BeginRegister}
 use Rattle.async_task.specs.Steps.{Makes}
 use Rattle.async_task.specs.PollScripts.{finding_notifier, beginning_register}
 use Rattle.async_task.proofs.Allowed.{steps_always, steps_or_misses}
-use Rattle.async_task.proofs.PollOwed.{finds_notifier, begins_register, does_nothing, fits}
+use Rattle.async_task.proofs.Owed.{does_nothing}
+use Rattle.async_task.proofs.PollOwed.{finds_notifier, begins_register, fits}
 use Rattle.async_task.proofs.PollMoved.{hit, finds_none, finds_some, stayed, found_one, begun}
 use Rattle.async_task.proofs.cell.Cell.begin_register.Goals as goal
 

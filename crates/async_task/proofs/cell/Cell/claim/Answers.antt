@@ -1,7 +1,8 @@
 use Rattle.std.proofs.Common.{rules, ap, sym, ◌∙◌}
 use Rattle.task_core.specs.declared.moves.Act.TheVariants.{ClaimOutput}
 use Rattle.async_task.proofs.Allowed.{steps_or_misses}
-use Rattle.async_task.proofs.PollOwed.{claims, does_nothing, fits}
+use Rattle.async_task.proofs.Owed.{does_nothing}
+use Rattle.async_task.proofs.PollOwed.{claims, fits}
 use Rattle.async_task.proofs.cell.Cell.claim.Goals as goal
 
 pub compare_exchange-found-requires : goal.compare_exchange-found-requires

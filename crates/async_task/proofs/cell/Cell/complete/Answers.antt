@@ -4,7 +4,8 @@ use Rattle.async_task.proofs.Allowed.{steps_or_misses}
 use Rattle.task_core.specs.declared.moves.Position.TheVariants.{Ready}
 use Rattle.async_task.specs.declared.table.Slot.TheVariants.{Output}
 use Rattle.async_task.specs.RunScripts.{completing}
-use Rattle.async_task.proofs.RunOwed.{may_complete, misses}
+use Rattle.async_task.proofs.Owed.{does_nothing}
+use Rattle.async_task.proofs.RunOwed.{may_complete}
 use Rattle.async_task.proofs.RunGoes.{completed, completes_then, at_rest, unchanged, at_found}
 use Rattle.async_task.proofs.Carried.{exchanges}
 use Rattle.async_task.proofs.Moved.{stands, first_held, goes_on}
@@ -20,7 +21,7 @@ compare_exchange-found-requires g c = let at = stands c.args.party.now c.loop.pa
   search rules,
   steps_or_misses _ _ _ _ _ _ _ _ _ _ _ _ _ _ _ (search rules) (ap (λ m. m.0) at)
       (may_complete _ _ _ _ c.loop.word _ _ _ _ (Output c.args.output) _ (first_held c.loop.party Ready 0 (Output c.args.output) [] at) tt c.bits-old.ensures (c.bits-new.ensures ∙ ap number_of c.completed.ensures))
-      (misses _ _ _ _ Ready _ _ _),
+      (does_nothing _ _ _ _ _ _ _ _),
 )
 
 pub loop-preserved : goal.loop-preserved

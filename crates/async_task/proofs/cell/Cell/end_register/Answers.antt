@@ -5,7 +5,8 @@ use Rattle.async_task.specs.declared.table.Slot.TheVariants.{Awaiter}
 use Rattle.async_task.specs.PollScripts.{ending_register}
 use Rattle.async_task.specs.PollPaths.{finds_notified}
 use Rattle.async_task.proofs.Allowed.{steps_or_misses}
-use Rattle.async_task.proofs.PollOwed.{ends_register, does_nothing, fits}
+use Rattle.async_task.proofs.Owed.{does_nothing}
+use Rattle.async_task.proofs.PollOwed.{ends_register, fits}
 use Rattle.async_task.proofs.PollMoved.{hit, leaves_none, ended}
 use Rattle.async_task.proofs.cell.Cell.end_register.Goals as goal
 

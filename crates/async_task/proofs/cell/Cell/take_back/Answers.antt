@@ -4,7 +4,8 @@ use Rattle.task_core.specs.declared.moves.Act.TheVariants.{EndRegisterNotified}
 use Rattle.async_task.specs.declared.table.Slot.TheVariants.{Empty, Awaiter}
 use Rattle.async_task.proofs.Allowed.{steps_or_misses}
 use Rattle.async_task.proofs.Moved.{first_held}
-use Rattle.async_task.proofs.PollOwed.{ends_notified, does_nothing, fits}
+use Rattle.async_task.proofs.Owed.{does_nothing}
+use Rattle.async_task.proofs.PollOwed.{ends_notified, fits}
 use Rattle.async_task.proofs.cell.Cell.take_back.Goals as goal
 
 pub compare_exchange-found-requires : goal.compare_exchange-found-requires
