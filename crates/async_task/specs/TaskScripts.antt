@@ -8,10 +8,6 @@ use Rattle.task_core.specs.declared.moves.Act.TheVariants.{LookFinished, CancelO
 abbrev pub looking_finished : State → List Act
 looking_finished w = LookFinished ∷ EndCall ∷ []
 
--- a load that says nothing
-abbrev pub watching : State → List Act
-watching w = []
-
 -- the load of a cancel, which ends where the task is over
 abbrev pub looking_over : State → List Act
 looking_over w = if is_open w then [] else CancelOver ∷ EndCall ∷ []

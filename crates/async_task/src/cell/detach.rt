@@ -13,7 +13,7 @@ ghost use Rattle.async_task.specs.Calls.{Stands, StandsWith, Goes, act, deeds, l
 
 use super::{Cell, Party, Runnable};
 use crate::steps::common::DroppingOutput;
-use crate::steps::task::{Detaching, GivingTaskUp, Knowing, Watching};
+use crate::steps::task::{Detaching, GivingTaskUp, Knowing};
 use crate::steps::{Always, Exchange};
 use crate::table::Kept;
 use std::alloc::Allocator;
@@ -124,9 +124,8 @@ impl<R: Wait + Drop, F: Yields, Q: Drop, M: Drop, A: Wake, B: Allocator> Cell<R,
         ensures { Detaches party.old party.new result }
     {
         let shared = &self.table.shared;
+        let mut word = Word::from_bits(shared.peek(0));
         for _ in self.rt.forever() {
-            let found = shared.load::<Always<Watching>>(&mut party.seat, 0);
-            let word = Word::from_bits(found);
             let found = shared.compare_exchange::<Exchange<Detaching>>(
                 &mut party.seat,
                 0,
@@ -136,6 +135,7 @@ impl<R: Wait + Drop, F: Yields, Q: Drop, M: Drop, A: Wake, B: Allocator> Cell<R,
             if found == word.bits() {
                 return given_up_as(word);
             }
+            word = Word::from_bits(found);
         }
         unreachable!()
     }

@@ -1,6 +1,6 @@
 //! Steps of a Task beside its polls.
 ghost use Rattle.async_task.specs.Knows.{known};
-ghost use Rattle.async_task.specs.TaskScripts.{looking_finished, watching, looking_over, cancelling, detaching, giving_task_up};
+ghost use Rattle.async_task.specs.TaskScripts.{looking_finished, looking_over, cancelling, detaching, giving_task_up};
 
 use super::Script;
 use crate::table::{Slot, View};
@@ -20,13 +20,6 @@ pub struct LookingFinished;
 
 impl Script for LookingFinished {
     ghost acts = { looking_finished };
-}
-
-/// A load before a compare and exchange.
-pub struct Watching;
-
-impl Script for Watching {
-    ghost acts = { watching };
 }
 
 /// The load of a cancel.
