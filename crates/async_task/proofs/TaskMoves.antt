@@ -62,17 +62,14 @@ module _ {F T A : Type 0} where
   bare : (a b : Bool) (q : Position) (l : List (ℕ × Slot F T A)) → a ≡ false → b ≡ false → Carries {F = F} {T = T} {A = A} false a false b q [] l → l ≡ []
   bare a b q l e f c = subst (λ (z : Bool × Bool). Carries {F = F} {T = T} {A = A} false z.0 false z.1 q [] l) (λ i. (e i, f i)) c
 
-  -- the load of a cancel, on an open task
-  pub looks_on : (p q r : Party F T A) (n : ℕ) (w : State) → Stands (as_task n) p → Same p q → r.seat.table_id ≡ q.seat.table_id → is_open w ≡ true → Makes (looking_over w) w q.seat.me r.seat.me → Same p r
-  looks_on p q r n w s e cell now m = stays_here p q r n w s e cell (subst (λ b. Makes (if b then [] else CancelOver ∷ EndCall ∷ []) w q.seat.me r.seat.me) now m)
+  -- a look of a cancel, on an open task
+  pub looks_on : (p q : Party F T A) (n : ℕ) (w : State) → Stands (as_task n) p → q.seat.table_id ≡ p.seat.table_id → is_open w ≡ true → Makes (looking_over w) w p.seat.me q.seat.me → Same p q
+  looks_on p q n w s cell now m = stays_here p p q n w s (record { cell = refl; me = refl }) cell (subst (λ b. Makes (if b then [] else CancelOver ∷ EndCall ∷ []) w p.seat.me q.seat.me) now m)
 
   -- .. and on one that is over
-  pub looks_over : (p q r : Party F T A) (n : ℕ) (w : State) → Stands (as_task n) p → Same p q → r.seat.table_id ≡ q.seat.table_id → is_open w ≡ false → Makes (looking_over w) w q.seat.me r.seat.me → Cancels n p r Over
-  looks_over p q r n w s e cell now m = let g = here p q (At (Task n)) [] s e in
-      let x = moved (CancelOver ∷ EndCall ∷ []) w (At (Task n)) [] q r (stands p q [] (At (Task n)) [] g) (subst (λ b. Makes (if b then [] else CancelOver ∷ EndCall ∷ []) w q.seat.me r.seat.me) now m) in
-      let path : List Deed = row CancelOver w ∷ act EndCall ∷ [] in
-      let o = goes_on p q r [] path (At (Task n)) (At (Task n)) [] [] g (goes q r path (At (Task n)) [] cell x.viewed x.carried) in
-      (w, over (is_open w) now, o)
+  pub looks_over : (p q : Party F T A) (n : ℕ) (w : State) → Stands (as_task n) p → q.seat.table_id ≡ p.seat.table_id → is_open w ≡ false → Makes (looking_over w) w p.seat.me q.seat.me → Cancels n p q Over
+  looks_over p q n w s cell now m = let x = moved (CancelOver ∷ EndCall ∷ []) w (At (Task n)) [] p q s (subst (λ b. Makes (if b then [] else CancelOver ∷ EndCall ∷ []) w p.seat.me q.seat.me) now m) in
+      (w, over (is_open w) now, goes p q (row CancelOver w ∷ act EndCall ∷ []) (At (Task n)) [] cell x.viewed x.carried)
 
   -- the row of a cancel
   pub closes : (p q r : Party F T A) (n : ℕ) (w : State) → Stands (as_task n) p → Same p q → r.seat.table_id ≡ q.seat.table_id → is_open w ≡ true → Makes (cancelling w) w q.seat.me r.seat.me → Cancels n p r (closed_by w)

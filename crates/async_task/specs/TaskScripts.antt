@@ -8,7 +8,7 @@ use Rattle.task_core.specs.declared.moves.Act.TheVariants.{LookFinished, CancelO
 abbrev pub looking_finished : State → List Act
 looking_finished w = LookFinished ∷ EndCall ∷ []
 
--- the load of a cancel, which ends where the task is over
+-- a look of a cancel, which ends where the task is over
 abbrev pub looking_over : State → List Act
 looking_over w = if is_open w then [] else CancelOver ∷ EndCall ∷ []
 

@@ -11,8 +11,7 @@ ghost use Rattle.async_task.specs.TaskPaths.{closed_by, Cancels, Notice, CancelP
 ghost use Rattle.async_task.specs.Calls.{Stands, Goes, act, position, limit_of, as_task};
 
 use super::{Cell, Party, Runnable};
-use crate::steps::Exchange;
-use crate::steps::task::{Cancelling, Knowing, LookingOver};
+use crate::steps::task::{Cancelling, Knowing, KnowingExchange, LookingOver};
 use crate::table::Kept;
 use std::alloc::Allocator;
 use std::sync::{Arc, Wait};
@@ -74,13 +73,13 @@ impl<R: Wait + Drop, F: Yields, Q: Drop, M: Drop, A: Wake, B: Allocator> Cell<R,
         ensures { (n : ℕ) → Stands (as_task n) party.old → Cancels n party.old party.new result }
     {
         let shared = &self.table.shared;
+        let found = shared.load::<Knowing<LookingOver>>(&mut party.seat, 0);
+        let mut word = Word::from_bits(found);
         for _ in self.rt.forever() {
-            let found = shared.load::<Knowing<LookingOver>>(&mut party.seat, 0);
-            let word = Word::from_bits(found);
             let Some(closed) = closing(word) else {
                 return Cancelled::Over;
             };
-            let found = shared.compare_exchange::<Exchange<Cancelling>>(
+            let found = shared.compare_exchange::<KnowingExchange<Cancelling>>(
                 &mut party.seat,
                 0,
                 word.bits(),
@@ -89,6 +88,7 @@ impl<R: Wait + Drop, F: Yields, Q: Drop, M: Drop, A: Wake, B: Allocator> Cell<R,
             if found == word.bits() {
                 return closed_as(word);
             }
+            word = Word::from_bits(found);
         }
         unreachable!()
     }

@@ -1,5 +1,5 @@
 //! Steps of a Task beside its polls.
-ghost use Rattle.async_task.specs.Knows.{known};
+ghost use Rattle.async_task.specs.Knows.{known, known_exchanged};
 ghost use Rattle.async_task.specs.TaskScripts.{looking_finished, looking_over, cancelling, detaching, giving_task_up};
 
 use super::Script;
@@ -15,6 +15,15 @@ impl<F, T, A, P: Script> Play<Slot<F, T, A>, View> for Knowing<P> {
     ghost then = { known P.acts };
 }
 
+/// A compare and exchange that tells the same.
+pub struct KnowingExchange<P: Script> {
+    script: P,
+}
+
+impl<F, T, A, P: Script> Play<Slot<F, T, A>, View> for KnowingExchange<P> {
+    ghost then = { known_exchanged P.acts P.missed };
+}
+
 /// The load of `is_finished`.
 pub struct LookingFinished;
 
@@ -22,18 +31,20 @@ impl Script for LookingFinished {
     ghost acts = { looking_finished };
 }
 
-/// The load of a cancel.
+/// The load of a cancel: the task may be over.
 pub struct LookingOver;
 
 impl Script for LookingOver {
     ghost acts = { looking_over };
 }
 
-/// A cancel closes the task.
+/// A cancel closes the task; or it was over meanwhile.
 pub struct Cancelling;
 
 impl Script for Cancelling {
     ghost acts = { cancelling };
+
+    ghost missed = { looking_over };
 }
 
 /// The Task is given up.

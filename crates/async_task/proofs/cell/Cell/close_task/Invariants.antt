@@ -1,5 +1,11 @@
-use Rattle.async_task.proofs.TaskMoves.{Same}
+use Rattle.std.proofs.Common.{◌≡◌, ◌<◌}
+use Rattle.async_task.specs.Steps.{Makes}
+use Rattle.async_task.specs.TaskScripts.{looking_over}
 use Rattle.async_task.proofs.cell.Cell.close_task.Given as goal
 
 abbrev pub invariant-loop : goal.invariant-loop
-invariant-loop g l = Same l.fn.party l.party
+invariant-loop g l = record {
+  cell : l.party.seat.table_id ≡ l.fn.party.seat.table_id;
+  looked : Makes (looking_over l.word) l.word l.fn.party.seat.me l.party.seat.me;
+  room : l.word.references < 72057594037927935;
+}
