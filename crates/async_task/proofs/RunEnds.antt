@@ -91,11 +91,6 @@ module _ {F T A : Type 0} where
   pending_stays held p q true (clears g) e = absurd (cc)
   pending_stays held p q false (stays_pending g) e = g
 
-  pub handed_on : (woken : Bool) (answer : Answer) (p q r : Party F T A) → Stands (Deliverer woken (ThenEnds answer)) p → Goes (act HandOver ∷ []) (handed_over (position p)) p q
-      → Goes (act EndCall ∷ []) (rest_of (position q)) q r → Goes (act HandOver ∷ act EndCall ∷ []) (At Ended) p r
-  handed_on woken answer p q r s g h = let g' : Goes (act HandOver ∷ []) (Leaving answer Ended) p q = subst (λ (at : Position). Goes (act HandOver ∷ []) at p q) (ap handed_over (moved.position_is p (Deliverer woken (ThenEnds answer)) [] s)) g in
-      moved.goes_on p q r (act HandOver ∷ []) (act EndCall ∷ []) (Leaving answer Ended) (At Ended) [] [] g' (ended_call answer Ended q r (moved.stands p q (act HandOver ∷ []) (Leaving answer Ended) [] g') h)
-
   -- after a poll that answered Pending, by how the run ends
   pub closed_left : (y : Slot F T A) (p q : Party F T A) (e : PendingEnd) → EndsPending y p q e → e ≡ Closed → GoesWith (act DropFuture ∷ []) Cleared ((0, y) ∷ []) p q
   closed_left y p q e (is_closed g) h = g

@@ -58,9 +58,6 @@ pub due_free : (b : Bool) → owns_awaiter (notifies b OfRun) ≡ false
 due_free true = refl
 due_free false = refl
 
-runs_sum : (a b : Census) → runs (plus a b) ≡ runs a + runs b
-runs_sum a b = omega arith
-
 -- who gives its reference up holds one
 referred : (limit : ℕ) (w : State) (slots : Slots) (t : List Event) (c : Census) → Holds limit w slots t c → 1 ≤ c.finishing → 1 ≤ w.references
 referred limit w slots t c h e = grind arith

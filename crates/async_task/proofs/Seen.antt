@@ -72,10 +72,6 @@ not_true : (b : Bool) → not b ≡ true → b ≡ false
 not_true true e = absurd (cc)
 not_true false e = refl
 
-false_so : (b : Bool) → b ≡ false → not b ≡ true
-false_so true e = absurd (cc)
-false_so false e = refl
-
 found_over : (a : Act) (w : State) (p : Bool) → is_over_after a (cond p None (Some w)) ≡ true → is_open (written a w) ≡ false
 found_over a w true e = absurd (cc)
 found_over a w false e = not_true (is_open (written a w)) e

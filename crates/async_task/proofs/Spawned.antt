@@ -37,10 +37,6 @@ module _ (F T A : Type 0) (limit : ℕ) where
   abbrev Opened : Me (Slot F T A) View → Me (Slot F T A) View → Type 0
   Opened m before = m ≡ (opening_view before.0.limit, rest before.1)
 
-  -- the memory was found
-  pub lays : limit < 2 ^ 55 → Rule (opening (273 ∷ []) (Empty ∷ Empty ∷ []) (laid_view limit))
-  lays low = record { capped = low; phase = inl (record { words = refl; stage = Laid; views = refl; unspawned = inl (refl, (Empty, refl, tt)); awaiter = (Empty, refl, tt) }) }
-
   -- a seat that is not of a spawned task is the only one
   early : (s : B) (id : ℕ) (v : View) → (v.stage ≡ Spawned → ⊥) → Rule s → get_elem? s.views id ≡ some v → (z : Spawning {F = F} {T = T} {A = A} limit s) × (id ≡ 0) × (record { stage = z.stage; limit = limit; members = [] } ≡ v)
   early s id v ne r at = ⊎_elim (λ (z : Spawning {F = F} {T = T} {A = A} limit s). let e = just (record { stage = z.stage; limit = limit; members = [] }) id v (ap (λ vs. get_elem? vs id) (sym z.views) ∙ at) in (z, e.0, e.1))
