@@ -65,8 +65,11 @@ impl<R: Wait + Drop, F: Yields, Q: Drop, M: Drop, A: Wake, B: Allocator> Cell<R,
         this.schedule.schedule(Runnable { inner, around }, info);
     }
 
-    // Hands the Runnable of a deliverer to the schedule value.
-    pub(crate) fn deliver<X: Copy>(
+    /// Hands the Runnable of a deliverer to the schedule value. It makes no step on the word but loads.
+    ///
+    /// The Runnable gets a share of the cell and carries `around`; `party` is the deliverer, and `woken_while_running` what the schedule value is told,
+    /// as the deliverer has it. After it the party goes on as its `After` says: it ends its call, or notifies.
+    pub fn deliver<X: Copy>(
         this: &Arc<Self, B>,
         party: &mut Party<F, Kept<F>, A>,
         around: X,

@@ -41,8 +41,10 @@ impl<R: Drop, F: Yields, Q: Drop, M: Drop, A: Drop, B: Allocator> Cell<R, F, Q, 
         Word::from_bits(found).give_up_reference().is_none()
     }
 
-    // The last party empties the place of the awaiter, and gives it back. One load.
-    pub(crate) fn empty(&self, party: &mut Party<F, Kept<F>, A>)
+    /// The last party empties the place of the awaiter, and gives it back. It makes no step on the word but a load.
+    ///
+    /// `party` is who gave the last handle up. After it the party goes on in its call: to the awaiter in hand, or to the end.
+    pub fn empty(&self, party: &mut Party<F, Kept<F>, A>)
         requires cell { party.old.seat.table_id ≡ self.now.table.shared.table_id }
         requires party { (hand : Option ℕ) × (answer : Answer) × (y : Slot F _ A) × StandsWith (Emptier hand answer) ((1, y) ∷ []) party.old }
         ensures { (hand : Option ℕ) (answer : Answer) (y : Slot F _ A) → StandsWith (Emptier hand answer) ((1, y) ∷ []) party.old → Goes (act EmptySlots ∷ []) (after_giving_up hand answer) party.old party.new }
