@@ -56,6 +56,10 @@ module _ {F T A : Type 0} where
   pub held_is : (p : Party F T A) (at : Position) (held : List (ℕ × Slot F T A)) → StandsWith at held p → holds p ≡ held
   held_is p at held s = ap (λ (x : Me (Slot F T A) View). x.1) s
 
+  -- the cell has the same limit
+  pub limit_is : (p q : Party F T A) (path : List Deed) (at : Position) (held : List (ℕ × Slot F T A)) → GoesWith path at held p q → limit_of q ≡ limit_of p
+  limit_is p q path at held g = ap (λ (x : Me (Slot F T A) View). x.0.limit) g.is
+
   -- the first place of those that it has
   pub first_held : (p : Party F T A) (at : Position) (k : ℕ) (y : Slot F T A) (l : List (ℕ × Slot F T A)) → StandsWith at ((k, y) ∷ l) p → holds p ≡ (k, y) ∷ rest (holds p)
   first_held p at k y l s = let e = held_is p at ((k, y) ∷ l) s in e ∙ ap (λ r. (k, y) ∷ r) (ap rest (sym e))

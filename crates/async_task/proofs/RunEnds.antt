@@ -7,7 +7,7 @@ use Rattle.task_core.specs.declared.moves.Rest.TheVariants.{Ended}
 use Rattle.task_core.specs.declared.moves.Way.TheVariants.{OfRun}
 use Rattle.task_core.specs.declared.moves.After.TheVariants.{ThenEnds}
 use Rattle.task_core.specs.declared.moves.Position.{Position}
-use Rattle.task_core.specs.declared.moves.Position.TheVariants.{At, Leaving, Deliverer, Pending, Ready, Cleared, OutputInHand}
+use Rattle.task_core.specs.declared.moves.Position.TheVariants.{At, Deliverer, Polling, Pending, Ready, Cleared, OutputInHand}
 use Rattle.task_core.specs.declared.moves.Act.TheVariants.{AnswerReady, AnswerPending, DropFuture, StoreOutput, Complete, CompleteDetached, DropOutput, EndClosed, Reschedule, EndIdle, EndOrphaned, HandOver, EndCall}
 use Rattle.task_core.specs.declared.moves.Answer.{Answer}
 use Rattle.task_core.specs.declared.moves.Answer.TheVariants.{Ran}
@@ -19,6 +19,7 @@ use Rattle.async_task.specs.declared.table.View.{View}
 use Rattle.async_task.specs.declared.cell.Party.{Party}
 use Rattle.async_task.specs.declared.cell.ends.PendingEnd.{PendingEnd}
 use Rattle.async_task.specs.declared.cell.ends.PendingEnd.TheVariants.{Closed, Rescheduled, Idle, Orphaned}
+use Rattle.async_task.specs.Rule.{IsFuture}
 use Rattle.async_task.specs.Calls.{row, act, position, limit_of, handed_over, rest_of, StandsWith, Stands, GoesWith, Goes}
 use Rattle.async_task.specs.RunPaths.{kept, not_claimed, detached, ready, closed_meanwhile, woken_meanwhile, idle, orphaned}
 use Rattle.async_task.specs.RunCalls.{Rests, Completes, keeps, finds_closed, finds_detached, Stores, ClosesPending, EndsReady, EndsUnready, AnswersPending, stays_pending, clears, EndsPending, is_closed, is_rescheduled, is_idle, is_orphaned}
@@ -29,9 +30,6 @@ unkept : (w : State) → w.task ≡ true → w.closed ≡ false → (w.task && n
 unkept w h k = ap (λ b. b && not w.closed) h ∙ ap not k
 
 module _ {F T A : Type 0} where
-  pub limit_same : (path : List Deed) (at : Position) (held : List (ℕ × Slot F T A)) (p q : Party F T A) → GoesWith path at held p q → limit_of q ≡ limit_of p
-  limit_same path at held p q g = ap (λ (m : Me (Slot F T A) View). m.0.limit) g.is
-
   -- the output
   pub completes_cell : (p q : Party F T A) (w : State) → Completes p q w → q.seat.table_id ≡ p.seat.table_id
   completes_cell p q w (keeps h k g) = g.cell
@@ -83,67 +81,99 @@ module _ {F T A : Type 0} where
         (moved.goes_on q r s (row EndClosed w ∷ []) x.0 (notifies w.awaiter OfRun) (At Ended) [] [] h x.2),
   )
 
-  pub pending_clears : (held : List (ℕ × Slot F T A)) (p q : Party F T A) (b : Bool) → AnswersPending held p q b → b ≡ true → GoesWith (act AnswerPending ∷ act DropFuture ∷ []) Cleared held p q
+  pending_clears : (held : List (ℕ × Slot F T A)) (p q : Party F T A) (b : Bool) → AnswersPending held p q b → b ≡ true → GoesWith (act AnswerPending ∷ act DropFuture ∷ []) Cleared held p q
   pending_clears held p q true (clears g) e = g
   pending_clears held p q false (stays_pending g) e = absurd (cc)
 
-  pub pending_stays : (held : List (ℕ × Slot F T A)) (p q : Party F T A) (b : Bool) → AnswersPending held p q b → b ≡ false → GoesWith (act AnswerPending ∷ []) Pending held p q
+  pending_stays : (held : List (ℕ × Slot F T A)) (p q : Party F T A) (b : Bool) → AnswersPending held p q b → b ≡ false → GoesWith (act AnswerPending ∷ []) Pending held p q
   pending_stays held p q true (clears g) e = absurd (cc)
   pending_stays held p q false (stays_pending g) e = g
 
   -- after a poll that answered Pending, by how the run ends
-  pub closed_left : (y : Slot F T A) (p q : Party F T A) (e : PendingEnd) → EndsPending y p q e → e ≡ Closed → GoesWith (act DropFuture ∷ []) Cleared ((0, y) ∷ []) p q
+  abbrev pub IsRescheduled : Party F T A → Party F T A → Type 0
+  IsRescheduled p q = (w : State) × (w.closed ≡ false) × (w.scheduled ≡ true) × Goes (act AnswerPending ∷ row Reschedule w ∷ []) (Deliverer true (ThenEnds (Ran true))) p q
+
+  abbrev pub IsIdle : Party F T A → Party F T A → Type 0
+  IsIdle p q = (w : State) × (w.closed ≡ false) × (w.scheduled ≡ false) × ((nat_lt 1 w.references || w.task) ≡ true) × Goes (act AnswerPending ∷ row EndIdle w ∷ act EndCall ∷ []) (At Ended) p q
+
+  abbrev pub IsOrphaned : Party F T A → Party F T A → Type 0
+  IsOrphaned p q = (w : State) × (w.closed ≡ false) × (w.scheduled ≡ false) × ((nat_lt 1 w.references || w.task) ≡ false) × Goes (act AnswerPending ∷ row EndOrphaned w ∷ []) (Deliverer false (ThenEnds (Ran false))) p q
+
+  closed_left : (y : Slot F T A) (p q : Party F T A) (e : PendingEnd) → EndsPending y p q e → e ≡ Closed → GoesWith (act DropFuture ∷ []) Cleared ((0, y) ∷ []) p q
   closed_left y p q e (is_closed g) h = g
   closed_left y p q e (is_rescheduled w a b g) h = absurd (cc)
   closed_left y p q e (is_idle w a b d g) h = absurd (cc)
   closed_left y p q e (is_orphaned w a b d g) h = absurd (cc)
 
-  pub rescheduled_left : (y : Slot F T A) (p q : Party F T A) (e : PendingEnd) → EndsPending y p q e → e ≡ Rescheduled → (w : State) × (w.closed ≡ false) × (w.scheduled ≡ true) × Goes (row Reschedule w ∷ []) (Deliverer true (ThenEnds (Ran true))) p q
+  rescheduled_left : (y : Slot F T A) (p q : Party F T A) (e : PendingEnd) → EndsPending y p q e → e ≡ Rescheduled → (w : State) × (w.closed ≡ false) × (w.scheduled ≡ true) × Goes (row Reschedule w ∷ []) (Deliverer true (ThenEnds (Ran true))) p q
   rescheduled_left y p q e (is_closed g) h = absurd (cc)
   rescheduled_left y p q e (is_rescheduled w a b g) h = (w, a, b, g)
   rescheduled_left y p q e (is_idle w a b d g) h = absurd (cc)
   rescheduled_left y p q e (is_orphaned w a b d g) h = absurd (cc)
 
-  pub idle_left : (y : Slot F T A) (p q : Party F T A) (e : PendingEnd) → EndsPending y p q e → e ≡ Idle
+  idle_left : (y : Slot F T A) (p q : Party F T A) (e : PendingEnd) → EndsPending y p q e → e ≡ Idle
       → (w : State) × (w.closed ≡ false) × (w.scheduled ≡ false) × ((nat_lt 1 w.references || w.task) ≡ true) × Goes (row EndIdle w ∷ act EndCall ∷ []) (At Ended) p q
   idle_left y p q e (is_closed g) h = absurd (cc)
   idle_left y p q e (is_rescheduled w a b g) h = absurd (cc)
   idle_left y p q e (is_idle w a b d g) h = (w, a, b, d, g)
   idle_left y p q e (is_orphaned w a b d g) h = absurd (cc)
 
-  pub orphan_left : (y : Slot F T A) (p q : Party F T A) (e : PendingEnd) → EndsPending y p q e → e ≡ Orphaned
+  orphan_left : (y : Slot F T A) (p q : Party F T A) (e : PendingEnd) → EndsPending y p q e → e ≡ Orphaned
       → (w : State) × (w.closed ≡ false) × (w.scheduled ≡ false) × ((nat_lt 1 w.references || w.task) ≡ false) × Goes (row EndOrphaned w ∷ []) (Deliverer false (ThenEnds (Ran false))) p q
   orphan_left y p q e (is_closed g) h = absurd (cc)
   orphan_left y p q e (is_rescheduled w a b g) h = absurd (cc)
   orphan_left y p q e (is_idle w a b d g) h = absurd (cc)
   orphan_left y p q e (is_orphaned w a b d g) h = (w, a, b, d, g)
 
+  -- a run that polls, and what the two steps tell that follow a poll which answered Pending
+  abbrev pub IsPolling : Party F T A → Type 0
+  IsPolling p = (y : Slot F T A) × StandsWith Polling ((0, y) ∷ []) p × IsFuture y
+
+  abbrev pub Answers : Party F T A → Party F T A → Bool → Type 0
+  Answers p q b = (held : List (ℕ × Slot F T A)) → StandsWith Polling held p → AnswersPending held p q b
+
+  abbrev pub Ends : Party F T A → Party F T A → PendingEnd → Type 0
+  Ends q r e = (y : Slot F T A) → StandsWith Pending ((0, y) ∷ []) q → EndsPending y q r e
+
+  -- the task was found closed, or not
+  pub cleared_first : (p q : Party F T A) (b : Bool) (s : IsPolling p) → Answers p q b → b ≡ true → GoesWith (act AnswerPending ∷ act DropFuture ∷ []) Cleared ((0, s.0) ∷ []) p q
+  cleared_first p q b s f h = pending_clears ((0, s.0) ∷ []) p q b (f ((0, s.0) ∷ []) s.1) h
+
+  pub left_pending : (p q : Party F T A) (b : Bool) (s : IsPolling p) → Answers p q b → b ≡ false → GoesWith (act AnswerPending ∷ []) Pending ((0, s.0) ∷ []) p q
+  left_pending p q b s f h = pending_stays ((0, s.0) ∷ []) p q b (f ((0, s.0) ∷ []) s.1) h
+
+  -- .. and then how the run ended
+  module _ (p q r : Party F T A) (b : Bool) (e : PendingEnd) (s : IsPolling p) (f : Answers p q b) (h : b ≡ false) (g : Ends q r e) where
+    first : GoesWith (act AnswerPending ∷ []) Pending ((0, s.0) ∷ []) p q
+    first = left_pending p q b s f h
+
+    ended : EndsPending s.0 q r e
+    ended = g s.0 (moved.stands p q (act AnswerPending ∷ []) Pending ((0, s.0) ∷ []) first)
+
+    both : (path : List Deed) (at : Position) (held : List (ℕ × Slot F T A)) → GoesWith path at held q r → GoesWith (act AnswerPending ∷ path) at held p r
+    both path at held x = moved.goes_on p q r (act AnswerPending ∷ []) path Pending at ((0, s.0) ∷ []) held first x
+
+    pub cleared_later : e ≡ Closed → GoesWith (act AnswerPending ∷ act DropFuture ∷ []) Cleared ((0, s.0) ∷ []) p r
+    cleared_later is = both (act DropFuture ∷ []) Cleared ((0, s.0) ∷ []) (closed_left s.0 q r e ended is)
+
+    pub went_rescheduled : e ≡ Rescheduled → IsRescheduled p r
+    went_rescheduled is = let x = rescheduled_left s.0 q r e ended is in (x.0, x.1, x.2, both (row Reschedule x.0 ∷ []) (Deliverer true (ThenEnds (Ran true))) [] x.3)
+
+    pub went_idle : e ≡ Idle → IsIdle p r
+    went_idle is = let x = idle_left s.0 q r e ended is in (x.0, x.1, x.2, x.3, both (row EndIdle x.0 ∷ act EndCall ∷ []) (At Ended) [] x.4)
+
+    pub went_orphaned : e ≡ Orphaned → IsOrphaned p r
+    went_orphaned is = let x = orphan_left s.0 q r e ended is in (x.0, x.1, x.2, x.3, both (row EndOrphaned x.0 ∷ []) (Deliverer false (ThenEnds (Ran false))) [] x.4)
+
   module _ (Woken : Type 0) (Scheduled : Bool → Type 0) where
-    pub found_closed_first : (y : Slot F T A) (p q r : Party F T A) → GoesWith (act AnswerPending ∷ act DropFuture ∷ []) Cleared ((0, y) ∷ []) p q → ClosesPending Woken q r → EndsUnready Woken Scheduled false p r
-    found_closed_first y p q r f x = (_, closed_meanwhile x.0 x.1 x.2, moved.goes_on p q r (act AnswerPending ∷ act DropFuture ∷ []) (row EndClosed x.0 ∷ x.1) Cleared (At Ended) ((0, y) ∷ []) [] f x.3)
+    pub found_closed : (y : Slot F T A) (p q r : Party F T A) → GoesWith (act AnswerPending ∷ act DropFuture ∷ []) Cleared ((0, y) ∷ []) p q → ClosesPending Woken q r → EndsUnready Woken Scheduled false p r
+    found_closed y p q r f x = (_, closed_meanwhile x.0 x.1 x.2, moved.goes_on p q r (act AnswerPending ∷ act DropFuture ∷ []) (row EndClosed x.0 ∷ x.1) Cleared (At Ended) ((0, y) ∷ []) [] f x.3)
 
-    pub found_closed_later : (y : Slot F T A) (p q r s : Party F T A) → GoesWith (act AnswerPending ∷ []) Pending ((0, y) ∷ []) p q → GoesWith (act DropFuture ∷ []) Cleared ((0, y) ∷ []) q r → ClosesPending Woken r s → EndsUnready Woken Scheduled false p s
-    found_closed_later y p q r s f g x = found_closed_first y p r s (moved.goes_on p q r (act AnswerPending ∷ []) (act DropFuture ∷ []) Pending Cleared ((0, y) ∷ []) ((0, y) ∷ []) f g) x
+    pub found_idle : (p q : Party F T A) → IsIdle p q → EndsUnready Woken Scheduled false p q
+    found_idle p q x = (_, idle x.0 x.1 x.2 x.3, x.4)
 
-    pub found_idle : (y : Slot F T A) (p q r : Party F T A) → GoesWith (act AnswerPending ∷ []) Pending ((0, y) ∷ []) p q
-        → (w : State) × (w.closed ≡ false) × (w.scheduled ≡ false) × ((nat_lt 1 w.references || w.task) ≡ true) × Goes (row EndIdle w ∷ act EndCall ∷ []) (At Ended) q r → EndsUnready Woken Scheduled false p r
-    found_idle y p q r f x = (_, idle x.0 x.1 x.2 x.3, moved.goes_on p q r (act AnswerPending ∷ []) (row EndIdle x.0 ∷ act EndCall ∷ []) Pending (At Ended) ((0, y) ∷ []) [] f x.4)
+    pub found_woken : (p q r : Party F T A) → IsRescheduled p q → Scheduled true → Goes (act HandOver ∷ act EndCall ∷ []) (At Ended) q r → EndsUnready Woken Scheduled true p r
+    found_woken p q r x fact h = (_, woken_meanwhile x.0 x.1 x.2 fact, moved.goes_on p q r (act AnswerPending ∷ row Reschedule x.0 ∷ []) (act HandOver ∷ act EndCall ∷ []) (Deliverer true (ThenEnds (Ran true))) (At Ended) [] [] x.3 h)
 
-    pub found_woken : (y : Slot F T A) (p q r s : Party F T A) → GoesWith (act AnswerPending ∷ []) Pending ((0, y) ∷ []) p q
-        → (w : State) × (w.closed ≡ false) × (w.scheduled ≡ true) × Goes (row Reschedule w ∷ []) (Deliverer true (ThenEnds (Ran true))) q r → Scheduled true → Goes (act HandOver ∷ act EndCall ∷ []) (At Ended) r s → EndsUnready Woken Scheduled true p s
-    found_woken y p q r s f x fact h = (
-      _,
-      woken_meanwhile x.0 x.1 x.2 fact,
-      moved.goes_on p q s (act AnswerPending ∷ []) (row Reschedule x.0 ∷ act HandOver ∷ act EndCall ∷ []) Pending (At Ended) ((0, y) ∷ []) [] f
-          (moved.goes_on q r s (row Reschedule x.0 ∷ []) (act HandOver ∷ act EndCall ∷ []) (Deliverer true (ThenEnds (Ran true))) (At Ended) [] [] x.3 h),
-    )
-
-    pub found_orphaned : (y : Slot F T A) (p q r s : Party F T A) → GoesWith (act AnswerPending ∷ []) Pending ((0, y) ∷ []) p q
-        → (w : State) × (w.closed ≡ false) × (w.scheduled ≡ false) × ((nat_lt 1 w.references || w.task) ≡ false) × Goes (row EndOrphaned w ∷ []) (Deliverer false (ThenEnds (Ran false))) q r
-        → Scheduled false → Goes (act HandOver ∷ act EndCall ∷ []) (At Ended) r s → EndsUnready Woken Scheduled false p s
-    found_orphaned y p q r s f x fact h = (
-      _,
-      orphaned x.0 x.1 x.2 x.3 fact,
-      moved.goes_on p q s (act AnswerPending ∷ []) (row EndOrphaned x.0 ∷ act HandOver ∷ act EndCall ∷ []) Pending (At Ended) ((0, y) ∷ []) [] f
-          (moved.goes_on q r s (row EndOrphaned x.0 ∷ []) (act HandOver ∷ act EndCall ∷ []) (Deliverer false (ThenEnds (Ran false))) (At Ended) [] [] x.4 h),
-    )
+    pub found_orphaned : (p q r : Party F T A) → IsOrphaned p q → Scheduled false → Goes (act HandOver ∷ act EndCall ∷ []) (At Ended) q r → EndsUnready Woken Scheduled false p r
+    found_orphaned p q r x fact h = (_, orphaned x.0 x.1 x.2 x.3 fact, moved.goes_on p q r (act AnswerPending ∷ row EndOrphaned x.0 ∷ []) (act HandOver ∷ act EndCall ∷ []) (Deliverer false (ThenEnds (Ran false))) (At Ended) [] [] x.4 h)

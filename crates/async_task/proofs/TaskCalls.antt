@@ -16,6 +16,7 @@ use Rattle.async_task.specs.declared.table.Slot.{Slot}
 use Rattle.async_task.specs.declared.table.Deed.{Deed}
 use Rattle.async_task.specs.declared.table.View.{View}
 use Rattle.async_task.specs.declared.cell.Party.{Party}
+use Rattle.async_task.specs.declared.cell.cancel.Cancelled.{Cancelled}
 use Rattle.async_task.specs.declared.cell.cancel.Cancelled.TheVariants.{Over, Busy, Idle}
 use Rattle.async_task.specs.declared.cell.detach.Detached.TheVariants.{Unclaimed, Shared, Last, Orphaned}
 use Rattle.async_task.specs.Calls.{row, act, position, limit_of, StandsWith, Stands, GoesWith, Goes, as_task, as_ended, handed_over, rest_of}
@@ -29,10 +30,6 @@ cancel_goes_on true n = refl
 cancel_goes_on false n = refl
 
 module _ {F T A : Type 0} where
-  -- the cell has the same limit
-  pub limit_is : (p q : Party F T A) (path : List Deed) (at : Position) (held : List (ℕ × Slot F T A)) → GoesWith path at held p q → limit_of q ≡ limit_of p
-  limit_is p q path at held g = ap (λ (m : Me (Slot F T A) View). m.0.limit) g.is
-
   -- the Runnable of a deliverer is handed over
   pub hands_over : (p q r : Party F T A) (path : List Deed) (next : After) → Goes path (Deliverer false next) p q → Goes (act HandOver ∷ []) (handed_over (position q)) q r → Goes (path ++ act HandOver ∷ []) (goes_after next) p r
   hands_over p q r path next g h = goes_on p q r path (act HandOver ∷ []) (Deliverer false next) (goes_after next) [] [] g
@@ -44,6 +41,17 @@ module _ {F T A : Type 0} where
   -- a cancel goes such a path
   abbrev pub Cancelling : Type 0 → Type 0 → Party F T A → Party F T A → Type 0
   Cancelling Scheduled Woken p q = (path : List Deed) × CancelPath Scheduled Woken path × Goes path (position p) p q
+
+  -- the row of a cancel, by what it found
+  abbrev pub Closes : Party F T A → Party F T A → Cancelled → Type 0
+  Closes p q found = (n : ℕ) → Stands (as_task n) p → Cancels n p q found
+
+  -- a cancel that has closed a busy task; an idle one, whose Runnable was handed over
+  pub closed_busy : (p q : Party F T A) (due : Bool) (s : (n : ℕ) × Stands (as_task n) p) → Closes p q (Busy due) → (path : List Deed) × Goes path (notifies due (OfCancel s.0)) p q
+  closed_busy p q due s f = let x = f s.0 s.1 in (row CancelBusy x.0 ∷ [], x.3)
+
+  pub closed_idle : (p q r : Party F T A) (due : Bool) (s : (n : ℕ) × Stands (as_task n) p) → Closes p q (Idle due) → Goes (act HandOver ∷ []) (handed_over (position q)) q r → (path : List Deed) × Goes path (notifies due (OfCancel s.0)) p r
+  closed_idle p q r due s f h = let x = f s.0 s.1 in (row CancelIdle x.0 ∷ act HandOver ∷ [], delivered p q r s.0 due (row CancelIdle x.0 ∷ []) x.3 h)
 
   as_was : (p q : Party F T A) (n : ℕ) (path : List Deed) → Stands (as_task n) p → Goes path (as_task n) p q → Goes path (position p) p q
   as_was p q n path s g = subst (λ at. Goes path at p q) (sym (position_is p (as_task n) [] s)) g
