@@ -1,5 +1,5 @@
 -- What the calls of a run and of a Runnable's drop come to, step after step.
-use Rattle.std.proofs.Common.{◌≡◌, ℕ, Bool, true, false, List, [], ◌∷◌, ◌++◌, Option, Some, None, refl, ap, subst}
+use Rattle.std.proofs.Common.{◌≡◌, ℕ, Bool, true, false, List, [], ◌∷◌, ◌++◌, Option, Some, None, refl, sym, ap, ◌∙◌, subst}
 use Rattle.task_core.specs.Word.{State}
 use Rattle.task_core.specs.declared.moves.Closer.{Closer}
 use Rattle.task_core.specs.declared.moves.Rest.{Rest}
@@ -17,7 +17,8 @@ use Rattle.async_task.specs.declared.table.Slot.{Slot}
 use Rattle.async_task.specs.declared.table.Slot.TheVariants.{Empty}
 use Rattle.async_task.specs.declared.table.Deed.{Deed}
 use Rattle.async_task.specs.declared.cell.Party.{Party}
-use Rattle.async_task.specs.Calls.{row, act, closing_way, position, holds, way_of, rest_of, Stands, GoesWith, Goes, Notifies, misses, finds_none, takes_awaiter}
+use Rattle.async_task.specs.Rule.{IsFuture}
+use Rattle.async_task.specs.Calls.{row, act, closing_way, position, holds, way_of, rest_of, StandsWith, Stands, GoesWith, Goes, Notifies, misses, finds_none, takes_awaiter}
 use Rattle.async_task.specs.RunPaths.{missed, none_there, taken, nobody, woken, rests, DiscardStart, discards, closed_run}
 use Rattle.async_task.specs.RunCalls.{Releases, TakesDue, takes_none, takes_one, HasTaken, has_none, has_one, Wakes, Rests, Closes, Discards}
 use Rattle.async_task.proofs.Moved as moved
@@ -94,18 +95,15 @@ module _ {F T A : Type 0} where
             (moved.goes_on q q' t x.0 (k.0 ++ act EndCall ∷ []) (AwaiterInHand i OfRun) (At Ended) [] [] x.2 (moved.goes_on q' s t k.0 (act EndCall ∷ []) (Leaving (Ran false) Ended) (At Ended) [] [] k.2 z)),
       )
 
-  -- in another call that goes on without an output it is woken at once
+  -- where the awaiter is in hand as soon as it was taken
   pub has_next : (way : Way) (due : Bool) (p q : Party F T A) (r : Option A) → goes_on None way ≡ goes_off way → ((i : ℕ) → goes_on (Some i) way ≡ AwaiterInHand i way) → TakesDue way due p q r → HasTaken way q r
   has_next way due p q r none one (takes_none path n g) = has_none (subst (λ at. Stands at q) none (moved.stands p q path (goes_on None way) [] g))
   has_next way due p q r none one (takes_one i a path n g) = has_one i a (subst (λ at. Stands at q) (one i) (moved.stands p q path (goes_on (Some i) way) [] g))
 
-  pub drop_has : (due : Bool) (p q : Party F T A) (r : Option A) → TakesDue OfDrop due p q r → HasTaken OfDrop q r
-  drop_has due p q r d = has_next OfDrop due p q r refl (λ i. refl) d
-
   pub cancel_has : (n : ℕ) (due : Bool) (p q : Party F T A) (r : Option A) → TakesDue (OfCancel n) due p q r → HasTaken (OfCancel n) q r
   cancel_has n due p q r d = has_next (OfCancel n) due p q r refl (λ i. refl) d
 
-  pub discard_rest : (Woken : Type 0) (d : Deed) (w : State) (p o q s t u : Party F T A) (r : Option A) → DiscardStart d → Goes (d ∷ act DropFuture ∷ row Unschedule w ∷ []) (notifies w.awaiter OfDrop) p o → TakesDue OfDrop w.awaiter o q r
+  discard_rest : (Woken : Type 0) (d : Deed) (w : State) (p o q s t u : Party F T A) (r : Option A) → DiscardStart d → Goes (d ∷ act DropFuture ∷ row Unschedule w ∷ []) (notifies w.awaiter OfDrop) p o → TakesDue OfDrop w.awaiter o q r
       → Wakes Woken OfDrop r q s → Releases None Nothing s t → Goes (act EndCall ∷ []) (At Ended) t u → Discards Woken p u
   discard_rest Woken d w p o q s t u r start f (takes_none n np g) k x z = (
     d ∷ act DropFuture ∷ row Unschedule w ∷ (n ++ (k.0 ++ (x.0 ++ act EndCall ∷ []))),
@@ -129,9 +127,52 @@ module _ {F T A : Type 0} where
       (subst (λ (z : Way). Goes (act DropFuture ∷ row Unschedule w ∷ []) (notifies w.awaiter z) q r)
       (ap closing_way (moved.position_is q (FutureInHand closer) ((0, Empty) ∷ []) (moved.stands p q [] (FutureInHand closer) ((0, Empty) ∷ []) g))) h)
 
-  pub discard_first : (d : Deed) (w : State) (y : Slot F T A) (p q r s : Party F T A) → GoesWith (d ∷ []) (FutureInHand DroppedRunnable) ((0, y) ∷ []) p q → GoesWith [] (FutureInHand DroppedRunnable) ((0, Empty) ∷ []) q r
+  discard_first : (d : Deed) (w : State) (y : Slot F T A) (p q r s : Party F T A) → GoesWith (d ∷ []) (FutureInHand DroppedRunnable) ((0, y) ∷ []) p q → GoesWith [] (FutureInHand DroppedRunnable) ((0, Empty) ∷ []) q r
       → Goes (act DropFuture ∷ row Unschedule w ∷ []) (notifies w.awaiter (closing_way (position r))) r s → Goes (d ∷ act DropFuture ∷ row Unschedule w ∷ []) (notifies w.awaiter OfDrop) p s
   discard_first d w y p q r s f g h = moved.goes_on p q s (d ∷ []) (act DropFuture ∷ row Unschedule w ∷ []) (FutureInHand DroppedRunnable) (notifies w.awaiter OfDrop) ((0, y) ∷ []) [] f (unscheduled DroppedRunnable w q r s g h)
+
+  -- a Runnable's drop from p, step after step: to a and b by the drop of the future, to o with SCHEDULED cleared
+  module _ (p a b : Party F T A) (start : (d : Deed) × (y : Slot F T A) × DiscardStart d × GoesWith (d ∷ []) (FutureInHand DroppedRunnable) ((0, y) ∷ []) p a × IsFuture y)
+      (clear : (at : Position) (y : Slot F T A) (held : List (ℕ × Slot F T A)) → StandsWith at ((0, y) ∷ held) a → GoesWith [] at ((0, Empty) ∷ held) a b) where
+    pub drop_clears : GoesWith [] (FutureInHand DroppedRunnable) ((0, Empty) ∷ []) a b
+    drop_clears = clear (FutureInHand DroppedRunnable) start.1 [] (moved.stands p a (start.0 ∷ []) (FutureInHand DroppedRunnable) ((0, start.1) ∷ []) start.3)
+
+    module _ (o : Party F T A) (w : State) (unschedule : Goes (act DropFuture ∷ row Unschedule w ∷ []) (notifies w.awaiter (closing_way (position b))) b o) (due : Bool) (is : due ≡ w.awaiter) where
+      pub drop_closes : Goes (start.0 ∷ act DropFuture ∷ row Unschedule w ∷ []) (notifies w.awaiter OfDrop) p o
+      drop_closes = discard_first start.0 w start.1 p a b o start.3 drop_clears unschedule
+
+      pub drop_notifies : Stands (notifies due OfDrop) o
+      drop_notifies = subst (λ h. Stands (notifies h OfDrop) o) (sym is) (moved.stands p o (start.0 ∷ act DropFuture ∷ row Unschedule w ∷ []) (notifies w.awaiter OfDrop) [] drop_closes)
+
+      -- .. to q by the awaiter that was taken
+      module _ (q : Party F T A) (r : Option A) (take : (way : Way) → Stands (notifies due way) o → TakesDue way due o q r) where
+        pub drop_takes : TakesDue OfDrop w.awaiter o q r
+        drop_takes = subst (λ h. TakesDue OfDrop h o q r) is (take OfDrop drop_notifies)
+
+        pub drop_takes_cell : q.seat.table_id ≡ p.seat.table_id
+        drop_takes_cell = due_cell OfDrop w.awaiter o q r drop_takes ∙ drop_closes.cell
+
+        pub drop_has : HasTaken OfDrop q r
+        drop_has = has_next OfDrop w.awaiter o q r refl (λ i. refl) drop_takes
+
+        -- .. to s by its wake
+        module _ (Woken : Type 0) (s : Party F T A) (wake : (way : Way) → HasTaken way q r → Wakes Woken way r q s) where
+          pub drop_wakes : Wakes Woken OfDrop r q s
+          drop_wakes = wake OfDrop drop_has
+
+          pub drop_gives_up : Stands (GivingUp None Nothing) s
+          drop_gives_up = moved.stands q s drop_wakes.0 (GivingUp None Nothing) [] drop_wakes.2
+
+          -- .. to t by the reference given up
+          module _ (t : Party F T A) (release : Released s t) where
+            pub drop_releases : Releases None Nothing s t
+            drop_releases = release None Nothing drop_gives_up
+
+            pub drop_leaves : Stands (Leaving Nothing Ended) t
+            drop_leaves = moved.stands s t drop_releases.0 (Leaving Nothing Ended) [] drop_releases.2
+
+            pub drop_ends : (u : Party F T A) → Goes (act EndCall ∷ []) (rest_of (position t)) t u → Discards Woken p u
+            drop_ends u e = discard_rest Woken start.0 w p o q s t u r start.2 drop_closes drop_takes drop_wakes drop_releases (ended_call Nothing Ended t u drop_leaves e)
 
   pub close_rest : (Woken : Type 0) (w : State) (p q r : Party F T A) → Goes (act DropFuture ∷ row Unschedule w ∷ []) (notifies w.awaiter OfRun) p q → Rests Woken w.awaiter q r → Closes Woken p r
   close_rest Woken w p q r g x = (act DropFuture ∷ row Unschedule w ∷ x.0, closed_run w x.0 x.1, moved.goes_on p q r (act DropFuture ∷ row Unschedule w ∷ []) x.0 (notifies w.awaiter OfRun) (At Ended) [] [] g x.2)
