@@ -50,14 +50,25 @@ module _ {F T A : Type 0} where
   has_ended p q b c r e = ended_by p q c (subst (λ b. EndsRegister p q b) e r)
 
   -- the old awaiter was dropped, where there was one
-  pub is_stored : (p q r : Party F T A) (w : State) (stood : Bool) (hand : Option ℕ) (n : ℕ) (held held' : List (ℕ × Slot F T A)) → GoesWith (stored w) (after_storing n hand) held p q → GoesWith (dropped_if stood) (Registered (poll_number (position q))) held' q r
+  is_stored : (p q r : Party F T A) (w : State) (stood : Bool) (hand : Option ℕ) (n : ℕ) (held held' : List (ℕ × Slot F T A)) → GoesWith (stored w) (after_storing n hand) held p q → GoesWith (dropped_if stood) (Registered (poll_number (position q))) held' q r
       → GoesWith (stored w ++ dropped_if stood) (Registered n) held' p r
   is_stored p q r w stood hand n held held' g h = subst (λ i. GoesWith (stored w ++ dropped_if stood) (Registered i) held' p r) (number_after n hand)
       (then_goes p q r (stored w) (dropped_if stood) (after_storing n hand) held held' (λ x. Registered (poll_number x)) g h)
 
   -- a step that left the seat as it was
-  pub goes_still : (p q r : Party F T A) (path : List Deed) (at : Position) (held : List (ℕ × Slot F T A)) → GoesWith path at held p q → (r.seat.table_id ≡ q.seat.table_id) × (r.seat.me ≡ q.seat.me) → GoesWith path at held p r
+  goes_still : (p q r : Party F T A) (path : List Deed) (at : Position) (held : List (ℕ × Slot F T A)) → GoesWith path at held p q → (r.seat.table_id ≡ q.seat.table_id) × (r.seat.me ≡ q.seat.me) → GoesWith path at held p r
   goes_still p q r path at held g e = record { cell = e.0 ∙ g.cell; is = e.1 ∙ g.is }
+
+  -- the clone was put in
+  abbrev pub HasStored : A → Party F T A → Party F T A → Type 0
+  HasStored clone p q = (w : State) × (stood : Bool) × (w.notifying ≡ false) × GoesWith (stored w ++ dropped_if stood) (Registered (poll_number (position p))) ((1, Awaiter clone) ∷ []) p q
+
+  pub stores_clone : (p q r : Party F T A) (b : Bool) (clone : A) → BeginsRegister p q b → b ≡ true → (stood : Bool) × GoesWith (dropped_if stood) (Registered (poll_number (position q))) ((1, Awaiter clone) ∷ []) q r → HasStored clone p r
+  stores_clone p q r b clone f e s = let x = has_begun p q b true f e in (x.0, s.0, x.3, is_stored p q r x.0 s.0 x.1 (poll_number (position p)) ((1, x.2) ∷ []) ((1, Awaiter clone) ∷ []) x.5 s.1)
+
+  -- .. and is still there, where a notifier came meanwhile
+  pub keeps_clone : (p r t : Party F T A) (b : Bool) (clone : A) → HasStored clone p r → EndsRegister r t b → b ≡ false → HasStored clone p t
+  keeps_clone p r t b clone x f e = (x.0, x.1, x.2, goes_still p r t (stored x.0 ++ dropped_if x.1) (Registered (poll_number (position p))) ((1, Awaiter clone) ∷ []) x.3 (has_ended r t b false f e))
 
   -- the clone that is taken out is the one that was put in
   pub same_clone : (p : Party F T A) (n : ℕ) (a b : A) → StandsWith (Registered n) ((1, Awaiter a) ∷ []) p → holds p ≡ (1, Awaiter b) ∷ [] → b ≡ a
