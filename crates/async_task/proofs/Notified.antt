@@ -1,5 +1,5 @@
 -- What the steps of a notifier come to.
-use Rattle.std.proofs.Common.{◌≡◌, ℕ, true, false, ◌||◌, List, [], ◌∷◌, Option, Some, None, refl, sym, ap, ◌∙◌, subst}
+use Rattle.std.proofs.Common.{◌≡◌, ℕ, Bool, true, false, ◌||◌, List, [], ◌∷◌, Option, Some, None, refl, sym, ap, ◌∙◌, subst}
 use Rattle.std.specs.Prelude.{if◌then◌else◌}
 use Rattle.task_core.specs.Word.{State}
 use Rattle.task_core.specs.declared.moves.Way.{Way}
@@ -31,6 +31,10 @@ none_of (Future f) h = refl
 none_of (Output x) h = refl
 none_of (Awaiter a) h = absurd (h a refl)
 
+neither : (a b : Bool) → a ≡ false → b ≡ false → (a || b) ≡ false
+neither true b e f = absurd (cc)
+neither false b e f = f
+
 module _ {F T A : Type 0} where
   -- the position and the places of a notifier, as contracts say them
   as_said : (p q : Party F T A) (path : List Deed) (hand : Option ℕ) (way : Way) (held : List (ℕ × Slot F T A)) → StandsWith (Notifier way) held p → GoesWith path (goes_on hand way) held p q → GoesWith path (goes_on hand (way_of (position p))) (holds p) p q
@@ -58,6 +62,11 @@ module _ {F T A : Type 0} where
       let hand : Option ℕ = m.slots.awaiter in
       let y = took_awaiter (Notifier way) (Releaser hand way) held q.seat.me.1 (same_way hand way) refl refl m.carried in
       record { hand = hand; value = y.0; waits = y.1; goes = moved.goes p q (row BeginNotify w ∷ act TakeAwaiter ∷ []) (Releaser hand way) ((1, y.0) ∷ held) cell m.viewed y.2 }
+
+  -- .. as nobody else was found at it
+  pub taken_free : (p q : Party F T A) (w v : State) (n r : Bool) (s : (way : Way) × (held : List (ℕ × Slot F T A)) × StandsWith (Notifier way) held p) → q.seat.table_id ≡ p.seat.table_id → Makes (taking_awaiter w) w p.seat.me q.seat.me
+      → v ≡ w → n ≡ v.notifying → r ≡ v.registering → n ≡ false → r ≡ false → Taken s.0 s.1 w p q
+  taken_free p q w v n r s cell made same e f g h = taken s.0 s.1 p q w s.2 cell made (neither w.notifying w.registering (ap (λ u. u.notifying) (sym same) ∙ (sym e ∙ g)) (ap (λ u. u.registering) (sym same) ∙ (sym f ∙ h)))
 
   pub released : (hand : Option ℕ) (way : Way) (y : Slot F T A) (held : List (ℕ × Slot F T A)) (p q : Party F T A) (w : State) → StandsWith (Releaser hand way) ((1, y) ∷ held) p → q.seat.table_id ≡ p.seat.table_id
       → Makes (releasing_awaiter w) w p.seat.me q.seat.me → GoesWith (row EndNotify w ∷ []) (goes_on hand way) held p q

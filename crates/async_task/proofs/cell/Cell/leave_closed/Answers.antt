@@ -1,8 +1,7 @@
-use Rattle.std.proofs.Common.{◌∙◌, []}
+use Rattle.std.proofs.Common.{◌∙◌}
 use Rattle.task_core.specs.declared.moves.Answer.TheVariants.{Nothing}
 use Rattle.task_core.specs.declared.moves.Rest.TheVariants.{Task}
 use Rattle.task_core.specs.declared.moves.Way.TheVariants.{OfCancel}
-use Rattle.task_core.specs.declared.moves.Position.TheVariants.{Leaving}
 use Rattle.async_task.proofs.Moved.{stands}
 use Rattle.async_task.proofs.RunRest.{due_cell, cancel_has}
 use Rattle.async_task.proofs.TaskMoves.{ends_noticed}
@@ -12,24 +11,18 @@ pub take_due-awaiter-requires-clause-party : goal.take_due-awaiter-requires-clau
 take_due-awaiter-requires-clause-party g c = let s = c.requires.party in (OfCancel s.0, s.1)
 
 pub wake_taken-requires-clause-cell : goal.wake_taken-requires-clause-cell
-wake_taken-requires-clause-cell g c = let s = c.requires.party in
-    due_cell (OfCancel s.0) c.args.due c.args.party.now c.take_due-awaiter.new.party c.take_due-awaiter.result (c.take_due-awaiter.ensures (OfCancel s.0) s.1) ∙ c.requires.cell
+wake_taken-requires-clause-cell g c = let s = c.requires.party in due_cell _ _ _ _ _ (c.take_due-awaiter.ensures (OfCancel s.0) s.1) ∙ c.requires.cell
 
 pub wake_taken-requires-clause-party : goal.wake_taken-requires-clause-party
-wake_taken-requires-clause-party g c = let s = c.requires.party in
-    (OfCancel s.0, cancel_has s.0 c.args.due c.args.party.now c.take_due-awaiter.new.party c.take_due-awaiter.result (c.take_due-awaiter.ensures (OfCancel s.0) s.1))
+wake_taken-requires-clause-party g c = let s = c.requires.party in (OfCancel s.0, cancel_has _ _ _ _ _ (c.take_due-awaiter.ensures (OfCancel s.0) s.1))
 
 pub end-requires-clause-cell : goal.end-requires-clause-cell
-end-requires-clause-cell g c = let s = c.requires.party in let d = c.take_due-awaiter.ensures (OfCancel s.0) s.1 in
-    let k = c.wake_taken.ensures (OfCancel s.0) (cancel_has s.0 c.args.due c.args.party.now c.take_due-awaiter.new.party c.take_due-awaiter.result d) in
-    k.2.cell ∙ (due_cell (OfCancel s.0) c.args.due c.args.party.now c.take_due-awaiter.new.party c.take_due-awaiter.result d ∙ c.requires.cell)
+end-requires-clause-cell g c = let s = c.requires.party in let d = c.take_due-awaiter.ensures (OfCancel s.0) s.1 in let k = c.wake_taken.ensures (OfCancel s.0) (cancel_has _ _ _ _ _ d) in
+    k.2.cell ∙ (due_cell _ _ _ _ _ d ∙ c.requires.cell)
 
 pub end-requires-clause-party : goal.end-requires-clause-party
-end-requires-clause-party g c = let s = c.requires.party in
-    let k = c.wake_taken.ensures (OfCancel s.0) (cancel_has s.0 c.args.due c.args.party.now c.take_due-awaiter.new.party c.take_due-awaiter.result (c.take_due-awaiter.ensures (OfCancel s.0) s.1)) in
-    (Nothing, Task s.0, stands c.take_due-awaiter.new.party c.wake_taken.new.party k.0 (Leaving Nothing (Task s.0)) [] k.2)
+end-requires-clause-party g c = let s = c.requires.party in let d = c.take_due-awaiter.ensures (OfCancel s.0) s.1 in let k = c.wake_taken.ensures (OfCancel s.0) (cancel_has _ _ _ _ _ d) in
+    (Nothing, Task s.0, stands _ _ _ _ _ k.2)
 
 pub returns : goal.returns
-returns g c = λ n s. let d = c.take_due-awaiter.ensures (OfCancel n) s in
-    let k = c.wake_taken.ensures (OfCancel n) (cancel_has n c.args.due c.args.party.now c.take_due-awaiter.new.party c.take_due-awaiter.result d) in
-    ends_noticed _ c.args.party.now c.take_due-awaiter.new.party c.wake_taken.new.party c.end.new.party n c.args.due c.take_due-awaiter.result d k c.end.ensures
+returns g c = λ n s. let d = c.take_due-awaiter.ensures (OfCancel n) s in ends_noticed _ _ _ _ _ n _ _ d (c.wake_taken.ensures (OfCancel n) (cancel_has _ _ _ _ _ d)) c.end.ensures

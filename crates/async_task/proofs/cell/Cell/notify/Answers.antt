@@ -6,7 +6,7 @@ use Rattle.async_task.specs.declared.table.Slot.TheVariants.{Empty}
 use Rattle.async_task.specs.Calls.{row, act}
 use Rattle.async_task.proofs.Allowed.{steps_always}
 use Rattle.async_task.proofs.AwaiterOwed.{takes, releases_awaiter}
-use Rattle.async_task.proofs.Notified.{taken, missed, notified, awaiter_of, none_of}
+use Rattle.async_task.proofs.Notified.{taken_free, missed, notified, awaiter_of, none_of}
 use Rattle.async_task.proofs.Carried.{exchanges}
 use Rattle.async_task.proofs.Moved.{stands, first_held}
 use Rattle.async_task.proofs.cell.Cell.notify.Goals.{then-notifying-via-then-notifying, then-notifying-via-else-notifying+then-registering, in-Awaiter, in_default}
@@ -24,10 +24,6 @@ right : (a b : Bool) → b ≡ true → (a || b) ≡ true
 right true b e = refl
 right false b e = e
 
-neither : (a b : Bool) → a ≡ false → b ≡ false → (a || b) ≡ false
-neither true b e f = absurd (cc)
-neither false b e f = f
-
 pub returns-then-notifying : goal.returns-then-notifying
 returns-then-notifying g c = let s = c.requires.party in let w = state_of c.fetch_or-found.result in let b = c.from_bits-found.ensures in
     let is : (w.notifying || w.registering) ≡ true = elim c.then-notifying.branch [
@@ -36,29 +32,20 @@ returns-then-notifying g c = let s = c.requires.party in let w = state_of c.fetc
     ] in missed s.0 s.1 _ _ w s.2 c.fetch_or-found.ensures.0 c.fetch_or-found.ensures.2 is
 
 pub exchange-requires : goal.exchange-requires
-exchange-requires g c = let s = c.requires.party in let w = state_of c.fetch_or-found.result in let b = c.from_bits-found.ensures in
-    let is = neither w.notifying w.registering (ap (λ w. w.notifying) (sym b) ∙ (sym c.notifying.ensures ∙ c.if-notifying.false)) (ap (λ w. w.registering) (sym b) ∙ (sym c.registering.ensures ∙ c.if-registering.false)) in
-    let t = taken s.0 s.1 c.args.party.now (record { seat = c.fetch_or-found.new.seat }) w s.2 c.fetch_or-found.ensures.0 c.fetch_or-found.ensures.2 is in
-    let at = stands c.args.party.now (record { seat = c.fetch_or-found.new.seat }) (row BeginNotify w ∷ act TakeAwaiter ∷ []) (Releaser t.hand s.0) ((1, t.value) ∷ s.1) t.goes in
-    (c.fetch_or-found.ensures.0 ∙ c.requires.cell, (t.value, first_held (record { seat = c.fetch_or-found.new.seat }) (Releaser t.hand s.0) 1 t.value s.1 at))
+exchange-requires g c = let s = c.requires.party in let w = state_of c.fetch_or-found.result in let f = c.fetch_or-found.ensures in
+    let t = taken_free c.args.party.now (record { seat = c.fetch_or-found.new.seat }) w _ _ _ s f.0 f.2 c.from_bits-found.ensures c.notifying.ensures c.registering.ensures c.if-notifying.false c.if-registering.false in
+    (f.0 ∙ c.requires.cell, (t.value, first_held (record { seat = c.fetch_or-found.new.seat }) _ 1 t.value _ (stands _ _ _ _ _ t.goes)))
 
 pub fetch_and-requires : goal.fetch_and-requires
-fetch_and-requires g c = let s = c.requires.party in let w = state_of c.fetch_or-found.result in let b = c.from_bits-found.ensures in let e = c.exchange.ensures in
-    let is = neither w.notifying w.registering (ap (λ w. w.notifying) (sym b) ∙ (sym c.notifying.ensures ∙ c.if-notifying.false)) (ap (λ w. w.registering) (sym b) ∙ (sym c.registering.ensures ∙ c.if-registering.false)) in
-    let t = taken s.0 s.1 c.args.party.now (record { seat = c.fetch_or-found.new.seat }) w s.2 c.fetch_or-found.ensures.0 c.fetch_or-found.ensures.2 is in
-    let x = exchanges c.args.party.now (record { seat = c.fetch_or-found.new.seat }) (record { seat = c.exchange.new.seat }) (row BeginNotify w ∷ act TakeAwaiter ∷ []) (Releaser t.hand s.0) 1 t.value c.exchange.result Empty s.1 t.goes e.0 e.2 e.3 in
-    let at = stands c.args.party.now (record { seat = c.exchange.new.seat }) (row BeginNotify w ∷ act TakeAwaiter ∷ []) (Releaser t.hand s.0) ((1, Empty) ∷ s.1) x.1 in (
-      search rules,
-      search rules,
-      steps_always _ _ _ _ _ _ _ _ _ _ _ _ _ (search rules) (ap (λ m. m.0) at)
-          (releases_awaiter _ _ _ _ t.hand s.0 _ _ Empty c.exchange.new.seat.me.1 (first_held (record { seat = c.exchange.new.seat }) (Releaser t.hand s.0) 1 Empty s.1 at) tt),
-    )
+fetch_and-requires g c = let s = c.requires.party in let w = state_of c.fetch_or-found.result in let f = c.fetch_or-found.ensures in
+    let t = taken_free c.args.party.now (record { seat = c.fetch_or-found.new.seat }) w _ _ _ s f.0 f.2 c.from_bits-found.ensures c.notifying.ensures c.registering.ensures c.if-notifying.false c.if-registering.false in
+    let e = c.exchange.ensures in let x = exchanges _ _ (record { seat = c.exchange.new.seat }) _ _ 1 t.value c.exchange.result Empty _ t.goes e.0 e.2 e.3 in let at = stands _ _ _ _ _ x.1 in
+    (search rules, search rules, steps_always _ _ _ _ _ _ _ _ _ _ _ _ _ (search rules) (ap (λ m. m.0) at) (releases_awaiter _ _ _ _ t.hand s.0 _ _ Empty _ (first_held (record { seat = c.exchange.new.seat }) _ 1 Empty _ at) tt))
 
 pub returns : goal.returns
-returns g c = let s = c.requires.party in let w = state_of c.fetch_or-found.result in let b = c.from_bits-found.ensures in let e = c.exchange.ensures in
-    let is = neither w.notifying w.registering (ap (λ w. w.notifying) (sym b) ∙ (sym c.notifying.ensures ∙ c.if-notifying.false)) (ap (λ w. w.registering) (sym b) ∙ (sym c.registering.ensures ∙ c.if-registering.false)) in
-    let t = taken s.0 s.1 c.args.party.now (record { seat = c.fetch_or-found.new.seat }) w s.2 c.fetch_or-found.ensures.0 c.fetch_or-found.ensures.2 is in
-    let x = exchanges c.args.party.now (record { seat = c.fetch_or-found.new.seat }) (record { seat = c.exchange.new.seat }) (row BeginNotify w ∷ act TakeAwaiter ∷ []) (Releaser t.hand s.0) 1 t.value c.exchange.result Empty s.1 t.goes e.0 e.2 e.3 in
+returns g c = let s = c.requires.party in let w = state_of c.fetch_or-found.result in let f = c.fetch_or-found.ensures in
+    let t = taken_free c.args.party.now (record { seat = c.fetch_or-found.new.seat }) w _ _ _ s f.0 f.2 c.from_bits-found.ensures c.notifying.ensures c.registering.ensures c.if-notifying.false c.if-registering.false in
+    let e = c.exchange.ensures in let x = exchanges _ _ (record { seat = c.exchange.new.seat }) _ _ 1 t.value c.exchange.result Empty _ t.goes e.0 e.2 e.3 in
     let same : c.match-exchange.awaiter ≡ awaiter_of c.exchange.result = elim c.match-exchange.branch [
       | in-Awaiter z ↦ z.awaiter-is ∙ ap awaiter_of (sym z.in-Awaiter.is)
       | in_default z ↦ z.awaiter-is ∙ sym (none_of c.exchange.result z.in_default.not-Awaiter)
