@@ -1,6 +1,5 @@
 -- What the calls that end a run come to, step after step.
-use Rattle.std.proofs.Common.{◌≡◌, ℕ, Bool, true, false, not, ◌&&◌, List, [], ◌∷◌, ◌++◌, ap, ◌∙◌, subst}
-use Rattle.atomic_table.specs.Table.{Me}
+use Rattle.std.proofs.Common.{◌≡◌, ℕ, Bool, true, false, not, ◌&&◌, List, [], ◌∷◌, ◌++◌, ap, ◌∙◌}
 use Rattle.std.specs.Prelude.{nat_lt, ◌||◌}
 use Rattle.task_core.specs.Word.{State}
 use Rattle.task_core.specs.declared.moves.Rest.TheVariants.{Ended}
@@ -9,22 +8,19 @@ use Rattle.task_core.specs.declared.moves.After.TheVariants.{ThenEnds}
 use Rattle.task_core.specs.declared.moves.Position.{Position}
 use Rattle.task_core.specs.declared.moves.Position.TheVariants.{At, Deliverer, Polling, Pending, Ready, Cleared, OutputInHand}
 use Rattle.task_core.specs.declared.moves.Act.TheVariants.{AnswerReady, AnswerPending, DropFuture, StoreOutput, Complete, CompleteDetached, DropOutput, EndClosed, Reschedule, EndIdle, EndOrphaned, HandOver, EndCall}
-use Rattle.task_core.specs.declared.moves.Answer.{Answer}
 use Rattle.task_core.specs.declared.moves.Answer.TheVariants.{Ran}
 use Rattle.task_core.specs.Table.{notifies}
 use Rattle.async_task.specs.declared.table.Slot.{Slot}
 use Rattle.async_task.specs.declared.table.Slot.TheVariants.{Empty}
 use Rattle.async_task.specs.declared.table.Deed.{Deed}
-use Rattle.async_task.specs.declared.table.View.{View}
 use Rattle.async_task.specs.declared.cell.Party.{Party}
 use Rattle.async_task.specs.declared.cell.ends.PendingEnd.{PendingEnd}
 use Rattle.async_task.specs.declared.cell.ends.PendingEnd.TheVariants.{Closed, Rescheduled, Idle, Orphaned}
 use Rattle.async_task.specs.Rule.{IsFuture}
-use Rattle.async_task.specs.Calls.{row, act, position, limit_of, handed_over, rest_of, StandsWith, Stands, GoesWith, Goes}
+use Rattle.async_task.specs.Calls.{row, act, StandsWith, GoesWith, Goes}
 use Rattle.async_task.specs.RunPaths.{kept, not_claimed, detached, ready, closed_meanwhile, woken_meanwhile, idle, orphaned}
 use Rattle.async_task.specs.RunCalls.{Rests, Completes, keeps, finds_closed, finds_detached, Stores, ClosesPending, EndsReady, EndsUnready, AnswersPending, stays_pending, clears, EndsPending, is_closed, is_rescheduled, is_idle, is_orphaned}
 use Rattle.async_task.proofs.Moved as moved
-use Rattle.async_task.proofs.RunRest.{ended_call}
 
 unkept : (w : State) → w.task ≡ true → w.closed ≡ false → (w.task && not w.closed) ≡ true
 unkept w h k = ap (λ b. b && not w.closed) h ∙ ap not k

@@ -12,7 +12,6 @@ use Rattle.task_core.specs.declared.moves.Rest.TheVariants.{Runnable, Ended}
 use Rattle.task_core.specs.declared.moves.Way.TheVariants.{OfRun}
 use Rattle.task_core.specs.declared.moves.After.TheVariants.{ThenEnds}
 use Rattle.task_core.specs.declared.moves.Closer.TheVariants.{DroppedRunnable}
-use Rattle.task_core.specs.declared.moves.Position.{Position}
 use Rattle.task_core.specs.declared.moves.Position.TheVariants.{At, Leaving, Deliverer, GivingUp, Emptier, FutureInHand, Polling, Pending, Ready, Unstored, Stored, Cleared, OutputInHand}
 use Rattle.task_core.specs.declared.moves.Act.TheVariants.{GiveUpReference, GiveUpLastReference, DiscardOpen, DiscardClosed, DropFuture, StoreOutput, Complete, CompleteDetached, AnswerPending, Reschedule, EndIdle, EndOrphaned, EndCall}
 use Rattle.task_core.specs.Rows.{written}
@@ -20,7 +19,7 @@ use Rattle.task_core.specs.Table.{Slots, steps, keeps, notifies, after_giving_up
 use Rattle.task_core.specs.Machine.{Machine, scene}
 use Rattle.task_core.specs.Laws.{count, is_emptying}
 use Rattle.task_core.specs.Theorem.{owns_awaiter}
-use Rattle.task_core.proofs.Census.{Census, census, plus, runs}
+use Rattle.task_core.proofs.Census.{Census, census}
 use Rattle.task_core.proofs.Invariant.{Holds}
 use Rattle.task_core.proofs.Bits.{state_of_number_of, fetch_or-closed, fetch_sub-reference, fetch_and-scheduled_running}
 use Rattle.async_task.specs.declared.table.Slot.{Slot}

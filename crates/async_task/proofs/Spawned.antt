@@ -1,9 +1,9 @@
 -- The rule before and at the spawn, and at the end.
-use Rattle.std.proofs.Common.{◌≡◌, ℕ, zero, suc, ◌<◌, ◌≢◌, ◌^◌, List, [], ◌∷◌, ◌++◌, length, get_or, set, sym, refl, ap, ◌∙◌, subst, inl, inr, ⊎_elim, arith}
+use Rattle.std.proofs.Common.{◌≡◌, ℕ, zero, suc, ◌≢◌, List, [], ◌∷◌, ◌++◌, length, get_or, set, sym, refl, ap, ◌∙◌, subst, inl, inr, ⊎_elim, arith}
 use mathlib.Core.Option.{some, none, some-injective, some-ne-none}
 use lib.ListN.{get_elem?}
 use lib.Seq.{set-get_or}
-use Rattle.atomic_table.specs.Table.{State as Board, Me, Act, takes, gives, stepped, carried_after, rest, Valid, Allows, Splits, opening, Final, Seen}
+use Rattle.atomic_table.specs.Table.{State as Board, Me, Act, takes, gives, stepped, carried_after, rest, Valid, Allows, Splits, Final, Seen}
 use Rattle.atomic_table.proofs.Lists as lists
 use Rattle.task_core.specs.Word.{number_of, opening_word}
 use Rattle.task_core.specs.declared.moves.Position.{Position}
@@ -12,7 +12,6 @@ use Rattle.task_core.specs.declared.moves.Rest.TheVariants.{Runnable, Task}
 use Rattle.task_core.specs.Machine.{opening as opening_machine}
 use Rattle.task_core.proofs.Theorem.{laws_of}
 use Rattle.async_task.specs.declared.table.Slot.{Slot}
-use Rattle.async_task.specs.declared.table.Slot.TheVariants.{Empty}
 use Rattle.async_task.specs.declared.table.Member.{Member}
 use Rattle.async_task.specs.declared.table.Stage.TheVariants.{Laid, Filling, Spawned}
 use Rattle.async_task.specs.declared.table.View.{View}

@@ -1,10 +1,8 @@
 -- A cancel and a detach, put together from their steps.
-use Rattle.std.proofs.Common.{◌≡◌, ℕ, Bool, true, false, List, [], ◌∷◌, ◌++◌, Option, None, refl, sym, ap, subst}
-use Rattle.atomic_table.specs.Table.{Me}
+use Rattle.std.proofs.Common.{◌≡◌, ℕ, Bool, true, false, List, [], ◌∷◌, ◌++◌, Option, None, refl, sym, subst}
 use Rattle.task_core.specs.Word.{State}
 use Rattle.task_core.specs.declared.moves.Answer.{Answer}
 use Rattle.task_core.specs.declared.moves.Answer.TheVariants.{Nothing}
-use Rattle.task_core.specs.declared.moves.Position.{Position}
 use Rattle.task_core.specs.declared.moves.Position.TheVariants.{Deliverer, Emptier, OutputCloser, Leaving}
 use Rattle.task_core.specs.declared.moves.Rest.TheVariants.{Ended}
 use Rattle.task_core.specs.declared.moves.Way.TheVariants.{OfCancel}
@@ -14,12 +12,11 @@ use Rattle.task_core.specs.declared.moves.Act.TheVariants.{CancelOver, CancelBus
 use Rattle.task_core.specs.Table.{notifies, cancels_after, goes_after, after_giving_up}
 use Rattle.async_task.specs.declared.table.Slot.{Slot}
 use Rattle.async_task.specs.declared.table.Deed.{Deed}
-use Rattle.async_task.specs.declared.table.View.{View}
 use Rattle.async_task.specs.declared.cell.Party.{Party}
 use Rattle.async_task.specs.declared.cell.cancel.Cancelled.{Cancelled}
 use Rattle.async_task.specs.declared.cell.cancel.Cancelled.TheVariants.{Over, Busy, Idle}
 use Rattle.async_task.specs.declared.cell.detach.Detached.TheVariants.{Unclaimed, Shared, Last, Orphaned}
-use Rattle.async_task.specs.Calls.{row, act, position, limit_of, StandsWith, Stands, GoesWith, Goes, as_task, as_ended, handed_over, rest_of}
+use Rattle.async_task.specs.Calls.{row, act, position, StandsWith, Stands, GoesWith, Goes, as_task, as_ended, handed_over, rest_of}
 use Rattle.async_task.specs.TaskPaths.{Fits, Notice, CancelPath, is_over, is_busy, is_idle, DetachPath, drops_output, drops_output_last, is_shared, is_last, is_orphaned, Cancels, Detaches, GivesTaskUp}
 use Rattle.async_task.proofs.Moved.{goes_on, stands, position_is}
 use Rattle.async_task.proofs.TaskMoves.{Ends, ends}

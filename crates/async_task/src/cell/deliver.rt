@@ -1,9 +1,8 @@
 //! Handing a Runnable over to the schedule value.
-ghost use Rattle.std.specs.Prelude.{◌≡◌, ℕ, ◌∷◌, [], true, false};
+ghost use Rattle.std.specs.Prelude.{◌≡◌, ◌∷◌, [], true, false};
 ghost use Rattle.std.specs.Arc.{arc_value};
 ghost use Rattle.task_core.specs.declared.moves.Position.{Position};
-ghost use Rattle.task_core.specs.declared.moves.Position.TheVariants.{At, Deliverer};
-ghost use Rattle.task_core.specs.declared.moves.Rest.{Rest};
+ghost use Rattle.task_core.specs.declared.moves.Position.TheVariants.{Deliverer};
 ghost use Rattle.task_core.specs.declared.moves.After.{After};
 ghost use Rattle.task_core.specs.declared.moves.Act.TheVariants.{HandOver, EndCall};
 ghost use Rattle.async_task.specs.Calls.{Stands, Goes, IsNew, act, position, hands_over, handed_over, limit_of, as_runnable, as_ended};

@@ -1,9 +1,6 @@
-use Rattle.std.proofs.Common.{rules, ap, sym, ◌∙◌, ◌≡◌, Bool, true, false, ◌||◌, refl, ◌∷◌, []}
+use Rattle.std.proofs.Common.{rules, ap, sym, ◌∙◌, ◌≡◌, Bool, true, false, ◌||◌, refl}
 use Rattle.task_core.specs.Word.{state_of}
-use Rattle.task_core.specs.declared.moves.Position.TheVariants.{Releaser}
-use Rattle.task_core.specs.declared.moves.Act.TheVariants.{BeginNotify, TakeAwaiter}
 use Rattle.async_task.specs.declared.table.Slot.TheVariants.{Empty}
-use Rattle.async_task.specs.Calls.{row, act}
 use Rattle.async_task.proofs.Allowed.{steps_always}
 use Rattle.async_task.proofs.AwaiterOwed.{takes, releases_awaiter}
 use Rattle.async_task.proofs.Notified.{taken_free, missed, notified, awaiter_of, none_of}
