@@ -1,9 +1,9 @@
 -- What a step of a party owes: the interleaving, and the places that it takes and gives back.
-use Rattle.std.proofs.Common.{◌≡◌, ℕ, ◌+◌, ◌<◌, ◌≤◌, ◌≢◌, Bool, true, false, Some, List, ◌∷◌, length, get_or, set, sym, refl, ap, ◌∙◌, subst, ◌⊎◌, ⊎_elim, arith}
+use Rattle.std.proofs.Common.{◌≡◌, ℕ, ◌+◌, ◌<◌, ◌≤◌, ◌≢◌, Bool, true, false, Some, List, ◌∷◌, length, get_or, set, sym, refl, ap, ◌∙◌, subst, ◌⊎◌, ⊎_elim, arith, length-set}
 use mathlib.Core.Option.{some, none, some-injective, some-ne-none}
 use mathlib.Core.Option as maybe
 use lib.ListN.{get_elem?}
-use Rattle.atomic_table.specs.Table.{State as Board, Me, Act as Move, keeps, takes, gives, stepped, homes_after, carried_after, Valid, rest}
+use Rattle.atomic_table.specs.Table.{State as Board, Me, Act as Move, keeps, takes, gives, chain, stepped, homes_after, carried_after, Valid, rest}
 use Rattle.atomic_table.proofs.Lists as lists
 use Rattle.task_core.specs.Word.{bit, number_of, is_open}
 use Rattle.task_core.specs.declared.moves.Position.{Position}
@@ -18,7 +18,7 @@ use Rattle.async_task.specs.declared.table.Deed.{Deed}
 use Rattle.async_task.specs.declared.table.Member.{Member}
 use Rattle.async_task.specs.declared.table.View.{View}
 use Rattle.async_task.specs.Rule.{has_work, IsFuture, IsOutput, Waits, AtHome, Housed, Ruled}
-use Rattle.async_task.specs.Steps.{Works, Awaits, Carries, Carried, saw_over, saw_closed}
+use Rattle.async_task.specs.Steps.{future_first, output_first, TakesFuture, TakesOutput, Works, Awaits, Carries, Carried, saw_over, saw_closed}
 use Rattle.async_task.proofs.Acts.{leads}
 
 -- the machine's slots of future and output are as they were
@@ -29,14 +29,18 @@ abbrev pub SameAwaiter : Machine → Outcome → Type 0
 SameAwaiter m o = (o.slots.awaiter ≡ m.slots.awaiter) × (count is_emptying o.told ≡ 0)
 
 module _ {F T A : Type 0} where
-  -- which place the party takes or gives back, and why it may
+  -- the party has the places of future and output in front, with these values
+  abbrev pub HasBoth : Slot F T A → Slot F T A → List (ℕ × Slot F T A) → Type 0
+  HasBoth y z l = (l ≡ future_first y z (rest (rest l))) ⊎ (l ≡ output_first y z (rest (rest l)))
+
+  -- which places the party takes or gives back, and why it may
   pub data Placing (m : Machine) (p : Position) (o : Outcome) (l : List (ℕ × Slot F T A)) : Type 0 where
     stays : has_work o.next ≡ has_work p → owns_awaiter o.next ≡ owns_awaiter p → (has_work p ≡ true) ⊎ SameWork m o → (owns_awaiter p ≡ true) ⊎ SameAwaiter m o → Placing m p o l
-    takes_future : has_work p ≡ false → has_work o.next ≡ true → owns_awaiter o.next ≡ owns_awaiter p → (owns_awaiter p ≡ true) ⊎ SameAwaiter m o → m.slots.future ≡ true → ((y : Slot F T A) → IsFuture y → Works o.next y) → Placing m p o l
-    takes_output : has_work p ≡ false → has_work o.next ≡ true → owns_awaiter o.next ≡ owns_awaiter p → (owns_awaiter p ≡ true) ⊎ SameAwaiter m o → m.slots.output ≡ true → ((y : Slot F T A) → IsOutput y → Works o.next y) → Placing m p o l
-    gives_work : (y : Slot F T A) → has_work p ≡ true → has_work o.next ≡ false → owns_awaiter o.next ≡ owns_awaiter p → (owns_awaiter p ≡ true) ⊎ SameAwaiter m o → l ≡ (0, y) ∷ rest l → (o.slots.future ≡ true → IsFuture y) → (o.slots.output ≡ true → IsOutput y) → Placing m p o l
+    takes_future : has_work p ≡ false → has_work o.next ≡ true → owns_awaiter o.next ≡ owns_awaiter p → (owns_awaiter p ≡ true) ⊎ SameAwaiter m o → m.slots.future ≡ true → ((l' : List (ℕ × Slot F T A)) → TakesFuture l l' → Works o.next l l') → Placing m p o l
+    takes_output : has_work p ≡ false → has_work o.next ≡ true → owns_awaiter o.next ≡ owns_awaiter p → (owns_awaiter p ≡ true) ⊎ SameAwaiter m o → m.slots.output ≡ true → ((l' : List (ℕ × Slot F T A)) → TakesOutput l l' → Works o.next l l') → Placing m p o l
+    gives_work : (y z : Slot F T A) → has_work p ≡ true → has_work o.next ≡ false → owns_awaiter o.next ≡ owns_awaiter p → (owns_awaiter p ≡ true) ⊎ SameAwaiter m o → HasBoth y z l → (o.slots.future ≡ true → IsFuture y) → (o.slots.output ≡ true → IsOutput z) → Placing m p o l
     takes_awaiter : owns_awaiter p ≡ false → owns_awaiter o.next ≡ true → has_work o.next ≡ has_work p → (has_work p ≡ true) ⊎ SameWork m o → count is_emptying m.trace ≡ 0 → ((y : Slot F T A) → Waits m.slots.awaiter y → Awaits o.next y) → Placing m p o l
-    gives_awaiter : (y : Slot F T A) → owns_awaiter p ≡ true → owns_awaiter o.next ≡ false → has_work o.next ≡ has_work p → (has_work p ≡ true) ⊎ SameWork m o → l ≡ (1, y) ∷ rest l → (count is_emptying o.told ≡ 0 → Waits o.slots.awaiter y) → Placing m p o l
+    gives_awaiter : (y : Slot F T A) → owns_awaiter p ≡ true → owns_awaiter o.next ≡ false → has_work o.next ≡ has_work p → (has_work p ≡ true) ⊎ SameWork m o → l ≡ (2, y) ∷ rest l → (count is_emptying o.told ≡ 0 → Waits o.slots.awaiter y) → Placing m p o l
 
   -- the step of a party at p that makes these acts, finds the machine so, and writes this number
   pub record Steps (m : Machine) (p : Position) (acts : List Act) (new : ℕ) (l : List (ℕ × Slot F T A)) : Type 0 where
@@ -94,19 +98,24 @@ module _ (F T A : Type 0) (limit : ℕ) where
   bit_is : (a b : Bool) → a ≡ b → bit a ≡ bit b
   bit_is a b e = ap bit e
 
+  -- the places of future and output are as they were
+  abbrev SameHomes : List (maybe.Option (Slot F T A)) → List (maybe.Option (Slot F T A)) → Type 0
+  SameHomes homes homes' = (get_elem? homes' 0 ≡ get_elem? homes 0) × (get_elem? homes' 1 ≡ get_elem? homes 1)
+
   -- the work stays where it is
   pub same_work : (m : Machine) (p : Position) (o : Outcome) (q : Machine) (homes homes' : List (maybe.Option (Slot F T A))) → After m p o q → Housed m homes → has_work o.next ≡ has_work p → (has_work p ≡ true) ⊎ SameWork m o
-      → get_elem? homes' 0 ≡ get_elem? homes 0 → how_many has_work q.parties ≡ 0 → (q.slots.future ≡ true → AtHome homes' 0 IsFuture) × (q.slots.output ≡ true → AtHome homes' 0 IsOutput)
+      → SameHomes homes homes' → how_many has_work q.parties ≡ 0 → AtHome homes' 0 (λ y. q.slots.future ≡ true → IsFuture y) × AtHome homes' 1 (λ z. q.slots.output ≡ true → IsOutput z)
   same_work m p o q homes homes' a h e kept at nobody = ⊎_elim
       (λ (z : has_work p ≡ true). absurd (let x = a.works in let y = a.here in let b = bit_is (has_work o.next) (has_work p) e in let c : bit (has_work p) ≡ 1 = ap bit z in omega arith))
-      (λ (z : SameWork m o). let before : how_many has_work m.parties ≡ 0 = (let x = a.works in let b = bit_is (has_work o.next) (has_work p) e in omega arith) in (
-        (λ f. let g = h.future before (sym z.0 ∙ (ap (λ x. x.future) (sym a.slots_is) ∙ f)) in (g.0, at ∙ g.1, g.2)),
-        λ f. let g = h.output before (sym z.1 ∙ (ap (λ x. x.output) (sym a.slots_is) ∙ f)) in (g.0, at ∙ g.1, g.2),
+      (λ (z : SameWork m o). let before : how_many has_work m.parties ≡ 0 = (let x = a.works in let b = bit_is (has_work o.next) (has_work p) e in omega arith) in
+      let y = h.future before in let x = h.output before in (
+        (y.0, at.0 ∙ y.1, λ f. y.2 (sym z.0 ∙ (ap (λ x. x.future) (sym a.slots_is) ∙ f))),
+        (x.0, at.1 ∙ x.1, λ f. x.2 (sym z.1 ∙ (ap (λ x. x.output) (sym a.slots_is) ∙ f))),
       ))
       kept
 
   pub same_awaiter : (m : Machine) (p : Position) (o : Outcome) (q : Machine) (homes homes' : List (maybe.Option (Slot F T A))) → After m p o q → Housed m homes → owns_awaiter o.next ≡ owns_awaiter p → (owns_awaiter p ≡ true) ⊎ SameAwaiter m o
-      → get_elem? homes' 1 ≡ get_elem? homes 1 → how_many owns_awaiter q.parties ≡ 0 → count is_emptying q.trace ≡ 0 → AtHome homes' 1 (Waits q.slots.awaiter)
+      → get_elem? homes' 2 ≡ get_elem? homes 2 → how_many owns_awaiter q.parties ≡ 0 → count is_emptying q.trace ≡ 0 → AtHome homes' 2 (Waits q.slots.awaiter)
   same_awaiter m p o q homes homes' a h e kept at nobody left = ⊎_elim
       (λ (z : owns_awaiter p ≡ true). absurd (let x = a.owners in let y = a.here_too in let b = bit_is (owns_awaiter o.next) (owns_awaiter p) e in let c : bit (owns_awaiter p) ≡ 1 = ap bit z in omega arith))
       (λ (z : SameAwaiter m o). let before : how_many owns_awaiter m.parties ≡ 0 = (let x = a.owners in let b = bit_is (owns_awaiter o.next) (owns_awaiter p) e in omega arith) in
@@ -129,7 +138,7 @@ module _ (F T A : Type 0) (limit : ℕ) where
   carries_same false true q l = refl
   carries_same false false q l = refl
 
-  carries_awaiter : (a : Bool) (q : Position) (y : Slot F T A) (l : List (ℕ × Slot F T A)) → Awaits q y → CarriesAt q l ((1, y) ∷ l) a a false true
+  carries_awaiter : (a : Bool) (q : Position) (y : Slot F T A) (l : List (ℕ × Slot F T A)) → Awaits q y → CarriesAt q l ((2, y) ∷ l) a a false true
   carries_awaiter true q y l h = (y, h, refl)
   carries_awaiter false q y l h = (y, h, refl)
 
@@ -146,52 +155,86 @@ module _ (F T A : Type 0) (limit : ℕ) where
   carried_as : (p q : Position) (l l' : List (ℕ × Slot F T A)) (a b c d : Bool) → has_work p ≡ a → has_work q ≡ b → owns_awaiter p ≡ c → owns_awaiter q ≡ d → CarriesAt q l l' a b c d → Carried p q l l'
   carried_as p q l l' a b c d e f g h x = subst (λ (z : Bool × Bool × Bool × Bool). CarriesAt q l l' z.0 z.1 z.2 z.3) (λ i. (sym e i, sym f i, sym g i, sym h i)) x
 
-  pub places : (m : Machine) (p : Position) (o : Outcome) (s : B) (l : List (ℕ × Slot F T A)) (q : Machine) → After m p o q → Housed m s.homes → length s.homes ≡ 2 → Placing m p o l → Places m p o s l q
-  places m p o s l q a h two (stays e f w z) = record {
+  -- two places change, and not this one
+  set_both_else : (homes : List (maybe.Option (Slot F T A))) (i j k : ℕ) (x y : maybe.Option (Slot F T A)) → k ≢ i → k ≢ j → get_elem? (set (set homes i x) j y) k ≡ get_elem? homes k
+  set_both_else homes i j k x y e f = lists.set_else (set homes i x) j k y f ∙ lists.set_else homes i k x e
+
+  -- the places of future and output are at home again, and that of the awaiter is as it was
+  abbrev GivesBoth : B → Slot F T A → Slot F T A → List (ℕ × Slot F T A) → Type 0
+  GivesBoth s y z l = let homes = homes_after s.homes l (chain gives gives) in (get_elem? homes 0 ≡ some (some y)) × (get_elem? homes 1 ≡ some (some z)) × (get_elem? homes 2 ≡ get_elem? s.homes 2)
+
+  gives_both : (s : B) (y z : Slot F T A) (l : List (ℕ × Slot F T A)) → length s.homes ≡ 3 → HasBoth y z l → GivesBoth s y z l
+  gives_both s y z l three has = ⊎_elim
+      (λ (e : l ≡ future_first y z (rest (rest l))). subst (λ (c : List (ℕ × Slot F T A)). GivesBoth s y z c) (sym e) (
+        lists.set_else (set s.homes 0 (some y)) 1 0 (some z) (λ z. omega arith) ∙ lists.set_here s.homes 0 (some y) (omega arith),
+        lists.set_here (set s.homes 0 (some y)) 1 (some z) (let n = length-set s.homes 0 (some y) in omega arith),
+        set_both_else s.homes 0 1 2 (some y) (some z) (λ z. omega arith) (λ z. omega arith),
+      ))
+      (λ (e : l ≡ output_first y z (rest (rest l))). subst (λ (c : List (ℕ × Slot F T A)). GivesBoth s y z c) (sym e) (
+        lists.set_here (set s.homes 1 (some z)) 0 (some y) (let n = length-set s.homes 1 (some z) in omega arith),
+        lists.set_else (set s.homes 1 (some z)) 0 1 (some y) (λ z. omega arith) ∙ lists.set_here s.homes 1 (some z) (omega arith),
+        set_both_else s.homes 1 0 2 (some z) (some y) (λ z. omega arith) (λ z. omega arith),
+      ))
+      has
+
+  pub places : (m : Machine) (p : Position) (o : Outcome) (s : B) (l : List (ℕ × Slot F T A)) (q : Machine) → After m p o q → Housed m s.homes → length s.homes ≡ 3 → Placing m p o l → Places m p o s l q
+  places m p o s l q a h three (stays e f w z) = record {
     move = keeps;
     valid = tt;
-    housed = record { future = λ n. (same_work m p o q s.homes s.homes a h e w refl n).0; output = λ n. (same_work m p o q s.homes s.homes a h e w refl n).1; awaiter = λ n. same_awaiter m p o q s.homes s.homes a h f z refl n };
+    housed = record { future = λ n. (same_work m p o q s.homes s.homes a h e w (refl, refl) n).0; output = λ n. (same_work m p o q s.homes s.homes a h e w (refl, refl) n).1; awaiter = λ n. same_awaiter m p o q s.homes s.homes a h f z refl n };
     carried = carried_as p o.next l l (has_work p) (has_work p) (owns_awaiter p) (owns_awaiter p) refl e refl f (carries_same (has_work p) (owns_awaiter p) o.next l);
   }
-  places m p o s l q a h two (takes_future e f g z there is) = let busy = busy_work m p o q a e f in let y = h.future (let n = a.one_worker in omega arith) there in record {
-    move = takes 0 y.0;
-    valid = y.1;
-    housed = record { future = λ n. absurd (omega arith); output = λ n. absurd (omega arith); awaiter = λ n. same_awaiter m p o q s.homes (set s.homes 0 none) a h g z (lists.set_else s.homes 0 1 none (λ z. omega arith)) n };
-    carried = carried_as p o.next l ((0, y.0) ∷ l) false true (owns_awaiter p) (owns_awaiter p) e f refl g (y.0, is y.0 y.2, refl);
-  }
-  places m p o s l q a h two (takes_output e f g z there is) = let busy = busy_work m p o q a e f in let y = h.output (let n = a.one_worker in omega arith) there in record {
-    move = takes 0 y.0;
-    valid = y.1;
-    housed = record { future = λ n. absurd (omega arith); output = λ n. absurd (omega arith); awaiter = λ n. same_awaiter m p o q s.homes (set s.homes 0 none) a h g z (lists.set_else s.homes 0 1 none (λ z. omega arith)) n };
-    carried = carried_as p o.next l ((0, y.0) ∷ l) false true (owns_awaiter p) (owns_awaiter p) e f refl g (y.0, is y.0 y.2, refl);
-  }
-  places m p o s l q a h two (gives_work y e f g z has future output) = record {
-    move = gives;
-    valid = tt;
+  places m p o s l q a h three (takes_future e f g w there is) = let busy = busy_work m p o q a e f in let free : how_many has_work m.parties ≡ 0 = (let n = a.one_worker in omega arith) in
+      let y = h.future free in let z = h.output free in record {
+        move = chain (takes 1 z.0) (takes 0 y.0);
+        valid = (z.1, lists.set_else s.homes 1 0 none (λ z. omega arith) ∙ y.1);
+        housed = record {
+          future = λ n. absurd (omega arith);
+          output = λ n. absurd (omega arith);
+          awaiter = λ n. same_awaiter m p o q s.homes (set (set s.homes 1 none) 0 none) a h g w (set_both_else s.homes 1 0 2 none none (λ z. omega arith) (λ z. omega arith)) n;
+        };
+        carried = carried_as p o.next l (future_first y.0 z.0 l) false true (owns_awaiter p) (owns_awaiter p) e f refl g (is (future_first y.0 z.0 l) (y.0, z.0, y.2 there, refl));
+      }
+  places m p o s l q a h three (takes_output e f g w there is) = let busy = busy_work m p o q a e f in let free : how_many has_work m.parties ≡ 0 = (let n = a.one_worker in omega arith) in
+      let y = h.future free in let z = h.output free in record {
+        move = chain (takes 0 y.0) (takes 1 z.0);
+        valid = (y.1, lists.set_else s.homes 0 1 none (λ z. omega arith) ∙ z.1);
+        housed = record {
+          future = λ n. absurd (omega arith);
+          output = λ n. absurd (omega arith);
+          awaiter = λ n. same_awaiter m p o q s.homes (set (set s.homes 0 none) 1 none) a h g w (set_both_else s.homes 0 1 2 none none (λ z. omega arith) (λ z. omega arith)) n;
+        };
+        carried = carried_as p o.next l (output_first y.0 z.0 l) false true (owns_awaiter p) (owns_awaiter p) e f refl g (is (output_first y.0 z.0 l) (y.0, z.0, z.2 there, refl));
+      }
+  places m p o s l q a h three (gives_work y z e f g w has future output) = let home = gives_both s y z l three has in record {
+    move = chain gives gives;
+    valid = (tt, tt);
     housed = record {
-      future = λ n b. (y, put_at s l 0 y has (omega arith), future (ap (λ x. x.future) (sym a.slots_is) ∙ b));
-      output = λ n b. (y, put_at s l 0 y has (omega arith), output (ap (λ x. x.output) (sym a.slots_is) ∙ b));
-      awaiter = λ n. same_awaiter m p o q s.homes (homes_after s.homes l gives) a h g z (put_else s l 0 1 y has (λ z. omega arith)) n;
+      future = λ n. (y, home.0, λ b. future (ap (λ x. x.future) (sym a.slots_is) ∙ b));
+      output = λ n. (z, home.1, λ b. output (ap (λ x. x.output) (sym a.slots_is) ∙ b));
+      awaiter = λ n. same_awaiter m p o q s.homes (homes_after s.homes l (chain gives gives)) a h g w home.2 n;
     };
-    carried = carried_as p o.next l (rest l) true false (owns_awaiter p) (owns_awaiter p) e f refl g refl;
+    carried = carried_as p o.next l (rest (rest l)) true false (owns_awaiter p) (owns_awaiter p) e f refl g refl;
   }
-  places m p o s l q a h two (takes_awaiter e f g w left is) = let busy = busy_awaiter m p o q a e f in let y = h.awaiter (let n = a.one_owner in omega arith) left in record {
-    move = takes 1 y.0;
-    valid = y.1;
-    housed = record {
-      future = λ n. (same_work m p o q s.homes (set s.homes 1 none) a h g w (lists.set_else s.homes 1 0 none (λ z. omega arith)) n).0;
-      output = λ n. (same_work m p o q s.homes (set s.homes 1 none) a h g w (lists.set_else s.homes 1 0 none (λ z. omega arith)) n).1;
-      awaiter = λ n. absurd (omega arith);
-    };
-    carried = carried_as p o.next l ((1, y.0) ∷ l) (has_work p) (has_work p) false true refl g e f (carries_awaiter (has_work p) o.next y.0 l (is y.0 y.2));
-  }
-  places m p o s l q a h two (gives_awaiter y e f g w has waits) = record {
-    move = gives;
-    valid = tt;
-    housed = record {
-      future = λ n. (same_work m p o q s.homes (homes_after s.homes l gives) a h g w (put_else s l 1 0 y has (λ z. omega arith)) n).0;
-      output = λ n. (same_work m p o q s.homes (homes_after s.homes l gives) a h g w (put_else s l 1 0 y has (λ z. omega arith)) n).1;
-      awaiter = λ n left. (y, put_at s l 1 y has (omega arith), subst (λ x. Waits x y) (ap (λ x. x.awaiter) (sym a.slots_is)) (waits (let x = a.emptied in omega arith)));
-    };
-    carried = carried_as p o.next l (rest l) (has_work p) (has_work p) true false refl g e f (carries_back (has_work p) o.next l);
-  }
+  places m p o s l q a h three (takes_awaiter e f g w left is) = let busy = busy_awaiter m p o q a e f in let y = h.awaiter (let n = a.one_owner in omega arith) left in
+      let same : SameHomes s.homes (set s.homes 2 none) = (lists.set_else s.homes 2 0 none (λ z. omega arith), lists.set_else s.homes 2 1 none (λ z. omega arith)) in record {
+        move = takes 2 y.0;
+        valid = y.1;
+        housed = record {
+          future = λ n. (same_work m p o q s.homes (set s.homes 2 none) a h g w same n).0;
+          output = λ n. (same_work m p o q s.homes (set s.homes 2 none) a h g w same n).1;
+          awaiter = λ n. absurd (omega arith);
+        };
+        carried = carried_as p o.next l ((2, y.0) ∷ l) (has_work p) (has_work p) false true refl g e f (carries_awaiter (has_work p) o.next y.0 l (is y.0 y.2));
+      }
+  places m p o s l q a h three (gives_awaiter y e f g w has waits) =
+      let same : SameHomes s.homes (homes_after s.homes l gives) = (put_else s l 2 0 y has (λ z. omega arith), put_else s l 2 1 y has (λ z. omega arith)) in record {
+        move = gives;
+        valid = tt;
+        housed = record {
+          future = λ n. (same_work m p o q s.homes (homes_after s.homes l gives) a h g w same n).0;
+          output = λ n. (same_work m p o q s.homes (homes_after s.homes l gives) a h g w same n).1;
+          awaiter = λ n left. (y, put_at s l 2 y has (omega arith), subst (λ x. Waits x y) (ap (λ x. x.awaiter) (sym a.slots_is)) (waits (let x = a.emptied in omega arith)));
+        };
+        carried = carried_as p o.next l (rest l) (has_work p) (has_work p) true false refl g e f (carries_back (has_work p) o.next l);
+      }

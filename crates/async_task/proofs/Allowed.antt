@@ -65,9 +65,9 @@ module _ (F T A : Type 0) (limit : ℕ) where
   }
 
   advance : (s : B) (c : limit < 36028797018963968) (r : Running limit s) (id : ℕ) (me : M) (l : ℕ) (p : Position) (ds : List Deed) (us : List Member) (acts : List Act) (new : ℕ)
-      → get_elem? s.views id ≡ some me.0 → me.0 ≡ view l (member p ds ∷ us) → length s.homes ≡ 2 → Steps r.machine p acts new me.1
+      → get_elem? s.views id ≡ some me.0 → me.0 ≡ view l (member p ds ∷ us) → length s.homes ≡ 3 → Steps r.machine p acts new me.1
       → Result F T A limit s id me new (Makes acts r.machine.word me)
-  advance s c r id me l p ds us acts new at is two x = let m : Machine = r.machine in let o : Outcome = x.outcome in let v : View = view l (member p ds ∷ us) in
+  advance s c r id me l p ds us acts new at is three x = let m : Machine = r.machine in let o : Outcome = x.outcome in let v : View = view l (member p ds ∷ us) in
       let lt = inside s.views id me.0 at in
       let t0 = subst (λ vs. Told limit vs r.log m) (sym (ap (λ z. set s.views id z) (sym is) ∙ lists.set_again s.views id me.0 at)) r.told in
       let f = follows limit s.views id l acts p ds us r.log m o t0 lt x.leads_to in let q : Machine = f.machine in
@@ -82,7 +82,7 @@ module _ (F T A : Type 0) (limit : ℕ) where
         one_worker = one_work q i;
         one_owner = (laws_of q i).awaiter;
       } in
-      let z = places F T A limit m p o s me.1 q a r.housed two x.placing in
+      let z = places F T A limit m p o s me.1 q a r.housed three x.placing in
       let w : View = view l (member o.next (noted m.word acts ds) ∷ (us ++ map fresh o.born)) in
       let limited = r.told.limited id 0 me.0 (member p ds) at (ap (λ (y : View). get_elem? y.members 0) is) in
       let same : l ≡ m.limit = sym (ap (λ (y : View). y.limit) is) ∙ (limited ∙ sym r.limited) in
@@ -115,23 +115,23 @@ module _ (F T A : Type 0) (limit : ℕ) where
   Owes acts write p ds us held = (m : Machine) → Finds limit p ds us m → (n : ℕ) → n ≡ number_of m.word → n < 18446744073709551616 → Steps m p (acts m.word) (write n) held
 
   result : (s : B) (id : ℕ) (me : M) (l : ℕ) (p : Position) (ds : List Deed) (us : List Member) (acts : State → List Act) (write : ℕ → ℕ) → Rule s
-      → get_elem? s.views id ≡ some me.0 → me.0 ≡ view l (member p ds ∷ us) → length s.homes ≡ 2 → now s < 18446744073709551616
+      → get_elem? s.views id ≡ some me.0 → me.0 ≡ view l (member p ds ∷ us) → length s.homes ≡ 3 → now s < 18446744073709551616
       → ((m : Machine) → Finds limit p ds us m → now s ≡ number_of m.word → Steps m p (acts m.word) (write (now s)) me.1)
       → Result F T A limit s id me (write (now s)) (Makes (acts (state_of (now s))) (state_of (now s)) me)
-  result s id me l p ds us acts write r at is two fits owes = let run = spawned s id me.0 l (member p ds ∷ us) r at is in let m : Machine = run.machine in
+  result s id me l p ds us acts write r at is three fits owes = let run = spawned s id me.0 l (member p ds ∷ us) r at is in let m : Machine = run.machine in
       let same : m.word ≡ state_of (now s) = sym (ap state_of run.word_is ∙ state_of_number_of m.word) in
       subst (λ (w : State). Result F T A limit s id me (write (now s)) (Makes (acts w) w me)) same
-      (advance s r.capped run id me l p ds us (acts m.word) (write (now s)) at is two (owes m (finds s r.capped run id me.0 l p ds us at is) run.word_is))
+      (advance s r.capped run id me l p ds us (acts m.word) (write (now s)) at is three (owes m (finds s r.capped run id me.0 l p ds us at is) run.word_is))
 
   -- a load, a fetch or a store
-  pub steps_always : (slots id : ℕ) (me : M) (l : ℕ) (p : Position) (ds : List Deed) (us : List Member) (acts : State → List Act) (write : ℕ → ℕ) → slots ≡ 2
+  pub steps_always : (slots id : ℕ) (me : M) (l : ℕ) (p : Position) (ds : List Deed) (us : List Member) (acts : State → List Act) (write : ℕ → ℕ) → slots ≡ 3
       → me.0 ≡ view l (member p ds ∷ us) → Owes acts write p ds us me.1 → Allows Rule slots id me 0 write (λ r m. Makes (acts (state_of r)) (state_of r) me m)
-  steps_always slots id me l p ds us acts write two is owes s r deep at fits = result s id me l p ds us acts write r at is (deep ∙ two) fits (λ m f e. owes m f (now s) e fits)
+  steps_always slots id me l p ds us acts write three is owes s r deep at fits = result s id me l p ds us acts write r at is (deep ∙ three) fits (λ m f e. owes m f (now s) e fits)
 
   -- a compare and exchange: on a miss nothing is written
-  pub steps_or_misses : (slots id : ℕ) (me : M) (l : ℕ) (p : Position) (ds : List Deed) (us : List Member) (acts missed : State → List Act) (old new : ℕ) → slots ≡ 2
+  pub steps_or_misses : (slots id : ℕ) (me : M) (l : ℕ) (p : Position) (ds : List Deed) (us : List Member) (acts missed : State → List Act) (old new : ℕ) → slots ≡ 3
       → me.0 ≡ view l (member p ds ∷ us) → ((m : Machine) → Finds limit p ds us m → old ≡ number_of m.word → Steps m p (acts m.word) new me.1) → Owes missed (λ n. n) p ds us me.1
       → Allows Rule slots id me 0 (λ n. either (eqb n old) new n) (λ r m. (r ≡ old → Makes (acts (state_of r)) (state_of r) me m) × (r ≢ old → Makes (missed (state_of r)) (state_of r) me m))
-  steps_or_misses slots id me l p ds us acts missed old new two is owes missing s r deep at fits = lists.exchanged (now s) old new (λ x. Result F T A limit s id me x (λ m. (now s ≡ old → Makes (acts (state_of (now s))) (state_of (now s)) me m) × (now s ≢ old → Makes (missed (state_of (now s))) (state_of (now s)) me m)))
-      (λ hit. let o = result s id me l p ds us acts (λ n. new) r at is (deep ∙ two) fits (λ m f e. owes m f (sym hit ∙ e)) in (o.0, o.1, o.2, o.3, ((λ _. o.4), λ no. absurd (no hit))))
-      (λ miss. let o = result s id me l p ds us missed (λ n. n) r at is (deep ∙ two) fits (λ m f e. missing m f (now s) e fits) in (o.0, o.1, o.2, o.3, ((λ hit. absurd (miss hit)), λ _. o.4)))
+  steps_or_misses slots id me l p ds us acts missed old new three is owes missing s r deep at fits = lists.exchanged (now s) old new (λ x. Result F T A limit s id me x (λ m. (now s ≡ old → Makes (acts (state_of (now s))) (state_of (now s)) me m) × (now s ≢ old → Makes (missed (state_of (now s))) (state_of (now s)) me m)))
+      (λ hit. let o = result s id me l p ds us acts (λ n. new) r at is (deep ∙ three) fits (λ m f e. owes m f (sym hit ∙ e)) in (o.0, o.1, o.2, o.3, ((λ _. o.4), λ no. absurd (no hit))))
+      (λ miss. let o = result s id me l p ds us missed (λ n. n) r at is (deep ∙ three) fits (λ m f e. missing m f (now s) e fits) in (o.0, o.1, o.2, o.3, ((λ hit. absurd (miss hit)), λ _. o.4)))

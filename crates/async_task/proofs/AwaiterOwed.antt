@@ -31,7 +31,7 @@ use Rattle.async_task.proofs.Allowed.{Owes}
 never : {P : Type 0} → false ≡ true → P
 never e = absurd (cc)
 
--- what a way leaves of the two places
+-- what a way leaves of the places
 off_work : (i : ℕ) (way : Way) → has_work (goes_off way) ≡ has_work (AwaiterInHand i way)
 off_work i OfRun = refl
 off_work i OfDrop = refl
@@ -169,7 +169,7 @@ module _ (F T A : Type 0) (limit : ℕ) where
           left = let here : 1 ≤ (census m.parties).finishing + (census m.parties).tasks = omega (arith, has_share way, counted (λ c. c.finishing + c.tasks) share_sum m.parties f.number (Notifier way) f.stands) in
               not_emptied m.limit m.word m.slots m.trace (census m.parties) f.invariant.holds here
 
-  pub releases_awaiter : (hand : Option ℕ) (way : Way) (ds : List Deed) (us : List Member) (y : Slot F T A) (l : List (ℕ × Slot F T A)) → l ≡ (1, y) ∷ rest l → IsEmpty y
+  pub releases_awaiter : (hand : Option ℕ) (way : Way) (ds : List Deed) (us : List Member) (y : Slot F T A) (l : List (ℕ × Slot F T A)) → l ≡ (2, y) ∷ rest l → IsEmpty y
       → Owes F T A limit releasing_awaiter (λ n. bit_and n 18446744073709551455) (Releaser hand way) ds us l
   releases_awaiter hand way ds us y l has empty m f x e lt = record {
     outcome = steps (scene m) (record (m.word) { notifying = false; awaiter = false }) (goes_on hand way) [] [];

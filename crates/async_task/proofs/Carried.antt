@@ -18,7 +18,7 @@ module _ {F T A : Type 0} where
   carries_kept false true q l l' e = e
   carries_kept false false q l l' e = e
 
-  carries_awaiter : (a : Bool) (q : Position) (l l' : List (ℕ × Slot F T A)) → Carries a a false true q l l' → (y : Slot F T A) × Awaits q y × (l' ≡ (1, y) ∷ l)
+  carries_awaiter : (a : Bool) (q : Position) (l l' : List (ℕ × Slot F T A)) → Carries a a false true q l l' → (y : Slot F T A) × Awaits q y × (l' ≡ (2, y) ∷ l)
   carries_awaiter true q l l' e = e
   carries_awaiter false q l l' e = e
 
@@ -32,16 +32,16 @@ module _ {F T A : Type 0} where
   pub keeps_places : (p q : Position) (l l' : List (ℕ × Slot F T A)) → has_work q ≡ has_work p → owns_awaiter q ≡ owns_awaiter p → Carried p q l l' → l' ≡ l
   keeps_places p q l l' e f x = carries_kept (has_work p) (owns_awaiter p) q l l' (at p q l l' (has_work p) (has_work p) (owns_awaiter p) (owns_awaiter p) refl e refl f x)
 
-  pub took_awaiter : (p q : Position) (l l' : List (ℕ × Slot F T A)) → has_work q ≡ has_work p → owns_awaiter p ≡ false → owns_awaiter q ≡ true → Carried p q l l' → (y : Slot F T A) × Awaits q y × (l' ≡ (1, y) ∷ l)
+  pub took_awaiter : (p q : Position) (l l' : List (ℕ × Slot F T A)) → has_work q ≡ has_work p → owns_awaiter p ≡ false → owns_awaiter q ≡ true → Carried p q l l' → (y : Slot F T A) × Awaits q y × (l' ≡ (2, y) ∷ l)
   took_awaiter p q l l' e f g x = carries_awaiter (has_work p) q l l' (at p q l l' (has_work p) (has_work p) false true refl e f g x)
 
   pub gave_awaiter : (p q : Position) (l l' : List (ℕ × Slot F T A)) → has_work q ≡ has_work p → owns_awaiter p ≡ true → owns_awaiter q ≡ false → Carried p q l l' → l' ≡ rest l
   gave_awaiter p q l l' e f g x = carries_back (has_work p) q l l' (at p q l l' (has_work p) (has_work p) true false refl e f g x)
 
-  pub took_work : (p q : Position) (l l' : List (ℕ × Slot F T A)) → has_work p ≡ false → has_work q ≡ true → Carried p q l l' → (y : Slot F T A) × Works q y × (l' ≡ (0, y) ∷ l)
+  pub took_work : (p q : Position) (l l' : List (ℕ × Slot F T A)) → has_work p ≡ false → has_work q ≡ true → Carried p q l l' → Works q l l'
   took_work p q l l' e f x = at p q l l' false true (owns_awaiter p) (owns_awaiter q) e f refl refl x
 
-  pub gave_work : (p q : Position) (l l' : List (ℕ × Slot F T A)) → has_work p ≡ true → has_work q ≡ false → Carried p q l l' → l' ≡ rest l
+  pub gave_work : (p q : Position) (l l' : List (ℕ × Slot F T A)) → has_work p ≡ true → has_work q ≡ false → Carried p q l l' → l' ≡ rest (rest l)
   gave_work p q l l' e f x = at p q l l' true false (owns_awaiter p) (owns_awaiter q) e f refl refl x
 
   same_value : (k : ℕ) (y x : Slot F T A) (l r : List (ℕ × Slot F T A)) → (k, y) ∷ l ≡ (k, x) ∷ r → (y ≡ x) × (l ≡ r)
@@ -51,7 +51,7 @@ module _ {F T A : Type 0} where
       value z [] = z
       value z (c ∷ cs) = c.1
 
-  -- another value is put into the place that was taken last
+  -- another value is put into the place in front
   pub exchanges : (p q r : Party F T A) (path : List Deed) (at : Position) (k : ℕ) (y x new : Slot F T A) (held : List (ℕ × Slot F T A)) → GoesWith path at ((k, y) ∷ held) p q
       → r.seat.table_id ≡ q.seat.table_id → q.seat.me.1 ≡ (k, x) ∷ rest q.seat.me.1 → r.seat.me ≡ (q.seat.me.0, (k, new) ∷ rest q.seat.me.1) → (y ≡ x) × GoesWith path at ((k, new) ∷ held) p r
   exchanges p q r path at k y x new held g cell found left =

@@ -129,6 +129,6 @@ allowed_row false o e = cc
 few_works : (limit : ℕ) (w : State) (slots : Slots) (t : List Event) (c : Census) → Holds limit w slots t c → runs c + closers c + c.outputs + c.claims ≤ 1
 few_works limit w slots t c h = grind arith
 
--- one party at most has the place of future and output
+-- one party at most has the places of future and output
 pub one_work : (m : Machine) → Invariant m → how_many has_work m.parties ≤ 1
 one_work m i = omega (arith, works m.parties, few_works m.limit m.word m.slots m.trace (census m.parties) i.holds)

@@ -44,16 +44,16 @@ module _ (F T A : Type 0) (limit : ℕ) where
       subst (λ (z : State × List Deed). Knows z.1 z.0) (λ i. (same i, sym (ap (λ (w : View). (head_of w.members).deeds) is) i)) (knows s run id me.0 l p ds us r.capped at is)
 
   -- a load, a fetch or a store that tells it
-  pub steps_knowing : (slots id : ℕ) (me : M) (l : ℕ) (p : Position) (ds : List Deed) (us : List Member) (acts : State → List Act) (write : ℕ → ℕ) → slots ≡ 2
+  pub steps_knowing : (slots id : ℕ) (me : M) (l : ℕ) (p : Position) (ds : List Deed) (us : List Member) (acts : State → List Act) (write : ℕ → ℕ) → slots ≡ 3
       → me.0 ≡ view l (member p ds ∷ us) → Owes F T A limit acts write p ds us me.1
       → Allows (Ruled {F = F} {T = T} {A = A} limit) slots id me 0 write (λ r m. Makes (acts (state_of r)) (state_of r) me m × Knows (head_of me.0.members).deeds (state_of r))
-  steps_knowing slots id me l p ds us acts write two is owes s r deep at fits = let o = steps_always F T A limit slots id me l p ds us acts write two is owes s r deep at fits in
+  steps_knowing slots id me l p ds us acts write three is owes s r deep at fits = let o = steps_always F T A limit slots id me l p ds us acts write three is owes s r deep at fits in
       (o.0, o.1, o.2, o.3, (o.4, knows_now s id me l p ds us is r at))
 
   -- .. and a compare and exchange
-  pub steps_or_misses_knowing : (slots id : ℕ) (me : M) (l : ℕ) (p : Position) (ds : List Deed) (us : List Member) (acts missed : State → List Act) (old new : ℕ) → slots ≡ 2
+  pub steps_or_misses_knowing : (slots id : ℕ) (me : M) (l : ℕ) (p : Position) (ds : List Deed) (us : List Member) (acts missed : State → List Act) (old new : ℕ) → slots ≡ 3
       → me.0 ≡ view l (member p ds ∷ us) → ((m : Machine) → Finds limit p ds us m → old ≡ number_of m.word → Steps m p (acts m.word) new me.1) → Owes F T A limit missed (λ n. n) p ds us me.1
       → Allows (Ruled {F = F} {T = T} {A = A} limit) slots id me 0 (λ n. either (eqb n old) new n)
       (λ r m. ((r ≡ old → Makes (acts (state_of r)) (state_of r) me m) × (r ≢ old → Makes (missed (state_of r)) (state_of r) me m)) × Knows (head_of me.0.members).deeds (state_of r))
-  steps_or_misses_knowing slots id me l p ds us acts missed old new two is owes missing s r deep at fits = let o = steps_or_misses F T A limit slots id me l p ds us acts missed old new two is owes missing s r deep at fits in
+  steps_or_misses_knowing slots id me l p ds us acts missed old new three is owes missing s r deep at fits = let o = steps_or_misses F T A limit slots id me l p ds us acts missed old new three is owes missing s r deep at fits in
       (o.0, o.1, o.2, o.3, (o.4, knows_now s id me l p ds us is r at))

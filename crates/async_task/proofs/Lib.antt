@@ -28,3 +28,7 @@ pub mod PollWays
 pub mod PollRegisters
 pub mod PollAnswers
 pub mod HandleParties
+pub mod WakerOwed
+pub mod WakerSeats
+pub mod WakerMoves
+pub mod WakerCalls

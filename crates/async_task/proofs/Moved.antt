@@ -11,7 +11,7 @@ use Rattle.async_task.specs.declared.table.View.{View}
 use Rattle.async_task.specs.declared.cell.Party.{Party}
 use Rattle.task_core.specs.Theorem.{owns_awaiter}
 use Rattle.async_task.specs.Rule.{member, view, has_work}
-use Rattle.async_task.specs.Steps.{head_of, acted, Carries, Carried, Makes}
+use Rattle.async_task.specs.Steps.{head_of, future_first, output_first, acted, Carries, Carried, Makes}
 use Rattle.async_task.specs.Calls.{deeds, position, holds, limit_of, after, StandsWith, GoesWith}
 
 after-append : (a b l : List Deed) → after (a ++ b) l ≡ after b (after a l)
@@ -63,6 +63,13 @@ module _ {F T A : Type 0} where
   -- the first place of those that it has
   pub first_held : (p : Party F T A) (at : Position) (k : ℕ) (y : Slot F T A) (l : List (ℕ × Slot F T A)) → StandsWith at ((k, y) ∷ l) p → holds p ≡ (k, y) ∷ rest (holds p)
   first_held p at k y l s = let e = held_is p at ((k, y) ∷ l) s in e ∙ ap (λ r. (k, y) ∷ r) (ap rest (sym e))
+
+  -- .. and the first two, of future and output
+  pub future_held : (p : Party F T A) (at : Position) (y z : Slot F T A) → StandsWith at (future_first y z []) p → holds p ≡ future_first y z (rest (rest (holds p)))
+  future_held p at y z s = let e = held_is p at (future_first y z []) s in e ∙ ap (future_first y z) (ap (λ l. rest (rest l)) (sym e))
+
+  pub output_held : (p : Party F T A) (at : Position) (y z : Slot F T A) → StandsWith at (output_first y z []) p → holds p ≡ output_first y z (rest (rest (holds p)))
+  output_held p at y z s = let e = held_is p at (output_first y z []) s in e ∙ ap (output_first y z) (ap (λ l. rest (rest l)) (sym e))
 
 -- a place that nobody takes or gives stays
 carries_nothing : {F T A : Type 0} (a c : Bool) (q : Position) (l l' : List (ℕ × Slot F T A)) → Carries {F = F} {T = T} {A = A} a a c c q l l' → l' ≡ l

@@ -53,7 +53,7 @@ module _ {F T A : Type 0} where
     pub hand : Option ℕ
     pub value : Slot F T A
     pub waits : Waits hand value
-    pub goes : GoesWith (row BeginNotify w ∷ act TakeAwaiter ∷ []) (Releaser hand way) ((1, value) ∷ held) p q
+    pub goes : GoesWith (row BeginNotify w ∷ act TakeAwaiter ∷ []) (Releaser hand way) ((2, value) ∷ held) p q
 
   pub taken : (way : Way) (held : List (ℕ × Slot F T A)) (p q : Party F T A) (w : State) → StandsWith (Notifier way) held p → q.seat.table_id ≡ p.seat.table_id
       → Makes (taking_awaiter w) w p.seat.me q.seat.me → (w.notifying || w.registering) ≡ false → Taken way held w p q
@@ -61,18 +61,18 @@ module _ {F T A : Type 0} where
       let m = moved.moved (BeginNotify ∷ TakeAwaiter ∷ []) w (Notifier way) held p q s (subst (λ b. Makes (if b then MissNotify ∷ [] else BeginNotify ∷ TakeAwaiter ∷ []) w p.seat.me q.seat.me) is made) in
       let hand : Option ℕ = m.slots.awaiter in
       let y = took_awaiter (Notifier way) (Releaser hand way) held q.seat.me.1 (same_way hand way) refl refl m.carried in
-      record { hand = hand; value = y.0; waits = y.1; goes = moved.goes p q (row BeginNotify w ∷ act TakeAwaiter ∷ []) (Releaser hand way) ((1, y.0) ∷ held) cell m.viewed y.2 }
+      record { hand = hand; value = y.0; waits = y.1; goes = moved.goes p q (row BeginNotify w ∷ act TakeAwaiter ∷ []) (Releaser hand way) ((2, y.0) ∷ held) cell m.viewed y.2 }
 
   -- .. as nobody else was found at it
   pub taken_free : (p q : Party F T A) (w v : State) (n r : Bool) (s : (way : Way) × (held : List (ℕ × Slot F T A)) × StandsWith (Notifier way) held p) → q.seat.table_id ≡ p.seat.table_id → Makes (taking_awaiter w) w p.seat.me q.seat.me
       → v ≡ w → n ≡ v.notifying → r ≡ v.registering → n ≡ false → r ≡ false → Taken s.0 s.1 w p q
   taken_free p q w v n r s cell made same e f g h = taken s.0 s.1 p q w s.2 cell made (neither w.notifying w.registering (ap (λ u. u.notifying) (sym same) ∙ (sym e ∙ g)) (ap (λ u. u.registering) (sym same) ∙ (sym f ∙ h)))
 
-  pub released : (hand : Option ℕ) (way : Way) (y : Slot F T A) (held : List (ℕ × Slot F T A)) (p q : Party F T A) (w : State) → StandsWith (Releaser hand way) ((1, y) ∷ held) p → q.seat.table_id ≡ p.seat.table_id
+  pub released : (hand : Option ℕ) (way : Way) (y : Slot F T A) (held : List (ℕ × Slot F T A)) (p q : Party F T A) (w : State) → StandsWith (Releaser hand way) ((2, y) ∷ held) p → q.seat.table_id ≡ p.seat.table_id
       → Makes (releasing_awaiter w) w p.seat.me q.seat.me → GoesWith (row EndNotify w ∷ []) (goes_on hand way) held p q
   released hand way y held p q w s cell made =
-      let m = moved.moved (EndNotify ∷ []) w (Releaser hand way) ((1, y) ∷ held) p q s made in
-      moved.goes p q (row EndNotify w ∷ []) (goes_on hand way) held cell m.viewed (gave_awaiter (Releaser hand way) (goes_on hand way) ((1, y) ∷ held) q.seat.me.1 (on_work hand way ∙ sym (same_way hand way)) refl (on_free hand way) m.carried)
+      let m = moved.moved (EndNotify ∷ []) w (Releaser hand way) ((2, y) ∷ held) p q s made in
+      moved.goes p q (row EndNotify w ∷ []) (goes_on hand way) held cell m.viewed (gave_awaiter (Releaser hand way) (goes_on hand way) ((2, y) ∷ held) q.seat.me.1 (on_work hand way ∙ sym (same_way hand way)) refl (on_free hand way) m.carried)
 
   found_there : (w v : State) (hand : Option ℕ) (y : Slot F T A) (p q : Party F T A) → Waits hand y → GoesWith (row BeginNotify w ∷ act TakeAwaiter ∷ row EndNotify v ∷ []) (goes_on hand (way_of (position p))) (holds p) p q → Notifies p q (awaiter_of y)
   found_there w v None Empty p q h g = finds_none w v g
@@ -85,9 +85,9 @@ module _ {F T A : Type 0} where
   found_there w v (Some i) (Awaiter a) p q h g = takes_awaiter w v i a g
 
   pub notified : (way : Way) (held : List (ℕ × Slot F T A)) (w v : State) (hand : Option ℕ) (y : Slot F T A) (p q r : Party F T A) (found : Option A) → StandsWith (Notifier way) held p → Waits hand y
-      → GoesWith (row BeginNotify w ∷ act TakeAwaiter ∷ []) (Releaser hand way) ((1, Empty) ∷ held) p q → r.seat.table_id ≡ q.seat.table_id → Makes (releasing_awaiter v) v q.seat.me r.seat.me → found ≡ awaiter_of y → Notifies p r found
+      → GoesWith (row BeginNotify w ∷ act TakeAwaiter ∷ []) (Releaser hand way) ((2, Empty) ∷ held) p q → r.seat.table_id ≡ q.seat.table_id → Makes (releasing_awaiter v) v q.seat.me r.seat.me → found ≡ awaiter_of y → Notifies p r found
   notified way held w v hand y p q r found s waits g cell made is =
-      let h = released hand way Empty held q r v (moved.stands p q (row BeginNotify w ∷ act TakeAwaiter ∷ []) (Releaser hand way) ((1, Empty) ∷ held) g) cell made in
+      let h = released hand way Empty held q r v (moved.stands p q (row BeginNotify w ∷ act TakeAwaiter ∷ []) (Releaser hand way) ((2, Empty) ∷ held) g) cell made in
       subst (λ (x : Option A). Notifies p r x) (sym is)
       (found_there w v hand y p r waits (as_said p r (row BeginNotify w ∷ act TakeAwaiter ∷ row EndNotify v ∷ []) hand way held s
-      (moved.goes_on p q r (row BeginNotify w ∷ act TakeAwaiter ∷ []) (row EndNotify v ∷ []) (Releaser hand way) (goes_on hand way) ((1, Empty) ∷ held) held g h)))
+      (moved.goes_on p q r (row BeginNotify w ∷ act TakeAwaiter ∷ []) (row EndNotify v ∷ []) (Releaser hand way) (goes_on hand way) ((2, Empty) ∷ held) held g h)))

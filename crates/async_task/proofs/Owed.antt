@@ -1,5 +1,5 @@
 -- What each step owes: the machine allows its acts, and writes its number.
-use Rattle.std.proofs.Common.{◌≡◌, ℕ, zero, suc, ◌+◌, ◌≤◌, Bool, true, false, not, List, [], ◌∷◌, refl, sym, ap, ◌∙◌, inr, arith}
+use Rattle.std.proofs.Common.{◌≡◌, ℕ, zero, suc, ◌+◌, ◌≤◌, Bool, true, false, not, List, [], ◌∷◌, refl, sym, ap, ◌∙◌, inl, inr, arith}
 use Rattle.std.specs.Prelude.{bit_and}
 use mathlib.Core.Option.{some, some-injective, some-ne-none}
 use lib.ListN.{get_elem?}
@@ -23,6 +23,7 @@ use Rattle.async_task.specs.declared.table.Slot.{Slot}
 use Rattle.async_task.specs.declared.table.Deed.{Deed}
 use Rattle.async_task.specs.declared.table.Member.{Member}
 use Rattle.async_task.specs.Rule.{has_work}
+use Rattle.async_task.specs.Steps.{future_first}
 use Rattle.async_task.specs.TaskScripts.{looking_finished}
 use Rattle.async_task.specs.RunScripts.{unscheduling}
 use Rattle.async_task.proofs.Advance.{stays, gives_work}
@@ -73,18 +74,18 @@ module _ (F T A : Type 0) (limit : ℕ) where
   no_output : (limit : ℕ) (w : State) (slots : Slots) (t : List Event) (c : Census) → Holds limit w slots t c → 1 ≤ closers c → slots.output ≡ false
   no_output limit w slots t c h e = grind arith
 
-  pub unschedules : (closer : Closer) (ds : List Deed) (us : List Member) (y : Slot F T A) (l : List (ℕ × Slot F T A)) → l ≡ (0, y) ∷ rest l → Owes F T A limit unscheduling (λ n. bit_and n 18446744073709551614) (FutureInHand closer) ds us l
-  unschedules ClosedRun ds us y l has m f x e lt = let i = idle_run m.word.awaiter in let none = no_output m.limit m.word m.slots m.trace (census m.parties) f.invariant.holds (counted_at closers (λ a b. closers_sum a b) m.parties f.number (FutureInHand ClosedRun) f.stands) in record {
+  pub unschedules : (closer : Closer) (ds : List Deed) (us : List Member) (y z : Slot F T A) (l : List (ℕ × Slot F T A)) → l ≡ future_first y z (rest (rest l)) → Owes F T A limit unscheduling (λ n. bit_and n 18446744073709551614) (FutureInHand closer) ds us l
+  unschedules ClosedRun ds us y z l has m f x e lt = let i = idle_run m.word.awaiter in let none = no_output m.limit m.word m.slots m.trace (census m.parties) f.invariant.holds (counted_at closers (λ a b. closers_sum a b) m.parties f.number (FutureInHand ClosedRun) f.stands) in record {
     outcome = record { word = record (m.word) { scheduled = false }; slots = record (m.slots) { future = false }; next = notifies m.word.awaiter OfRun; born = []; told = RunEnded ∷ FutureDropped ∷ [] };
     leads_to = refl;
     writes = fetch_and-scheduled x lt ∙ ap (λ (w : State). number_of (record w { scheduled = false })) (ap state_of e ∙ state_of_number_of m.word);
     idle = (refl, refl);
-    placing = gives_work y refl i.0 i.1 (inr (refl, refl)) has (λ z. never z) (λ z. never (sym none ∙ z));
+    placing = gives_work y z refl i.0 i.1 (inr (refl, refl)) (inl has) (λ e. never e) (λ e. never (sym none ∙ e));
   }
-  unschedules DroppedRunnable ds us y l has m f x e lt = let i = idle_drop m.word.awaiter in let none = no_output m.limit m.word m.slots m.trace (census m.parties) f.invariant.holds (counted_at closers (λ a b. closers_sum a b) m.parties f.number (FutureInHand DroppedRunnable) f.stands) in record {
+  unschedules DroppedRunnable ds us y z l has m f x e lt = let i = idle_drop m.word.awaiter in let none = no_output m.limit m.word m.slots m.trace (census m.parties) f.invariant.holds (counted_at closers (λ a b. closers_sum a b) m.parties f.number (FutureInHand DroppedRunnable) f.stands) in record {
     outcome = record { word = record (m.word) { scheduled = false }; slots = record (m.slots) { future = false }; next = notifies m.word.awaiter OfDrop; born = []; told = RunEnded ∷ FutureDropped ∷ [] };
     leads_to = refl;
     writes = fetch_and-scheduled x lt ∙ ap (λ (w : State). number_of (record w { scheduled = false })) (ap state_of e ∙ state_of_number_of m.word);
     idle = (refl, refl);
-    placing = gives_work y refl i.0 i.1 (inr (refl, refl)) has (λ z. never z) (λ z. never (sym none ∙ z));
+    placing = gives_work y z refl i.0 i.1 (inr (refl, refl)) (inl has) (λ e. never e) (λ e. never (sym none ∙ e));
   }

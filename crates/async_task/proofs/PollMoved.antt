@@ -79,7 +79,7 @@ module _ {F T A : Type 0} where
       finds_one w e (subst (λ at. Goes path (RefusedClone (poll_number at)) p q) (sym (position_is p (Registrar i) [] s)) (subst (λ l. GoesWith path (RefusedClone i) l p q) g.0 g.1))
 
   -- the slot that is taken, by what stood in it
-  carried_slot : (i : ℕ) (hand : Option ℕ) (l' : List (ℕ × Slot F T A)) → Carried (Registrar i) (after_storing i hand) [] l' → (y : Slot F T A) × Waits hand y × (l' ≡ (1, y) ∷ [])
+  carried_slot : (i : ℕ) (hand : Option ℕ) (l' : List (ℕ × Slot F T A)) → Carried (Registrar i) (after_storing i hand) [] l' → (y : Slot F T A) × Waits hand y × (l' ≡ (2, y) ∷ [])
   carried_slot i None l' c = c
   carried_slot i (Some old) l' c = c
 
@@ -88,11 +88,11 @@ module _ {F T A : Type 0} where
       let path : List Deed = act CloneAwaiter ∷ row BeginRegister w ∷ act StoreAwaiter ∷ [] in let hand : Option ℕ = m.slots.awaiter in
       let g = went (CloneAwaiter ∷ BeginRegister ∷ StoreAwaiter ∷ []) w (Registrar i) (after_storing i hand) [] path p q s cell m refl refl refl in
       let y = carried_slot i hand q.seat.me.1 g.0 in
-      begins w hand y.0 e y.1 (subst (λ at. GoesWith path (after_storing (poll_number at) hand) ((1, y.0) ∷ []) p q) (sym (position_is p (Registrar i) [] s)) (subst (λ l. GoesWith path (after_storing i hand) l p q) y.2 g.1))
+      begins w hand y.0 e y.1 (subst (λ at. GoesWith path (after_storing (poll_number at) hand) ((2, y.0) ∷ []) p q) (sym (position_is p (Registrar i) [] s)) (subst (λ l. GoesWith path (after_storing i hand) l p q) y.2 g.1))
 
   -- the slot is given back
-  pub ended : (i : ℕ) (w : State) (y : Slot F T A) (p q : Party F T A) → StandsWith (Registered i) ((1, y) ∷ []) p → q.seat.table_id ≡ p.seat.table_id → w.notifying ≡ false → Makes (ending_register w) w p.seat.me q.seat.me → EndsRegister p q true
+  pub ended : (i : ℕ) (w : State) (y : Slot F T A) (p q : Party F T A) → StandsWith (Registered i) ((2, y) ∷ []) p → q.seat.table_id ≡ p.seat.table_id → w.notifying ≡ false → Makes (ending_register w) w p.seat.me q.seat.me → EndsRegister p q true
   ended i w y p q s cell e m =
       let path : List Deed = row EndRegister w ∷ [] in
-      let g = went (EndRegister ∷ []) w (Registered i) (Looking i) ((1, y) ∷ []) path p q s cell m refl refl refl in
-      ends w e (subst (λ at. Goes path (Looking (poll_number at)) p q) (sym (position_is p (Registered i) ((1, y) ∷ []) s)) (subst (λ l. GoesWith path (Looking i) l p q) g.0 g.1))
+      let g = went (EndRegister ∷ []) w (Registered i) (Looking i) ((2, y) ∷ []) path p q s cell m refl refl refl in
+      ends w e (subst (λ at. Goes path (Looking (poll_number at)) p q) (sym (position_is p (Registered i) ((2, y) ∷ []) s)) (subst (λ l. GoesWith path (Looking i) l p q) g.0 g.1))

@@ -28,8 +28,8 @@ use Rattle.async_task.specs.declared.table.Slot.{Slot}
 use Rattle.async_task.specs.declared.table.Slot.TheVariants.{Awaiter}
 use Rattle.async_task.specs.declared.table.Deed.{Deed}
 use Rattle.async_task.specs.declared.table.Member.{Member}
-use Rattle.async_task.specs.Rule.{has_work, IsEmpty, IsOutput, IsAwaiter, Waits}
-use Rattle.async_task.specs.Steps.{and_then, Works, Awaits}
+use Rattle.async_task.specs.Rule.{has_work, IsEmpty, IsAwaiter, Waits}
+use Rattle.async_task.specs.Steps.{and_then, output_first, TakesOutput, Works, Awaits}
 use Rattle.async_task.specs.Scripts.{ending, waking, dropping}
 use Rattle.async_task.specs.PollScripts.{has_output, has_ended, has_to_wait, looking, looking_again, handing_out, refusing, finding_notifier}
 use Rattle.async_task.specs.PollPaths.{claims_from}
@@ -190,17 +190,17 @@ module _ (F T A : Type 0) (limit : ℕ) where
     placing = takes_output free.0 f.0 (f.1 ∙ sym free.1) (inr (refl, told_none)) there (works m.word.awaiter);
   }
     where
-      works : (b : Bool) (y : Slot F T A) → IsOutput y → Works (notifies b (OfClaim i)) y
-      works true y h = h
-      works false y h = h
+      works : (b : Bool) (l' : List (ℕ × Slot F T A)) → TakesOutput l l' → Works (notifies b (OfClaim i)) l l'
+      works true l' h = h
+      works false l' h = h
 
-  pub hands_out : (i : ℕ) (ds : List Deed) (us : List Member) (y : Slot F T A) (l : List (ℕ × Slot F T A)) → l ≡ (0, y) ∷ rest l → Owes F T A limit handing_out (λ n. n) (Claimer i) ds us l
-  hands_out i ds us y l has m f number x lt = let none = future_gone m.limit m.word m.slots m.trace (census m.parties) f.invariant.holds (counted_at (λ c. c.claims) (λ a b. claims_sum a b) m.parties f.number (Claimer i) f.stands) in record {
+  pub hands_out : (i : ℕ) (ds : List Deed) (us : List Member) (y z : Slot F T A) (l : List (ℕ × Slot F T A)) → l ≡ output_first y z (rest (rest l)) → Owes F T A limit handing_out (λ n. n) (Claimer i) ds us l
+  hands_out i ds us y z l has m f number x lt = let none = future_gone m.limit m.word m.slots m.trace (census m.parties) f.invariant.holds (counted_at (λ c. c.claims) (λ a b. claims_sum a b) m.parties f.number (Claimer i) f.stands) in record {
     outcome = record { word = m.word; slots = record (m.slots) { output = false }; next = At (Task i); born = []; told = PollEnds i HasOutput ∷ OutputTaken ∷ [] };
     leads_to = refl;
     writes = x;
     idle = (refl, refl);
-    placing = gives_work y refl refl refl (inr (refl, refl)) has (λ z. never (sym none ∙ z)) (λ z. never z);
+    placing = gives_work y z refl refl refl (inr (refl, refl)) (inr has) (λ e. never (sym none ∙ e)) (λ e. never e);
   }
 
   finds_by : (m : Machine) (i number : ℕ) (l : List (ℕ × Slot F T A)) (b : Bool) → m.word.notifying ≡ b → number ≡ number_of m.word → Steps m (Registrar i) (if b then CloneAwaiter ∷ FindNotify ∷ [] else []) number l
@@ -275,7 +275,7 @@ module _ (F T A : Type 0) (limit : ℕ) where
         placing = takes_awaiter refl s.1 s.0 (inr (refl, refl)) none (stored_awaits i m.slots.awaiter);
       }
 
-  pub ends_register : (i : ℕ) (ds : List Deed) (us : List Member) (y : Slot F T A) (l : List (ℕ × Slot F T A)) (m : Machine) (new : ℕ) → Finds limit (Registered i) ds us m → l ≡ (1, y) ∷ rest l → IsAwaiter y → Fits EndRegister m.word new
+  pub ends_register : (i : ℕ) (ds : List Deed) (us : List Member) (y : Slot F T A) (l : List (ℕ × Slot F T A)) (m : Machine) (new : ℕ) → Finds limit (Registered i) ds us m → l ≡ (2, y) ∷ rest l → IsAwaiter y → Fits EndRegister m.word new
       → Steps m (Registered i) (EndRegister ∷ []) new l
   ends_register i ds us y l m new f has is fit = let stored = clone_stored i m.word m.slots m.trace (awaiting i m.parties) (f.invariant.shakes i) (registered_at i m.parties f.number (Registered i) f.stands) in record {
     outcome = steps (scene m) (written EndRegister m.word) (Looking i) [] [];
@@ -285,7 +285,7 @@ module _ (F T A : Type 0) (limit : ℕ) where
     placing = gives_awaiter y refl refl refl (inr (refl, refl)) has (λ _. subst (λ (hand : Option ℕ). Waits hand y) (sym stored) is);
   }
 
-  pub ends_notified : (i : ℕ) (ds : List Deed) (us : List Member) (y : Slot F T A) (l : List (ℕ × Slot F T A)) (m : Machine) (new : ℕ) → Finds limit (Registered i) ds us m → l ≡ (1, y) ∷ rest l → IsEmpty y → Fits EndRegisterNotified m.word new
+  pub ends_notified : (i : ℕ) (ds : List Deed) (us : List Member) (y : Slot F T A) (l : List (ℕ × Slot F T A)) (m : Machine) (new : ℕ) → Finds limit (Registered i) ds us m → l ≡ (2, y) ∷ rest l → IsEmpty y → Fits EndRegisterNotified m.word new
       → Steps m (Registered i) (TakeAwaiter ∷ EndRegisterNotified ∷ []) new l
   ends_notified i ds us y l m new f has is fit = record {
     outcome = record { word = written EndRegisterNotified m.word; slots = record (m.slots) { awaiter = None }; next = CloneInHand i; born = []; told = [] };

@@ -28,7 +28,7 @@ number_after n (Some old) = refl
 module _ {F T A : Type 0} where
   -- what a Task comes to that would take the slot, and that would give it back
   abbrev pub Begun : Party F T A → Party F T A → Bool → Type 0
-  Begun p q true = (w : State) × (hand : Option ℕ) × (y : Slot F T A) × (w.notifying ≡ false) × Waits hand y × GoesWith (stored w) (after_storing (poll_number (position p)) hand) ((1, y) ∷ []) p q
+  Begun p q true = (w : State) × (hand : Option ℕ) × (y : Slot F T A) × (w.notifying ≡ false) × Waits hand y × GoesWith (stored w) (after_storing (poll_number (position p)) hand) ((2, y) ∷ []) p q
   Begun p q false = (w : State) × (w.notifying ≡ true) × Goes (act CloneAwaiter ∷ row FindNotify w ∷ []) (RefusedClone (poll_number (position p))) p q
 
   begun_by : (p q : Party F T A) (b : Bool) → BeginsRegister p q b → Begun p q b
@@ -61,18 +61,18 @@ module _ {F T A : Type 0} where
 
   -- the clone was put in
   abbrev pub HasStored : A → Party F T A → Party F T A → Type 0
-  HasStored clone p q = (w : State) × (stood : Bool) × (w.notifying ≡ false) × GoesWith (stored w ++ dropped_if stood) (Registered (poll_number (position p))) ((1, Awaiter clone) ∷ []) p q
+  HasStored clone p q = (w : State) × (stood : Bool) × (w.notifying ≡ false) × GoesWith (stored w ++ dropped_if stood) (Registered (poll_number (position p))) ((2, Awaiter clone) ∷ []) p q
 
-  pub stores_clone : (p q r : Party F T A) (b : Bool) (clone : A) → BeginsRegister p q b → b ≡ true → (stood : Bool) × GoesWith (dropped_if stood) (Registered (poll_number (position q))) ((1, Awaiter clone) ∷ []) q r → HasStored clone p r
-  stores_clone p q r b clone f e s = let x = has_begun p q b true f e in (x.0, s.0, x.3, is_stored p q r x.0 s.0 x.1 (poll_number (position p)) ((1, x.2) ∷ []) ((1, Awaiter clone) ∷ []) x.5 s.1)
+  pub stores_clone : (p q r : Party F T A) (b : Bool) (clone : A) → BeginsRegister p q b → b ≡ true → (stood : Bool) × GoesWith (dropped_if stood) (Registered (poll_number (position q))) ((2, Awaiter clone) ∷ []) q r → HasStored clone p r
+  stores_clone p q r b clone f e s = let x = has_begun p q b true f e in (x.0, s.0, x.3, is_stored p q r x.0 s.0 x.1 (poll_number (position p)) ((2, x.2) ∷ []) ((2, Awaiter clone) ∷ []) x.5 s.1)
 
   -- .. and is still there, where a notifier came meanwhile
   pub keeps_clone : (p r t : Party F T A) (b : Bool) (clone : A) → HasStored clone p r → EndsRegister r t b → b ≡ false → HasStored clone p t
-  keeps_clone p r t b clone x f e = (x.0, x.1, x.2, goes_still p r t (stored x.0 ++ dropped_if x.1) (Registered (poll_number (position p))) ((1, Awaiter clone) ∷ []) x.3 (has_ended r t b false f e))
+  keeps_clone p r t b clone x f e = (x.0, x.1, x.2, goes_still p r t (stored x.0 ++ dropped_if x.1) (Registered (poll_number (position p))) ((2, Awaiter clone) ∷ []) x.3 (has_ended r t b false f e))
 
   -- the clone that is taken out is the one that was put in
-  pub same_clone : (p : Party F T A) (n : ℕ) (a b : A) → StandsWith (Registered n) ((1, Awaiter a) ∷ []) p → holds p ≡ (1, Awaiter b) ∷ [] → b ≡ a
-  same_clone p n a b s e = let same = same_first (holds p) [] [] 1 (Awaiter a) (Awaiter b) (held_is p (Registered n) ((1, Awaiter a) ∷ []) s) e in cc
+  pub same_clone : (p : Party F T A) (n : ℕ) (a b : A) → StandsWith (Registered n) ((2, Awaiter a) ∷ []) p → holds p ≡ (2, Awaiter b) ∷ [] → b ≡ a
+  same_clone p n a b s e = let same = same_first (holds p) [] [] 2 (Awaiter a) (Awaiter b) (held_is p (Registered n) ((2, Awaiter a) ∷ []) s) e in cc
 
   module _ (cloned : A → Option A → Type 0) (woken woken_by_ref : A → Type 0) (awaiter : A) where
     abbrev pub IsRegistered : ℕ → Party F T A → Party F T A → Type 0

@@ -148,21 +148,21 @@ module _ {F T A : Type 0} where
     goes_from p p path (Claimer i) held (holds p) (λ x. Claimer (poll_number x)) s' (subst (λ l. GoesWith path (Claimer i) l p p) (sym (held_is p (Claimer i) held s')) (record { cell = refl; is = s' })),
   )
 
-  pub is_claimer : (n : ℕ) (y : Slot F T A) (a b : List Deed) (w : State) (p q r : Party F T A) → GoesWith a (notifies w.awaiter (OfClaim n)) ((0, y) ∷ []) p q → GoesWith b (Claimer (poll_number (position q))) (holds q) q r
-      → GoesWith (a ++ b) (Claimer n) ((0, y) ∷ []) p r
-  is_claimer n y a b w p q r g h = let s = stands p q a (notifies w.awaiter (OfClaim n)) ((0, y) ∷ []) g in
-      subst (λ (z : ℕ × List (ℕ × Slot F T A)). GoesWith (a ++ b) (Claimer z.0) z.1 p r) (λ j. (number w.awaiter j, held_is q (notifies w.awaiter (OfClaim n)) ((0, y) ∷ []) s j))
-      (then_goes p q r a b (notifies w.awaiter (OfClaim n)) ((0, y) ∷ []) (holds q) (λ x. Claimer (poll_number x)) g h)
+  pub is_claimer : (n : ℕ) (held : List (ℕ × Slot F T A)) (a b : List Deed) (w : State) (p q r : Party F T A) → GoesWith a (notifies w.awaiter (OfClaim n)) held p q → GoesWith b (Claimer (poll_number (position q))) (holds q) q r
+      → GoesWith (a ++ b) (Claimer n) held p r
+  is_claimer n held a b w p q r g h = let s = stands p q a (notifies w.awaiter (OfClaim n)) held g in
+      subst (λ (z : ℕ × List (ℕ × Slot F T A)). GoesWith (a ++ b) (Claimer z.0) z.1 p r) (λ j. (number w.awaiter j, held_is q (notifies w.awaiter (OfClaim n)) held s j))
+      (then_goes p q r a b (notifies w.awaiter (OfClaim n)) held (holds q) (λ x. Claimer (poll_number x)) g h)
     where
       number : (b : Bool) → poll_number (notifies b (OfClaim n)) ≡ n
       number true = refl
       number false = refl
 
-  pub handed_out : (woken : A → Type 0) (compared : A → A → Bool → Type 0) (awaiter : A) (n : ℕ) (y : Slot F T A) (taken : List Deed) (w : State) (p q r t : Party F T A) → has_output w ≡ true → TakePathIf woken compared awaiter w.awaiter taken
-      → GoesWith (row ClaimOutput w ∷ []) (notifies w.awaiter (OfClaim n)) ((0, y) ∷ []) p q → GoesWith taken (Claimer (poll_number (position q))) (holds q) q r → Goes (act HandOutOutput ∷ act EndCall ∷ []) (ends (position r)) r t
+  pub handed_out : (woken : A → Type 0) (compared : A → A → Bool → Type 0) (awaiter : A) (n : ℕ) (held : List (ℕ × Slot F T A)) (taken : List Deed) (w : State) (p q r t : Party F T A) → has_output w ≡ true → TakePathIf woken compared awaiter w.awaiter taken
+      → GoesWith (row ClaimOutput w ∷ []) (notifies w.awaiter (OfClaim n)) held p q → GoesWith taken (Claimer (poll_number (position q))) (holds q) q r → Goes (act HandOutOutput ∷ act EndCall ∷ []) (ends (position r)) r t
       → (path : List Deed) × ClaimPath woken compared awaiter path × Goes path (as_task n) p t
-  handed_out woken compared awaiter n y taken w p q r t e k g h o = (
+  handed_out woken compared awaiter n held taken w p q r t e k g h o = (
     row ClaimOutput w ∷ taken ++ (act HandOutOutput ∷ act EndCall ∷ []),
     paths.claims w taken e k,
-    then_goes p r t (row ClaimOutput w ∷ taken) (act HandOutOutput ∷ act EndCall ∷ []) (Claimer n) ((0, y) ∷ []) [] ends (is_claimer n y (row ClaimOutput w ∷ []) taken w p q r g h) o,
+    then_goes p r t (row ClaimOutput w ∷ taken) (act HandOutOutput ∷ act EndCall ∷ []) (Claimer n) held [] ends (is_claimer n held (row ClaimOutput w ∷ []) taken w p q r g h) o,
   )

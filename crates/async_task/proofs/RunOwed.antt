@@ -27,7 +27,7 @@ use Rattle.async_task.specs.declared.table.Slot.TheVariants.{Empty}
 use Rattle.async_task.specs.declared.table.Deed.{Deed}
 use Rattle.async_task.specs.declared.table.Member.{Member}
 use Rattle.async_task.specs.Rule.{has_work, IsFuture, IsOutput}
-use Rattle.async_task.specs.Steps.{then_leaves}
+use Rattle.async_task.specs.Steps.{then_leaves, future_first, output_first}
 use Rattle.async_task.specs.Scripts.{dropping_output}
 use Rattle.async_task.specs.RunScripts.{giving_up, emptying, discarding, answering_ready, completing, answering_pending, ending_pending, missing_end, ending_closed, completed_word, after_pending}
 use Rattle.async_task.proofs.Facts.{queued}
@@ -134,7 +134,7 @@ module _ (F T A : Type 0) (limit : ℕ) where
         placing = takes_awaiter refl refl refl (inr (refl, refl)) (not_emptied m.limit m.word m.slots m.trace (census m.parties) f.invariant.holds (let h = here in omega arith)) (λ y w. (m.slots.awaiter, w));
       }
 
-  pub empties : (hand : Option ℕ) (answer : Answer) (ds : List Deed) (us : List Member) (l : List (ℕ × Slot F T A)) → l ≡ (1, Empty) ∷ rest l → Owes F T A limit emptying (λ n. n) (Emptier hand answer) ds us l
+  pub empties : (hand : Option ℕ) (answer : Answer) (ds : List Deed) (us : List Member) (l : List (ℕ × Slot F T A)) → l ≡ (2, Empty) ∷ rest l → Owes F T A limit emptying (λ n. n) (Emptier hand answer) ds us l
   empties hand answer ds us l has m f x e lt = record {
     outcome = keeps (scene m) m.word (record (m.slots) { awaiter = None }) (after_giving_up hand answer) (Empties ∷ ended_clone (m.slots.awaiter));
     leads_to = refl;
@@ -158,14 +158,14 @@ module _ (F T A : Type 0) (limit : ℕ) where
         leads_to = leads_first (scene m) DiscardClosed [] (At Runnable) _ h refl;
         writes = sets ∙ ap number_of (closed_already m.word h);
         idle = (refl, refl);
-        placing = takes_future refl refl refl (inr (refl, refl)) there (λ y is. is);
+        placing = takes_future refl refl refl (inr (refl, refl)) there (λ _ h. h);
       }
       by false h = record {
         outcome = steps (scene m) (record (m.word) { closed = true }) (FutureInHand DroppedRunnable) [] (Closes ∷ TakenUp ∷ []);
         leads_to = leads_first (scene m) DiscardOpen [] (At Runnable) _ (ap not h) refl;
         writes = sets;
         idle = (refl, refl);
-        placing = takes_future refl refl refl (inr (refl, refl)) there (λ y is. is);
+        placing = takes_future refl refl refl (inr (refl, refl)) there (λ _ h. h);
       }
 
   pub answers_ready : (ds : List Deed) (us : List Member) (l : List (ℕ × Slot F T A)) → Owes F T A limit answering_ready (λ n. n) Polling ds us l
@@ -219,25 +219,25 @@ module _ (F T A : Type 0) (limit : ℕ) where
         placing = stays refl refl (inl refl) (inr (refl, refl));
       }
 
-  pub ends_closed : (ds : List Deed) (us : List Member) (y : Slot F T A) (l : List (ℕ × Slot F T A)) → l ≡ (0, y) ∷ rest l → Owes F T A limit ending_closed (λ n. bit_and n 18446744073709551612) Cleared ds us l
-  ends_closed ds us y l has m f x e lt = record {
+  pub ends_closed : (ds : List Deed) (us : List Member) (y z : Slot F T A) (l : List (ℕ × Slot F T A)) → l ≡ future_first y z (rest (rest l)) → Owes F T A limit ending_closed (λ n. bit_and n 18446744073709551612) Cleared ds us l
+  ends_closed ds us y z l has m f x e lt = record {
     outcome = steps (scene m) (record (m.word) { running = false; scheduled = false }) (notifies m.word.awaiter OfRun) [] (RunEnded ∷ []);
     leads_to = refl;
     writes = fetch_and-scheduled_running x lt ∙ ap (λ (w : State). number_of (record w { scheduled = false; running = false })) (ap state_of e ∙ state_of_number_of m.word);
     idle = (refl, refl);
-    placing = gives_work y refl (due_work m.word.awaiter) (due_free m.word.awaiter) (inr (refl, refl)) has (λ z. never (sym gone.0 ∙ z)) (λ z. never (sym gone.1 ∙ z));
+    placing = gives_work y z refl (due_work m.word.awaiter) (due_free m.word.awaiter) (inr (refl, refl)) (inl has) (λ e. never (sym gone.0 ∙ e)) (λ e. never (sym gone.1 ∙ e));
   }
     where
       gone : (m.slots.future ≡ false) × (m.slots.output ≡ false)
       gone = cleared_facts m.limit m.word m.slots m.trace (census m.parties) f.invariant.holds (counted (λ c. c.cleared) (λ a b. refl) m.parties f.number Cleared f.stands)
 
-  pub drops_output : (due : Bool) (ds : List Deed) (us : List Member) (y : Slot F T A) (l : List (ℕ × Slot F T A)) → l ≡ (0, y) ∷ rest l → Owes F T A limit dropping_output (λ n. n) (OutputInHand due) ds us l
-  drops_output due ds us y l has m f x e lt = record {
+  pub drops_output : (due : Bool) (ds : List Deed) (us : List Member) (y z : Slot F T A) (l : List (ℕ × Slot F T A)) → l ≡ output_first y z (rest (rest l)) → Owes F T A limit dropping_output (λ n. n) (OutputInHand due) ds us l
+  drops_output due ds us y z l has m f x e lt = record {
     outcome = keeps (scene m) m.word (record (m.slots) { output = false }) (notifies due OfRun) (OutputDropped ∷ []);
     leads_to = refl;
     writes = e;
     idle = (refl, refl);
-    placing = gives_work y refl (due_work due) (due_free due) (inr (refl, refl)) has (λ z. never (sym gone ∙ z)) (λ z. never z);
+    placing = gives_work y z refl (due_work due) (due_free due) (inr (refl, refl)) (inr has) (λ e. never (sym gone ∙ e)) (λ e. never e);
   }
     where
       gone : m.slots.future ≡ false
@@ -247,9 +247,9 @@ module _ (F T A : Type 0) (limit : ℕ) where
   same_word w v e = sym (state_of_number_of w) ∙ (ap state_of e ∙ state_of_number_of v)
 
   -- the run of a Ready future
-  pub completes : (w : State) (ds : List Deed) (us : List Member) (y : Slot F T A) (l : List (ℕ × Slot F T A)) → l ≡ (0, y) ∷ rest l → IsOutput y
+  pub completes : (w : State) (ds : List Deed) (us : List Member) (y z : Slot F T A) (l : List (ℕ × Slot F T A)) → l ≡ output_first y z (rest (rest l)) → IsOutput z
       → (m : Machine) → Finds limit Ready ds us m → number_of w ≡ number_of m.word → Steps m Ready (completing m.word) (number_of (completed_word w)) l
-  completes w ds us y l has is m f e = by m.word.task refl
+  completes w ds us y z l has is m f e = by m.word.task refl
     where
       gone : Slots
       gone = record (m.slots) { future = false }
@@ -259,7 +259,7 @@ module _ (F T A : Type 0) (limit : ℕ) where
 
       placed : (b a : Bool) (v : State) (told : List Event) → count is_emptying told ≡ 0 → Placing m Ready (record { word = v; slots = stored; next = if b then OutputInHand a else notifies a OfRun; born = []; told = told }) l
       placed true a v told none = stays refl refl (inl refl) (inr (refl, none))
-      placed false a v told none = gives_work y refl (due_work a) (due_free a) (inr (refl, none)) has (λ z. never z) (λ z. is)
+      placed false a v told none = gives_work y z refl (due_work a) (due_free a) (inr (refl, none)) (inr has) (λ e. never e) (λ e. is)
 
       told_closing : (b : Bool) → count is_emptying (((if b then Completes ∷ RunEnded ∷ [] else Closes ∷ Completes ∷ RunEnded ∷ []) ++ []) ++ FutureDropped ∷ []) ≡ 0
       told_closing true = refl
@@ -284,9 +284,9 @@ module _ (F T A : Type 0) (limit : ℕ) where
       }
 
   -- the run of a Pending future, on an open task
-  pub ends_pending : (w : State) (ds : List Deed) (us : List Member) (y : Slot F T A) (l : List (ℕ × Slot F T A)) → l ≡ (0, y) ∷ rest l → IsFuture y → w.closed ≡ false
+  pub ends_pending : (w : State) (ds : List Deed) (us : List Member) (y z : Slot F T A) (l : List (ℕ × Slot F T A)) → l ≡ future_first y z (rest (rest l)) → IsFuture y → w.closed ≡ false
       → (m : Machine) → Finds limit Pending ds us m → number_of w ≡ number_of m.word → Steps m Pending (ending_pending m.word) (number_of (after_pending w)) l
-  ends_pending w ds us y l has is unclosed m f e = by m.word.scheduled (nat_lt 1 m.word.references || m.word.task) refl refl
+  ends_pending w ds us y z l has is unclosed m f e = by m.word.scheduled (nat_lt 1 m.word.references || m.word.task) refl refl
     where
       facts : (1 ≤ m.word.references) × (m.slots.output ≡ false)
       facts = pending_facts m.limit m.word m.slots m.trace (census m.parties) f.invariant.holds (counted (λ c. c.pending) (λ a b. refl) m.parties f.number Pending f.stands)
@@ -309,28 +309,28 @@ module _ (F T A : Type 0) (limit : ℕ) where
         leads_to = leads_first (scene m) Reschedule [] Pending _ (both (ap not not_closed) h) refl;
         writes = ap number_of (wrote ∙ ap (λ b. if b then written Reschedule m.word else (if shared then written EndIdle m.word else written EndOrphaned m.word)) h);
         idle = (refl, refl);
-        placing = gives_work y refl refl refl (inr (refl, refl)) has (λ z. is) (λ z. never (sym facts.1 ∙ z));
+        placing = gives_work y z refl refl refl (inr (refl, refl)) (inl has) (λ e. is) (λ e. never (sym facts.1 ∙ e));
       }
       by false true h k = record {
         outcome = steps (scene m) (written EndIdle m.word) (At Ended) [] (CallEnds (Ran false) ∷ RunEnded ∷ []);
         leads_to = leads_first (scene m) EndIdle (EndCall ∷ []) Pending (steps (scene m) (written EndIdle m.word) (Leaving (Ran false) Ended) [] (RunEnded ∷ [])) (three m.word.closed m.word.scheduled shared not_closed h k) refl;
         writes = ap number_of (wrote ∙ (ap (λ b. if b then written Reschedule m.word else (if shared then written EndIdle m.word else written EndOrphaned m.word)) h ∙ ap (λ b. if b then written EndIdle m.word else written EndOrphaned m.word) k));
         idle = (refl, refl);
-        placing = gives_work y refl refl refl (inr (refl, refl)) has (λ z. is) (λ z. never (sym facts.1 ∙ z));
+        placing = gives_work y z refl refl refl (inr (refl, refl)) (inl has) (λ e. is) (λ e. never (sym facts.1 ∙ e));
       }
       by false false h k = record {
         outcome = steps (scene m) (written EndOrphaned m.word) (Deliverer false (ThenEnds (Ran false))) [] (Made ByClosing ∷ Closes ∷ RunEnded ∷ []);
         leads_to = leads_first (scene m) EndOrphaned [] Pending _ (four m.word.closed m.word.scheduled (nat_eq m.word.references 1) m.word.task not_closed h (is_last m.word.references m.word.task facts.0 k)) refl;
         writes = ap number_of (wrote ∙ (ap (λ b. if b then written Reschedule m.word else (if shared then written EndIdle m.word else written EndOrphaned m.word)) h ∙ ap (λ b. if b then written EndIdle m.word else written EndOrphaned m.word) k));
         idle = (refl, refl);
-        placing = gives_work y refl refl refl (inr (refl, refl)) has (λ z. is) (λ z. never (sym facts.1 ∙ z));
+        placing = gives_work y z refl refl refl (inr (refl, refl)) (inl has) (λ e. is) (λ e. never (sym facts.1 ∙ e));
       }
 
   -- .. by the numbers that the step names
-  pub may_complete : (w : State) (old new : ℕ) (ds : List Deed) (us : List Member) (y : Slot F T A) (l : List (ℕ × Slot F T A)) → l ≡ (0, y) ∷ rest l → IsOutput y → old ≡ number_of w → new ≡ number_of (completed_word w)
+  pub may_complete : (w : State) (old new : ℕ) (ds : List Deed) (us : List Member) (y z : Slot F T A) (l : List (ℕ × Slot F T A)) → l ≡ output_first y z (rest (rest l)) → IsOutput z → old ≡ number_of w → new ≡ number_of (completed_word w)
       → (m : Machine) → Finds limit Ready ds us m → old ≡ number_of m.word → Steps m Ready (completing m.word) new l
-  may_complete w old new ds us y l has is e h m f found = subst (λ (n : ℕ). Steps m Ready (completing m.word) n l) (sym h) (completes w ds us y l has is m f (sym e ∙ found))
+  may_complete w old new ds us y z l has is e h m f found = subst (λ (n : ℕ). Steps m Ready (completing m.word) n l) (sym h) (completes w ds us y z l has is m f (sym e ∙ found))
 
-  pub may_end : (w : State) (old new : ℕ) (ds : List Deed) (us : List Member) (y : Slot F T A) (l : List (ℕ × Slot F T A)) → l ≡ (0, y) ∷ rest l → IsFuture y → w.closed ≡ false → old ≡ number_of w → new ≡ number_of (after_pending w)
+  pub may_end : (w : State) (old new : ℕ) (ds : List Deed) (us : List Member) (y z : Slot F T A) (l : List (ℕ × Slot F T A)) → l ≡ future_first y z (rest (rest l)) → IsFuture y → w.closed ≡ false → old ≡ number_of w → new ≡ number_of (after_pending w)
       → (m : Machine) → Finds limit Pending ds us m → old ≡ number_of m.word → Steps m Pending (ending_pending m.word) new l
-  may_end w old new ds us y l has is unclosed e h m f found = subst (λ (n : ℕ). Steps m Pending (ending_pending m.word) n l) (sym h) (ends_pending w ds us y l has is unclosed m f (sym e ∙ found))
+  may_end w old new ds us y z l has is unclosed e h m f found = subst (λ (n : ℕ). Steps m Pending (ending_pending m.word) n l) (sym h) (ends_pending w ds us y z l has is unclosed m f (sym e ∙ found))

@@ -18,6 +18,7 @@ use Rattle.async_task.specs.declared.table.Slot.TheVariants.{Empty}
 use Rattle.async_task.specs.declared.table.Deed.{Deed}
 use Rattle.async_task.specs.declared.cell.Party.{Party}
 use Rattle.async_task.specs.Rule.{IsFuture}
+use Rattle.async_task.specs.Steps.{future_first}
 use Rattle.async_task.specs.Calls.{row, act, closing_way, position, holds, way_of, rest_of, StandsWith, Stands, GoesWith, Goes, Notifies, misses, finds_none, takes_awaiter}
 use Rattle.async_task.specs.RunPaths.{missed, none_there, taken, nobody, woken, rests, DiscardStart, discards, closed_run}
 use Rattle.async_task.specs.RunCalls.{Releases, TakesDue, takes_none, takes_one, HasTaken, has_none, has_one, Wakes, Rests, Closes, Discards}
@@ -121,25 +122,25 @@ module _ {F T A : Type 0} where
   )
 
   -- the future was dropped, and SCHEDULED cleared
-  pub unscheduled : (closer : Closer) (w : State) (p q r : Party F T A) → GoesWith [] (FutureInHand closer) ((0, Empty) ∷ []) p q
+  pub unscheduled : (closer : Closer) (w : State) (held : List (ℕ × Slot F T A)) (p q r : Party F T A) → GoesWith [] (FutureInHand closer) held p q
       → Goes (act DropFuture ∷ row Unschedule w ∷ []) (notifies w.awaiter (closing_way (position q))) q r → Goes (act DropFuture ∷ row Unschedule w ∷ []) (notifies w.awaiter (closing_way (FutureInHand closer))) p r
-  unscheduled closer w p q r g h = let way = closing_way (FutureInHand closer) in moved.goes_on p q r [] (act DropFuture ∷ row Unschedule w ∷ []) (FutureInHand closer) (notifies w.awaiter way) ((0, Empty) ∷ []) [] g
+  unscheduled closer w held p q r g h = let way = closing_way (FutureInHand closer) in moved.goes_on p q r [] (act DropFuture ∷ row Unschedule w ∷ []) (FutureInHand closer) (notifies w.awaiter way) held [] g
       (subst (λ (z : Way). Goes (act DropFuture ∷ row Unschedule w ∷ []) (notifies w.awaiter z) q r)
-      (ap closing_way (moved.position_is q (FutureInHand closer) ((0, Empty) ∷ []) (moved.stands p q [] (FutureInHand closer) ((0, Empty) ∷ []) g))) h)
+      (ap closing_way (moved.position_is q (FutureInHand closer) held (moved.stands p q [] (FutureInHand closer) held g))) h)
 
-  discard_first : (d : Deed) (w : State) (y : Slot F T A) (p q r s : Party F T A) → GoesWith (d ∷ []) (FutureInHand DroppedRunnable) ((0, y) ∷ []) p q → GoesWith [] (FutureInHand DroppedRunnable) ((0, Empty) ∷ []) q r
+  discard_first : (d : Deed) (w : State) (held cleared : List (ℕ × Slot F T A)) (p q r s : Party F T A) → GoesWith (d ∷ []) (FutureInHand DroppedRunnable) held p q → GoesWith [] (FutureInHand DroppedRunnable) cleared q r
       → Goes (act DropFuture ∷ row Unschedule w ∷ []) (notifies w.awaiter (closing_way (position r))) r s → Goes (d ∷ act DropFuture ∷ row Unschedule w ∷ []) (notifies w.awaiter OfDrop) p s
-  discard_first d w y p q r s f g h = moved.goes_on p q s (d ∷ []) (act DropFuture ∷ row Unschedule w ∷ []) (FutureInHand DroppedRunnable) (notifies w.awaiter OfDrop) ((0, y) ∷ []) [] f (unscheduled DroppedRunnable w q r s g h)
+  discard_first d w held cleared p q r s f g h = moved.goes_on p q s (d ∷ []) (act DropFuture ∷ row Unschedule w ∷ []) (FutureInHand DroppedRunnable) (notifies w.awaiter OfDrop) held [] f (unscheduled DroppedRunnable w cleared q r s g h)
 
   -- a Runnable's drop from p, step after step: to a and b by the drop of the future, to o with SCHEDULED cleared
-  module _ (p a b : Party F T A) (start : (d : Deed) × (y : Slot F T A) × DiscardStart d × GoesWith (d ∷ []) (FutureInHand DroppedRunnable) ((0, y) ∷ []) p a × IsFuture y)
+  module _ (p a b : Party F T A) (start : (d : Deed) × (y : Slot F T A) × (z : Slot F T A) × DiscardStart d × GoesWith (d ∷ []) (FutureInHand DroppedRunnable) (future_first y z []) p a × IsFuture y)
       (clear : (at : Position) (y : Slot F T A) (held : List (ℕ × Slot F T A)) → StandsWith at ((0, y) ∷ held) a → GoesWith [] at ((0, Empty) ∷ held) a b) where
-    pub drop_clears : GoesWith [] (FutureInHand DroppedRunnable) ((0, Empty) ∷ []) a b
-    drop_clears = clear (FutureInHand DroppedRunnable) start.1 [] (moved.stands p a (start.0 ∷ []) (FutureInHand DroppedRunnable) ((0, start.1) ∷ []) start.3)
+    pub drop_clears : GoesWith [] (FutureInHand DroppedRunnable) (future_first Empty start.2 []) a b
+    drop_clears = clear (FutureInHand DroppedRunnable) start.1 ((1, start.2) ∷ []) (moved.stands p a (start.0 ∷ []) (FutureInHand DroppedRunnable) (future_first start.1 start.2 []) start.4)
 
     module _ (o : Party F T A) (w : State) (unschedule : Goes (act DropFuture ∷ row Unschedule w ∷ []) (notifies w.awaiter (closing_way (position b))) b o) (due : Bool) (is : due ≡ w.awaiter) where
       pub drop_closes : Goes (start.0 ∷ act DropFuture ∷ row Unschedule w ∷ []) (notifies w.awaiter OfDrop) p o
-      drop_closes = discard_first start.0 w start.1 p a b o start.3 drop_clears unschedule
+      drop_closes = discard_first start.0 w (future_first start.1 start.2 []) (future_first Empty start.2 []) p a b o start.4 drop_clears unschedule
 
       pub drop_notifies : Stands (notifies due OfDrop) o
       drop_notifies = subst (λ h. Stands (notifies h OfDrop) o) (sym is) (moved.stands p o (start.0 ∷ act DropFuture ∷ row Unschedule w ∷ []) (notifies w.awaiter OfDrop) [] drop_closes)
@@ -172,7 +173,7 @@ module _ {F T A : Type 0} where
             drop_leaves = moved.stands s t drop_releases.0 (Leaving Nothing Ended) [] drop_releases.2
 
             pub drop_ends : (u : Party F T A) → Goes (act EndCall ∷ []) (rest_of (position t)) t u → Discards Woken p u
-            drop_ends u e = discard_rest Woken start.0 w p o q s t u r start.2 drop_closes drop_takes drop_wakes drop_releases (ended_call Nothing Ended t u drop_leaves e)
+            drop_ends u e = discard_rest Woken start.0 w p o q s t u r start.3 drop_closes drop_takes drop_wakes drop_releases (ended_call Nothing Ended t u drop_leaves e)
 
   pub close_rest : (Woken : Type 0) (w : State) (p q r : Party F T A) → Goes (act DropFuture ∷ row Unschedule w ∷ []) (notifies w.awaiter OfRun) p q → Rests Woken w.awaiter q r → Closes Woken p r
   close_rest Woken w p q r g x = (act DropFuture ∷ row Unschedule w ∷ x.0, closed_run w x.0 x.1, moved.goes_on p q r (act DropFuture ∷ row Unschedule w ∷ []) x.0 (notifies w.awaiter OfRun) (At Ended) [] [] g x.2)

@@ -168,8 +168,8 @@ module _ (F T A : Type 0) (limit : ℕ) where
       let u : Member = member q (deed HandOver None ∷ ds) in let n : Member = fresh (At Runnable) in
       let t1 = leaves limit s.views id l f.log f.machine (u ∷ n ∷ []) (u ∷ []) n 1 f.told lt refl (only u n) in
       let housed : Housed f.machine s.homes = record {
-        future = λ z. (same_work F T A limit m p o f.machine s.homes s.homes a run.housed (w1 ∙ sym w0) (inr (refl, refl)) refl z).0;
-        output = λ z. (same_work F T A limit m p o f.machine s.homes s.homes a run.housed (w1 ∙ sym w0) (inr (refl, refl)) refl z).1;
+        future = λ z. (same_work F T A limit m p o f.machine s.homes s.homes a run.housed (w1 ∙ sym w0) (inr (refl, refl)) (refl, refl) z).0;
+        output = λ z. (same_work F T A limit m p o f.machine s.homes s.homes a run.housed (w1 ∙ sym w0) (inr (refl, refl)) (refl, refl) z).1;
         awaiter = λ z. same_awaiter F T A limit m p o f.machine s.homes s.homes a run.housed (a1 ∙ sym a0) (inr (refl, quiet)) refl z;
       } in
       let views : set s.views id (view l (u ∷ [])) ++ view l (n ∷ []) ∷ [] ≡ set s.views id (handing_over v) ++ runnable_of v ∷ [] =

@@ -44,8 +44,8 @@ module _ (F T A : Type 0) (limit : ℕ) where
   same_words : (s : B) → s.words ≡ number_of opening_word ∷ [] → set s.words 0 (get_or s.words 0 0) ≡ number_of opening_word ∷ []
   same_words s e = set-get_or s.words 0 0 ∙ e
 
-  pub fills : (slots id : ℕ) (me : Me (Slot F T A) View) → slots ≡ 2 → me ≡ (laid_view limit, []) → Allows Rule slots id me 0 (λ n. n) (λ r m. (y : Slot F T A) × IsEmpty y × (m ≡ (filling_view me.0.limit, (0, y) ∷ me.1)))
-  fills slots id me two is s r deep at fits = let x = early s id (laid_view limit) (λ z. absurd (cc)) r (at ∙ ap (λ (m : Me (Slot F T A) View). some m.0) is) in let z = x.0 in
+  pub fills : (slots id : ℕ) (me : Me (Slot F T A) View) → slots ≡ 3 → me ≡ (laid_view limit, []) → Allows Rule slots id me 0 (λ n. n) (λ r m. (y : Slot F T A) × IsEmpty y × (m ≡ (filling_view me.0.limit, (0, y) ∷ me.1)))
+  fills slots id me three is s r deep at fits = let x = early s id (laid_view limit) (λ z. absurd (cc)) r (at ∙ ap (λ (m : Me (Slot F T A) View). some m.0) is) in let z = x.0 in
       ⊎_elim
       (λ (u : (z.stage ≡ Laid) × AtHome s.homes 0 IsEmpty). (
         filling_view me.0.limit,
@@ -58,7 +58,8 @@ module _ (F T A : Type 0) (limit : ℕ) where
             stage = Filling;
             views = ap (λ (k : ℕ). set s.views k (filling_view me.0.limit)) x.1 ∙ (ap (λ vs. set vs 0 (filling_view me.0.limit)) z.views ∙ ap (λ (m : Me (Slot F T A) View). filling_view m.0.limit ∷ []) is);
             unspawned = inr refl;
-            awaiter = (z.awaiter.0, lists.set_else s.homes 0 1 none (λ z. omega arith) ∙ z.awaiter.1, z.awaiter.2);
+            output = (z.output.0, lists.set_else s.homes 0 1 none (λ z. omega arith) ∙ z.output.1, z.output.2);
+            awaiter = (z.awaiter.0, lists.set_else s.homes 0 2 none (λ z. omega arith) ∙ z.awaiter.1, z.awaiter.2);
           });
         },
         (u.1.0, u.1.2, refl),
@@ -80,8 +81,8 @@ module _ (F T A : Type 0) (limit : ℕ) where
       stands (suc zero) u e = let x = some-injective (fresh (At (Task 0))) u e in (ap (λ (w : Member). some w.at) x, sym (ap (λ (w : Member). w.deeds) x))
       stands (suc (suc n)) u e = absurd (some-ne-none u (sym e))
 
-  pub spawns : (slots id : ℕ) (me : Me (Slot F T A) View) (y : Slot F T A) → slots ≡ 2 → me ≡ (filling_view limit, (0, y) ∷ []) → IsFuture y → Allows Rule slots id me 0 (λ n. n) (λ r m. m ≡ (opening_view me.0.limit, rest me.1))
-  spawns slots id me y two is future s r deep at fits = let x = early s id (filling_view limit) (λ z. absurd (cc)) r (at ∙ ap (λ (m : Me (Slot F T A) View). some m.0) is) in let z = x.0 in
+  pub spawns : (slots id : ℕ) (me : Me (Slot F T A) View) (y : Slot F T A) → slots ≡ 3 → me ≡ (filling_view limit, (0, y) ∷ []) → IsFuture y → Allows Rule slots id me 0 (λ n. n) (λ r m. m ≡ (opening_view me.0.limit, rest me.1))
+  spawns slots id me y three is future s r deep at fits = let x = early s id (filling_view limit) (λ z. absurd (cc)) r (at ∙ ap (λ (m : Me (Slot F T A) View). some m.0) is) in let z = x.0 in
       subst (λ (m : Me (Slot F T A) View). (w : View) × (a : Act (Slot F T A)) × Valid s.homes m.1 a × Rule (stepped s 0 (get_or s.words 0 0) id m.1 w a) × Opened (w, carried_after m.1 a) m) (sym is) (
         opening_view limit,
         gives,
@@ -96,9 +97,9 @@ module _ (F T A : Type 0) (limit : ℕ) where
             wide = ap length (same_words s z.words);
             word_is = ap (λ ws. get_or ws 0 0) (same_words s z.words);
             housed = record {
-              future = λ a b. (y, lists.set_here s.homes 0 (some y) (omega arith), future);
-              output = λ a b. absurd (cc);
-              awaiter = λ a b. (z.awaiter.0, lists.set_else s.homes 0 1 (some y) (λ z. omega arith) ∙ z.awaiter.1, z.awaiter.2);
+              future = λ _. (y, lists.set_here s.homes 0 (some y) (omega arith), λ _. future);
+              output = λ _. (z.output.0, lists.set_else s.homes 0 1 (some y) (λ z. omega arith) ∙ z.output.1, λ e. absurd (cc));
+              awaiter = λ a b. (z.awaiter.0, lists.set_else s.homes 0 2 (some y) (λ z. omega arith) ∙ z.awaiter.1, z.awaiter.2);
             };
             staged = λ j v e. ap (λ (w : View). w.stage) (sym (just (opening_view limit) j v (ap (λ vs. get_elem? vs j) (sym (views z x.1)) ∙ e)).1);
           });

@@ -37,7 +37,7 @@ module _ (F T A : Type 0) (limit : ℕ) where
     leads_to = leads_found (scene m) TakeUpClosed (At Runnable) [] (steps (scene m) m.word (FutureInHand ClosedRun) [] (TakenUp ∷ [])) (steps (scene m) m.word (FutureInHand ClosedRun) [] []) e refl refl;
     writes = n;
     idle = (refl, refl);
-    placing = takes_future refl refl refl (inr (refl, refl)) (queued m f.number f.invariant f.stands).future (λ y h. h);
+    placing = takes_future refl refl refl (inr (refl, refl)) (queued m f.number f.invariant f.stands).future (λ _ h. h);
   }
   taking_up_if false ds l m new f e n = record {
     outcome = steps (scene m) m.word (At Runnable) [] [];
@@ -59,7 +59,7 @@ module _ (F T A : Type 0) (limit : ℕ) where
         leads_to = leads_found (scene m) StartRun (At Runnable) (StartPoll ∷ []) o x (ap (λ (z : State). not z.closed) same ∙ r.0) refl refl;
         writes = to ∙ ap number_of (r.1 ∙ ap (written StartRun) (sym same));
         idle = (refl, refl);
-        placing = takes_future refl refl refl (inr (refl, refl)) (queued m f.number f.invariant f.stands).future (λ y h. h);
+        placing = takes_future refl refl refl (inr (refl, refl)) (queued m f.number f.invariant f.stands).future (λ _ h. h);
       }
 
 open_word : (w v : State) → Some v ≡ row 0 StartRun w → w.closed ≡ false
@@ -84,11 +84,11 @@ module _ {F T A : Type 0} where
   pub found_closed : (w : State) (p q : Party F T A) → Stands (At Runnable) p → q.seat.table_id ≡ p.seat.table_id → None ≡ row 0 StartRun w → Makes (taking_up_closed w) w p.seat.me q.seat.me → TakesUp p q false
   found_closed w p q s cell none m = let e = closed_word w none in
       let x = moved (TakeUpClosed ∷ []) w (At Runnable) [] p q s (subst (λ (b : Bool). Makes (cond b (TakeUpClosed ∷ []) []) w p.seat.me q.seat.me) e m) in
-      finds_closed w x.carried.0 e x.carried.1 (record { cell = cell; is = λ i. (x.viewed i, x.carried.2 i) })
+      finds_closed w x.carried.0 x.carried.1 e x.carried.2 (record { cell = cell; is = λ i. (x.viewed i, x.carried.3 i) })
 
   pub started : (w v : State) (p q : Party F T A) → Stands (At Runnable) p → q.seat.table_id ≡ p.seat.table_id → Some v ≡ row 0 StartRun w → Makes (starting_run w) w p.seat.me q.seat.me → TakesUp p q true
   started w v p q s cell fits m = let x = moved (StartRun ∷ StartPoll ∷ []) w (At Runnable) [] p q s m in
-      starts w x.carried.0 (open_word w v fits) x.carried.1 cell (λ i. (x.viewed i, x.carried.2 i))
+      starts w x.carried.0 x.carried.1 (open_word w v fits) x.carried.2 cell (λ i. (x.viewed i, x.carried.3 i))
 
   -- .. by the number that the exchange found
   pub started_at : (w v : State) (n : ℕ) (p q r : Party F T A) → Stands (At Runnable) p → r.seat.table_id ≡ p.seat.table_id → Some v ≡ row 0 StartRun w → n ≡ number_of w → Makes (taking_up_closed w) w p.seat.me q.seat.me

@@ -16,6 +16,7 @@ use Rattle.async_task.specs.declared.cell.Party.{Party}
 use Rattle.async_task.specs.declared.cell.cancel.Cancelled.{Cancelled}
 use Rattle.async_task.specs.declared.cell.cancel.Cancelled.TheVariants.{Over, Busy, Idle}
 use Rattle.async_task.specs.declared.cell.detach.Detached.TheVariants.{Unclaimed, Shared, Last, Orphaned}
+use Rattle.async_task.specs.Steps.{output_first}
 use Rattle.async_task.specs.Calls.{row, act, position, StandsWith, Stands, GoesWith, Goes, as_task, as_ended, handed_over, rest_of}
 use Rattle.async_task.specs.TaskPaths.{Fits, Notice, CancelPath, is_over, is_busy, is_idle, DetachPath, drops_output, drops_output_last, is_shared, is_last, is_orphaned, Cancels, Detaches, GivesTaskUp}
 use Rattle.async_task.proofs.Moved.{goes_on, stands, position_is}
@@ -74,18 +75,18 @@ module _ {F T A : Type 0} where
 
   -- the emptier of the slots
   abbrev pub Empties : Party F T A → Party F T A → Type 0
-  Empties p q = (hand : Option ℕ) (answer : Answer) (y : Slot F T A) → StandsWith (Emptier hand answer) ((1, y) ∷ []) p → Goes (act EmptySlots ∷ []) (after_giving_up hand answer) p q
+  Empties p q = (hand : Option ℕ) (answer : Answer) (y : Slot F T A) → StandsWith (Emptier hand answer) ((2, y) ∷ []) p → Goes (act EmptySlots ∷ []) (after_giving_up hand answer) p q
 
-  empties : (p q r : Party F T A) (path : List Deed) (y : Slot F T A) → GoesWith path (Emptier None Nothing) ((1, y) ∷ []) p q → Empties q r → Goes (path ++ act EmptySlots ∷ []) (Leaving Nothing Ended) p r
-  empties p q r path y g e = goes_on p q r path (act EmptySlots ∷ []) (Emptier None Nothing) (Leaving Nothing Ended) ((1, y) ∷ []) [] g
-      (e None Nothing y (stands p q path (Emptier None Nothing) ((1, y) ∷ []) g))
+  pub empties : (p q r : Party F T A) (path : List Deed) (y : Slot F T A) → GoesWith path (Emptier None Nothing) ((2, y) ∷ []) p q → Empties q r → Goes (path ++ act EmptySlots ∷ []) (Leaving Nothing Ended) p r
+  empties p q r path y g e = goes_on p q r path (act EmptySlots ∷ []) (Emptier None Nothing) (Leaving Nothing Ended) ((2, y) ∷ []) [] g
+      (e None Nothing y (stands p q path (Emptier None Nothing) ((2, y) ∷ []) g))
 
   -- the Task of a completed task was the last handle
   pub unclaimed_last : (p q r t : Party F T A) (b : Bool) → b ≡ true → Detaches p q Unclaimed → GivesTaskUp q r b → Empties r t
       → (w v : State) × Fits GiveUpOutput w × Fits DetachLast v × Goes (row GiveUpOutput w ∷ act DropOutput ∷ row DetachLast v ∷ act EmptySlots ∷ []) (Leaving Nothing Ended) p t
   unclaimed_last p q r t false is x y e = absurd (cc)
   unclaimed_last p q r t true is x y e = let path : List Deed = row GiveUpOutput x.0 ∷ [] in let more : List Deed = act DropOutput ∷ row DetachLast y.0 ∷ [] in
-      (x.0, y.0, x.2, y.2, empties p r t (path ++ more) y.1 (goes_on p q r path more OutputCloser (Emptier None Nothing) ((0, x.1) ∷ []) ((1, y.1) ∷ []) x.4 y.3) e)
+      (x.0, y.0, x.3, y.2, empties p r t (path ++ more) y.1 (goes_on p q r path more OutputCloser (Emptier None Nothing) (output_first x.1 x.2 []) ((2, y.1) ∷ []) x.5 y.3) e)
 
   pub detaches_unclaimed_last : (Scheduled : Type 0) (p q r t u : Party F T A) (b : Bool) → b ≡ true → Detaches p q Unclaimed → GivesTaskUp q r b → Empties r t → Goes (act EndCall ∷ []) (rest_of (position t)) t u → Detaching Scheduled p u
   detaches_unclaimed_last Scheduled p q r t u b is x y e end = let z = unclaimed_last p q r t b is x y e in let path : List Deed = row GiveUpOutput z.0 ∷ act DropOutput ∷ row DetachLast z.1 ∷ act EmptySlots ∷ [] in
@@ -95,7 +96,7 @@ module _ {F T A : Type 0} where
   pub detaches_unclaimed : (Scheduled : Type 0) (p q r : Party F T A) (b : Bool) → b ≡ false → Detaches p q Unclaimed → GivesTaskUp q r b → Detaching Scheduled p r
   detaches_unclaimed Scheduled p q r true is x y = absurd (cc)
   detaches_unclaimed Scheduled p q r false is x y = let path : List Deed = row GiveUpOutput x.0 ∷ [] in let more : List Deed = act DropOutput ∷ row Detach y.0 ∷ act EndCall ∷ [] in
-      (path ++ more, drops_output x.0 y.0 x.2 y.1, goes_on p q r path more OutputCloser as_ended ((0, x.1) ∷ []) [] x.4 y.2)
+      (path ++ more, drops_output x.0 y.0 x.3 y.1, goes_on p q r path more OutputCloser as_ended (output_first x.1 x.2 []) [] x.5 y.2)
 
   pub detaches_shared : (Scheduled : Type 0) (p q : Party F T A) → Detaches p q Shared → Detaching Scheduled p q
   detaches_shared Scheduled p q x = (row Detach x.0 ∷ act EndCall ∷ [], is_shared x.0 x.1, x.2)

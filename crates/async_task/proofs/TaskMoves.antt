@@ -23,7 +23,7 @@ use Rattle.async_task.specs.declared.cell.detach.Detached.{Detached}
 use Rattle.async_task.specs.declared.cell.cancel.Cancelled.TheVariants.{Over, Busy, Idle}
 use Rattle.async_task.specs.declared.cell.detach.Detached.TheVariants.{Unclaimed, Shared, Last, Orphaned}
 use Rattle.async_task.specs.Rule.{has_work}
-use Rattle.async_task.specs.Steps.{Carries, Makes}
+use Rattle.async_task.specs.Steps.{output_first, Carries, Makes}
 use Rattle.async_task.specs.Calls.{row, act, position, rest_of, StandsWith, Stands, GoesWith, Goes, as_task}
 use Rattle.async_task.specs.RunPaths.{NotifyPath, not_due as none_due, missed as miss, none_there, taken, WakePath, nobody, woken}
 use Rattle.async_task.specs.RunCalls.{TakesDue, takes_none, takes_one, Wakes}
@@ -104,13 +104,13 @@ module _ {F T A : Type 0} where
           → Detaches p r (if a then Unclaimed else (if b then Shared else (if c then Last else Orphaned)))
       made true b c claimed counted closed m = let x = moved (GiveUpOutput ∷ []) w (At (Task n)) [] q r (stands p q [] (At (Task n)) [] g) m in
           let path : List Deed = row GiveUpOutput w ∷ [] in let y = x.carried in
-          (w, y.0, claimed, y.1, goes_on p q r [] path (At (Task n)) OutputCloser [] ((0, y.0) ∷ []) g (goes q r path OutputCloser ((0, y.0) ∷ []) cell x.viewed y.2))
+          (w, y.0, y.1, claimed, y.2, goes_on p q r [] path (At (Task n)) OutputCloser [] (output_first y.0 y.1 []) g (goes q r path OutputCloser (output_first y.0 y.1 []) cell x.viewed y.3))
       made false true c claimed counted closed m = let x = moved (Detach ∷ EndCall ∷ []) w (At (Task n)) [] q r (stands p q [] (At (Task n)) [] g) m in
           let path : List Deed = row Detach w ∷ act EndCall ∷ [] in
           (w, both (nat_lt 0 w.references) (not (w.completed && not w.closed)) counted (over (w.completed && not w.closed) claimed), goes_on p q r [] path (At (Task n)) (At Ended) [] [] g (goes q r path (At Ended) [] cell x.viewed x.carried))
       made false false true claimed counted closed m = let x = moved (DetachLast ∷ []) w (At (Task n)) [] q r (stands p q [] (At (Task n)) [] g) m in
           let path : List Deed = row DetachLast w ∷ [] in let at : Position = Emptier None Nothing in let y = x.carried in
-          (w, y.0, both (nat_eq w.references 0) w.closed (none_left w.references counted) closed, goes_on p q r [] path (At (Task n)) at [] ((1, y.0) ∷ []) g (goes q r path at ((1, y.0) ∷ []) cell x.viewed y.2))
+          (w, y.0, both (nat_eq w.references 0) w.closed (none_left w.references counted) closed, goes_on p q r [] path (At (Task n)) at [] ((2, y.0) ∷ []) g (goes q r path at ((2, y.0) ∷ []) cell x.viewed y.2))
       made false false false claimed counted closed m = let x = moved (DetachOrphan ∷ []) w (At (Task n)) [] q r (stands p q [] (At (Task n)) [] g) m in
           let path : List Deed = row DetachOrphan w ∷ [] in let at : Position = Deliverer false (ThenEnds Nothing) in
           (w, last_orphan w.references w.completed w.closed counted claimed closed, goes_on p q r [] path (At (Task n)) at [] [] g (goes q r path at [] cell x.viewed x.carried))
@@ -138,7 +138,7 @@ module _ {F T A : Type 0} where
             w,
             y.0,
             both (nat_eq w.references 0) w.closed (none_left w.references counted) closed,
-            goes_on p q r (act DropOutput ∷ []) path Detacher at [] ((1, y.0) ∷ []) g (goes q r path at ((1, y.0) ∷ []) cell x.viewed y.2),
+            goes_on p q r (act DropOutput ∷ []) path Detacher at [] ((2, y.0) ∷ []) g (goes q r path at ((2, y.0) ∷ []) cell x.viewed y.2),
           )
 
   -- the call ends

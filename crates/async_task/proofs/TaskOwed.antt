@@ -25,7 +25,7 @@ use Rattle.async_task.specs.declared.table.Slot.{Slot}
 use Rattle.async_task.specs.declared.table.Deed.{Deed}
 use Rattle.async_task.specs.declared.table.Member.{Member}
 use Rattle.async_task.specs.Rule.{has_work}
-use Rattle.async_task.specs.Steps.{saw_closed}
+use Rattle.async_task.specs.Steps.{saw_closed, output_first}
 use Rattle.async_task.specs.Scripts.{dropping_output}
 use Rattle.async_task.specs.TaskScripts.{looking_over, cancelling, cancelled, detaching, detached, giving_task_up}
 use Rattle.async_task.specs.Steps.{and_then}
@@ -158,7 +158,7 @@ module _ (F T A : Type 0) (limit : ℕ) where
         leads_to = finds_it m (At (Task n)) GiveUpOutput [] claimed;
         writes = refl;
         idle = (refl, refl);
-        placing = takes_output refl refl refl (inr (refl, refl)) (output_there m.limit m.word m.slots m.trace (census m.parties) f.invariant.holds claimed) (λ y h. h);
+        placing = takes_output refl refl refl (inr (refl, refl)) (output_there m.limit m.word m.slots m.trace (census m.parties) f.invariant.holds claimed) (λ _ h. h);
       }
       gives false true c claimed counted closed = gives_reference (At (Task n)) m (number_of (record (m.word) { task = false })) l refl refl refl refl counted claimed
       gives false false true claimed counted closed = gives_last (At (Task n)) ds us m f (number_of (record (m.word) { task = false })) l refl refl (omega arith) refl refl counted closed
@@ -170,13 +170,13 @@ module _ (F T A : Type 0) (limit : ℕ) where
         placing = stays refl refl (inr (refl, refl)) (inr (refl, refl));
       }
 
-  pub drops_output : (ds : List Deed) (us : List Member) (y : Slot F T A) (l : List (ℕ × Slot F T A)) → l ≡ (0, y) ∷ rest l → Owes F T A limit dropping_output (λ n. n) OutputCloser ds us l
-  drops_output ds us y l has m f x e lt = let none = no_future m.limit m.word m.slots m.trace (census m.parties) f.invariant.holds (counted_at (λ c. c.claims) (λ a b. refl) m.parties f.number OutputCloser f.stands) in record {
+  pub drops_output : (ds : List Deed) (us : List Member) (y z : Slot F T A) (l : List (ℕ × Slot F T A)) → l ≡ output_first y z (rest (rest l)) → Owes F T A limit dropping_output (λ n. n) OutputCloser ds us l
+  drops_output ds us y z l has m f x e lt = let none = no_future m.limit m.word m.slots m.trace (census m.parties) f.invariant.holds (counted_at (λ c. c.claims) (λ a b. refl) m.parties f.number OutputCloser f.stands) in record {
     outcome = keeps (scene m) m.word (record (m.slots) { output = false }) Detacher (OutputDropped ∷ []);
     leads_to = refl;
     writes = e;
     idle = (refl, refl);
-    placing = gives_work y refl refl refl (inr (refl, refl)) has (λ z. never (sym none ∙ z)) (λ z. never z);
+    placing = gives_work y z refl refl refl (inr (refl, refl)) (inr has) (λ e. never (sym none ∙ e)) (λ e. never e);
   }
 
   pub gives_task_up : (ds : List Deed) (us : List Member) (l : List (ℕ × Slot F T A)) → saw_closed ds ≡ true → Owes F T A limit giving_task_up (λ n. bit_and n 18446744073709551599) Detacher ds us l

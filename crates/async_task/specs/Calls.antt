@@ -4,7 +4,7 @@ use Rattle.task_core.specs.Word.{State}
 use Rattle.task_core.specs.declared.moves.Position.{Position}
 use Rattle.task_core.specs.declared.moves.Act.{Act}
 use Rattle.task_core.specs.declared.moves.Position.TheVariants.{At, Deliverer, Leaving, Answering, FutureInHand, Notifier, AwaiterInHand}
-use Rattle.task_core.specs.declared.moves.Rest.TheVariants.{Task, Runnable, Ended}
+use Rattle.task_core.specs.declared.moves.Rest.TheVariants.{Task, Runnable, Waker, Ended}
 use Rattle.task_core.specs.declared.moves.Act.TheVariants.{MissNotify, BeginNotify, TakeAwaiter, EndNotify}
 use Rattle.task_core.specs.Table.{goes_on, goes_after}
 use Rattle.task_core.specs.declared.moves.Answer.TheVariants.{Nothing}
@@ -108,6 +108,9 @@ is_empty (x ∷ xs) = false
 -- the positions of a handle between two calls
 abbrev pub as_runnable : Position
 as_runnable = At Runnable
+
+abbrev pub as_waker : Position
+as_waker = At Waker
 
 abbrev pub as_task : ℕ → Position
 as_task n = At (Task n)

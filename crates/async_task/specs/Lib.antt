@@ -15,3 +15,6 @@ pub mod Knows
 pub mod TaskPaths
 pub mod PollScripts
 pub mod PollPaths
+pub mod WakerScripts
+pub mod Wakers
+pub mod WakerPaths

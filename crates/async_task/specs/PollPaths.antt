@@ -108,7 +108,7 @@ module _ {F T A : Type 0} where
   -- the awaiter slot is taken, unless there is a notifier
   pub data BeginsRegister (p q : Party F T A) : Bool → Type 0 where
     begins : (w : State) (hand : Option ℕ) (y : Slot F T A) → w.notifying ≡ false → SlotWaits hand y
-        → GoesWith (act CloneAwaiter ∷ row BeginRegister w ∷ act StoreAwaiter ∷ []) (after_storing (poll_number (position p)) hand) ((1, y) ∷ []) p q → BeginsRegister p q true
+        → GoesWith (act CloneAwaiter ∷ row BeginRegister w ∷ act StoreAwaiter ∷ []) (after_storing (poll_number (position p)) hand) ((2, y) ∷ []) p q → BeginsRegister p q true
     finds_one : (w : State) → w.notifying ≡ true → Goes (act CloneAwaiter ∷ row FindNotify w ∷ []) (RefusedClone (poll_number (position p))) p q → BeginsRegister p q false
 
   -- the awaiter slot is given back with the clone in it, unless there is a notifier by then

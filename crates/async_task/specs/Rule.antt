@@ -114,7 +114,7 @@ pub record Told (limit : ℕ) (views : List View) (log : List Entry) (m : Machin
   pub limited : (seat index : ℕ) (v : View) (u : Member) → get_elem? views seat ≡ some v → get_elem? v.members index ≡ some u → v.limit ≡ limit
   pub each : (seat index : ℕ) (v : View) (u : Member) → get_elem? views seat ≡ some v → get_elem? v.members index ≡ some u → (k : ℕ) × Fared m log holder seat index u k
 
--- the party has the place of future and output
+-- the party has the places of future and output
 abbrev pub has_work : Position → Bool
 has_work Starting = true
 has_work Polling = true
@@ -168,19 +168,20 @@ module _ {F T A : Type 0} where
   abbrev pub AtHome : List (maybe.Option (Slot F T A)) → ℕ → (Slot F T A → Type 0) → Type 0
   AtHome homes k Is = (y : Slot F T A) × (get_elem? homes k ≡ some (some y)) × Is y
 
-  -- a place that no party has is at home, with what the machine says
+  -- a place that no party has is at home, with what the machine says: 0 is the future's, 1 the output's, 2 the awaiter's
   pub record Housed (m : Machine) (homes : List (maybe.Option (Slot F T A))) : Type 0 where
-    pub future : how_many has_work m.parties ≡ 0 → m.slots.future ≡ true → AtHome homes 0 IsFuture
-    pub output : how_many has_work m.parties ≡ 0 → m.slots.output ≡ true → AtHome homes 0 IsOutput
-    pub awaiter : how_many owns_awaiter m.parties ≡ 0 → count is_emptying m.trace ≡ 0 → AtHome homes 1 (Waits m.slots.awaiter)
+    pub future : how_many has_work m.parties ≡ 0 → AtHome homes 0 (λ y. m.slots.future ≡ true → IsFuture y)
+    pub output : how_many has_work m.parties ≡ 0 → AtHome homes 1 (λ z. m.slots.output ≡ true → IsOutput z)
+    pub awaiter : how_many owns_awaiter m.parties ≡ 0 → count is_emptying m.trace ≡ 0 → AtHome homes 2 (Waits m.slots.awaiter)
 
-  -- before the spawn: one seat, and its places are empty, or the first is with the seat
+  -- before the spawn: one seat, and the places are empty, or that of the future is with the seat
   pub record Spawning (limit : ℕ) (s : Board (Slot F T A) View) : Type 0 where
     pub words : s.words ≡ number_of opening_word ∷ []
     pub stage : Stage
     pub views : s.views ≡ record { stage = stage; limit = limit; members = [] } ∷ []
     pub unspawned : (stage ≡ Laid) × AtHome s.homes 0 IsEmpty ⊎ (stage ≡ Filling)
-    pub awaiter : AtHome s.homes 1 IsEmpty
+    pub output : AtHome s.homes 1 IsEmpty
+    pub awaiter : AtHome s.homes 2 IsEmpty
 
   -- from then on: an interleaving of the machine
   pub record Running (limit : ℕ) (s : Board (Slot F T A) View) : Type 0 where

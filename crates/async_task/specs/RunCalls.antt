@@ -15,6 +15,7 @@ use Rattle.async_task.specs.declared.table.Deed.{Deed}
 use Rattle.async_task.specs.declared.cell.Party.{Party}
 use Rattle.async_task.specs.declared.cell.ends.PendingEnd.{PendingEnd}
 use Rattle.async_task.specs.declared.cell.ends.PendingEnd.TheVariants.{Closed, Rescheduled, Idle, Orphaned}
+use Rattle.async_task.specs.Steps.{output_first}
 use Rattle.async_task.specs.Calls.{row, act, Stands, Goes, GoesWith}
 use Rattle.async_task.specs.RunPaths.{ReleasePath, NotifyPath, WakePath, RestPath, StorePath, ClosedRunPath, ReadyPath, PendingPath, DiscardPath}
 
@@ -26,7 +27,7 @@ module _ {F T A : Type 0} where
   -- a reference was given up, and whether it was the last handle
   pub data GivesUp (hand : Option ℕ) (answer : Answer) (p q : Party F T A) : Bool → Type 0 where
     not_last : (w : State) → Goes (row GiveUpReference w ∷ []) (after_giving_up hand answer) p q → GivesUp hand answer p q false
-    last : (w : State) (y : Slot F T A) → GoesWith (row GiveUpLastReference w ∷ []) (Emptier hand answer) ((1, y) ∷ []) p q → GivesUp hand answer p q true
+    last : (w : State) (y : Slot F T A) → GoesWith (row GiveUpLastReference w ∷ []) (Emptier hand answer) ((2, y) ∷ []) p q → GivesUp hand answer p q true
 
   -- a reference was given up, and the places were emptied where it was the last handle
   abbrev pub Releases : Option ℕ → Answer → Party F T A → Party F T A → Type 0
@@ -35,8 +36,8 @@ module _ {F T A : Type 0} where
   -- a run has ended with its output, which stays where somebody may claim it
   pub data Completes (p q : Party F T A) (w : State) : Type 0 where
     keeps : w.task ≡ true → w.closed ≡ false → Goes (act DropFuture ∷ act StoreOutput ∷ row Complete w ∷ []) (notifies w.awaiter OfRun) p q → Completes p q w
-    finds_closed : (y : Slot F T A) → w.task ≡ true → w.closed ≡ true → GoesWith (act DropFuture ∷ act StoreOutput ∷ row Complete w ∷ []) (OutputInHand w.awaiter) ((0, y) ∷ []) p q → Completes p q w
-    finds_detached : (y : Slot F T A) → w.task ≡ false → GoesWith (act DropFuture ∷ act StoreOutput ∷ row CompleteDetached w ∷ []) (OutputInHand w.awaiter) ((0, y) ∷ []) p q → Completes p q w
+    finds_closed : (y z : Slot F T A) → w.task ≡ true → w.closed ≡ true → GoesWith (act DropFuture ∷ act StoreOutput ∷ row Complete w ∷ []) (OutputInHand w.awaiter) (output_first y z []) p q → Completes p q w
+    finds_detached : (y z : Slot F T A) → w.task ≡ false → GoesWith (act DropFuture ∷ act StoreOutput ∷ row CompleteDetached w ∷ []) (OutputInHand w.awaiter) (output_first y z []) p q → Completes p q w
 
   -- the poll has answered Pending, and whether the task was found closed
   pub data AnswersPending (held : List (ℕ × Slot F T A)) (p q : Party F T A) : Bool → Type 0 where
@@ -44,11 +45,11 @@ module _ {F T A : Type 0} where
     clears : GoesWith (act AnswerPending ∷ act DropFuture ∷ []) Cleared held p q → AnswersPending held p q true
 
   -- a run has ended without an output, or has found the task closed
-  pub data EndsPending (y : Slot F T A) (p q : Party F T A) : PendingEnd → Type 0 where
-    is_closed : GoesWith (act DropFuture ∷ []) Cleared ((0, y) ∷ []) p q → EndsPending y p q Closed
-    is_rescheduled : (w : State) → w.closed ≡ false → w.scheduled ≡ true → Goes (row Reschedule w ∷ []) (Deliverer true (ThenEnds (Ran true))) p q → EndsPending y p q Rescheduled
-    is_idle : (w : State) → w.closed ≡ false → w.scheduled ≡ false → (nat_lt 1 w.references || w.task) ≡ true → Goes (row EndIdle w ∷ act EndCall ∷ []) (At Ended) p q → EndsPending y p q Idle
-    is_orphaned : (w : State) → w.closed ≡ false → w.scheduled ≡ false → (nat_lt 1 w.references || w.task) ≡ false → Goes (row EndOrphaned w ∷ []) (Deliverer false (ThenEnds (Ran false))) p q → EndsPending y p q Orphaned
+  pub data EndsPending (held : List (ℕ × Slot F T A)) (p q : Party F T A) : PendingEnd → Type 0 where
+    is_closed : GoesWith (act DropFuture ∷ []) Cleared held p q → EndsPending held p q Closed
+    is_rescheduled : (w : State) → w.closed ≡ false → w.scheduled ≡ true → Goes (row Reschedule w ∷ []) (Deliverer true (ThenEnds (Ran true))) p q → EndsPending held p q Rescheduled
+    is_idle : (w : State) → w.closed ≡ false → w.scheduled ≡ false → (nat_lt 1 w.references || w.task) ≡ true → Goes (row EndIdle w ∷ act EndCall ∷ []) (At Ended) p q → EndsPending held p q Idle
+    is_orphaned : (w : State) → w.closed ≡ false → w.scheduled ≡ false → (nat_lt 1 w.references || w.task) ≡ false → Goes (row EndOrphaned w ∷ []) (Deliverer false (ThenEnds (Ran false))) p q → EndsPending held p q Orphaned
 
   -- the awaiter was taken that was due
   pub data TakesDue (way : Way) (due : Bool) (p q : Party F T A) : Option A → Type 0 where

@@ -9,8 +9,7 @@ use Rattle.async_task.specs.declared.table.Slot.{Slot}
 use Rattle.async_task.specs.declared.table.View.{View}
 use Rattle.async_task.specs.declared.cell.Party.{Party}
 use Rattle.async_task.specs.Rule.{member, view, fresh, IsFuture}
-use Rattle.task_core.specs.declared.moves.Position.{Position}
-use Rattle.async_task.specs.Steps.{head_of, tail_of}
+use Rattle.async_task.specs.Steps.{future_first}
 use Rattle.async_task.specs.Calls.{row, act, deeds, limit_of, GoesWith}
 
 module _ {F T A : Type 0} where
@@ -20,17 +19,9 @@ module _ {F T A : Type 0} where
 
   -- the task was closed; or the run has started
   pub data TakesUp (p q : Party F T A) : Bool → Type 0 where
-    finds_closed : (w : State) (y : Slot F T A) → w.closed ≡ true → IsFuture y → GoesWith (row TakeUpClosed w ∷ []) (FutureInHand ClosedRun) ((0, y) ∷ []) p q → TakesUp p q false
-    starts : (w : State) (y : Slot F T A) → w.closed ≡ false → IsFuture y → q.seat.table_id ≡ p.seat.table_id → q.seat.me ≡ (polling_view w p, (0, y) ∷ []) → TakesUp p q true
+    finds_closed : (w : State) (y z : Slot F T A) → w.closed ≡ true → IsFuture y → GoesWith (row TakeUpClosed w ∷ []) (FutureInHand ClosedRun) (future_first y z []) p q → TakesUp p q false
+    starts : (w : State) (y z : Slot F T A) → w.closed ≡ false → IsFuture y → q.seat.table_id ≡ p.seat.table_id → q.seat.me ≡ (polling_view w p, future_first y z []) → TakesUp p q true
 
   -- a run that has started and has the future, with its waker beside it
-  abbrev pub IsLending : Slot F T A → Party F T A → Type 0
-  IsLending y p = p.seat.me ≡ (view (limit_of p) (member Polling (deeds p) ∷ fresh (At Lent) ∷ []), (0, y) ∷ [])
-
--- a waker that is lent, beside its run
-abbrev pub lends_at : Position → Position → Bool
-lends_at (At Lent) Polling = true
-lends_at _ _ = false
-
-abbrev pub is_lent : View → Bool
-is_lent v = lends_at (head_of v.members).at (head_of (tail_of v.members)).at
+  abbrev pub IsLending : Slot F T A → Slot F T A → Party F T A → Type 0
+  IsLending y z p = p.seat.me ≡ (view (limit_of p) (member Polling (deeds p) ∷ fresh (At Lent) ∷ []), future_first y z [])

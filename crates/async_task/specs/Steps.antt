@@ -62,14 +62,30 @@ acted w slots acts v =
     view v.limit (member (next_of o) (noted w acts u.deeds) ∷ (tail_of v.members ++ map fresh (born_of o)))
 
 module _ {F T A : Type 0} where
-  -- what a party finds in the place of future and output that it takes
-  abbrev pub Works : Position → Slot F T A → Type 0
-  Works OutputCloser y = IsOutput y
-  Works (Claimer n) y = IsOutput y
-  Works (Notifier (OfClaim n)) y = IsOutput y
-  Works _ y = IsFuture y
+  -- the places of future and output, that of the future in front, before others
+  abbrev pub future_first : Slot F T A → Slot F T A → List (ℕ × Slot F T A) → List (ℕ × Slot F T A)
+  future_first y z l = (0, y) ∷ (1, z) ∷ l
 
-  -- .. and in the place of the awaiter
+  -- .. that of the output in front
+  abbrev pub output_first : Slot F T A → Slot F T A → List (ℕ × Slot F T A) → List (ℕ × Slot F T A)
+  output_first y z l = (1, z) ∷ (0, y) ∷ l
+
+  -- both places are taken for the future
+  abbrev pub TakesFuture : List (ℕ × Slot F T A) → List (ℕ × Slot F T A) → Type 0
+  TakesFuture l l' = (y : Slot F T A) × (z : Slot F T A) × IsFuture y × (l' ≡ future_first y z l)
+
+  -- .. for the output
+  abbrev pub TakesOutput : List (ℕ × Slot F T A) → List (ℕ × Slot F T A) → Type 0
+  TakesOutput l l' = (y : Slot F T A) × (z : Slot F T A) × IsOutput z × (l' ≡ output_first y z l)
+
+  -- for which of the two a party takes them
+  abbrev pub Works : Position → List (ℕ × Slot F T A) → List (ℕ × Slot F T A) → Type 0
+  Works OutputCloser l l' = TakesOutput l l'
+  Works (Claimer n) l l' = TakesOutput l l'
+  Works (Notifier (OfClaim n)) l l' = TakesOutput l l'
+  Works _ l l' = TakesFuture l l'
+
+  -- what a party finds in the place of the awaiter that it takes
   abbrev pub Awaits : Position → Slot F T A → Type 0
   Awaits (Releaser hand way) y = Waits hand y
   Awaits (OldAwaiterInHand i old) y = IsAwaiter y
@@ -78,10 +94,10 @@ module _ {F T A : Type 0} where
 
   -- the places that a party has before and after a step: the work first, then the awaiter
   abbrev pub Carries : Bool → Bool → Bool → Bool → Position → List (ℕ × Slot F T A) → List (ℕ × Slot F T A) → Type 0
-  Carries false true b c q l l' = (y : Slot F T A) × Works q y × (l' ≡ (0, y) ∷ l)
-  Carries true false b c q l l' = l' ≡ rest l
-  Carries false false false true q l l' = (y : Slot F T A) × Awaits q y × (l' ≡ (1, y) ∷ l)
-  Carries true true false true q l l' = (y : Slot F T A) × Awaits q y × (l' ≡ (1, y) ∷ l)
+  Carries false true b c q l l' = Works q l l'
+  Carries true false b c q l l' = l' ≡ rest (rest l)
+  Carries false false false true q l l' = (y : Slot F T A) × Awaits q y × (l' ≡ (2, y) ∷ l)
+  Carries true true false true q l l' = (y : Slot F T A) × Awaits q y × (l' ≡ (2, y) ∷ l)
   Carries false false true false q l l' = l' ≡ rest l
   Carries true true true false q l l' = l' ≡ rest l
   Carries _ _ _ _ q l l' = l' ≡ l

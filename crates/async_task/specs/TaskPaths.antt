@@ -17,6 +17,7 @@ use Rattle.async_task.specs.declared.cell.cancel.Cancelled.TheVariants.{Over, Bu
 use Rattle.async_task.specs.declared.cell.detach.Detached.{Detached}
 use Rattle.async_task.specs.declared.cell.detach.Detached.TheVariants.{Unclaimed, Shared, Last, Orphaned}
 use Rattle.async_task.specs.Rule.{IsOutput}
+use Rattle.async_task.specs.Steps.{output_first}
 use Rattle.async_task.specs.Calls.{row, act, GoesWith, Goes, as_ended, as_task}
 
 -- the table has the row for this word; no limit is asked for
@@ -61,12 +62,12 @@ module _ {F T A : Type 0} where
 
   -- the row by which a Task is given up
   abbrev pub Detaches : Party F T A → Party F T A → Detached → Type 0
-  Detaches p q Unclaimed = (w : State) × (y : Slot F T A) × Fits GiveUpOutput w × IsOutput y × GoesWith (row GiveUpOutput w ∷ []) OutputCloser ((0, y) ∷ []) p q
+  Detaches p q Unclaimed = (w : State) × (y : Slot F T A) × (z : Slot F T A) × Fits GiveUpOutput w × IsOutput z × GoesWith (row GiveUpOutput w ∷ []) OutputCloser (output_first y z []) p q
   Detaches p q Shared = (w : State) × Fits Detach w × Goes (row Detach w ∷ act EndCall ∷ []) as_ended p q
-  Detaches p q Last = (w : State) × (y : Slot F T A) × Fits DetachLast w × GoesWith (row DetachLast w ∷ []) (Emptier None Nothing) ((1, y) ∷ []) p q
+  Detaches p q Last = (w : State) × (y : Slot F T A) × Fits DetachLast w × GoesWith (row DetachLast w ∷ []) (Emptier None Nothing) ((2, y) ∷ []) p q
   Detaches p q Orphaned = (w : State) × Fits DetachOrphan w × Goes (row DetachOrphan w ∷ []) (Deliverer false (ThenEnds Nothing)) p q
 
   -- the output that nobody claimed was dropped, and the Task given up; whether the slots are to be emptied
   abbrev pub GivesTaskUp : Party F T A → Party F T A → Bool → Type 0
   GivesTaskUp p q false = (w : State) × Fits Detach w × Goes (act DropOutput ∷ row Detach w ∷ act EndCall ∷ []) as_ended p q
-  GivesTaskUp p q true = (w : State) × (y : Slot F T A) × Fits DetachLast w × GoesWith (act DropOutput ∷ row DetachLast w ∷ []) (Emptier None Nothing) ((1, y) ∷ []) p q
+  GivesTaskUp p q true = (w : State) × (y : Slot F T A) × Fits DetachLast w × GoesWith (act DropOutput ∷ row DetachLast w ∷ []) (Emptier None Nothing) ((2, y) ∷ []) p q

@@ -3,7 +3,7 @@ ghost use Rattle.std.specs.Prelude.{◌≡◌, [], IfErr};
 ghost use Rattle.std.specs.Arc.{arc_value};
 ghost use Rattle.async_task.specs.Rule.{laid_view};
 
-use crate::cell::{Cell, Runnable, RunnableParty};
+use crate::cell::{Cell, Runnable, RunnableSeat};
 use crate::handles::Task;
 use crate::handles::task::TaskParty;
 use crate::table::{Kept, Slot, View};
@@ -64,10 +64,7 @@ where
     requires seat { (seat.table_id ≡ (arc_value first).table.shared.table_id) × (seat.me ≡ (laid_view (arc_value first).limit, [])) }
 {
     let (runnable, task) = first.fill(seat, future);
-    let runnable = RunnableParty {
-        cell: first,
-        party: runnable,
-    };
+    let runnable = RunnableSeat::new(first, runnable);
     let task = TaskParty {
         cell: second,
         party: task,

@@ -1,18 +1,18 @@
 //! The cell, a party of it, which must be spent, and the handles that the cell hands out.
-ghost use Rattle.std.specs.Prelude.{◌≡◌, ℕ, ◌+◌, ◌<◌, [], ◌∷◌, true};
+ghost use Rattle.std.specs.Prelude.{◌≡◌, ℕ, ◌<◌, [], ◌∷◌};
 ghost use Rattle.std.specs.Arc.{arc_value};
-ghost use Rattle.async_task.specs.Rule.{view, member};
-ghost use Rattle.async_task.specs.Calls.{limit_of, deeds, holds, is_empty, position, as_ended};
-ghost use Rattle.task_core.specs.declared.moves.Position.TheVariants.{At};
-ghost use Rattle.task_core.specs.declared.moves.Rest.TheVariants.{Runnable};
+ghost use Rattle.async_task.specs.Rule.{view, fresh};
+ghost use Rattle.async_task.specs.Calls.{limit_of, position, Stands, as_runnable, as_ended};
+ghost use Rattle.async_task.specs.Wakers.{runnable_view};
 
+use self::perch::{settle, taken};
 use crate::table::{Kept, Law, Slot, View};
-use atomic_table::{Seat, Table};
+use atomic_table::{Perch, Seat, Table};
 use std::alloc::{Allocator, Global};
 use std::sync::{Arc, Wait};
 use task_core::{Wake, Yields};
 
-/// The table of a cell: one word, a place for the future and then the output, and one for the awaiter.
+/// The table of a cell: one word, and a place each for the future, the output and the awaiter.
 pub type Board<F, T, A, B> = Table<Slot<F, T, A>, View, u64, Law, B>;
 
 /// What the handles of one task share: the word and the places, the schedule value and the metadata.
@@ -24,7 +24,7 @@ pub struct Cell<R, F: Yields, Q, M, A, B: Allocator = Global> {
     pub(crate) limit: u64,
     pub(crate) rt: R,
     ghost limited: { (table.shared.key ≡ limit) × (limit < 36028797018963968) },
-    ghost sized: { (table.shared.table_id.words ≡ 1) × (table.shared.table_id.slots ≡ 2) },
+    ghost sized: { (table.shared.table_id.words ≡ 1) × (table.shared.table_id.slots ≡ 3) },
 }
 
 /// One party of a task at one position. It must be spent: only calls of the cell move it, and only an ended one may be let go.
@@ -41,14 +41,48 @@ impl<F, T, A> Party<F, T, A> {
     }
 }
 
-/// A share of a cell, and the party of its Runnable.
-pub(crate) struct RunnableParty<R, F: Yields, Q, M, A, B: Allocator> {
+/// A share of a cell, and the perch on which the seat of its Runnable rests.
+pub(crate) struct RunnableSeat<R, F: Yields, Q, M, A, B: Allocator> {
     pub(crate) cell: Arc<Cell<R, F, Q, M, A, B>, B>,
-    pub(crate) party: Party<F, Kept<F>, A>,
-    ghost seated: { party.seat.table_id ≡ (arc_value cell).table.shared.table_id },
-    ghost limited: { limit_of party ≡ (arc_value cell).limit },
-    ghost placed: { party.seat.me.0 ≡ view (limit_of party) (member (At Runnable) (deeds party) ∷ []) },
-    ghost free: { is_empty (holds party) ≡ true },
+    pub(crate) perch: Perch<Slot<F, Kept<F>, A>, View>,
+    ghost seated: { perch.table_id ≡ (arc_value cell).table.shared.table_id },
+    ghost limited: { perch.view.limit ≡ (arc_value cell).limit },
+    ghost placed: { perch.view ≡ runnable_view perch.view },
+}
+
+impl<R: Wait + Drop, F: Yields, Q: Drop, M: Drop, A: Wake, B: Allocator> RunnableSeat<
+    R,
+    F,
+    Q,
+    M,
+    A,
+    B,
+> {
+    // A Runnable that has done nothing yet.
+    pub(crate) fn new(
+        cell: Arc<Cell<R, F, Q, M, A, B>, B>,
+        party: Party<F, Kept<F>, A>,
+    ) -> RunnableSeat<R, F, Q, M, A, B>
+        requires cell { party.seat.table_id ≡ (arc_value cell).table.shared.table_id }
+        requires party { party.seat.me ≡ (view (arc_value cell).limit (fresh as_runnable ∷ []), []) }
+        ensures { result.cell ≡ cell }
+    {
+        let Party { seat } = party;
+        let perch = Perch::new(&seat, 0);
+        settle(&cell.rt, &perch, seat);
+        RunnableSeat { cell, perch }
+    }
+
+    // The share of the cell, and the party, which will step.
+    pub(crate) fn into_party(self) -> (Arc<Cell<R, F, Q, M, A, B>, B>, Party<F, Kept<F>, A>)
+        ensures cell { (result.1.seat.table_id ≡ (arc_value result.0).table.shared.table_id) × (limit_of result.1 ≡ (arc_value result.0).limit) }
+        ensures party { Stands as_runnable result.1 }
+    {
+        let RunnableSeat { cell, perch } = self;
+        let seat = taken(&cell.rt, &perch);
+        drop(perch);
+        (cell, Party { seat })
+    }
 }
 
 /// A task that is due: whoever has it runs it, schedules it, or drops it, which cancels the task.
@@ -61,7 +95,7 @@ pub struct Runnable<
     X: Copy,
     B: Allocator = Global,
 > {
-    pub(crate) inner: RunnableParty<R, F, Q, M, A, B>,
+    pub(crate) inner: RunnableSeat<R, F, Q, M, A, B>,
     pub(crate) around: X,
 }
 
@@ -69,7 +103,7 @@ impl<R: Wait + Drop, F: Yields, Q: Drop, M: Drop, A: Wake, X: Copy, B: Allocator
     for Runnable<R, F, Q, M, A, X, B> {
     fn drop(self) {
         let (inner, _) = self.into_parts();
-        let RunnableParty { cell, mut party } = inner;
+        let (cell, mut party) = inner.into_party();
         cell.discard_runnable(&mut party);
         party.let_go();
         drop(cell);
@@ -86,7 +120,7 @@ impl<R: Wait + Drop, F: Yields, Q: Drop, M: Drop, A: Wake, X: Copy, B: Allocator
     B,
 > {
     // What the Runnable is made of.
-    pub(crate) fn into_parts(self) -> (RunnableParty<R, F, Q, M, A, B>, X)
+    pub(crate) fn into_parts(self) -> (RunnableSeat<R, F, Q, M, A, B>, X)
         ensures inner { result.0 ≡ self.inner }
         ensures around { result.1 ≡ self.around }
     {
@@ -95,7 +129,7 @@ impl<R: Wait + Drop, F: Yields, Q: Drop, M: Drop, A: Wake, X: Copy, B: Allocator
     }
 }
 
-pub use lent::TaskWaker;
+pub use waker::TaskWaker;
 
 mod awaiter;
 mod cancel;
@@ -103,8 +137,11 @@ mod claim;
 mod deliver;
 mod detach;
 mod discard;
+mod dropping;
 mod ends;
+mod gain;
 mod lent;
+mod perch;
 mod poll;
 mod reference;
 mod register;
@@ -112,4 +149,6 @@ mod run;
 mod spawn;
 mod start;
 mod task;
+mod wake;
+pub(crate) mod waker;
 mod whole;

@@ -3,6 +3,7 @@
 pub mod parked;
 pub mod runnable;
 pub mod task;
+pub mod waker;
 
-pub use parked::{ParkedRunnable, ParkedTask};
+pub use parked::{ParkedRunnable, ParkedTask, ParkedWaker};
 pub use task::{Task, TaskClosed};

@@ -13,6 +13,7 @@ pub mod run;
 pub mod spawn;
 pub mod start;
 pub mod task;
+pub mod waker;
 
 /// The acts of a step, by the word that it finds.
 pub trait Script {

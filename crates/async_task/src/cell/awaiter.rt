@@ -31,7 +31,7 @@ impl<R: Drop, F: Yields, Q: Drop, M: Drop, A: Drop, B: Allocator> Cell<R, F, Q, 
         if found.notifying() || found.registering() {
             return None;
         }
-        let awaiter = match shared.exchange(&mut party.seat, 1, Slot::Empty) {
+        let awaiter = match shared.exchange(&mut party.seat, 2, Slot::Empty) {
             Slot::Awaiter(awaiter) => Some(awaiter),
             _ => None,
         };

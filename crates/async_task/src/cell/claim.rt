@@ -8,6 +8,7 @@ ghost use Rattle.task_core.specs.Table.{notifies, goes_off, may_drop};
 ghost use Rattle.async_task.specs.declared.table.Slot.{Slot};
 ghost use Rattle.async_task.specs.declared.table.Deed.{Deed};
 ghost use Rattle.async_task.specs.Rule.{IsOutput};
+ghost use Rattle.async_task.specs.Steps.{output_first};
 ghost use Rattle.async_task.specs.PollScripts.{has_output};
 ghost use Rattle.async_task.specs.PollPaths.{TakePath, TakePathIf, ClaimPath, poll_number, claims_from};
 ghost use Rattle.async_task.specs.Calls.{Stands, StandsWith, Goes, GoesWith, row, act, position, holds, way_of, as_task};
@@ -25,11 +26,11 @@ impl<R: Drop, F: Yields, Q: Drop, M: Drop, A: Drop, B: Allocator> Cell<R, F, Q, 
     // Hands the output out, and ends the poll. One load.
     fn hand_out(&self, party: &mut Party<F, Kept<F>, A>) -> Kept<F>
         requires cell { party.old.seat.table_id ≡ self.now.table.shared.table_id }
-        requires party { (i : ℕ) × (y : Slot F _ A) × StandsWith (Claimer i) ((0, y) ∷ []) party.old × IsOutput y }
+        requires party { (i : ℕ) × (y : Slot F _ A) × (z : Slot F _ A) × StandsWith (Claimer i) (output_first y z []) party.old × IsOutput z }
         ensures { Goes (act HandOutOutput ∷ act EndCall ∷ []) (as_task (poll_number (position party.old))) party.old party.new }
     {
         let shared = &self.table.shared;
-        let Slot::Output(output) = shared.exchange(&mut party.seat, 0, Slot::Empty) else {
+        let Slot::Output(output) = shared.exchange(&mut party.seat, 1, Slot::Empty) else {
             unreachable!()
         };
         shared.load::<Always<HandingOut>>(&mut party.seat, 0);
@@ -60,7 +61,7 @@ impl<R: Wait + Drop, F: Yields, Q: Drop, M: Drop, A: Wake, B: Allocator> Cell<R,
         requires cell { party.old.seat.table_id ≡ self.now.table.shared.table_id }
         requires party { (looked : Bool) × (n : ℕ) × Stands (claims_from looked n) party.old }
         ensures found { has_output result ≡ true }
-        ensures path { (y : Slot F _ A) × IsOutput y × GoesWith (row ClaimOutput result ∷ []) (notifies result.awaiter (OfClaim (poll_number (position party.old)))) ((0, y) ∷ []) party.old party.new }
+        ensures path { (y : Slot F _ A) × (z : Slot F _ A) × IsOutput z × GoesWith (row ClaimOutput result ∷ []) (notifies result.awaiter (OfClaim (poll_number (position party.old)))) (output_first y z []) party.old party.new }
     {
         let shared = &self.table.shared;
         for _ in self.rt.forever() {

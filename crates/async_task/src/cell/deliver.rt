@@ -6,8 +6,9 @@ ghost use Rattle.task_core.specs.declared.moves.Position.TheVariants.{Deliverer}
 ghost use Rattle.task_core.specs.declared.moves.After.{After};
 ghost use Rattle.task_core.specs.declared.moves.Act.TheVariants.{HandOver, EndCall};
 ghost use Rattle.async_task.specs.Calls.{Stands, Goes, IsNew, act, position, hands_over, handed_over, limit_of, as_runnable, as_ended};
+ghost use Rattle.async_task.specs.Wakers.{as_deliverer};
 
-use super::{Cell, Party, Runnable, RunnableParty};
+use super::{Cell, Party, Runnable, RunnableSeat};
 use crate::steps::common::HandingOver;
 use crate::table::Kept;
 use std::alloc::Allocator;
@@ -54,10 +55,7 @@ impl<R: Wait + Drop, F: Yields, Q: Drop, M: Drop, A: Wake, B: Allocator> Cell<R,
         ensures path { Goes (act HandOver ∷ []) (handed_over (position party.old)) party.old party.new }
         ensures fact { (n : _) × Q.scheduled (arc_value this.now).schedule n (record { woken_while_running = woken_while_running }) }
     {
-        let inner = RunnableParty {
-            cell: Cell::share(this),
-            party: this.hand_over(party),
-        };
+        let inner = RunnableSeat::new(Cell::share(this), this.hand_over(party));
         let info = ScheduleInfo {
             woken_while_running,
         };
@@ -95,5 +93,17 @@ impl<R: Wait + Drop, F: Yields, Q: Drop, M: Drop, A: Wake, B: Allocator> Cell<R,
     {
         Cell::hand_to_schedule(this, party, around, false);
         this.end(party);
+    }
+
+    /// The rest of a wake of an idle task: its deliverer hands the Runnable to the schedule value, with `woken_while_running` false, and has ended.
+    pub fn finish_wake<X: Copy>(this: &Arc<Self, B>, mut deliverer: Party<F, Kept<F>, A>, around: X)
+    where
+        Q: Schedule<Runnable<R, F, Q, M, A, X, B>>,
+        requires cell { (deliverer.seat.table_id ≡ (arc_value this.now).table.shared.table_id) × (limit_of deliverer ≡ (arc_value this.now).limit) }
+        requires deliverer { Stands as_deliverer deliverer }
+        ensures fact { (n : _) × Q.scheduled (arc_value this.now).schedule n (record { woken_while_running = false }) }
+    {
+        Cell::hand_on(this, &mut deliverer, around, false);
+        deliverer.let_go();
     }
 }

@@ -6,7 +6,7 @@ ghost use Rattle.task_core.specs.declared.moves.Act.TheVariants.{DropOutput};
 ghost use Rattle.async_task.specs.declared.table.Deed.{Deed};
 ghost use Rattle.async_task.specs.declared.table.Slot.{Slot};
 ghost use Rattle.async_task.specs.Rule.{IsEmpty};
-ghost use Rattle.async_task.specs.Steps.{saw_closed};
+ghost use Rattle.async_task.specs.Steps.{saw_closed, output_first};
 ghost use Rattle.async_task.specs.TaskScripts.{detached};
 ghost use Rattle.async_task.specs.TaskPaths.{given_up_by, Detaches, GivesTaskUp, DetachPath};
 ghost use Rattle.async_task.specs.Calls.{Stands, StandsWith, Goes, act, deeds, limit_of, as_task, as_ended};
@@ -62,10 +62,10 @@ fn given_up_as(word: Word) -> Detached
 }
 
 impl<R: Drop, F: Yields, Q: Drop, M: Drop, A: Drop, B: Allocator> Cell<R, F, Q, M, A, B> {
-    // Writes down that the output in hand was dropped, and gives its place back. One load.
+    // Writes down that the output in hand was dropped, and gives the places back. One load.
     fn note_output_dropped(&self, party: &mut Party<F, Kept<F>, A>)
         requires cell { party.old.seat.table_id ≡ self.now.table.shared.table_id }
-        requires party { (y : Slot F _ A) × StandsWith OutputCloser ((0, y) ∷ []) party.old × IsEmpty y }
+        requires party { (y : Slot F _ A) × (z : Slot F _ A) × StandsWith OutputCloser (output_first y z []) party.old × IsEmpty z }
         ensures { Goes (act DropOutput ∷ []) Detacher party.old party.new }
     {
         self.table
@@ -76,10 +76,10 @@ impl<R: Drop, F: Yields, Q: Drop, M: Drop, A: Drop, B: Allocator> Cell<R, F, Q, 
     // The output that nobody claimed is dropped, and then the Task given up, by a single fetch. Whether the slots are to be emptied.
     fn drop_unclaimed(&self, party: &mut Party<F, Kept<F>, A>) -> bool
         requires cell { party.old.seat.table_id ≡ self.now.table.shared.table_id }
-        requires party { (y : Slot F _ A) × StandsWith OutputCloser ((0, y) ∷ []) party.old × (saw_closed (deeds party.old) ≡ true) }
+        requires party { (y : Slot F _ A) × (z : Slot F _ A) × StandsWith OutputCloser (output_first y z []) party.old × (saw_closed (deeds party.old) ≡ true) }
         ensures { GivesTaskUp party.old party.new result }
     {
-        self.clear(party, 0);
+        self.clear(party, 1);
         self.note_output_dropped(party);
         let found = self
             .table

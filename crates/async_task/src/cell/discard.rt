@@ -6,6 +6,7 @@ ghost use Rattle.async_task.specs.declared.table.Slot.{Slot};
 ghost use Rattle.async_task.specs.declared.table.Deed.{Deed};
 ghost use Rattle.async_task.specs.Calls.{Stands, GoesWith, as_runnable};
 ghost use Rattle.async_task.specs.Rule.{IsFuture};
+ghost use Rattle.async_task.specs.Steps.{future_first};
 ghost use Rattle.async_task.specs.RunPaths.{DiscardStart};
 ghost use Rattle.async_task.specs.RunCalls.{Discards};
 
@@ -22,7 +23,7 @@ impl<R: Drop, F: Yields, Q: Drop, M: Drop, A: Drop, B: Allocator> Cell<R, F, Q, 
     pub(crate) fn discard_start(&self, party: &mut Party<F, Kept<F>, A>)
         requires cell { party.old.seat.table_id ≡ self.now.table.shared.table_id }
         requires party { Stands as_runnable party.old }
-        ensures { (d : Deed) × (y : Slot F _ A) × DiscardStart d × GoesWith (d ∷ []) (FutureInHand DroppedRunnable) ((0, y) ∷ []) party.old party.new × IsFuture y }
+        ensures { (d : Deed) × (y : Slot F _ A) × (z : Slot F _ A) × DiscardStart d × GoesWith (d ∷ []) (FutureInHand DroppedRunnable) (future_first y z []) party.old party.new × IsFuture y }
     {
         self.table
             .shared

@@ -6,7 +6,8 @@ ghost use Rattle.task_core.specs.declared.moves.Act.TheVariants.{AnswerReady, Dr
 ghost use Rattle.task_core.specs.Table.{notifies};
 ghost use Rattle.async_task.specs.declared.table.Slot.{Slot};
 ghost use Rattle.async_task.specs.Calls.{StandsWith, Goes, GoesWith, row, act};
-ghost use Rattle.async_task.specs.Rule.{IsFuture};
+ghost use Rattle.async_task.specs.Rule.{IsEmpty, IsFuture};
+ghost use Rattle.async_task.specs.Steps.{future_first, output_first};
 ghost use Rattle.async_task.specs.RunScripts.{completed_word, after_pending};
 ghost use Rattle.async_task.specs.RunCalls.{Completes, AnswersPending, EndsPending, ending_of};
 
@@ -80,10 +81,10 @@ impl<R: Drop, F: Yields, Q: Drop, M: Drop, A: Drop, B: Allocator> Cell<R, F, Q, 
     // The output that nobody will claim is dropped. One load.
     pub(crate) fn drop_output(&self, party: &mut Party<F, Kept<F>, A>)
         requires cell { party.old.seat.table_id ≡ self.now.table.shared.table_id }
-        requires party { (due : Bool) × (y : Slot F _ A) × StandsWith (OutputInHand due) ((0, y) ∷ []) party.old }
-        ensures { (due : Bool) (y : Slot F _ A) → StandsWith (OutputInHand due) ((0, y) ∷ []) party.old → Goes (act DropOutput ∷ []) (notifies due OfRun) party.old party.new }
+        requires party { (due : Bool) × (y : Slot F _ A) × (z : Slot F _ A) × StandsWith (OutputInHand due) (output_first y z []) party.old }
+        ensures { (due : Bool) (y z : Slot F _ A) → StandsWith (OutputInHand due) (output_first y z []) party.old → Goes (act DropOutput ∷ []) (notifies due OfRun) party.old party.new }
     {
-        self.clear(party, 0);
+        self.clear(party, 1);
         self.table
             .shared
             .load::<Always<DroppingOutput>>(&mut party.seat, 0);
@@ -92,8 +93,8 @@ impl<R: Drop, F: Yields, Q: Drop, M: Drop, A: Drop, B: Allocator> Cell<R, F, Q, 
     // The end step of a run of a closed task, after its future was dropped: a single fetch, never tried again.
     pub(crate) fn end_closed(&self, party: &mut Party<F, Kept<F>, A>) -> Word
         requires cell { party.old.seat.table_id ≡ self.now.table.shared.table_id }
-        requires party { (y : Slot F _ A) × StandsWith Cleared ((0, y) ∷ []) party.old }
-        ensures { (y : Slot F _ A) → StandsWith Cleared ((0, y) ∷ []) party.old → Goes (row EndClosed result ∷ []) (notifies result.awaiter OfRun) party.old party.new }
+        requires party { (y : Slot F _ A) × (z : Slot F _ A) × StandsWith Cleared (future_first y z []) party.old }
+        ensures { (y z : Slot F _ A) → StandsWith Cleared (future_first y z []) party.old → Goes (row EndClosed result ∷ []) (notifies result.awaiter OfRun) party.old party.new }
     {
         let shared = &self.table.shared;
         let found = shared.fetch_and::<Always<EndingClosed>>(
@@ -106,14 +107,15 @@ impl<R: Drop, F: Yields, Q: Drop, M: Drop, A: Drop, B: Allocator> Cell<R, F, Q, 
 }
 
 impl<R: Wait + Drop, F: Yields, Q: Drop, M: Drop, A: Drop, B: Allocator> Cell<R, F, Q, M, A, B> {
-    // The end step of a run with its output, after its future was dropped. It is tried again where the word has changed.
+    // The end step of a run with its output, after its future was dropped. It is tried again where the word has changed. The seat turns, since only the place in front can be written.
     pub(crate) fn complete(&self, party: &mut Party<F, Kept<F>, A>, output: Kept<F>) -> Word
         requires cell { party.old.seat.table_id ≡ self.now.table.shared.table_id }
-        requires party { (y : Slot F _ A) × StandsWith Ready ((0, y) ∷ []) party.old }
-        ensures { (y : Slot F _ A) → StandsWith Ready ((0, y) ∷ []) party.old → Completes party.old party.new result }
+        requires party { (y : Slot F _ A) × (z : Slot F _ A) × StandsWith Ready (future_first y z []) party.old × IsEmpty y }
+        ensures { (y z : Slot F _ A) → StandsWith Ready (future_first y z []) party.old → Completes party.old party.new result }
     {
         let shared = &self.table.shared;
-        drop(shared.exchange(&mut party.seat, 0, Slot::Output(output)));
+        party.seat.turn();
+        drop(shared.exchange(&mut party.seat, 1, Slot::Output(output)));
         let mut word = Word::from_bits(shared.peek(0));
         for _ in self.rt.forever() {
             let old = word.bits();
@@ -136,8 +138,8 @@ impl<R: Wait + Drop, F: Yields, Q: Drop, M: Drop, A: Drop, B: Allocator> Cell<R,
     pub(crate) fn end_pending(&self, party: &mut Party<F, Kept<F>, A>, mut word: Word) -> PendingEnd
         requires cell { party.old.seat.table_id ≡ self.now.table.shared.table_id }
         requires unclosed { word.closed ≡ false }
-        requires party { (y : Slot F _ A) × StandsWith Pending ((0, y) ∷ []) party.old × IsFuture y }
-        ensures { (y : Slot F _ A) → StandsWith Pending ((0, y) ∷ []) party.old → EndsPending y party.old party.new result }
+        requires party { (y : Slot F _ A) × (z : Slot F _ A) × StandsWith Pending (future_first y z []) party.old × IsFuture y }
+        ensures { (y z : Slot F _ A) → StandsWith Pending (future_first y z []) party.old → EndsPending (future_first y z []) party.old party.new result }
     {
         let shared = &self.table.shared;
         for _ in self.rt.forever() {

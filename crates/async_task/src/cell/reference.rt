@@ -20,7 +20,7 @@ use task_core::word::{REFERENCE, Word};
 use task_core::{Wake, Yields};
 
 impl<R: Drop, F: Yields, Q: Drop, M: Drop, A: Drop, B: Allocator> Cell<R, F, Q, M, A, B> {
-    // Drops what is in the place of the table that the party took last, and leaves nothing there.
+    // Drops what is in the place of the table that the party has in front, and leaves nothing there.
     pub(crate) fn clear(&self, party: &mut Party<F, Kept<F>, A>, place: usize)
         requires cell { party.old.seat.table_id ≡ self.now.table.shared.table_id }
         requires party { (at : Position) × (y : Slot F _ A) × (held : List (ℕ × Slot F _ A)) × StandsWith at ((place, y) ∷ held) party.old }
@@ -46,10 +46,10 @@ impl<R: Drop, F: Yields, Q: Drop, M: Drop, A: Drop, B: Allocator> Cell<R, F, Q, 
     /// `party` is who gave the last handle up. After it the party goes on in its call: to the awaiter in hand, or to the end.
     pub fn empty(&self, party: &mut Party<F, Kept<F>, A>)
         requires cell { party.old.seat.table_id ≡ self.now.table.shared.table_id }
-        requires party { (hand : Option ℕ) × (answer : Answer) × (y : Slot F _ A) × StandsWith (Emptier hand answer) ((1, y) ∷ []) party.old }
-        ensures { (hand : Option ℕ) (answer : Answer) (y : Slot F _ A) → StandsWith (Emptier hand answer) ((1, y) ∷ []) party.old → Goes (act EmptySlots ∷ []) (after_giving_up hand answer) party.old party.new }
+        requires party { (hand : Option ℕ) × (answer : Answer) × (y : Slot F _ A) × StandsWith (Emptier hand answer) ((2, y) ∷ []) party.old }
+        ensures { (hand : Option ℕ) (answer : Answer) (y : Slot F _ A) → StandsWith (Emptier hand answer) ((2, y) ∷ []) party.old → Goes (act EmptySlots ∷ []) (after_giving_up hand answer) party.old party.new }
     {
-        self.clear(party, 1);
+        self.clear(party, 2);
         self.table
             .shared
             .load::<Always<Emptying>>(&mut party.seat, 0);

@@ -58,11 +58,11 @@ impl<R: Drop, F: Yields, Q: Drop, M: Drop, A: Drop, B: Allocator> Cell<R, F, Q, 
     // Puts the clone into the awaiter slot, and drops what stood there.
     fn store(&self, party: &mut Party<F, Kept<F>, A>, clone: A)
         requires cell { party.old.seat.table_id ≡ self.now.table.shared.table_id }
-        requires party { (i : ℕ) × (hand : Option ℕ) × (y : Slot F _ A) × StandsWith (after_storing i hand) ((1, y) ∷ []) party.old × Waits hand y }
-        ensures { (stood : Bool) × GoesWith (dropped_if stood) (Registered (poll_number (position party.old))) ((1, Awaiter clone) ∷ []) party.old party.new }
+        requires party { (i : ℕ) × (hand : Option ℕ) × (y : Slot F _ A) × StandsWith (after_storing i hand) ((2, y) ∷ []) party.old × Waits hand y }
+        ensures { (stood : Bool) × GoesWith (dropped_if stood) (Registered (poll_number (position party.old))) ((2, Awaiter clone) ∷ []) party.old party.new }
     {
         let shared = &self.table.shared;
-        let old = shared.exchange(&mut party.seat, 1, Slot::Awaiter(clone));
+        let old = shared.exchange(&mut party.seat, 2, Slot::Awaiter(clone));
         if let Slot::Awaiter(old) = old {
             drop(old);
             shared.load::<Always<Dropping>>(&mut party.seat, 0);
@@ -99,7 +99,7 @@ impl<R: Wait + Drop, F: Yields, Q: Drop, M: Drop, A: Wake, B: Allocator> Cell<R,
     // Gives the awaiter slot back with the clone in it, and answers whether it did: it does not where there is a notifier.
     fn end_register(&self, party: &mut Party<F, Kept<F>, A>) -> bool
         requires cell { party.old.seat.table_id ≡ self.now.table.shared.table_id }
-        requires party { (i : ℕ) × (clone : A) × StandsWith (Registered i) ((1, Awaiter clone) ∷ []) party.old }
+        requires party { (i : ℕ) × (clone : A) × StandsWith (Registered i) ((2, Awaiter clone) ∷ []) party.old }
         ensures { EndsRegister party.old party.new result }
     {
         let shared = &self.table.shared;
@@ -124,12 +124,12 @@ impl<R: Wait + Drop, F: Yields, Q: Drop, M: Drop, A: Wake, B: Allocator> Cell<R,
     // Takes the clone out again, since a notifier came, and gives the awaiter slot back. A notifier stays while the slot is the Task's.
     fn take_back(&self, party: &mut Party<F, Kept<F>, A>) -> A
         requires cell { party.old.seat.table_id ≡ self.now.table.shared.table_id }
-        requires party { (i : ℕ) × (clone : A) × StandsWith (Registered i) ((1, Awaiter clone) ∷ []) party.old }
-        ensures same { holds party.old ≡ (1, Awaiter result) ∷ [] }
+        requires party { (i : ℕ) × (clone : A) × StandsWith (Registered i) ((2, Awaiter clone) ∷ []) party.old }
+        ensures same { holds party.old ≡ (2, Awaiter result) ∷ [] }
         ensures path { (v : State) × (v.notifying ≡ true) × Goes (act TakeAwaiter ∷ row EndRegisterNotified v ∷ []) (CloneInHand (poll_number (position party.old))) party.old party.new }
     {
         let shared = &self.table.shared;
-        let Slot::Awaiter(clone) = shared.exchange(&mut party.seat, 1, Slot::Empty) else {
+        let Slot::Awaiter(clone) = shared.exchange(&mut party.seat, 2, Slot::Empty) else {
             unreachable!()
         };
         for _ in self.rt.forever() {

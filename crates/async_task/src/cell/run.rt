@@ -11,6 +11,7 @@ ghost use Rattle.task_core.specs.Table.{notifies};
 ghost use Rattle.async_task.specs.declared.table.Slot.{Slot};
 ghost use Rattle.async_task.specs.Calls.{StandsWith, Stands, Goes, row, act, position, closing_way, limit_of, as_ended};
 ghost use Rattle.async_task.specs.Rule.{IsEmpty, IsFuture};
+ghost use Rattle.async_task.specs.Steps.{future_first};
 ghost use Rattle.async_task.specs.RunCalls.{Stores, ClosesPending, Closes, EndsReady, EndsUnready};
 
 use super::ends::PendingEnd;
@@ -34,7 +35,7 @@ impl<R: Drop, F: Yields, Q: Drop, M: Drop, A: Drop, B: Allocator> Cell<R, F, Q, 
     // SCHEDULED is cleared, after the future was dropped: a single fetch, never tried again.
     pub(crate) fn unschedule(&self, party: &mut Party<F, Kept<F>, A>) -> Word
         requires cell { party.old.seat.table_id ≡ self.now.table.shared.table_id }
-        requires party { (closer : Closer) × (y : Slot F _ A) × StandsWith (FutureInHand closer) ((0, y) ∷ []) party.old × IsEmpty y }
+        requires party { (closer : Closer) × (y : Slot F _ A) × (z : Slot F _ A) × StandsWith (FutureInHand closer) (future_first y z []) party.old × IsEmpty y }
         ensures { Goes (act DropFuture ∷ row Unschedule result ∷ []) (notifies result.awaiter (closing_way (position party.old))) party.old party.new }
     {
         let found = self
@@ -49,8 +50,8 @@ impl<R: Wait + Drop, F: Yields, Q: Drop, M: Drop, A: Drop, B: Allocator> Cell<R,
     // The end step of a run with its output, which is dropped where nobody will claim it.
     pub(crate) fn store_output(&self, party: &mut Party<F, Kept<F>, A>, output: Kept<F>) -> Word
         requires cell { party.old.seat.table_id ≡ self.now.table.shared.table_id }
-        requires party { (y : Slot F _ A) × StandsWith Ready ((0, y) ∷ []) party.old }
-        ensures { (y : Slot F _ A) → StandsWith Ready ((0, y) ∷ []) party.old → Stores result party.old party.new }
+        requires party { (y : Slot F _ A) × (z : Slot F _ A) × StandsWith Ready (future_first y z []) party.old × IsEmpty y }
+        ensures { (y z : Slot F _ A) → StandsWith Ready (future_first y z []) party.old → Stores result party.old party.new }
     {
         let found = self.complete(party, output);
         if keeps_output(found) {
@@ -65,7 +66,7 @@ impl<R: Drop, F: Yields, Q: Drop, M: Drop, A: Wake, B: Allocator> Cell<R, F, Q, 
     // A run of a task that was closed before, from where it has taken the future over.
     pub(crate) fn close_run(&self, party: &mut Party<F, Kept<F>, A>)
         requires cell { party.old.seat.table_id ≡ self.now.table.shared.table_id }
-        requires party { (y : Slot F _ A) × StandsWith (FutureInHand ClosedRun) ((0, y) ∷ []) party.old }
+        requires party { (y : Slot F _ A) × (z : Slot F _ A) × StandsWith (FutureInHand ClosedRun) (future_first y z []) party.old }
         ensures { Closes ((a : A) × A.woken a) party.old party.new }
     {
         self.clear(party, 0);
@@ -76,7 +77,7 @@ impl<R: Drop, F: Yields, Q: Drop, M: Drop, A: Wake, B: Allocator> Cell<R, F, Q, 
     // A run of a task that was closed meanwhile, from where its poll answered Pending.
     pub(crate) fn finish_cleared(&self, party: &mut Party<F, Kept<F>, A>)
         requires cell { party.old.seat.table_id ≡ self.now.table.shared.table_id }
-        requires party { (y : Slot F _ A) × StandsWith Cleared ((0, y) ∷ []) party.old }
+        requires party { (y : Slot F _ A) × (z : Slot F _ A) × StandsWith Cleared (future_first y z []) party.old }
         ensures { ClosesPending ((a : A) × A.woken a) party.old party.new }
     {
         self.clear(party, 0);
@@ -89,7 +90,7 @@ impl<R: Wait + Drop, F: Yields, Q: Drop, M: Drop, A: Wake, B: Allocator> Cell<R,
     // A run, from where its poll answered Ready.
     pub(crate) fn finish_ready(&self, party: &mut Party<F, Kept<F>, A>, output: Kept<F>)
         requires cell { party.old.seat.table_id ≡ self.now.table.shared.table_id }
-        requires party { (y : Slot F _ A) × StandsWith Polling ((0, y) ∷ []) party.old }
+        requires party { (y : Slot F _ A) × (z : Slot F _ A) × StandsWith Polling (future_first y z []) party.old }
         ensures { EndsReady ((a : A) × A.woken a) party.old party.new }
     {
         self.answer_ready(party);
@@ -125,7 +126,7 @@ impl<R: Wait + Drop, F: Yields, Q: Drop, M: Drop, A: Wake, B: Allocator> Cell<R,
     where
         Q: Schedule<Runnable<R, F, Q, M, A, X, B>>,
         requires cell { (party.old.seat.table_id ≡ (arc_value this.now).table.shared.table_id) × (limit_of party.old ≡ (arc_value this.now).limit) }
-        requires party { (y : Slot F _ A) × StandsWith Polling ((0, y) ∷ []) party.old × IsFuture y }
+        requires party { (y : Slot F _ A) × (z : Slot F _ A) × StandsWith Polling (future_first y z []) party.old × IsFuture y }
         ensures { EndsUnready ((a : A) × A.woken a) (λ b. (n : _) × Q.scheduled (arc_value this.now).schedule n (record { woken_while_running = b })) result party.old party.new }
     {
         let found = this.answer_pending(party);

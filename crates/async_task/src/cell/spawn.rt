@@ -24,9 +24,10 @@ fn lay<F: Drop, T: Drop, A: Drop, B: Allocator + Copy>(
     limit: u64,
 ) -> Result<(Board<F, T, A, B>, Seat<Slot<F, T, A>, View>), AllocError>
     requires { limit < 2 ^ 55 }
-    ensures { IfOk result (λ t. (t.0.shared.table_id.words ≡ 1) × (t.0.shared.table_id.slots ≡ 2) × (t.0.shared.key ≡ limit) × (t.1.table_id ≡ t.0.shared.table_id) × (t.1.me ≡ (laid_view limit, []))) }
+    ensures { IfOk result (λ t. (t.0.shared.table_id.words ≡ 1) × (t.0.shared.table_id.slots ≡ 3) × (t.0.shared.key ≡ limit) × (t.1.table_id ≡ t.0.shared.table_id) × (t.1.me ≡ (laid_view limit, []))) }
 {
-    let mut slots = Vec::with_capacity(alloc, 2)?;
+    let mut slots = Vec::with_capacity(alloc, 3)?;
+    slots.push_reserved(Slot::Empty);
     slots.push_reserved(Slot::Empty);
     slots.push_reserved(Slot::Empty);
     match Table::new(alloc, &[OPENING], slots, &limit) {
@@ -99,6 +100,7 @@ impl<R: Drop, F: Yields, Q: Drop, M: Drop, A: Drop, B: Allocator> Cell<R, F, Q, 
         let word = closed.word(0);
         drop(closed.take(0));
         drop(closed.take(1));
+        drop(closed.take(2));
         closed.free();
         word
     }

@@ -6,6 +6,7 @@ ghost use Rattle.task_core.specs.declared.moves.Closer.TheVariants.{ClosedRun};
 ghost use Rattle.async_task.specs.declared.table.Deed.{Deed};
 ghost use Rattle.async_task.specs.declared.table.Slot.{Slot};
 ghost use Rattle.async_task.specs.Rule.{IsFuture};
+ghost use Rattle.async_task.specs.Steps.{future_first};
 ghost use Rattle.async_task.specs.Calls.{Stands, StandsWith, Goes, limit_of, as_runnable, as_ended};
 ghost use Rattle.async_task.specs.Starts.{TakesUp};
 ghost use Rattle.async_task.specs.RunPaths.{RunPath};
@@ -66,7 +67,7 @@ impl<R: Wait + Drop, F: Yields, Q: Drop, M: Drop, A: Wake, B: Allocator> Cell<R,
 
     fn end_closed_run(&self, mut party: Party<F, Kept<F>, A>) -> Party<F, Kept<F>, A>
         requires cell { party.seat.table_id ≡ self.now.table.shared.table_id }
-        requires party { (y : Slot F _ A) × StandsWith (FutureInHand ClosedRun) ((0, y) ∷ []) party }
+        requires party { (y : Slot F _ A) × (z : Slot F _ A) × StandsWith (FutureInHand ClosedRun) (future_first y z []) party }
         ensures { Closes ((a : A) × A.woken a) party result }
     {
         self.close_run(&mut party);
@@ -79,7 +80,7 @@ impl<R: Wait + Drop, F: Yields, Q: Drop, M: Drop, A: Wake, B: Allocator> Cell<R,
         output: Kept<F>,
     ) -> Party<F, Kept<F>, A>
         requires cell { party.seat.table_id ≡ self.now.table.shared.table_id }
-        requires party { (y : Slot F _ A) × StandsWith Polling ((0, y) ∷ []) party }
+        requires party { (y : Slot F _ A) × (z : Slot F _ A) × StandsWith Polling (future_first y z []) party }
         ensures { EndsReady ((a : A) × A.woken a) party result }
     {
         self.finish_ready(&mut party, output);
@@ -94,7 +95,7 @@ impl<R: Wait + Drop, F: Yields, Q: Drop, M: Drop, A: Wake, B: Allocator> Cell<R,
     where
         Q: Schedule<Runnable<R, F, Q, M, A, X, B>>,
         requires cell { (party.seat.table_id ≡ (arc_value this.now).table.shared.table_id) × (limit_of party ≡ (arc_value this.now).limit) }
-        requires party { (y : Slot F _ A) × StandsWith Polling ((0, y) ∷ []) party × IsFuture y }
+        requires party { (y : Slot F _ A) × (z : Slot F _ A) × StandsWith Polling (future_first y z []) party × IsFuture y }
         ensures { EndsUnready ((a : A) × A.woken a) (λ woken. (n : _) × Q.scheduled (arc_value this.now).schedule n (record { woken_while_running = woken })) result.1 party result.0 }
     {
         let woken = Cell::finish_pending(this, &mut party, around);

@@ -2,14 +2,15 @@
 //! They must be unparked again; nothing is dropped of one that is forgotten.
 
 use super::task::{Task, TaskParty};
-use crate::cell::{Runnable, RunnableParty};
+use crate::cell::waker::WakerSeat;
+use crate::cell::{Runnable, RunnableSeat, TaskWaker};
 use std::alloc::{Allocator, Global};
 use std::sync::Wait;
 use task_core::{Schedule, Wake, Yields};
 
 /// A Runnable without the surroundings. It counts as the Runnable, and can't be dropped: it is unparked.
 pub struct ParkedRunnable<R, F: Yields, Q, M, A, B: Allocator = Global> {
-    pub(crate) inner: RunnableParty<R, F, Q, M, A, B>,
+    pub(crate) inner: RunnableSeat<R, F, Q, M, A, B>,
 }
 
 impl<R: Wait + Drop, F: Yields, Q: Drop, M: Drop, A: Wake, B: Allocator> ParkedRunnable<
@@ -57,5 +58,28 @@ impl<R: Wait + Drop, F: Yields, Q: Drop, M: Drop, A: Wake, B: Allocator> ParkedT
     {
         let ParkedTask { inner } = self;
         Task { inner, around }
+    }
+}
+
+/// A waker without the surroundings. It counts as the waker, and can't be dropped: it is unparked.
+pub struct ParkedWaker<R, F: Yields, Q, M, A, B: Allocator = Global> {
+    pub(crate) inner: WakerSeat<R, F, Q, M, A, B>,
+}
+
+impl<R: Wait + Drop, F: Yields, Q: Drop, M: Drop, A: Wake, B: Allocator> ParkedWaker<
+    R,
+    F,
+    Q,
+    M,
+    A,
+    B,
+> {
+    /// The waker again, with these surroundings. It makes no step.
+    pub fn unpark<X: Copy>(self, around: X) -> TaskWaker<R, F, Q, M, A, X, B>
+    where
+        Q: Schedule<Runnable<R, F, Q, M, A, X, B>>,
+    {
+        let ParkedWaker { inner } = self;
+        TaskWaker { inner, around }
     }
 }

@@ -3,7 +3,8 @@ ghost use Rattle.std.specs.Prelude.{◌≡◌};
 ghost use Rattle.std.specs.Arc.{arc_value};
 
 use super::parked::ParkedRunnable;
-use crate::cell::{Cell, Runnable, RunnableParty, TaskWaker};
+use crate::cell::waker::WakerSeat;
+use crate::cell::{Cell, Runnable, TaskWaker};
 use std::alloc::Allocator;
 use std::sync::Wait;
 use task_core::{Future, Schedule, Wake, Yields};
@@ -27,6 +28,18 @@ impl<R: Wait + Drop, F: Yields, Q: Drop, M: Drop, A: Wake, X: Copy, B: Allocator
         self.around
     }
 
+    /// A waker of the task, which holds a reference. `None` where the count of references is at the limit, or where memory was refused; nothing has changed then.
+    pub fn waker(&self) -> Option<TaskWaker<R, F, Q, M, A, X, B>>
+    where
+        Q: Schedule<Runnable<R, F, Q, M, A, X, B>>,
+    {
+        let (cell, party) = Cell::gain_at(&self.inner.cell, &self.inner.perch)?;
+        Some(TaskWaker {
+            inner: WakerSeat::owned(cell, party),
+            around: self.around,
+        })
+    }
+
     /// Does what a drop does: the task is closed, its future is dropped, and an awaiter that waits is woken.
     pub fn discard(self) {
         drop(self);
@@ -44,7 +57,7 @@ impl<R: Wait + Drop, F: Yields, Q: Drop, M: Drop, A: Wake, X: Copy, B: Allocator
         Q: Schedule<Runnable<R, F, Q, M, A, X, B>>,
     {
         let (inner, around) = self.into_parts();
-        let RunnableParty { cell, mut party } = inner;
+        let (cell, mut party) = inner.into_party();
         Cell::schedule(&cell, &mut party, around);
         party.let_go();
         drop(cell);
@@ -57,7 +70,7 @@ impl<R: Wait + Drop, F: Yields, Q: Drop, M: Drop, A: Wake, X: Copy, B: Allocator
         Q: Schedule<Runnable<R, F, Q, M, A, X, B>>,
     {
         let (inner, around) = self.into_parts();
-        let RunnableParty { cell, party } = inner;
+        let (cell, party) = inner.into_party();
         let (cell, ended, woken) = Cell::run(cell, party, around);
         ended.let_go();
         drop(cell);

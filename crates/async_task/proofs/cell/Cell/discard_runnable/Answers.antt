@@ -1,4 +1,4 @@
-use Rattle.std.proofs.Common.{◌∙◌, [], None}
+use Rattle.std.proofs.Common.{◌∙◌, [], ◌∷◌, None}
 use Rattle.task_core.specs.declared.moves.Way.TheVariants.{OfDrop}
 use Rattle.task_core.specs.declared.moves.Answer.TheVariants.{Nothing}
 use Rattle.task_core.specs.declared.moves.Rest.TheVariants.{Ended}
@@ -9,13 +9,13 @@ use Rattle.async_task.proofs.RunRest.{drop_clears, drop_closes, drop_notifies, d
 use Rattle.async_task.proofs.cell.Cell.discard_runnable.Goals as goal
 
 pub clear-requires-clause-party : goal.clear-requires-clause-party
-clear-requires-clause-party g c = let f = c.discard_start.ensures in (_, f.1, [], stands _ _ _ _ _ f.3)
+clear-requires-clause-party g c = let f = c.discard_start.ensures in (_, f.1, (1, f.2) ∷ [], stands _ _ _ _ _ f.4)
 
 pub unschedule-found-requires-clause-cell : goal.unschedule-found-requires-clause-cell
-unschedule-found-requires-clause-cell g c = (drop_clears _ _ _ c.discard_start.ensures c.clear.ensures).cell ∙ (c.discard_start.ensures.3.cell ∙ c.requires.cell)
+unschedule-found-requires-clause-cell g c = (drop_clears _ _ _ c.discard_start.ensures c.clear.ensures).cell ∙ (c.discard_start.ensures.4.cell ∙ c.requires.cell)
 
 pub unschedule-found-requires-clause-party : goal.unschedule-found-requires-clause-party
-unschedule-found-requires-clause-party g c = (DroppedRunnable, Empty, stands _ _ _ _ _ (drop_clears _ _ _ c.discard_start.ensures c.clear.ensures), tt)
+unschedule-found-requires-clause-party g c = (DroppedRunnable, Empty, c.discard_start.ensures.2, stands _ _ _ _ _ (drop_clears _ _ _ c.discard_start.ensures c.clear.ensures), tt)
 
 pub take_due-awaiter-requires-clause-cell : goal.take_due-awaiter-requires-clause-cell
 take_due-awaiter-requires-clause-cell g c = (drop_closes _ _ _ c.discard_start.ensures c.clear.ensures _ _ c.unschedule-found.ensures _ c.awaiter.ensures).cell ∙ c.requires.cell

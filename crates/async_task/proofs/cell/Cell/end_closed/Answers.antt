@@ -8,14 +8,14 @@ use Rattle.task_core.specs.Table.{notifies}
 use Rattle.async_task.specs.Calls.{row, Goes}
 use Rattle.async_task.proofs.RunOwed.{ends_closed}
 use Rattle.async_task.proofs.RunGoes.{ended_closed}
-use Rattle.async_task.proofs.Moved.{first_held}
+use Rattle.async_task.proofs.Moved.{future_held}
 use Rattle.async_task.proofs.cell.Cell.end_closed.Goals as goal
 
 pub fetch_and-found-requires : goal.fetch_and-found-requires
 fetch_and-found-requires g c = let s = c.requires.party in
-    (search rules, search rules, steps_always _ _ _ _ _ _ _ _ _ _ _ _ _ (search rules) (ap (λ m. m.0) s.1) (ends_closed _ _ _ _ _ _ _ _ (first_held c.args.party.now Cleared 0 s.0 [] s.1)))
+    (search rules, search rules, steps_always _ _ _ _ _ _ _ _ _ _ _ _ _ (search rules) (ap (λ m. m.0) s.2) (ends_closed _ _ _ _ _ _ _ _ _ (future_held c.args.party.now Cleared s.0 s.1 s.2)))
 
 pub returns : goal.returns
-returns g c = λ y s. let l = c.fetch_and-found.ensures in
+returns g c = λ y z s. let l = c.fetch_and-found.ensures in
     subst (λ w. Goes (row EndClosed w ∷ []) (notifies w.awaiter OfRun) c.args.party.now (record { seat = c.fetch_and-found.new.seat })) (sym c.from_bits.ensures)
-    (ended_closed y c.args.party.now (record { seat = c.fetch_and-found.new.seat }) (state_of c.fetch_and-found.result) s l.0 l.2)
+    (ended_closed y z c.args.party.now (record { seat = c.fetch_and-found.new.seat }) (state_of c.fetch_and-found.result) s l.0 l.2)

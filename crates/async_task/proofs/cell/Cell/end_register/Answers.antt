@@ -15,7 +15,7 @@ compare_exchange-found-requires g c = let s = c.requires.party in let e = c.loop
   search rules,
   search rules,
   steps_or_misses _ _ _ _ _ _ _ _ _ _ _ _ _ _ _ (search rules) (ap (λ m. m.0) me)
-      (λ m f here. ends_register _ _ _ _ s.0 _ _ (Awaiter s.1) _ m _ f (ap (λ m. m.1) me ∙ ap (λ r. (1, Awaiter s.1) ∷ r) (ap (λ m. rest m.1) (sym me))) tt
+      (λ m f here. ends_register _ _ _ _ s.0 _ _ (Awaiter s.1) _ m _ f (ap (λ m. m.1) me ∙ ap (λ r. (2, Awaiter s.1) ∷ r) (ap (λ m. rest m.1) (sym me))) tt
       (fits EndRegister _ _ _ _ _ (sym c.end_register.ensures ∙ c.in-Some-end_register.is) c.bits.ensures c.bits-in-loop.ensures here))
       (does_nothing _ _ _ _ _ _ _ _),
 )

@@ -9,7 +9,7 @@ finish_cleared-requires-clause-cell g c = let x = cleared_first _ _ _ c.requires
     x.cell ∙ (c.requires.cell.0 ∙ ap (λ z. z.table.shared.table_id) (sym c.deref-then-closed.ensures))
 
 pub finish_cleared-requires-clause-party : goal.finish_cleared-requires-clause-party
-finish_cleared-requires-clause-party g c = (_, stands _ _ _ _ _ (cleared_first _ _ _ c.requires.party c.answer_pending-found.ensures (sym c.closed.ensures ∙ c.if-closed.true)))
+finish_cleared-requires-clause-party g c = (_, _, stands _ _ _ _ _ (cleared_first _ _ _ c.requires.party c.answer_pending-found.ensures (sym c.closed.ensures ∙ c.if-closed.true)))
 
 pub returns-then-closed : goal.returns-then-closed
 returns-then-closed g c = found_closed _ _ _ _ _ _ (cleared_first _ _ _ c.requires.party c.answer_pending-found.ensures (sym c.closed.ensures ∙ c.if-closed.true)) c.finish_cleared.ensures
@@ -19,7 +19,7 @@ end_pending-requires-clause-cell g c = let x = left_pending _ _ _ c.requires.par
     x.cell ∙ (c.requires.cell.0 ∙ ap (λ z. z.table.shared.table_id) (sym c.deref-2.ensures))
 
 pub end_pending-requires-clause-party : goal.end_pending-requires-clause-party
-end_pending-requires-clause-party g c = let s = c.requires.party in (s.0, stands _ _ _ _ _ (left_pending _ _ _ s c.answer_pending-found.ensures (sym c.closed.ensures ∙ c.if-closed.false)), s.2)
+end_pending-requires-clause-party g c = let s = c.requires.party in (s.0, s.1, stands _ _ _ _ _ (left_pending _ _ _ s c.answer_pending-found.ensures (sym c.closed.ensures ∙ c.if-closed.false)), s.3)
 
 pub finish_cleared-requires-in-Closed-clause-cell : goal.finish_cleared-requires-in-Closed-clause-cell
 finish_cleared-requires-in-Closed-clause-cell g c = let x = cleared_later _ _ _ _ _ c.requires.party c.answer_pending-found.ensures (sym c.closed.ensures ∙ c.if-closed.false) c.end_pending.ensures c.in-Closed.is in
@@ -27,7 +27,7 @@ finish_cleared-requires-in-Closed-clause-cell g c = let x = cleared_later _ _ _ 
 
 pub finish_cleared-requires-in-Closed-clause-party : goal.finish_cleared-requires-in-Closed-clause-party
 finish_cleared-requires-in-Closed-clause-party g c = let x = cleared_later _ _ _ _ _ c.requires.party c.answer_pending-found.ensures (sym c.closed.ensures ∙ c.if-closed.false) c.end_pending.ensures c.in-Closed.is in
-    (_, stands _ _ _ _ _ x)
+    (_, _, stands _ _ _ _ _ x)
 
 pub hand_on-requires-clause-cell : goal.hand_on-requires-clause-cell
 hand_on-requires-clause-cell g c = let x = went_rescheduled _ _ _ _ _ c.requires.party c.answer_pending-found.ensures (sym c.closed.ensures ∙ c.if-closed.false) c.end_pending.ensures c.in-Rescheduled.is in

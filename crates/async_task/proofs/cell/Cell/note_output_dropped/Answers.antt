@@ -1,10 +1,10 @@
-use Rattle.std.proofs.Common.{rules, ap, []}
+use Rattle.std.proofs.Common.{rules, ap}
 use Rattle.task_core.specs.declared.moves.Position.TheVariants.{OutputCloser}
 use Rattle.async_task.proofs.Allowed.{steps_always}
-use Rattle.async_task.proofs.Moved.{first_held}
+use Rattle.async_task.proofs.Moved.{output_held}
 use Rattle.async_task.proofs.TaskOwed.{drops_output}
 use Rattle.async_task.proofs.cell.Cell.note_output_dropped.Goals as goal
 
 pub load-requires : goal.load-requires
 load-requires g c = let s = c.requires.party in
-    (search rules, search rules, steps_always _ _ _ _ _ _ _ _ _ _ _ _ _ (search rules) (ap (λ m. m.0) s.1) (drops_output _ _ _ _ _ _ s.0 _ (first_held c.args.party.now OutputCloser 0 s.0 [] s.1)))
+    (search rules, search rules, steps_always _ _ _ _ _ _ _ _ _ _ _ _ _ (search rules) (ap (λ m. m.0) s.2) (drops_output _ _ _ _ _ _ s.0 s.1 _ (output_held c.args.party.now OutputCloser s.0 s.1 s.2)))

@@ -31,18 +31,18 @@ returns-then-notifying g c = let s = c.requires.party in let w = state_of c.fetc
 pub exchange-requires : goal.exchange-requires
 exchange-requires g c = let s = c.requires.party in let w = state_of c.fetch_or-found.result in let f = c.fetch_or-found.ensures in
     let t = taken_free c.args.party.now (record { seat = c.fetch_or-found.new.seat }) w _ _ _ s f.0 f.2 c.from_bits-found.ensures c.notifying.ensures c.registering.ensures c.if-notifying.false c.if-registering.false in
-    (f.0 ∙ c.requires.cell, (t.value, first_held (record { seat = c.fetch_or-found.new.seat }) _ 1 t.value _ (stands _ _ _ _ _ t.goes)))
+    (f.0 ∙ c.requires.cell, (t.value, first_held (record { seat = c.fetch_or-found.new.seat }) _ 2 t.value _ (stands _ _ _ _ _ t.goes)))
 
 pub fetch_and-requires : goal.fetch_and-requires
 fetch_and-requires g c = let s = c.requires.party in let w = state_of c.fetch_or-found.result in let f = c.fetch_or-found.ensures in
     let t = taken_free c.args.party.now (record { seat = c.fetch_or-found.new.seat }) w _ _ _ s f.0 f.2 c.from_bits-found.ensures c.notifying.ensures c.registering.ensures c.if-notifying.false c.if-registering.false in
-    let e = c.exchange.ensures in let x = exchanges _ _ (record { seat = c.exchange.new.seat }) _ _ 1 t.value c.exchange.result Empty _ t.goes e.0 e.2 e.3 in let at = stands _ _ _ _ _ x.1 in
-    (search rules, search rules, steps_always _ _ _ _ _ _ _ _ _ _ _ _ _ (search rules) (ap (λ m. m.0) at) (releases_awaiter _ _ _ _ t.hand s.0 _ _ Empty _ (first_held (record { seat = c.exchange.new.seat }) _ 1 Empty _ at) tt))
+    let e = c.exchange.ensures in let x = exchanges _ _ (record { seat = c.exchange.new.seat }) _ _ 2 t.value c.exchange.result Empty _ t.goes e.0 e.2 e.3 in let at = stands _ _ _ _ _ x.1 in
+    (search rules, search rules, steps_always _ _ _ _ _ _ _ _ _ _ _ _ _ (search rules) (ap (λ m. m.0) at) (releases_awaiter _ _ _ _ t.hand s.0 _ _ Empty _ (first_held (record { seat = c.exchange.new.seat }) _ 2 Empty _ at) tt))
 
 pub returns : goal.returns
 returns g c = let s = c.requires.party in let w = state_of c.fetch_or-found.result in let f = c.fetch_or-found.ensures in
     let t = taken_free c.args.party.now (record { seat = c.fetch_or-found.new.seat }) w _ _ _ s f.0 f.2 c.from_bits-found.ensures c.notifying.ensures c.registering.ensures c.if-notifying.false c.if-registering.false in
-    let e = c.exchange.ensures in let x = exchanges _ _ (record { seat = c.exchange.new.seat }) _ _ 1 t.value c.exchange.result Empty _ t.goes e.0 e.2 e.3 in
+    let e = c.exchange.ensures in let x = exchanges _ _ (record { seat = c.exchange.new.seat }) _ _ 2 t.value c.exchange.result Empty _ t.goes e.0 e.2 e.3 in
     let same : c.match-exchange.awaiter ≡ awaiter_of c.exchange.result = elim c.match-exchange.branch [
       | in-Awaiter z ↦ z.awaiter-is ∙ ap awaiter_of (sym z.in-Awaiter.is)
       | in_default z ↦ z.awaiter-is ∙ sym (none_of c.exchange.result z.in_default.not-Awaiter)

@@ -13,10 +13,10 @@ compare_exchange-found-requires g c = let s = c.requires.party in let e = c.loop
   search rules,
   search rules,
   steps_or_misses _ _ _ _ _ _ _ _ _ _ _ _ _ _ _ (search rules) (ap (λ m. m.0) e.same ∙ ap (λ m. m.0) s.2)
-      (λ m f here. ends_notified _ _ _ _ s.0 _ _ Empty _ m _ f (ap (λ m. m.1) e.same ∙ ap (λ r. (1, Empty) ∷ r) (ap (λ m. rest m.1) (sym e.same))) tt
+      (λ m f here. ends_notified _ _ _ _ s.0 _ _ Empty _ m _ f (ap (λ m. m.1) e.same ∙ ap (λ r. (2, Empty) ∷ r) (ap (λ m. rest m.1) (sym e.same))) tt
       (fits EndRegisterNotified _ _ _ _ _ (sym c.end_register_notified.ensures ∙ c.in-Some-end_register_notified.is) c.bits.ensures c.bits-in-loop.ensures here))
       (does_nothing _ _ _ _ _ _ _ _),
 )
 
 pub exchange-requires : goal.exchange-requires
-exchange-requires g c = let s = c.requires.party in (search rules, (Awaiter s.1, first_held c.args.party.now _ 1 (Awaiter s.1) _ s.2))
+exchange-requires g c = let s = c.requires.party in (search rules, (Awaiter s.1, first_held c.args.party.now _ 2 (Awaiter s.1) _ s.2))

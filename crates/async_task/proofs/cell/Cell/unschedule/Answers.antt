@@ -1,9 +1,10 @@
-use Rattle.std.proofs.Common.{rules, ap, ◌∷◌, sym, ◌∙◌}
-use Rattle.atomic_table.specs.Table.{rest}
+use Rattle.std.proofs.Common.{rules, ap}
+use Rattle.task_core.specs.declared.moves.Position.TheVariants.{FutureInHand}
 use Rattle.async_task.proofs.Allowed.{steps_always}
+use Rattle.async_task.proofs.Moved.{future_held}
 use Rattle.async_task.proofs.Owed.{unschedules}
 use Rattle.async_task.proofs.cell.Cell.unschedule.Goals as goal
 
 pub fetch_and-found-requires : goal.fetch_and-found-requires
 fetch_and-found-requires g c = let s = c.requires.party in
-    (search rules, search rules, steps_always _ _ _ _ _ _ _ _ _ _ _ _ _ (search rules) (ap (λ m. m.0) s.2) (unschedules _ _ _ _ s.0 _ _ s.1 _ (ap (λ m. m.1) s.2 ∙ ap (λ r. (0, s.1) ∷ r) (ap (λ m. rest m.1) (sym s.2)))))
+    (search rules, search rules, steps_always _ _ _ _ _ _ _ _ _ _ _ _ _ (search rules) (ap (λ m. m.0) s.3) (unschedules _ _ _ _ s.0 _ _ s.1 s.2 _ (future_held c.args.party.now (FutureInHand s.0) s.1 s.2 s.3)))

@@ -1,0 +1,11 @@
+use Rattle.std.proofs.Common.{rules, ap, ◌∷◌, ◌∙◌}
+use Rattle.async_task.specs.Rule.{view, fresh}
+use Rattle.async_task.specs.Steps.{head_of, tail_of}
+use Rattle.async_task.proofs.WakerSeats.{may_forget}
+use Rattle.async_task.proofs.cell.Cell.forget.Goals as goal
+
+pub load-requires : goal.load-requires
+load-requires g c = let s = c.requires.party in (search rules, search rules, may_forget _ _ _ _ _ _ _ _ _ _ s.1 (ap (λ m. m.0) s.2))
+
+pub returns : goal.returns
+returns g c = λ r us s. let e = c.load.ensures in (e.0, e.2 ∙ ap (λ m. (view m.0.limit (fresh (head_of m.0.members).at ∷ tail_of m.0.members), m.1)) s)

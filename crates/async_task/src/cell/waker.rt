@@ -1,0 +1,138 @@
+//! Wakers, as the cell hands them out.
+ghost use Rattle.std.specs.Prelude.{◌≡◌, ℕ, [], ◌∷◌, IfSome};
+ghost use Rattle.std.specs.Arc.{arc_value};
+ghost use Rattle.async_task.specs.Rule.{view, fresh};
+ghost use Rattle.async_task.specs.Calls.{Stands, limit_of, as_waker};
+ghost use Rattle.async_task.specs.Wakers.{waker_view, as_deliverer};
+
+use super::perch::{settle, taken};
+use super::{Cell, Party, Runnable};
+use crate::table::{Kept, Slot, View};
+use atomic_table::Perch;
+use std::alloc::{Allocator, Global};
+use std::sync::{Arc, Wait};
+use task_core::{Schedule, Wake, Yields};
+
+/// Whether a waker holds a reference.
+#[derive(Drop)]
+pub(crate) enum Hold {
+    /// It does, and gives it up when it is dropped.
+    Owned,
+    /// It does not: it was lent to a poll.
+    Lent,
+}
+
+/// A share of a cell, and the perch on which the seat of a waker rests.
+pub(crate) struct WakerSeat<R, F: Yields, Q, M, A, B: Allocator> {
+    pub(crate) cell: Arc<Cell<R, F, Q, M, A, B>, B>,
+    pub(crate) perch: Perch<Slot<F, Kept<F>, A>, View>,
+    pub(crate) hold: Hold,
+    ghost seated: { perch.table_id ≡ (arc_value cell).table.shared.table_id },
+    ghost limited: { perch.view.limit ≡ (arc_value cell).limit },
+    ghost placed: { perch.view ≡ waker_view hold perch.view },
+}
+
+impl<R: Wait + Drop, F: Yields, Q: Drop, M: Drop, A: Wake, B: Allocator> WakerSeat<
+    R,
+    F,
+    Q,
+    M,
+    A,
+    B,
+> {
+    // A waker that was gained.
+    pub(crate) fn owned(
+        cell: Arc<Cell<R, F, Q, M, A, B>, B>,
+        party: Party<F, Kept<F>, A>,
+    ) -> WakerSeat<R, F, Q, M, A, B>
+        requires cell { party.seat.table_id ≡ (arc_value cell).table.shared.table_id }
+        requires party { party.seat.me ≡ (view (arc_value cell).limit (fresh as_waker ∷ []), []) }
+    {
+        let Party { seat } = party;
+        let perch = Perch::new(&seat, 0);
+        settle(&cell.rt, &perch, seat);
+        WakerSeat {
+            cell,
+            perch,
+            hold: Hold::Owned,
+        }
+    }
+
+    // One more waker, which is owned.
+    pub(crate) fn gain(&self) -> Option<WakerSeat<R, F, Q, M, A, B>> {
+        let (cell, party) = Cell::gain_at(&self.cell, &self.perch)?;
+        Some(WakerSeat::owned(cell, party))
+    }
+
+    // Wakes the task: the deliverer, where it was idle.
+    pub(crate) fn wake(&self) -> Option<Party<F, Kept<F>, A>>
+        ensures cell { IfSome result (λ d. (d.seat.table_id ≡ (arc_value self.now.cell).table.shared.table_id) × (limit_of d ≡ (arc_value self.now.cell).limit)) }
+        ensures deliverer { IfSome result (λ d. Stands as_deliverer d) }
+    {
+        self.cell.wake_at(&self.perch)
+    }
+}
+
+/// What wakes a task: a future keeps one, a clone of that which its poll is lent, and wakes it once a further poll can help. It holds a reference.
+///
+/// The waker that a poll is lent holds none, and is taken back when the poll has answered. Threads that use one waker at the same time take turns.
+pub struct TaskWaker<
+    R: Wait + Drop,
+    F: Yields,
+    Q: Drop,
+    M: Drop,
+    A: Wake,
+    X: Copy,
+    B: Allocator = Global,
+>
+where
+    Q: Schedule<Runnable<R, F, Q, M, A, X, B>>,
+{
+    pub(crate) inner: WakerSeat<R, F, Q, M, A, B>,
+    pub(crate) around: X,
+}
+
+impl<R: Wait + Drop, F: Yields, Q: Drop, M: Drop, A: Wake, X: Copy, B: Allocator> Drop
+    for TaskWaker<R, F, Q, M, A, X, B>
+where
+    Q: Schedule<Runnable<R, F, Q, M, A, X, B>>,
+{
+    fn drop(self) {
+        let (inner, around) = self.into_parts();
+        let WakerSeat { cell, perch, hold } = inner;
+        match hold {
+            Hold::Lent => {}
+            Hold::Owned => {
+                let mut party = Party {
+                    seat: taken(&cell.rt, &perch),
+                };
+                Cell::drop_waker(&cell, &mut party, around);
+                party.let_go();
+            }
+        }
+        drop(perch);
+        drop(cell);
+    }
+}
+
+impl<R: Wait + Drop, F: Yields, Q: Drop, M: Drop, A: Wake, X: Copy, B: Allocator> TaskWaker<
+    R,
+    F,
+    Q,
+    M,
+    A,
+    X,
+    B,
+>
+where
+    Q: Schedule<Runnable<R, F, Q, M, A, X, B>>,
+{
+    // What the waker is made of.
+    pub(crate) fn into_parts(self) -> (WakerSeat<R, F, Q, M, A, B>, X)
+        ensures inner { result.0 ≡ self.inner }
+        ensures around { result.1 ≡ self.around }
+    {
+        let TaskWaker { inner, around } = self;
+        (inner, around)
+    }
+}

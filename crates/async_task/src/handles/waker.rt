@@ -1,0 +1,99 @@
+//! The calls of a waker.
+ghost use Rattle.std.specs.Prelude.{◌≡◌, ⊤, false};
+
+use super::parked::ParkedWaker;
+use crate::cell::{Cell, Runnable, TaskWaker};
+use std::alloc::Allocator;
+use std::sync::Wait;
+use task_core::{Schedule, Wake, Yields};
+
+impl<R: Wait + Drop, F: Yields, Q: Drop, M: Drop, A: Wake, X: Copy, B: Allocator> TaskWaker<
+    R,
+    F,
+    Q,
+    M,
+    A,
+    X,
+    B,
+>
+where
+    Q: Schedule<Runnable<R, F, Q, M, A, X, B>>,
+{
+    /// Wakes the task, and gives the waker up: `wake_by_ref`, and then a drop.
+    pub fn wake(self) {
+        self.wake_by_ref();
+        drop(self);
+    }
+
+    /// Wakes the task. A task that is over stays as it is; one that is scheduled will be polled after this call; one that runs is scheduled once more by its run; and of one that is idle, a Runnable is handed to the schedule value, with `woken_while_running` false.
+    pub fn wake_by_ref(&self) {
+        if let Some(deliverer) = self.inner.wake() {
+            Cell::finish_wake(&self.inner.cell, deliverer, self.around);
+        }
+    }
+
+    /// One more waker of the same task, which holds a reference. `None` where the count of references is at the limit, or where memory was refused; nothing has changed then.
+    pub fn clone(&self) -> Option<Self> {
+        let inner = self.inner.gain()?;
+        Some(TaskWaker {
+            inner,
+            around: self.around,
+        })
+    }
+
+    /// Whether a wake of the other waker is known to wake the same task. A no says nothing: two wakers of one task may be told apart all the same. Today each answer is no, since a share of a cell can't be compared with another.
+    pub fn will_wake(&self, other: &Self) -> bool
+        ensures { result ≡ false }
+    {
+        let _ = other;
+        false
+    }
+
+    /// The surroundings that the handle carries.
+    pub fn around(&self) -> X {
+        self.around
+    }
+
+    /// Does what a drop does: gives the reference up. The last handle of a detached task that is open closes it, and hands its Runnable over.
+    pub fn discard(self) {
+        drop(self);
+    }
+
+    /// The same handle without the surroundings. It makes no step.
+    pub fn park(self) -> ParkedWaker<R, F, Q, M, A, B> {
+        let (inner, _) = self.into_parts();
+        ParkedWaker { inner }
+    }
+}
+
+/// A waker is an awaiter too: a task may await another.
+impl<R: Wait + Drop, F: Yields, Q: Drop, M: Drop, A: Wake, X: Copy, B: Allocator> Wake
+    for TaskWaker<R, F, Q, M, A, X, B>
+where
+    Q: Schedule<Runnable<R, F, Q, M, A, X, B>>,
+{
+    ghost woken = { λ _. ⊤ };
+
+    ghost woken_by_ref = { λ _. ⊤ };
+
+    ghost cloned = { λ _ _. ⊤ };
+
+    ghost compared = { λ _ _ answer. answer ≡ false };
+
+    fn wake(self) {
+        self.wake_by_ref();
+        drop(self);
+    }
+
+    fn wake_by_ref(&self) {
+        TaskWaker::wake_by_ref(self);
+    }
+
+    fn try_clone(&self) -> Option<Self> {
+        TaskWaker::clone(self)
+    }
+
+    fn will_wake(&self, other: &Self) -> bool {
+        TaskWaker::will_wake(self, other)
+    }
+}
