@@ -4,6 +4,8 @@ use Rattle.taskrows.specs.declared.rows.table.Row.{Row}
 use Rattle.taskrows.specs.declared.rows.table.Row.TheVariants.{DropAndDetach, DetachAndDrop, DetachAndRun, RunAndDetach}
 use Rattle.taskrows.specs.declared.rows.table.Row.TheVariants.{CancelAndRun, CancelJoin, LastRun, RefusedClone}
 use Rattle.taskrows.specs.declared.rows.table.Row.TheVariants.{AwaiterCompletes, AwaiterOrphan, ScheduleCounter, Sum}
+use Rattle.taskrows.specs.declared.rows.table.Row.TheVariants.{Waker, WakerClone, WakerWake, WakeDropped, DropLastWaker}
+use Rattle.taskrows.specs.declared.rows.table.Row.TheVariants.{WakeDuringRun, CancelDuringRun}
 
 -- a row that agrees ends with these polls, schedule calls, drops of the future and drops of the schedule value
 abbrev pub AgreesAt : ℕ → ℕ → ℕ → ℕ → Outcome → Type 0
@@ -20,9 +22,16 @@ AgreesAs DetachAndRun = AgreesAt 1 0 1 1
 AgreesAs RunAndDetach = AgreesAt 1 0 1 1
 AgreesAs CancelAndRun = AgreesAt 0 0 1 1
 AgreesAs CancelJoin = AgreesAt 1 0 1 1
+AgreesAs Waker = AgreesAt 2 2 0 0
+AgreesAs WakerClone = AgreesAt 2 1 1 1
+AgreesAs WakerWake = AgreesAt 2 1 1 1
+AgreesAs WakeDropped = AgreesAt 1 1 1 1
+AgreesAs DropLastWaker = AgreesAt 1 1 1 1
 AgreesAs LastRun = AgreesAt 1 1 1 1
 AgreesAs RefusedClone = AgreesAt 1 0 1 0
+AgreesAs WakeDuringRun = AgreesAt 1 1 0 0
 AgreesAs AwaiterCompletes = AgreesAt 1 0 1 1
 AgreesAs AwaiterOrphan = AgreesAt 1 1 1 1
 AgreesAs ScheduleCounter = AgreesAt 0 3 0 0
 AgreesAs Sum = AgreesAt 1 0 1 0
+AgreesAs CancelDuringRun = AgreesAt 2 1 1 1

@@ -10,13 +10,17 @@ mod detaching;
 pub mod fixture;
 pub mod flag;
 pub mod future;
+mod racing;
+pub mod rendezvous;
 mod scheduling;
 mod table;
+mod waking;
 
 use fixture::Outcome;
 use std::alloc::{AllocError, Global};
 use std::io;
 use std::sync::Wait;
+use std::thread::Threads;
 use table::Row;
 
 /// Runs the rows that the arguments ask for, and prints a line for each and one at the end.
@@ -31,7 +35,7 @@ pub fn rows<R, W: io::Write, E: io::Write>(
     err: &mut E,
 ) -> u8
 where
-    R: Wait + Drop + Copy,
+    R: Wait + Threads + Drop + Copy + Send + Sync,
     ensures status { result ≤ 2 }
     ensures asked { AskForRows args.now → result ≤ 1 }
     ensures refused { ¬ AskForRows args.now → 1 ≤ result }
@@ -48,7 +52,7 @@ fn answer<R, W: io::Write, E: io::Write>(
     err: &mut E,
 ) -> io::Result<u8>
 where
-    R: Wait + Drop + Copy,
+    R: Wait + Threads + Drop + Copy + Send + Sync,
     ensures asked { AskForRows args.now → IfOk result (λ status. status ≤ 1) }
     ensures refused { ¬ AskForRows args.now → IfOk result (λ status. status ≡ 2) }
 {
@@ -64,11 +68,11 @@ where
 fn asked_rows(args: &[String]) -> Option<&'static [Row]>
     ensures known { IsSome result ↔ AskForRows args.now }
     ensures all { args.now ≡ [] → IfSome result (λ asked. asked.now ≡ Row.ALL) }
-    ensures threads { args.now ≢ [] → IfSome result (λ asked. asked.now ≡ []) }
+    ensures threads { args.now ≢ [] → IfSome result (λ asked. asked.now ≡ Row.THREADS) }
 {
     match args {
         [] => Some(&Row::ALL),
-        [word] if word.as_str() == "threads" => Some(&[]),
+        [word] if word.as_str() == "threads" => Some(&Row::THREADS),
         _ => None,
     }
 }
@@ -76,7 +80,7 @@ fn asked_rows(args: &[String]) -> Option<&'static [Row]>
 // Runs these rows, prints a line for each and the last line, and answers the status.
 fn print_rows<R, W: io::Write>(rt: R, alloc: Global, rows: &[Row], out: &mut W) -> io::Result<u8>
 where
-    R: Wait + Drop + Copy,
+    R: Wait + Threads + Drop + Copy + Send + Sync,
     ensures { IfOk result (λ status. status ≤ 1) }
 {
     let mut agreeing = 0;
@@ -118,3 +122,5 @@ fn print_row<W: io::Write>(
 
 #[cfg(test)]
 mod tests;
+#[cfg(test)]
+mod waker_tests;

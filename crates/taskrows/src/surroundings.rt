@@ -1,12 +1,16 @@
-//! The surroundings of a row's task: the queue of its Runnables, and the schedule value that pushes there.
+//! The surroundings of a row's task: the queue of its Runnables, the store of a waker, and the schedule value that pushes to the queue.
 ghost use Rattle.std.specs.Prelude.{⊤, ◌≡◌};
 
 use crate::rows::counters::Counters;
 use crate::rows::flag::Flag;
 use crate::rows::future::RowFuture;
-use async_task::{ParkedRunnable, Runnable, Schedule, ScheduleInfo, Task};
-use std::alloc::{AllocError, Global};
+use crate::rows::rendezvous::Rendezvous;
+use async_task::{
+    ParkedRunnable, ParkedWaker, Runnable, Schedule, ScheduleInfo, Task, TaskWaker, Wake,
+};
+use std::alloc::{AllocError, Allocator, Global};
 use std::collections::VecDeque;
+use std::mem;
 use std::sync::{Arc, Mutex, Wait};
 
 /// A Runnable of the rows.
@@ -14,6 +18,9 @@ pub type RowRunnable<'x, R> = Runnable<R, RowFuture, Scheduler, (), Flag, &'x Su
 
 /// A Task of the rows.
 pub type RowTask<'x, R> = Task<R, RowFuture, Scheduler, (), Flag, &'x Surroundings<R>>;
+
+/// A waker of the rows.
+pub type RowWaker<'x, R> = TaskWaker<R, RowFuture, Scheduler, (), Flag, &'x Surroundings<R>>;
 
 /// The schedule value of the rows: it counts its calls and its drop, and pushes to the queue of the surroundings.
 pub struct Scheduler {
@@ -48,23 +55,45 @@ impl<'x, R: Wait + Drop> Schedule<RowRunnable<'x, R>> for Scheduler {
     }
 }
 
-/// What a schedule value reaches by its Runnable: the queue, and what each call was told.
+// Where a Runnable carries no surroundings there is no queue, so it is dropped, which cancels its task.
+impl<R: Wait + Drop, A: Wake, B: Allocator> Schedule<
+    Runnable<R, RowFuture, Scheduler, (), A, (), B>,
+> for Scheduler {
+    ghost scheduled = { λ _ _ _. ⊤ };
+
+    fn schedule(
+        &self,
+        runnable: Runnable<R, RowFuture, Scheduler, (), A, (), B>,
+        _info: ScheduleInfo,
+    ) {
+        self.counters.schedules.add_one();
+        drop(runnable);
+    }
+}
+
+/// What schedule values and futures reach by their handles: the queue, what each call was told, the store, and the
+/// meeting of a poll with a second thread. Handles are parked in the queue and in the store.
 pub struct Surroundings<R: Wait + Drop> {
+    /// Where a poll meets a second thread.
+    pub rendezvous: Rendezvous,
     rt: R,
     queue: Mutex<VecDeque<ParkedRunnable<R, RowFuture, Scheduler, (), Flag>>>,
     infos: Mutex<Vec<bool>>,
+    kept: Mutex<Option<ParkedWaker<R, RowFuture, Scheduler, (), Flag>>>,
 }
 
 impl<R: Wait + Drop> Surroundings<R> {
-    /// Surroundings with room for that many Runnables and infos.
+    /// Surroundings with room for that many Runnables and infos, and with an empty store.
     pub fn new(rt: R, alloc: Global, room: usize) -> Result<Surroundings<R>, AllocError> {
         let infos = Vec::with_capacity(alloc, room)?;
         let mut queue = VecDeque::new(alloc);
         match queue.try_reserve(room) {
             Ok(()) => Ok(Surroundings {
+                rendezvous: Rendezvous::new(),
                 rt,
                 queue: Mutex::new(queue),
                 infos: Mutex::new(infos),
+                kept: Mutex::new(None),
             }),
             Err(refused) => {
                 queue.destroy_empty();
@@ -107,18 +136,60 @@ impl<R: Wait + Drop> Surroundings<R> {
     pub fn infos_are(&self, expected: &[bool]) -> bool {
         self.infos.lock(&self.rt).as_slice() == expected
     }
+
+    /// Keeps a clone of a waker in the store, and drops the one that was there. Where there is no memory for a clone,
+    /// the store is left as it was, and a row that takes the waker does not agree.
+    pub fn keep<'x>(&'x self, waker: &RowWaker<'x, R>) {
+        let Some(clone) = waker.clone() else {
+            return;
+        };
+        let parked = clone.park();
+        let previous = {
+            let mut kept = self.kept.lock(&self.rt);
+            mem::replace(&mut *kept, Some(parked))
+        };
+        // The lock is released: the drop of a waker may hand a Runnable over.
+        if let Some(previous) = previous {
+            drop(previous.unpark(self));
+        }
+    }
+
+    /// Takes the waker out of the store.
+    pub fn take_kept(&self) -> Option<RowWaker<'_, R>> {
+        let parked = self.kept.lock(&self.rt).take()?;
+        Some(parked.unpark(self))
+    }
+
+    /// Takes the waker out of the store and wakes its task: whether there was one.
+    pub fn wake_kept(&self) -> bool {
+        let Some(waker) = self.take_kept() else {
+            return false;
+        };
+        waker.wake();
+        true
+    }
 }
 
-// A parked Runnable cannot be dropped: what is left in the queue is unparked first.
+// A parked handle cannot be dropped: what is left in the store and in the queue is unparked first.
 impl<R: Wait + Drop> Drop for Surroundings<R> {
     fn drop(self) {
-        let Surroundings { rt, queue, infos } = self;
+        let Surroundings {
+            rendezvous,
+            rt,
+            queue,
+            infos,
+            kept,
+        } = self;
+        if let Some(parked) = kept.into_inner() {
+            drop(parked.unpark(()));
+        }
         let mut queue = queue.into_inner();
         while let Some(parked) = queue.pop_front() {
             drop(parked.unpark(()));
         }
         queue.destroy_empty();
         drop(infos);
+        drop(rendezvous);
         drop(rt);
     }
 }

@@ -1,5 +1,5 @@
 //! What each row works with, and what it answers.
-ghost use Rattle.std.specs.Prelude.{◌≡◌, ◌↔◌, IsTrue, IfOk};
+ghost use Rattle.std.specs.Prelude.{◌≡◌, ◌↔◌, IsTrue, IfOk, false};
 
 use crate::rows::counters::{Counters, Counts};
 use crate::rows::flag::Flag;
@@ -15,22 +15,23 @@ const ROOM: usize = 8;
 /// Surroundings of a row's own, and its counters.
 #[derive(Drop)]
 pub struct Fixture<R: Wait + Drop> {
-    /// The queue of the row.
+    /// The queue and the store of the row.
     pub surroundings: Surroundings<R>,
+    /// What the row may wait by, and start threads by.
+    pub rt: R,
     counters: Arc<Counters>,
-    rt: R,
     alloc: Global,
 }
 
 impl<R: Wait + Drop + Copy> Fixture<R> {
-    /// Surroundings with an empty queue, and counters at zero.
+    /// Surroundings with an empty queue and an empty store, and counters at zero.
     pub fn new(rt: R, alloc: Global) -> Result<Fixture<R>, AllocError> {
         let surroundings = Surroundings::new(rt, alloc, ROOM)?;
         let counters = Arc::new(alloc, Counters::new())?;
         Ok(Fixture {
             surroundings,
-            counters,
             rt,
+            counters,
             alloc,
         })
     }
@@ -70,6 +71,16 @@ impl<R: Wait + Drop + Copy> Fixture<R> {
         Outcome {
             counts,
             agrees: agrees && counts == expected,
+        }
+    }
+
+    /// The end of a row that found something missing that its next call needs: it does not agree.
+    pub fn give_up(&self) -> Outcome
+        ensures { result.agrees ≡ false }
+    {
+        Outcome {
+            counts: self.counts(),
+            agrees: false,
         }
     }
 }

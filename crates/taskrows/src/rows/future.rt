@@ -3,8 +3,10 @@ ghost use Rattle.std.specs.Prelude.{◌≡◌};
 ghost use Rattle.task_core.specs.Poll.{IfReady};
 
 use crate::rows::counters::Counters;
+use crate::surroundings::RowWaker;
 use async_task::{Future, Poll, Yields};
-use std::sync::Arc;
+use std::mem;
+use std::sync::{Arc, Wait};
 
 /// What a future of the rows does when it is polled.
 #[derive(Clone, Copy, Debug, PartialEq, Eq)]
@@ -15,23 +17,52 @@ pub enum Behaviour {
     Pending,
     /// It answers ready at once, with the sum of these numbers.
     Sum(u32, u32),
+    /// At each poll it keeps a clone of the waker. It answers pending first, and then ready, with this number.
+    Keep(u64),
+    /// At each poll it keeps a clone of the waker. It always answers pending.
+    KeepPending,
+}
+
+impl Behaviour {
+    // Whether each poll keeps a clone of the waker.
+    fn keeps_waker(self) -> bool {
+        matches!(self, Behaviour::Keep(_) | Behaviour::KeepPending)
+    }
 }
 
 /// A future that counts its polls and its drop.
 pub struct RowFuture {
     /// What it does when it is polled.
     pub behaviour: Behaviour,
+    polled: bool,
     counters: Arc<Counters>,
 }
 
 impl RowFuture {
+    ghost use Rattle.taskrows.specs.Behaviour.{IsPolled};
+
     /// A future that does this and counts here.
     pub fn new(behaviour: Behaviour, counters: Arc<Counters>) -> RowFuture
         ensures { result.behaviour ≡ behaviour }
     {
         RowFuture {
             behaviour,
+            polled: false,
             counters,
+        }
+    }
+
+    /// Counts a poll and answers it.
+    pub fn answer(&mut self) -> Poll<Output>
+        ensures { IsPolled self.old.behaviour result self.new.behaviour }
+    {
+        self.counters.polls.add_one();
+        let again = mem::replace(&mut self.polled, true);
+        match self.behaviour {
+            Behaviour::Ready(number) => self.ready(number),
+            Behaviour::Sum(first, second) => self.ready(u64::from(first) + u64::from(second)),
+            Behaviour::Keep(number) if again => self.ready(number),
+            Behaviour::Pending | Behaviour::Keep(_) | Behaviour::KeepPending => Poll::Pending,
         }
     }
 
@@ -50,6 +81,7 @@ impl Drop for RowFuture {
     fn drop(self) {
         let RowFuture {
             behaviour: _,
+            polled: _,
             counters,
         } = self;
         counters.future_drops.add_one();
@@ -61,18 +93,19 @@ impl Yields for RowFuture {
     type Output = Output;
 }
 
-impl<W> Future<W> for RowFuture {
+impl<'x, R: Wait + Drop> Future<RowWaker<'x, R>> for RowFuture {
     ghost use Rattle.taskrows.specs.Behaviour.{IsPolled};
 
     ghost polled = { λ old _ answer new. IsPolled old.behaviour answer new.behaviour };
 
-    fn poll(&mut self, _waker: &W) -> Poll<Output> {
-        self.counters.polls.add_one();
-        match self.behaviour {
-            Behaviour::Ready(number) => self.ready(number),
-            Behaviour::Pending => Poll::Pending,
-            Behaviour::Sum(first, second) => self.ready(u64::from(first) + u64::from(second)),
+    fn poll(&mut self, waker: &RowWaker<'x, R>) -> Poll<Output> {
+        let answer = self.answer();
+        let surroundings = waker.around();
+        if self.behaviour.keeps_waker() {
+            surroundings.keep(waker);
         }
+        surroundings.rendezvous.meet();
+        answer
     }
 }
 

@@ -1,17 +1,13 @@
 //! Tests of the program, and of calls that no row makes.
-ghost use Rattle.std.specs.Prelude.{⊤};
 
 use super::*;
 use crate::surroundings::Scheduler;
-use async_task::{
-    Cell, Runnable, Schedule, ScheduleInfo, SpawnError, Task, TaskClosed, TaskPoll, spawn,
-};
+use async_task::{Cell, Runnable, SpawnError, Task, TaskClosed, TaskPoll, spawn};
 use counters::{Counters, Counts};
 use fixture::Fixture;
 use flag::Flag;
 use future::{Behaviour, Output, RowFuture};
 use linked_list_allocator::LocalHeap;
-use std::alloc::Allocator;
 use std::process::Abort;
 use std::sync::Arc;
 use std::test::Fail;
@@ -41,12 +37,13 @@ impl io::Write for Limited {
 }
 
 #[test]
-fn threads_has_no_rows(rt: HostRuntime) -> Result<(), Fail> {
+fn threads_runs_the_rows_with_threads(rt: HostRuntime) -> Result<(), Fail> {
     let mut out = Vec::new(rt.alloc());
     let mut err = Vec::new(rt.alloc());
     let args = [String::from_str(rt.alloc(), "threads")?];
     assert_eq!(rt; rows(rt, rt.alloc(), &args, &mut out, &mut err), 0);
-    assert_eq!(rt; out.as_slice(), b"rows ok: 0 of 0\n".as_slice());
+    let text = b"16 wake_during_run 1,1,0,0\n27 cancel_during_run 2,1,1,1\nrows ok: 2 of 2\n";
+    assert_eq!(rt; out.as_slice(), text.as_slice());
     assert_eq!(rt; err.len(), 0);
     Ok(())
 }
@@ -178,32 +175,13 @@ fn a_polled_output_is_dropped_by_the_poller(rt: HostRuntime) -> Result<(), Fail>
     Ok(())
 }
 
-// A schedule value that drops each Runnable.
-#[derive(Drop)]
-struct Dropping {
-    scheduler: Scheduler,
-}
-
-impl<R: Wait + Drop, B: Allocator> Schedule<Runnable<R, RowFuture, Dropping, (), Flag, (), B>>
-    for Dropping {
-    ghost scheduled = { λ _ _ _. ⊤ };
-
-    fn schedule(
-        &self,
-        runnable: Runnable<R, RowFuture, Dropping, (), Flag, (), B>,
-        _info: ScheduleInfo,
-    ) {
-        drop(runnable);
-    }
-}
-
 // What a spawn over a heap of that kind answers.
 type Spawned<'heap, R> = Result<
     (
-        Runnable<R, RowFuture, Dropping, (), Flag, (), &'heap LocalHeap>,
-        Task<R, RowFuture, Dropping, (), Flag, (), &'heap LocalHeap>,
+        Runnable<R, RowFuture, Scheduler, (), Flag, (), &'heap LocalHeap>,
+        Task<R, RowFuture, Scheduler, (), Flag, (), &'heap LocalHeap>,
     ),
-    SpawnError<(), RowFuture, Dropping>,
+    SpawnError<(), RowFuture, Scheduler>,
 >;
 
 // A spawn over a heap of that many blocks of 16 bytes: whether it had memory. One that had none must have handed back
@@ -217,7 +195,7 @@ fn spawn_in_blocks<R: Wait + Abort + Drop + Copy>(
     let heap = LocalHeap::new(alloc, 16 * usize::from(blocks))?;
     let future = RowFuture::new(Behaviour::Ready(4), Arc::try_clone(&counters)?);
     let scheduler = Scheduler::new(Arc::try_clone(&counters)?);
-    let spawned: Spawned<'_, R> = spawn(*rt, &heap, future, Dropping { scheduler }, ());
+    let spawned: Spawned<'_, R> = spawn(*rt, &heap, future, scheduler, ());
     assert_eq!(rt; counters.counts(), Counts::new(0, 0, 0, 0));
     let Err(refused) = spawned else {
         return Ok(true);
@@ -242,7 +220,7 @@ fn a_refused_spawn_hands_everything_back(rt: HostRuntime) -> Result<(), Fail> {
 }
 
 // A cell of the tests.
-type TestCell<R> = Cell<R, RowFuture, Dropping, (), Flag, Global>;
+type TestCell<R> = Cell<R, RowFuture, Scheduler, (), Flag, Global>;
 
 // The calls of the cell itself, by two parties: its word after a spawn, and the last one, after the Runnable was dropped and the Task detached.
 #[test]
@@ -250,7 +228,7 @@ fn a_cell_ends_with_its_last_word(rt: HostRuntime) -> Result<(), Fail> {
     let counters = Arc::new(rt.alloc(), Counters::new())?;
     let future = RowFuture::new(Behaviour::Pending, Arc::try_clone(&counters)?);
     let scheduler = Scheduler::new(Arc::try_clone(&counters)?);
-    let made = TestCell::make(rt, rt.alloc(), Dropping { scheduler }, (), 4);
+    let made = TestCell::make(rt, rt.alloc(), scheduler, (), 4);
     let Ok((cell, other, seat)) = made else {
         panic!(rt; "no memory");
     };
