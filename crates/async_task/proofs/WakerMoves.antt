@@ -26,7 +26,7 @@ use Rattle.async_task.specs.Steps.{head_of, acted, Carried, Makes}
 use Rattle.async_task.specs.Knows.{Knows}
 use Rattle.async_task.specs.Calls.{row, act, deeds, limit_of, after, IsNew, Stands, Goes, as_waker}
 use Rattle.async_task.specs.WakerScripts.{others_left, looking_for_room, gaining, refusing_gain, finding_over, waking_task, dropping_waker, closing_orphan}
-use Rattle.async_task.specs.Wakers.{StandsBeside, MayWake, GoesBeside, Forgets, may_wake_beside, may_gain_beside, without_newest, newest}
+use Rattle.async_task.specs.Wakers.{as_deliverer, StandsBeside, MayWake, GoesBeside, Forgets, may_wake_beside, may_gain_beside, without_newest, newest}
 use Rattle.async_task.specs.WakerPaths.{is_gained, finds_limit, is_over, is_scheduled, is_running, is_idle, GainsBeside, WakesBeside, Gains, gains_none, gains_one, WakesTask, makes_none, makes_one, dropped_by, DropsWaker}
 use Rattle.async_task.proofs.Allowed.{Owes}
 use Rattle.async_task.proofs.Known.{steps_knowing, steps_or_misses_knowing}
@@ -87,6 +87,7 @@ module _ {F T A : Type 0} where
   rests_again r us v path p q t s e g f = let limit : limit_of q ≡ v.limit = ap (λ (x : Me (Slot F T A) View). x.0.limit) g.is ∙ ap (λ (x : Me (Slot F T A) View). x.0.limit) s in
       f.1 ∙ (ap (λ l. (view l (fresh (At r) ∷ us), [])) limit ∙ (λ i. (sym e i, [])))
 
+  -- it stands where it came back
   pub stands_back : (r : Rest) (us : List Member) (path : List Deed) (p q : Party F T A) → GoesBeside path r us p q → StandsBeside r us q
   stands_back r us path p q g = g.is ∙ ap (λ (z : ℕ × List Deed). (view z.0 (member (At r) z.1 ∷ us), []))
       (λ i. (sym (ap (λ (x : Me (Slot F T A) View). x.0.limit) g.is) i, sym (ap (λ (x : Me (Slot F T A) View). (head_of x.0.members).deeds) g.is) i))
@@ -100,6 +101,21 @@ module _ {F T A : Type 0} where
   pub woke_at_rest : (r : Rest) (us : List Member) (v : View) (p q : Party F T A) (made : Option (Party F T A)) → may_wake_beside r us ≡ true → p.seat.me ≡ (v, []) → v ≡ view v.limit (fresh (At r) ∷ us)
       → ((r : Rest) (us : List Member) → MayWake r us p → WakesTask r us p q made) → (path : List Deed) × GoesBeside path r us p q
   woke_at_rest r us v p q made may s e told = wake_goes r us p q made (told r us (may, at_rest r us v p s e))
+
+  -- an owned waker after a wake
+  pub owned_after : (p q : Party F T A) (made : Option (Party F T A)) → Stands as_waker p → ((r : Rest) (us : List Member) → MayWake r us p → WakesTask r us p q made) → (q.seat.table_id ≡ p.seat.table_id) × (limit_of q ≡ limit_of p) × Stands as_waker q
+  owned_after p q made s told = let x = wake_goes Waker [] p q made (told Waker [] (refl, s)) in (x.1.cell, ap (λ (m : Me (Slot F T A) View). m.0.limit) x.1.is, stands_back Waker [] x.0 p q x.1)
+
+  -- .. and the deliverer that it made
+  pub deliverer_of : (p q d : Party F T A) → Stands as_waker p → ((r : Rest) (us : List Member) → MayWake r us p → WakesTask r us p q (Some d)) → (d.seat.table_id ≡ p.seat.table_id) × (limit_of d ≡ limit_of p) × Stands as_deliverer d
+  deliverer_of p q d s told = is_made (told Waker [] (refl, s))
+    where
+      is_made : WakesTask Waker [] p q (Some d) → (d.seat.table_id ≡ p.seat.table_id) × (limit_of d ≡ limit_of p) × Stands as_deliverer d
+      is_made (makes_one path x w g n) = (
+        n.cell,
+        ap (λ (m : Me (Slot F T A) View). m.0.limit) n.is,
+        n.is ∙ ap (λ (z : ℕ × List Deed). (view z.0 (member as_deliverer z.1 ∷ []), [])) (λ i. (sym (ap (λ (m : Me (Slot F T A) View). m.0.limit) n.is) i, sym (ap (λ (m : Me (Slot F T A) View). (head_of m.0.members).deeds) n.is) i)),
+      )
 
   -- .. and of a gain
   pub gain_goes : (r : Rest) (us : List Member) (limit : ℕ) (p q : Party F T A) (made : Option (Party F T A)) → Gains limit r us p q made → (path : List Deed) × GoesBeside path r us p q

@@ -1,5 +1,5 @@
 //! Wakers, as the cell hands them out.
-ghost use Rattle.std.specs.Prelude.{◌≡◌, ℕ, [], ◌∷◌, IfSome};
+ghost use Rattle.std.specs.Prelude.{◌≡◌, ℕ, [], ◌∷◌, IfSome, IfOk};
 ghost use Rattle.std.specs.Arc.{arc_value};
 ghost use Rattle.async_task.specs.Rule.{view, fresh};
 ghost use Rattle.async_task.specs.Calls.{Stands, limit_of, as_waker};
@@ -64,6 +64,28 @@ impl<R: Wait + Drop, F: Yields, Q: Drop, M: Drop, A: Wake, B: Allocator> WakerSe
         Some(WakerSeat::owned(cell, party))
     }
 
+    // The share and the party of an owned waker, whose seat is not put back; a lent one stays as it is.
+    pub(crate) fn into_owned(
+        self,
+    ) -> Result<(Arc<Cell<R, F, Q, M, A, B>, B>, Party<F, Kept<F>, A>), WakerSeat<R, F, Q, M, A, B>>
+        ensures cell { IfOk result (λ owned. (owned.1.seat.table_id ≡ (arc_value owned.0).table.shared.table_id) × (limit_of owned.1 ≡ (arc_value owned.0).limit)) }
+        ensures party { IfOk result (λ owned. Stands as_waker owned.1) }
+    {
+        match self.hold {
+            Hold::Lent => Err(self),
+            Hold::Owned => {
+                let WakerSeat {
+                    cell,
+                    perch,
+                    hold: _,
+                } = self;
+                let seat = taken(&cell.rt, &perch);
+                drop(perch);
+                Ok((cell, Party { seat }))
+            }
+        }
+    }
+
     // Wakes the task: the deliverer, where it was idle.
     pub(crate) fn wake(&self) -> Option<Party<F, Kept<F>, A>>
         ensures cell { IfSome result (λ d. (d.seat.table_id ≡ (arc_value self.now.cell).table.shared.table_id) × (limit_of d ≡ (arc_value self.now.cell).limit)) }
@@ -99,19 +121,22 @@ where
 {
     fn drop(self) {
         let (inner, around) = self.into_parts();
-        let WakerSeat { cell, perch, hold } = inner;
-        match hold {
-            Hold::Lent => {}
-            Hold::Owned => {
-                let mut party = Party {
-                    seat: taken(&cell.rt, &perch),
-                };
+        match inner.into_owned() {
+            Ok((cell, mut party)) => {
                 Cell::drop_waker(&cell, &mut party, around);
                 party.let_go();
+                drop(cell);
+            }
+            Err(lent) => {
+                let WakerSeat {
+                    cell,
+                    perch,
+                    hold: _,
+                } = lent;
+                drop(perch);
+                drop(cell);
             }
         }
-        drop(perch);
-        drop(cell);
     }
 }
 

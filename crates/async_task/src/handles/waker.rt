@@ -21,8 +21,18 @@ where
 {
     /// Wakes the task, and gives the waker up: `wake_by_ref`, and then a drop.
     pub fn wake(self) {
-        self.wake_by_ref();
-        drop(self);
+        let (inner, around) = self.into_parts();
+        match inner.into_owned() {
+            Ok((cell, mut party)) => {
+                if let Some(deliverer) = cell.wake_by_ref(&mut party) {
+                    Cell::finish_wake(&cell, deliverer, around);
+                }
+                Cell::drop_waker(&cell, &mut party, around);
+                party.let_go();
+                drop(cell);
+            }
+            Err(inner) => TaskWaker { inner, around }.wake_by_ref(),
+        }
     }
 
     /// Wakes the task. A task that is over stays as it is; one that is scheduled will be polled after this call; one that runs is scheduled once more by its run; and of one that is idle, a Runnable is handed to the schedule value, with `woken_while_running` false.
@@ -81,8 +91,7 @@ where
     ghost compared = { λ _ _ answer. answer ≡ false };
 
     fn wake(self) {
-        self.wake_by_ref();
-        drop(self);
+        TaskWaker::wake(self);
     }
 
     fn wake_by_ref(&self) {
