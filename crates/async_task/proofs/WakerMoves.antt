@@ -26,7 +26,7 @@ use Rattle.async_task.specs.Steps.{head_of, acted, Carried, Makes}
 use Rattle.async_task.specs.Knows.{Knows}
 use Rattle.async_task.specs.Calls.{row, act, deeds, limit_of, after, IsNew, Stands, Goes, as_waker}
 use Rattle.async_task.specs.WakerScripts.{others_left, looking_for_room, gaining, refusing_gain, finding_over, waking_task, dropping_waker, closing_orphan}
-use Rattle.async_task.specs.Wakers.{as_deliverer, StandsBeside, MayWake, GoesBeside, Forgets, may_wake_beside, may_gain_beside, without_newest, newest}
+use Rattle.async_task.specs.Wakers.{as_deliverer, StandsBeside, MayWake, GoesBeside, may_wake_beside, may_gain_beside, without_newest, newest}
 use Rattle.async_task.specs.WakerPaths.{is_gained, finds_limit, is_over, is_scheduled, is_running, is_idle, GainsBeside, WakesBeside, Gains, gains_none, gains_one, WakesTask, makes_none, makes_one, dropped_by, DropsWaker}
 use Rattle.async_task.proofs.Allowed.{Owes}
 use Rattle.async_task.proofs.Known.{steps_knowing, steps_or_misses_knowing}
@@ -82,15 +82,15 @@ module _ {F T A : Type 0} where
   at_rest r us v p s e = let is : p.seat.me ≡ (view v.limit (fresh (At r) ∷ us), []) = s ∙ (λ i. (e i, [])) in
       is ∙ ap (λ (z : ℕ × List Deed). (view z.0 (member (At r) z.1 ∷ us), [])) (λ i. (sym (ap (λ (x : Me (Slot F T A) View). x.0.limit) is) i, sym (ap (λ (x : Me (Slot F T A) View). (head_of x.0.members).deeds) is) i))
 
-  -- .. and may rest again
-  pub rests_again : (r : Rest) (us : List Member) (v : View) (path : List Deed) (p q t : Party F T A) → p.seat.me ≡ (v, []) → v ≡ view v.limit (fresh (At r) ∷ us) → GoesBeside path r us p q → Forgets r us q t → t.seat.me ≡ (v, [])
-  rests_again r us v path p q t s e g f = let limit : limit_of q ≡ v.limit = ap (λ (x : Me (Slot F T A) View). x.0.limit) g.is ∙ ap (λ (x : Me (Slot F T A) View). x.0.limit) s in
-      f.1 ∙ (ap (λ l. (view l (fresh (At r) ∷ us), [])) limit ∙ (λ i. (sym e i, [])))
-
   -- it stands where it came back
   pub stands_back : (r : Rest) (us : List Member) (path : List Deed) (p q : Party F T A) → GoesBeside path r us p q → StandsBeside r us q
   stands_back r us path p q g = g.is ∙ ap (λ (z : ℕ × List Deed). (view z.0 (member (At r) z.1 ∷ us), []))
       (λ i. (sym (ap (λ (x : Me (Slot F T A) View). x.0.limit) g.is) i, sym (ap (λ (x : Me (Slot F T A) View). (head_of x.0.members).deeds) g.is) i))
+
+  -- .. so it may rest again where it rested before
+  pub may_rest : (r : Rest) (us : List Member) (v : View) (path : List Deed) (p q : Party F T A) → p.seat.me ≡ (v, []) → v ≡ view v.limit (fresh (At r) ∷ us) → GoesBeside path r us p q → StandsBeside r us q × (v ≡ view (limit_of q) (fresh (At r) ∷ us))
+  may_rest r us v path p q s e g = let limit : limit_of q ≡ v.limit = ap (λ (x : Me (Slot F T A) View). x.0.limit) g.is ∙ ap (λ (x : Me (Slot F T A) View). x.0.limit) s in
+      (stands_back r us path p q g, e ∙ ap (λ l. view l (fresh (At r) ∷ us)) (sym limit))
 
   -- the path of a wake, whatever it made
   pub wake_goes : (r : Rest) (us : List Member) (p q : Party F T A) (made : Option (Party F T A)) → WakesTask r us p q made → (path : List Deed) × GoesBeside path r us p q

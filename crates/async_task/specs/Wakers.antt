@@ -59,10 +59,6 @@ module _ {F T A : Type 0} where
     pub cell : q.seat.table_id ≡ p.seat.table_id
     pub is : q.seat.me ≡ (view (limit_of p) (member (At r) (after path (deeds p)) ∷ us), [])
 
-  -- q is the party p, and its seat has forgotten what it did
-  abbrev pub Forgets : Rest → List Member → Party F T A → Party F T A → Type 0
-  Forgets r us p q = (q.seat.table_id ≡ p.seat.table_id) × (q.seat.me ≡ (view (limit_of p) (fresh (At r) ∷ us), []))
-
   -- what a step tells whose acts depend on the limit that the seat knows
   abbrev pub limited : (ℕ → State → List Act) → Step (Slot F T A) → Me (Slot F T A) View → ℕ → Me (Slot F T A) View → Type 0
   limited acts st m r m' = known (acts m.0.limit) st m r m'

@@ -7,7 +7,7 @@ ghost use Rattle.async_task.specs.declared.table.Deed.{Deed};
 ghost use Rattle.async_task.specs.declared.table.Member.{Member};
 ghost use Rattle.async_task.specs.Rule.{view, fresh};
 ghost use Rattle.async_task.specs.Calls.{IsNew, limit_of, as_waker};
-ghost use Rattle.async_task.specs.Wakers.{may_gain_beside, may_wake_beside, as_deliverer, StandsBeside, MayGain, GoesBeside, Forgets};
+ghost use Rattle.async_task.specs.Wakers.{may_gain_beside, may_wake_beside, as_deliverer, StandsBeside, MayGain, GoesBeside};
 
 use super::{Cell, Party};
 use crate::steps::waker::Forgetting;
@@ -42,18 +42,17 @@ pub(crate) fn taken<S, R: Wait>(rt: &R, perch: &Perch<S, View>) -> Seat<S, View>
     unreachable!()
 }
 
-impl<R: Drop, F: Yields, Q: Drop, M: Drop, A: Drop, B: Allocator> Cell<R, F, Q, M, A, B> {
-    // Forgets what the first party of a seat did, so that the seat may rest again. One load.
-    fn forget(&self, party: &mut Party<F, Kept<F>, A>)
-        requires cell { party.old.seat.table_id ≡ self.now.table.shared.table_id }
-        requires party { (r : Rest) × (us : List Member) × StandsBeside r us party.old }
-        ensures { (r : Rest) (us : List Member) → StandsBeside r us party.old → Forgets r us party.old party.new }
+impl<R: Wait + Drop, F: Yields, Q: Drop, M: Drop, A: Drop, B: Allocator> Cell<R, F, Q, M, A, B> {
+    // Puts the seat of a party back on its perch. It forgets what the party did, since what rests there has one view. One load.
+    fn put_back(&self, perch: &Perch<Slot<F, Kept<F>, A>, View>, mut party: Party<F, Kept<F>, A>)
+        requires cell { (party.seat.table_id ≡ self.now.table.shared.table_id) × (perch.now.table_id ≡ self.now.table.shared.table_id) }
+        requires party { (r : Rest) × (us : List Member) × StandsBeside r us party × (perch.now.view ≡ view (limit_of party) (fresh (At r) ∷ us)) }
     {
         self.table.shared.load::<Forgetting>(&mut party.seat, 0);
+        let Party { seat } = party;
+        settle(&self.rt, perch, seat);
     }
-}
 
-impl<R: Wait + Drop, F: Yields, Q: Drop, M: Drop, A: Drop, B: Allocator> Cell<R, F, Q, M, A, B> {
     // A gain, and a share of the cell for the new waker.
     fn gain_with_share(
         this: &Arc<Self, B>,
@@ -87,9 +86,7 @@ impl<R: Wait + Drop, F: Yields, Q: Drop, M: Drop, A: Drop, B: Allocator> Cell<R,
             seat: taken(&this.rt, perch),
         };
         let gained = Cell::gain_with_share(this, &mut party);
-        this.forget(&mut party);
-        let Party { seat } = party;
-        settle(&this.rt, perch, seat);
+        this.put_back(perch, party);
         gained
     }
 
@@ -106,9 +103,7 @@ impl<R: Wait + Drop, F: Yields, Q: Drop, M: Drop, A: Drop, B: Allocator> Cell<R,
             seat: taken(&self.rt, perch),
         };
         let deliverer = self.wake_by_ref(&mut party);
-        self.forget(&mut party);
-        let Party { seat } = party;
-        settle(&self.rt, perch, seat);
+        self.put_back(perch, party);
         deliverer
     }
 }
