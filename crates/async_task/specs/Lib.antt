@@ -18,3 +18,4 @@ pub mod PollPaths
 pub mod WakerScripts
 pub mod Wakers
 pub mod WakerPaths
+pub mod Holders

@@ -3,11 +3,12 @@ ghost use Rattle.std.specs.Prelude.{◌≡◌, ℕ, ◌<◌, [], ◌∷◌};
 ghost use Rattle.std.specs.Arc.{arc_value};
 ghost use Rattle.async_task.specs.Rule.{view, fresh};
 ghost use Rattle.async_task.specs.Calls.{limit_of, position, Stands, as_runnable, as_ended};
+ghost use Rattle.async_task.specs.Holders.{roost};
 ghost use Rattle.async_task.specs.Wakers.{runnable_view};
 
-use self::perch::{settle, taken};
+use self::holder::SeatHolder;
 use crate::table::{Kept, Law, Slot, View};
-use atomic_table::{Perch, Seat, Table};
+use atomic_table::{Seat, Table};
 use std::alloc::{Allocator, Global};
 use std::sync::{Arc, Wait};
 use task_core::{Wake, Yields};
@@ -41,13 +42,13 @@ impl<F, T, A> Party<F, T, A> {
     }
 }
 
-/// A share of a cell, and the perch on which the seat of its Runnable rests.
+/// A share of a cell, and what holds the seat of its Runnable.
 pub(crate) struct RunnableSeat<R, F: Yields, Q, M, A, B: Allocator> {
     pub(crate) cell: Arc<Cell<R, F, Q, M, A, B>, B>,
-    pub(crate) perch: Perch<Slot<F, Kept<F>, A>, View>,
-    ghost seated: { perch.table_id ≡ (arc_value cell).table.shared.table_id },
-    ghost limited: { perch.view.limit ≡ (arc_value cell).limit },
-    ghost placed: { perch.view ≡ runnable_view perch.view },
+    pub(crate) holder: SeatHolder<F, Kept<F>, A>,
+    ghost seated: { (roost holder).table_id ≡ (arc_value cell).table.shared.table_id },
+    ghost limited: { (roost holder).view.limit ≡ (arc_value cell).limit },
+    ghost placed: { (roost holder).view ≡ runnable_view (roost holder).view },
 }
 
 impl<R: Wait + Drop, F: Yields, Q: Drop, M: Drop, A: Wake, B: Allocator> RunnableSeat<
@@ -68,9 +69,10 @@ impl<R: Wait + Drop, F: Yields, Q: Drop, M: Drop, A: Wake, B: Allocator> Runnabl
         ensures { result.cell ≡ cell }
     {
         let Party { seat } = party;
-        let perch = Perch::new(&seat, 0);
-        settle(&cell.rt, &perch, seat);
-        RunnableSeat { cell, perch }
+        RunnableSeat {
+            cell,
+            holder: SeatHolder::locked(seat),
+        }
     }
 
     // The share of the cell, and the party, which will step.
@@ -78,9 +80,8 @@ impl<R: Wait + Drop, F: Yields, Q: Drop, M: Drop, A: Wake, B: Allocator> Runnabl
         ensures cell { (result.1.seat.table_id ≡ (arc_value result.0).table.shared.table_id) × (limit_of result.1 ≡ (arc_value result.0).limit) }
         ensures party { Stands as_runnable result.1 }
     {
-        let RunnableSeat { cell, perch } = self;
-        let seat = taken(&cell.rt, &perch);
-        drop(perch);
+        let RunnableSeat { cell, holder } = self;
+        let seat = holder.into_seat(&cell.rt);
         (cell, Party { seat })
     }
 }
@@ -140,11 +141,13 @@ mod discard;
 mod dropping;
 mod ends;
 mod gain;
+pub(crate) mod holder;
 mod lent;
-mod perch;
+pub(crate) mod lock;
 mod poll;
 mod reference;
 mod register;
+mod resting;
 mod run;
 mod spawn;
 mod start;

@@ -10,12 +10,11 @@ ghost use Rattle.async_task.specs.Steps.{future_first};
 ghost use Rattle.async_task.specs.Calls.{StandsWith, deeds, limit_of};
 ghost use Rattle.async_task.specs.Starts.{IsLending};
 
-use super::perch::{settle, taken};
+use super::holder::SeatHolder;
 use super::waker::{Hold, WakerSeat};
 use super::{Cell, Party, Runnable, TaskWaker};
 use crate::steps::start::{Lending, TakingBack};
 use crate::table::{Kept, Slot};
-use atomic_table::Perch;
 use std::alloc::Allocator;
 use std::sync::{Arc, Wait};
 use task_core::{Future, Poll, Schedule, Wake, Yields};
@@ -56,11 +55,9 @@ impl<R: Wait + Drop, F: Yields, Q: Drop, M: Drop, A: Wake, B: Allocator> Cell<R,
     {
         let Party { mut seat } = party;
         let other = this.table.shared.split_seat::<Lending>(&mut seat);
-        let perch = Perch::new(&other, 0);
-        settle(&this.rt, &perch, other);
         let inner = WakerSeat {
             cell: this,
-            perch,
+            holder: SeatHolder::locked(other),
             hold: Hold::Lent,
         };
         let waker = TaskWaker { inner, around };
@@ -68,10 +65,10 @@ impl<R: Wait + Drop, F: Yields, Q: Drop, M: Drop, A: Wake, B: Allocator> Cell<R,
         let (inner, _) = waker.into_parts();
         let WakerSeat {
             cell,
-            perch,
+            holder,
             hold: _,
         } = inner;
-        let other = taken(&cell.rt, &perch);
+        let other = holder.into_seat(&cell.rt);
         cell.table.shared.join_seat::<TakingBack>(&mut seat, other);
         (cell, Party { seat }, answer)
     }

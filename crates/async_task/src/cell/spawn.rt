@@ -151,7 +151,7 @@ impl<R: Wait + Drop, F: Yields, Q: Drop, M: Drop, A: Wake, B: Allocator + Copy> 
     }
 }
 
-// A seat of a table that is gone.
-fn discard<S, V>(seat: Seat<S, V>) {
+// A seat that nobody will step with again.
+pub(super) fn discard<S, V>(seat: Seat<S, V>) {
     let Seat { .. } = seat;
 }

@@ -3,12 +3,13 @@ ghost use Rattle.std.specs.Prelude.{◌≡◌, ℕ, [], ◌∷◌, IfSome, IfOk}
 ghost use Rattle.std.specs.Arc.{arc_value};
 ghost use Rattle.async_task.specs.Rule.{view, fresh};
 ghost use Rattle.async_task.specs.Calls.{Stands, limit_of, as_waker};
+ghost use Rattle.async_task.specs.Holders.{roost};
 ghost use Rattle.async_task.specs.Wakers.{waker_view, as_deliverer};
 
-use super::perch::{settle, taken};
+use super::holder::SeatHolder;
+use super::spawn::discard;
 use super::{Cell, Party, Runnable};
-use crate::table::{Kept, Slot, View};
-use atomic_table::Perch;
+use crate::table::Kept;
 use std::alloc::{Allocator, Global};
 use std::sync::{Arc, Wait};
 use task_core::{Schedule, Wake, Yields};
@@ -22,14 +23,14 @@ pub(crate) enum Hold {
     Lent,
 }
 
-/// A share of a cell, and the perch on which the seat of a waker rests.
+/// A share of a cell, and what holds the seat of a waker.
 pub(crate) struct WakerSeat<R, F: Yields, Q, M, A, B: Allocator> {
     pub(crate) cell: Arc<Cell<R, F, Q, M, A, B>, B>,
-    pub(crate) perch: Perch<Slot<F, Kept<F>, A>, View>,
+    pub(crate) holder: SeatHolder<F, Kept<F>, A>,
     pub(crate) hold: Hold,
-    ghost seated: { perch.table_id ≡ (arc_value cell).table.shared.table_id },
-    ghost limited: { perch.view.limit ≡ (arc_value cell).limit },
-    ghost placed: { perch.view ≡ waker_view hold perch.view },
+    ghost seated: { (roost holder).table_id ≡ (arc_value cell).table.shared.table_id },
+    ghost limited: { (roost holder).view.limit ≡ (arc_value cell).limit },
+    ghost placed: { (roost holder).view ≡ waker_view hold (roost holder).view },
 }
 
 impl<R: Wait + Drop, F: Yields, Q: Drop, M: Drop, A: Wake, B: Allocator> WakerSeat<
@@ -49,18 +50,17 @@ impl<R: Wait + Drop, F: Yields, Q: Drop, M: Drop, A: Wake, B: Allocator> WakerSe
         requires party { party.seat.me ≡ (view (arc_value cell).limit (fresh as_waker ∷ []), []) }
     {
         let Party { seat } = party;
-        let perch = Perch::new(&seat, 0);
-        settle(&cell.rt, &perch, seat);
+        let holder = SeatHolder::perched(&cell.rt, seat);
         WakerSeat {
             cell,
-            perch,
+            holder,
             hold: Hold::Owned,
         }
     }
 
     // One more waker, which is owned.
     pub(crate) fn gain(&self) -> Option<WakerSeat<R, F, Q, M, A, B>> {
-        let (cell, party) = Cell::gain_at(&self.cell, &self.perch)?;
+        let (cell, party) = Cell::gain_at(&self.cell, &self.holder)?;
         Some(WakerSeat::owned(cell, party))
     }
 
@@ -76,11 +76,10 @@ impl<R: Wait + Drop, F: Yields, Q: Drop, M: Drop, A: Wake, B: Allocator> WakerSe
             Hold::Owned => {
                 let WakerSeat {
                     cell,
-                    perch,
+                    holder,
                     hold: _,
                 } = self;
-                let seat = taken(&cell.rt, &perch);
-                drop(perch);
+                let seat = holder.into_seat(&cell.rt);
                 Ok((cell, Party { seat }))
             }
         }
@@ -91,7 +90,7 @@ impl<R: Wait + Drop, F: Yields, Q: Drop, M: Drop, A: Wake, B: Allocator> WakerSe
         ensures cell { IfSome result (λ d. (d.seat.table_id ≡ (arc_value self.now.cell).table.shared.table_id) × (limit_of d ≡ (arc_value self.now.cell).limit)) }
         ensures deliverer { IfSome result (λ d. Stands as_deliverer d) }
     {
-        self.cell.wake_at(&self.perch)
+        self.cell.wake_at(&self.holder)
     }
 }
 
@@ -130,10 +129,10 @@ where
             Err(lent) => {
                 let WakerSeat {
                     cell,
-                    perch,
+                    holder,
                     hold: _,
                 } = lent;
-                drop(perch);
+                discard(holder.into_seat(&cell.rt));
                 drop(cell);
             }
         }

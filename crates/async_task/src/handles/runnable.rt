@@ -33,7 +33,7 @@ impl<R: Wait + Drop, F: Yields, Q: Drop, M: Drop, A: Wake, X: Copy, B: Allocator
     where
         Q: Schedule<Runnable<R, F, Q, M, A, X, B>>,
     {
-        let (cell, party) = Cell::gain_at(&self.inner.cell, &self.inner.perch)?;
+        let (cell, party) = Cell::gain_at(&self.inner.cell, &self.inner.holder)?;
         Some(TaskWaker {
             inner: WakerSeat::owned(cell, party),
             around: self.around,

@@ -7,6 +7,6 @@ use Rattle.async_task.proofs.cell.Cell.put_back.Goals as goal
 pub load-requires : goal.load-requires
 load-requires g c = let s = c.requires.party in (search rules, search rules, may_forget _ _ _ _ _ _ _ _ _ _ s.1 (ap (λ m. m.0) s.2))
 
-pub settle-requires : goal.settle-requires
-settle-requires g c = let s = c.requires.party in let e = c.load.ensures in
+pub put_back-requires : goal.put_back-requires
+put_back-requires g c = let s = c.requires.party in let e = c.load.ensures in
     (e.0 ∙ (c.requires.cell.0 ∙ sym c.requires.cell.1), e.2 ∙ (ap (λ m. (view m.0.limit (fresh (head_of m.0.members).at ∷ tail_of m.0.members), m.1)) s.2 ∙ ap (λ v. (v, [])) (sym s.3)))
