@@ -1,5 +1,6 @@
 //! Spawning a task.
-ghost use Rattle.std.specs.Prelude.{◌≡◌, [], IfErr};
+ghost use Rattle.std.specs.Prelude.{◌≡◌, ◌<◌, [], min, IfOk, IfErr};
+ghost use Rattle.std.specs.Fn.{FnOnceReturnsAt};
 ghost use Rattle.std.specs.Arc.{arc_value};
 ghost use Rattle.async_task.specs.Rule.{laid_view};
 
@@ -13,11 +14,12 @@ use std::sync::{Arc, Wait};
 use task_core::word::LIMIT;
 use task_core::{Schedule, Wake, Yields};
 
-/// What a spawn is given beside the future and the schedule value.
+/// What a spawn is given beside the future and the schedule value: the metadata, and the limit of references.
 #[derive(Debug, Drop)]
 pub struct Builder<M> {
     metadata: M,
     limit: u64,
+    ghost limited: { limit < 36028797018963968 },
 }
 
 /// A spawn was refused for want of memory: what it was given.
@@ -42,6 +44,88 @@ impl Builder<()> {
             limit: LIMIT,
         }
     }
+
+    /// The same builder with this metadata, which the handles will show. The limit stays.
+    pub fn metadata<M>(self, metadata: M) -> Builder<M>
+        ensures metadata { result.metadata ≡ metadata }
+        ensures limit { result.limit ≡ self.limit }
+    {
+        Builder {
+            metadata,
+            limit: self.limit,
+        }
+    }
+}
+
+impl<M: Default> Default for Builder<M> {
+    ghost use Rattle.task_core.specs.declared.word.TheConstants.{LIMIT};
+
+    ghost is_default = { λ builder. M.is_default builder.metadata × (builder.limit ≡ LIMIT) };
+
+    /// A builder with the default metadata, whose tasks may have `LIMIT` references.
+    fn default() -> Builder<M> {
+        Builder {
+            metadata: M::default(),
+            limit: LIMIT,
+        }
+    }
+}
+
+impl<M> Builder<M> {
+    /// The same builder for tasks that may have this many references. A number above `LIMIT` is taken as `LIMIT`; at 0 every `clone` and `waker` is refused.
+    pub fn reference_limit(self, references: u64) -> Builder<M>
+        ensures metadata { result.metadata ≡ self.metadata }
+        ensures limit { result.limit ≡ min references LIMIT }
+    {
+        let Builder { metadata, limit: _ } = self;
+        Builder {
+            metadata,
+            limit: references.min(LIMIT),
+        }
+    }
+}
+
+impl<M: Drop> Builder<M> {
+    /// Spawns the future that `maker` makes of the metadata: its Runnable, which is due, and its Task.
+    ///
+    /// The maker is called once, after all memory was found. `rt` is what the handles may wait by, `alloc` where the memory comes from,
+    /// `schedule` what Runnables are handed to, and `around` what each handle carries.
+    /// An `Err` says that memory was refused. It hands builder, maker and schedule value back as they were given; the maker was not called then, and nothing stays allocated.
+    pub fn spawn<R, F, A, X, B, G, Q>(
+        self,
+        rt: R,
+        alloc: B,
+        maker: G,
+        schedule: Q,
+        around: X,
+    ) -> Result<(Runnable<R, F, Q, M, A, X, B>, Task<R, F, Q, M, A, X, B>), SpawnError<M, G, Q>>
+    where
+        R: Wait + Drop,
+        F: Yields,
+        A: Wake,
+        X: Copy,
+        B: Allocator + Copy,
+        G: FnOnce(&M) -> F,
+        Q: Schedule<Runnable<R, F, Q, M, A, X, B>> + Drop,
+        requires { G.IsAlwaysCallable maker }
+        ensures shares { IfOk result (λ handles. arc_value handles.1.inner.cell ≡ arc_value handles.0.inner.cell) }
+        ensures given { IfOk result (λ handles. let cell = arc_value handles.0.inner.cell in (cell.metadata ≡ self.metadata) × (cell.limit ≡ self.limit) × (cell.schedule ≡ schedule)) }
+        ensures made { IfOk result (λ _. (future : F) × FnOnceReturnsAt G.FnOnce maker self.metadata future) }
+        ensures refused { IfErr result (λ e. (e.builder ≡ self) × (e.maker ≡ maker) × (e.schedule ≡ schedule)) }
+    {
+        let Builder { metadata, limit } = self;
+        match Cell::make(rt, alloc, schedule, metadata, limit) {
+            Ok((first, second, seat)) => {
+                let future = maker(first.metadata());
+                Ok(handles_of(first, second, seat, future, around))
+            }
+            Err((schedule, metadata)) => Err(SpawnError {
+                builder: Builder { metadata, limit },
+                maker,
+                schedule,
+            }),
+        }
+    }
 }
 
 // The handles of a task whose memory was found: the future is put in by the seat, and each handle gets one of the shares.
@@ -62,6 +146,7 @@ where
     Q: Schedule<Runnable<R, F, Q, M, A, X, B>> + Drop,
     requires shares { arc_value second ≡ arc_value first }
     requires seat { (seat.table_id ≡ (arc_value first).table.shared.table_id) × (seat.me ≡ (laid_view (arc_value first).limit, [])) }
+    ensures cells { (result.0.inner.cell ≡ first) × (result.1.inner.cell ≡ second) }
 {
     let (runnable, task) = first.fill(seat, future);
     let runnable = RunnableSeat::new(first, runnable);
@@ -99,7 +184,9 @@ where
     X: Copy,
     B: Allocator + Copy,
     Q: Schedule<Runnable<R, F, Q, (), A, X, B>> + Drop,
-    ensures { IfErr result (λ e. (e.maker ≡ future) × (e.schedule ≡ schedule)) }
+    ensures shares { IfOk result (λ handles. arc_value handles.1.inner.cell ≡ arc_value handles.0.inner.cell) }
+    ensures given { IfOk result (λ handles. let cell = arc_value handles.0.inner.cell in (cell.limit ≡ LIMIT) × (cell.schedule ≡ schedule)) }
+    ensures refused { IfErr result (λ e. (e.builder.limit ≡ LIMIT) × (e.maker ≡ future) × (e.schedule ≡ schedule)) }
 {
     match Cell::make(rt, alloc, schedule, (), LIMIT) {
         Ok((first, second, seat)) => Ok(handles_of(first, second, seat, future, around)),
