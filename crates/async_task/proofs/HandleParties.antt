@@ -1,5 +1,5 @@
 -- What a handle keeps of its party between two calls.
-use Rattle.std.proofs.Common.{◌≡◌, ℕ, true, List, [], ◌∷◌, refl, ap, ◌∙◌, subst}
+use Rattle.std.proofs.Common.{◌≡◌, ℕ, true, List, [], ◌∷◌, ◌++◌, refl, ap, ◌∙◌, subst}
 use Rattle.task_core.specs.declared.moves.Position.{Position}
 use Rattle.task_core.specs.declared.moves.Position.TheVariants.{At}
 use Rattle.task_core.specs.declared.moves.Rest.TheVariants.{Task}
@@ -7,6 +7,7 @@ use Rattle.async_task.specs.declared.table.Deed.{Deed}
 use Rattle.async_task.specs.declared.cell.Party.{Party}
 use Rattle.async_task.specs.Rule.{member, view}
 use Rattle.async_task.specs.Calls.{deeds, position, holds, limit_of, is_empty, is_task, Stands, Goes, as_task}
+use Rattle.async_task.specs.PollPaths.{poll_number}
 use Rattle.async_task.proofs.Moved as moved
 
 none_held : {X : Type 0} (l : List X) → is_empty l ≡ true → l ≡ []
@@ -29,3 +30,8 @@ module _ {F T A : Type 0} where
   -- .. also where the Task stood before
   pub stands_again : (p q : Party F T A) (path : List Deed) (n : ℕ) → Stands (as_task n) p → Goes path (position p) p q → Stands (as_task n) q
   stands_again p q path n s g = subst (λ (at : Position). Stands at q) (moved.position_is p (as_task n) [] s) (moved.stands p q path (position p) [] g)
+
+  -- a call that ends where it began, and then a poll
+  pub then_polls : (p m q : Party F T A) (before path : List Deed) → Goes before (position p) p m → Goes path (as_task (poll_number (position m))) m q → Goes (before ++ path) (as_task (poll_number (position p))) p q
+  then_polls p m q before path f g = moved.goes_on p m q before path (position p) (as_task (poll_number (position p))) [] [] f
+      (subst (λ (at : Position). Goes path (as_task (poll_number at)) m q) (moved.position_is m (position p) [] (moved.stands p m before (position p) [] f)) g)

@@ -32,3 +32,4 @@ pub mod WakerOwed
 pub mod WakerSeats
 pub mod WakerMoves
 pub mod WakerCalls
+pub mod HandlePolls

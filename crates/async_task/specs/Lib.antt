@@ -19,3 +19,4 @@ pub mod WakerScripts
 pub mod Wakers
 pub mod WakerPaths
 pub mod Holders
+pub mod HandlePaths

@@ -9,6 +9,8 @@ pub mod table;
 
 pub use builder::{Builder, SpawnError, spawn};
 pub use cell::{Cell, Party, Runnable, TaskWaker};
-pub use handles::{ParkedRunnable, ParkedTask, ParkedWaker, Task, TaskClosed};
+pub use handles::{
+    Cancel, FallibleTask, ParkedRunnable, ParkedTask, ParkedWaker, Task, TaskClosed,
+};
 pub use table::Kept;
 pub use task_core::{Future, Poll, Schedule, ScheduleInfo, TaskPoll, Wake, WithInfo, Yields};

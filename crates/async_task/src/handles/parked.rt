@@ -1,6 +1,9 @@
 //! Handles without the surroundings, to be kept in a queue or a store that stands in the surroundings.
 //! They must be unparked again; nothing is dropped of one that is forgotten.
 
+ghost use Rattle.std.specs.Prelude.{◌≡◌};
+ghost use Rattle.std.specs.Arc.{arc_value};
+
 use super::task::{Task, TaskParty};
 use crate::cell::waker::WakerSeat;
 use crate::cell::{Runnable, RunnableSeat, TaskWaker};
@@ -22,12 +25,17 @@ impl<R: Wait + Drop, F: Yields, Q: Drop, M: Drop, A: Wake, B: Allocator> ParkedR
     B,
 > {
     /// The metadata that the builder was given.
-    pub fn metadata(&self) -> &M {
+    pub fn metadata(&self) -> &M
+        ensures { result.now ≡ (arc_value self.now.inner.cell).metadata }
+    {
         self.inner.cell.metadata()
     }
 
     /// The Runnable again, with these surroundings. It makes no step.
-    pub fn unpark<X: Copy>(self, around: X) -> Runnable<R, F, Q, M, A, X, B> {
+    pub fn unpark<X: Copy>(self, around: X) -> Runnable<R, F, Q, M, A, X, B>
+        ensures inner { result.inner ≡ self.inner }
+        ensures around { result.around ≡ around }
+    {
         let ParkedRunnable { inner } = self;
         Runnable { inner, around }
     }
@@ -47,7 +55,9 @@ impl<R: Wait + Drop, F: Yields, Q: Drop, M: Drop, A: Wake, B: Allocator> ParkedT
     B,
 > {
     /// The metadata that the builder was given.
-    pub fn metadata(&self) -> &M {
+    pub fn metadata(&self) -> &M
+        ensures { result.now ≡ (arc_value self.now.inner.cell).metadata }
+    {
         self.inner.cell.metadata()
     }
 
@@ -55,6 +65,8 @@ impl<R: Wait + Drop, F: Yields, Q: Drop, M: Drop, A: Wake, B: Allocator> ParkedT
     pub fn unpark<X: Copy>(self, around: X) -> Task<R, F, Q, M, A, X, B>
     where
         Q: Schedule<Runnable<R, F, Q, M, A, X, B>>,
+        ensures inner { result.inner ≡ self.inner }
+        ensures around { result.around ≡ around }
     {
         let ParkedTask { inner } = self;
         Task { inner, around }
@@ -78,6 +90,8 @@ impl<R: Wait + Drop, F: Yields, Q: Drop, M: Drop, A: Wake, B: Allocator> ParkedW
     pub fn unpark<X: Copy>(self, around: X) -> TaskWaker<R, F, Q, M, A, X, B>
     where
         Q: Schedule<Runnable<R, F, Q, M, A, X, B>>,
+        ensures inner { result.inner ≡ self.inner }
+        ensures around { result.around ≡ around }
     {
         let ParkedWaker { inner } = self;
         TaskWaker { inner, around }

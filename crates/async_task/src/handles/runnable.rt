@@ -19,12 +19,16 @@ impl<R: Wait + Drop, F: Yields, Q: Drop, M: Drop, A: Wake, X: Copy, B: Allocator
     B,
 > {
     /// The metadata that the builder was given.
-    pub fn metadata(&self) -> &M {
+    pub fn metadata(&self) -> &M
+        ensures { result.now ≡ (arc_value self.now.inner.cell).metadata }
+    {
         self.inner.cell.metadata()
     }
 
     /// The surroundings that the handle carries.
-    pub fn around(&self) -> X {
+    pub fn around(&self) -> X
+        ensures { result ≡ self.now.around }
+    {
         self.around
     }
 
@@ -46,7 +50,9 @@ impl<R: Wait + Drop, F: Yields, Q: Drop, M: Drop, A: Wake, X: Copy, B: Allocator
     }
 
     /// The same handle without the surroundings. It makes no step.
-    pub fn park(self) -> ParkedRunnable<R, F, Q, M, A, B> {
+    pub fn park(self) -> ParkedRunnable<R, F, Q, M, A, B>
+        ensures { result.inner ≡ self.inner }
+    {
         let (inner, _) = self.into_parts();
         ParkedRunnable { inner }
     }

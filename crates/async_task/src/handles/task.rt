@@ -1,10 +1,16 @@
 //! The Task: the handle that awaits the output.
-ghost use Rattle.std.specs.Prelude.{◌≡◌, ℕ, ◌∷◌, [], true};
+ghost use Rattle.std.specs.Prelude.{◌≡◌, ℕ, List, ◌∷◌, [], true, false};
 ghost use Rattle.std.specs.Arc.{arc_value};
+ghost use Rattle.async_task.specs.declared.table.Deed.{Deed};
 ghost use Rattle.async_task.specs.Rule.{view, member};
+ghost use Rattle.async_task.specs.Steps.{saw_over};
+ghost use Rattle.async_task.specs.TaskPaths.{CancelPath};
 ghost use Rattle.async_task.specs.PollPaths.{IfOutput};
-ghost use Rattle.async_task.specs.Calls.{deeds, position, holds, limit_of, is_empty, is_task};
+ghost use Rattle.async_task.specs.HandlePaths.{FindsFinished, PollsOnce, IfSomeOutput, fallible_answer};
+ghost use Rattle.async_task.specs.Calls.{Goes, deeds, position, holds, limit_of, is_empty, is_task};
 
+use super::cancel::Cancel;
+use super::fallible::FallibleTask;
 use super::parked::ParkedTask;
 use crate::cell::{Cell, Party, Runnable};
 use crate::table::Kept;
@@ -36,13 +42,33 @@ impl<R: Wait + Drop, F: Yields, Q: Drop, M: Drop, A: Wake, B: Allocator> TaskPar
     B,
 > {
     // Whether the task is completed or closed.
-    fn is_finished(&mut self) -> bool {
+    pub(crate) fn is_finished(&mut self) -> bool
+        ensures path { FindsFinished self.old.party self.new.party result }
+        ensures seen { saw_over (deeds self.old.party) ≡ true → result ≡ true }
+    {
         self.cell.is_finished(&mut self.party)
     }
 
-    // One poll of the Task.
-    fn poll(&mut self, awaiter: &A) -> TaskPoll<Option<Kept<F>>> {
-        self.cell.poll(&mut self.party, awaiter)
+    // One poll of the Task. The output that it hands out meets what the type of the future states.
+    pub(crate) fn poll(&mut self, awaiter: &A) -> TaskPoll<Option<F::Output>>
+        ensures path { PollsOnce A.cloned A.woken A.woken_by_ref A.compared awaiter.now self.old.party self.new.party result }
+        ensures meets { IfSomeOutput result (λ output. ∥ F.Yields.meets output ∥₁) }
+    {
+        match self.cell.poll(&mut self.party, awaiter) {
+            TaskPoll::Pending => TaskPoll::Pending,
+            TaskPoll::NoMemory => TaskPoll::NoMemory,
+            TaskPoll::Ready(Some(kept)) => TaskPoll::Ready(Some(kept.output)),
+            TaskPoll::Ready(None) => TaskPoll::Ready(None),
+        }
+    }
+
+    // Closes the task, if it is not over.
+    pub(crate) fn cancel<X: Copy>(&mut self, around: X)
+    where
+        Q: Schedule<Runnable<R, F, Q, M, A, X, B>>,
+        ensures path { (path : List Deed) × CancelPath ((n : _) × Q.scheduled (arc_value self.old.cell).schedule n (record { woken_while_running = false })) ((a : A) × A.woken a) path × Goes path (position self.old.party) self.old.party self.new.party }
+    {
+        Cell::cancel(&self.cell, &mut self.party, around);
     }
 }
 
@@ -99,12 +125,16 @@ where
     }
 
     /// The metadata that the builder was given.
-    pub fn metadata(&self) -> &M {
+    pub fn metadata(&self) -> &M
+        ensures { result.now ≡ (arc_value self.now.inner.cell).metadata }
+    {
         self.inner.cell.metadata()
     }
 
     /// The surroundings that the handle carries.
-    pub fn around(&self) -> X {
+    pub fn around(&self) -> X
+        ensures { result ≡ self.now.around }
+    {
         self.around
     }
 
@@ -114,9 +144,29 @@ where
     }
 
     /// The same handle without the surroundings. It makes no step.
-    pub fn park(self) -> ParkedTask<R, F, Q, M, A, B> {
+    pub fn park(self) -> ParkedTask<R, F, Q, M, A, B>
+        ensures { result.inner ≡ self.inner }
+    {
         let (inner, _) = self.into_parts();
         ParkedTask { inner }
+    }
+
+    /// The same Task, whose polls answer `None` where a Task's answer `TaskClosed`. It makes no step.
+    pub fn fallible(self) -> FallibleTask<R, F, Q, M, A, X, B>
+        ensures { result.task ≡ self }
+    {
+        FallibleTask { task: self }
+    }
+
+    /// The same Task, as a handle whose first poll cancels the task. This call makes no step.
+    pub fn cancel(self) -> Cancel<R, F, Q, M, A, X, B>
+        ensures task { result.task ≡ self }
+        ensures cancelled { result.cancelled ≡ false }
+    {
+        Cancel {
+            task: self,
+            cancelled: false,
+        }
     }
 
     /// Gives the Task up and lets the task go on. An output that nobody claimed is dropped.
@@ -128,20 +178,26 @@ where
         drop(cell);
     }
 
-    /// Whether the task is completed or closed.
-    pub fn is_finished(&mut self) -> bool {
+    /// Whether the task is completed or closed. Once it is, each further answer is true.
+    pub fn is_finished(&mut self) -> bool
+        ensures path { FindsFinished self.old.inner.party self.new.inner.party result }
+        ensures seen { saw_over (deeds self.old.inner.party) ≡ true → result ≡ true }
+    {
         self.inner.is_finished()
     }
 
-    /// Answers with the output once there is one, or with `TaskClosed`. Otherwise the awaiter is registered, to be woken then.
-    /// The output meets what the type of the future states.
+    /// Answers with the output once there is one, or with `TaskClosed`. Otherwise a clone of `awaiter` is registered, to be woken then.
+    ///
+    /// The output meets what the type of the future states. `TaskClosed` says that no output will come, and each later poll answers the same.
+    /// `NoMemory` says that the clone was refused: nothing was registered, and an awaiter that an earlier poll registered is still woken.
     pub fn poll(&mut self, awaiter: &A) -> TaskPoll<Result<F::Output, TaskClosed>>
+        ensures path { PollsOnce A.cloned A.woken A.woken_by_ref A.compared awaiter.now self.old.inner.party self.new.inner.party (fallible_answer result) }
         ensures meets { IfOutput result (λ output. ∥ F.Yields.meets output ∥₁) }
     {
         match self.inner.poll(awaiter) {
             TaskPoll::Pending => TaskPoll::Pending,
             TaskPoll::NoMemory => TaskPoll::NoMemory,
-            TaskPoll::Ready(Some(kept)) => TaskPoll::Ready(Ok(kept.output)),
+            TaskPoll::Ready(Some(output)) => TaskPoll::Ready(Ok(output)),
             TaskPoll::Ready(None) => TaskPoll::Ready(Err(TaskClosed)),
         }
     }

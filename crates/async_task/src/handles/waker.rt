@@ -60,7 +60,9 @@ where
     }
 
     /// The surroundings that the handle carries.
-    pub fn around(&self) -> X {
+    pub fn around(&self) -> X
+        ensures { result ≡ self.now.around }
+    {
         self.around
     }
 
@@ -70,7 +72,9 @@ where
     }
 
     /// The same handle without the surroundings. It makes no step.
-    pub fn park(self) -> ParkedWaker<R, F, Q, M, A, B> {
+    pub fn park(self) -> ParkedWaker<R, F, Q, M, A, B>
+        ensures { result.inner ≡ self.inner }
+    {
         let (inner, _) = self.into_parts();
         ParkedWaker { inner }
     }

@@ -1,0 +1,41 @@
+-- What the calls of a Task, a FallibleTask and a Cancel say of the Task's party: p before the call, q after it.
+use Rattle.std.specs.Prelude.{◌≡◌, Bool, true, false, not, List, [], ◌∷◌, ◌++◌, Option, Some, None, Result, Ok, Err, IfSome, ⊤}
+use Rattle.task_core.specs.Word.{State, is_open}
+use Rattle.task_core.specs.declared.traits.TaskPoll.{TaskPoll}
+use Rattle.task_core.specs.declared.traits.TaskPoll.TheVariants.{Pending as Waits, Ready, NoMemory}
+use Rattle.task_core.specs.declared.moves.Act.TheVariants.{LookFinished, EndCall}
+use Rattle.async_task.specs.declared.table.Deed.{Deed}
+use Rattle.async_task.specs.declared.cell.Party.{Party}
+use Rattle.async_task.specs.Calls.{row, act, Goes, as_task, position}
+use Rattle.async_task.specs.PollPaths.{PollPath, poll_number}
+
+-- the answer of a Task's poll as a FallibleTask gives it
+abbrev pub fallible_answer : {T E : Type 0} → TaskPoll (Result T E) → TaskPoll (Option T)
+fallible_answer (Ready (Ok output)) = Ready (Some output)
+fallible_answer (Ready (Err closed)) = Ready None
+fallible_answer Waits = Waits
+fallible_answer NoMemory = NoMemory
+
+-- the fact holds of the output that such a poll handed out, if there is one
+abbrev pub IfSomeOutput : {T : Type 0} → TaskPoll (Option T) → (T → Type 0) → Type 0
+IfSomeOutput (Ready answer) P = IfSome answer P
+IfSomeOutput Waits P = ⊤
+IfSomeOutput NoMemory P = ⊤
+
+-- a path that closes the task, or none where it was closed before
+abbrev pub ClosesUnless : Bool → (List Deed → Type 0) → List Deed → Type 0
+ClosesUnless true Closes path = path ≡ []
+ClosesUnless false Closes path = Closes path
+
+module _ {F T A : Type 0} where
+  -- one load, which answers whether the task is over
+  abbrev pub FindsFinished : Party F T A → Party F T A → Bool → Type 0
+  FindsFinished p q answer = (w : State) × Goes (row LookFinished w ∷ act EndCall ∷ []) (position p) p q × (answer ≡ not (is_open w))
+
+  -- one poll of the Task
+  abbrev pub PollsOnce : {U : Type 0} → (A → Option A → Type 0) → (A → Type 0) → (A → Type 0) → (A → A → Bool → Type 0) → A → Party F T A → Party F T A → TaskPoll (Option U) → Type 0
+  PollsOnce cloned woken woken_by_ref compared awaiter p q answer = (path : List Deed) × PollPath cloned woken woken_by_ref compared awaiter path answer × Goes path (as_task (poll_number (position p))) p q
+
+  -- .. before which the task is closed, unless it was by an earlier one
+  abbrev pub PollsClosed : {U : Type 0} → Bool → (List Deed → Type 0) → (A → Option A → Type 0) → (A → Type 0) → (A → Type 0) → (A → A → Bool → Type 0) → A → Party F T A → Party F T A → TaskPoll (Option U) → Type 0
+  PollsClosed was_closed Closes cloned woken woken_by_ref compared awaiter p q answer = (closing path : List Deed) × ClosesUnless was_closed Closes closing × PollPath cloned woken woken_by_ref compared awaiter path answer × Goes (closing ++ path) (as_task (poll_number (position p))) p q
