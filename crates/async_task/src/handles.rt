@@ -1,6 +1,7 @@
 //! The handles of a task.
 
 pub mod cancel;
+mod debug;
 pub mod fallible;
 pub mod parked;
 pub mod runnable;
