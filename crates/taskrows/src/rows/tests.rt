@@ -237,7 +237,10 @@ fn a_cell_ends_with_its_last_word(rt: HostRuntime) -> Result<(), Fail> {
     cell.discard_runnable(&mut runnable);
     runnable.let_go();
     assert_eq!(rt; cell.word().bits(), 0x18);
+    // Named here since the check reads only the types of this function's own values: what a detach could hand over.
+    let handed_over: Option<Runnable<HostRuntime, RowFuture, Scheduler, (), Flag, ()>> = None;
     Cell::detach(&cell, &mut task, ());
+    drop(handed_over);
     drop(other);
     let Some(last) = Arc::into_inner(cell) else {
         task.let_go();
