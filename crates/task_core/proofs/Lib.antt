@@ -10,3 +10,5 @@ pub mod Derived
 pub mod Theorem
 pub mod Bits
 mod Worked
+pub mod Modest
+pub mod Replayed

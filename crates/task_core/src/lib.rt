@@ -2,6 +2,7 @@
 #![tactic(auto)]
 
 pub mod moves;
+pub mod replay;
 pub mod traits;
 pub mod word;
 

@@ -1,0 +1,204 @@
+//! The machine of moves, played: a list of steps from the opening state, and the machine at its end.
+//!
+//! It is the machine that `moves::laws` speaks of, without its trace.
+
+mod kind;
+mod rows;
+mod table;
+#[cfg(test)]
+mod tests;
+mod ways;
+
+ghost use Rattle.std.specs.Prelude.{◌≡◌, ◌<◌, ◌-◌, ◌^◌, Some, None, IfOk, IfErr, min, length, slice_get, if◌then◌else◌};
+ghost use Rattle.task_core.specs.Machine as machine;
+ghost use Rattle.task_core.specs.Position.{Position};
+ghost use Rattle.task_core.specs.Machine.{run, how_many, polls_future, opening, step};
+ghost use Rattle.task_core.specs.Replay.{standing, stands, slots_of, begun, IsRight};
+
+use crate::moves::{Act, Position, Rest};
+use crate::replay::table::Scene;
+use crate::word::{LIMIT, REFERENCE, SCHEDULED, TASK, Word};
+use std::alloc::{AllocError, Allocator, Global};
+use std::marker::Model;
+
+/// One step of the machine. Contracts see it as the step that the laws speak of.
+#[derive(Clone, Copy, Debug, PartialEq, Eq)]
+pub struct Step {
+    /// The Runnable of the spawn is party 0, the Task party 1. Each party that a step adds takes the next number.
+    pub party: u64,
+    /// What that party does.
+    pub act: Act,
+}
+
+impl Model for Step {
+    ghost use Rattle.task_core.specs.Machine as machine;
+
+    ghost Value = { machine.Step };
+
+    ghost view = { λ s. record { party = s.party; act = s.act } };
+
+    ghost inverse = { λ s. record { party = s.party; act = s.act } };
+
+    ghost inverse_ok = { λ s h i. s };
+}
+
+/// What the three slots of a task hold.
+#[derive(Clone, Copy, Debug, PartialEq, Eq)]
+pub struct Slots {
+    /// Whether the future is there.
+    pub future: bool,
+    /// Whether an output is there.
+    pub output: bool,
+    /// The clone of an awaiter, by the number of the poll that stored it.
+    pub awaiter: Option<u64>,
+}
+
+/// Why a replay did not come to its end.
+#[derive(Clone, Copy, Debug, PartialEq, Eq)]
+pub enum ReplayError {
+    /// The machine allows the steps before this one, counted from 0, and not this one.
+    NotAllowed(usize),
+    /// The list of parties was to grow, and memory was refused. The steps may be allowed or not.
+    NoMemory,
+}
+
+impl From<AllocError> for ReplayError {
+    ghost use Rattle.task_core.specs.declared.replay.ReplayError.TheVariants.{NoMemory};
+
+    ghost from_gives = { λ refused error. error ≡ NoMemory };
+
+    fn from(_refused: AllocError) -> ReplayError {
+        ReplayError::NoMemory
+    }
+}
+
+/// How the machine stands after some steps. Contracts see it as a `Standing`: the machine of the laws without its trace.
+#[derive(Drop)]
+#[derive_where(Debug)]
+pub struct Machine<A: Allocator = Global> {
+    limit: u64,
+    word: Word,
+    slots: Slots,
+    parties: Vec<Position, A>,
+}
+
+impl<A: Allocator> Model for Machine<A> {
+    ghost use Rattle.task_core.specs.Replay.{Standing, slots_of};
+
+    ghost Value = { Standing };
+
+    ghost view = { λ m. record { limit = m.limit; word = m.word; slots = slots_of m.slots; parties = m.parties.items } };
+}
+
+/// What can be seen of a machine.
+impl<A: Allocator> Machine<A> {
+    /// The word of the task.
+    pub fn word(&self) -> Word
+        ensures { result ≡ self.now.word }
+    {
+        self.word
+    }
+
+    /// What the three slots hold: the future, the output, and the clone of an awaiter.
+    pub fn slots(&self) -> Slots
+        ensures { slots_of result ≡ self.now.slots }
+    {
+        self.slots
+    }
+
+    /// How many parties there have been.
+    pub fn parties(&self) -> usize
+        ensures { result ≡ length self.now.parties }
+    {
+        self.parties.len()
+    }
+
+    /// Where a party stands. `None` where there is no party of this number.
+    pub fn position(&self, party: u64) -> Option<Position>
+        ensures { result ≡ slice_get self.now.parties party }
+    {
+        self.parties.get(party as usize).copied()
+    }
+
+    // How many polls of the future are between their start and their answer.
+    #[tactic(auto, using(crate::proofs::Replayed::counted))]
+    fn polling(&self) -> usize
+        ensures { result ≡ how_many polls_future self.now.parties }
+    {
+        self.parties
+            .iter()
+            .filter(|party| is_polling(**party))
+            .count()
+    }
+}
+
+fn is_polling(position: Position) -> bool
+    ensures { result ≡ polls_future position }
+{
+    matches!(position, Position::Polling)
+}
+
+/// How a machine is played.
+impl<A: Allocator> Machine<A> {
+    // After a spawn: party 0 is the Runnable, party 1 the Task.
+    fn opened(alloc: A, limit: u64) -> Result<Machine<A>, AllocError>
+        ensures { IfOk result (λ now. now ≡ standing (opening limit)) }
+    {
+        let mut parties = Vec::new(alloc);
+        parties.push(Position::At(Rest::Runnable))?;
+        parties.push(Position::At(Rest::Task(0)))?;
+        let slots = Slots {
+            future: true,
+            output: false,
+            awaiter: None,
+        };
+        Ok(Machine {
+            limit,
+            word: Word::from_bits(SCHEDULED | TASK | REFERENCE),
+            slots,
+            parties,
+        })
+    }
+
+    // One step, and whether it is allowed.
+    fn step(&mut self, next: Step) -> Result<bool, AllocError>
+        requires references { self.old.word.references < 2 ^ 56 - 1 }
+        requires polls { (p : Position) → slice_get self.old.parties next.party ≡ Some p → begun p < 2 ^ 64 - 1 }
+        ensures { IfOk result (λ yes. (m : machine.Machine) → standing m ≡ self.old → stands (step m next) ≡ (if yes then Some self.new else None)) }
+    {
+        let Some(position) = self.position(next.party) else {
+            return Ok(false);
+        };
+        let scene = Scene {
+            limit: self.limit,
+            word: self.word,
+            slots: self.slots,
+            polling: self.polling() > 0,
+        };
+        let Some(effect) = table::rule_of_act(scene, next.act, position) else {
+            return Ok(false);
+        };
+        self.word = effect.word;
+        self.slots = effect.slots;
+        self.parties[next.party as usize] = effect.next;
+        if let Some(added) = effect.added {
+            self.parties.push(added)?;
+        }
+        Ok(true)
+    }
+}
+
+/// Plays the steps, the first one first, from the state after a spawn, and answers the machine after the last one. The list of parties takes its
+/// memory from `alloc`. Up to `limit` references wakers are gained; a limit above `LIMIT` is taken as `LIMIT`. It waits for nobody.
+pub fn replay<A: Allocator>(alloc: A, limit: u64, steps: &[Step]) -> Result<Machine<A>, ReplayError>
+    ensures machine { IfOk result (λ now. stands (run (min limit LIMIT) steps.now) ≡ Some now) }
+    ensures refusal { IfErr result (λ error. IsRight (min limit LIMIT) steps.now error) }
+{
+    let mut machine = Machine::opened(alloc, limit.min(LIMIT))?;
+    for (i, step) in steps.iter().enumerate() {
+        if !machine.step(*step)? {
+            return Err(ReplayError::NotAllowed(i));
+        }
+    }
+    Ok(machine)
+}
