@@ -5,18 +5,18 @@ use Rattle.std.proofs.lemmas.List.Sums.{sum_by-cons}
 use Rattle.std.specs.Prelude.{count_by, if◌then◌else◌, slice_get, slice_set, nat_lt, IsSome}
 use Rattle.task_core.specs.Word.{State, bit}
 use Rattle.task_core.specs.Event.{Event}
-use Rattle.task_core.specs.Position.{Position, Act, At, Task, Rest}
+use Rattle.task_core.specs.Position.{Position, Act, At, Task}
 use Rattle.task_core.specs.Rows.{found, written, row}
-use Rattle.task_core.specs.Table.{Scene, Slots, Outcome, where_found, goes, rule}
+use Rattle.task_core.specs.Table.{Scene, Outcome, where_found, goes, rule}
 use Rattle.task_core.specs.Machine.{Machine, Step, how_many, polls_future, opening, scene, begins, after, moves, step, run_from, run}
 use Rattle.task_core.specs.Laws.{count, is_poll}
-use Rattle.task_core.specs.Replay.{Standing, standing, stands, begun, slots_of, scene_of, effect_of, first_of}
+use Rattle.task_core.specs.Replay.{Standing, standing, stands, begun, slots_of, scene_of, effect_of}
 use Rattle.task_core.specs.declared.replay.Slots.{Slots as SlotsHeld}
 use Rattle.task_core.specs.declared.replay.table.Effect.{Effect}
 use Rattle.task_core.proofs.Awaiting.{Awaiting, await, awaiting, join}
 use Rattle.task_core.proofs.Runs.{Invariant, Stays, always, others, split_awaiting}
 use Rattle.task_core.proofs.Theorem.{laws_hold}
-use Rattle.task_core.proofs.Modest.{listed, polls_told, added_by, Modest, modest}
+use Rattle.task_core.proofs.Modest.{listed, Modest, modest}
 
 pub counted : (p : Position → Bool) (ps : List Position) → how_many p ps ≡ count_by p ps
 counted p [] = refl

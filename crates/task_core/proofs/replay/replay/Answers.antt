@@ -1,4 +1,4 @@
-use Rattle.std.proofs.Common.{◌≡◌, ◌<◌, ◌≤◌, ◌∙◌, ℕ, min, take, length, arith, Some, None, sym}
+use Rattle.std.proofs.Common.{◌∙◌, min, take, arith, Some, None}
 use Rattle.std.proofs.lemmas.List.{length-take}
 use Rattle.task_core.specs.declared.word.TheConstants.{LIMIT}
 use Rattle.task_core.proofs.Replayed.{plays, nothing_shown, few_begun, few_references, where_yes, where_no, is_some}

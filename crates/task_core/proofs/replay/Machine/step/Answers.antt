@@ -1,9 +1,6 @@
-use Rattle.std.proofs.Common.{◌≡◌, ◌∙◌, ◌<◌, ◌++◌, [], ◌∷◌, List, length, sym, ap, subst, refl, Some, None, slice_set, arith}
-use Rattle.std.specs.Prelude.{vec_len}
+use Rattle.std.proofs.Common.{◌≡◌, ◌∙◌, length, sym, ap, Some, None, arith}
 use Rattle.std.proofs.lemmas.Option.{slice_get_within}
-use Rattle.task_core.specs.Position.{Position}
-use Rattle.task_core.specs.Machine.{Step, step}
-use Rattle.task_core.specs.Replay.{Standing, stands}
+use Rattle.task_core.specs.Replay.{Standing}
 use Rattle.task_core.proofs.Replayed.{leaves, left_so, at_view, listed_one, listed_none}
 use Rattle.task_core.proofs.replay.Machine.step.Goals as goal
 
