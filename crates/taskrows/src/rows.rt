@@ -13,6 +13,7 @@ pub mod future;
 mod racing;
 pub mod rendezvous;
 mod scheduling;
+mod shown;
 mod table;
 mod waking;
 

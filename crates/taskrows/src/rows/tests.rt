@@ -36,14 +36,24 @@ impl io::Write for Limited {
     }
 }
 
+// What the program prints of the rows that need threads.
+const WITH_THREADS: &str = "16 wake_during_run 1,1,0,0
+27 cancel_during_run 2,1,1,1
+29 wake_and_cancel 2,1,1,1
+30 cancel_and_wake 2,1,1,1
+31 detach_during_run 1,0,1,1
+32 drop_during_run 1,0,1,1
+33 poll_during_run 1,0,1,0
+rows ok: 7 of 7
+";
+
 #[test]
 fn threads_runs_the_rows_with_threads(rt: HostRuntime) -> Result<(), Fail> {
     let mut out = Vec::new(rt.alloc());
     let mut err = Vec::new(rt.alloc());
     let args = [String::from_str(rt.alloc(), "threads")?];
     assert_eq!(rt; rows(rt, rt.alloc(), &args, &mut out, &mut err), 0);
-    let text = b"16 wake_during_run 1,1,0,0\n27 cancel_during_run 2,1,1,1\nrows ok: 2 of 2\n";
-    assert_eq!(rt; out.as_slice(), text.as_slice());
+    assert_eq!(rt; out.as_slice(), WITH_THREADS.as_bytes());
     assert_eq!(rt; err.len(), 0);
     Ok(())
 }
