@@ -122,6 +122,16 @@ fn print_row<W: io::Write>(
 }
 
 #[cfg(test)]
+mod builder_tests;
+#[cfg(test)]
+mod heap_tests;
+#[cfg(test)]
+mod slot_tests;
+#[cfg(test)]
+mod storm_tests;
+#[cfg(test)]
+mod task_tests;
+#[cfg(test)]
 mod tests;
 #[cfg(test)]
 mod waker_tests;

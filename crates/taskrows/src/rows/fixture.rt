@@ -119,6 +119,11 @@ impl<R: Wait + Drop + Copy> Fixture<R> {
         self.counters.output_drops.get()
     }
 
+    /// The number of polls that began while another poll was under way.
+    pub fn overlaps(&self) -> u64 {
+        self.counters.overlaps.get()
+    }
+
     /// The number of calls of schedule values that dropped their Runnable and ended before any schedule value was dropped.
     pub fn undropped_ends(&self) -> u64 {
         self.counters.undropped_ends.get()

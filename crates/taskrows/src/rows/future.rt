@@ -73,8 +73,8 @@ impl RowFuture {
         }
     }
 
-    // A poll that does nothing but answer.
-    fn answer_alone(&mut self) -> Poll<Output>
+    /// A poll that does nothing but answer.
+    pub fn answer_alone(&mut self) -> Poll<Output>
         ensures { IsPolled self.old.behaviour result self.new.behaviour }
     {
         self.counters.begin_poll();

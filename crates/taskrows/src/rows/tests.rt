@@ -2,12 +2,11 @@
 
 use super::*;
 use crate::surroundings::Scheduler;
-use async_task::{Cell, Runnable, SpawnError, Task, TaskClosed, TaskPoll, spawn};
+use async_task::{Cell, TaskClosed, TaskPoll};
 use counters::{Counters, Counts};
 use fixture::Fixture;
 use flag::Flag;
 use future::{Behaviour, Output, RowFuture};
-use linked_list_allocator::LocalHeap;
 use std::process::Abort;
 use std::sync::Arc;
 use std::test::Fail;
@@ -183,50 +182,6 @@ fn a_polled_output_is_dropped_by_the_poller(rt: HostRuntime) -> Result<(), Fail>
     drop(polled);
     assert_eq!(rt; fixture.output_drops(), 1);
     Ok(())
-}
-
-// What a spawn over a heap of that kind answers.
-type Spawned<'heap, R> = Result<
-    (
-        Runnable<R, RowFuture, Scheduler, (), Flag, (), &'heap LocalHeap>,
-        Task<R, RowFuture, Scheduler, (), Flag, (), &'heap LocalHeap>,
-    ),
-    SpawnError<(), RowFuture, Scheduler>,
->;
-
-// A spawn over a heap of that many blocks of 16 bytes: whether it had memory. One that had none must have handed back
-// the future and the schedule value, neither of them dropped, and must have freed what it took.
-fn spawn_in_blocks<R: Wait + Abort + Drop + Copy>(
-    rt: &R,
-    alloc: Global,
-    blocks: u16,
-) -> Result<bool, Fail> {
-    let counters = Arc::new(alloc, Counters::new())?;
-    let heap = LocalHeap::new(alloc, 16 * usize::from(blocks))?;
-    let future = RowFuture::new(Behaviour::Ready(4), Arc::try_clone(&counters)?);
-    let scheduler = Scheduler::new(Arc::try_clone(&counters)?);
-    let spawned: Spawned<'_, R> = spawn(*rt, &heap, future, scheduler, ());
-    assert_eq!(rt; counters.counts(), Counts::new(0, 0, 0, 0));
-    let Err(refused) = spawned else {
-        return Ok(true);
-    };
-    assert_eq!(rt; heap.used(), 0);
-    assert_eq!(rt; refused.maker.behaviour, Behaviour::Ready(4));
-    drop(refused);
-    assert_eq!(rt; counters.counts(), Counts::new(0, 0, 1, 1));
-    Ok(false)
-}
-
-// Each heap has one block more than the one before, so each allocation of the spawn is the one that is refused in turn.
-#[test]
-fn a_refused_spawn_hands_everything_back(rt: HostRuntime) -> Result<(), Fail> {
-    for blocks in 1..1000u16 {
-        if spawn_in_blocks(&rt, rt.alloc(), blocks)? {
-            assert!(rt; 1 < blocks, "the smallest heap has no room");
-            return Ok(());
-        }
-    }
-    panic!(rt; "no heap has room")
 }
 
 // A cell of the tests.
