@@ -12,20 +12,40 @@ use std::sync::{Mutex, Wait};
 pub type PriorityRunnable<'x, R> = Runnable<
     R,
     RowFuture,
-    Scheduler,
+    PriorityScheduler,
     u64,
     Flag,
     &'x Priorities<R>,
 >;
 
 /// A Task whose metadata is its priority.
-pub type PriorityTask<'x, R> = Task<R, RowFuture, Scheduler, u64, Flag, &'x Priorities<R>>;
+pub type PriorityTask<'x, R> = Task<R, RowFuture, PriorityScheduler, u64, Flag, &'x Priorities<R>>;
 
 /// A waker of a task whose metadata is its priority.
-pub type PriorityWaker<'x, R> = TaskWaker<R, RowFuture, Scheduler, u64, Flag, &'x Priorities<R>>;
+pub type PriorityWaker<'x, R> = TaskWaker<
+    R,
+    RowFuture,
+    PriorityScheduler,
+    u64,
+    Flag,
+    &'x Priorities<R>,
+>;
+
+/// The schedule value of such tasks: it counts as that of the other rows does, and pushes to the queue of the surroundings.
+#[derive(Drop)]
+pub struct PriorityScheduler {
+    inner: Scheduler,
+}
+
+impl PriorityScheduler {
+    /// A schedule value that counts as this one does.
+    pub fn new(inner: Scheduler) -> PriorityScheduler {
+        PriorityScheduler { inner }
+    }
+}
 
 // Runnables in ascending order of their priority.
-type Ascending<R> = Vec<ParkedRunnable<R, RowFuture, Scheduler, u64, Flag>>;
+type Ascending<R> = Vec<ParkedRunnable<R, RowFuture, PriorityScheduler, u64, Flag>>;
 
 /// Surroundings that hold Runnables, parked, and hand out the one of greatest priority first.
 pub struct Priorities<R: Wait + Drop> {
@@ -73,11 +93,11 @@ impl<R: Wait + Drop> Priorities<R> {
     }
 }
 
-impl<'x, R: Wait + Drop> Schedule<PriorityRunnable<'x, R>> for Scheduler {
+impl<'x, R: Wait + Drop> Schedule<PriorityRunnable<'x, R>> for PriorityScheduler {
     ghost scheduled = { λ _ _ _. ⊤ };
 
     fn schedule(&self, runnable: PriorityRunnable<'x, R>, _info: ScheduleInfo) {
-        self.count_call();
+        self.inner.count_call();
         runnable.around().push(runnable);
     }
 }

@@ -3,7 +3,7 @@
 use super::counters::{Counter, Counters};
 use super::fixture::Fixture;
 use super::future::{Behaviour, Output, RowFuture};
-use crate::priorities::Priorities;
+use crate::priorities::{Priorities, PriorityScheduler};
 use crate::surroundings::Scheduler;
 use async_task::{Builder, TaskPoll};
 use std::process::Abort;
@@ -11,7 +11,8 @@ use std::sync::Arc;
 use std::test::Fail;
 
 // What a handle shows of a task after its spawn, after the handle's own name.
-const SPAWNED: &str = " { header: Header { scheduled: true, running: false, completed: false, closed: false, awaiter: false, task: true, ref_count: 1, metadata: () } }";
+const SPAWNED: &str =
+    " { header: Header { scheduled: true, running: false, completed: false, closed: false, awaiter: false, task: true, ref_count: 1, metadata: () } }";
 
 #[test]
 fn handles_show_the_flags_the_count_and_the_metadata(rt: HostRuntime) -> Result<(), Fail> {
@@ -37,16 +38,25 @@ fn builders_show_the_metadata_and_the_limit(rt: HostRuntime) -> Result<(), Fail>
     let alloc = rt.alloc();
     let builder = Builder::new();
     let shown = format!(in alloc; "{builder:?}")?;
-    assert_eq!(rt; shown.as_str(), "Builder { metadata: (), limit: 36028797018963967 }");
+    assert_eq!(rt;
+        shown.as_str(),
+        "Builder { metadata: (), limit: 36028797018963967 }"
+    );
     let builder = builder.reference_limit(18446744073709551615);
     let shown = format!(in alloc; "{builder:?}")?;
-    assert_eq!(rt; shown.as_str(), "Builder { metadata: (), limit: 36028797018963967 }");
+    assert_eq!(rt;
+        shown.as_str(),
+        "Builder { metadata: (), limit: 36028797018963967 }"
+    );
     let builder = builder.reference_limit(3).metadata(7u64);
     let shown = format!(in alloc; "{builder:?}")?;
     assert_eq!(rt; shown.as_str(), "Builder { metadata: 7, limit: 3 }");
     let builder: Builder<u64> = Builder::default();
     let shown = format!(in alloc; "{builder:?}")?;
-    assert_eq!(rt; shown.as_str(), "Builder { metadata: 0, limit: 36028797018963967 }");
+    assert_eq!(rt;
+        shown.as_str(),
+        "Builder { metadata: 0, limit: 36028797018963967 }"
+    );
     Ok(())
 }
 
@@ -57,7 +67,7 @@ fn the_maker_is_called_once_with_the_metadata(rt: HostRuntime) -> Result<(), Fai
     let calls = Counter::new();
     let counters = Arc::new(rt.alloc(), Counters::new())?;
     let queue = Priorities::new(rt, rt.alloc(), 1)?;
-    let scheduler = Scheduler::new(Arc::try_clone(&counters)?);
+    let scheduler = PriorityScheduler::new(Scheduler::new(Arc::try_clone(&counters)?));
     let shared = Arc::try_clone(&counters)?;
     let maker = |number: &u64| {
         calls.add_one();

@@ -1,14 +1,12 @@
 //! What each row works with, and what it answers.
 ghost use Rattle.std.specs.Prelude.{◌≡◌, ◌↔◌, IsTrue, IfOk, false};
 
+use crate::priorities::{Priorities, PriorityRunnable, PriorityScheduler, PriorityTask};
 use crate::rows::counters::{Counters, Counts};
 use crate::rows::flag::Flag;
-use crate::priorities::{Priorities, PriorityRunnable, PriorityTask};
 use crate::rows::future::{Behaviour, RowFuture};
 use crate::rows::shown;
-use crate::surroundings::{
-    BareRunnable, BareTask, RowRunnable, RowTask, Scheduler, Surroundings,
-};
+use crate::surroundings::{BareRunnable, BareTask, RowRunnable, RowTask, Scheduler, Surroundings};
 use async_task::{Builder, spawn};
 use std::alloc::{AllocError, Global};
 use std::fmt;
@@ -59,7 +57,13 @@ impl<R: Wait + Drop + Copy> Fixture<R> {
         let (future, scheduler) = self.counted(behaviour)?;
         Builder::new()
             .reference_limit(references)
-            .spawn(self.rt, self.alloc, |_| future, scheduler, &self.surroundings)
+            .spawn(
+                self.rt,
+                self.alloc,
+                |_| future,
+                scheduler,
+                &self.surroundings,
+            )
             .map_err(|_| AllocError)
     }
 
@@ -79,6 +83,7 @@ impl<R: Wait + Drop + Copy> Fixture<R> {
         priority: u64,
     ) -> Result<(PriorityRunnable<'x, R>, PriorityTask<'x, R>), AllocError> {
         let (future, scheduler) = self.counted(Behaviour::Ready(priority))?;
+        let scheduler = PriorityScheduler::new(scheduler);
         Builder::new()
             .metadata(priority)
             .spawn(self.rt, self.alloc, |_| future, scheduler, priorities)

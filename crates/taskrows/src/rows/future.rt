@@ -2,8 +2,8 @@
 ghost use Rattle.std.specs.Prelude.{◌≡◌};
 ghost use Rattle.task_core.specs.Poll.{IfReady};
 
-use crate::rows::counters::Counters;
 use crate::priorities::PriorityWaker;
+use crate::rows::counters::Counters;
 use crate::surroundings::{RowWaker, Scheduler};
 use async_task::{Future, Poll, TaskWaker, Wake, Yields};
 use std::mem;

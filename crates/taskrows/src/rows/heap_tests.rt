@@ -7,8 +7,7 @@ use super::flag::Flag;
 use super::future::{Behaviour, Output, RowFuture};
 use crate::surroundings::Scheduler;
 use async_task::{
-    Builder, Future, ParkedRunnable, Poll, Runnable, Schedule, ScheduleInfo, SpawnError, Task,
-    TaskWaker, spawn,
+    Builder, Future, ParkedRunnable, Poll, Runnable, Schedule, ScheduleInfo, Task, TaskWaker,
 };
 use linked_list_allocator::LocalHeap;
 use std::alloc::{AllocError, Global};
@@ -27,31 +26,42 @@ struct Tray<'heap, R: Wait + Drop> {
 type TrayRunnable<'x, 'heap, R> = Runnable<
     R,
     RowFuture,
-    Scheduler,
+    TrayScheduler,
     u64,
     Flag,
     &'x Tray<'heap, R>,
     &'heap LocalHeap,
 >;
+
 type TrayTask<'x, 'heap, R> = Task<
     R,
     RowFuture,
-    Scheduler,
+    TrayScheduler,
     u64,
     Flag,
     &'x Tray<'heap, R>,
     &'heap LocalHeap,
 >;
+
 type TrayWaker<'x, 'heap, R> = TaskWaker<
     R,
     RowFuture,
-    Scheduler,
+    TrayScheduler,
     u64,
     Flag,
     &'x Tray<'heap, R>,
     &'heap LocalHeap,
 >;
-type TrayParked<'heap, R> = ParkedRunnable<R, RowFuture, Scheduler, u64, Flag, &'heap LocalHeap>;
+
+type TrayParked<'heap, R> = ParkedRunnable<
+    R,
+    RowFuture,
+    TrayScheduler,
+    u64,
+    Flag,
+    &'heap LocalHeap,
+>;
+
 type TrayHandles<'x, 'heap, R> = (TrayRunnable<'x, 'heap, R>, TrayTask<'x, 'heap, R>);
 
 impl<'heap, R: Wait + Drop> Tray<'heap, R> {
@@ -91,11 +101,17 @@ impl<'heap, R: Wait + Drop> Drop for Tray<'heap, R> {
     }
 }
 
-impl<'x, 'heap, R: Wait + Drop> Schedule<TrayRunnable<'x, 'heap, R>> for Scheduler {
+// The schedule value: it counts as that of the rows does, and puts each Runnable on the tray.
+#[derive(Drop)]
+struct TrayScheduler {
+    inner: Scheduler,
+}
+
+impl<'x, 'heap, R: Wait + Drop> Schedule<TrayRunnable<'x, 'heap, R>> for TrayScheduler {
     ghost scheduled = { λ _ _ _. ⊤ };
 
     fn schedule(&self, runnable: TrayRunnable<'x, 'heap, R>, _info: ScheduleInfo) {
-        self.count_call();
+        self.inner.count_call();
         runnable.around().put(runnable.park());
     }
 }
@@ -108,40 +124,8 @@ impl<'x, 'heap, R: Wait + Drop> Future<TrayWaker<'x, 'heap, R>> for RowFuture {
     }
 }
 
-// What a spawn over a heap of that kind answers.
-type Spawned<'heap, R> = Result<
-    (
-        Runnable<R, RowFuture, Scheduler, (), Flag, (), &'heap LocalHeap>,
-        Task<R, RowFuture, Scheduler, (), Flag, (), &'heap LocalHeap>,
-    ),
-    SpawnError<(), RowFuture, Scheduler>,
->;
-
-// A spawn over a heap of that many blocks of 16 bytes: whether it had memory. One that had none must have handed back
-// the future and the schedule value, neither of them dropped, and must have freed what it took.
-fn spawn_in_blocks<R: Wait + Abort + Drop + Copy>(
-    rt: &R,
-    alloc: Global,
-    blocks: u16,
-) -> Result<bool, Fail> {
-    let counters = Arc::new(alloc, Counters::new())?;
-    let heap = LocalHeap::new(alloc, 16 * usize::from(blocks))?;
-    let future = RowFuture::new(Behaviour::Ready(4), Arc::try_clone(&counters)?);
-    let scheduler = Scheduler::new(Arc::try_clone(&counters)?);
-    let spawned: Spawned<'_, R> = spawn(*rt, &heap, future, scheduler, ());
-    assert_eq!(rt; counters.counts(), Counts::new(0, 0, 0, 0));
-    let Err(refused) = spawned else {
-        return Ok(true);
-    };
-    assert_eq!(rt; heap.used(), 0);
-    assert_eq!(rt; refused.maker.behaviour, Behaviour::Ready(4));
-    drop(refused);
-    assert_eq!(rt; counters.counts(), Counts::new(0, 0, 1, 1));
-    Ok(false)
-}
-
-// The same by a builder with metadata and a limit. One that had no memory must have handed them back, and the maker
-// uncalled.
+// A spawn over a heap of that many blocks of 16 bytes, by a builder with metadata and a limit: whether it had memory. One
+// that had none must have handed them back, with the maker uncalled, and must have freed what it took.
 fn build_in_blocks<R: Wait + Abort + Drop + Copy>(
     rt: &R,
     alloc: Global,
@@ -156,12 +140,14 @@ fn build_in_blocks<R: Wait + Abort + Drop + Copy>(
         calls.add_one();
         RowFuture::new(Behaviour::Ready(*number), shared)
     };
-    let scheduler = Scheduler::new(Arc::try_clone(&counters)?);
+    let scheduler = TrayScheduler {
+        inner: Scheduler::new(Arc::try_clone(&counters)?),
+    };
     let builder = Builder::new().metadata(7u64).reference_limit(5);
     let refused = match builder.spawn(*rt, &heap, maker, scheduler, &tray) {
         Ok((runnable, task)) => {
             assert_eq!(rt; calls.get(), 1);
-            hold(runnable, task);
+            drop((runnable, task));
             return Ok(true);
         }
         Err(refused) => refused,
@@ -175,24 +161,7 @@ fn build_in_blocks<R: Wait + Abort + Drop + Copy>(
     Ok(false)
 }
 
-// Drops the handles of a spawn that had memory.
-fn hold<R: Wait + Drop>(runnable: TrayRunnable<'_, '_, R>, task: TrayTask<'_, '_, R>) {
-    drop(runnable);
-    drop(task);
-}
-
 // Each heap has one block more than the one before, so each allocation of the spawn is the one that is refused in turn.
-#[test]
-fn a_refused_spawn_hands_everything_back(rt: HostRuntime) -> Result<(), Fail> {
-    for blocks in 1..1000u16 {
-        if spawn_in_blocks(&rt, rt.alloc(), blocks)? {
-            assert!(rt; 1 < blocks, "the smallest heap has no room");
-            return Ok(());
-        }
-    }
-    panic!(rt; "no heap has room")
-}
-
 #[test]
 fn a_refused_builder_hands_everything_back(rt: HostRuntime) -> Result<(), Fail> {
     for blocks in 1..1000u16 {
@@ -230,7 +199,9 @@ fn spawn_in<'x, 'heap, R: Wait + Drop + Copy>(
     behaviour: Behaviour,
 ) -> Result<TrayHandles<'x, 'heap, R>, AllocError> {
     let future = RowFuture::new(behaviour, Arc::try_clone(counters)?);
-    let scheduler = Scheduler::new(Arc::try_clone(counters)?);
+    let scheduler = TrayScheduler {
+        inner: Scheduler::new(Arc::try_clone(counters)?),
+    };
     Builder::new()
         .metadata(7)
         .spawn(tray.rt, heap, |_| future, scheduler, tray)
@@ -311,7 +282,10 @@ fn wakers_ask_for_no_memory(rt: HostRuntime) -> Result<(), Fail> {
     assert!(rt; !received.run());
     clone.wake();
     assert_eq!(rt; counters.counts(), Counts::new(2, 2, 0, 0));
-    assert!(rt; tray.receive().is_some_and(|received| !received.run()));
+    let Some(received) = tray.receive() else {
+        panic!(rt; "nothing was scheduled");
+    };
+    assert!(rt; !received.run());
     before.wake();
     waker.discard();
     assert_eq!(rt; counters.counts(), Counts::new(3, 3, 0, 0));

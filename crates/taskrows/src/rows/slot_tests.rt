@@ -35,16 +35,12 @@ impl<'x, R: Wait + Drop> Future<SlotWaker<'x, R>> for Yielding {
 struct LastFirst;
 
 // The handles of a task with a slot.
-type SlotRunnable<'x, R> = Runnable<
-    R,
-    Yielding,
-    WithInfo<LastFirst>,
-    u64,
-    Flag,
-    &'x Slots<R>,
->;
+type SlotRunnable<'x, R> = Runnable<R, Yielding, WithInfo<LastFirst>, u64, Flag, &'x Slots<R>>;
+
 type SlotTask<'x, R> = Task<R, Yielding, WithInfo<LastFirst>, u64, Flag, &'x Slots<R>>;
+
 type SlotWaker<'x, R> = TaskWaker<R, Yielding, WithInfo<LastFirst>, u64, Flag, &'x Slots<R>>;
+
 type SlotParked<R> = ParkedRunnable<R, Yielding, WithInfo<LastFirst>, u64, Flag>;
 
 // A slot of one Runnable, and the list beside it.

@@ -12,7 +12,9 @@ use std::thread::{Threads, yield_now};
 
 // How many threads wake, how often each does, and how often the runner looks at the queue at most.
 const THREADS: u64 = 4;
+
 const WAKES: u32 = 1_000;
+
 const TURNS: u32 = 10_000_000;
 
 // What each of the four threads does.
@@ -57,7 +59,7 @@ fn storm<'x, R: Wait + Threads + Drop + Copy + Send + Sync>(
     })
 }
 
-// No wake is lost, none is counted twice, and no two polls overlap.
+// Each Runnable that a wake hands over is polled once, and no two polls overlap.
 #[test]
 fn four_threads_wake_one_task(rt: HostRuntime) -> Result<(), Fail> {
     let fixture = Fixture::new(rt, rt.alloc())?;

@@ -189,7 +189,6 @@ impl Row {
             Row::LastRun => detaching::last_run(&fixture),
             Row::ClosedPoll => awaiting::closed_poll(&fixture),
             Row::RefusedClone => awaiting::refused_clone(&fixture),
-            Row::WakeDuringRun => racing::wake_during_run(&fixture),
             Row::CancelFuture => cancelling::cancel_future(&fixture),
             Row::Priorities => scheduling::priorities(&fixture),
             Row::AwaiterCompletes => awaiting::awaiter_completes(&fixture),
@@ -198,16 +197,29 @@ impl Row {
             Row::Sum => awaiting::sum(&fixture),
             Row::RunAndCancel => cancelling::run_and_cancel(&fixture),
             Row::DropInSchedule => scheduling::drop_in_schedule(&fixture),
-            Row::CancelDuringRun => racing::cancel_during_run(&fixture),
-            Row::WakeAndCancel => racing::wake_and_cancel(&fixture),
-            Row::CancelAndWake => racing::cancel_and_wake(&fixture),
-            Row::DetachDuringRun => racing::detach_during_run(&fixture),
-            Row::DropDuringRun => racing::drop_during_run(&fixture),
-            Row::PollDuringRun => racing::poll_during_run(&fixture),
             Row::CancelRefused => cancelling::cancel_refused(&fixture),
             Row::ClearQueue => scheduling::clear_queue(&fixture),
             Row::WakeIntoDrop => waking::wake_into_drop(&fixture),
             Row::DropInPoll => cancelling::drop_in_poll(&fixture),
+            _ => self.run_with_threads(&fixture),
+        }
+    }
+
+    // Runs one of the rows that need threads. Any other does not agree here.
+    fn run_with_threads<R>(self, fixture: &Fixture<R>) -> Result<Outcome, AllocError>
+    where
+        R: Wait + Threads + Drop + Copy + Send + Sync,
+        ensures { IfOk result (AgreesAs self) }
+    {
+        match self {
+            Row::WakeDuringRun => racing::wake_during_run(fixture),
+            Row::CancelDuringRun => racing::cancel_during_run(fixture),
+            Row::WakeAndCancel => racing::wake_and_cancel(fixture),
+            Row::CancelAndWake => racing::cancel_and_wake(fixture),
+            Row::DetachDuringRun => racing::detach_during_run(fixture),
+            Row::DropDuringRun => racing::drop_during_run(fixture),
+            Row::PollDuringRun => racing::poll_during_run(fixture),
+            _ => Ok(fixture.give_up()),
         }
     }
 }

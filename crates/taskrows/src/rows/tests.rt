@@ -1,12 +1,13 @@
 //! Tests of the program, and of calls that no row makes.
 
 use super::*;
-use crate::surroundings::Scheduler;
-use async_task::{Cell, TaskClosed, TaskPoll};
+use crate::surroundings::{BareRunnable, Scheduler};
+use async_task::{Cell, Kept, Party, Runnable, SpawnError, Task, TaskClosed, TaskPoll, spawn};
 use counters::{Counters, Counts};
 use fixture::Fixture;
 use flag::Flag;
 use future::{Behaviour, Output, RowFuture};
+use linked_list_allocator::LocalHeap;
 use std::process::Abort;
 use std::sync::Arc;
 use std::test::Fail;
@@ -184,8 +185,54 @@ fn a_polled_output_is_dropped_by_the_poller(rt: HostRuntime) -> Result<(), Fail>
     Ok(())
 }
 
-// A cell of the tests.
+// What a spawn over a heap of that kind answers.
+type Spawned<'heap, R> = Result<
+    (
+        Runnable<R, RowFuture, Scheduler, (), Flag, (), &'heap LocalHeap>,
+        Task<R, RowFuture, Scheduler, (), Flag, (), &'heap LocalHeap>,
+    ),
+    SpawnError<(), RowFuture, Scheduler>,
+>;
+
+// A spawn over a heap of that many blocks of 16 bytes: whether it had memory. One that had none must have handed back
+// the future and the schedule value, neither of them dropped, and must have freed what it took.
+fn spawn_in_blocks<R: Wait + Abort + Drop + Copy>(
+    rt: &R,
+    alloc: Global,
+    blocks: u16,
+) -> Result<bool, Fail> {
+    let counters = Arc::new(alloc, Counters::new())?;
+    let heap = LocalHeap::new(alloc, 16 * usize::from(blocks))?;
+    let future = RowFuture::new(Behaviour::Ready(4), Arc::try_clone(&counters)?);
+    let scheduler = Scheduler::new(Arc::try_clone(&counters)?);
+    let spawned: Spawned<'_, R> = spawn(*rt, &heap, future, scheduler, ());
+    assert_eq!(rt; counters.counts(), Counts::new(0, 0, 0, 0));
+    let Err(refused) = spawned else {
+        return Ok(true);
+    };
+    assert_eq!(rt; heap.used(), 0);
+    assert_eq!(rt; refused.maker.behaviour, Behaviour::Ready(4));
+    drop(refused);
+    assert_eq!(rt; counters.counts(), Counts::new(0, 0, 1, 1));
+    Ok(false)
+}
+
+// Each heap has one block more than the one before, so each allocation of the spawn is the one that is refused in turn.
+#[test]
+fn a_refused_spawn_hands_everything_back(rt: HostRuntime) -> Result<(), Fail> {
+    for blocks in 1..1000u16 {
+        if spawn_in_blocks(&rt, rt.alloc(), blocks)? {
+            assert!(rt; 1 < blocks, "the smallest heap has no room");
+            return Ok(());
+        }
+    }
+    panic!(rt; "no heap has room")
+}
+
+// A cell of the tests, and a party of it.
 type TestCell<R> = Cell<R, RowFuture, Scheduler, (), Flag, Global>;
+
+type TestParty = Party<RowFuture, Kept<RowFuture>, Flag>;
 
 // The calls of the cell itself, by two parties: its word after a spawn, and the last one, after the Runnable was dropped and the Task detached.
 #[test]
@@ -197,12 +244,15 @@ fn a_cell_ends_with_its_last_word(rt: HostRuntime) -> Result<(), Fail> {
     let Ok((cell, other, seat)) = made else {
         panic!(rt; "no memory");
     };
-    let (mut runnable, mut task) = cell.fill(seat, future);
+    let (mut runnable, mut task): (TestParty, TestParty) = cell.fill(seat, future);
     assert_eq!(rt; cell.word().bits(), 0x111);
     cell.discard_runnable(&mut runnable);
     runnable.let_go();
     assert_eq!(rt; cell.word().bits(), 0x18);
+    // What a detach may hand over is named, since a check reads no type that stands in a bound alone.
+    let handed_over: Option<BareRunnable<HostRuntime>> = None;
     Cell::detach(&cell, &mut task, ());
+    drop(handed_over);
     drop(other);
     let Some(last) = Arc::into_inner(cell) else {
         task.let_go();
