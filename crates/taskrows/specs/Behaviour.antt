@@ -2,7 +2,7 @@ use Rattle.std.specs.Prelude.{◌≡◌, ℕ, ◌+◌, Option, Some, None}
 use Rattle.task_core.specs.Poll.{IfReady}
 use Rattle.task_core.specs.declared.traits.Poll.{Poll}
 use Rattle.taskrows.specs.declared.rows.future.Behaviour.{Behaviour}
-use Rattle.taskrows.specs.declared.rows.future.Behaviour.TheVariants.{Ready, Pending, Sum, Keep, KeepPending}
+use Rattle.taskrows.specs.declared.rows.future.Behaviour.TheVariants.{Ready, Pending, Sum, Keep, KeepPending, DropTask}
 use Rattle.taskrows.specs.declared.rows.future.Output.{Output}
 
 -- the number that a future answers, if it ever is ready
@@ -12,6 +12,7 @@ answer_of Pending = None
 answer_of (Sum first second) = Some (first + second)
 answer_of (Keep number) = Some number
 answer_of KeepPending = None
+answer_of (DropTask number) = Some number
 
 -- a poll's output is the number that the future answers, and the future behaves as before
 abbrev pub IsPolled : Behaviour → Poll Output → Behaviour → Type 0

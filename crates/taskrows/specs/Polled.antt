@@ -1,4 +1,4 @@
-use Rattle.std.specs.Prelude.{◌≡◌, ℕ, Result, Ok, Err}
+use Rattle.std.specs.Prelude.{◌≡◌, ℕ, Option, Some, None, Result, Ok, Err}
 use Rattle.task_core.specs.declared.traits.TaskPoll.{TaskPoll}
 use Rattle.task_core.specs.declared.traits.TaskPoll.TheVariants.{Pending, Ready, NoMemory}
 use Rattle.taskrows.specs.declared.rows.future.Output.{Output}
@@ -9,3 +9,10 @@ IsReadyWith (Ready (Ok output)) number = output.number ≡ number
 IsReadyWith (Ready (Err closed)) number = ⊥
 IsReadyWith Pending number = ⊥
 IsReadyWith NoMemory number = ⊥
+
+-- a poll of a Cancel or of a FallibleTask answered ready with that number
+abbrev pub IsSomeWith : TaskPoll (Option Output) → ℕ → Type 0
+IsSomeWith (Ready (Some output)) number = output.number ≡ number
+IsSomeWith (Ready None) number = ⊥
+IsSomeWith Pending number = ⊥
+IsSomeWith NoMemory number = ⊥

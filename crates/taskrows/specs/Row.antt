@@ -1,4 +1,5 @@
 use Rattle.std.specs.Prelude.{◌≡◌, ℕ, IsTrue}
+use Rattle.taskrows.specs.declared.rows.counters.Counts.{Counts}
 use Rattle.taskrows.specs.declared.rows.fixture.Outcome.{Outcome}
 use Rattle.taskrows.specs.declared.rows.table.Row.{Row}
 use Rattle.taskrows.specs.declared.rows.table.Row.TheVariants.{DropAndDetach, DetachAndDrop, DetachAndRun, RunAndDetach}
@@ -6,32 +7,57 @@ use Rattle.taskrows.specs.declared.rows.table.Row.TheVariants.{CancelAndRun, Can
 use Rattle.taskrows.specs.declared.rows.table.Row.TheVariants.{AwaiterCompletes, AwaiterOrphan, ScheduleCounter, Sum}
 use Rattle.taskrows.specs.declared.rows.table.Row.TheVariants.{Waker, WakerClone, WakerWake, WakeDropped, DropLastWaker}
 use Rattle.taskrows.specs.declared.rows.table.Row.TheVariants.{WakeDuringRun, CancelDuringRun}
+use Rattle.taskrows.specs.declared.rows.table.Row.TheVariants.{Limit, ClosedPoll, CancelFuture, Priorities, RunAndCancel, DropInSchedule}
+use Rattle.taskrows.specs.declared.rows.table.Row.TheVariants.{WakeAndCancel, CancelAndWake, DetachDuringRun, DropDuringRun, PollDuringRun}
+use Rattle.taskrows.specs.declared.rows.table.Row.TheVariants.{CancelRefused, ClearQueue, WakeIntoDrop, DropInPoll}
 
--- a row that agrees ends with these polls, schedule calls, drops of the future and drops of the schedule value
+-- these polls, schedule calls, drops of the future and drops of the schedule value
+abbrev pub counts : ℕ → ℕ → ℕ → ℕ → Counts
+counts polls schedules futures schedulers =
+    record { polls = polls; schedules = schedules; future_drops = futures; scheduler_drops = schedulers }
+
+-- the numbers that the table of the rows has for a row
+abbrev pub counts_of : Row → Counts
+counts_of DropAndDetach = counts 0 0 1 1
+counts_of DetachAndDrop = counts 0 0 1 1
+counts_of DetachAndRun = counts 1 0 1 1
+counts_of RunAndDetach = counts 1 0 1 1
+counts_of CancelAndRun = counts 0 0 1 1
+counts_of CancelJoin = counts 1 0 1 1
+counts_of Waker = counts 2 2 0 0
+counts_of WakerClone = counts 2 1 1 1
+counts_of WakerWake = counts 2 1 1 1
+counts_of WakeDropped = counts 1 1 1 1
+counts_of DropLastWaker = counts 1 1 1 1
+counts_of Limit = counts 1 1 0 0
+counts_of LastRun = counts 1 1 1 1
+counts_of ClosedPoll = counts 0 0 1 0
+counts_of RefusedClone = counts 1 0 1 0
+counts_of WakeDuringRun = counts 1 1 0 0
+counts_of CancelFuture = counts 0 0 1 0
+counts_of Priorities = counts 3 3 3 0
+counts_of AwaiterCompletes = counts 1 0 1 1
+counts_of AwaiterOrphan = counts 1 1 1 1
+counts_of ScheduleCounter = counts 0 3 0 0
+counts_of Sum = counts 1 0 1 0
+counts_of RunAndCancel = counts 1 0 1 1
+counts_of DropInSchedule = counts 0 1 1 0
+counts_of CancelDuringRun = counts 2 1 1 1
+counts_of WakeAndCancel = counts 2 1 1 1
+counts_of CancelAndWake = counts 2 1 1 1
+counts_of DetachDuringRun = counts 1 0 1 1
+counts_of DropDuringRun = counts 1 0 1 1
+counts_of PollDuringRun = counts 1 0 1 0
+counts_of CancelRefused = counts 0 0 1 0
+counts_of ClearQueue = counts 0 3 3 0
+counts_of WakeIntoDrop = counts 1 1 1 1
+counts_of DropInPoll = counts 1 0 1 1
+
+-- a row that agrees ends with these numbers
 abbrev pub AgreesAt : ℕ → ℕ → ℕ → ℕ → Outcome → Type 0
 AgreesAt polls schedules futures schedulers outcome =
-    IsTrue outcome.agrees
-    → outcome.counts
-    ≡ record { polls = polls; schedules = schedules; future_drops = futures; scheduler_drops = schedulers }
+    IsTrue outcome.agrees → outcome.counts ≡ counts polls schedules futures schedulers
 
 -- a row that agrees ends with the numbers that the table of the rows has for it
 abbrev pub AgreesAs : Row → Outcome → Type 0
-AgreesAs DropAndDetach = AgreesAt 0 0 1 1
-AgreesAs DetachAndDrop = AgreesAt 0 0 1 1
-AgreesAs DetachAndRun = AgreesAt 1 0 1 1
-AgreesAs RunAndDetach = AgreesAt 1 0 1 1
-AgreesAs CancelAndRun = AgreesAt 0 0 1 1
-AgreesAs CancelJoin = AgreesAt 1 0 1 1
-AgreesAs Waker = AgreesAt 2 2 0 0
-AgreesAs WakerClone = AgreesAt 2 1 1 1
-AgreesAs WakerWake = AgreesAt 2 1 1 1
-AgreesAs WakeDropped = AgreesAt 1 1 1 1
-AgreesAs DropLastWaker = AgreesAt 1 1 1 1
-AgreesAs LastRun = AgreesAt 1 1 1 1
-AgreesAs RefusedClone = AgreesAt 1 0 1 0
-AgreesAs WakeDuringRun = AgreesAt 1 1 0 0
-AgreesAs AwaiterCompletes = AgreesAt 1 0 1 1
-AgreesAs AwaiterOrphan = AgreesAt 1 1 1 1
-AgreesAs ScheduleCounter = AgreesAt 0 3 0 0
-AgreesAs Sum = AgreesAt 1 0 1 0
-AgreesAs CancelDuringRun = AgreesAt 2 1 1 1
+AgreesAs row outcome = IsTrue outcome.agrees → outcome.counts ≡ counts_of row

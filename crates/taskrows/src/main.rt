@@ -1,6 +1,7 @@
 //! The worked rows of the task cell: short sequences of calls whose counters and answers are known, run and printed.
 #![tactic(auto)]
 
+mod priorities;
 mod rows;
 mod surroundings;
 

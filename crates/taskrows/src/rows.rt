@@ -13,6 +13,7 @@ pub mod future;
 mod racing;
 pub mod rendezvous;
 mod scheduling;
+mod shown;
 mod table;
 mod waking;
 
@@ -120,6 +121,16 @@ fn print_row<W: io::Write>(
     Ok(outcome.agrees)
 }
 
+#[cfg(test)]
+mod builder_tests;
+#[cfg(test)]
+mod heap_tests;
+#[cfg(test)]
+mod slot_tests;
+#[cfg(test)]
+mod storm_tests;
+#[cfg(test)]
+mod task_tests;
 #[cfg(test)]
 mod tests;
 #[cfg(test)]

@@ -1,4 +1,4 @@
-//! The surroundings of a row's task: the queue of its Runnables, the store of a waker, and the schedule value that pushes to the queue.
+//! The surroundings of a row's task: the queue of its Runnables, the stores of a waker and of a Task, and the schedule value that pushes to the queue.
 ghost use Rattle.std.specs.Prelude.{⊤, ◌≡◌};
 
 use crate::rows::counters::Counters;
@@ -6,7 +6,8 @@ use crate::rows::flag::Flag;
 use crate::rows::future::RowFuture;
 use crate::rows::rendezvous::Rendezvous;
 use async_task::{
-    ParkedRunnable, ParkedWaker, Runnable, Schedule, ScheduleInfo, Task, TaskWaker, Wake,
+    ParkedRunnable, ParkedTask, ParkedWaker, Runnable, Schedule, ScheduleInfo, Task, TaskWaker,
+    Wake,
 };
 use std::alloc::{AllocError, Allocator, Global};
 use std::collections::VecDeque;
@@ -22,6 +23,15 @@ pub type RowTask<'x, R> = Task<R, RowFuture, Scheduler, (), Flag, &'x Surroundin
 /// A waker of the rows.
 pub type RowWaker<'x, R> = TaskWaker<R, RowFuture, Scheduler, (), Flag, &'x Surroundings<R>>;
 
+/// A Runnable without surroundings, which its schedule value drops.
+pub type BareRunnable<R> = Runnable<R, RowFuture, Scheduler, (), Flag, ()>;
+
+/// A Task without surroundings.
+pub type BareTask<R> = Task<R, RowFuture, Scheduler, (), Flag, ()>;
+
+// A Runnable of the rows as the queue holds it.
+type QueuedRunnable<R> = ParkedRunnable<R, RowFuture, Scheduler, (), Flag>;
+
 /// The schedule value of the rows: it counts its calls and its drop, and pushes to the queue of the surroundings.
 pub struct Scheduler {
     counters: Arc<Counters>,
@@ -33,6 +43,11 @@ impl Scheduler {
         ensures { result.counters ≡ counters }
     {
         Scheduler { counters }
+    }
+
+    /// Counts a call.
+    pub fn count_call(&self) {
+        self.counters.schedules.add_one();
     }
 }
 
@@ -48,7 +63,7 @@ impl<'x, R: Wait + Drop> Schedule<RowRunnable<'x, R>> for Scheduler {
     ghost scheduled = { λ _ _ _. ⊤ };
 
     fn schedule(&self, runnable: RowRunnable<'x, R>, info: ScheduleInfo) {
-        self.counters.schedules.add_one();
+        self.count_call();
         let surroundings = runnable.around();
         surroundings.note(info);
         surroundings.push(runnable);
@@ -66,24 +81,29 @@ impl<R: Wait + Drop, A: Wake, B: Allocator> Schedule<
         runnable: Runnable<R, RowFuture, Scheduler, (), A, (), B>,
         _info: ScheduleInfo,
     ) {
-        self.counters.schedules.add_one();
+        self.count_call();
         drop(runnable);
+        if self.counters.scheduler_drops.get() == 0 {
+            self.counters.undropped_ends.add_one();
+        }
     }
 }
 
-/// What schedule values and futures reach by their handles: the queue, what each call was told, the store, and the
-/// meeting of a poll with a second thread. Handles are parked in the queue and in the store.
+/// What schedule values and futures reach by their handles: the queue, what each call was told, the stores of a waker and
+/// of a Task, and the meeting of a poll with a second thread. Handles are parked in the queue and in the stores.
 pub struct Surroundings<R: Wait + Drop> {
     /// Where a poll meets a second thread.
     pub rendezvous: Rendezvous,
     rt: R,
-    queue: Mutex<VecDeque<ParkedRunnable<R, RowFuture, Scheduler, (), Flag>>>,
+    alloc: Global,
+    queue: Mutex<VecDeque<QueuedRunnable<R>>>,
     infos: Mutex<Vec<bool>>,
     kept: Mutex<Option<ParkedWaker<R, RowFuture, Scheduler, (), Flag>>>,
+    task: Mutex<Option<ParkedTask<R, RowFuture, Scheduler, (), Flag>>>,
 }
 
 impl<R: Wait + Drop> Surroundings<R> {
-    /// Surroundings with room for that many Runnables and infos, and with an empty store.
+    /// Surroundings with room for that many Runnables and infos, and with empty stores.
     pub fn new(rt: R, alloc: Global, room: usize) -> Result<Surroundings<R>, AllocError> {
         let infos = Vec::with_capacity(alloc, room)?;
         let mut queue = VecDeque::new(alloc);
@@ -91,9 +111,11 @@ impl<R: Wait + Drop> Surroundings<R> {
             Ok(()) => Ok(Surroundings {
                 rendezvous: Rendezvous::new(),
                 rt,
+                alloc,
                 queue: Mutex::new(queue),
                 infos: Mutex::new(infos),
                 kept: Mutex::new(None),
+                task: Mutex::new(None),
             }),
             Err(refused) => {
                 queue.destroy_empty();
@@ -125,6 +147,16 @@ impl<R: Wait + Drop> Surroundings<R> {
     /// Receives a Runnable and runs it: what the run answers, or `None` where the queue is empty.
     pub fn run_next(&self) -> Option<bool> {
         Some(self.receive()?.run())
+    }
+
+    /// Drops all Runnables of the queue, which cancels their tasks. The room that was taken for them goes too.
+    pub fn clear(&self) {
+        let taken = {
+            let mut queue = self.queue.lock(&self.rt);
+            mem::replace(&mut *queue, VecDeque::new(self.alloc))
+        };
+        // The lock is released: the drop of a Runnable drops a future and may wake an awaiter.
+        drop_queued(taken, self);
     }
 
     /// The number of Runnables in the queue.
@@ -168,26 +200,54 @@ impl<R: Wait + Drop> Surroundings<R> {
         waker.wake();
         true
     }
+
+    /// Keeps a Task, and drops the one that was there.
+    pub fn keep_task<'x>(&'x self, task: RowTask<'x, R>) {
+        let parked = task.park();
+        let previous = {
+            let mut kept = self.task.lock(&self.rt);
+            mem::replace(&mut *kept, Some(parked))
+        };
+        // The lock is released: the drop of a Task may hand a Runnable over.
+        if let Some(previous) = previous {
+            drop(previous.unpark(self));
+        }
+    }
+
+    /// Takes the Task that was kept.
+    pub fn take_task(&self) -> Option<RowTask<'_, R>> {
+        let parked = self.task.lock(&self.rt).take()?;
+        Some(parked.unpark(self))
+    }
 }
 
-// A parked handle cannot be dropped: what is left in the store and in the queue is unparked first.
+// Unparks and drops these Runnables, the one that has waited longest first.
+fn drop_queued<R: Wait + Drop, X: Copy>(mut queued: VecDeque<QueuedRunnable<R>>, around: X) {
+    while let Some(parked) = queued.pop_front() {
+        drop(parked.unpark(around));
+    }
+    queued.destroy_empty();
+}
+
+// A parked handle cannot be dropped: what is left in the stores and in the queue is unparked first.
 impl<R: Wait + Drop> Drop for Surroundings<R> {
     fn drop(self) {
         let Surroundings {
             rendezvous,
             rt,
+            alloc: _,
             queue,
             infos,
             kept,
+            task,
         } = self;
         if let Some(parked) = kept.into_inner() {
             drop(parked.unpark(()));
         }
-        let mut queue = queue.into_inner();
-        while let Some(parked) = queue.pop_front() {
+        if let Some(parked) = task.into_inner() {
             drop(parked.unpark(()));
         }
-        queue.destroy_empty();
+        drop_queued(queue.into_inner(), ());
         drop(infos);
         drop(rendezvous);
         drop(rt);

@@ -1,6 +1,6 @@
 //! The rows in which a Task is polled.
 ghost use Rattle.std.specs.Prelude.{◌≡◌, ◌↔◌, IsTrue, IfOk};
-ghost use Rattle.taskrows.specs.Polled.{IsReadyWith};
+ghost use Rattle.taskrows.specs.Polled.{IsReadyWith, IsSomeWith};
 ghost use Rattle.taskrows.specs.Row.{AgreesAt};
 
 use crate::rows::counters::Counts;
@@ -10,12 +10,22 @@ use async_task::{TaskClosed, TaskPoll};
 use std::alloc::AllocError;
 use std::sync::Wait;
 
-// Whether a Task's poll answered ready with that number.
-fn is_ready_with(polled: &TaskPoll<Result<Output, TaskClosed>>, number: u64) -> bool
+/// Whether a Task's poll answered ready with that number.
+pub fn is_ready_with(polled: &TaskPoll<Result<Output, TaskClosed>>, number: u64) -> bool
     ensures { IsTrue result ↔ IsReadyWith polled.now number }
 {
     match polled {
         TaskPoll::Ready(Ok(output)) => output.number == number,
+        _ => false,
+    }
+}
+
+/// Whether a poll of a Cancel or of a FallibleTask answered ready with that number.
+pub fn is_some_with(polled: &TaskPoll<Option<Output>>, number: u64) -> bool
+    ensures { IsTrue result ↔ IsSomeWith polled.now number }
+{
+    match polled {
+        TaskPoll::Ready(Some(output)) => output.number == number,
         _ => false,
     }
 }
@@ -36,6 +46,28 @@ pub fn cancel_join<R: Wait + Drop + Copy>(fixture: &Fixture<R>) -> Result<Outcom
     Ok(fixture.end(agrees, Counts::new(1, 0, 1, 1)))
 }
 
+/// The Runnable is dropped, which closes the task and wakes the awaiter: each later poll answers that no output will come.
+pub fn closed_poll<R: Wait + Drop + Copy>(fixture: &Fixture<R>) -> Result<Outcome, AllocError>
+    ensures { IfOk result (AgreesAt 0 0 1 0) }
+{
+    let flag = fixture.flag(1)?;
+    let (runnable, mut task) = fixture.spawn(Behaviour::Ready(1))?;
+    let waits = matches!(task.poll(&flag), TaskPoll::Pending) && flag.wakes() == 0;
+    drop(runnable);
+    let woken = flag.wakes() == 1;
+    let finished = task.is_finished();
+    let closed = matches!(task.poll(&flag), TaskPoll::Ready(Err(TaskClosed)));
+    let still_closed = matches!(task.poll(&flag), TaskPoll::Ready(Err(TaskClosed)));
+    let mut fallible = task.fallible();
+    let empty = matches!(fallible.poll(&flag), TaskPoll::Ready(None));
+    let still_empty = matches!(fallible.poll(&flag), TaskPoll::Ready(None));
+    let over = closed && still_closed && empty && still_empty;
+    let agrees = waits && woken && finished && over && flag.wakes() == 1;
+    let outcome = fixture.end(agrees, Counts::new(0, 0, 1, 0));
+    drop(fallible);
+    Ok(outcome)
+}
+
 /// A second poll whose clone is refused leaves the stored awaiter, which the run then wakes.
 pub fn refused_clone<R: Wait + Drop + Copy>(fixture: &Fixture<R>) -> Result<Outcome, AllocError>
     ensures { IfOk result (AgreesAt 1 0 1 0) }
@@ -46,9 +78,11 @@ pub fn refused_clone<R: Wait + Drop + Copy>(fixture: &Fixture<R>) -> Result<Outc
     let (runnable, mut task) = fixture.spawn(Behaviour::Ready(1))?;
     let waits = matches!(task.poll(&stored), TaskPoll::Pending);
     let refused = matches!(task.poll(&refusing), TaskPoll::NoMemory) && stored.wakes() == 0;
+    let unchanged = fixture.shows(&task, 0x131)?;
     runnable.run();
     let woken = stored.wakes() == 1 && refusing.wakes() == 0;
-    let outcome = fixture.end(waits && refused && woken, Counts::new(1, 0, 1, 0));
+    let agrees = waits && refused && unchanged && woken;
+    let outcome = fixture.end(agrees, Counts::new(1, 0, 1, 0));
     drop(task);
     Ok(outcome)
 }

@@ -2,7 +2,7 @@
 ghost use Rattle.std.specs.Prelude.{◌≡◌};
 
 use std::fmt;
-use std::sync::atomic::{AtomicU64, Ordering};
+use std::sync::atomic::{AtomicBool, AtomicU64, Ordering};
 
 /// A number that goes up one by one.
 #[derive(Drop)]
@@ -42,6 +42,11 @@ pub struct Counters {
     pub scheduler_drops: Counter,
     /// Drops of outputs.
     pub output_drops: Counter,
+    /// Calls of schedule values that dropped their Runnable and ended before any schedule value was dropped.
+    pub undropped_ends: Counter,
+    /// Polls that began while another poll was under way.
+    pub overlaps: Counter,
+    polling: AtomicBool,
 }
 
 impl Counters {
@@ -53,7 +58,23 @@ impl Counters {
             future_drops: Counter::new(),
             scheduler_drops: Counter::new(),
             output_drops: Counter::new(),
+            undropped_ends: Counter::new(),
+            overlaps: Counter::new(),
+            polling: AtomicBool::new(false),
         }
+    }
+
+    /// Counts a poll that begins.
+    pub fn begin_poll(&self) {
+        self.polls.add_one();
+        if self.polling.swap(true, Ordering::SeqCst) {
+            self.overlaps.add_one();
+        }
+    }
+
+    /// Notes that a poll ends.
+    pub fn end_poll(&self) {
+        self.polling.store(false, Ordering::SeqCst);
     }
 
     /// The four numbers that a row prints.

@@ -1,12 +1,15 @@
 //! What each row works with, and what it answers.
 ghost use Rattle.std.specs.Prelude.{◌≡◌, ◌↔◌, IsTrue, IfOk, false};
 
+use crate::priorities::{Priorities, PriorityRunnable, PriorityScheduler, PriorityTask};
 use crate::rows::counters::{Counters, Counts};
 use crate::rows::flag::Flag;
 use crate::rows::future::{Behaviour, RowFuture};
-use crate::surroundings::{RowRunnable, RowTask, Scheduler, Surroundings};
-use async_task::spawn;
+use crate::rows::shown;
+use crate::surroundings::{BareRunnable, BareTask, RowRunnable, RowTask, Scheduler, Surroundings};
+use async_task::{Builder, spawn};
 use std::alloc::{AllocError, Global};
+use std::fmt;
 use std::sync::{Arc, Wait};
 
 // Room in the queue: more than any row needs.
@@ -15,7 +18,7 @@ const ROOM: usize = 8;
 /// Surroundings of a row's own, and its counters.
 #[derive(Drop)]
 pub struct Fixture<R: Wait + Drop> {
-    /// The queue and the store of the row.
+    /// The queue and the stores of the row.
     pub surroundings: Surroundings<R>,
     /// What the row may wait by, and start threads by.
     pub rt: R,
@@ -24,7 +27,7 @@ pub struct Fixture<R: Wait + Drop> {
 }
 
 impl<R: Wait + Drop + Copy> Fixture<R> {
-    /// Surroundings with an empty queue and an empty store, and counters at zero.
+    /// Surroundings with an empty queue and empty stores, and counters at zero.
     pub fn new(rt: R, alloc: Global) -> Result<Fixture<R>, AllocError> {
         let surroundings = Surroundings::new(rt, alloc, ROOM)?;
         let counters = Arc::new(alloc, Counters::new())?;
@@ -41,9 +44,67 @@ impl<R: Wait + Drop + Copy> Fixture<R> {
         &self,
         behaviour: Behaviour,
     ) -> Result<(RowRunnable<'_, R>, RowTask<'_, R>), AllocError> {
+        let (future, scheduler) = self.counted(behaviour)?;
+        spawn(self.rt, self.alloc, future, scheduler, &self.surroundings).map_err(|_| AllocError)
+    }
+
+    /// Spawns a task whose future behaves like that, and which may have that many references.
+    pub fn spawn_limited(
+        &self,
+        behaviour: Behaviour,
+        references: u64,
+    ) -> Result<(RowRunnable<'_, R>, RowTask<'_, R>), AllocError> {
+        let (future, scheduler) = self.counted(behaviour)?;
+        Builder::new()
+            .reference_limit(references)
+            .spawn(
+                self.rt,
+                self.alloc,
+                |_| future,
+                scheduler,
+                &self.surroundings,
+            )
+            .map_err(|_| AllocError)
+    }
+
+    /// Spawns a task without surroundings, whose future behaves like that and whose schedule value drops each Runnable.
+    pub fn spawn_bare(
+        &self,
+        behaviour: Behaviour,
+    ) -> Result<(BareRunnable<R>, BareTask<R>), AllocError> {
+        let (future, scheduler) = self.counted(behaviour)?;
+        spawn(self.rt, self.alloc, future, scheduler, ()).map_err(|_| AllocError)
+    }
+
+    /// Spawns a task of that priority, whose future answers the priority.
+    pub fn spawn_prior<'x>(
+        &self,
+        priorities: &'x Priorities<R>,
+        priority: u64,
+    ) -> Result<(PriorityRunnable<'x, R>, PriorityTask<'x, R>), AllocError> {
+        let (future, scheduler) = self.counted(Behaviour::Ready(priority))?;
+        let scheduler = PriorityScheduler::new(scheduler);
+        Builder::new()
+            .metadata(priority)
+            .spawn(self.rt, self.alloc, |_| future, scheduler, priorities)
+            .map_err(|_| AllocError)
+    }
+
+    // A future that behaves like that, and a schedule value, which count here.
+    fn counted(&self, behaviour: Behaviour) -> Result<(RowFuture, Scheduler), AllocError> {
         let future = RowFuture::new(behaviour, Arc::try_clone(&self.counters)?);
         let scheduler = Scheduler::new(Arc::try_clone(&self.counters)?);
-        spawn(self.rt, self.alloc, future, scheduler, &self.surroundings).map_err(|_| AllocError)
+        Ok((future, scheduler))
+    }
+
+    /// An empty queue in order of priority, with room for that many Runnables.
+    pub fn priorities(&self, room: usize) -> Result<Priorities<R>, AllocError> {
+        Priorities::new(self.rt, self.alloc, room)
+    }
+
+    /// Whether a Runnable or Task without metadata shows the flags and the count of that word.
+    pub fn shows<H: fmt::Debug>(&self, handle: &H, word: u64) -> Result<bool, AllocError> {
+        shown::shows(self.alloc, handle, word)
     }
 
     /// An awaiter of that number.
@@ -61,6 +122,16 @@ impl<R: Wait + Drop + Copy> Fixture<R> {
     /// The number of outputs that were dropped.
     pub fn output_drops(&self) -> u64 {
         self.counters.output_drops.get()
+    }
+
+    /// The number of polls that began while another poll was under way.
+    pub fn overlaps(&self) -> u64 {
+        self.counters.overlaps.get()
+    }
+
+    /// The number of calls of schedule values that dropped their Runnable and ended before any schedule value was dropped.
+    pub fn undropped_ends(&self) -> u64 {
+        self.counters.undropped_ends.get()
     }
 
     /// The row's end: it agrees where what it saw did, and where its counters are the expected ones.

@@ -2,9 +2,10 @@
 ghost use Rattle.std.specs.Prelude.{◌≡◌};
 ghost use Rattle.task_core.specs.Poll.{IfReady};
 
+use crate::priorities::PriorityWaker;
 use crate::rows::counters::Counters;
-use crate::surroundings::RowWaker;
-use async_task::{Future, Poll, Yields};
+use crate::surroundings::{RowWaker, Scheduler};
+use async_task::{Future, Poll, TaskWaker, Wake, Yields};
 use std::mem;
 use std::sync::{Arc, Wait};
 
@@ -21,12 +22,19 @@ pub enum Behaviour {
     Keep(u64),
     /// At each poll it keeps a clone of the waker. It always answers pending.
     KeepPending,
+    /// It drops the Task that was kept, and answers ready, with this number.
+    DropTask(u64),
 }
 
 impl Behaviour {
     // Whether each poll keeps a clone of the waker.
     fn keeps_waker(self) -> bool {
         matches!(self, Behaviour::Keep(_) | Behaviour::KeepPending)
+    }
+
+    // Whether each poll drops the Task that was kept.
+    fn drops_task(self) -> bool {
+        matches!(self, Behaviour::DropTask(_))
     }
 }
 
@@ -52,18 +60,27 @@ impl RowFuture {
         }
     }
 
-    /// Counts a poll and answers it.
-    pub fn answer(&mut self) -> Poll<Output>
+    // What a poll answers.
+    fn answer(&mut self) -> Poll<Output>
         ensures { IsPolled self.old.behaviour result self.new.behaviour }
     {
-        self.counters.polls.add_one();
         let again = mem::replace(&mut self.polled, true);
         match self.behaviour {
-            Behaviour::Ready(number) => self.ready(number),
+            Behaviour::Ready(number) | Behaviour::DropTask(number) => self.ready(number),
             Behaviour::Sum(first, second) => self.ready(u64::from(first) + u64::from(second)),
             Behaviour::Keep(number) if again => self.ready(number),
             Behaviour::Pending | Behaviour::Keep(_) | Behaviour::KeepPending => Poll::Pending,
         }
+    }
+
+    /// A poll that does nothing but answer.
+    pub fn answer_alone(&mut self) -> Poll<Output>
+        ensures { IsPolled self.old.behaviour result self.new.behaviour }
+    {
+        self.counters.begin_poll();
+        let answer = self.answer();
+        self.counters.end_poll();
+        answer
     }
 
     // Ready with that number. Where the counters cannot be shared once more it is pending, and no row agrees with that.
@@ -99,13 +116,40 @@ impl<'x, R: Wait + Drop> Future<RowWaker<'x, R>> for RowFuture {
     ghost polled = { λ old _ answer new. IsPolled old.behaviour answer new.behaviour };
 
     fn poll(&mut self, waker: &RowWaker<'x, R>) -> Poll<Output> {
+        self.counters.begin_poll();
         let answer = self.answer();
         let surroundings = waker.around();
         if self.behaviour.keeps_waker() {
             surroundings.keep(waker);
         }
+        if self.behaviour.drops_task() {
+            drop(surroundings.take_task());
+        }
         surroundings.rendezvous.meet();
+        self.counters.end_poll();
         answer
+    }
+}
+
+impl<'x, R: Wait + Drop> Future<PriorityWaker<'x, R>> for RowFuture {
+    ghost use Rattle.taskrows.specs.Behaviour.{IsPolled};
+
+    ghost polled = { λ old _ answer new. IsPolled old.behaviour answer new.behaviour };
+
+    // There are no stores and no meeting by the side of a queue in order of priority.
+    fn poll(&mut self, _waker: &PriorityWaker<'x, R>) -> Poll<Output> {
+        self.answer_alone()
+    }
+}
+
+impl<R: Wait + Drop, A: Wake> Future<TaskWaker<R, RowFuture, Scheduler, (), A, ()>> for RowFuture {
+    ghost use Rattle.taskrows.specs.Behaviour.{IsPolled};
+
+    ghost polled = { λ old _ answer new. IsPolled old.behaviour answer new.behaviour };
+
+    // Where a waker carries no surroundings, there are no stores and no meeting.
+    fn poll(&mut self, _waker: &TaskWaker<R, RowFuture, Scheduler, (), A, ()>) -> Poll<Output> {
+        self.answer_alone()
     }
 }
 

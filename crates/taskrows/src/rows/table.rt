@@ -33,12 +33,20 @@ pub enum Row {
     WakeDropped = 10,
     /// The drop of the last waker of a detached task that is pending.
     DropLastWaker = 11,
+    /// A waker beyond the limit of references.
+    Limit = 12,
     /// `detach`, then a run that ends pending.
     LastRun = 13,
+    /// Polls of a Task whose Runnable was dropped.
+    ClosedPoll = 14,
     /// A poll whose awaiter refuses to be cloned, after one that stored another awaiter.
     RefusedClone = 15,
     /// A wake by another thread during a poll.
     WakeDuringRun = 16,
+    /// A Cancel that is polled before the run and after it.
+    CancelFuture = 17,
+    /// Three tasks with metadata, run in the order of it.
+    Priorities = 18,
     /// A poll of the Task, `detach`, and a run that completes.
     AwaiterCompletes = 21,
     /// A poll of the Task, `detach`, and a run that ends pending.
@@ -47,15 +55,37 @@ pub enum Row {
     ScheduleCounter = 23,
     /// A future that adds, and a poll of its Task.
     Sum = 24,
+    /// A run that completes, then a Cancel that is polled.
+    RunAndCancel = 25,
+    /// A schedule value that drops the Runnable.
+    DropInSchedule = 26,
     /// The Task's drop by another thread during a poll.
     CancelDuringRun = 27,
+    /// A wake and then the Task's drop, by another thread during a poll.
+    WakeAndCancel = 29,
+    /// The Task's drop and then a wake, by another thread during a poll.
+    CancelAndWake = 30,
+    /// `detach` by another thread during a poll that answers ready.
+    DetachDuringRun = 31,
+    /// The Task's drop by another thread during a poll that answers ready.
+    DropDuringRun = 32,
+    /// A poll of the Task by another thread during a poll of the future.
+    PollDuringRun = 33,
+    /// A Cancel whose awaiter refuses to be cloned.
+    CancelRefused = 34,
+    /// Three Runnables that are dropped out of the queue.
+    ClearQueue = 35,
+    /// A wake whose Runnable the schedule value drops.
+    WakeIntoDrop = 36,
+    /// A poll that drops the Task.
+    DropInPoll = 37,
 }
 
 impl Row {
     ghost use Rattle.taskrows.specs.Row.{AgreesAs};
 
     /// The rows of a run without arguments, in order of number.
-    pub const ALL: [Row; 17] = [
+    pub const ALL: [Row; 27] = [
         Row::DropAndDetach,
         Row::DetachAndDrop,
         Row::DetachAndRun,
@@ -67,16 +97,34 @@ impl Row {
         Row::WakerWake,
         Row::WakeDropped,
         Row::DropLastWaker,
+        Row::Limit,
         Row::LastRun,
+        Row::ClosedPoll,
         Row::RefusedClone,
+        Row::CancelFuture,
+        Row::Priorities,
         Row::AwaiterCompletes,
         Row::AwaiterOrphan,
         Row::ScheduleCounter,
         Row::Sum,
+        Row::RunAndCancel,
+        Row::DropInSchedule,
+        Row::CancelRefused,
+        Row::ClearQueue,
+        Row::WakeIntoDrop,
+        Row::DropInPoll,
     ];
 
     /// The rows that need threads, in order of number.
-    pub const THREADS: [Row; 2] = [Row::WakeDuringRun, Row::CancelDuringRun];
+    pub const THREADS: [Row; 7] = [
+        Row::WakeDuringRun,
+        Row::CancelDuringRun,
+        Row::WakeAndCancel,
+        Row::CancelAndWake,
+        Row::DetachDuringRun,
+        Row::DropDuringRun,
+        Row::PollDuringRun,
+    ];
 
     /// The name that is printed.
     pub fn name(self) -> &'static str {
@@ -92,14 +140,29 @@ impl Row {
             Row::WakerWake => "wake",
             Row::WakeDropped => "wake_dropped",
             Row::DropLastWaker => "drop_last_waker",
+            Row::Limit => "limit",
             Row::LastRun => "last_run",
+            Row::ClosedPoll => "closed_poll",
             Row::RefusedClone => "refused_clone",
             Row::WakeDuringRun => "wake_during_run",
+            Row::CancelFuture => "cancel_future",
+            Row::Priorities => "priorities",
             Row::AwaiterCompletes => "awaiter_completes",
             Row::AwaiterOrphan => "awaiter_orphan",
             Row::ScheduleCounter => "schedule_counter",
             Row::Sum => "sum",
+            Row::RunAndCancel => "run_and_cancel",
+            Row::DropInSchedule => "drop_in_schedule",
             Row::CancelDuringRun => "cancel_during_run",
+            Row::WakeAndCancel => "wake_and_cancel",
+            Row::CancelAndWake => "cancel_and_wake",
+            Row::DetachDuringRun => "detach_during_run",
+            Row::DropDuringRun => "drop_during_run",
+            Row::PollDuringRun => "poll_during_run",
+            Row::CancelRefused => "cancel_refused",
+            Row::ClearQueue => "clear_queue",
+            Row::WakeIntoDrop => "wake_into_drop",
+            Row::DropInPoll => "drop_in_poll",
         }
     }
 
@@ -122,14 +185,41 @@ impl Row {
             Row::WakerWake => waking::wake(&fixture),
             Row::WakeDropped => waking::wake_dropped(&fixture),
             Row::DropLastWaker => waking::drop_last_waker(&fixture),
+            Row::Limit => waking::limit(&fixture),
             Row::LastRun => detaching::last_run(&fixture),
+            Row::ClosedPoll => awaiting::closed_poll(&fixture),
             Row::RefusedClone => awaiting::refused_clone(&fixture),
-            Row::WakeDuringRun => racing::wake_during_run(&fixture),
+            Row::CancelFuture => cancelling::cancel_future(&fixture),
+            Row::Priorities => scheduling::priorities(&fixture),
             Row::AwaiterCompletes => awaiting::awaiter_completes(&fixture),
             Row::AwaiterOrphan => awaiting::awaiter_orphan(&fixture),
             Row::ScheduleCounter => scheduling::schedule_counter(&fixture),
             Row::Sum => awaiting::sum(&fixture),
-            Row::CancelDuringRun => racing::cancel_during_run(&fixture),
+            Row::RunAndCancel => cancelling::run_and_cancel(&fixture),
+            Row::DropInSchedule => scheduling::drop_in_schedule(&fixture),
+            Row::CancelRefused => cancelling::cancel_refused(&fixture),
+            Row::ClearQueue => scheduling::clear_queue(&fixture),
+            Row::WakeIntoDrop => waking::wake_into_drop(&fixture),
+            Row::DropInPoll => cancelling::drop_in_poll(&fixture),
+            _ => self.run_with_threads(&fixture),
+        }
+    }
+
+    // Runs one of the rows that need threads. Any other does not agree here.
+    fn run_with_threads<R>(self, fixture: &Fixture<R>) -> Result<Outcome, AllocError>
+    where
+        R: Wait + Threads + Drop + Copy + Send + Sync,
+        ensures { IfOk result (AgreesAs self) }
+    {
+        match self {
+            Row::WakeDuringRun => racing::wake_during_run(fixture),
+            Row::CancelDuringRun => racing::cancel_during_run(fixture),
+            Row::WakeAndCancel => racing::wake_and_cancel(fixture),
+            Row::CancelAndWake => racing::cancel_and_wake(fixture),
+            Row::DetachDuringRun => racing::detach_during_run(fixture),
+            Row::DropDuringRun => racing::drop_during_run(fixture),
+            Row::PollDuringRun => racing::poll_during_run(fixture),
+            _ => Ok(fixture.give_up()),
         }
     }
 }

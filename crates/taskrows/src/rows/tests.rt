@@ -1,8 +1,8 @@
 //! Tests of the program, and of calls that no row makes.
 
 use super::*;
-use crate::surroundings::Scheduler;
-use async_task::{Cell, Runnable, SpawnError, Task, TaskClosed, TaskPoll, spawn};
+use crate::surroundings::{BareRunnable, Scheduler};
+use async_task::{Cell, Kept, Party, Runnable, SpawnError, Task, TaskClosed, TaskPoll, spawn};
 use counters::{Counters, Counts};
 use fixture::Fixture;
 use flag::Flag;
@@ -36,14 +36,24 @@ impl io::Write for Limited {
     }
 }
 
+// What the program prints of the rows that need threads.
+const WITH_THREADS: &str = "16 wake_during_run 1,1,0,0
+27 cancel_during_run 2,1,1,1
+29 wake_and_cancel 2,1,1,1
+30 cancel_and_wake 2,1,1,1
+31 detach_during_run 1,0,1,1
+32 drop_during_run 1,0,1,1
+33 poll_during_run 1,0,1,0
+rows ok: 7 of 7
+";
+
 #[test]
 fn threads_runs_the_rows_with_threads(rt: HostRuntime) -> Result<(), Fail> {
     let mut out = Vec::new(rt.alloc());
     let mut err = Vec::new(rt.alloc());
     let args = [String::from_str(rt.alloc(), "threads")?];
     assert_eq!(rt; rows(rt, rt.alloc(), &args, &mut out, &mut err), 0);
-    let text = b"16 wake_during_run 1,1,0,0\n27 cancel_during_run 2,1,1,1\nrows ok: 2 of 2\n";
-    assert_eq!(rt; out.as_slice(), text.as_slice());
+    assert_eq!(rt; out.as_slice(), WITH_THREADS.as_bytes());
     assert_eq!(rt; err.len(), 0);
     Ok(())
 }
@@ -219,8 +229,10 @@ fn a_refused_spawn_hands_everything_back(rt: HostRuntime) -> Result<(), Fail> {
     panic!(rt; "no heap has room")
 }
 
-// A cell of the tests.
+// A cell of the tests, and a party of it.
 type TestCell<R> = Cell<R, RowFuture, Scheduler, (), Flag, Global>;
+
+type TestParty = Party<RowFuture, Kept<RowFuture>, Flag>;
 
 // The calls of the cell itself, by two parties: its word after a spawn, and the last one, after the Runnable was dropped and the Task detached.
 #[test]
@@ -232,13 +244,13 @@ fn a_cell_ends_with_its_last_word(rt: HostRuntime) -> Result<(), Fail> {
     let Ok((cell, other, seat)) = made else {
         panic!(rt; "no memory");
     };
-    let (mut runnable, mut task) = cell.fill(seat, future);
+    let (mut runnable, mut task): (TestParty, TestParty) = cell.fill(seat, future);
     assert_eq!(rt; cell.word().bits(), 0x111);
     cell.discard_runnable(&mut runnable);
     runnable.let_go();
     assert_eq!(rt; cell.word().bits(), 0x18);
-    // Named here since the check reads only the types of this function's own values: what a detach could hand over.
-    let handed_over: Option<Runnable<HostRuntime, RowFuture, Scheduler, (), Flag, ()>> = None;
+    // What a detach may hand over is named, since a check reads no type that stands in a bound alone.
+    let handed_over: Option<BareRunnable<HostRuntime>> = None;
     Cell::detach(&cell, &mut task, ());
     drop(handed_over);
     drop(other);

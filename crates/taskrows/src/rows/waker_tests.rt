@@ -1,26 +1,16 @@
 //! Tests of wakers, and of tasks that end without a run that completes.
-ghost use Rattle.taskrows.specs.Behaviour.{IsPolled};
 
 use super::counters::{Counters, Counts};
 use super::fixture::Fixture;
 use super::flag::Flag;
 use super::future::{Behaviour, Output, RowFuture};
 use crate::surroundings::{RowWaker, Scheduler};
-use async_task::{Future, Poll, Runnable, Task, TaskPoll, TaskWaker, Wake, spawn};
+use async_task::{Runnable, Task, TaskPoll, Wake, spawn};
 use std::alloc::{AllocError, Global};
 use std::mem;
 use std::process::Abort;
 use std::sync::{Arc, Wait};
 use std::test::Fail;
-
-// Where a waker carries no surroundings, there is no store to keep it in.
-impl<R: Wait + Drop, A: Wake> Future<TaskWaker<R, RowFuture, Scheduler, (), A, ()>> for RowFuture {
-    ghost polled = { λ old _ answer new. IsPolled old.behaviour answer new.behaviour };
-
-    fn poll(&mut self, _waker: &TaskWaker<R, RowFuture, Scheduler, (), A, ()>) -> Poll<Output> {
-        self.answer()
-    }
-}
 
 // The handles of a task without surroundings: its schedule value drops each Runnable.
 type BareHandles<R, A> = (

@@ -112,3 +112,42 @@ pub fn drop_last_waker<R: Wait + Drop + Copy>(fixture: &Fixture<R>) -> Result<Ou
     let agrees = open && closing && closed;
     Ok(fixture.end(agrees, Counts::new(1, 1, 1, 1)))
 }
+
+/// A task that may have two references: a waker beyond them is refused, also where a wake has made a Runnable.
+pub fn limit<R: Wait + Drop + Copy>(fixture: &Fixture<R>) -> Result<Outcome, AllocError>
+    ensures { IfOk result (AgreesAt 1 1 0 0) }
+{
+    let (runnable, task) = fixture.spawn_limited(Behaviour::Pending, 2)?;
+    let waker = runnable.waker().ok_or(AllocError)?;
+    let refused = runnable.waker().is_none();
+    let full = fixture.shows(&runnable, 0x211)?;
+    let rescheduled = runnable.run();
+    let idle = fixture.shows(&task, 0x110)?;
+    waker.wake_by_ref();
+    let queued = fixture.surroundings.queued() == 1;
+    let full_again = fixture.shows(&task, 0x211)?;
+    let refused_again = waker.clone().is_none();
+    let unchanged = fixture.shows(&task, 0x211)?;
+    let limited = refused && full && refused_again && unchanged;
+    let agrees = limited && !rescheduled && idle && queued && full_again;
+    let outcome = fixture.end(agrees, Counts::new(1, 1, 0, 0));
+    drop(waker);
+    drop(task);
+    Ok(outcome)
+}
+
+/// The schedule value drops the Runnable of a wake, which closes the task: a further wake changes nothing.
+pub fn wake_into_drop<R: Wait + Drop + Copy>(fixture: &Fixture<R>) -> Result<Outcome, AllocError>
+    ensures { IfOk result (AgreesAt 1 1 1 1) }
+{
+    let (runnable, mut task) = fixture.spawn_bare(Behaviour::Pending)?;
+    let waker = runnable.waker().ok_or(AllocError)?;
+    let rescheduled = runnable.run();
+    waker.wake_by_ref();
+    let finished = task.is_finished();
+    waker.wake();
+    let closed = fixture.counts() == Counts::new(1, 1, 1, 0);
+    task.detach();
+    let agrees = !rescheduled && finished && closed;
+    Ok(fixture.end(agrees, Counts::new(1, 1, 1, 1)))
+}

@@ -1,5 +1,5 @@
 use Rattle.std.proofs.Common.{length}
-use Rattle.taskrows.proofs.surroundings.Surroundings.drop.Given as goal
+use Rattle.taskrows.proofs.priorities.Priorities.drop.Given as goal
 
 abbrev pub decreases-loop-parked : goal.decreases-loop-parked
 decreases-loop-parked g l = length l.queue.items
