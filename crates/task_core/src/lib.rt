@@ -1,4 +1,4 @@
-//! What a task cell stands on: its word and the steps on it, the machine of moves and its laws, and the traits of an executor's own types.
+//! What a task cell stands on: its word and the steps on it, the machine of moves, its laws and its replay, and the traits of an executor's own types.
 #![tactic(auto)]
 
 pub mod moves;

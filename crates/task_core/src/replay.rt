@@ -1,6 +1,6 @@
 //! The machine of moves, played: a list of steps from the opening state, and the machine at its end.
 //!
-//! It is the machine that `moves::laws` speaks of, without its trace.
+//! It is the machine that `moves::laws` speaks of, without its trace. So what the laws say of a list of steps holds of the one that is replayed.
 
 mod kind;
 mod rows;
@@ -121,7 +121,6 @@ impl<A: Allocator> Machine<A> {
     }
 
     // How many polls of the future are between their start and their answer.
-    #[tactic(auto, using(crate::proofs::Replayed::counted))]
     fn polling(&self) -> usize
         ensures { result ≡ how_many polls_future self.now.parties }
     {
@@ -132,6 +131,7 @@ impl<A: Allocator> Machine<A> {
     }
 }
 
+// It is a run between the start and the answer of its poll.
 fn is_polling(position: Position) -> bool
     ensures { result ≡ polls_future position }
 {

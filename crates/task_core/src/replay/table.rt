@@ -1,5 +1,5 @@
 //! Where a party goes: the table of moves, one function for each kind of act.
-ghost use Rattle.std.specs.Prelude.{◌≡◌, ◌<◌, ◌-◌, ◌^◌, Some, None, [], ◌∷◌};
+ghost use Rattle.std.specs.Prelude.{◌≡◌, ◌<◌, ◌-◌, ◌^◌, Some, None};
 ghost use Rattle.task_core.specs.Table as table;
 ghost use Rattle.task_core.specs.Table.{goes, rule};
 ghost use Rattle.task_core.specs.Replay.{kind_of, begun, scene_of, effect_of};
@@ -89,6 +89,7 @@ pub(super) fn rule_of_act(scene: Scene, act: Act, position: Position) -> Option<
     moves_of_act(scene, written, act, position)
 }
 
+// .. where it has written that word.
 fn moves_of_act(scene: Scene, written: Word, act: Act, position: Position) -> Option<Effect>
     requires { begun position < 2 ^ 64 - 1 }
     ensures { result ≡ effect_of (goes (scene_of scene) written act position) }
@@ -282,10 +283,10 @@ fn values(scene: Scene, written: Word, act: Act, position: Position) -> Option<E
         (AnswerPending, Polling) => Some(steps(scene, written, Pending)),
         (AnswerReady, Polling) => Some(steps(scene, written, Ready)),
         (DropFuture, Ready) => Some(keeps(written, dropped, Unstored)),
-        (DropFuture, Pending) => scene
-            .word
-            .closed()
-            .then_some(keeps(written, dropped, Cleared)),
+        (DropFuture, Pending) => {
+            let may = scene.word.closed();
+            may.then_some(keeps(written, dropped, Cleared))
+        }
         (DropFuture, FutureInHand(closer)) => Some(keeps(written, dropped, FutureGone(closer))),
         (StoreOutput, Unstored) => Some(keeps(written, stored, Stored)),
         (DropOutput, OutputInHand(due)) => Some(keeps(written, taken, notifies(due, OfRun))),
