@@ -13,4 +13,7 @@ pub use handles::{
     Cancel, FallibleTask, ParkedRunnable, ParkedTask, ParkedWaker, Task, TaskClosed,
 };
 pub use table::Kept;
-pub use task_core::{Future, Poll, Schedule, ScheduleInfo, TaskPoll, Wake, WithInfo, Yields};
+pub use task_core::{
+    Future, LocalTask, Poll, Schedule, ScheduleInfo, Settled, Start, TaskPoll, Wake, WithInfo,
+    Yields,
+};

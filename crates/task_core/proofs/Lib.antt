@@ -8,7 +8,23 @@ pub mod HandshakeRows
 pub mod Runs
 pub mod Derived
 pub mod Theorem
+pub mod Ahead
+pub mod Calm
+pub mod PartRows
+pub mod CallRows
+pub mod CalmRows
+pub mod Cuts
+pub mod WholeRuns
+pub mod Queueing
+pub mod Agree
+pub mod Reading
+pub mod WholeCalls
+pub mod LocalRows
 pub mod Bits
 mod Worked
+mod WorkedRuns
 pub mod Modest
 pub mod Replayed
+pub mod LocalSound
+pub mod Playing
+pub mod Refused

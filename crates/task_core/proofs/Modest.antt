@@ -7,12 +7,7 @@ use Rattle.task_core.specs.Position.{Runnable, Waker, Task, ClosedRun, DroppedRu
 use Rattle.task_core.specs.Rows.{found, written}
 use Rattle.task_core.specs.Table.{Scene, Outcome, when, where_found, goes, rule, closing, ended_clone}
 use Rattle.task_core.specs.Laws.{count, is_poll}
-use Rattle.task_core.specs.Replay.{first_of}
-
--- a party, or none, as a list
-abbrev pub listed : Option Position → List Position
-listed None = []
-listed (Some p) = p ∷ []
+use Rattle.task_core.specs.Replay.{first_of, listed}
 
 abbrev pub polls_told : Option Outcome → ℕ
 polls_told None = 0

@@ -1,6 +1,6 @@
 -- What a replay rests on: the steps of the machine without its trace, and bounds on its word and its polls.
 use Rattle.std.proofs.Common.{◌≡◌, ℕ, ◌+◌, ◌<◌, ◌≤◌, ◌∙◌, ◌⊎◌, Bool, true, false, zero, suc, List, [], ◌∷◌, ◌++◌, Option, Some, None, refl, sym, ap, subst, inl, inr, arith, length, take, add-one, slice_index_or}
-use Rattle.std.proofs.lemmas.List.{append-nil}
+use Rattle.std.proofs.lemmas.List.{set-append_left}
 use Rattle.std.proofs.lemmas.List.Sums.{sum_by-cons}
 use Rattle.std.specs.Prelude.{count_by, if◌then◌else◌, slice_get, slice_set, nat_lt, IsSome}
 use Rattle.task_core.specs.Word.{State, bit}
@@ -10,13 +10,13 @@ use Rattle.task_core.specs.Rows.{found, written, row}
 use Rattle.task_core.specs.Table.{Scene, Outcome, where_found, goes, rule}
 use Rattle.task_core.specs.Machine.{Machine, Step, how_many, polls_future, opening, scene, begins, after, moves, step, run_from, run}
 use Rattle.task_core.specs.Laws.{count, is_poll}
-use Rattle.task_core.specs.Replay.{Standing, standing, stands, begun, slots_of, scene_of, effect_of}
+use Rattle.task_core.specs.Replay.{Standing, standing, stands, scene_at, listed, begun, slots_of, effect_of}
 use Rattle.task_core.specs.declared.replay.Slots.{Slots as SlotsHeld}
 use Rattle.task_core.specs.declared.replay.table.Effect.{Effect}
 use Rattle.task_core.proofs.Awaiting.{Awaiting, await, awaiting, join}
 use Rattle.task_core.proofs.Runs.{Invariant, Stays, always, others, split_awaiting}
 use Rattle.task_core.proofs.Theorem.{laws_hold}
-use Rattle.task_core.proofs.Modest.{listed, Modest, modest}
+use Rattle.task_core.proofs.Modest.{Modest, modest}
 
 pub counted : (p : Position → Bool) (ps : List Position) → how_many p ps ≡ count_by p ps
 counted p [] = refl
@@ -47,9 +47,6 @@ pub not_ruled : (s : Scene) (act : Act) (p : Position) → row s.limit act s.wor
 not_ruled s act p e = by_not_found (found s.limit act s.word) (written act s.word) (goes s (written act s.word) act p) e
 
 -- a step, by what the party leaves
-abbrev pub scene_at : Standing → Scene
-scene_at n = record { limit = n.limit; word = n.word; slots = n.slots; polling = nat_lt 0 (how_many polls_future n.parties) }
-
 abbrev pub left_at : Standing → ℕ → Option Effect → Option Standing
 left_at n i None = None
 left_at n i (Some left) = Some (record { limit = n.limit; word = left.word; slots = slots_of left.slots; parties = slice_set n.parties i left.next ++ listed left.added })
@@ -88,7 +85,7 @@ run_none : (steps : List Step) → run_from None steps ≡ None
 run_none [] = refl
 run_none (s ∷ steps) = refl
 
-run_one : (o : Option Machine) (s : Step) (steps : List Step) → run_from o (s ∷ steps) ≡ run_from (then_step o s) steps
+pub run_one : (o : Option Machine) (s : Step) (steps : List Step) → run_from o (s ∷ steps) ≡ run_from (then_step o s) steps
 run_one None s steps = sym (run_none steps)
 run_one (Some m) s steps = refl
 
@@ -106,7 +103,7 @@ plays limit i steps s now next h e e' does =
     rw add-one (ap stands (run_more (Some (opening limit)) steps i s h e ∙ ap (λ m. then_step m s) known.is) ∙ does known.machine known.stands_so)
 
 -- how many polls were told
-count-append : (p : Event → Bool) (xs ys : List Event) → count p (xs ++ ys) ≡ count p xs + count p ys
+pub count-append : (p : Event → Bool) (xs ys : List Event) → count p (xs ++ ys) ≡ count p xs + count p ys
 count-append p [] ys = omega arith
 count-append p (x ∷ xs) ys = omega (arith, count-append p xs ys)
 
@@ -137,6 +134,12 @@ run_bounded limit (Some m) n (s ∷ steps) bound =
 
 bounded : (limit : ℕ) (steps : List Step) → Bounded limit (run limit steps) (0 + length steps)
 bounded limit steps = run_bounded limit (Some (opening limit)) 0 steps (refl, omega arith)
+
+pub limit_stays : (limit : ℕ) (steps : List Step) (now : Standing) → stands (run limit steps) ≡ Some now → now.limit ≡ limit
+limit_stays limit steps now e =
+    let known = shown (run limit steps) now e in
+    let bound : Bounded limit (Some known.machine) (0 + length steps) = subst (λ o. Bounded limit o (0 + length steps)) known.is (bounded limit steps) in
+    sym (ap (λ (n : Standing). n.limit) known.stands_so) ∙ bound.0
 
 -- the Task knows how many polls it has begun, and these were told
 begun_await : (p : Position) → (begun p ≡ 0) ⊎ (((await 0 p).numbered ≡ 1) × ((await 0 p).number ≡ begun p))
@@ -169,32 +172,20 @@ few_references limit steps now e =
     let same : known.machine.word.references ≡ now.word.references = ap (λ (n : Standing). n.word.references) known.stands_so in
     omega (arith, bound.0, within, same)
 
--- what the code finds, and what it leaves, where its fields stand so
-scene_seen : (now : Standing) (limit : ℕ) (word : State) (slots : SlotsHeld) (parties : List Position) (n : ℕ)
-    → record { limit = limit; word = word; slots = slots_of slots; parties = parties } ≡ now → n ≡ how_many polls_future now.parties → scene_of (record { limit = limit; word = word; slots = slots; polling = nat_lt 0 n }) ≡ scene_at now
-scene_seen now limit word slots parties n fields polls =
-    let seen : (k : ℕ) → Standing → Scene = λ k x. record { limit = x.limit; word = x.word; slots = x.slots; polling = nat_lt 0 k } in
-    ap (seen n) fields ∙ ap (λ k. seen k now) polls
+-- what the code leaves, where it finds such a scene
+pub leaves : (m : Machine) (s : Step) (now : Standing) (seen : Scene) (p : Position) (left : Option Effect) → standing m ≡ now → seen ≡ scene_at now → slice_get now.parties s.party ≡ Some p
+    → effect_of (rule seen s.act p) ≡ left → stands (step m s) ≡ left_at now s.party left
+leaves m s now seen p left stands_so is_seen at is_left =
+    steps_at m s now p stands_so at ∙ (ap (λ (x : Scene). left_at now s.party (effect_of (rule x s.act p))) (sym is_seen) ∙ ap (left_at now s.party) is_left)
 
-pub leaves : (m : Machine) (s : Step) (now : Standing) (limit : ℕ) (word : State) (slots : SlotsHeld) (parties : List Position) (n : ℕ) (p : Position) (left : Option Effect) → standing m ≡ now
-    → record { limit = limit; word = word; slots = slots_of slots; parties = parties } ≡ now → n ≡ how_many polls_future now.parties → slice_get now.parties s.party ≡ Some p
-    → effect_of (rule (scene_of (record { limit = limit; word = word; slots = slots; polling = nat_lt 0 n })) s.act p) ≡ left → stands (step m s) ≡ left_at now s.party left
-leaves m s now limit word slots parties n p left stands_so fields polls at is_left =
-    let seen = sym (scene_seen now limit word slots parties n fields polls) in
-    steps_at m s now p stands_so at ∙ (ap (λ (x : Scene). left_at now s.party (effect_of (rule x s.act p))) seen ∙ ap (left_at now s.party) is_left)
-
-pub left_so : (now : Standing) (limit : ℕ) (word : State) (slots : SlotsHeld) (parties : List Position) (i : ℕ) (left : Effect) (result : List Position)
-    → record { limit = limit; word = word; slots = slots_of slots; parties = parties } ≡ now → result ≡ slice_set parties i left.next ++ listed left.added
-    → left_at now i (Some left) ≡ Some (record { limit = limit; word = left.word; slots = slots_of left.slots; parties = result })
-left_so now limit word slots parties i left result fields is_result =
+-- .. and writes, where the party that it adds was listed first
+pub left_so : (now : Standing) (limit : ℕ) (word : State) (slots : SlotsHeld) (parties : List Position) (i : ℕ) (left : Effect)
+    → record { limit = limit; word = word; slots = slots_of slots; parties = parties } ≡ record now { parties = now.parties ++ listed left.added } → i < length now.parties
+    → left_at now i (Some left) ≡ Some (record { limit = limit; word = left.word; slots = slots_of left.slots; parties = slice_set parties i left.next })
+left_so now limit word slots parties i left fields within =
     let standing_of : ℕ → List Position → Standing = λ l ps. record { limit = l; word = left.word; slots = slots_of left.slots; parties = ps } in
-    ap (λ (x : Standing). Some (standing_of x.limit (slice_set x.parties i left.next ++ listed left.added))) (sym fields) ∙ ap (λ ps. Some (standing_of limit ps)) (sym is_result)
-
-pub listed_one : (ps : List Position) (added : Option Position) (p : Position) → added ≡ Some p → ps ++ p ∷ [] ≡ ps ++ listed added
-listed_one ps added p e = ap (λ a. ps ++ listed a) (sym e)
-
-pub listed_none : (ps : List Position) (added : Option Position) → added ≡ None → ps ≡ ps ++ listed added
-listed_none ps added e = sym (append-nil ps) ∙ ap (λ a. ps ++ listed a) (sym e)
+    ap (λ ps. Some (standing_of now.limit ps)) (sym (set-append_left now.parties (listed left.added) i left.next within))
+    ∙ ap (λ (x : Standing). Some (standing_of x.limit (slice_set x.parties i left.next))) (sym fields)
 
 pub at_view : (m : Machine) (inside s : Step) (x : Option Standing) → inside ≡ s → stands (step m inside) ≡ x → stands (step m s) ≡ x
 at_view m inside s x e h = subst (λ (t : Step). stands (step m t) ≡ x) e h
@@ -207,6 +198,10 @@ where_yes false x e = cc
 pub where_no : (yes : Bool) (x : Standing) → yes ≡ false → (if yes then Some x else None) ≡ None
 where_no true x e = cc
 where_no false x e = refl
+
+pub where_counted : (yes : Bool) (n : ℕ) → yes ≡ true → (if yes then n + 1 else n) ≡ n + 1
+where_counted true n e = refl
+where_counted false n e = absurd (cc)
 
 pub is_some : (o : Option Machine) (now : Standing) → stands o ≡ Some now → IsSome o
 is_some None now e = absurd (cc)

@@ -26,8 +26,14 @@ completed = record { value = λ scene. scene.word.completed; put = λ flag scene
 abbrev pub closed : Flag
 closed = record { value = λ scene. scene.word.closed; put = λ flag scene. record scene { word = record (scene.word) { closed = flag } }; same = λ scene. refl }
 
+abbrev pub task : Flag
+task = record { value = λ scene. scene.word.task; put = λ flag scene. record scene { word = record (scene.word) { task = flag } }; same = λ scene. refl }
+
 abbrev pub awaiter : Flag
 awaiter = record { value = λ scene. scene.word.awaiter; put = λ flag scene. record scene { word = record (scene.word) { awaiter = flag } }; same = λ scene. refl }
+
+abbrev pub registering : Flag
+registering = record { value = λ scene. scene.word.registering; put = λ flag scene. record scene { word = record (scene.word) { registering = flag } }; same = λ scene. refl }
 
 abbrev pub notifying : Flag
 notifying = record { value = λ scene. scene.word.notifying; put = λ flag scene. record scene { word = record (scene.word) { notifying = flag } }; same = λ scene. refl }

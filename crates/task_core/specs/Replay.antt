@@ -1,9 +1,9 @@
 -- A machine that is replayed: how it stands, and what a replay may answer.
-use Rattle.std.specs.Prelude.{◌≡◌, ℕ, ◌+◌, ◌<◌, List, [], ◌∷◌, length, take, Option, Some, None, IsSome}
+use Rattle.std.specs.Prelude.{◌≡◌, ℕ, ◌+◌, ◌<◌, nat_lt, List, [], ◌∷◌, length, take, Option, Some, None, IsSome}
 use Rattle.task_core.specs.Word.{State}
 use Rattle.task_core.specs.Position.{Task, Position, At, Act, GainReference, FindLimit, DropWaker, DropLastWaker, OrphanTask, CloseOrphan, GiveUpReference, GiveUpLastReference, WakeOver, WakeScheduled, WakeRunning, WakeIdle, DiscardOpen, DiscardClosed, CancelOver, CancelBusy, CancelIdle, ClaimOutput, GiveUpOutput, DetachOrphan, DetachLast, Detach, TakeUpClosed, StartRun, Unschedule, Complete, CompleteDetached, EndClosed, Reschedule, EndIdle, EndOrphaned, BeginNotify, MissNotify, FindNotify, BeginRegister, EndNotify, EndRegister, EndRegisterNotified, Look, LookFinished, StartPoll, AnswerPending, AnswerReady, DropFuture, StoreOutput, DropOutput, HandOutOutput, CloneAwaiter, RefuseClone, StoreAwaiter, TakeAwaiter, WakeAwaiter, DropAwaiter, HandOver, EmptySlots, RefuseGain, EndCall}
 use Rattle.task_core.specs.Table.{Slots, Scene, Outcome}
-use Rattle.task_core.specs.Machine.{Machine, Step, run}
+use Rattle.task_core.specs.Machine.{Machine, Step, how_many, polls_future, step, run}
 use Rattle.task_core.specs.declared.replay.kind.Kind.{Kind}
 use Rattle.task_core.specs.declared.replay.kind.Kind.TheVariants.{Gain, GiveUp, Wake, Close, RunStart, RunEnd, HandshakeBegin, HandshakeEnd, Load, Value, Awaiter, Ending}
 use Rattle.task_core.specs.declared.replay.Slots.{Slots as SlotsHeld}
@@ -82,6 +82,11 @@ abbrev pub first_of : List Position → Option Position
 first_of [] = None
 first_of (p ∷ later) = Some p
 
+-- a party, or none, as a list
+abbrev pub listed : Option Position → List Position
+listed None = []
+listed (Some p) = p ∷ []
+
 -- slots and a scene of the code as the table has them, and back
 abbrev pub slots_of : SlotsHeld → Slots
 slots_of s = record { future = s.future; output = s.output; awaiter = s.awaiter }
@@ -110,6 +115,18 @@ standing m = record { limit = m.limit; word = m.word; slots = m.slots; parties =
 abbrev pub stands : Option Machine → Option Standing
 stands None = None
 stands (Some m) = Some (standing m)
+
+-- what a party finds at a machine that stands so
+abbrev pub scene_at : Standing → Scene
+scene_at now = record { limit = now.limit; word = now.word; slots = now.slots; polling = nat_lt 0 (how_many polls_future now.parties) }
+
+-- a step at a machine that stands so leaves it so, or is not allowed, whatever its trace
+abbrev pub StepsTo : Standing → Step → Option Standing → Type 0
+StepsTo now s next = (m : Machine) → standing m ≡ now → stands (step m s) ≡ next
+
+-- a list of so many steps ends in a machine that stands so
+abbrev pub Played : Standing → ℕ → Type 0
+Played now count = (steps : List Step) × ((length steps ≡ count) × (stands (run now.limit steps) ≡ Some now))
 
 -- the steps before number i are allowed, and that one is not
 pub record FailsAt (limit : ℕ) (steps : List Step) (i : ℕ) : Type 0 where

@@ -1,5 +1,8 @@
 //! The machine of moves: where a party stands, what it may do there, and the laws of every interleaving.
 ghost use Rattle.task_core.specs.Theorem.{LawsHold};
+ghost use Rattle.task_core.specs.Whole.{WholeRunsAgree};
+ghost use Rattle.task_core.specs.WholeCalls.{WholeCallsAgree};
+ghost use Rattle.task_core.specs.LocalRows.{EachRowAgrees};
 
 /// What a poll of the Task answers.
 #[derive(Clone, Copy, Debug, PartialEq, Eq)]
@@ -272,4 +275,7 @@ pub enum Act {
 /// For every limit and every list of steps that the machine allows from the opening state, the laws hold of the state reached.
 pub fn laws()
     ensures interleavings { LawsHold }
+    ensures whole_runs { WholeRunsAgree }
+    ensures whole_calls { WholeCallsAgree }
+    ensures local_rows { EachRowAgrees }
 {}

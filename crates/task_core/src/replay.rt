@@ -3,19 +3,22 @@
 //! It is the machine that `moves::laws` speaks of, without its trace. So what the laws say of a list of steps holds of the one that is replayed.
 
 mod kind;
+pub mod player;
+pub mod refusal;
 mod rows;
 mod table;
 #[cfg(test)]
 mod tests;
 mod ways;
 
-ghost use Rattle.std.specs.Prelude.{◌≡◌, ◌<◌, ◌-◌, ◌^◌, Some, None, IfOk, IfErr, min, length, slice_get, if◌then◌else◌};
+ghost use Rattle.std.specs.Prelude.{◌≡◌, ◌<◌, ◌-◌, ◌^◌, Some, None, false, IfOk, IfErr, OnOk, OnErr, min, ◌++◌, length, slice_get, if◌then◌else◌};
 ghost use Rattle.task_core.specs.Machine as machine;
 ghost use Rattle.task_core.specs.Position.{Position};
-ghost use Rattle.task_core.specs.Machine.{run, how_many, polls_future, opening, step};
-ghost use Rattle.task_core.specs.Replay.{standing, stands, slots_of, begun, IsRight};
+ghost use Rattle.task_core.specs.Machine.{run, how_many, polls_future, opening};
+ghost use Rattle.task_core.specs.Replay.{standing, stands, slots_of, scene_of, scene_at, begun, listed, StepsTo, IsRight};
 
 use crate::moves::{Act, Position, Rest};
+use crate::replay::player::Player;
 use crate::replay::table::Scene;
 use crate::word::{LIMIT, REFERENCE, SCHEDULED, TASK, Word};
 use std::alloc::{AllocError, Allocator, Global};
@@ -160,30 +163,47 @@ impl<A: Allocator> Machine<A> {
         })
     }
 
-    // One step, and whether it is allowed.
-    fn step(&mut self, next: Step) -> Result<bool, AllocError>
-        requires references { self.old.word.references < 2 ^ 56 - 1 }
-        requires polls { (p : Position) → slice_get self.old.parties next.party ≡ Some p → begun p < 2 ^ 64 - 1 }
-        ensures { IfOk result (λ yes. (m : machine.Machine) → standing m ≡ self.old → stands (step m next) ≡ (if yes then Some self.new else None)) }
+    // What a party finds.
+    fn scene(&self) -> Scene
+        ensures { scene_of result ≡ scene_at self.now }
     {
-        let Some(position) = self.position(next.party) else {
-            return Ok(false);
-        };
-        let scene = Scene {
+        Scene {
             limit: self.limit,
             word: self.word,
             slots: self.slots,
             polling: self.polling() > 0,
-        };
-        let Some(effect) = table::rule_of_act(scene, next.act, position) else {
-            return Ok(false);
-        };
-        self.word = effect.word;
-        self.slots = effect.slots;
-        self.parties[next.party as usize] = effect.next;
-        if let Some(added) = effect.added {
+        }
+    }
+
+    // One party more, or none.
+    fn add(&mut self, added: Option<Position>) -> Result<(), AllocError>
+        ensures grown { OnOk result (self.new ≡ record (self.old) { parties = self.old.parties ++ listed added }) }
+        ensures refused { OnErr result (self.new ≡ self.old) }
+    {
+        if let Some(added) = added {
             self.parties.push(added)?;
         }
+        Ok(())
+    }
+
+    // One step, and whether it is allowed. A machine that does not make it stands as before.
+    fn step(&mut self, next: Step) -> Result<bool, AllocError>
+        requires references { self.old.word.references < 2 ^ 56 - 1 }
+        requires polls { (p : Position) → slice_get self.old.parties next.party ≡ Some p → begun p < 2 ^ 64 - 1 }
+        ensures answered { IfOk result (λ yes. StepsTo self.old next (if yes then Some self.new else None)) }
+        ensures unchanged { IfOk result (λ yes. yes ≡ false → self.new ≡ self.old) }
+        ensures refused { OnErr result (self.new ≡ self.old) }
+    {
+        let Some(position) = self.position(next.party) else {
+            return Ok(false);
+        };
+        let Some(effect) = table::rule_of_act(self.scene(), next.act, position) else {
+            return Ok(false);
+        };
+        self.add(effect.added)?;
+        self.parties[next.party as usize] = effect.next;
+        self.word = effect.word;
+        self.slots = effect.slots;
         Ok(true)
     }
 }
@@ -194,11 +214,11 @@ pub fn replay<A: Allocator>(alloc: A, limit: u64, steps: &[Step]) -> Result<Mach
     ensures machine { IfOk result (λ now. stands (run (min limit LIMIT) steps.now) ≡ Some now) }
     ensures refusal { IfErr result (λ error. IsRight (min limit LIMIT) steps.now error) }
 {
-    let mut machine = Machine::opened(alloc, limit.min(LIMIT))?;
+    let mut player = Player::new(alloc, limit)?;
     for (i, step) in steps.iter().enumerate() {
-        if !machine.step(*step)? {
+        if !player.advance(*step)? {
             return Err(ReplayError::NotAllowed(i));
         }
     }
-    Ok(machine)
+    Ok(player.into_machine())
 }

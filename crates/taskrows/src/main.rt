@@ -1,12 +1,9 @@
-//! The worked rows of the task cell: short sequences of calls whose counters and answers are known, run and printed.
+//! The program that runs the worked rows, and the tests of the calls that no row makes.
 #![tactic(auto)]
-
-mod priorities;
-mod rows;
-mod surroundings;
 
 use std::process::ExitCode;
 use std::{env, io};
+use worked_rows::rows;
 
 fn main(rt: HostRuntime) -> io::Result<ExitCode> {
     let mut args = Vec::new(rt.alloc());
@@ -15,6 +12,23 @@ fn main(rt: HostRuntime) -> io::Result<ExitCode> {
     }
     let mut out = io::writer(&rt);
     let mut err = rt.stderr();
-    let status = rows::rows(rt, rt.alloc(), args.as_slice(), &mut out, &mut err);
+    let status = rows(rt, rt.alloc(), args.as_slice(), &mut out, &mut err);
     Ok(ExitCode::from(status))
 }
+
+#[cfg(test)]
+mod builder_tests;
+#[cfg(test)]
+mod executor_tests;
+#[cfg(test)]
+mod heap_tests;
+#[cfg(test)]
+mod slot_tests;
+#[cfg(test)]
+mod storm_tests;
+#[cfg(test)]
+mod task_tests;
+#[cfg(test)]
+mod tests;
+#[cfg(test)]
+mod waker_tests;

@@ -47,6 +47,7 @@ where
     pub fn is_finished(&mut self) -> bool
         ensures path { FindsFinished self.old.task.inner.party self.new.task.inner.party result }
         ensures seen { saw_over (deeds self.old.task.inner.party) ≡ true → result ≡ true }
+        ensures cancelled { self.new.cancelled ≡ self.old.cancelled }
     {
         self.task.is_finished()
     }

@@ -89,8 +89,13 @@ pub(super) fn rule_of_act(scene: Scene, act: Act, position: Position) -> Option<
     moves_of_act(scene, written, act, position)
 }
 
-// .. where it has written that word.
-fn moves_of_act(scene: Scene, written: Word, act: Act, position: Position) -> Option<Effect>
+/// .. where it has written that word.
+pub(super) fn moves_of_act(
+    scene: Scene,
+    written: Word,
+    act: Act,
+    position: Position,
+) -> Option<Effect>
     requires { begun position < 2 ^ 64 - 1 }
     ensures { result ≡ effect_of (goes (scene_of scene) written act position) }
 {

@@ -8,6 +8,7 @@ use std::process::Abort;
 use std::test::Fail;
 
 mod lives;
+mod player;
 
 // The acts of each turn, one after the other.
 fn steps_of(alloc: Global, turns: &[(u64, &[Act])]) -> Result<Vec<Step>, AllocError> {

@@ -1,0 +1,307 @@
+//! Each call in each of its cases, with the answers that the table of the calls gives. The future is 7, its output 3.
+
+use super::*;
+use std::process::Abort;
+
+mod awaiter;
+mod executor;
+mod executor_calls;
+mod task_calls;
+mod waker_calls;
+
+use awaiter::Awaiter;
+
+type Task = LocalTask<u8, u8, &'static str, Awaiter>;
+
+const FUTURE: u8 = 7;
+
+const OUTPUT: u8 = 3;
+
+#[derive(Clone, Copy, Debug, PartialEq, Eq)]
+enum Call {
+    Start,
+    Pending,
+    Ready,
+    Discard,
+    Wake,
+    AddWaker,
+    DropWaker,
+    Cancel,
+    Detach,
+    Poll(usize),
+    RefusedPoll,
+}
+
+// What a call left to do: an awaiter is told by its number.
+#[derive(Clone, Copy, Debug, PartialEq, Eq)]
+struct Left {
+    future: bool,
+    output: bool,
+    queue: Option<bool>,
+    wake: Option<usize>,
+    dropped: Option<usize>,
+    emptied: bool,
+}
+
+const NOTHING: Left = Left {
+    future: false,
+    output: false,
+    queue: None,
+    wake: None,
+    dropped: None,
+    emptied: false,
+};
+
+#[derive(Clone, Copy, Debug, PartialEq, Eq)]
+enum Answer {
+    Polls,
+    Ends(Left),
+    Idle,
+    Leaves(Left),
+    Queues(Option<bool>),
+    Adds(bool),
+    Pends(Left),
+    Readies(Option<u8>, Left),
+    Refuses,
+}
+
+use Answer::*;
+use Call::*;
+
+fn left_of(rt: &impl Abort, settled: Settled<u8, u8, Awaiter>) -> Left {
+    assert!(rt; settled.future.is_none_or(|future| future == FUTURE));
+    assert!(rt; settled.output.is_none_or(|output| output == OUTPUT));
+    Left {
+        future: settled.future.is_some(),
+        output: settled.output.is_some(),
+        queue: settled.queue.map(|info| info.woken_while_running),
+        wake: settled.wake.map(|awaiter| awaiter.number),
+        dropped: settled.dropped.map(|awaiter| awaiter.number),
+        emptied: settled.emptied,
+    }
+}
+
+fn started(rt: &impl Abort, task: &mut Task) -> Answer {
+    match task.start() {
+        super::Start::Poll(future) => {
+            assert_eq!(rt; future, FUTURE);
+            Polls
+        }
+        super::Start::Ended(settled) => Ends(left_of(rt, settled)),
+        super::Start::Idle => Idle,
+    }
+}
+
+fn settled(rt: &impl Abort, task: &mut Task, polled: super::Poll<u8>) -> Answer {
+    assert!(rt; task.is_started());
+    Leaves(left_of(rt, task.settle(FUTURE, polled)))
+}
+
+fn polled(rt: &impl Abort, task: &mut Task, awaiter: Awaiter) -> Answer {
+    assert!(rt; task.has_task());
+    let (answer, settled) = task.poll(&awaiter);
+    let left = left_of(rt, settled);
+    match answer {
+        TaskPoll::Pending => Pends(left),
+        TaskPoll::Ready(output) => Readies(output, left),
+        TaskPoll::NoMemory => {
+            assert_eq!(rt; left, NOTHING);
+            Refuses
+        }
+    }
+}
+
+fn cancelled(rt: &impl Abort, task: &mut Task) -> Answer {
+    assert!(rt; task.has_task());
+    Leaves(left_of(rt, task.cancel()))
+}
+
+fn detached(rt: &impl Abort, task: &mut Task) -> Answer {
+    assert!(rt; task.has_task());
+    Leaves(left_of(rt, task.detach()))
+}
+
+fn answer_of(rt: &impl Abort, task: &mut Task, call: Call) -> Answer {
+    match call {
+        Start => started(rt, task),
+        Pending => settled(rt, task, super::Poll::Pending),
+        Ready => settled(rt, task, super::Poll::Ready(OUTPUT)),
+        Discard => {
+            assert!(rt; task.is_queued());
+            Leaves(left_of(rt, task.discard_runnable()))
+        }
+        Wake => Queues(task.wake().map(|info| info.woken_while_running)),
+        AddWaker => {
+            assert!(rt; !task.is_emptied());
+            Adds(task.add_waker())
+        }
+        DropWaker => {
+            assert!(rt; task.wakers() > 0);
+            Leaves(left_of(rt, task.drop_waker()))
+        }
+        Cancel => cancelled(rt, task),
+        Detach => detached(rt, task),
+        Poll(number) => polled(rt, task, Awaiter::new(number)),
+        RefusedPoll => polled(rt, task, Awaiter::refusing(9)),
+    }
+}
+
+// The calls, one after another, and the answer of each.
+fn answers(rt: &impl Abort, task: &mut Task, calls: &[(Call, Answer)]) {
+    for (i, (call, answer)) in calls.iter().enumerate() {
+        assert_eq!(rt; answer_of(rt, task, *call), *answer, "call {i}: {call:?}");
+    }
+}
+
+// .. of a new task.
+fn lives(rt: &impl Abort, calls: &[(Call, Answer)]) {
+    let mut task = LocalTask::new("metadata", FUTURE);
+    answers(rt, &mut task, calls);
+    assert_eq!(rt; *task.metadata(), "metadata");
+}
+
+const ENDS: Left = Left {
+    future: true,
+    ..NOTHING
+};
+
+const QUEUED: Left = Left {
+    queue: Some(false),
+    ..NOTHING
+};
+
+const QUEUED_AGAIN: Left = Left {
+    queue: Some(true),
+    ..NOTHING
+};
+
+// The future is dropped, and the awaiter 1 woken.
+const ENDS_AND_WAKES: Left = Left {
+    wake: Some(1),
+    ..ENDS
+};
+
+// The future is dropped, and nobody is left.
+const ENDS_EMPTIED: Left = Left {
+    emptied: true,
+    ..ENDS
+};
+
+// .. and the awaiter 1 is dropped.
+const ENDS_FORGETTING: Left = Left {
+    dropped: Some(1),
+    ..ENDS_EMPTIED
+};
+
+// Future and output are dropped.
+const GIVES_UP: Left = Left {
+    output: true,
+    ..ENDS
+};
+
+const WAKES: Left = Left {
+    wake: Some(1),
+    ..NOTHING
+};
+
+const EMPTIED: Left = Left {
+    emptied: true,
+    ..NOTHING
+};
+
+// The future has answered Pending once.
+const ONCE: [(Call, Answer); 2] = [(Start, Polls), (Pending, Leaves(NOTHING))];
+
+// A task that is idle, with an awaiter.
+const AWAITED: [(Call, Answer); 3] = [
+    (Poll(1), Pends(NOTHING)),
+    (Start, Polls),
+    (Pending, Leaves(NOTHING)),
+];
+
+// .. of a task with these calls behind it.
+fn lives_on(rt: &impl Abort, before: &[(Call, Answer)], calls: &[(Call, Answer)]) {
+    let mut task = LocalTask::new("metadata", FUTURE);
+    answers(rt, &mut task, before);
+    answers(rt, &mut task, calls);
+}
+
+#[test]
+fn a_task_that_is_woken_and_then_cancelled(rt: HostRuntime) {
+    lives(
+        &rt,
+        &[
+            (Start, Polls),
+            (Wake, Queues(None)),
+            (Pending, Leaves(QUEUED_AGAIN)),
+            (Cancel, Leaves(NOTHING)),
+            (Start, Ends(ENDS)),
+            (Poll(1), Readies(None, NOTHING)),
+            (Detach, Leaves(EMPTIED)),
+        ],
+    );
+}
+
+#[test]
+fn an_orphan(rt: HostRuntime) {
+    let mut task: Task = LocalTask::new("metadata", FUTURE);
+    answers(
+        &rt,
+        &mut task,
+        &[
+            (AddWaker, Adds(true)),
+            (Start, Polls),
+            (Detach, Leaves(NOTHING)),
+            (Pending, Leaves(NOTHING)),
+            (DropWaker, Leaves(QUEUED)),
+            (Start, Ends(ENDS_EMPTIED)),
+        ],
+    );
+    assert_eq!(rt; task.wakers(), 0);
+}
+
+// Queued, started, finished, emptied, with its Task.
+fn looks(task: &Task) -> [bool; 5] {
+    [
+        task.is_queued(),
+        task.is_started(),
+        task.is_finished(),
+        task.is_emptied(),
+        task.has_task(),
+    ]
+}
+
+#[test]
+fn what_can_be_seen(rt: HostRuntime) {
+    let mut task: Task = LocalTask::new("metadata", FUTURE);
+    assert_eq!(rt; looks(&task), [true, false, false, false, true]);
+    assert_eq!(rt; *task.metadata(), "metadata");
+    for (call, answer, seen) in [
+        (Start, Polls, [false, true, false, false, true]),
+        (Pending, Leaves(NOTHING), [false, false, false, false, true]),
+        (Wake, Queues(Some(false)), [true, false, false, false, true]),
+        (Cancel, Leaves(NOTHING), [true, false, true, false, true]),
+        (Start, Ends(ENDS), [false, false, true, false, true]),
+        (Detach, Leaves(EMPTIED), [false, false, true, true, false]),
+    ] {
+        assert_eq!(rt; answer_of(&rt, &mut task, call), answer);
+        assert_eq!(rt; looks(&task), seen, "{call:?}");
+    }
+    let mut completed: Task = LocalTask::new("metadata", FUTURE);
+    answers(
+        &rt,
+        &mut completed,
+        &[
+            (Start, Polls),
+            (AddWaker, Adds(true)),
+            (Ready, Leaves(ENDS)),
+        ],
+    );
+    assert_eq!(rt; looks(&completed), [false, false, true, false, true]);
+    assert_eq!(rt; completed.wakers(), 1);
+}
+
+#[test]
+fn the_laws_can_be_had_at_any_types(_rt: HostRuntime) {
+    laws::<u8, u8, Awaiter>();
+}

@@ -1,0 +1,176 @@
+//! The calls of the Task, in each case.
+
+use super::*;
+
+#[test]
+fn a_cancel(rt: HostRuntime) {
+    lives(
+        &rt,
+        &[
+            (Poll(1), Pends(NOTHING)),
+            (Cancel, Leaves(WAKES)),
+            (Cancel, Leaves(NOTHING)),
+            (Start, Ends(ENDS)),
+        ],
+    );
+    lives(
+        &rt,
+        &[
+            (Poll(1), Pends(NOTHING)),
+            (Start, Polls),
+            (Cancel, Leaves(WAKES)),
+            (Pending, Leaves(ENDS)),
+        ],
+    );
+    lives_on(
+        &rt,
+        &ONCE,
+        &[
+            (Cancel, Leaves(QUEUED)),
+            (Start, Ends(ENDS)),
+            (Cancel, Leaves(NOTHING)),
+        ],
+    );
+    let queued_and_wakes = Left {
+        wake: Some(1),
+        ..QUEUED
+    };
+    lives_on(
+        &rt,
+        &AWAITED,
+        &[(Cancel, Leaves(queued_and_wakes)), (Start, Ends(ENDS))],
+    );
+    lives(
+        &rt,
+        &[
+            (Start, Polls),
+            (Wake, Queues(None)),
+            (Cancel, Leaves(NOTHING)),
+            (Pending, Leaves(ENDS)),
+        ],
+    );
+    lives(
+        &rt,
+        &[
+            (Start, Polls),
+            (Ready, Leaves(ENDS)),
+            (Cancel, Leaves(NOTHING)),
+            (Poll(1), Readies(Some(OUTPUT), NOTHING)),
+        ],
+    );
+}
+
+#[test]
+fn a_detach(rt: HostRuntime) {
+    let unclaimed = Left {
+        output: true,
+        ..NOTHING
+    };
+    let unclaimed_emptied = Left {
+        emptied: true,
+        ..unclaimed
+    };
+    lives(
+        &rt,
+        &[
+            (Start, Polls),
+            (Ready, Leaves(ENDS)),
+            (Detach, Leaves(unclaimed_emptied)),
+        ],
+    );
+    lives(
+        &rt,
+        &[
+            (AddWaker, Adds(true)),
+            (Start, Polls),
+            (Ready, Leaves(ENDS)),
+            (Detach, Leaves(unclaimed)),
+            (DropWaker, Leaves(EMPTIED)),
+        ],
+    );
+    lives(
+        &rt,
+        &[
+            (Start, Polls),
+            (Ready, Leaves(ENDS)),
+            (Poll(1), Readies(Some(OUTPUT), NOTHING)),
+            (Detach, Leaves(EMPTIED)),
+        ],
+    );
+    lives_on(
+        &rt,
+        &ONCE,
+        &[
+            (Detach, Leaves(QUEUED)),
+            (Wake, Queues(None)),
+            (Start, Ends(ENDS_EMPTIED)),
+        ],
+    );
+    lives_on(
+        &rt,
+        &ONCE,
+        &[
+            (AddWaker, Adds(true)),
+            (Detach, Leaves(NOTHING)),
+            (Wake, Queues(Some(false))),
+        ],
+    );
+    lives(&rt, &[(Detach, Leaves(NOTHING)), (Start, Polls)]);
+}
+
+#[test]
+fn a_poll_of_the_task(rt: HostRuntime) {
+    lives(
+        &rt,
+        &[
+            (Start, Polls),
+            (Ready, Leaves(ENDS)),
+            (Poll(1), Readies(Some(OUTPUT), NOTHING)),
+            (Poll(1), Readies(None, NOTHING)),
+        ],
+    );
+    let second = Left {
+        dropped: Some(1),
+        ..NOTHING
+    };
+    let wakes_second = Left {
+        wake: Some(2),
+        ..ENDS
+    };
+    lives(
+        &rt,
+        &[
+            (Poll(1), Pends(NOTHING)),
+            (Poll(2), Pends(second)),
+            (RefusedPoll, Refuses),
+            (Discard, Leaves(wakes_second)),
+        ],
+    );
+    // A task that is done holds no awaiter: it is put there to show what a poll would do.
+    for (completed, number) in [(true, 1), (true, 2), (false, 1), (false, 2)] {
+        let mut task: Task = LocalTask::new("metadata", FUTURE);
+        task.stage = if completed {
+            Stage::Completed(OUTPUT)
+        } else {
+            Stage::Ended
+        };
+        task.awaiter = Some(Awaiter::new(1));
+        let output = if completed { Some(OUTPUT) } else { None };
+        let settled = if number == 1 {
+            Left {
+                dropped: Some(1),
+                ..NOTHING
+            }
+        } else {
+            WAKES
+        };
+        answers(
+            &rt,
+            &mut task,
+            &[
+                (Poll(number), Readies(output, settled)),
+                (Poll(number), Readies(None, NOTHING)),
+            ],
+        );
+    }
+}

@@ -1,0 +1,156 @@
+//! The benchmarks in which several threads use wakers of one task.
+
+mod phases;
+
+use crate::failure::Failure;
+use crate::futures::Pending;
+use crate::measure::{Summary, hundredths_of_one, summarize};
+use crate::queue::{Queue, QueueWaker};
+use phases::Phases;
+use std::alloc::{AllocError, Global};
+use std::rt::Clock;
+use std::sync::Wait;
+use std::thread;
+use std::thread::Threads;
+use std::time::{Duration, Instant};
+
+/// What each of the threads does with its waker.
+#[derive(Clone, Copy)]
+pub enum Contention {
+    /// It wakes the task, which one more thread runs.
+    WakeStorm,
+    /// It clones the waker and drops the clone.
+    CloneDrop,
+}
+
+/// What such a benchmark gave.
+#[derive(Drop)]
+pub struct Throughput {
+    /// The time of one operation, as each of the threads sees it, in hundredths of a nanosecond.
+    pub time: Summary,
+    /// How many operations all threads did in a second: the median.
+    pub per_second: u64,
+    /// How often the task was run in a second: the median.
+    pub runs_per_second: u64,
+}
+
+// What one measurement counted.
+#[derive(Drop)]
+struct Counted {
+    elapsed: Duration,
+    operations: u64,
+    runs: u64,
+}
+
+impl Contention {
+    /// Both of them, in the order in which they are printed.
+    pub const ALL: [Contention; 2] = [Contention::WakeStorm, Contention::CloneDrop];
+
+    /// The name that is printed before the number of threads.
+    pub fn name(self) -> &'static str {
+        match self {
+            Contention::WakeStorm => "f_wake_storm",
+            Contention::CloneDrop => "g_clone_drop",
+        }
+    }
+
+    /// Measures with that many threads, `repetitions` times, at least once.
+    pub fn measure<R: Clock + Threads + Wait + Drop + Copy + Send + Sync>(
+        self,
+        rt: R,
+        alloc: Global,
+        threads: u32,
+        repetitions: u32,
+    ) -> Result<Throughput, Failure> {
+        let queue = Queue::new(rt, alloc);
+        let (runnable, task) = queue.spawn(Pending)?;
+        let waker = runnable.waker().ok_or(AllocError)?;
+        let mut scheduled = Some(runnable);
+        if let Contention::WakeStorm = self {
+            if let Some(runnable) = scheduled.take() {
+                runnable.run();
+            }
+        }
+        let mut counted = Vec::new(alloc);
+        for _ in 0..repetitions {
+            counted.push(self.measure_once(rt, &queue, &waker, threads)?)?;
+        }
+        drop((scheduled, task));
+        medians_of(alloc, threads, counted.as_slice())
+    }
+
+    // One measurement: the threads are started, each with a clone of the waker, work for a time, and end. The task is run by this thread.
+    fn measure_once<R: Clock + Threads + Wait + Drop + Copy + Send + Sync>(
+        self,
+        rt: R,
+        queue: &Queue<R, Pending>,
+        waker: &QueueWaker<'_, R, Pending>,
+        threads: u32,
+    ) -> Result<Counted, Failure> {
+        let phases = Phases::new();
+        let shared = &phases;
+        let start = thread::scope(thread::scope_env(), &rt, |scope| {
+            for _ in 0..threads {
+                let Some(clone) = waker.clone() else {
+                    return shared.give_up();
+                };
+                if scope.spawn(move || self.work(rt, clone, shared)).is_err() {
+                    return shared.give_up();
+                }
+            }
+            if scope.spawn(move || shared.stop_later(rt)).is_err() {
+                return shared.give_up();
+            }
+            let start = Instant::now(&rt).ok();
+            shared.start();
+            if let Contention::WakeStorm = self {
+                shared.run(rt, queue);
+            }
+            start
+        });
+        let start = start.ok_or(Failure::NoThread)?;
+        Ok(Counted {
+            elapsed: start.elapsed(&rt)?,
+            operations: phases.operations(),
+            runs: phases.runs(),
+        })
+    }
+
+    // What a thread does with its waker, which it drops at the end.
+    fn work<R: Wait + Drop + Copy>(
+        self,
+        rt: R,
+        waker: QueueWaker<'_, R, Pending>,
+        phases: &Phases,
+    ) {
+        match self {
+            Contention::WakeStorm => phases.wake(rt, &waker),
+            Contention::CloneDrop => phases.clone_and_drop(rt, &waker),
+        }
+    }
+}
+
+// How many of these there were in a second; in no time, none.
+fn per_second(number: u64, elapsed: Duration) -> u64 {
+    let scaled = u128::from(number).saturating_mul(1_000_000_000);
+    let rate = scaled.checked_div(elapsed.as_nanos()).unwrap_or(0);
+    u64::try_from(rate).unwrap_or(u64::MAX)
+}
+
+// The medians of what the measurements counted.
+fn medians_of(alloc: Global, threads: u32, counted: &[Counted]) -> Result<Throughput, Failure> {
+    let mut times = Vec::new(alloc);
+    let mut rates = Vec::new(alloc);
+    let mut runs = Vec::new(alloc);
+    for one in counted {
+        let work = one.elapsed.saturating_mul(threads);
+        times.push(hundredths_of_one(work, one.operations))?;
+        rates.push(per_second(one.operations, one.elapsed))?;
+        runs.push(per_second(one.runs, one.elapsed))?;
+    }
+    Ok(Throughput {
+        time: summarize(times)?,
+        per_second: summarize(rates)?.median,
+        runs_per_second: summarize(runs)?.median,
+    })
+}

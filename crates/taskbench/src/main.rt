@@ -1,0 +1,29 @@
+//! Benchmarks of the task cell: how long an operation takes, and the operations alone for those who count what they do.
+#![tactic(auto)]
+
+mod asked;
+mod benchmarks;
+mod contended;
+mod failure;
+mod futures;
+mod measure;
+mod queue;
+mod report;
+mod slot;
+
+use std::process::ExitCode;
+use std::{env, io};
+
+fn main(rt: HostRuntime) -> io::Result<ExitCode> {
+    let mut args = Vec::new(rt.alloc());
+    for arg in env::args(&rt)?.skip(1) {
+        args.push(arg)?;
+    }
+    let mut out = io::writer(&rt);
+    let mut err = rt.stderr();
+    let status = report::answer(rt, rt.alloc(), args.as_slice(), &mut out, &mut err);
+    Ok(ExitCode::from(status))
+}
+
+#[cfg(test)]
+mod tests;

@@ -1,0 +1,95 @@
+//! Surroundings with a queue of Runnables under a lock, which any thread may use.
+ghost use Rattle.std.specs.Prelude.{⊤};
+
+use crate::futures::Nobody;
+use async_task::{
+    ParkedRunnable, Runnable, Schedule, ScheduleInfo, Task, TaskWaker, Yields, spawn,
+};
+use std::alloc::{AllocError, Global};
+use std::collections::VecDeque;
+use std::sync::{Mutex, Wait};
+
+/// A queue of the Runnables of one type of future.
+pub struct Queue<R: Wait + Drop + Copy, F: Yields> {
+    rt: R,
+    alloc: Global,
+    waiting: Mutex<VecDeque<ParkedRunnable<R, F, ToQueue, (), Nobody>>>,
+}
+
+/// The schedule value of tasks whose Runnables go to the queue that they carry.
+#[derive(Drop)]
+pub struct ToQueue;
+
+/// A Runnable that carries a queue.
+pub type QueueRunnable<'x, R, F> = Runnable<R, F, ToQueue, (), Nobody, &'x Queue<R, F>>;
+
+/// A Task that carries a queue.
+pub type QueueTask<'x, R, F> = Task<R, F, ToQueue, (), Nobody, &'x Queue<R, F>>;
+
+/// A waker that carries a queue.
+pub type QueueWaker<'x, R, F> = TaskWaker<R, F, ToQueue, (), Nobody, &'x Queue<R, F>>;
+
+/// A Runnable and its Task.
+pub type QueueHandles<'x, R, F> = (QueueRunnable<'x, R, F>, QueueTask<'x, R, F>);
+
+impl<'x, R: Wait + Drop + Copy, F: Yields> Schedule<QueueRunnable<'x, R, F>> for ToQueue {
+    ghost scheduled = { λ _ _ _. ⊤ };
+
+    fn schedule(&self, runnable: QueueRunnable<'x, R, F>, _info: ScheduleInfo) {
+        runnable.around().push(runnable);
+    }
+}
+
+impl<R: Wait + Drop + Copy, F: Yields> Queue<R, F> {
+    /// An empty queue.
+    pub fn new(rt: R, alloc: Global) -> Queue<R, F> {
+        Queue {
+            rt,
+            alloc,
+            waiting: Mutex::new(VecDeque::new(alloc)),
+        }
+    }
+
+    /// Takes room for that many Runnables.
+    pub fn reserve(&self, room: usize) -> Result<(), AllocError> {
+        self.waiting.lock(&self.rt).try_reserve(room)
+    }
+
+    /// Spawns a task.
+    pub fn spawn(&self, future: F) -> Result<QueueHandles<'_, R, F>, AllocError> {
+        match spawn(self.rt, self.alloc, future, ToQueue, self) {
+            Ok(handles) => Ok(handles),
+            Err(_) => Err(AllocError),
+        }
+    }
+
+    /// Pushes a Runnable. Where there is no memory it is dropped, which cancels its task.
+    pub fn push<'x>(&'x self, runnable: QueueRunnable<'x, R, F>) {
+        let pushed = self.waiting.lock(&self.rt).push_back(runnable.park());
+        if let Err(refused) = pushed {
+            drop(refused.value.unpark(self));
+        }
+    }
+
+    /// Takes the Runnable that has waited longest.
+    pub fn pop(&self) -> Option<QueueRunnable<'_, R, F>> {
+        let parked = self.waiting.lock(&self.rt).pop_front()?;
+        Some(parked.unpark(self))
+    }
+}
+
+// A parked handle cannot be dropped: what is left in the queue is unparked first.
+impl<R: Wait + Drop + Copy, F: Yields> Drop for Queue<R, F> {
+    fn drop(self) {
+        let Queue {
+            rt: _,
+            alloc: _,
+            waiting,
+        } = self;
+        let mut waiting = waiting.into_inner();
+        while let Some(parked) = waiting.pop_front() {
+            drop(parked.unpark(()));
+        }
+        waiting.destroy_empty();
+    }
+}

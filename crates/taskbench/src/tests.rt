@@ -1,0 +1,85 @@
+//! Tests of the benchmarks, which assert no time.
+
+use crate::asked::{Request, asked};
+use crate::benchmarks::Benchmark;
+use crate::contended::Contention;
+use crate::measure::{Hundredths, hundredths_of_one, summarize};
+use crate::report::answer;
+use std::process::Abort;
+use std::test::Fail;
+use std::time::Duration;
+
+#[test]
+fn each_benchmark_performs(rt: HostRuntime) {
+    for benchmark in Benchmark::ALL {
+        assert_eq!(rt; Benchmark::named(benchmark.name()), Some(benchmark));
+        assert!(rt; benchmark.perform(rt, rt.alloc(), 3).is_ok());
+    }
+}
+
+// The tasks of an executor come in whole executors.
+#[test]
+fn an_executor_is_played_to_its_end(rt: HostRuntime) {
+    let done = Benchmark::Execute1000Yield10.perform(rt, rt.alloc(), 1001);
+    assert_eq!(rt; done.ok(), Some(2000));
+}
+
+#[test]
+fn each_contention_is_measured(rt: HostRuntime) {
+    for contention in Contention::ALL {
+        assert!(rt; contention.measure(rt, rt.alloc(), 2, 1).is_ok());
+    }
+}
+
+#[test]
+fn times_are_shown_in_nanoseconds(rt: HostRuntime) -> Result<(), Fail> {
+    let alloc = rt.alloc();
+    let time = Hundredths(hundredths_of_one(Duration::from_nanos(1207), 100));
+    let shown = format!(in alloc; "{time}")?;
+    assert_eq!(rt; shown.as_str(), "12.07");
+    let four = vec![in alloc; 7u64, 3, 9, 5]?;
+    let Ok(found) = summarize(four) else {
+        panic!(rt; "there are four")
+    };
+    assert_eq!(rt; (found.median, found.least), (7, 3));
+    assert!(rt; summarize(Vec::new(alloc)).is_err());
+    Ok(())
+}
+
+#[test]
+fn no_arguments_print_nothing(rt: HostRuntime) {
+    let mut out = Vec::new(rt.alloc());
+    let mut err = Vec::new(rt.alloc());
+    assert_eq!(rt; answer(rt, rt.alloc(), &[], &mut out, &mut err), 0);
+    assert_eq!(rt; (out.len(), err.len()), (0, 0));
+}
+
+const USAGE: &str = "usage: taskbench [run | quick | perform NAME COUNT]\n";
+
+#[test]
+fn unknown_words_are_told_the_usage(rt: HostRuntime) -> Result<(), Fail> {
+    let alloc = rt.alloc();
+    let mut out = Vec::new(alloc);
+    let mut err = Vec::new(alloc);
+    let args = [String::from_str(alloc, "fast")?];
+    assert_eq!(rt; answer(rt, alloc, &args, &mut out, &mut err), 2);
+    assert_eq!(rt; out.len(), 0);
+    assert_eq!(rt; err.as_slice(), USAGE.as_bytes());
+    Ok(())
+}
+
+#[test]
+fn operations_are_asked_for_by_name(rt: HostRuntime) -> Result<(), Fail> {
+    let alloc = rt.alloc();
+    let word = String::from_str(alloc, "perform")?;
+    let name = String::from_str(alloc, "c_waker_clone_drop")?;
+    let count = String::from_str(alloc, "12")?;
+    let args = [word, name, count];
+    let expected = Request::Perform(Benchmark::CloneDrop, 12);
+    assert_eq!(rt; asked(&args), Some(expected));
+    let mut out = Vec::new(alloc);
+    let mut err = Vec::new(alloc);
+    assert_eq!(rt; answer(rt, alloc, &args, &mut out, &mut err), 0);
+    assert_eq!(rt; (out.len(), err.len()), (0, 0));
+    Ok(())
+}

@@ -1,4 +1,0 @@
-pub mod Arguments
-pub mod Behaviour
-pub mod Polled
-pub mod Row

@@ -1,0 +1,102 @@
+//! Tests of the builder, and of what handles and builders show.
+
+use async_task::{Builder, TaskPoll};
+use fixtures::counters::{Counter, Counters};
+use fixtures::executor::{PriorityQueue, PriorityScheduler};
+use fixtures::fixture::Fixture;
+use fixtures::future::{Behaviour, Output, RowFuture};
+use fixtures::surroundings::Scheduler;
+use std::process::Abort;
+use std::sync::Arc;
+use std::test::Fail;
+
+// What a handle shows of a task after its spawn, after the handle's own name.
+const SPAWNED: &str =
+    " { header: Header { scheduled: true, running: false, completed: false, closed: false, awaiter: false, task: true, ref_count: 1, metadata: () } }";
+
+#[test]
+fn handles_show_the_flags_the_count_and_the_metadata(rt: HostRuntime) -> Result<(), Fail> {
+    let alloc = rt.alloc();
+    let fixture = Fixture::new(rt, alloc)?;
+    let (runnable, task) = fixture.spawn(Behaviour::Pending)?;
+    let shown = format!(in alloc; "{runnable:?}")?;
+    let expected = format!(in alloc; "Runnable{SPAWNED}")?;
+    assert_eq!(rt; shown.as_str(), expected.as_str());
+    let shown = format!(in alloc; "{task:?}")?;
+    let expected = format!(in alloc; "Task{SPAWNED}")?;
+    assert_eq!(rt; shown.as_str(), expected.as_str());
+    let fallible = task.fallible();
+    let shown = format!(in alloc; "{fallible:?}")?;
+    let expected = format!(in alloc; "FallibleTask{SPAWNED}")?;
+    assert_eq!(rt; shown.as_str(), expected.as_str());
+    drop(runnable);
+    Ok(())
+}
+
+#[test]
+fn builders_show_the_metadata_and_the_limit(rt: HostRuntime) -> Result<(), Fail> {
+    let alloc = rt.alloc();
+    let builder = Builder::new();
+    let shown = format!(in alloc; "{builder:?}")?;
+    assert_eq!(rt;
+        shown.as_str(),
+        "Builder { metadata: (), limit: 36028797018963967 }"
+    );
+    let builder = builder.reference_limit(18446744073709551615);
+    let shown = format!(in alloc; "{builder:?}")?;
+    assert_eq!(rt;
+        shown.as_str(),
+        "Builder { metadata: (), limit: 36028797018963967 }"
+    );
+    let builder = builder.reference_limit(3).metadata(7u64);
+    let shown = format!(in alloc; "{builder:?}")?;
+    assert_eq!(rt; shown.as_str(), "Builder { metadata: 7, limit: 3 }");
+    let builder: Builder<u64> = Builder::default();
+    let shown = format!(in alloc; "{builder:?}")?;
+    assert_eq!(rt;
+        shown.as_str(),
+        "Builder { metadata: 0, limit: 36028797018963967 }"
+    );
+    Ok(())
+}
+
+#[test]
+fn the_maker_is_called_once_with_the_metadata(rt: HostRuntime) -> Result<(), Fail> {
+    let fixture = Fixture::new(rt, rt.alloc())?;
+    let flag = fixture.flag(1)?;
+    let calls = Counter::new();
+    let counters = Arc::new(rt.alloc(), Counters::new())?;
+    let queue = PriorityQueue::new(rt, rt.alloc(), 1)?;
+    let scheduler = PriorityScheduler::new(Scheduler::new(Arc::try_clone(&counters)?));
+    let shared = Arc::try_clone(&counters)?;
+    let maker = |number: &u64| {
+        calls.add_one();
+        RowFuture::new(Behaviour::Ready(*number), shared)
+    };
+    let builder = Builder::new().metadata(7u64);
+    let Ok((runnable, mut task)) = builder.spawn(rt, rt.alloc(), maker, scheduler, &queue) else {
+        panic!(rt; "no memory");
+    };
+    assert_eq!(rt; calls.get(), 1);
+    assert_eq!(rt; *runnable.metadata(), 7);
+    assert_eq!(rt; *task.metadata(), 7);
+    assert!(rt; !runnable.run());
+    let polled = task.poll(&flag);
+    assert!(rt; matches!(&polled, TaskPoll::Ready(Ok(Output { number: 7, .. }))));
+    drop(task);
+    assert_eq!(rt; calls.get(), 1);
+    Ok(())
+}
+
+// At a limit of 0 or 1 the Runnable of the spawn is all that may be: each waker is refused.
+#[test]
+fn a_limit_refuses_wakers(rt: HostRuntime) -> Result<(), Fail> {
+    let fixture = Fixture::new(rt, rt.alloc())?;
+    for references in 0..2u64 {
+        let (runnable, task) = fixture.spawn_limited(Behaviour::Pending, references)?;
+        assert!(rt; runnable.waker().is_none());
+        assert!(rt; fixture.shows(&runnable, 0x111)?);
+        drop(task);
+    }
+    Ok(())
+}

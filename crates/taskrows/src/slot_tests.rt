@@ -1,0 +1,163 @@
+//! A test of a schedule value that keeps the last Runnable in a slot before its list.
+ghost use Rattle.std.specs.Prelude.{⊤};
+
+use async_task::{
+    Builder, Future, ParkedRunnable, Poll, Runnable, Schedule, ScheduleInfo, Task, TaskWaker,
+    WithInfo, Yields,
+};
+use fixtures::flag::Flag;
+use std::alloc::{AllocError, Global};
+use std::collections::VecDeque;
+use std::mem;
+use std::process::Abort;
+use std::sync::{Mutex, Wait};
+use std::test::Fail;
+
+// A future that wakes its task at each poll, and always answers pending.
+#[derive(Drop)]
+struct Yielding;
+
+impl Yields for Yielding {
+    type Output = ();
+}
+
+impl<'x, R: Wait + Drop> Future<SlotWaker<'x, R>> for Yielding {
+    ghost polled = { λ _ _ _ _. ⊤ };
+
+    fn poll(&mut self, waker: &SlotWaker<'x, R>) -> Poll<()> {
+        waker.wake_by_ref();
+        Poll::Pending
+    }
+}
+
+// The schedule value: it is told by each call whether the task was woken while it ran.
+#[derive(Drop)]
+struct LastFirst;
+
+// The handles of a task with a slot.
+type SlotRunnable<'x, R> = Runnable<R, Yielding, WithInfo<LastFirst>, u64, Flag, &'x Slots<R>>;
+
+type SlotTask<'x, R> = Task<R, Yielding, WithInfo<LastFirst>, u64, Flag, &'x Slots<R>>;
+
+type SlotWaker<'x, R> = TaskWaker<R, Yielding, WithInfo<LastFirst>, u64, Flag, &'x Slots<R>>;
+
+type SlotParked<R> = ParkedRunnable<R, Yielding, WithInfo<LastFirst>, u64, Flag>;
+
+// A slot of one Runnable, and the list beside it.
+struct Slots<R: Wait + Drop> {
+    rt: R,
+    slot: Mutex<Option<SlotParked<R>>>,
+    list: Mutex<VecDeque<SlotParked<R>>>,
+}
+
+impl<R: Wait + Drop> Slots<R> {
+    fn new(rt: R, alloc: Global) -> Slots<R> {
+        Slots {
+            rt,
+            slot: Mutex::new(None),
+            list: Mutex::new(VecDeque::new(alloc)),
+        }
+    }
+
+    // Puts a Runnable at the back of the list. Where there is no memory it is dropped, and the test does not find it.
+    fn push_back(&self, parked: SlotParked<R>) {
+        let pushed = self.list.lock(&self.rt).push_back(parked);
+        if let Err(refused) = pushed {
+            drop(refused.value.unpark(()));
+        }
+    }
+
+    // Puts a Runnable into the slot, and moves the one that stood there to the back of the list.
+    fn put(&self, parked: SlotParked<R>) {
+        let previous = {
+            let mut slot = self.slot.lock(&self.rt);
+            mem::replace(&mut *slot, Some(parked))
+        };
+        if let Some(previous) = previous {
+            self.push_back(previous);
+        }
+    }
+
+    // Takes the Runnable out of the slot.
+    fn take(&self) -> Option<SlotRunnable<'_, R>> {
+        let parked = self.slot.lock(&self.rt).take()?;
+        Some(parked.unpark(self))
+    }
+
+    // Whether the list has just the Runnables of tasks with these metadata, in this order.
+    fn list_is(&self, expected: &[u64]) -> bool {
+        let list = self.list.lock(&self.rt);
+        for (index, number) in expected.iter().enumerate() {
+            let Some(parked) = list.get(index) else {
+                return false;
+            };
+            if parked.metadata() != number {
+                return false;
+            }
+        }
+        list.len() == expected.len()
+    }
+}
+
+// A parked handle cannot be dropped: what is left is unparked first.
+impl<R: Wait + Drop> Drop for Slots<R> {
+    fn drop(self) {
+        let Slots { rt, slot, list } = self;
+        if let Some(parked) = slot.into_inner() {
+            drop(parked.unpark(()));
+        }
+        let mut list = list.into_inner();
+        while let Some(parked) = list.pop_front() {
+            drop(parked.unpark(()));
+        }
+        list.destroy_empty();
+        drop(rt);
+    }
+}
+
+impl<'x, R: Wait + Drop> Schedule<SlotRunnable<'x, R>> for LastFirst {
+    ghost scheduled = { λ _ _ _. ⊤ };
+
+    fn schedule(&self, runnable: SlotRunnable<'x, R>, info: ScheduleInfo) {
+        let slots = runnable.around();
+        if info.woken_while_running {
+            slots.push_back(runnable.park());
+        } else {
+            slots.put(runnable.park());
+        }
+    }
+}
+
+// Spawns a task with that metadata, and schedules its Runnable.
+fn spawn_scheduled<R: Wait + Drop + Copy>(
+    rt: R,
+    alloc: Global,
+    slots: &Slots<R>,
+    number: u64,
+) -> Result<SlotTask<'_, R>, AllocError> {
+    let schedule = WithInfo::from(LastFirst);
+    let (runnable, task) = Builder::new()
+        .metadata(number)
+        .spawn(rt, alloc, |_| Yielding, schedule, slots)
+        .map_err(|_| AllocError)?;
+    runnable.schedule();
+    Ok(task)
+}
+
+#[test]
+fn the_last_runnable_stands_in_the_slot(rt: HostRuntime) -> Result<(), Fail> {
+    let slots = Slots::new(rt, rt.alloc());
+    let first = spawn_scheduled(rt, rt.alloc(), &slots, 1)?;
+    let second = spawn_scheduled(rt, rt.alloc(), &slots, 2)?;
+    let third = spawn_scheduled(rt, rt.alloc(), &slots, 3)?;
+    assert!(rt; slots.list_is(&[1, 2]));
+    let Some(runnable) = slots.take() else {
+        panic!(rt; "the slot is empty");
+    };
+    assert_eq!(rt; *runnable.metadata(), 3);
+    assert!(rt; runnable.run());
+    assert!(rt; slots.take().is_none());
+    assert!(rt; slots.list_is(&[1, 2, 3]));
+    drop((first, second, third));
+    Ok(())
+}

@@ -1,0 +1,84 @@
+//! A test of wakes by four threads while a fifth one runs the task.
+
+use fixtures::counters::{Counter, Counts};
+use fixtures::fixture::Fixture;
+use fixtures::future::Behaviour;
+use fixtures::surroundings::{RowRunnable, RowWaker};
+use std::process::Abort;
+use std::sync::Wait;
+use std::test::Fail;
+use std::thread;
+use std::thread::{Threads, yield_now};
+
+// How many threads wake, how often each does, and how often the runner looks at the queue at most.
+const THREADS: u64 = 4;
+
+const WAKES: u32 = 1_000;
+
+const TURNS: u32 = 10_000_000;
+
+// What each of the four threads does.
+fn wake_often<R: Wait + Drop>(waker: RowWaker<'_, R>, ended: &Counter) {
+    for _ in 0..WAKES {
+        waker.wake_by_ref();
+    }
+    drop(waker);
+    ended.add_one();
+}
+
+// Runs whatever is queued, until the four threads have ended and the queue is empty. False where that was not reached.
+fn run_to_the_end<R: Wait + Drop + Copy>(fixture: &Fixture<R>, ended: &Counter) -> bool {
+    for _ in 0..TURNS {
+        let over = ended.get() == THREADS;
+        if fixture.surroundings.run_next().is_none() && over {
+            return true;
+        }
+        yield_now();
+    }
+    false
+}
+
+// The first run, and those that four threads wake the task for: whether all threads came and the last run was made.
+fn storm<'x, R: Wait + Threads + Drop + Copy + Send + Sync>(
+    rt: &R,
+    fixture: &'x Fixture<R>,
+    ended: &Counter,
+    runnable: RowRunnable<'x, R>,
+) -> bool {
+    thread::scope(thread::scope_env(), rt, |scope| {
+        for _ in 0..THREADS {
+            let Some(waker) = runnable.waker() else {
+                return false;
+            };
+            if scope.spawn(move || wake_often(waker, ended)).is_err() {
+                return false;
+            }
+        }
+        runnable.run();
+        run_to_the_end(fixture, ended)
+    })
+}
+
+// Each Runnable that a wake hands over is polled once, and no two polls overlap.
+#[test]
+fn four_threads_wake_one_task(rt: HostRuntime) -> Result<(), Fail> {
+    let fixture = Fixture::new(rt, rt.alloc())?;
+    let (runnable, task) = fixture.spawn(Behaviour::Pending)?;
+    let ended = Counter::new();
+    assert!(rt; storm(&rt, &fixture, &ended, runnable));
+    assert_eq!(rt; fixture.overlaps(), 0);
+    let Counts {
+        polls,
+        schedules,
+        future_drops,
+        scheduler_drops,
+    } = fixture.counts();
+    assert_eq!(rt; polls, schedules.wrapping_add(1));
+    assert_eq!(rt; (future_drops, scheduler_drops), (0, 0));
+    drop(task);
+    assert_eq!(rt; fixture.surroundings.run_next(), Some(false));
+    let last = fixture.counts();
+    assert_eq!(rt; (last.future_drops, last.scheduler_drops), (1, 1));
+    assert_eq!(rt; last.polls, polls);
+    Ok(())
+}

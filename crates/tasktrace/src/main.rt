@@ -1,0 +1,21 @@
+//! Plays the steps that it reads from standard input, and prints how the task stands after each.
+#![tactic(auto)]
+
+mod holders;
+mod line;
+mod names;
+mod reason;
+mod row;
+mod trace;
+
+use std::io;
+use std::io::{BufReader, BufWriter};
+use std::process::ExitCode;
+
+fn main(rt: HostRuntime) -> io::Result<ExitCode> {
+    let input = BufReader::new(rt.alloc(), rt.reader())?;
+    let mut out = BufWriter::new(rt.alloc(), io::writer(&rt))?;
+    let mut err = rt.stderr();
+    let status = trace::trace(rt.alloc(), input, &mut out, &mut err);
+    Ok(ExitCode::from(status))
+}

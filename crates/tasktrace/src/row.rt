@@ -1,0 +1,104 @@
+//! A row of the table: how the task stands after a step. The table is one of Markdown, so that a page can show it as it is.
+
+use crate::holders::{Slot, held_by};
+use crate::names::name;
+use std::alloc::Global;
+use std::{fmt, io};
+use task_core::moves::{Position, Rest};
+use task_core::replay::player::Player;
+use task_core::replay::{Machine, Step};
+use task_core::word::{
+    AWAITER, CLOSED, COMPLETED, NOTIFYING, REGISTERING, RUNNING, SCHEDULED, TASK, Word,
+};
+
+/// The flags of a word, each with its name.
+pub const FLAGS: [(u64, &str); 8] = [
+    (SCHEDULED, "SCHEDULED"),
+    (RUNNING, "RUNNING"),
+    (COMPLETED, "COMPLETED"),
+    (CLOSED, "CLOSED"),
+    (TASK, "TASK"),
+    (AWAITER, "AWAITER"),
+    (REGISTERING, "REGISTERING"),
+    (NOTIFYING, "NOTIFYING"),
+];
+
+/// Prints the names of the columns.
+pub fn print_head<W: io::Write>(out: &mut W) -> io::Result<()> {
+    writeln!(
+        out,
+        "| Step | Act | Word | Flags | Count | Future | Output | Awaiter | Parties |"
+    )?;
+    writeln!(out, "|---|---|---|---|---|---|---|---|---|")
+}
+
+/// Prints how the machine stands: after that step, or after the spawn.
+pub fn print_row<W: io::Write>(
+    player: &Player<Global>,
+    step: Option<Step>,
+    out: &mut W,
+) -> io::Result<()> {
+    let machine = player.machine();
+    let number = player.steps();
+    match step {
+        Some(step) => {
+            let shown = ShownStep(step);
+            write!(out, "| {number} | {shown} | ")?;
+        }
+        None => write!(out, "| {number} | spawn | ")?,
+    }
+    print_word(machine.word(), out)?;
+    print_slots(machine, out)?;
+    print_parties(machine, out)?;
+    writeln!(out, " |")
+}
+
+/// A step as its line gives it.
+#[derive(Clone, Copy)]
+pub struct ShownStep(pub Step);
+
+impl fmt::Display for ShownStep {
+    fn fmt<W: fmt::Write>(&self, f: &mut fmt::Formatter<W>) -> fmt::Result {
+        let party = self.0.party;
+        let act = name(self.0.act);
+        write!(f, "{party} {act}")
+    }
+}
+
+fn print_word<W: io::Write>(word: Word, out: &mut W) -> io::Result<()> {
+    let bits = word.bits();
+    let count = word.references();
+    write!(out, "0x{bits:03X} |")?;
+    for (flag, name) in FLAGS {
+        if bits & flag != 0 {
+            write!(out, " {name}")?;
+        }
+    }
+    write!(out, " | {count} | ")
+}
+
+fn print_slots<W: io::Write>(machine: &Machine<Global>, out: &mut W) -> io::Result<()> {
+    let future = held_by(machine, Slot::Future);
+    let output = held_by(machine, Slot::Output);
+    let awaiter = held_by(machine, Slot::Awaiter);
+    write!(out, "{future} | {output} | {awaiter}")?;
+    match machine.slots().awaiter {
+        Some(poll) => write!(out, ", of poll {poll} |"),
+        None => write!(out, " |"),
+    }
+}
+
+// Where each party stands that has not ended.
+fn print_parties<W: io::Write>(machine: &Machine<Global>, out: &mut W) -> io::Result<()> {
+    let mut mark = "";
+    for party in 0..machine.parties() as u64 {
+        match machine.position(party) {
+            None | Some(Position::At(Rest::Ended)) => {}
+            Some(position) => {
+                write!(out, "{mark} {party} {position:?}")?;
+                mark = ",";
+            }
+        }
+    }
+    Ok(())
+}

@@ -1,0 +1,171 @@
+//! The trace: the lines that are read, and what is printed of each.
+ghost use Rattle.std.specs.Prelude.{◌≡◌, ◌≤◌, IfOk};
+
+use crate::line::{Expected, content, is_blank, read_limit, read_step};
+use crate::reason::print_refusal;
+use crate::row::{print_head, print_row};
+use std::alloc::{AllocError, Global};
+use std::io;
+use task_core::replay::Step;
+use task_core::replay::player::{PlayError, Player};
+
+// What comes after a line.
+#[derive(Clone, Copy, Debug, PartialEq, Eq)]
+enum Next {
+    // The next line.
+    Line,
+    // The end: its step is not allowed.
+    Refused,
+    // The end: this was expected in place of what stands there.
+    Unread(Expected),
+}
+
+/// Plays the steps that are read from `input`, and prints a row for each on `out`.
+///
+/// The status is 0 where each step is allowed. It is 1 where one is not, which is told on `out` after the rows before it, and where memory, the reader or
+/// a writer fails. It is 2 where a line cannot be read, which is told on `err`, by its number and what was expected there.
+pub fn trace<R: io::BufRead + Drop, W: io::Write, E: io::Write>(
+    alloc: Global,
+    input: R,
+    out: &mut W,
+    err: &mut E,
+) -> u8
+    ensures { result ≤ 2 }
+{
+    match play_lines(alloc, input, out, err) {
+        Ok(status) => status,
+        Err(error) => {
+            let _ = out.flush();
+            let _ = writeln!(err, "{error}");
+            let _ = err.flush();
+            1
+        }
+    }
+}
+
+// The status, or what failed.
+fn play_lines<R: io::BufRead + Drop, W: io::Write, E: io::Write>(
+    alloc: Global,
+    input: R,
+    out: &mut W,
+    err: &mut E,
+) -> io::Result<u8>
+    ensures { IfOk result (λ status. status ≤ 2) }
+{
+    let mut player = None;
+    let mut number = 0u64;
+    for line in input.lines(alloc) {
+        number = number.saturating_add(1);
+        match next_of(alloc, &mut player, line, out)? {
+            Next::Line => {}
+            Next::Refused => return refused(out),
+            Next::Unread(expected) => return unread(number, expected, out, err),
+        }
+    }
+    if player.is_none() {
+        return unread(number.saturating_add(1), Expected::Limit, out, err);
+    }
+    out.flush()?;
+    Ok(0)
+}
+
+fn refused<W: io::Write>(out: &mut W) -> io::Result<u8>
+    ensures { IfOk result (λ status. status ≡ 1) }
+{
+    out.flush()?;
+    Ok(1)
+}
+
+fn unread<W: io::Write, E: io::Write>(
+    number: u64,
+    expected: Expected,
+    out: &mut W,
+    err: &mut E,
+) -> io::Result<u8>
+    ensures { IfOk result (λ status. status ≡ 2) }
+{
+    out.flush()?;
+    writeln!(err, "line {number}: expected {expected}")?;
+    err.flush()?;
+    Ok(2)
+}
+
+// What a line says is done, and printed.
+fn next_of<W: io::Write>(
+    alloc: Global,
+    player: &mut Option<Player<Global>>,
+    line: io::Result<String<Global>>,
+    out: &mut W,
+) -> io::Result<Next> {
+    let text = match line {
+        Ok(text) => text,
+        Err(error) if error.kind() == io::ErrorKind::InvalidData => {
+            return Ok(Next::Unread(Expected::Text));
+        }
+        Err(error) => return Err(error),
+    };
+    let content = content(text.as_str());
+    if is_blank(content) {
+        return Ok(Next::Line);
+    }
+    match player {
+        None => begin(alloc, player, content, out),
+        Some(player) => go_on(player, content, out),
+    }
+}
+
+// The first line gives the limit.
+fn begin<W: io::Write>(
+    alloc: Global,
+    player: &mut Option<Player<Global>>,
+    content: &str,
+    out: &mut W,
+) -> io::Result<Next> {
+    match read_limit(content) {
+        Ok(limit) => {
+            let opened = Player::new(alloc, limit)?;
+            print_head(out)?;
+            print_row(&opened, None, out)?;
+            *player = Some(opened);
+            Ok(Next::Line)
+        }
+        Err(expected) => Ok(Next::Unread(expected)),
+    }
+}
+
+// Each other line gives a step.
+fn go_on<W: io::Write>(
+    player: &mut Player<Global>,
+    content: &str,
+    out: &mut W,
+) -> io::Result<Next> {
+    match read_step(content) {
+        Ok(step) => play_step(player, step, out),
+        Err(expected) => Ok(Next::Unread(expected)),
+    }
+}
+
+fn play_step<W: io::Write>(
+    player: &mut Player<Global>,
+    step: Step,
+    out: &mut W,
+) -> io::Result<Next> {
+    match player.play(step) {
+        Ok(()) => {
+            print_row(player, Some(step), out)?;
+            Ok(Next::Line)
+        }
+        Err(PlayError::NoMemory) => Err(io::Error::from(AllocError)),
+        Err(PlayError::Exhausted) => {
+            writeln!(out, "\nThe trace has made its last step.")?;
+            Ok(Next::Refused)
+        }
+        Err(PlayError::NotAllowed) => {
+            print_refusal(player, step, out)?;
+            Ok(Next::Refused)
+        }
+    }
+}
+
+#[cfg(test)]
+mod tests;

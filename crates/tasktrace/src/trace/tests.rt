@@ -1,0 +1,252 @@
+//! Whole inputs, and what is printed of them.
+
+use super::*;
+use std::test::Fail;
+
+// A writer that takes so many bytes and then fails, and may fail to flush.
+#[derive(Drop)]
+struct Limited {
+    left: usize,
+    flushes: bool,
+}
+
+impl io::Write for Limited {
+    fn write(&mut self, bytes: &[u8]) -> io::Result<usize> {
+        if self.left < bytes.len() {
+            return Err(io::Error::from(io::ErrorKind::StorageFull));
+        }
+        self.left -= bytes.len();
+        Ok(bytes.len())
+    }
+
+    fn flush(&mut self) -> io::Result<()> {
+        if !self.flushes {
+            return Err(io::Error::from(io::ErrorKind::StorageFull));
+        }
+        Ok(())
+    }
+}
+
+const HEAD: &str = "| Step | Act | Word | Flags | Count | Future | Output | Awaiter | Parties |
+|---|---|---|---|---|---|---|---|---|
+| 0 | spawn | 0x111 | SCHEDULED TASK | 1 | cell | empty | empty | 0 At(Runnable), 1 At(Task(0)) |
+";
+
+// A run whose poll answers Ready, and the Task that drops afterwards.
+const READY: &str = "limit 4
+0 start-run
+0 start-poll
+0 answer-ready
+0 drop-future
+0 store-output
+0 complete
+0 give-up-reference
+0 end-call
+1 claim-output
+";
+
+const READY_ROWS: &str = "\
+| 1 | 0 start-run | 0x112 | RUNNING TASK | 1 | party 0 | empty | empty | 0 Starting, 1 At(Task(0)) |
+| 2 | 0 start-poll | 0x112 | RUNNING TASK | 1 | party 0 | empty | empty | 0 Polling, 1 At(Task(0)), 2 At(Lent) |
+| 3 | 0 answer-ready | 0x112 | RUNNING TASK | 1 | party 0 | empty | empty | 0 Ready, 1 At(Task(0)), 2 At(Lent) |
+| 4 | 0 drop-future | 0x112 | RUNNING TASK | 1 | empty | empty | empty | 0 Unstored, 1 At(Task(0)), 2 At(Lent) |
+| 5 | 0 store-output | 0x112 | RUNNING TASK | 1 | empty | party 0 | empty | 0 Stored, 1 At(Task(0)), 2 At(Lent) |
+| 6 | 0 complete | 0x114 | COMPLETED TASK | 1 | empty | cell | empty | 0 GivingUp(None, Ran(false)), 1 At(Task(0)), 2 At(Lent) |
+| 7 | 0 give-up-reference | 0x014 | COMPLETED TASK | 0 | empty | cell | empty | 0 Leaving(Ran(false), Ended), 1 At(Task(0)), 2 At(Lent) |
+| 8 | 0 end-call | 0x014 | COMPLETED TASK | 0 | empty | cell | empty | 1 At(Task(0)), 2 At(Lent) |
+| 9 | 1 claim-output | 0x01C | COMPLETED CLOSED TASK | 0 | empty | party 1 | empty | 1 Claimer(1), 2 At(Lent) |
+";
+
+// A wake of an idle task, and the hand-over of the Runnable that it makes.
+const IDLE: &str = "# An idle wake.
+limit 4
+0 start-run
+0 start-poll
+2 gain-reference # the lent waker is cloned
+2 end-call
+
+0 answer-pending
+0 end-idle
+0 end-call
+3 wake-idle
+3 end-call
+4 hand-over
+4 end-call
+";
+
+const IDLE_ROWS: &str = "\
+| 1 | 0 start-run | 0x112 | RUNNING TASK | 1 | party 0 | empty | empty | 0 Starting, 1 At(Task(0)) |
+| 2 | 0 start-poll | 0x112 | RUNNING TASK | 1 | party 0 | empty | empty | 0 Polling, 1 At(Task(0)), 2 At(Lent) |
+| 3 | 2 gain-reference | 0x212 | RUNNING TASK | 2 | party 0 | empty | empty | 0 Polling, 1 At(Task(0)), 2 Leaving(Gained(true), Lent), 3 At(Waker) |
+| 4 | 2 end-call | 0x212 | RUNNING TASK | 2 | party 0 | empty | empty | 0 Polling, 1 At(Task(0)), 2 At(Lent), 3 At(Waker) |
+| 5 | 0 answer-pending | 0x212 | RUNNING TASK | 2 | party 0 | empty | empty | 0 Pending, 1 At(Task(0)), 2 At(Lent), 3 At(Waker) |
+| 6 | 0 end-idle | 0x110 | TASK | 1 | cell | empty | empty | 0 Leaving(Ran(false), Ended), 1 At(Task(0)), 2 At(Lent), 3 At(Waker) |
+| 7 | 0 end-call | 0x110 | TASK | 1 | cell | empty | empty | 1 At(Task(0)), 2 At(Lent), 3 At(Waker) |
+| 8 | 3 wake-idle | 0x211 | SCHEDULED TASK | 2 | cell | empty | empty | 1 At(Task(0)), 2 At(Lent), 3 Leaving(Nothing, Waker), 4 Deliverer(false, ThenEnds(Nothing)) |
+| 9 | 3 end-call | 0x211 | SCHEDULED TASK | 2 | cell | empty | empty | 1 At(Task(0)), 2 At(Lent), 3 At(Waker), 4 Deliverer(false, ThenEnds(Nothing)) |
+| 10 | 4 hand-over | 0x211 | SCHEDULED TASK | 2 | cell | empty | empty | 1 At(Task(0)), 2 At(Lent), 3 At(Waker), 4 Leaving(Nothing, Ended), 5 At(Runnable) |
+| 11 | 4 end-call | 0x211 | SCHEDULED TASK | 2 | cell | empty | empty | 1 At(Task(0)), 2 At(Lent), 3 At(Waker), 5 At(Runnable) |
+";
+
+// A first poll that registers.
+const REGISTER: &str = "limit 4
+1 look
+1 clone-awaiter
+1 begin-register
+1 store-awaiter
+1 end-register
+";
+
+const REGISTER_ROWS: &str = "\
+| 1 | 1 look | 0x111 | SCHEDULED TASK | 1 | cell | empty | empty | 0 At(Runnable), 1 Registrar(1) |
+| 2 | 1 clone-awaiter | 0x111 | SCHEDULED TASK | 1 | cell | empty | empty | 0 At(Runnable), 1 HasClone(1) |
+| 3 | 1 begin-register | 0x151 | SCHEDULED TASK REGISTERING | 1 | cell | empty | empty | 0 At(Runnable), 1 Storing(1) |
+| 4 | 1 store-awaiter | 0x151 | SCHEDULED TASK REGISTERING | 1 | cell | empty | party 1, of poll 1 | 0 At(Runnable), 1 Registered(1) |
+| 5 | 1 end-register | 0x131 | SCHEDULED TASK AWAITER | 1 | cell | empty | cell, of poll 1 | 0 At(Runnable), 1 Looking(1) |
+";
+
+#[test]
+fn a_row_is_printed_for_each_step(rt: HostRuntime) -> Result<(), Fail> {
+    let alloc = rt.alloc();
+    for (input, rows) in [
+        (READY, READY_ROWS),
+        (IDLE, IDLE_ROWS),
+        (REGISTER, REGISTER_ROWS),
+    ] {
+        let mut out = Vec::new(alloc);
+        let mut err = Vec::new(alloc);
+        assert_eq!(rt; trace(alloc, input.as_bytes(), &mut out, &mut err), 0);
+        let wanted = format!(in alloc; "{HEAD}{rows}")?;
+        assert_eq!(rt; out.as_slice(), wanted.as_bytes());
+        assert_eq!(rt; err.len(), 0);
+    }
+    Ok(())
+}
+
+#[test]
+fn a_refused_step_is_told_with_its_reason(rt: HostRuntime) -> Result<(), Fail> {
+    let alloc = rt.alloc();
+    let at_runnable =
+        "gain-reference, find-limit, discard-open, discard-closed, take-up-closed, start-run, hand-over, refuse-gain";
+    let never = format!(in alloc;
+        "it is never made at At(Runnable), where {at_runnable} may be made."
+    )?;
+    let cases = [
+        (4, "7 look", "there are 2 parties, counted from 0."),
+        (4, "0 complete", never.as_str()),
+        (
+            4,
+            "1 claim-output",
+            "the word 0x111 does not fit, 0x115 would: COMPLETED set.",
+        ),
+        (
+            4,
+            "0 take-up-closed",
+            "the word 0x111 does not fit, 0x119 would: CLOSED set.",
+        ),
+        (
+            4,
+            "1 cancel-idle",
+            "the word 0x111 does not fit, 0x110 would: SCHEDULED clear.",
+        ),
+        (
+            1,
+            "0 gain-reference",
+            "the word 0x111 does not fit, 0x011 would: count 0.",
+        ),
+        (0, "0 gain-reference", "no word fits at this limit."),
+    ];
+    for (limit, step, reason) in cases {
+        let input = format!(in alloc; "limit {limit}\n{step}\n1 look\n")?;
+        let mut out = Vec::new(alloc);
+        let mut err = Vec::new(alloc);
+        assert_eq!(rt;
+            trace(alloc, input.as_str().as_bytes(), &mut out, &mut err),
+            1
+        );
+        let wanted = format!(in alloc; "{HEAD}\nStep 1, `{step}`, is not allowed: {reason}\n")?;
+        assert_eq!(rt; out.as_slice(), wanted.as_bytes(), "{step}");
+        assert_eq!(rt; err.len(), 0);
+    }
+    Ok(())
+}
+
+#[test]
+fn a_lent_waker_is_refused_after_its_poll(rt: HostRuntime) -> Result<(), Fail> {
+    let alloc = rt.alloc();
+    let input = "limit 4\n0 start-run\n0 start-poll\n0 answer-pending\n2 wake-running\n";
+    let mut out = Vec::new(alloc);
+    let mut err = Vec::new(alloc);
+    assert_eq!(rt; trace(alloc, input.as_bytes(), &mut out, &mut err), 1);
+    let reason =
+        "\nStep 4, `2 wake-running`, is not allowed: the waker is lent, and no poll is under way.\n";
+    assert!(rt; out.as_slice().ends_with(reason.as_bytes()));
+    Ok(())
+}
+
+#[test]
+fn a_line_that_cannot_be_read_is_named(rt: HostRuntime) -> Result<(), Fail> {
+    let alloc = rt.alloc();
+    let cases: [(&[u8], &str); 7] = [
+        (b"", "line 1: expected `limit` and a number below 2^64\n"),
+        (
+            b"# nothing\n\n",
+            "line 3: expected `limit` and a number below 2^64\n",
+        ),
+        (
+            b"0 look\n",
+            "line 1: expected `limit` and a number below 2^64\n",
+        ),
+        (
+            b"limit 4\n\nlook\n",
+            "line 3: expected the number of a party, below 2^64\n",
+        ),
+        (
+            b"limit 4\n1 loom\n",
+            "line 2: expected the name of an act\n",
+        ),
+        (
+            b"limit 4\n1 look now\n",
+            "line 2: expected the end of the line\n",
+        ),
+        (b"limit 4\n\xFF\n", "line 2: expected text in UTF-8\n"),
+    ];
+    for (input, told) in cases {
+        let mut out = Vec::new(alloc);
+        let mut err = Vec::new(alloc);
+        assert_eq!(rt; trace(alloc, input, &mut out, &mut err), 2, "{told}");
+        assert_eq!(rt; err.as_slice(), told.as_bytes());
+        let begun = input.starts_with(b"limit");
+        let rows = if begun { HEAD } else { "" };
+        assert_eq!(rt; out.as_slice(), rows.as_bytes());
+    }
+    Ok(())
+}
+
+#[test]
+fn a_writer_that_fails_gives_status_one(rt: HostRuntime) -> Result<(), Fail> {
+    let alloc = rt.alloc();
+    let mut err = Vec::new(alloc);
+    let whole = HEAD.len().saturating_add(READY_ROWS.len());
+    for (left, flushes) in [
+        (0, true),
+        (3, true),
+        (400, true),
+        (whole.saturating_sub(1), true),
+        (whole, false),
+    ] {
+        let mut limited = Limited { left, flushes };
+        let status = trace(alloc, READY.as_bytes(), &mut limited, &mut err);
+        assert_eq!(rt; status, 1, "after {left} bytes");
+    }
+    let mut full = Limited {
+        left: 0,
+        flushes: true,
+    };
+    let mut out = Vec::new(alloc);
+    assert_eq!(rt;
+        trace(alloc, b"0 look\n".as_slice(), &mut out, &mut full),
+        1
+    );
+    Ok(())
+}

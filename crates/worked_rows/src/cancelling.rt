@@ -1,0 +1,94 @@
+//! The rows in which a task is cancelled.
+ghost use Rattle.std.specs.Prelude.{IfOk};
+ghost use Rattle.worked_rows.specs.Row.{AgreesAt};
+
+use async_task::TaskPoll;
+use fixtures::answers::is_some_with;
+use fixtures::counters::Counts;
+use fixtures::fixture::{Fixture, Outcome};
+use fixtures::future::Behaviour;
+use std::alloc::AllocError;
+use std::sync::Wait;
+
+/// The Task is dropped, which cancels; then the run drops the future unpolled.
+pub fn cancel_and_run<R: Wait + Drop + Copy>(fixture: &Fixture<R>) -> Result<Outcome, AllocError>
+    ensures { IfOk result (AgreesAt 0 0 1 1) }
+{
+    let (runnable, task) = fixture.spawn(Behaviour::Ready(1))?;
+    drop(task);
+    let kept = fixture.counts() == Counts::new(0, 0, 0, 0);
+    let rescheduled = runnable.run();
+    let agrees = kept && !rescheduled;
+    Ok(fixture.end(agrees, Counts::new(0, 0, 1, 1)))
+}
+
+/// The first poll of a Cancel cancels the task: the run drops the future unpolled, and then the Cancel is ready.
+pub fn cancel_future<R: Wait + Drop + Copy>(fixture: &Fixture<R>) -> Result<Outcome, AllocError>
+    ensures { IfOk result (AgreesAt 0 0 1 0) }
+{
+    let flag = fixture.flag(1)?;
+    let (runnable, task) = fixture.spawn(Behaviour::Ready(1))?;
+    let mut cancel = task.cancel();
+    let waits = matches!(cancel.poll(&flag), TaskPoll::Pending);
+    let finished = cancel.is_finished();
+    let unwoken = flag.wakes() == 0 && fixture.counts() == Counts::new(0, 0, 0, 0);
+    let rescheduled = runnable.run();
+    let dropped = flag.wakes() == 1 && fixture.counts() == Counts::new(0, 0, 1, 0);
+    let empty = matches!(cancel.poll(&flag), TaskPoll::Ready(None));
+    let woken_once = flag.wakes() == 1;
+    let agrees = waits && finished && unwoken && !rescheduled && dropped && empty && woken_once;
+    let outcome = fixture.end(agrees, Counts::new(0, 0, 1, 0));
+    drop(cancel);
+    Ok(outcome)
+}
+
+/// A Cancel of a task that has completed gets the output.
+pub fn run_and_cancel<R: Wait + Drop + Copy>(fixture: &Fixture<R>) -> Result<Outcome, AllocError>
+    ensures { IfOk result (AgreesAt 1 0 1 1) }
+{
+    let flag = fixture.flag(1)?;
+    let (runnable, task) = fixture.spawn(Behaviour::Ready(1))?;
+    let rescheduled = runnable.run();
+    let ran = fixture.counts() == Counts::new(1, 0, 1, 0) && fixture.output_drops() == 0;
+    let mut cancel = task.cancel();
+    let polled = cancel.poll(&flag);
+    let claimed = is_some_with(&polled, 1) && fixture.output_drops() == 0;
+    drop(polled);
+    let output_dropped = fixture.output_drops() == 1;
+    drop(cancel);
+    let agrees = !rescheduled && ran && claimed && output_dropped && fixture.output_drops() == 1;
+    Ok(fixture.end(agrees, Counts::new(1, 0, 1, 1)))
+}
+
+/// The first poll of a Cancel cancels the task also where its awaiter cannot be cloned.
+pub fn cancel_refused<R: Wait + Drop + Copy>(fixture: &Fixture<R>) -> Result<Outcome, AllocError>
+    ensures { IfOk result (AgreesAt 0 0 1 0) }
+{
+    let flag = fixture.flag(1)?;
+    flag.refuse_next_clone();
+    let (runnable, task) = fixture.spawn(Behaviour::Ready(1))?;
+    let mut cancel = task.cancel();
+    let refused = matches!(cancel.poll(&flag), TaskPoll::NoMemory);
+    let closed = fixture.shows(&runnable, 0x119)?;
+    let finished = cancel.is_finished();
+    let rescheduled = runnable.run();
+    let empty = matches!(cancel.poll(&flag), TaskPoll::Ready(None));
+    let unwoken = flag.wakes() == 0;
+    let agrees = refused && closed && finished && !rescheduled && empty && unwoken;
+    let outcome = fixture.end(agrees, Counts::new(0, 0, 1, 0));
+    drop(cancel);
+    Ok(outcome)
+}
+
+/// The poll drops the Task, and answers ready: the run drops the output, since nobody can ask for it.
+pub fn drop_in_poll<R: Wait + Drop + Copy>(fixture: &Fixture<R>) -> Result<Outcome, AllocError>
+    ensures { IfOk result (AgreesAt 1 0 1 1) }
+{
+    let surroundings = &fixture.surroundings;
+    let (runnable, task) = fixture.spawn(Behaviour::DropTask(1))?;
+    surroundings.keep_task(task);
+    let rescheduled = runnable.run();
+    let taken = surroundings.take_task().is_none();
+    let agrees = !rescheduled && taken && fixture.output_drops() == 1;
+    Ok(fixture.end(agrees, Counts::new(1, 0, 1, 1)))
+}

@@ -1,0 +1,256 @@
+//! The rows in which a second thread acts while a poll is under way.
+ghost use Rattle.std.specs.Prelude.{IfOk};
+ghost use Rattle.worked_rows.specs.Row.{AgreesAt};
+
+use async_task::TaskPoll;
+use fixtures::answers::is_ready_with;
+use fixtures::counters::Counts;
+use fixtures::fixture::{Fixture, Outcome};
+use fixtures::future::Behaviour;
+use fixtures::surroundings::{RowTask, RowWaker};
+use std::alloc::AllocError;
+use std::sync::Wait;
+use std::thread;
+use std::thread::Threads;
+
+/// The second thread wakes the task while it is polled: the run schedules its Runnable once more.
+pub fn wake_during_run<R>(fixture: &Fixture<R>) -> Result<Outcome, AllocError>
+where
+    R: Wait + Threads + Drop + Copy + Send + Sync,
+    ensures { IfOk result (AgreesAt 1 1 0 0) }
+{
+    let (runnable, task) = fixture.spawn(Behaviour::Pending)?;
+    let waker = runnable.waker().ok_or(AllocError)?;
+    let rt = fixture.rt;
+    let surroundings = &fixture.surroundings;
+    let rendezvous = &surroundings.rendezvous;
+    rendezvous.arm();
+    let joined = thread::scope(thread::scope_env(), &rt, |scope| {
+        let second = scope.spawn(move || {
+            let polled = rendezvous.await_poll();
+            waker.wake_by_ref();
+            rendezvous.release();
+            (polled, waker)
+        });
+        let Ok(second) = second else {
+            return None;
+        };
+        let rescheduled = runnable.run();
+        let (polled, waker) = second.join(&rt);
+        Some((polled && rescheduled, waker))
+    });
+    let Some((woken, waker)) = joined else {
+        return Ok(fixture.give_up());
+    };
+    let agrees = woken && rendezvous.met() && surroundings.infos_are(&[true]);
+    let outcome = fixture.end(agrees, Counts::new(1, 1, 0, 0));
+    drop(waker);
+    drop(task);
+    Ok(outcome)
+}
+
+/// The second thread drops the Task while the future is polled: the run drops the future, and nothing is scheduled.
+pub fn cancel_during_run<R>(fixture: &Fixture<R>) -> Result<Outcome, AllocError>
+where
+    R: Wait + Threads + Drop + Copy + Send + Sync,
+    ensures { IfOk result (AgreesAt 2 1 1 1) }
+{
+    let (runnable, task) = fixture.spawn(Behaviour::KeepPending)?;
+    let rt = fixture.rt;
+    let surroundings = &fixture.surroundings;
+    let rendezvous = &surroundings.rendezvous;
+    runnable.run();
+    surroundings.wake_kept();
+    let Some(received) = surroundings.receive() else {
+        return Ok(fixture.give_up());
+    };
+    rendezvous.arm();
+    let cancelled = thread::scope(thread::scope_env(), &rt, |scope| {
+        let second = scope.spawn(move || {
+            let polled = rendezvous.await_poll();
+            drop(task);
+            let unchanged = fixture.counts() == Counts::new(2, 1, 0, 0);
+            rendezvous.release();
+            polled && unchanged
+        });
+        let Ok(second) = second else {
+            return false;
+        };
+        let rescheduled = received.run();
+        second.join(&rt) && !rescheduled
+    });
+    let unscheduled = surroundings.queued() == 0 && surroundings.infos_are(&[false]);
+    let closed = fixture.counts() == Counts::new(2, 1, 1, 0);
+    drop(surroundings.take_kept());
+    let agrees = cancelled && rendezvous.met() && unscheduled && closed;
+    Ok(fixture.end(agrees, Counts::new(2, 1, 1, 1)))
+}
+
+/// The second thread wakes the task while the future is polled, and then drops the Task: the run drops the future.
+pub fn wake_and_cancel<R>(fixture: &Fixture<R>) -> Result<Outcome, AllocError>
+where
+    R: Wait + Threads + Drop + Copy + Send + Sync,
+    ensures { IfOk result (AgreesAt 2 1 1 1) }
+{
+    wake_and_drop_during_run(fixture, true)
+}
+
+/// The second thread drops the Task while the future is polled, and then wakes: the run drops the future.
+pub fn cancel_and_wake<R>(fixture: &Fixture<R>) -> Result<Outcome, AllocError>
+where
+    R: Wait + Threads + Drop + Copy + Send + Sync,
+    ensures { IfOk result (AgreesAt 2 1 1 1) }
+{
+    wake_and_drop_during_run(fixture, false)
+}
+
+// The second thread wakes the task and drops the Task, the first or the second of them first, during the second poll.
+fn wake_and_drop_during_run<R>(
+    fixture: &Fixture<R>,
+    wakes_first: bool,
+) -> Result<Outcome, AllocError>
+where
+    R: Wait + Threads + Drop + Copy + Send + Sync,
+    ensures { IfOk result (AgreesAt 2 1 1 1) }
+{
+    let (runnable, task) = fixture.spawn(Behaviour::KeepPending)?;
+    let rt = fixture.rt;
+    let surroundings = &fixture.surroundings;
+    let rendezvous = &surroundings.rendezvous;
+    runnable.run();
+    let Some(waker) = surroundings.take_kept() else {
+        return Ok(fixture.give_up());
+    };
+    waker.wake_by_ref();
+    let Some(received) = surroundings.receive() else {
+        return Ok(fixture.give_up());
+    };
+    rendezvous.arm();
+    let closed = thread::scope(thread::scope_env(), &rt, |scope| {
+        let second = scope.spawn(move || {
+            let polled = rendezvous.await_poll();
+            let unchanged = wake_and_drop(fixture, waker, task, wakes_first);
+            rendezvous.release();
+            polled && unchanged
+        });
+        let Ok(second) = second else {
+            return false;
+        };
+        let rescheduled = received.run();
+        second.join(&rt) && !rescheduled
+    });
+    drop(surroundings.take_kept());
+    let agrees = closed && rendezvous.met();
+    Ok(fixture.end(agrees, Counts::new(2, 1, 1, 1)))
+}
+
+// Wakes the task and drops the Task, in that order or in the other one: whether no counter goes up by either.
+fn wake_and_drop<'x, R: Wait + Drop + Copy>(
+    fixture: &Fixture<R>,
+    waker: RowWaker<'x, R>,
+    task: RowTask<'x, R>,
+    wakes_first: bool,
+) -> bool {
+    let polled_twice = Counts::new(2, 1, 0, 0);
+    if wakes_first {
+        waker.wake();
+        let unchanged = fixture.counts() == polled_twice;
+        drop(task);
+        unchanged && fixture.counts() == polled_twice
+    } else {
+        drop(task);
+        let unchanged = fixture.counts() == polled_twice;
+        waker.wake();
+        unchanged && fixture.counts() == polled_twice
+    }
+}
+
+/// The second thread detaches the Task while the future is polled: the run drops the output.
+pub fn detach_during_run<R>(fixture: &Fixture<R>) -> Result<Outcome, AllocError>
+where
+    R: Wait + Threads + Drop + Copy + Send + Sync,
+    ensures { IfOk result (AgreesAt 1 0 1 1) }
+{
+    leave_during_run(fixture, true)
+}
+
+/// The second thread drops the Task while the future is polled, which then answers ready: the run drops the output.
+pub fn drop_during_run<R>(fixture: &Fixture<R>) -> Result<Outcome, AllocError>
+where
+    R: Wait + Threads + Drop + Copy + Send + Sync,
+    ensures { IfOk result (AgreesAt 1 0 1 1) }
+{
+    leave_during_run(fixture, false)
+}
+
+// The second thread detaches or drops the Task during a poll that then answers ready.
+fn leave_during_run<R>(fixture: &Fixture<R>, detaches: bool) -> Result<Outcome, AllocError>
+where
+    R: Wait + Threads + Drop + Copy + Send + Sync,
+    ensures { IfOk result (AgreesAt 1 0 1 1) }
+{
+    let (runnable, task) = fixture.spawn(Behaviour::Ready(1))?;
+    let rt = fixture.rt;
+    let rendezvous = &fixture.surroundings.rendezvous;
+    rendezvous.arm();
+    let left = thread::scope(thread::scope_env(), &rt, |scope| {
+        let second = scope.spawn(move || {
+            let polled = rendezvous.await_poll();
+            if detaches {
+                task.detach();
+            } else {
+                drop(task);
+            }
+            let unchanged = fixture.counts() == Counts::new(1, 0, 0, 0);
+            let output_kept = fixture.output_drops() == 0;
+            rendezvous.release();
+            polled && unchanged && output_kept
+        });
+        let Ok(second) = second else {
+            return false;
+        };
+        let rescheduled = runnable.run();
+        let output_dropped = fixture.output_drops() == 1;
+        second.join(&rt) && !rescheduled && output_dropped
+    });
+    let agrees = left && rendezvous.met();
+    Ok(fixture.end(agrees, Counts::new(1, 0, 1, 1)))
+}
+
+/// The second thread polls the Task while the future is polled: the run wakes the awaiter, and a second poll gets the output.
+pub fn poll_during_run<R>(fixture: &Fixture<R>) -> Result<Outcome, AllocError>
+where
+    R: Wait + Threads + Drop + Copy + Send + Sync,
+    ensures { IfOk result (AgreesAt 1 0 1 0) }
+{
+    let flag = fixture.flag(1)?;
+    let awaiter = &flag;
+    let (runnable, mut task) = fixture.spawn(Behaviour::Ready(1))?;
+    let rt = fixture.rt;
+    let rendezvous = &fixture.surroundings.rendezvous;
+    rendezvous.arm();
+    let joined = thread::scope(thread::scope_env(), &rt, |scope| {
+        let second = scope.spawn(move || {
+            let polled = rendezvous.await_poll();
+            let waits = matches!(task.poll(awaiter), TaskPoll::Pending) && awaiter.wakes() == 0;
+            rendezvous.release();
+            (polled && waits, task)
+        });
+        let Ok(second) = second else {
+            return None;
+        };
+        let rescheduled = runnable.run();
+        let (waits, task) = second.join(&rt);
+        Some((waits && !rescheduled, task))
+    });
+    let Some((waits, mut task)) = joined else {
+        return Ok(fixture.give_up());
+    };
+    let woken = flag.wakes() == 1;
+    let polled = task.poll(&flag);
+    let completed = is_ready_with(&polled, 1) && flag.wakes() == 1;
+    let agrees = waits && rendezvous.met() && woken && completed;
+    let outcome = fixture.end(agrees, Counts::new(1, 0, 1, 0));
+    drop(task);
+    Ok(outcome)
+}
