@@ -1,11 +1,11 @@
 -- What a player rests on: a run with one step more, and bounds that follow from a run of so many steps.
-use Rattle.std.proofs.Common.{◌≡◌, ℕ, ◌+◌, ◌<◌, ◌≤◌, ◌∙◌, Bool, true, false, List, [], ◌∷◌, ◌++◌, Option, Some, None, refl, sym, ap, subst, arith, length, min}
+use Rattle.std.proofs.Common.{◌≡◌, ℕ, ◌+◌, ◌≤◌, ◌∙◌, List, [], ◌∷◌, ◌++◌, Option, Some, refl, sym, ap, subst, arith}
 use Rattle.std.proofs.lemmas.List.{length-append}
 use Rattle.std.proofs.Math.Bridge.{le_prop}
 use Rattle.std.proofs.Math.Logic.{∥∥₁_elim}
 use Rattle.std.specs.Prelude.{slice_get}
 use Rattle.task_core.specs.Position.{Position}
-use Rattle.task_core.specs.Machine.{Machine, Step, opening, step, run_from, run}
+use Rattle.task_core.specs.Machine.{Machine, Step, opening, run_from, run}
 use Rattle.task_core.specs.Replay.{Standing, standing, stands, begun, StepsTo, Played}
 use Rattle.task_core.proofs.Replayed.{then_step, run_one, shown, limit_stays, few_begun, few_references}
 

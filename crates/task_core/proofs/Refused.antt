@@ -1,14 +1,13 @@
 -- Why a step is refused: an act that is refused in the one scene that favours it is refused in each.
-use Rattle.std.proofs.Common.{◌≡◌, ℕ, ◌∙◌, Bool, true, false, Option, Some, None, refl, sym, ap, subst}
-use Rattle.std.specs.Prelude.{IsSome, IfSome, is_some, slice_get}
-use Rattle.std.specs.Option.{option_or}
+use Rattle.std.proofs.Common.{◌≡◌, ℕ, ◌∙◌, true, false, Option, Some, None, refl, sym, ap, subst}
+use Rattle.std.specs.Prelude.{IsSome, is_some, slice_get}
 use Rattle.task_core.specs.Word.{State}
 use Rattle.task_core.specs.Position.{OfClaim, OfPoll, Lent, Runnable, Waker, Task, ClosedRun, DroppedRunnable, Position, At, Leaving, Deliverer, Starting, Polling, Pending, Ready, Unstored, Stored, Cleared, FutureInHand, FutureGone, OutputInHand, GivingUp, Emptier, Notifier, Taker, Releaser, AwaiterInHand, OrphanHolder, Registrar, HasClone, RefusedClone, Storing, Registered, TookBack, CloneInHand, Looking, Claiming, Claimer, OldAwaiterInHand, Answering, OutputCloser, Detacher, Act, GainReference, FindLimit, DropWaker, DropLastWaker, OrphanTask, CloseOrphan, GiveUpReference, GiveUpLastReference, WakeOver, WakeScheduled, WakeRunning, WakeIdle, DiscardOpen, DiscardClosed, CancelOver, CancelBusy, CancelIdle, ClaimOutput, GiveUpOutput, DetachOrphan, DetachLast, Detach, TakeUpClosed, StartRun, Unschedule, Complete, CompleteDetached, EndClosed, Reschedule, EndIdle, EndOrphaned, BeginNotify, MissNotify, FindNotify, BeginRegister, EndNotify, EndRegister, EndRegisterNotified, Look, LookFinished, StartPoll, AnswerPending, AnswerReady, DropFuture, StoreOutput, DropOutput, HandOutOutput, CloneAwaiter, RefuseClone, StoreAwaiter, TakeAwaiter, WakeAwaiter, DropAwaiter, HandOver, EmptySlots, RefuseGain, EndCall}
 use Rattle.task_core.specs.Rows.{found, written}
 use Rattle.task_core.specs.Table.{Slots, Scene, Outcome, where_found, goes, rule}
-use Rattle.task_core.specs.Machine.{Machine, Step, moves, step}
-use Rattle.task_core.specs.Replay.{Standing, standing, stands, scene_at, StepsTo, effect_of}
-use Rattle.task_core.specs.Refusal.{IsMade, IsNeverMade}
+use Rattle.task_core.specs.Machine.{Step, moves, step}
+use Rattle.task_core.specs.Replay.{Standing, stands, scene_at, StepsTo, effect_of}
+use Rattle.task_core.specs.Refusal.{IsNeverMade}
 use Rattle.task_core.proofs.Replayed.{steps_at, left_at}
 
 -- the word at which each condition beside the rows holds, while a poll of the future is under way
@@ -121,10 +120,6 @@ is_not_there (Some o) e = absurd (cc)
 pub is_none : {X : Type 0} (o : Option X) → is_some o ≡ false → o ≡ None
 is_none None e = refl
 is_none (Some x) e = absurd (cc)
-
-pub either : {X : Type 0} (P : X → Type 0) (a b r : Option X) → r ≡ option_or a b → IfSome a P → IfSome b P → IfSome r P
-either P None b r e first second = subst (λ o. IfSome o P) (sym e) second
-either P (Some x) b r e first second = subst (λ o. IfSome o P) (sym e) first
 
 -- from the table to the machine
 pub no_party : (now : Standing) (s : Step) → slice_get now.parties s.party ≡ None → StepsTo now s None

@@ -2,13 +2,13 @@
 use Rattle.std.proofs.Common.{◌≡◌, ℕ, ◌+◌, ◌<◌, ◌≤◌, ◌∙◌, ◌⊎◌, Bool, true, false, zero, suc, List, [], ◌∷◌, ◌++◌, Option, Some, None, refl, sym, ap, subst, inl, inr, arith, length, take, add-one, slice_index_or}
 use Rattle.std.proofs.lemmas.List.{set-append_left}
 use Rattle.std.proofs.lemmas.List.Sums.{sum_by-cons}
-use Rattle.std.specs.Prelude.{count_by, if◌then◌else◌, slice_get, slice_set, nat_lt, IsSome}
+use Rattle.std.specs.Prelude.{count_by, if◌then◌else◌, slice_get, slice_set, IsSome}
 use Rattle.task_core.specs.Word.{State, bit}
 use Rattle.task_core.specs.Event.{Event}
 use Rattle.task_core.specs.Position.{Position, Act, At, Task}
 use Rattle.task_core.specs.Rows.{found, written, row}
 use Rattle.task_core.specs.Table.{Scene, Outcome, where_found, goes, rule}
-use Rattle.task_core.specs.Machine.{Machine, Step, how_many, polls_future, opening, scene, begins, after, moves, step, run_from, run}
+use Rattle.task_core.specs.Machine.{Machine, Step, how_many, opening, scene, begins, after, moves, step, run_from, run}
 use Rattle.task_core.specs.Laws.{count, is_poll}
 use Rattle.task_core.specs.Replay.{Standing, standing, stands, scene_at, listed, begun, slots_of, effect_of}
 use Rattle.task_core.specs.declared.replay.Slots.{Slots as SlotsHeld}

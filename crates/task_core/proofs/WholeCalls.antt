@@ -4,7 +4,7 @@ use Rattle.task_core.specs.Event.{Event}
 use Rattle.task_core.specs.Machine.{Step, opening, step}
 use Rattle.std.specs.Prelude.{slice_get}
 use Rattle.task_core.specs.Abstract.{Cell, Frame, Abstract, Move, Begin, Go, begin, go, follow, put, then_moved, all_moved}
-use Rattle.task_core.specs.Whole.{Whole, whole, whole_from, stepped, reading, frames, read}
+use Rattle.task_core.specs.Whole.{Whole, whole_from, stepped, reading, frames, read}
 use Rattle.task_core.specs.WholeCalls.{alone, made, takes_all, WholeCallsAgree}
 use Rattle.task_core.proofs.Reading.{whole_runs_agree}
 

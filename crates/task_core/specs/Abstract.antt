@@ -2,7 +2,7 @@
 use Rattle.std.specs.Prelude.{ℕ, ◌+◌, Bool, true, false, not, ◌&&◌, nat_lt, if◌then◌else◌, List, [], ◌∷◌, ◌++◌, Option, Some, None}
 use Rattle.task_core.specs.Word.{bit}
 use Rattle.task_core.specs.Event.{PollAnswer, IsPending, IsReady, HasOutput, IsRefused, Answer, Nothing, Ran, Gained, Finished, Event, FutureDropped, OutputTaken, OutputDropped, HandedOver, Empties, PollEnds, Woken, CloneEnded, CallEnds}
-use Rattle.task_core.specs.Local.{Queued, Done, NoAwaiter, Due, Local, Effect, becomes, due, stored, without_due, none_left, empties_if, polls, dropped_unpolled, settles_ready, settles_pending, wakes, loses_waker, cancels_at, detaches_at, is_done, gives_output, finished}
+use Rattle.task_core.specs.Local.{Done, NoAwaiter, Due, Local, Effect, becomes, due, stored, without_due, none_left, empties_if, polls, dropped_unpolled, settles_ready, settles_pending, wakes, loses_waker, cancels_at, detaches_at, is_done, gives_output, finished, opening_task}
 
 -- the abstract task of a cell: future and output are tokens, an awaiter is the number of its poll
 abbrev pub PlainTask : Type 0
@@ -234,7 +234,7 @@ moved limit a (Go answer) = goes_on a.cell a.frames a.told answer
 -- the cell after a spawn
 abbrev pub opening_cell : Cell
 opening_cell = record {
-  task = record { phase = Queued; closed = false; has_task = true; wakers = 0; future = Some tt; output = None; awaiter = NoAwaiter };
+  task = opening_task tt;
   held = true;
   storing = false;
   owed = false;

@@ -303,7 +303,7 @@ impl<F: Drop, T: Drop, M, A: Drop> LocalTask<F, T, M, A> {
                 self.stage = Stage::Polling(Open);
                 Start::Poll(future)
             }
-            Stage::Queued(future, Closed) => Start::Ended(self.finish(Some(future), None)),
+            Stage::Queued(future, Closed) => Start::Ended(self.finish(future, None)),
             stage => {
                 self.stage = stage;
                 Start::Idle
@@ -332,10 +332,10 @@ impl<F: Drop, T: Drop, M, A: Drop> LocalTask<F, T, M, A> {
     {
         if self.has_task && !self.is_finished() {
             self.stage = Stage::Completed(output);
-            return self.finish(Some(future), None);
+            return self.finish(future, None);
         }
         self.stage = Stage::Ended;
-        self.finish(Some(future), Some(output))
+        self.finish(future, Some(output))
     }
 
     // The future answered Pending.
@@ -345,7 +345,7 @@ impl<F: Drop, T: Drop, M, A: Drop> LocalTask<F, T, M, A> {
         ensures metadata { self.new.metadata ≡ self.old.metadata }
     {
         match mem::replace(&mut self.stage, Stage::Ended) {
-            Stage::Polling(Closed) | Stage::Woken(Closed) => self.finish(Some(future), None),
+            Stage::Polling(Closed) | Stage::Woken(Closed) => self.finish(future, None),
             Stage::Woken(Open) => {
                 self.stage = Stage::Queued(future, Open);
                 Settled::queued(true)
@@ -364,7 +364,7 @@ impl<F: Drop, T: Drop, M, A: Drop> LocalTask<F, T, M, A> {
         ensures metadata { self.new.metadata ≡ self.old.metadata }
     {
         match mem::replace(&mut self.stage, Stage::Ended) {
-            Stage::Queued(future, _) => self.finish(Some(future), None),
+            Stage::Queued(future, _) => self.finish(future, None),
             _ => unreachable!(),
         }
     }
@@ -519,12 +519,12 @@ impl<F: Drop, T: Drop, M, A: Drop> LocalTask<F, T, M, A> {
     ghost use Rattle.task_core.specs.LocalTask.{effect_of};
 
     // The future has gone: the awaiter is taken, and the task is emptied if nobody is left.
-    fn finish(&mut self, future: Option<F>, output: Option<T>) -> Settled<F, T, A>
+    fn finish(&mut self, future: F, output: Option<T>) -> Settled<F, T, A>
         ensures row { effect_of self.new.task result ≡
-            empties (takes (record (becomes self.old.task) { future = future; output = output })) }
+            empties (takes (record (becomes self.old.task) { future = Some future; output = output })) }
         ensures metadata { self.new.metadata ≡ self.old.metadata }
     {
-        let settled = self.take_awaiter(Settled::dropping(future, output));
+        let settled = self.take_awaiter(Settled::dropping(Some(future), output));
         self.empty(settled)
     }
 

@@ -94,7 +94,7 @@ impl Contention {
                 let Some(clone) = waker.clone() else {
                     return shared.give_up();
                 };
-                if scope.spawn(move || self.work(rt, clone, shared)).is_err() {
+                if scope.spawn(move || shared.work(rt, &clone, self)).is_err() {
                     return shared.give_up();
                 }
             }
@@ -114,19 +114,6 @@ impl Contention {
             operations: phases.operations(),
             runs: phases.runs(),
         })
-    }
-
-    // What a thread does with its waker, which it drops at the end.
-    fn work<R: Wait + Drop + Copy>(
-        self,
-        rt: R,
-        waker: QueueWaker<'_, R, Pending>,
-        phases: &Phases,
-    ) {
-        match self {
-            Contention::WakeStorm => phases.wake(rt, &waker),
-            Contention::CloneDrop => phases.clone_and_drop(rt, &waker),
-        }
     }
 }
 

@@ -122,14 +122,13 @@ fn nearest_word(scene: &Scene, act: Act, position: Position) -> Option<Word>
     ensures { IfSome result (FitsAt (scene_of scene.now) act (Some position)) }
 {
     let found = scene.word.references();
-    let fewer = found.saturating_sub(1);
-    let limit = scene.limit;
-    fitting_word(scene, act, position, found)
-        .or(fitting_word(scene, act, position, fewer))
-        .or(fitting_word(scene, act, position, 0))
-        .or(fitting_word(scene, act, position, 1))
-        .or(fitting_word(scene, act, position, 2))
-        .or(fitting_word(scene, act, position, limit))
+    for count in [found, found.saturating_sub(1), 0, 1, 2, scene.limit] {
+        let word = fitting_word(scene, act, position, count);
+        if word.is_some() {
+            return word;
+        }
+    }
+    None
 }
 
 // .. with that count, or at the largest limit where it is above that, and with as few flags turned as may be.

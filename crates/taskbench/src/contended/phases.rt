@@ -1,5 +1,6 @@
 //! What the threads of a measurement share: whether they are to work, and what they did.
 
+use super::Contention;
 use crate::futures::Pending;
 use crate::queue::{Queue, QueueWaker};
 use std::hint::spin_loop;
@@ -73,29 +74,23 @@ impl Phases {
         self.runs.load(Ordering::SeqCst)
     }
 
-    /// Wakes the task, until it is to stop.
-    pub fn wake<R: Wait + Drop + Copy>(&self, rt: R, waker: &QueueWaker<'_, R, Pending>) {
+    /// Does this with the waker, until it is to stop: wakes the task, or clones the waker and drops the clone.
+    pub fn work<R: Wait + Drop + Copy>(
+        &self,
+        rt: R,
+        waker: &QueueWaker<'_, R, Pending>,
+        contention: Contention,
+    ) {
         self.await_start(rt);
         let mut done = 0u64;
         for _ in rt.forever() {
             if self.is_stopped() {
                 break;
             }
-            wake_often(waker);
-            done = done.wrapping_add(BATCH);
-        }
-        self.operations.fetch_add(done, Ordering::SeqCst);
-    }
-
-    /// Clones the waker and drops the clone, until it is to stop.
-    pub fn clone_and_drop<R: Wait + Drop + Copy>(&self, rt: R, waker: &QueueWaker<'_, R, Pending>) {
-        self.await_start(rt);
-        let mut done = 0u64;
-        for _ in rt.forever() {
-            if self.is_stopped() {
-                break;
+            match contention {
+                Contention::WakeStorm => wake_often(waker),
+                Contention::CloneDrop => clone_often(waker),
             }
-            clone_often(waker);
             done = done.wrapping_add(BATCH);
         }
         self.operations.fetch_add(done, Ordering::SeqCst);

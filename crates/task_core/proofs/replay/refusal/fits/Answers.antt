@@ -1,4 +1,4 @@
-use Rattle.std.proofs.Common.{◌≡◌, ◌∙◌, ap, sym}
+use Rattle.std.proofs.Common.{◌∙◌, ap, sym}
 use Rattle.std.specs.Prelude.{is_some}
 use Rattle.task_core.proofs.Refused.{is_there, is_not_there}
 use Rattle.task_core.proofs.replay.refusal.fits.Goals as goal

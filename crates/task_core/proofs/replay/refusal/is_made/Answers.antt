@@ -1,4 +1,4 @@
-use Rattle.std.proofs.Common.{◌≡◌, ◌∙◌, ap, sym, refl, true, None}
+use Rattle.std.proofs.Common.{◌∙◌, ap, sym, refl, true, None}
 use Rattle.std.specs.Prelude.{is_some}
 use Rattle.task_core.specs.declared.word.TheConstants.{LIMIT}
 use Rattle.task_core.proofs.Refused.{scene_with, never, is_none, is_there}

@@ -1,4 +1,4 @@
-use Rattle.std.proofs.Common.{◌≡◌, ◌≤◌, ◌∙◌, arith, sym, subst, Some}
+use Rattle.std.proofs.Common.{◌≤◌, ◌∙◌, arith, sym, subst, Some}
 use Rattle.std.proofs.Math.Logic.{∥∥₁_map}
 use Rattle.task_core.specs.Replay.{Standing, StepsTo, Played}
 use Rattle.task_core.specs.declared.word.TheConstants.{LIMIT}

@@ -1,4 +1,4 @@
-use Rattle.std.proofs.Common.{◌≡◌, ◌∙◌, ap, arith, sym, Some}
+use Rattle.std.proofs.Common.{◌∙◌, ap, arith, sym}
 use Rattle.std.specs.Prelude.{slice_get}
 use Rattle.task_core.specs.Replay.{Standing}
 use Rattle.task_core.proofs.Playing.{begun_within}

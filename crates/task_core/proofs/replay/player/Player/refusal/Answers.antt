@@ -1,4 +1,4 @@
-use Rattle.std.proofs.Common.{◌≡◌, ◌∙◌, ap, arith, subst, sym, Some}
+use Rattle.std.proofs.Common.{◌∙◌, ap, arith, subst, sym, Some}
 use Rattle.std.specs.Prelude.{IsSome, slice_get}
 use Rattle.task_core.specs.Table.{Scene, rule}
 use Rattle.task_core.specs.Machine.{Step}
