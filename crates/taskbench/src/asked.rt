@@ -2,7 +2,7 @@
 ghost use Rattle.std.specs.Prelude.{◌≡◌, [], IsSome, IfSome};
 ghost use Rattle.taskbench.specs.declared.asked.Request.TheVariants.{DoNothing};
 
-use crate::benchmarks::Benchmark;
+use benchmarks::benchmark::Benchmark;
 
 // How often each benchmark is measured.
 const REPETITIONS: u32 = 15;

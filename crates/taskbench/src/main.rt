@@ -1,15 +1,8 @@
-//! Benchmarks of the task cell: how long an operation takes, and the operations alone for those who count what they do.
+//! The program that prints how long the operations of the benchmarks take, or does them alone for those who count what they do.
 #![tactic(auto)]
 
 mod asked;
-mod benchmarks;
-mod contended;
-mod failure;
-mod futures;
-mod measure;
-mod queue;
 mod report;
-mod slot;
 
 use std::process::ExitCode;
 use std::{env, io};

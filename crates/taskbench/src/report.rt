@@ -2,10 +2,10 @@
 ghost use Rattle.std.specs.Prelude.{◌≡◌, ◌≤◌, []};
 
 use crate::asked::{Request, asked};
-use crate::benchmarks::Benchmark;
-use crate::contended::Contention;
-use crate::failure::Failure;
-use crate::measure::{self, Hundredths};
+use benchmarks::benchmark::Benchmark;
+use benchmarks::contended::Contention;
+use benchmarks::failure::Failure;
+use benchmarks::measure::{self, Hundredths};
 use std::alloc::Global;
 use std::io;
 use std::rt::Clock;

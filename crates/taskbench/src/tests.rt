@@ -1,10 +1,10 @@
 //! Tests of the benchmarks, which assert no time.
 
 use crate::asked::{Request, asked};
-use crate::benchmarks::Benchmark;
-use crate::contended::Contention;
-use crate::measure::{Hundredths, hundredths_of_one, summarize};
 use crate::report::answer;
+use benchmarks::benchmark::Benchmark;
+use benchmarks::contended::Contention;
+use benchmarks::measure::{Hundredths, hundredths_of_one, summarize};
 use std::process::Abort;
 use std::test::Fail;
 use std::time::Duration;

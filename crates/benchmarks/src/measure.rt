@@ -1,6 +1,6 @@
 //! Times of operations: how long one takes, as the median and the least of repeated measurements.
 
-use crate::benchmarks::Benchmark;
+use crate::benchmark::Benchmark;
 use crate::failure::Failure;
 use std::alloc::Global;
 use std::fmt;
