@@ -55,6 +55,19 @@ fn a_settle_with_ready(rt: HostRuntime) {
             (Ready, Leaves(ENDS_AND_WAKES)),
         ],
     );
+    lives(
+        &rt,
+        &[
+            (Start, Polls),
+            (Cancel, Leaves(NOTHING)),
+            (Ready, Leaves(GIVES_UP)),
+            (Poll(1), Readies(None, NOTHING)),
+        ],
+    );
+}
+
+#[test]
+fn a_settle_with_ready_of_a_detached_task(rt: HostRuntime) {
     let given_up = Left {
         emptied: true,
         ..GIVES_UP
@@ -89,19 +102,10 @@ fn a_settle_with_ready(rt: HostRuntime) {
             (Ready, Leaves(GIVES_UP)),
         ],
     );
-    lives(
-        &rt,
-        &[
-            (Start, Polls),
-            (Cancel, Leaves(NOTHING)),
-            (Ready, Leaves(GIVES_UP)),
-            (Poll(1), Readies(None, NOTHING)),
-        ],
-    );
 }
 
 #[test]
-fn a_settle_with_pending(rt: HostRuntime) {
+fn a_settle_with_pending_of_a_cancelled_task(rt: HostRuntime) {
     lives(
         &rt,
         &[
@@ -129,6 +133,10 @@ fn a_settle_with_pending(rt: HostRuntime) {
             (Pending, Leaves(ENDS_EMPTIED)),
         ],
     );
+}
+
+#[test]
+fn a_settle_with_pending_of_a_woken_task(rt: HostRuntime) {
     lives(
         &rt,
         &[
@@ -147,6 +155,10 @@ fn a_settle_with_pending(rt: HostRuntime) {
             (Pending, Leaves(QUEUED_AGAIN)),
         ],
     );
+}
+
+#[test]
+fn a_settle_with_pending_of_a_detached_task(rt: HostRuntime) {
     lives(
         &rt,
         &[

@@ -3,7 +3,7 @@
 use super::*;
 
 #[test]
-fn a_cancel(rt: HostRuntime) {
+fn a_cancel_of_a_queued_or_running_task(rt: HostRuntime) {
     lives(
         &rt,
         &[
@@ -22,6 +22,19 @@ fn a_cancel(rt: HostRuntime) {
             (Pending, Leaves(ENDS)),
         ],
     );
+    lives(
+        &rt,
+        &[
+            (Start, Polls),
+            (Wake, Queues(None)),
+            (Cancel, Leaves(NOTHING)),
+            (Pending, Leaves(ENDS)),
+        ],
+    );
+}
+
+#[test]
+fn a_cancel_of_an_idle_or_completed_task(rt: HostRuntime) {
     lives_on(
         &rt,
         &ONCE,
@@ -44,15 +57,6 @@ fn a_cancel(rt: HostRuntime) {
         &rt,
         &[
             (Start, Polls),
-            (Wake, Queues(None)),
-            (Cancel, Leaves(NOTHING)),
-            (Pending, Leaves(ENDS)),
-        ],
-    );
-    lives(
-        &rt,
-        &[
-            (Start, Polls),
             (Ready, Leaves(ENDS)),
             (Cancel, Leaves(NOTHING)),
             (Poll(1), Readies(Some(OUTPUT), NOTHING)),
@@ -61,7 +65,7 @@ fn a_cancel(rt: HostRuntime) {
 }
 
 #[test]
-fn a_detach(rt: HostRuntime) {
+fn a_detach_of_a_completed_task(rt: HostRuntime) {
     let unclaimed = Left {
         output: true,
         ..NOTHING
@@ -97,6 +101,10 @@ fn a_detach(rt: HostRuntime) {
             (Detach, Leaves(EMPTIED)),
         ],
     );
+}
+
+#[test]
+fn a_detach_of_an_open_task(rt: HostRuntime) {
     lives_on(
         &rt,
         &ONCE,
@@ -146,7 +154,11 @@ fn a_poll_of_the_task(rt: HostRuntime) {
             (Discard, Leaves(wakes_second)),
         ],
     );
-    // A task that is done holds no awaiter: it is put there to show what a poll would do.
+}
+
+// A task that is done holds no awaiter: it is put there to show what a poll would do.
+#[test]
+fn a_poll_of_a_done_task_with_an_awaiter(rt: HostRuntime) {
     for (completed, number) in [(true, 1), (true, 2), (false, 1), (false, 2)] {
         let mut task: Task = LocalTask::new("metadata", FUTURE);
         task.stage = if completed {

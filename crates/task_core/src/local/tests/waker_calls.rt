@@ -3,7 +3,7 @@
 use super::*;
 
 #[test]
-fn a_wake(rt: HostRuntime) {
+fn a_wake_of_an_open_task(rt: HostRuntime) {
     lives(
         &rt,
         &[
@@ -23,6 +23,10 @@ fn a_wake(rt: HostRuntime) {
             (Start, Polls),
         ],
     );
+}
+
+#[test]
+fn a_wake_of_a_task_that_is_over(rt: HostRuntime) {
     lives(
         &rt,
         &[
@@ -66,6 +70,10 @@ fn a_waker_that_is_dropped(rt: HostRuntime) {
             (Wake, Queues(Some(false))),
         ],
     );
+}
+
+#[test]
+fn the_last_waker_of_a_detached_task_is_dropped(rt: HostRuntime) {
     lives(
         &rt,
         &[
