@@ -39,7 +39,7 @@ impl<R: Wait + Drop, F: Yields, Q: Drop, M: Drop, A: Wake, X: Copy, B: Allocator
     {
         let (cell, party) = Cell::gain_at(&self.inner.cell, &self.inner.holder)?;
         Some(TaskWaker {
-            inner: WakerSeat::owned(cell, party),
+            inner: WakerSeat::kept(cell, party),
             around: self.around,
         })
     }
