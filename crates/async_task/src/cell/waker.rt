@@ -33,6 +33,24 @@ pub(crate) struct WakerSeat<R, F: Yields, Q, M, A, B: Allocator> {
     ghost placed: { (roost holder).view ≡ waker_view hold (roost holder).view },
 }
 
+impl<R, F: Yields, Q, M, A, B: Allocator> WakerSeat<R, F, Q, M, A, B> {
+    // A waker that was gained, for one who mostly gives it up: woken by value, or dropped.
+    pub(crate) fn passing(
+        cell: Arc<Cell<R, F, Q, M, A, B>, B>,
+        party: Party<F, Kept<F>, A>,
+    ) -> WakerSeat<R, F, Q, M, A, B>
+        requires cell { party.seat.table_id ≡ (arc_value cell).table.shared.table_id }
+        requires party { party.seat.me ≡ (view (arc_value cell).limit (fresh as_waker ∷ []), []) }
+    {
+        let Party { seat } = party;
+        WakerSeat {
+            cell,
+            holder: SeatHolder::locked(seat),
+            hold: Hold::Owned,
+        }
+    }
+}
+
 impl<R: Wait + Drop, F: Yields, Q: Drop, M: Drop, A: Wake, B: Allocator> WakerSeat<
     R,
     F,
@@ -54,22 +72,6 @@ impl<R: Wait + Drop, F: Yields, Q: Drop, M: Drop, A: Wake, B: Allocator> WakerSe
         WakerSeat {
             cell,
             holder,
-            hold: Hold::Owned,
-        }
-    }
-
-    // A waker that was gained, for one who mostly gives it up: woken by value, or dropped.
-    pub(crate) fn passing(
-        cell: Arc<Cell<R, F, Q, M, A, B>, B>,
-        party: Party<F, Kept<F>, A>,
-    ) -> WakerSeat<R, F, Q, M, A, B>
-        requires cell { party.seat.table_id ≡ (arc_value cell).table.shared.table_id }
-        requires party { party.seat.me ≡ (view (arc_value cell).limit (fresh as_waker ∷ []), []) }
-    {
-        let Party { seat } = party;
-        WakerSeat {
-            cell,
-            holder: SeatHolder::locked(seat),
             hold: Hold::Owned,
         }
     }
