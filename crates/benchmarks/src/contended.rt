@@ -62,39 +62,44 @@ impl Contention {
         threads: u32,
         repetitions: u32,
     ) -> Result<Throughput, Failure> {
-        let queue = Queue::new(rt, alloc);
-        let (runnable, task) = queue.spawn(Pending)?;
-        let waker = runnable.waker().ok_or(AllocError)?;
-        let mut scheduled = Some(runnable);
-        if let Contention::WakeStorm = self {
-            if let Some(runnable) = scheduled.take() {
-                runnable.run();
-            }
-        }
         let mut counted = Vec::new(alloc);
         for _ in 0..repetitions {
-            counted.push(self.measure_once(rt, &queue, &waker, threads)?)?;
+            counted.push(self.measure_once(rt, alloc, threads)?)?;
         }
-        drop((scheduled, task));
         medians_of(alloc, threads, counted.as_slice())
     }
 
-    // One measurement: the threads are started, each with a clone of the waker, work for a time, and end. The task is run by this thread.
+    // One measurement, of a task that is scheduled, whose Runnable makes the waker of each thread.
     fn measure_once<R: Clock + Threads + Wait + Drop + Copy + Send + Sync>(
         self,
         rt: R,
-        queue: &Queue<R, Pending>,
-        waker: &QueueWaker<'_, R, Pending>,
+        alloc: Global,
         threads: u32,
+    ) -> Result<Counted, Failure> {
+        let queue = Queue::new(rt, alloc);
+        let (runnable, task) = queue.spawn(Pending)?;
+        let mut wakers = Vec::new(alloc);
+        for _ in 0..threads {
+            wakers.push(runnable.waker().ok_or(AllocError)?)?;
+        }
+        runnable.schedule();
+        let counted = self.count(rt, &queue, wakers)?;
+        drop(task);
+        Ok(counted)
+    }
+
+    // A thread is started for each waker, works for a time, and ends. The task is run by this thread.
+    fn count<R: Clock + Threads + Wait + Drop + Copy + Send + Sync>(
+        self,
+        rt: R,
+        queue: &Queue<R, Pending>,
+        wakers: Vec<QueueWaker<'_, R, Pending>>,
     ) -> Result<Counted, Failure> {
         let phases = Phases::new();
         let shared = &phases;
         let start = thread::scope(thread::scope_env(), &rt, |scope| {
-            for _ in 0..threads {
-                let Some(clone) = waker.clone() else {
-                    return shared.give_up();
-                };
-                if scope.spawn(move || shared.work(rt, &clone, self)).is_err() {
+            for waker in wakers {
+                if scope.spawn(move || shared.work(rt, &waker, self)).is_err() {
                     return shared.give_up();
                 }
             }

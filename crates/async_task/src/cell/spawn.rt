@@ -54,6 +54,14 @@ impl<R: Drop, F: Yields, Q: Drop, M: Drop, A: Drop, B: Allocator> Cell<R, F, Q, 
         (schedule, metadata)
     }
 
+    // Gives up a share that may be the last. The last one is taken apart after a load, and makes no atomic step.
+    pub(crate) fn leave(this: Arc<Self, B>) {
+        match Arc::try_unwrap(this) {
+            Ok(cell) => drop(cell),
+            Err(share) => drop(share),
+        }
+    }
+
     /// What the builder was given as metadata. It waits for nobody.
     pub fn metadata(&self) -> &M
         ensures { result.now ≡ self.now.metadata }

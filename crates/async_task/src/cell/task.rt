@@ -27,7 +27,7 @@ impl<R: Drop, F: Yields, Q: Drop, M: Drop, A: Drop, B: Allocator> Cell<R, F, Q, 
         !Word::from_bits(found).is_open()
     }
 
-    /// The word as one load finds it, to be shown. No party notes it, and the next moment it may be another. It waits for nobody.
+    /// The word as one load finds it. No party notes it, and the next moment it may be another; only a task that is over stays so. It waits for nobody.
     pub fn word(&self) -> Word {
         Word::from_bits(self.table.shared.peek(0))
     }

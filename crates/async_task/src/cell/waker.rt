@@ -33,6 +33,24 @@ pub(crate) struct WakerSeat<R, F: Yields, Q, M, A, B: Allocator> {
     ghost placed: { (roost holder).view ≡ waker_view hold (roost holder).view },
 }
 
+impl<R, F: Yields, Q, M, A, B: Allocator> WakerSeat<R, F, Q, M, A, B> {
+    // A waker that was gained, for one who mostly gives it up: woken by value, or dropped.
+    pub(crate) fn passing(
+        cell: Arc<Cell<R, F, Q, M, A, B>, B>,
+        party: Party<F, Kept<F>, A>,
+    ) -> WakerSeat<R, F, Q, M, A, B>
+        requires cell { party.seat.table_id ≡ (arc_value cell).table.shared.table_id }
+        requires party { party.seat.me ≡ (view (arc_value cell).limit (fresh as_waker ∷ []), []) }
+    {
+        let Party { seat } = party;
+        WakerSeat {
+            cell,
+            holder: SeatHolder::locked(seat),
+            hold: Hold::Owned,
+        }
+    }
+}
+
 impl<R: Wait + Drop, F: Yields, Q: Drop, M: Drop, A: Wake, B: Allocator> WakerSeat<
     R,
     F,
@@ -41,8 +59,8 @@ impl<R: Wait + Drop, F: Yields, Q: Drop, M: Drop, A: Wake, B: Allocator> WakerSe
     A,
     B,
 > {
-    // A waker that was gained.
-    pub(crate) fn owned(
+    // A waker that was gained, for one who keeps it and wakes by it.
+    pub(crate) fn kept(
         cell: Arc<Cell<R, F, Q, M, A, B>, B>,
         party: Party<F, Kept<F>, A>,
     ) -> WakerSeat<R, F, Q, M, A, B>
@@ -58,10 +76,13 @@ impl<R: Wait + Drop, F: Yields, Q: Drop, M: Drop, A: Wake, B: Allocator> WakerSe
         }
     }
 
-    // One more waker, which is owned.
+    // One more waker, which is owned. The clone of the lent one is that which a future keeps; the clone of an owned one is mostly woken by value or dropped, and then a lock costs nothing.
     pub(crate) fn gain(&self) -> Option<WakerSeat<R, F, Q, M, A, B>> {
         let (cell, party) = Cell::gain_at(&self.cell, &self.holder)?;
-        Some(WakerSeat::owned(cell, party))
+        Some(match self.hold {
+            Hold::Lent => WakerSeat::kept(cell, party),
+            Hold::Owned => WakerSeat::passing(cell, party),
+        })
     }
 
     // The share and the party of an owned waker, whose seat is not put back; a lent one stays as it is.
@@ -86,10 +107,15 @@ impl<R: Wait + Drop, F: Yields, Q: Drop, M: Drop, A: Wake, B: Allocator> WakerSe
     }
 
     // Wakes the task: the deliverer, where it was idle.
+    //
+    // A look is enough where it finds the task over: the flags of a task that is completed or closed never go out, so the wake would find it over too, and such a wake changes nothing. The seat stays where it is then.
     pub(crate) fn wake(&self) -> Option<Party<F, Kept<F>, A>>
         ensures cell { IfSome result (λ d. (d.seat.table_id ≡ (arc_value self.now.cell).table.shared.table_id) × (limit_of d ≡ (arc_value self.now.cell).limit)) }
         ensures deliverer { IfSome result (λ d. Stands as_deliverer d) }
     {
+        if !self.cell.word().is_open() {
+            return None;
+        }
         self.cell.wake_at(&self.holder)
     }
 }

@@ -39,7 +39,7 @@ impl<R: Wait + Drop, F: Yields, Q: Drop, M: Drop, A: Wake, X: Copy, B: Allocator
     {
         let (cell, party) = Cell::gain_at(&self.inner.cell, &self.inner.holder)?;
         Some(TaskWaker {
-            inner: WakerSeat::owned(cell, party),
+            inner: WakerSeat::kept(cell, party),
             around: self.around,
         })
     }
@@ -79,7 +79,12 @@ impl<R: Wait + Drop, F: Yields, Q: Drop, M: Drop, A: Wake, X: Copy, B: Allocator
         let (cell, party) = inner.into_party();
         let (cell, ended, woken) = Cell::run(cell, party, around);
         ended.let_go();
-        drop(cell);
+        // A run that was woken has handed a Runnable over, which has a share of its own.
+        if woken {
+            drop(cell);
+        } else {
+            Cell::leave(cell);
+        }
         woken
     }
 }

@@ -100,7 +100,7 @@ where
         Cell::cancel(&cell, &mut party, around);
         Cell::detach(&cell, &mut party, around);
         party.let_go();
-        drop(cell);
+        Cell::leave(cell);
     }
 }
 
