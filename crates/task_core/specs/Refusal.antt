@@ -1,5 +1,5 @@
 -- Why a machine does not allow a step.
-use Rattle.std.specs.Prelude.{◌≡◌, false, Option, Some, None, IsSome, IfSome}
+use Rattle.std.specs.Prelude.{◌≡◌, true, false, Option, Some, None, IsSome, IfSome}
 use Rattle.task_core.specs.Word.{State}
 use Rattle.task_core.specs.Position.{Position, At, Lent, Act}
 use Rattle.task_core.specs.Table.{Scene, goes, rule}
@@ -18,9 +18,13 @@ IsNeverMade act p = (s : Scene) → rule s act p ≡ None
 abbrev pub FitsAt : Scene → Act → Option Position → State → Type 0
 FitsAt s act at word = (p : Position) × ((at ≡ Some p) × IsSome (rule (record s { word = word }) act p))
 
+-- the act is made where the party stands, and a poll is under way where that is a lent waker
+abbrev pub IsMadeHere : Scene → Act → Option Position → Type 0
+IsMadeHere s act at = (p : Position) × ((at ≡ Some p) × (IsMade act p × ((p ≡ At Lent) → s.polling ≡ true)))
+
 -- what a reason says of an act that is refused to a party there: no party, never there, no poll under way, or a word that does not fit where another does
 abbrev pub IsReason : Scene → Act → Option Position → Refusal → Type 0
 IsReason s act at NoParty = at ≡ None
 IsReason s act at (NeverThere p) = (at ≡ Some p) × IsNeverMade act p
-IsReason s act at NoPoll = (at ≡ Some (At Lent)) × (s.polling ≡ false)
-IsReason s act at (UnfitWord fitting) = IfSome fitting (FitsAt s act at)
+IsReason s act at NoPoll = (at ≡ Some (At Lent)) × (IsMade act (At Lent) × (s.polling ≡ false))
+IsReason s act at (UnfitWord fitting) = IsMadeHere s act at × IfSome fitting (FitsAt s act at)

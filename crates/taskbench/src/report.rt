@@ -1,5 +1,5 @@
 //! The answer to the arguments, and what is printed.
-ghost use Rattle.std.specs.Prelude.{◌≡◌, ◌≤◌, []};
+ghost use Rattle.std.specs.Prelude.{◌≡◌, ◌≤◌, [], IsErr};
 
 use crate::asked::{Request, asked};
 use benchmarks::benchmark::Benchmark;
@@ -47,7 +47,8 @@ where
 
 // The status; a failure is told on `err`.
 fn status_of<T: Drop, E: io::Write>(outcome: Result<T, Failure>, err: &mut E) -> u8
-    ensures { result ≤ 1 }
+    ensures status { result ≤ 1 }
+    ensures failed { IsErr outcome → result ≡ 1 }
 {
     match outcome {
         Ok(_) => 0,

@@ -76,7 +76,8 @@ fn refusal_at(scene: Scene, act: Act, position: Position) -> Option<Refusal>
 
 // It is a lent waker, between two calls, and no poll of the future is under way.
 fn is_alone(scene: &Scene, position: Position) -> bool
-    ensures { result ≡ true → (position ≡ At Lent) × (scene.now.polling ≡ false) }
+    ensures alone { result ≡ true → (position ≡ At Lent) × (scene.now.polling ≡ false) }
+    ensures polled { result ≡ false → position ≡ At Lent → scene.now.polling ≡ true }
 {
     match position {
         Position::At(Rest::Lent) => !scene.polling,

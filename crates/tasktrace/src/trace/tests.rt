@@ -250,3 +250,18 @@ fn a_writer_that_fails_gives_status_one(rt: HostRuntime) -> Result<(), Fail> {
     );
     Ok(())
 }
+
+// What was printed of the steps before is flushed also where the trace ends early: where that fails it is told, and the status is 1.
+#[test]
+fn a_trace_that_ends_early_is_flushed(rt: HostRuntime) {
+    for input in ["limit 4\n7 look\n", "limit 4\nlook\n"] {
+        let mut unflushed = Limited {
+            left: 4000,
+            flushes: false,
+        };
+        let mut err = Vec::new(rt.alloc());
+        let status = trace(rt.alloc(), input.as_bytes(), &mut unflushed, &mut err);
+        assert_eq!(rt; status, 1, "{input}");
+        assert!(rt; err.len() > 0, "{input}");
+    }
+}
