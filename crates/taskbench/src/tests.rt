@@ -4,7 +4,10 @@ use crate::asked::{Request, asked};
 use crate::report::answer;
 use benchmarks::benchmark::Benchmark;
 use benchmarks::contended::Contention;
+use benchmarks::failure::Failure;
 use benchmarks::measure::{Hundredths, hundredths_of_one, summarize};
+use std::alloc::{AllocError, AllocFailed};
+use std::io;
 use std::process::Abort;
 use std::test::Fail;
 use std::time::Duration;
@@ -43,6 +46,29 @@ fn times_are_shown_in_nanoseconds(rt: HostRuntime) -> Result<(), Fail> {
     };
     assert_eq!(rt; (found.median, found.least), (7, 3));
     assert!(rt; summarize(Vec::new(alloc)).is_err());
+    Ok(())
+}
+
+#[test]
+fn failures_are_told(rt: HostRuntime) -> Result<(), Fail> {
+    let alloc = rt.alloc();
+    let failures = [
+        (Failure::from(AllocError), "no memory"),
+        (Failure::from(AllocFailed { value: 1u8 }), "no memory"),
+        (
+            Failure::Unexpected,
+            "a call did not do what is to be measured",
+        ),
+        (Failure::NoThread, "no thread could be started"),
+    ];
+    for (failure, wanted) in failures {
+        let told = format!(in alloc; "{failure}")?;
+        assert_eq!(rt; told.as_str(), wanted);
+    }
+    let broken = format!(in alloc; "{}", io::Error::from(io::ErrorKind::BrokenPipe))?;
+    let failure = Failure::from(io::Error::from(io::ErrorKind::BrokenPipe));
+    let told = format!(in alloc; "{failure}")?;
+    assert_eq!(rt; told.as_str(), broken.as_str());
     Ok(())
 }
 
