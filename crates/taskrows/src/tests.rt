@@ -1,6 +1,8 @@
 //! Tests of the program, and of calls that no row makes.
 
-use async_task::{Cell, Kept, Party, Runnable, SpawnError, Task, TaskClosed, TaskPoll, spawn};
+use async_task::{
+    Cell, Kept, Party, Runnable, SpawnError, Task, TaskClosed, TaskPoll, Wake, spawn,
+};
 use fixtures::counters::{Counters, Counts};
 use fixtures::fixture::{Fixture, Outcome};
 use fixtures::flag::Flag;
@@ -185,6 +187,24 @@ fn a_polled_output_is_dropped_by_the_poller(rt: HostRuntime) -> Result<(), Fail>
     assert!(rt; matches!(&polled, TaskPoll::Ready(Ok(Output { number: 9, .. }))));
     drop(polled);
     assert_eq!(rt; fixture.output_drops(), 1);
+    Ok(())
+}
+
+#[test]
+fn a_flag_counts_what_is_done_to_it(rt: HostRuntime) -> Result<(), Fail> {
+    let flag = Flag::new(rt.alloc(), 7)?;
+    flag.wake_by_ref();
+    assert_eq!(rt; (flag.clones(), flag.wakes(), flag.drops()), (0, 1, 0));
+    let Some(clone) = flag.try_clone() else {
+        panic!(rt; "a clone was refused")
+    };
+    assert!(rt; flag.will_wake(&clone));
+    clone.wake();
+    drop(flag.try_clone());
+    assert_eq!(rt; (flag.clones(), flag.wakes(), flag.drops()), (2, 2, 1));
+    flag.refuse_next_clone();
+    assert!(rt; flag.try_clone().is_none());
+    assert!(rt; flag.try_clone().is_some());
     Ok(())
 }
 
