@@ -1,9 +1,13 @@
-//! The program that runs the worked rows, and the tests of the calls that no row makes.
+//! The program that runs the worked rows.
 #![tactic(auto)]
 
+mod local;
+mod rows;
+mod table;
+
+use rows::rows;
 use std::process::ExitCode;
 use std::{env, io};
-use worked_rows::rows;
 
 fn main(rt: HostRuntime) -> io::Result<ExitCode> {
     let mut args = Vec::new(rt.alloc());
@@ -17,18 +21,4 @@ fn main(rt: HostRuntime) -> io::Result<ExitCode> {
 }
 
 #[cfg(test)]
-mod builder_tests;
-#[cfg(test)]
-mod executor_tests;
-#[cfg(test)]
-mod heap_tests;
-#[cfg(test)]
-mod slot_tests;
-#[cfg(test)]
-mod storm_tests;
-#[cfg(test)]
-mod task_tests;
-#[cfg(test)]
 mod tests;
-#[cfg(test)]
-mod waker_tests;

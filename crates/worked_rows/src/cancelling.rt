@@ -1,6 +1,6 @@
 //! The rows in which a task is cancelled.
 ghost use Rattle.std.specs.Prelude.{IfOk};
-ghost use Rattle.worked_rows.specs.Row.{AgreesAt};
+ghost use Rattle.worked_rows.specs.Agreement.{AgreesAt};
 
 use async_task::TaskPoll;
 use fixtures::answers::is_some_with;

@@ -1,6 +1,6 @@
 //! The rows in which a task is detached.
 ghost use Rattle.std.specs.Prelude.{IfOk};
-ghost use Rattle.worked_rows.specs.Row.{AgreesAt};
+ghost use Rattle.worked_rows.specs.Agreement.{AgreesAt};
 
 use fixtures::counters::Counts;
 use fixtures::fixture::{Fixture, Outcome};

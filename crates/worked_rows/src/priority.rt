@@ -1,6 +1,6 @@
 //! The rows of the executor by priority. In each, the tasks are spawned and scheduled in the order given.
 ghost use Rattle.std.specs.Prelude.{IfOk};
-ghost use Rattle.worked_rows.specs.Row.{AgreesAt};
+ghost use Rattle.worked_rows.specs.Agreement.{AgreesAt};
 
 use async_task::{TaskClosed, TaskPoll};
 use fixtures::counters::Counts;

@@ -1,0 +1,358 @@
+//! Tests over heaps: a spawn that is refused, and the calls that ask for no memory.
+ghost use Rattle.std.specs.Prelude.{⊤};
+ghost use Rattle.fixtures.specs.Behaviour.{IsPolled};
+
+use async_task::{
+    Builder, Future, ParkedRunnable, Poll, Runnable, Schedule, ScheduleInfo, SpawnError, Task,
+    TaskWaker, Yields, spawn,
+};
+use fixtures::counters::{Counter, Counters, Counts};
+use fixtures::flag::Flag;
+use fixtures::future::{Behaviour, Output, RowFuture};
+use fixtures::surroundings::Scheduler;
+use linked_list_allocator::LocalHeap;
+use std::alloc::{AllocError, Global};
+use std::mem;
+use std::process::Abort;
+use std::sync::{Arc, Mutex, Wait};
+use std::test::Fail;
+
+// Surroundings that hold one Runnable, parked: room that was there before any task.
+struct Tray<'heap, R: Wait + Drop> {
+    rt: R,
+    held: Mutex<Option<TrayParked<'heap, R>>>,
+}
+
+// The handles of a task whose memory is of a heap.
+type TrayRunnable<'x, 'heap, R> = Runnable<
+    R,
+    TrayFuture,
+    TrayScheduler,
+    u64,
+    Flag,
+    &'x Tray<'heap, R>,
+    &'heap LocalHeap,
+>;
+
+type TrayTask<'x, 'heap, R> = Task<
+    R,
+    TrayFuture,
+    TrayScheduler,
+    u64,
+    Flag,
+    &'x Tray<'heap, R>,
+    &'heap LocalHeap,
+>;
+
+type TrayWaker<'x, 'heap, R> = TaskWaker<
+    R,
+    TrayFuture,
+    TrayScheduler,
+    u64,
+    Flag,
+    &'x Tray<'heap, R>,
+    &'heap LocalHeap,
+>;
+
+type TrayParked<'heap, R> = ParkedRunnable<
+    R,
+    TrayFuture,
+    TrayScheduler,
+    u64,
+    Flag,
+    &'heap LocalHeap,
+>;
+
+type TrayHandles<'x, 'heap, R> = (TrayRunnable<'x, 'heap, R>, TrayTask<'x, 'heap, R>);
+
+impl<'heap, R: Wait + Drop> Tray<'heap, R> {
+    fn new(rt: R) -> Tray<'heap, R> {
+        Tray {
+            rt,
+            held: Mutex::new(None),
+        }
+    }
+
+    // Puts a Runnable on the tray, and drops the one that lay there.
+    fn put(&self, parked: TrayParked<'heap, R>) {
+        let previous = {
+            let mut held = self.held.lock(&self.rt);
+            mem::replace(&mut *held, Some(parked))
+        };
+        if let Some(previous) = previous {
+            drop(previous.unpark(()));
+        }
+    }
+
+    // Takes the Runnable off the tray.
+    fn receive(&self) -> Option<TrayRunnable<'_, 'heap, R>> {
+        let parked = self.held.lock(&self.rt).take()?;
+        Some(parked.unpark(self))
+    }
+}
+
+// A parked handle cannot be dropped: one that is left is unparked first.
+impl<'heap, R: Wait + Drop> Drop for Tray<'heap, R> {
+    fn drop(self) {
+        let Tray { rt, held } = self;
+        if let Some(parked) = held.into_inner() {
+            drop(parked.unpark(()));
+        }
+        drop(rt);
+    }
+}
+
+// The schedule value: it counts as that of the rows does, and puts each Runnable on the tray.
+#[derive(Drop)]
+struct TrayScheduler {
+    inner: Scheduler,
+}
+
+impl<'x, 'heap, R: Wait + Drop> Schedule<TrayRunnable<'x, 'heap, R>> for TrayScheduler {
+    ghost scheduled = { λ _ _ _. ⊤ };
+
+    fn schedule(&self, runnable: TrayRunnable<'x, 'heap, R>, _info: ScheduleInfo) {
+        self.inner.count_call();
+        runnable.around().put(runnable.park());
+    }
+}
+
+// The future of such a task: one of the rows, which does nothing but answer.
+#[derive(Drop)]
+struct TrayFuture {
+    inner: RowFuture,
+}
+
+impl Yields for TrayFuture {
+    type Output = Output;
+}
+
+impl<'x, 'heap, R: Wait + Drop> Future<TrayWaker<'x, 'heap, R>> for TrayFuture {
+    ghost polled = { λ old _ answer new. IsPolled old.inner.behaviour answer new.inner.behaviour };
+
+    fn poll(&mut self, _waker: &TrayWaker<'x, 'heap, R>) -> Poll<Output> {
+        self.inner.answer_alone()
+    }
+}
+
+// A spawn over a heap of that many blocks of 16 bytes, by a builder with metadata and a limit: whether it had memory. One
+// that had none must have handed them back, with the maker uncalled, and must have freed what it took.
+fn build_in_blocks<R: Wait + Abort + Drop + Copy>(
+    rt: &R,
+    alloc: Global,
+    blocks: u16,
+) -> Result<bool, Fail> {
+    let counters = Arc::new(alloc, Counters::new())?;
+    let heap = LocalHeap::new(alloc, 16 * usize::from(blocks))?;
+    let tray = Tray::new(*rt);
+    let calls = Counter::new();
+    let shared = Arc::try_clone(&counters)?;
+    let maker = |number: &u64| {
+        calls.add_one();
+        TrayFuture {
+            inner: RowFuture::new(Behaviour::Ready(*number), shared),
+        }
+    };
+    let scheduler = TrayScheduler {
+        inner: Scheduler::new(Arc::try_clone(&counters)?),
+    };
+    let builder = Builder::new().metadata(7u64).reference_limit(5);
+    let refused = match builder.spawn(*rt, &heap, maker, scheduler, &tray) {
+        Ok((runnable, task)) => {
+            assert_eq!(rt; calls.get(), 1);
+            drop((runnable, task));
+            return Ok(true);
+        }
+        Err(refused) => refused,
+    };
+    assert_eq!(rt; heap.used(), 0);
+    assert_eq!(rt; calls.get(), 0);
+    assert_eq!(rt; counters.counts(), Counts::new(0, 0, 0, 0));
+    let builder = refused.builder;
+    let shown = format!(in alloc; "{builder:?}")?;
+    assert_eq!(rt; shown.as_str(), "Builder { metadata: 7, limit: 5 }");
+    Ok(false)
+}
+
+// Each heap has one block more than the one before, so each allocation of the spawn is the one that is refused in turn.
+#[test]
+fn a_refused_builder_hands_everything_back(rt: HostRuntime) -> Result<(), Fail> {
+    for blocks in 1..1000u16 {
+        if build_in_blocks(&rt, rt.alloc(), blocks)? {
+            assert!(rt; 1 < blocks, "the smallest heap has no room");
+            return Ok(());
+        }
+    }
+    panic!(rt; "no heap has room")
+}
+
+// Room for a task, and more.
+const HEAP: usize = 4096;
+
+// What fills a heap.
+type Filling<'heap> = Vec<Vec<u8, &'heap LocalHeap>>;
+
+// Takes what is left of a heap: whatever is asked of it afterwards is refused.
+fn fill(alloc: Global, heap: &LocalHeap) -> Result<Filling<'_>, AllocError> {
+    let mut filling = Vec::new(alloc);
+    for _ in 0..HEAP {
+        let Ok(block) = Vec::with_capacity(heap, 1) else {
+            return Ok(filling);
+        };
+        filling.push(block)?;
+    }
+    Err(AllocError)
+}
+
+// Spawns a task in a heap, with metadata 7 and a future that behaves like that.
+fn spawn_in<'x, 'heap, R: Wait + Drop + Copy>(
+    heap: &'heap LocalHeap,
+    tray: &'x Tray<'heap, R>,
+    counters: &Arc<Counters>,
+    behaviour: Behaviour,
+) -> Result<TrayHandles<'x, 'heap, R>, AllocError> {
+    let future = TrayFuture {
+        inner: RowFuture::new(behaviour, Arc::try_clone(counters)?),
+    };
+    let scheduler = TrayScheduler {
+        inner: Scheduler::new(Arc::try_clone(counters)?),
+    };
+    Builder::new()
+        .metadata(7)
+        .spawn(tray.rt, heap, |_| future, scheduler, tray)
+        .map_err(|_| AllocError)
+}
+
+// A drop of the Runnable and a detach, then the other way round, each time in a heap that is full after the spawn.
+#[test]
+fn drops_and_detaches_ask_for_no_memory(rt: HostRuntime) -> Result<(), Fail> {
+    let counters = Arc::new(rt.alloc(), Counters::new())?;
+    let heap = LocalHeap::new(rt.alloc(), HEAP)?;
+    let tray = Tray::new(rt);
+    let (runnable, mut task) = spawn_in(&heap, &tray, &counters, Behaviour::Ready(1))?;
+    let (other, other_task) = spawn_in(&heap, &tray, &counters, Behaviour::Ready(1))?;
+    let filling = fill(rt.alloc(), &heap)?;
+    let used = heap.used();
+    assert_eq!(rt; *runnable.metadata(), 7);
+    runnable.discard();
+    assert_eq!(rt; counters.counts(), Counts::new(0, 0, 1, 0));
+    assert!(rt; task.is_finished());
+    assert_eq!(rt; *task.metadata(), 7);
+    assert_eq!(rt; heap.used(), used);
+    task.detach();
+    assert_eq!(rt; counters.counts(), Counts::new(0, 0, 1, 1));
+    other_task.detach();
+    assert_eq!(rt; counters.counts(), Counts::new(0, 0, 1, 1));
+    drop(other);
+    assert_eq!(rt; counters.counts(), Counts::new(0, 0, 2, 2));
+    drop(filling);
+    assert_eq!(rt; heap.used(), 0);
+    Ok(())
+}
+
+// A Task's drop and a run, and three calls of `schedule`, in a heap that is full after the spawns.
+#[test]
+fn cancels_and_schedules_ask_for_no_memory(rt: HostRuntime) -> Result<(), Fail> {
+    let counters = Arc::new(rt.alloc(), Counters::new())?;
+    let heap = LocalHeap::new(rt.alloc(), HEAP)?;
+    let tray = Tray::new(rt);
+    let (runnable, task) = spawn_in(&heap, &tray, &counters, Behaviour::Ready(1))?;
+    let (mut scheduled, scheduled_task) = spawn_in(&heap, &tray, &counters, Behaviour::Pending)?;
+    let filling = fill(rt.alloc(), &heap)?;
+    drop(task);
+    assert_eq!(rt; counters.counts(), Counts::new(0, 0, 0, 0));
+    assert!(rt; !runnable.run());
+    assert_eq!(rt; counters.counts(), Counts::new(0, 0, 1, 1));
+    for _ in 0..3u8 {
+        scheduled.schedule();
+        let Some(received) = tray.receive() else {
+            panic!(rt; "nothing was scheduled");
+        };
+        scheduled = received;
+    }
+    assert_eq!(rt; counters.counts(), Counts::new(0, 3, 1, 1));
+    drop(scheduled_task);
+    drop(scheduled);
+    drop(filling);
+    Ok(())
+}
+
+// A waker and its clone are had in a full heap: nothing is allocated for them. They wake the task, as one that was taken before does.
+#[test]
+fn wakers_ask_for_no_memory(rt: HostRuntime) -> Result<(), Fail> {
+    let counters = Arc::new(rt.alloc(), Counters::new())?;
+    let heap = LocalHeap::new(rt.alloc(), HEAP)?;
+    let tray = Tray::new(rt);
+    let (runnable, task) = spawn_in(&heap, &tray, &counters, Behaviour::Pending)?;
+    let before = runnable.waker().ok_or(AllocError)?;
+    let filling = fill(rt.alloc(), &heap)?;
+    let used = heap.used();
+    let waker = runnable.waker().ok_or(AllocError)?;
+    let clone = waker.clone().ok_or(AllocError)?;
+    assert!(rt; !runnable.run());
+    waker.wake_by_ref();
+    let Some(received) = tray.receive() else {
+        panic!(rt; "nothing was scheduled");
+    };
+    assert!(rt; !received.run());
+    clone.wake();
+    assert_eq!(rt; counters.counts(), Counts::new(2, 2, 0, 0));
+    let Some(received) = tray.receive() else {
+        panic!(rt; "nothing was scheduled");
+    };
+    assert!(rt; !received.run());
+    before.wake();
+    waker.discard();
+    assert_eq!(rt; counters.counts(), Counts::new(3, 3, 0, 0));
+    assert_eq!(rt; heap.used(), used);
+    drop(task);
+    drop(tray.receive());
+    assert_eq!(rt; counters.counts(), Counts::new(3, 3, 1, 1));
+    drop(filling);
+    assert_eq!(rt; heap.used(), 0);
+    Ok(())
+}
+
+// What a spawn over a heap of that kind answers.
+type Spawned<'heap, R> = Result<
+    (
+        Runnable<R, RowFuture, Scheduler, (), Flag, (), &'heap LocalHeap>,
+        Task<R, RowFuture, Scheduler, (), Flag, (), &'heap LocalHeap>,
+    ),
+    SpawnError<(), RowFuture, Scheduler>,
+>;
+
+// A spawn over a heap of that many blocks of 16 bytes: whether it had memory. One that had none must have handed back
+// the future and the schedule value, neither of them dropped, and must have freed what it took.
+fn spawn_in_blocks<R: Wait + Abort + Drop + Copy>(
+    rt: &R,
+    alloc: Global,
+    blocks: u16,
+) -> Result<bool, Fail> {
+    let counters = Arc::new(alloc, Counters::new())?;
+    let heap = LocalHeap::new(alloc, 16 * usize::from(blocks))?;
+    let future = RowFuture::new(Behaviour::Ready(4), Arc::try_clone(&counters)?);
+    let scheduler = Scheduler::new(Arc::try_clone(&counters)?);
+    let spawned: Spawned<'_, R> = spawn(*rt, &heap, future, scheduler, ());
+    assert_eq!(rt; counters.counts(), Counts::new(0, 0, 0, 0));
+    let Err(refused) = spawned else {
+        return Ok(true);
+    };
+    assert_eq!(rt; heap.used(), 0);
+    assert_eq!(rt; refused.maker.behaviour, Behaviour::Ready(4));
+    drop(refused);
+    assert_eq!(rt; counters.counts(), Counts::new(0, 0, 1, 1));
+    Ok(false)
+}
+
+// Each heap has one block more than the one before, so each allocation of the spawn is the one that is refused in turn.
+#[test]
+fn a_refused_spawn_hands_everything_back(rt: HostRuntime) -> Result<(), Fail> {
+    for blocks in 1..1000u16 {
+        if spawn_in_blocks(&rt, rt.alloc(), blocks)? {
+            assert!(rt; 1 < blocks, "the smallest heap has no room");
+            return Ok(());
+        }
+    }
+    panic!(rt; "no heap has room")
+}

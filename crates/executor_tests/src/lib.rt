@@ -1,0 +1,11 @@
+//! The tests of tasks under schedule values and surroundings of other kinds: a queue by priority, a slot, a heap, threads.
+#![tactic(auto)]
+
+#[cfg(test)]
+mod heap_tests;
+#[cfg(test)]
+mod priority_tests;
+#[cfg(test)]
+mod slot_tests;
+#[cfg(test)]
+mod storm_tests;

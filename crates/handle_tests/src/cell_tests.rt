@@ -1,0 +1,43 @@
+//! A test of the calls of the cell itself.
+
+use async_task::{Cell, Kept, Party};
+use fixtures::counters::Counters;
+use fixtures::flag::Flag;
+use fixtures::future::{Behaviour, RowFuture};
+use fixtures::surroundings::{BareRunnable, Scheduler};
+use std::alloc::Global;
+use std::sync::Arc;
+use std::test::Fail;
+
+// A cell of the tests, and a party of it.
+type TestCell<R> = Cell<R, RowFuture, Scheduler, (), Flag, Global>;
+
+type TestParty = Party<RowFuture, Kept<RowFuture>, Flag>;
+
+// The calls of the cell itself, by two parties: its word after a spawn, and the last one, after the Runnable was dropped and the Task detached.
+#[test]
+fn a_cell_ends_with_its_last_word(rt: HostRuntime) -> Result<(), Fail> {
+    let counters = Arc::new(rt.alloc(), Counters::new())?;
+    let future = RowFuture::new(Behaviour::Pending, Arc::try_clone(&counters)?);
+    let scheduler = Scheduler::new(Arc::try_clone(&counters)?);
+    let made = TestCell::make(rt, rt.alloc(), scheduler, (), 4);
+    let Ok((cell, other, seat)) = made else {
+        panic!(rt; "no memory");
+    };
+    let (mut runnable, mut task): (TestParty, TestParty) = cell.fill(seat, future);
+    assert_eq!(rt; cell.word().bits(), 0x111);
+    cell.discard_runnable(&mut runnable);
+    runnable.let_go();
+    assert_eq!(rt; cell.word().bits(), 0x18);
+    // What a detach may hand over is named, since a check reads no type that stands in a bound alone.
+    let handed_over: Option<BareRunnable<HostRuntime>> = None;
+    Cell::detach(&cell, &mut task, ());
+    drop(handed_over);
+    drop(other);
+    let Some(last) = Arc::into_inner(cell) else {
+        task.let_go();
+        panic!(rt; "the cell is shared");
+    };
+    assert_eq!(rt; last.into_word(task), 0x08);
+    Ok(())
+}
