@@ -1,7 +1,7 @@
 #!/usr/bin/env python3
 """Draws word.svg and handshake.svg from the table of moves. With --check it only compares them with the table.
 
-The definitions are read from crates/task_core/specs and evaluated as they stand there. All that is stated here is where
+The definitions are read from the specs/ of crates/task_core and crates/task_laws and evaluated as they stand there. All that is stated here is where
 each state of the word stands in a picture.
 """
 
@@ -14,8 +14,8 @@ import re
 import sys
 
 DOCUMENTS = pathlib.Path(__file__).resolve().parent
-SPECS = DOCUMENTS.parent / "crates" / "task_core" / "specs"
-FILES = ("Word", "Position", "Rows", "Table", "Machine")
+CRATES = DOCUMENTS.parent / "crates"
+FILES = ("task_core/specs/Word", "task_core/specs/Rows", "task_laws/specs/Position", "task_laws/specs/Table", "task_laws/specs/Machine")
 TOKEN = re.compile(r"0x[0-9a-fA-F_]+|\d+|\w+|\[\]|&&|\|\||\+\+|\S")
 PRECEDENCE = {"||": 1, "&&": 2, "∷": 3, "++": 3, "+": 4, "-": 4, "*": 5, "/": 5, "%": 5, "^": 6}
 PRIMITIVES = {
@@ -407,9 +407,9 @@ class Drawing:
 
 def pictures():
     """The text of each picture. Ends the program where a place has no state, a state no place, or a picture a fault."""
-    texts = [(SPECS / f"{name}.antt").read_text(encoding="utf-8") for name in FILES]
+    texts = [(CRATES / f"{name}.antt").read_text(encoding="utf-8") for name in FILES]
     definitions = Definitions(texts)
-    acts = re.search(r"Act\.TheVariants\.\{([^}]*)\}", texts[FILES.index("Position")]).group(1).split(", ")
+    acts = re.search(r"Act\.TheVariants\.\{([^}]*)\}", texts[FILES.index("task_laws/specs/Position")]).group(1).split(", ")
     exploration = Exploration(definitions, acts)
     print(f"{len(exploration.seen)} states of the machine")
     for name, (flags, size, places) in PICTURES.items():

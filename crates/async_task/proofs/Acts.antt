@@ -1,19 +1,19 @@
 -- Acts of one party in a row, with nothing of another party between.
 use Rattle.std.proofs.Common.{◌≡◌, ℕ, ◌+◌, ◌<◌, Bool, true, false, not, ◌&&◌, cond, Option, Some, None, List, [], ◌∷◌, ◌++◌, length, map, set, sym, refl, ap, ◌∙◌, subst, arith, append-nil, append_assoc}
 use Rattle.task_core.specs.Word.{State, bit}
-use Rattle.task_core.specs.Event.{Event}
-use Rattle.task_core.specs.declared.moves.Position.{Position}
+use Rattle.task_laws.specs.Event.{Event}
+use Rattle.task_laws.specs.declared.positions.Position.{Position}
 use Rattle.task_core.specs.declared.moves.Act.{Act}
 use Rattle.task_core.specs.declared.moves.Act.TheVariants.{AnswerPending, AnswerReady, BeginNotify, BeginRegister, CancelBusy, CancelIdle, CancelOver, ClaimOutput, CloneAwaiter, CloseOrphan, Complete, CompleteDetached, Detach, DetachLast, DetachOrphan, DiscardClosed, DiscardOpen, DropAwaiter, DropFuture, DropLastWaker, DropOutput, DropWaker, EmptySlots, EndCall, EndClosed, EndIdle, EndNotify, EndOrphaned, EndRegister, EndRegisterNotified, FindLimit, FindNotify, GainReference, GiveUpLastReference, GiveUpOutput, GiveUpReference, HandOutOutput, HandOver, Look, LookFinished, MissNotify, OrphanTask, RefuseClone, RefuseGain, Reschedule, StartPoll, StartRun, StoreAwaiter, StoreOutput, TakeAwaiter, TakeUpClosed, Unschedule, WakeAwaiter, WakeIdle, WakeOver, WakeRunning, WakeScheduled}
-use Rattle.task_core.specs.declared.moves.Position.TheVariants.{Answering, At, AwaiterInHand, Claimer, Claiming, Cleared, CloneInHand, Deliverer, Detacher, Emptier, FutureGone, FutureInHand, GivingUp, HasClone, Leaving, Looking, Notifier, OldAwaiterInHand, OrphanHolder, OutputCloser, OutputInHand, Pending, Polling, Ready, RefusedClone, Registered, Registrar, Releaser, Starting, Stored, Storing, Taker, TookBack, Unstored}
-use Rattle.task_core.specs.declared.moves.Closer.TheVariants.{ClosedRun, DroppedRunnable}
-use Rattle.task_core.specs.declared.moves.Rest.TheVariants.{Ended, Lent, Runnable, Task, Waker}
-use Rattle.task_core.specs.declared.moves.Way.TheVariants.{OfCancel, OfClaim, OfDrop, OfPoll, OfRun}
-use Rattle.task_core.specs.declared.moves.After.TheVariants.{ThenEnds, ThenNotifies, ThenTask}
+use Rattle.task_laws.specs.declared.positions.Position.TheVariants.{Answering, At, AwaiterInHand, Claimer, Claiming, Cleared, CloneInHand, Deliverer, Detacher, Emptier, FutureGone, FutureInHand, GivingUp, HasClone, Leaving, Looking, Notifier, OldAwaiterInHand, OrphanHolder, OutputCloser, OutputInHand, Pending, Polling, Ready, RefusedClone, Registered, Registrar, Releaser, Starting, Stored, Storing, Taker, TookBack, Unstored}
+use Rattle.task_laws.specs.declared.positions.Closer.TheVariants.{ClosedRun, DroppedRunnable}
+use Rattle.task_laws.specs.declared.positions.Rest.TheVariants.{Ended, Lent, Runnable, Task, Waker}
+use Rattle.task_laws.specs.declared.positions.Way.TheVariants.{OfCancel, OfClaim, OfDrop, OfPoll, OfRun}
+use Rattle.task_laws.specs.declared.positions.After.TheVariants.{ThenEnds, ThenNotifies, ThenTask}
 use Rattle.task_core.specs.Rows.{found, written, row}
-use Rattle.task_core.specs.Table.{Slots, Scene, Outcome, when, where_found, steps, goes, rule}
-use Rattle.task_core.specs.Machine.{Machine, begins, scene, how_many}
-use Rattle.task_core.specs.Laws.{count, is_emptying}
+use Rattle.task_laws.specs.Table.{Slots, Scene, Outcome, when, where_found, steps, goes, rule}
+use Rattle.task_laws.specs.Machine.{Machine, begins, scene, how_many}
+use Rattle.task_laws.specs.Laws.{count, is_emptying}
 use Rattle.async_task.specs.declared.table.Deed.{Deed}
 use Rattle.async_task.specs.declared.table.Member.{Member}
 use Rattle.async_task.specs.declared.table.View.{View}

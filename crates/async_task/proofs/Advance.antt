@@ -6,13 +6,13 @@ use lib.ListN.{get_elem?}
 use Rattle.atomic_table.specs.Table.{State as Board, Me, Act as Move, keeps, takes, gives, chain, stepped, homes_after, carried_after, Valid, rest}
 use Rattle.atomic_table.proofs.Lists as lists
 use Rattle.task_core.specs.Word.{bit, number_of, is_open}
-use Rattle.task_core.specs.declared.moves.Position.{Position}
+use Rattle.task_laws.specs.declared.positions.Position.{Position}
 use Rattle.task_core.specs.declared.moves.Act.{Act}
-use Rattle.task_core.specs.Table.{Outcome}
-use Rattle.task_core.specs.Machine.{Machine, scene, how_many}
-use Rattle.task_core.specs.Laws.{count, is_emptying}
-use Rattle.task_core.specs.Theorem.{owns_awaiter}
-use Rattle.task_core.proofs.Runs.{Invariant}
+use Rattle.task_laws.specs.Table.{Outcome}
+use Rattle.task_laws.specs.Machine.{Machine, scene, how_many}
+use Rattle.task_laws.specs.Laws.{count, is_emptying}
+use Rattle.task_laws.specs.Theorem.{owns_awaiter}
+use Rattle.task_laws.proofs.Runs.{Invariant}
 use Rattle.async_task.specs.declared.table.Slot.{Slot}
 use Rattle.async_task.specs.declared.table.Deed.{Deed}
 use Rattle.async_task.specs.declared.table.Member.{Member}

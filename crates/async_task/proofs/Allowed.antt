@@ -6,13 +6,13 @@ use prog.Atomic.{either}
 use Rattle.atomic_table.specs.Table.{State as Board, Me, carried_after, Allows}
 use Rattle.atomic_table.proofs.Lists as lists
 use Rattle.task_core.specs.Word.{State, state_of, number_of}
-use Rattle.task_core.specs.declared.moves.Position.{Position}
+use Rattle.task_laws.specs.declared.positions.Position.{Position}
 use Rattle.task_core.specs.declared.moves.Act.{Act}
-use Rattle.task_core.specs.Table.{Outcome}
-use Rattle.task_core.specs.Machine.{Machine, scene}
-use Rattle.task_core.specs.Theorem.{owns_awaiter}
+use Rattle.task_laws.specs.Table.{Outcome}
+use Rattle.task_laws.specs.Machine.{Machine, scene}
+use Rattle.task_laws.specs.Theorem.{owns_awaiter}
 use Rattle.task_core.proofs.Bits.{state_of_number_of}
-use Rattle.task_core.proofs.Theorem.{laws_of}
+use Rattle.task_laws.proofs.Theorem.{laws_of}
 use Rattle.async_task.specs.declared.table.Slot.{Slot}
 use Rattle.async_task.specs.declared.table.Deed.{Deed}
 use Rattle.async_task.specs.declared.table.Member.{Member}

@@ -4,20 +4,20 @@ use Rattle.std.specs.Prelude.{bit_and, bit_or, if◌then◌else◌}
 use Rattle.std.proofs.lemmas.Bool.Decides.{nat_tests}
 use Rattle.atomic_table.specs.Table.{rest}
 use Rattle.task_core.specs.Word.{State, state_of, number_of}
-use Rattle.task_core.specs.Event.{Event, CallEnds, CloneEnded, Woken}
-use Rattle.task_core.specs.declared.moves.Answer.{Answer}
-use Rattle.task_core.specs.declared.moves.Rest.{Rest}
-use Rattle.task_core.specs.declared.moves.Way.{Way}
-use Rattle.task_core.specs.declared.moves.Way.TheVariants.{OfRun, OfDrop, OfCancel, OfPoll, OfClaim}
-use Rattle.task_core.specs.declared.moves.Position.TheVariants.{At, Leaving, Notifier, Releaser, AwaiterInHand}
+use Rattle.task_laws.specs.Event.{Event, CallEnds, CloneEnded, Woken}
+use Rattle.task_laws.specs.declared.positions.Answer.{Answer}
+use Rattle.task_laws.specs.declared.positions.Rest.{Rest}
+use Rattle.task_laws.specs.declared.positions.Way.{Way}
+use Rattle.task_laws.specs.declared.positions.Way.TheVariants.{OfRun, OfDrop, OfCancel, OfPoll, OfClaim}
+use Rattle.task_laws.specs.declared.positions.Position.TheVariants.{At, Leaving, Notifier, Releaser, AwaiterInHand}
 use Rattle.task_core.specs.declared.moves.Act.TheVariants.{MissNotify, BeginNotify, TakeAwaiter}
-use Rattle.task_core.specs.Table.{Slots, steps, keeps, goes_on, goes_off, may_drop}
-use Rattle.task_core.specs.Machine.{scene}
-use Rattle.task_core.specs.Laws.{count, is_emptying}
-use Rattle.task_core.specs.Theorem.{owns_awaiter}
-use Rattle.task_core.proofs.Census.{Census, census, weigh, plus}
-use Rattle.task_core.proofs.Awaiting.{Awaiting, await, awaiting}
-use Rattle.task_core.proofs.Invariant.{Holds}
+use Rattle.task_laws.specs.Table.{Slots, steps, keeps, goes_on, goes_off, may_drop}
+use Rattle.task_laws.specs.Machine.{scene}
+use Rattle.task_laws.specs.Laws.{count, is_emptying}
+use Rattle.task_laws.specs.Theorem.{owns_awaiter}
+use Rattle.task_laws.proofs.Census.{Census, census, weigh, plus}
+use Rattle.task_laws.proofs.Awaiting.{Awaiting, await, awaiting}
+use Rattle.task_laws.proofs.Invariant.{Holds}
 use Rattle.task_core.proofs.Bits.{state_of_number_of, fetch_or-notifying, fetch_and-awaiter_notifying}
 use Rattle.async_task.specs.declared.table.Slot.{Slot}
 use Rattle.async_task.specs.declared.table.Deed.{Deed}

@@ -1,8 +1,8 @@
 -- What a step comes to for the places of the party that made it.
 use Rattle.std.proofs.Common.{◌≡◌, ℕ, Bool, true, false, List, [], ◌∷◌, refl, sym, ap, ◌∙◌, subst}
 use Rattle.atomic_table.specs.Table.{Me, rest}
-use Rattle.task_core.specs.declared.moves.Position.{Position}
-use Rattle.task_core.specs.Theorem.{owns_awaiter}
+use Rattle.task_laws.specs.declared.positions.Position.{Position}
+use Rattle.task_laws.specs.Theorem.{owns_awaiter}
 use Rattle.async_task.specs.declared.table.Slot.{Slot}
 use Rattle.async_task.specs.declared.table.Deed.{Deed}
 use Rattle.async_task.specs.declared.table.View.{View}

@@ -5,15 +5,15 @@ use Rattle.std.proofs.lemmas.Bool.Decides.{nat_tests}
 use mathlib.Core.Option.{some, some-injective, some-ne-none}
 use lib.ListN.{get_elem?}
 use Rattle.task_core.specs.Word.{State, bit, number_of}
-use Rattle.task_core.specs.declared.moves.Position.{Position}
-use Rattle.task_core.specs.declared.moves.Position.TheVariants.{At, Polling}
-use Rattle.task_core.specs.declared.moves.Rest.TheVariants.{Runnable}
-use Rattle.task_core.specs.Table.{Slots, Outcome, where_found, when}
-use Rattle.task_core.specs.Event.{Event}
-use Rattle.task_core.specs.Machine.{Machine, how_many, polls_future, scene}
-use Rattle.task_core.proofs.Census.{Census, weigh, census, runs, closers}
-use Rattle.task_core.proofs.Invariant.{Holds}
-use Rattle.task_core.proofs.Runs.{Invariant, Stays, always}
+use Rattle.task_laws.specs.declared.positions.Position.{Position}
+use Rattle.task_laws.specs.declared.positions.Position.TheVariants.{At, Polling}
+use Rattle.task_laws.specs.declared.positions.Rest.TheVariants.{Runnable}
+use Rattle.task_laws.specs.Table.{Slots, Outcome, where_found, when}
+use Rattle.task_laws.specs.Event.{Event}
+use Rattle.task_laws.specs.Machine.{Machine, how_many, polls_future, scene}
+use Rattle.task_laws.proofs.Census.{Census, weigh, census, runs, closers}
+use Rattle.task_laws.proofs.Invariant.{Holds}
+use Rattle.task_laws.proofs.Runs.{Invariant, Stays, always}
 use Rattle.async_task.specs.Rule.{Entry, Reaches, steps_of, has_work}
 use Rattle.async_task.proofs.Told as told
 

@@ -1,8 +1,8 @@
 -- What a handle keeps of its party between two calls.
 use Rattle.std.proofs.Common.{◌≡◌, ℕ, true, List, [], ◌∷◌, ◌++◌, refl, ap, ◌∙◌, subst}
-use Rattle.task_core.specs.declared.moves.Position.{Position}
-use Rattle.task_core.specs.declared.moves.Position.TheVariants.{At}
-use Rattle.task_core.specs.declared.moves.Rest.TheVariants.{Task}
+use Rattle.task_laws.specs.declared.positions.Position.{Position}
+use Rattle.task_laws.specs.declared.positions.Position.TheVariants.{At}
+use Rattle.task_laws.specs.declared.positions.Rest.TheVariants.{Task}
 use Rattle.async_task.specs.declared.table.Deed.{Deed}
 use Rattle.async_task.specs.declared.cell.Party.{Party}
 use Rattle.async_task.specs.Rule.{member, view}

@@ -5,9 +5,9 @@ use lib.ListN.{get_elem?}
 use prog.Atomic.{either}
 use Rattle.atomic_table.specs.Table.{State as Board, Me, Allows}
 use Rattle.task_core.specs.Word.{State, state_of, number_of}
-use Rattle.task_core.specs.declared.moves.Position.{Position}
+use Rattle.task_laws.specs.declared.positions.Position.{Position}
 use Rattle.task_core.specs.declared.moves.Act.{Act}
-use Rattle.task_core.specs.Machine.{Machine}
+use Rattle.task_laws.specs.Machine.{Machine}
 use Rattle.task_core.proofs.Bits.{state_of_number_of}
 use Rattle.async_task.specs.declared.table.Slot.{Slot}
 use Rattle.async_task.specs.declared.table.Deed.{Deed}

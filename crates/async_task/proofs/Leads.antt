@@ -2,12 +2,12 @@
 use Rattle.std.proofs.Common.{◌≡◌, ℕ, zero, suc, ◌+◌, ◌≤◌, true, false, Some, List, [], ◌∷◌, sym, ap, ◌∙◌, arith}
 use mathlib.Core.Option.{some, some-injective, some-ne-none}
 use lib.ListN.{get_elem?}
-use Rattle.task_core.specs.declared.moves.Position.{Position}
+use Rattle.task_laws.specs.declared.positions.Position.{Position}
 use Rattle.task_core.specs.declared.moves.Act.{Act}
 use Rattle.task_core.specs.Rows.{found, written}
-use Rattle.task_core.specs.Table.{Scene, Outcome, goes, where_found}
-use Rattle.task_core.proofs.Census.{Census, census, weigh, plus}
-use Rattle.task_core.proofs.Awaiting.{await, awaiting}
+use Rattle.task_laws.specs.Table.{Scene, Outcome, goes, where_found}
+use Rattle.task_laws.proofs.Census.{Census, census, weigh, plus}
+use Rattle.task_laws.proofs.Awaiting.{await, awaiting}
 use Rattle.async_task.specs.Steps.{then_leaves, and_then}
 use Rattle.async_task.proofs.Facts.{allowed_row}
 use Rattle.async_task.proofs.Acts.{leads, apart}

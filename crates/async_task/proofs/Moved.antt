@@ -2,14 +2,14 @@
 use Rattle.std.proofs.Common.{◌≡◌, ℕ, Bool, true, false, List, [], ◌∷◌, ◌++◌, refl, sym, ap, ◌∙◌, subst}
 use Rattle.atomic_table.specs.Table.{Me, rest}
 use Rattle.task_core.specs.Word.{State}
-use Rattle.task_core.specs.declared.moves.Position.{Position}
+use Rattle.task_laws.specs.declared.positions.Position.{Position}
 use Rattle.task_core.specs.declared.moves.Act.{Act}
-use Rattle.task_core.specs.Table.{Slots}
+use Rattle.task_laws.specs.Table.{Slots}
 use Rattle.async_task.specs.declared.table.Slot.{Slot}
 use Rattle.async_task.specs.declared.table.Deed.{Deed}
 use Rattle.async_task.specs.declared.table.View.{View}
 use Rattle.async_task.specs.declared.cell.Party.{Party}
-use Rattle.task_core.specs.Theorem.{owns_awaiter}
+use Rattle.task_laws.specs.Theorem.{owns_awaiter}
 use Rattle.async_task.specs.Rule.{member, view, has_work}
 use Rattle.async_task.specs.Steps.{head_of, future_first, output_first, acted, Carries, Carried, Makes}
 use Rattle.async_task.specs.Calls.{deeds, position, holds, limit_of, after, StandsWith, GoesWith}

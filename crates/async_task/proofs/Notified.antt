@@ -2,10 +2,10 @@
 use Rattle.std.proofs.Common.{◌≡◌, ℕ, Bool, true, false, ◌||◌, List, [], ◌∷◌, Option, Some, None, refl, sym, ap, ◌∙◌, subst}
 use Rattle.std.specs.Prelude.{if◌then◌else◌}
 use Rattle.task_core.specs.Word.{State}
-use Rattle.task_core.specs.declared.moves.Way.{Way}
-use Rattle.task_core.specs.declared.moves.Position.TheVariants.{Notifier, Releaser}
+use Rattle.task_laws.specs.declared.positions.Way.{Way}
+use Rattle.task_laws.specs.declared.positions.Position.TheVariants.{Notifier, Releaser}
 use Rattle.task_core.specs.declared.moves.Act.TheVariants.{MissNotify, BeginNotify, TakeAwaiter, EndNotify}
-use Rattle.task_core.specs.Table.{goes_on}
+use Rattle.task_laws.specs.Table.{goes_on}
 use Rattle.async_task.specs.declared.table.Slot.{Slot}
 use Rattle.async_task.specs.declared.table.Slot.TheVariants.{Empty, Future, Output, Awaiter}
 use Rattle.async_task.specs.declared.table.Deed.{Deed}

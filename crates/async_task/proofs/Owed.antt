@@ -5,19 +5,19 @@ use mathlib.Core.Option.{some, some-injective, some-ne-none}
 use lib.ListN.{get_elem?}
 use Rattle.atomic_table.specs.Table.{rest}
 use Rattle.task_core.specs.Word.{State, state_of, number_of, is_open}
-use Rattle.task_core.specs.Event.{Event, CallEnds, FutureDropped, RunEnded}
-use Rattle.task_core.specs.declared.moves.Answer.TheVariants.{Finished}
-use Rattle.task_core.specs.declared.moves.Position.{Position}
-use Rattle.task_core.specs.declared.moves.Position.TheVariants.{At, FutureInHand}
-use Rattle.task_core.specs.declared.moves.Rest.TheVariants.{Task}
-use Rattle.task_core.specs.declared.moves.Closer.TheVariants.{ClosedRun, DroppedRunnable}
-use Rattle.task_core.specs.declared.moves.Closer.{Closer}
-use Rattle.task_core.specs.declared.moves.Way.TheVariants.{OfRun, OfDrop}
-use Rattle.task_core.specs.Table.{Slots, steps, notifies}
-use Rattle.task_core.specs.Machine.{scene}
-use Rattle.task_core.proofs.Census.{Census, census, weigh, plus, closers}
-use Rattle.task_core.specs.Theorem.{owns_awaiter}
-use Rattle.task_core.proofs.Invariant.{Holds}
+use Rattle.task_laws.specs.Event.{Event, CallEnds, FutureDropped, RunEnded}
+use Rattle.task_laws.specs.declared.positions.Answer.TheVariants.{Finished}
+use Rattle.task_laws.specs.declared.positions.Position.{Position}
+use Rattle.task_laws.specs.declared.positions.Position.TheVariants.{At, FutureInHand}
+use Rattle.task_laws.specs.declared.positions.Rest.TheVariants.{Task}
+use Rattle.task_laws.specs.declared.positions.Closer.TheVariants.{ClosedRun, DroppedRunnable}
+use Rattle.task_laws.specs.declared.positions.Closer.{Closer}
+use Rattle.task_laws.specs.declared.positions.Way.TheVariants.{OfRun, OfDrop}
+use Rattle.task_laws.specs.Table.{Slots, steps, notifies}
+use Rattle.task_laws.specs.Machine.{scene}
+use Rattle.task_laws.proofs.Census.{Census, census, weigh, plus, closers}
+use Rattle.task_laws.specs.Theorem.{owns_awaiter}
+use Rattle.task_laws.proofs.Invariant.{Holds}
 use Rattle.task_core.proofs.Bits.{state_of_number_of, fetch_and-scheduled}
 use Rattle.async_task.specs.declared.table.Slot.{Slot}
 use Rattle.async_task.specs.declared.table.Deed.{Deed}

@@ -4,11 +4,11 @@ use Rattle.std.specs.Prelude.{if◌then◌else◌}
 use Rattle.task_core.specs.Word.{State}
 use Rattle.task_core.specs.declared.traits.TaskPoll.{TaskPoll}
 use Rattle.task_core.specs.declared.traits.TaskPoll.TheVariants.{Ready, NoMemory}
-use Rattle.task_core.specs.declared.moves.Way.TheVariants.{OfPoll}
-use Rattle.task_core.specs.declared.moves.Position.TheVariants.{Notifier, Looking, Claiming, Answering, Registrar}
+use Rattle.task_laws.specs.declared.positions.Way.TheVariants.{OfPoll}
+use Rattle.task_laws.specs.declared.positions.Position.TheVariants.{Notifier, Looking, Claiming, Answering, Registrar}
 use Rattle.task_core.specs.declared.moves.Act.TheVariants.{Look, RefuseClone, EndCall}
-use Rattle.task_core.specs.declared.moves.PollAnswer.TheVariants.{IsPending}
-use Rattle.task_core.specs.Table.{second_look}
+use Rattle.task_laws.specs.declared.positions.PollAnswer.TheVariants.{IsPending}
+use Rattle.task_laws.specs.Table.{second_look}
 use Rattle.async_task.specs.declared.table.Deed.{Deed}
 use Rattle.async_task.specs.declared.cell.Party.{Party}
 use Rattle.async_task.specs.Calls.{position, Stands, Goes, row, act, as_task}

@@ -4,11 +4,11 @@ use Rattle.std.specs.Prelude.{if◌then◌else◌}
 use Rattle.atomic_table.specs.Table.{Me}
 use Rattle.task_core.specs.Word.{State, state_of, number_of}
 use Rattle.task_core.specs.Rows.{written, row as row_of}
-use Rattle.task_core.specs.declared.moves.Position.{Position}
-use Rattle.task_core.specs.declared.moves.Position.TheVariants.{Looking, Registrar, RefusedClone, Registered}
+use Rattle.task_laws.specs.declared.positions.Position.{Position}
+use Rattle.task_laws.specs.declared.positions.Position.TheVariants.{Looking, Registrar, RefusedClone, Registered}
 use Rattle.task_core.specs.declared.moves.Act.{Act}
 use Rattle.task_core.specs.declared.moves.Act.TheVariants.{CloneAwaiter, StoreAwaiter, FindNotify, BeginRegister, EndRegister}
-use Rattle.task_core.specs.Table.{after_storing}
+use Rattle.task_laws.specs.Table.{after_storing}
 use Rattle.task_core.proofs.Bits.{state_of_number_of}
 use Rattle.async_task.specs.declared.table.Slot.{Slot}
 use Rattle.async_task.specs.declared.table.Deed.{Deed}

@@ -6,23 +6,23 @@ use lib.ListN.{get_elem?}
 use Rattle.atomic_table.specs.Table.{rest}
 use Rattle.task_core.specs.Word.{State, state_of, number_of}
 use Rattle.task_core.specs.Rows.{found, written, row}
-use Rattle.task_core.specs.Event.{Event, Polls, PollEnds, Closes, OutputTaken, Cloned, Woken, CloneEnded}
-use Rattle.task_core.specs.declared.moves.PollAnswer.{PollAnswer}
-use Rattle.task_core.specs.declared.moves.PollAnswer.TheVariants.{IsPending, HasOutput, IsRefused}
-use Rattle.task_core.specs.declared.moves.Position.{Position}
-use Rattle.task_core.specs.declared.moves.Way.TheVariants.{OfPoll, OfClaim}
-use Rattle.task_core.specs.declared.moves.Position.TheVariants.{At, Notifier, Looking, Claiming, Claimer, Answering, Registrar, HasClone, RefusedClone, Storing, Registered, OldAwaiterInHand, TookBack, CloneInHand}
-use Rattle.task_core.specs.declared.moves.Rest.TheVariants.{Task}
+use Rattle.task_laws.specs.Event.{Event, Polls, PollEnds, Closes, OutputTaken, Cloned, Woken, CloneEnded}
+use Rattle.task_laws.specs.declared.positions.PollAnswer.{PollAnswer}
+use Rattle.task_laws.specs.declared.positions.PollAnswer.TheVariants.{IsPending, HasOutput, IsRefused}
+use Rattle.task_laws.specs.declared.positions.Position.{Position}
+use Rattle.task_laws.specs.declared.positions.Way.TheVariants.{OfPoll, OfClaim}
+use Rattle.task_laws.specs.declared.positions.Position.TheVariants.{At, Notifier, Looking, Claiming, Claimer, Answering, Registrar, HasClone, RefusedClone, Storing, Registered, OldAwaiterInHand, TookBack, CloneInHand}
+use Rattle.task_laws.specs.declared.positions.Rest.TheVariants.{Task}
 use Rattle.task_core.specs.declared.moves.Act.{Act}
 use Rattle.task_core.specs.declared.moves.Act.TheVariants.{Look, ClaimOutput, CloneAwaiter, StoreAwaiter, TakeAwaiter, FindNotify, BeginRegister, EndRegister, EndRegisterNotified, EndCall}
-use Rattle.task_core.specs.Table.{Slots, steps, keeps, when, where_found, notifies, first_look, second_look, after_storing}
-use Rattle.task_core.specs.Machine.{Machine, scene}
-use Rattle.task_core.specs.Laws.{count, is_emptying, is_poll}
-use Rattle.task_core.specs.Theorem.{owns_awaiter}
-use Rattle.task_core.proofs.Census.{Census, census, plus}
-use Rattle.task_core.proofs.Awaiting.{Awaiting, awaiting, await}
-use Rattle.task_core.proofs.Handshake.{HandshakeHolds}
-use Rattle.task_core.proofs.Invariant.{Holds}
+use Rattle.task_laws.specs.Table.{Slots, steps, keeps, when, where_found, notifies, first_look, second_look, after_storing}
+use Rattle.task_laws.specs.Machine.{Machine, scene}
+use Rattle.task_laws.specs.Laws.{count, is_emptying, is_poll}
+use Rattle.task_laws.specs.Theorem.{owns_awaiter}
+use Rattle.task_laws.proofs.Census.{Census, census, plus}
+use Rattle.task_laws.proofs.Awaiting.{Awaiting, awaiting, await}
+use Rattle.task_laws.proofs.Handshake.{HandshakeHolds}
+use Rattle.task_laws.proofs.Invariant.{Holds}
 use Rattle.task_core.proofs.Bits.{state_of_number_of}
 use Rattle.async_task.specs.declared.table.Slot.{Slot}
 use Rattle.async_task.specs.declared.table.Slot.TheVariants.{Awaiter}

@@ -1,10 +1,10 @@
 -- The paths of a registering, put together from those of its parts.
 use Rattle.std.proofs.Common.{◌≡◌, ℕ, Bool, true, false, Option, Some, None, List, [], ◌∷◌, ◌++◌, refl, ◌∙◌, subst}
 use Rattle.task_core.specs.Word.{State}
-use Rattle.task_core.specs.declared.moves.Position.{Position}
-use Rattle.task_core.specs.declared.moves.Position.TheVariants.{Looking, RefusedClone, Registered, CloneInHand}
+use Rattle.task_laws.specs.declared.positions.Position.{Position}
+use Rattle.task_laws.specs.declared.positions.Position.TheVariants.{Looking, RefusedClone, Registered, CloneInHand}
 use Rattle.task_core.specs.declared.moves.Act.TheVariants.{CloneAwaiter, StoreAwaiter, TakeAwaiter, FindNotify, BeginRegister, EndRegister, EndRegisterNotified, DropAwaiter, WakeAwaiter}
-use Rattle.task_core.specs.Table.{after_storing}
+use Rattle.task_laws.specs.Table.{after_storing}
 use Rattle.async_task.specs.declared.table.Slot.{Slot}
 use Rattle.async_task.specs.declared.table.Slot.TheVariants.{Awaiter}
 use Rattle.async_task.specs.declared.table.Deed.{Deed}

@@ -1,13 +1,13 @@
 -- The paths of a poll, put together from those of its parts.
 use Rattle.std.proofs.Common.{◌≡◌, ℕ, Bool, true, false, Option, Some, None, List, [], ◌∷◌, ◌++◌, refl, sym, ap, ◌∙◌, subst}
 use Rattle.task_core.specs.Word.{State}
-use Rattle.task_core.specs.declared.moves.Position.{Position}
-use Rattle.task_core.specs.declared.moves.Way.{Way}
-use Rattle.task_core.specs.declared.moves.Way.TheVariants.{OfRun, OfDrop, OfCancel, OfPoll, OfClaim}
-use Rattle.task_core.specs.declared.moves.Position.TheVariants.{Notifier, AwaiterInHand, Claimer, Answering}
+use Rattle.task_laws.specs.declared.positions.Position.{Position}
+use Rattle.task_laws.specs.declared.positions.Way.{Way}
+use Rattle.task_laws.specs.declared.positions.Way.TheVariants.{OfRun, OfDrop, OfCancel, OfPoll, OfClaim}
+use Rattle.task_laws.specs.declared.positions.Position.TheVariants.{Notifier, AwaiterInHand, Claimer, Answering}
 use Rattle.task_core.specs.declared.moves.Act.TheVariants.{ClaimOutput, HandOutOutput, TakeAwaiter, DropAwaiter, WakeAwaiter, EndCall, BeginNotify, MissNotify, EndNotify}
-use Rattle.task_core.specs.declared.moves.PollAnswer.TheVariants.{IsReady}
-use Rattle.task_core.specs.Table.{goes_on as on_from, goes_off, may_drop, notifies}
+use Rattle.task_laws.specs.declared.positions.PollAnswer.TheVariants.{IsReady}
+use Rattle.task_laws.specs.Table.{goes_on as on_from, goes_off, may_drop, notifies}
 use Rattle.async_task.specs.declared.table.Slot.{Slot}
 use Rattle.async_task.specs.declared.table.Deed.{Deed}
 use Rattle.async_task.specs.declared.cell.Party.{Party}

@@ -4,18 +4,18 @@ use Rattle.std.specs.Prelude.{if◌then◌else◌, nat_lt, is_some}
 use Rattle.atomic_table.specs.Table.{turned}
 use Rattle.task_core.specs.Word.{State, state_of, number_of}
 use Rattle.task_core.proofs.Bits.{state_of_number_of}
-use Rattle.task_core.specs.declared.moves.Answer.{Answer}
-use Rattle.task_core.specs.declared.moves.Answer.TheVariants.{Ran}
-use Rattle.task_core.specs.declared.moves.Rest.TheVariants.{Runnable, Ended}
-use Rattle.task_core.specs.declared.moves.Way.TheVariants.{OfRun}
-use Rattle.task_core.specs.declared.moves.After.TheVariants.{ThenEnds}
-use Rattle.task_core.specs.declared.moves.Closer.TheVariants.{DroppedRunnable}
-use Rattle.task_core.specs.declared.moves.Position.{Position}
-use Rattle.task_core.specs.declared.moves.Position.TheVariants.{At, Deliverer, GivingUp, Emptier, FutureInHand, Polling, Pending, Ready, Cleared, OutputInHand}
+use Rattle.task_laws.specs.declared.positions.Answer.{Answer}
+use Rattle.task_laws.specs.declared.positions.Answer.TheVariants.{Ran}
+use Rattle.task_laws.specs.declared.positions.Rest.TheVariants.{Runnable, Ended}
+use Rattle.task_laws.specs.declared.positions.Way.TheVariants.{OfRun}
+use Rattle.task_laws.specs.declared.positions.After.TheVariants.{ThenEnds}
+use Rattle.task_laws.specs.declared.positions.Closer.TheVariants.{DroppedRunnable}
+use Rattle.task_laws.specs.declared.positions.Position.{Position}
+use Rattle.task_laws.specs.declared.positions.Position.TheVariants.{At, Deliverer, GivingUp, Emptier, FutureInHand, Polling, Pending, Ready, Cleared, OutputInHand}
 use Rattle.task_core.specs.declared.moves.Act.{Act}
 use Rattle.task_core.specs.declared.moves.Act.TheVariants.{GiveUpReference, GiveUpLastReference, EmptySlots, DiscardOpen, DiscardClosed, AnswerReady, AnswerPending, DropFuture, StoreOutput, Complete, CompleteDetached, DropOutput, EndClosed, Reschedule, EndIdle, EndCall, EndOrphaned}
 use Rattle.task_core.specs.Rows.{row as row_of, written}
-use Rattle.task_core.specs.Table.{after_giving_up, notifies}
+use Rattle.task_laws.specs.Table.{after_giving_up, notifies}
 use Rattle.async_task.specs.declared.table.Slot.{Slot}
 use Rattle.async_task.specs.declared.table.Deed.{Deed}
 use Rattle.async_task.specs.declared.cell.Party.{Party}

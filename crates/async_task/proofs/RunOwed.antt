@@ -5,22 +5,22 @@ use Rattle.std.specs.Option.{option_or}
 use Rattle.std.proofs.lemmas.Bool.Decides.{nat_tests}
 use Rattle.atomic_table.specs.Table.{rest}
 use Rattle.task_core.specs.Word.{State, state_of, number_of}
-use Rattle.task_core.specs.Event.{Event, ByWake, ByClosing, Empties, Closes, TakenUp, AnsweredReady, AnsweredPending, FutureDropped, Completes, RunEnded, OutputDropped, Made, CallEnds}
-use Rattle.task_core.specs.declared.moves.Answer.{Answer}
-use Rattle.task_core.specs.declared.moves.Answer.TheVariants.{Ran}
-use Rattle.task_core.specs.declared.moves.Rest.TheVariants.{Runnable, Ended}
-use Rattle.task_core.specs.declared.moves.Way.TheVariants.{OfRun}
-use Rattle.task_core.specs.declared.moves.After.TheVariants.{ThenEnds}
-use Rattle.task_core.specs.declared.moves.Closer.TheVariants.{DroppedRunnable}
-use Rattle.task_core.specs.declared.moves.Position.TheVariants.{At, Leaving, Deliverer, GivingUp, Emptier, FutureInHand, Polling, Pending, Ready, Unstored, Stored, Cleared, OutputInHand}
+use Rattle.task_laws.specs.Event.{Event, ByWake, ByClosing, Empties, Closes, TakenUp, AnsweredReady, AnsweredPending, FutureDropped, Completes, RunEnded, OutputDropped, Made, CallEnds}
+use Rattle.task_laws.specs.declared.positions.Answer.{Answer}
+use Rattle.task_laws.specs.declared.positions.Answer.TheVariants.{Ran}
+use Rattle.task_laws.specs.declared.positions.Rest.TheVariants.{Runnable, Ended}
+use Rattle.task_laws.specs.declared.positions.Way.TheVariants.{OfRun}
+use Rattle.task_laws.specs.declared.positions.After.TheVariants.{ThenEnds}
+use Rattle.task_laws.specs.declared.positions.Closer.TheVariants.{DroppedRunnable}
+use Rattle.task_laws.specs.declared.positions.Position.TheVariants.{At, Leaving, Deliverer, GivingUp, Emptier, FutureInHand, Polling, Pending, Ready, Unstored, Stored, Cleared, OutputInHand}
 use Rattle.task_core.specs.declared.moves.Act.TheVariants.{GiveUpReference, GiveUpLastReference, DiscardOpen, DiscardClosed, DropFuture, StoreOutput, Complete, CompleteDetached, AnswerPending, Reschedule, EndIdle, EndOrphaned, EndCall}
 use Rattle.task_core.specs.Rows.{written}
-use Rattle.task_core.specs.Table.{Slots, steps, keeps, notifies, after_giving_up, ended_clone, closing}
-use Rattle.task_core.specs.Machine.{Machine, scene}
-use Rattle.task_core.specs.Laws.{count, is_emptying}
-use Rattle.task_core.specs.Theorem.{owns_awaiter}
-use Rattle.task_core.proofs.Census.{Census, census}
-use Rattle.task_core.proofs.Invariant.{Holds}
+use Rattle.task_laws.specs.Table.{Slots, steps, keeps, notifies, after_giving_up, ended_clone, closing}
+use Rattle.task_laws.specs.Machine.{Machine, scene}
+use Rattle.task_laws.specs.Laws.{count, is_emptying}
+use Rattle.task_laws.specs.Theorem.{owns_awaiter}
+use Rattle.task_laws.proofs.Census.{Census, census}
+use Rattle.task_laws.proofs.Invariant.{Holds}
 use Rattle.task_core.proofs.Bits.{state_of_number_of, fetch_or-closed, fetch_sub-reference, fetch_and-scheduled_running}
 use Rattle.async_task.specs.declared.table.Slot.{Slot}
 use Rattle.async_task.specs.declared.table.Slot.TheVariants.{Empty}

@@ -1,18 +1,18 @@
 -- What the calls of a run and of a Runnable's drop come to, step after step.
 use Rattle.std.proofs.Common.{◌≡◌, ℕ, Bool, true, false, List, [], ◌∷◌, ◌++◌, Option, Some, None, refl, sym, ap, ◌∙◌, subst}
 use Rattle.task_core.specs.Word.{State}
-use Rattle.task_core.specs.declared.moves.Closer.{Closer}
-use Rattle.task_core.specs.declared.moves.Rest.{Rest}
-use Rattle.task_core.specs.declared.moves.Rest.TheVariants.{Ended}
-use Rattle.task_core.specs.declared.moves.Way.{Way}
-use Rattle.task_core.specs.declared.moves.Way.TheVariants.{OfRun, OfDrop, OfCancel}
-use Rattle.task_core.specs.declared.moves.Closer.TheVariants.{DroppedRunnable}
-use Rattle.task_core.specs.declared.moves.Position.{Position}
-use Rattle.task_core.specs.declared.moves.Position.TheVariants.{At, Leaving, Notifier, GivingUp, AwaiterInHand, FutureInHand}
+use Rattle.task_laws.specs.declared.positions.Closer.{Closer}
+use Rattle.task_laws.specs.declared.positions.Rest.{Rest}
+use Rattle.task_laws.specs.declared.positions.Rest.TheVariants.{Ended}
+use Rattle.task_laws.specs.declared.positions.Way.{Way}
+use Rattle.task_laws.specs.declared.positions.Way.TheVariants.{OfRun, OfDrop, OfCancel}
+use Rattle.task_laws.specs.declared.positions.Closer.TheVariants.{DroppedRunnable}
+use Rattle.task_laws.specs.declared.positions.Position.{Position}
+use Rattle.task_laws.specs.declared.positions.Position.TheVariants.{At, Leaving, Notifier, GivingUp, AwaiterInHand, FutureInHand}
 use Rattle.task_core.specs.declared.moves.Act.TheVariants.{EndCall, WakeAwaiter, DropFuture, Unschedule}
-use Rattle.task_core.specs.declared.moves.Answer.{Answer}
-use Rattle.task_core.specs.declared.moves.Answer.TheVariants.{Ran, Nothing}
-use Rattle.task_core.specs.Table.{goes_on, goes_off, notifies}
+use Rattle.task_laws.specs.declared.positions.Answer.{Answer}
+use Rattle.task_laws.specs.declared.positions.Answer.TheVariants.{Ran, Nothing}
+use Rattle.task_laws.specs.Table.{goes_on, goes_off, notifies}
 use Rattle.async_task.specs.declared.table.Slot.{Slot}
 use Rattle.async_task.specs.declared.table.Slot.TheVariants.{Empty}
 use Rattle.async_task.specs.declared.table.Deed.{Deed}

@@ -2,9 +2,9 @@
 use Rattle.std.proofs.Common.{◌≡◌, ℕ, Bool, true, false, List, [], ◌∷◌, sym, ap, ◌∙◌, subst}
 use Rattle.atomic_table.specs.Table.{Me, rest}
 use Rattle.task_core.specs.Word.{State}
-use Rattle.task_core.specs.declared.moves.Position.TheVariants.{At, FutureInHand, Polling}
-use Rattle.task_core.specs.declared.moves.Rest.TheVariants.{Lent}
-use Rattle.task_core.specs.declared.moves.Closer.TheVariants.{ClosedRun}
+use Rattle.task_laws.specs.declared.positions.Position.TheVariants.{At, FutureInHand, Polling}
+use Rattle.task_laws.specs.declared.positions.Rest.TheVariants.{Lent}
+use Rattle.task_laws.specs.declared.positions.Closer.TheVariants.{ClosedRun}
 use Rattle.task_core.specs.declared.moves.Act.TheVariants.{TakeUpClosed, StartRun, StartPoll}
 use Rattle.task_core.specs.declared.traits.Poll.{Poll}
 use Rattle.task_core.specs.declared.traits.Poll.TheVariants.{Pending as Unready, Ready as Answered}

@@ -6,19 +6,19 @@ use lib.ListN.{get_elem?}
 use Rattle.atomic_table.specs.Table.{State as Board, Splits, Joins}
 use Rattle.atomic_table.proofs.Lists.{at_set, set_here, set_else, set_again}
 use Rattle.task_core.specs.Word.{number_of}
-use Rattle.task_core.specs.Event.{Event, HandedOver}
-use Rattle.task_core.specs.Laws.{count, is_emptying}
-use Rattle.task_core.specs.declared.moves.Position.{Position}
-use Rattle.task_core.specs.declared.moves.After.{After}
-use Rattle.task_core.specs.declared.moves.Position.TheVariants.{At, Deliverer, Leaving}
-use Rattle.task_core.specs.declared.moves.Rest.TheVariants.{Runnable, Ended}
+use Rattle.task_laws.specs.Event.{Event, HandedOver}
+use Rattle.task_laws.specs.Laws.{count, is_emptying}
+use Rattle.task_laws.specs.declared.positions.Position.{Position}
+use Rattle.task_laws.specs.declared.positions.After.{After}
+use Rattle.task_laws.specs.declared.positions.Position.TheVariants.{At, Deliverer, Leaving}
+use Rattle.task_laws.specs.declared.positions.Rest.TheVariants.{Runnable, Ended}
 use Rattle.task_core.specs.declared.moves.Act.TheVariants.{HandOver}
-use Rattle.task_core.specs.declared.moves.After.TheVariants.{ThenEnds, ThenTask, ThenNotifies}
-use Rattle.task_core.specs.declared.moves.Answer.TheVariants.{Nothing}
-use Rattle.task_core.specs.Table.{Outcome, steps, goes_after}
-use Rattle.task_core.specs.Machine.{Machine, scene}
-use Rattle.task_core.specs.Theorem.{owns_awaiter}
-use Rattle.task_core.proofs.Theorem.{laws_of}
+use Rattle.task_laws.specs.declared.positions.After.TheVariants.{ThenEnds, ThenTask, ThenNotifies}
+use Rattle.task_laws.specs.declared.positions.Answer.TheVariants.{Nothing}
+use Rattle.task_laws.specs.Table.{Outcome, steps, goes_after}
+use Rattle.task_laws.specs.Machine.{Machine, scene}
+use Rattle.task_laws.specs.Theorem.{owns_awaiter}
+use Rattle.task_laws.proofs.Theorem.{laws_of}
 use Rattle.async_task.specs.declared.table.Slot.{Slot}
 use Rattle.async_task.specs.declared.table.Deed.{Deed}
 use Rattle.async_task.specs.declared.table.Member.{Member}

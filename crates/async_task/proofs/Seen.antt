@@ -2,12 +2,12 @@
 use Rattle.std.proofs.Common.{◌≡◌, ℕ, eqb, Bool, true, false, not, ◌&&◌, ◌||◌, Option, Some, None, List, [], ◌∷◌, sym, refl, ap, ◌∙◌, subst, ⊎_elim, ◌⊎◌, inl, inr, cond}
 use Rattle.std.specs.Prelude.{slice_get}
 use Rattle.task_core.specs.Word.{State, is_open}
-use Rattle.task_core.specs.declared.moves.Position.{Position}
+use Rattle.task_laws.specs.declared.positions.Position.{Position}
 use Rattle.task_core.specs.declared.moves.Act.{Act}
 use Rattle.task_core.specs.declared.moves.Act.TheVariants.{DiscardOpen, CancelBusy, CancelIdle, ClaimOutput, GiveUpOutput, DetachOrphan, CloseOrphan, Complete, CompleteDetached, EndOrphaned}
 use Rattle.task_core.specs.Rows.{written}
-use Rattle.task_core.specs.Table.{Outcome, rule}
-use Rattle.task_core.specs.Machine.{Machine, Step, scene, moves, after, step}
+use Rattle.task_laws.specs.Table.{Outcome, rule}
+use Rattle.task_laws.specs.Machine.{Machine, Step, scene, moves, after, step}
 use Rattle.async_task.specs.declared.table.Deed.{Deed}
 use Rattle.async_task.specs.Rule.{Entry, Reaches, is_private, noted_if, deeds_of, Among}
 use Rattle.async_task.specs.Steps.{is_over_after, is_closed_after, saw_over, saw_closed}

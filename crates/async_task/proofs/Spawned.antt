@@ -6,11 +6,11 @@ use lib.Seq.{set-get_or}
 use Rattle.atomic_table.specs.Table.{State as Board, Me, Act, takes, gives, stepped, carried_after, rest, Valid, Allows, Splits, Final, Seen}
 use Rattle.atomic_table.proofs.Lists as lists
 use Rattle.task_core.specs.Word.{number_of, opening_word}
-use Rattle.task_core.specs.declared.moves.Position.{Position}
-use Rattle.task_core.specs.declared.moves.Position.TheVariants.{At}
-use Rattle.task_core.specs.declared.moves.Rest.TheVariants.{Runnable, Task}
-use Rattle.task_core.specs.Machine.{opening as opening_machine}
-use Rattle.task_core.proofs.Theorem.{laws_of}
+use Rattle.task_laws.specs.declared.positions.Position.{Position}
+use Rattle.task_laws.specs.declared.positions.Position.TheVariants.{At}
+use Rattle.task_laws.specs.declared.positions.Rest.TheVariants.{Runnable, Task}
+use Rattle.task_laws.specs.Machine.{opening as opening_machine}
+use Rattle.task_laws.proofs.Theorem.{laws_of}
 use Rattle.async_task.specs.declared.table.Slot.{Slot}
 use Rattle.async_task.specs.declared.table.Member.{Member}
 use Rattle.async_task.specs.declared.table.Stage.TheVariants.{Laid, Filling, Spawned}

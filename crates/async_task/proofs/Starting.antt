@@ -2,14 +2,14 @@
 use Rattle.std.proofs.Common.{◌≡◌, ℕ, Bool, true, false, not, Some, None, List, [], ◌∷◌, refl, sym, ap, ◌∙◌, subst, inr, cond}
 use Rattle.atomic_table.specs.Table.{Me}
 use Rattle.task_core.specs.Word.{State, state_of, number_of}
-use Rattle.task_core.specs.Event.{TakenUp, Started}
-use Rattle.task_core.specs.declared.moves.Position.TheVariants.{At, FutureInHand, Starting, Polling}
-use Rattle.task_core.specs.declared.moves.Rest.TheVariants.{Runnable, Lent}
-use Rattle.task_core.specs.declared.moves.Closer.TheVariants.{ClosedRun}
+use Rattle.task_laws.specs.Event.{TakenUp, Started}
+use Rattle.task_laws.specs.declared.positions.Position.TheVariants.{At, FutureInHand, Starting, Polling}
+use Rattle.task_laws.specs.declared.positions.Rest.TheVariants.{Runnable, Lent}
+use Rattle.task_laws.specs.declared.positions.Closer.TheVariants.{ClosedRun}
 use Rattle.task_core.specs.declared.moves.Act.TheVariants.{TakeUpClosed, StartRun, StartPoll}
 use Rattle.task_core.specs.Rows.{written, row}
-use Rattle.task_core.specs.Table.{Outcome, steps}
-use Rattle.task_core.specs.Machine.{Machine, scene}
+use Rattle.task_laws.specs.Table.{Outcome, steps}
+use Rattle.task_laws.specs.Machine.{Machine, scene}
 use Rattle.task_core.proofs.Bits.{state_of_number_of}
 use Rattle.async_task.specs.declared.table.Slot.{Slot}
 use Rattle.async_task.specs.declared.table.Deed.{Deed}

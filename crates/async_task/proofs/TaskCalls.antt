@@ -1,15 +1,15 @@
 -- A cancel and a detach, put together from their steps.
 use Rattle.std.proofs.Common.{◌≡◌, ℕ, Bool, true, false, List, [], ◌∷◌, ◌++◌, Option, None, refl, sym, subst}
 use Rattle.task_core.specs.Word.{State}
-use Rattle.task_core.specs.declared.moves.Answer.{Answer}
-use Rattle.task_core.specs.declared.moves.Answer.TheVariants.{Nothing}
-use Rattle.task_core.specs.declared.moves.Position.TheVariants.{Deliverer, Emptier, OutputCloser, Leaving}
-use Rattle.task_core.specs.declared.moves.Rest.TheVariants.{Ended}
-use Rattle.task_core.specs.declared.moves.Way.TheVariants.{OfCancel}
-use Rattle.task_core.specs.declared.moves.After.{After}
-use Rattle.task_core.specs.declared.moves.After.TheVariants.{ThenEnds}
+use Rattle.task_laws.specs.declared.positions.Answer.{Answer}
+use Rattle.task_laws.specs.declared.positions.Answer.TheVariants.{Nothing}
+use Rattle.task_laws.specs.declared.positions.Position.TheVariants.{Deliverer, Emptier, OutputCloser, Leaving}
+use Rattle.task_laws.specs.declared.positions.Rest.TheVariants.{Ended}
+use Rattle.task_laws.specs.declared.positions.Way.TheVariants.{OfCancel}
+use Rattle.task_laws.specs.declared.positions.After.{After}
+use Rattle.task_laws.specs.declared.positions.After.TheVariants.{ThenEnds}
 use Rattle.task_core.specs.declared.moves.Act.TheVariants.{CancelOver, CancelBusy, CancelIdle, GiveUpOutput, DropOutput, DetachOrphan, DetachLast, Detach, EmptySlots, EndCall, HandOver}
-use Rattle.task_core.specs.Table.{notifies, cancels_after, goes_after, after_giving_up}
+use Rattle.task_laws.specs.Table.{notifies, cancels_after, goes_after, after_giving_up}
 use Rattle.async_task.specs.declared.table.Slot.{Slot}
 use Rattle.async_task.specs.declared.table.Deed.{Deed}
 use Rattle.async_task.specs.declared.cell.Party.{Party}

@@ -4,17 +4,17 @@ use Rattle.std.specs.Prelude.{nat_lt, nat_eq, if◌then◌else◌}
 use Rattle.std.proofs.lemmas.Bool.Decides.{nat_tests}
 use Rattle.task_core.specs.Word.{State, is_open, state_of, number_of}
 use Rattle.task_core.proofs.Bits.{state_of_number_of}
-use Rattle.task_core.specs.declared.moves.Answer.{Answer}
-use Rattle.task_core.specs.declared.moves.Answer.TheVariants.{Nothing}
-use Rattle.task_core.specs.declared.moves.Position.{Position}
-use Rattle.task_core.specs.declared.moves.Position.TheVariants.{At, Deliverer, Emptier, OutputCloser, Detacher, Leaving, AwaiterInHand}
-use Rattle.task_core.specs.declared.moves.Rest.{Rest}
-use Rattle.task_core.specs.declared.moves.Rest.TheVariants.{Task, Ended}
-use Rattle.task_core.specs.declared.moves.After.TheVariants.{ThenEnds}
-use Rattle.task_core.specs.declared.moves.Way.TheVariants.{OfCancel}
+use Rattle.task_laws.specs.declared.positions.Answer.{Answer}
+use Rattle.task_laws.specs.declared.positions.Answer.TheVariants.{Nothing}
+use Rattle.task_laws.specs.declared.positions.Position.{Position}
+use Rattle.task_laws.specs.declared.positions.Position.TheVariants.{At, Deliverer, Emptier, OutputCloser, Detacher, Leaving, AwaiterInHand}
+use Rattle.task_laws.specs.declared.positions.Rest.{Rest}
+use Rattle.task_laws.specs.declared.positions.Rest.TheVariants.{Task, Ended}
+use Rattle.task_laws.specs.declared.positions.After.TheVariants.{ThenEnds}
+use Rattle.task_laws.specs.declared.positions.Way.TheVariants.{OfCancel}
 use Rattle.task_core.specs.declared.moves.Act.TheVariants.{CancelOver, CancelBusy, CancelIdle, GiveUpOutput, DropOutput, DetachOrphan, DetachLast, Detach, EndCall}
-use Rattle.task_core.specs.Table.{notifies, cancels_after}
-use Rattle.task_core.specs.Theorem.{owns_awaiter}
+use Rattle.task_laws.specs.Table.{notifies, cancels_after}
+use Rattle.task_laws.specs.Theorem.{owns_awaiter}
 use Rattle.async_task.specs.declared.table.Slot.{Slot}
 use Rattle.async_task.specs.declared.table.Deed.{Deed}
 use Rattle.async_task.specs.declared.cell.Party.{Party}

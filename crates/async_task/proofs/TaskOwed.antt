@@ -4,22 +4,22 @@ use Rattle.std.specs.Prelude.{bit_and, nat_lt, nat_eq, if◌then◌else◌}
 use Rattle.std.proofs.lemmas.Bool.Decides.{nat_tests}
 use Rattle.atomic_table.specs.Table.{rest}
 use Rattle.task_core.specs.Word.{State, state_of, number_of, is_open, orphan_word}
-use Rattle.task_core.specs.Event.{Event, CallEnds, Closes, Made, ByClosing, TaskGivenUp, OutputDropped}
-use Rattle.task_core.specs.declared.moves.Answer.TheVariants.{Nothing}
-use Rattle.task_core.specs.declared.moves.Position.{Position}
-use Rattle.task_core.specs.declared.moves.Position.TheVariants.{At, Deliverer, Emptier, OutputCloser, Detacher}
-use Rattle.task_core.specs.declared.moves.Rest.TheVariants.{Task, Ended}
-use Rattle.task_core.specs.declared.moves.After.TheVariants.{ThenEnds}
-use Rattle.task_core.specs.declared.moves.Way.TheVariants.{OfCancel}
+use Rattle.task_laws.specs.Event.{Event, CallEnds, Closes, Made, ByClosing, TaskGivenUp, OutputDropped}
+use Rattle.task_laws.specs.declared.positions.Answer.TheVariants.{Nothing}
+use Rattle.task_laws.specs.declared.positions.Position.{Position}
+use Rattle.task_laws.specs.declared.positions.Position.TheVariants.{At, Deliverer, Emptier, OutputCloser, Detacher}
+use Rattle.task_laws.specs.declared.positions.Rest.TheVariants.{Task, Ended}
+use Rattle.task_laws.specs.declared.positions.After.TheVariants.{ThenEnds}
+use Rattle.task_laws.specs.declared.positions.Way.TheVariants.{OfCancel}
 use Rattle.task_core.specs.declared.moves.Act.{Act}
 use Rattle.task_core.specs.declared.moves.Act.TheVariants.{CancelOver, CancelBusy, CancelIdle, GiveUpOutput, DetachOrphan, DetachLast, Detach, EndCall}
 use Rattle.task_core.specs.Rows.{found, written}
-use Rattle.task_core.specs.Table.{Slots, Outcome, steps, keeps, goes, where_found, notifies, cancels_after}
-use Rattle.task_core.specs.Machine.{Machine, scene}
-use Rattle.task_core.specs.Laws.{count, is_emptying}
-use Rattle.task_core.specs.Theorem.{owns_awaiter}
-use Rattle.task_core.proofs.Census.{Census, census, weigh}
-use Rattle.task_core.proofs.Invariant.{Holds}
+use Rattle.task_laws.specs.Table.{Slots, Outcome, steps, keeps, goes, where_found, notifies, cancels_after}
+use Rattle.task_laws.specs.Machine.{Machine, scene}
+use Rattle.task_laws.specs.Laws.{count, is_emptying}
+use Rattle.task_laws.specs.Theorem.{owns_awaiter}
+use Rattle.task_laws.proofs.Census.{Census, census, weigh}
+use Rattle.task_laws.proofs.Invariant.{Holds}
 use Rattle.task_core.proofs.Bits.{state_of_number_of, fetch_and-task}
 use Rattle.async_task.specs.declared.table.Slot.{Slot}
 use Rattle.async_task.specs.declared.table.Deed.{Deed}

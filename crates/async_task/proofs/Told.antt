@@ -5,10 +5,10 @@ use mathlib.Core.Option.{some, some-injective, some-ne-none}
 use native.Mathlib.Decide.{dec_le}
 use lib.ListN.{get_elem?}
 use Rattle.atomic_table.proofs.Lists.{at_set, set_here, set_else, at_longer}
-use Rattle.task_core.specs.declared.moves.Position.{Position}
+use Rattle.task_laws.specs.declared.positions.Position.{Position}
 use Rattle.task_core.specs.declared.moves.Act.{Act}
-use Rattle.task_core.specs.Table.{Outcome, rule}
-use Rattle.task_core.specs.Machine.{Machine, Step, opening, step, scene, begins, moves, after, run, run_from}
+use Rattle.task_laws.specs.Table.{Outcome, rule}
+use Rattle.task_laws.specs.Machine.{Machine, Step, opening, step, scene, begins, moves, after, run, run_from}
 use Rattle.async_task.specs.declared.table.Deed.{Deed}
 use Rattle.async_task.specs.declared.table.Member.{Member}
 use Rattle.async_task.specs.declared.table.View.{View}

@@ -1,10 +1,10 @@
 -- A waker's drop, put together from its steps.
 use Rattle.std.proofs.Common.{false, List, [], ◌∷◌, ◌++◌}
 use Rattle.task_core.specs.Word.{State}
-use Rattle.task_core.specs.declared.moves.Answer.TheVariants.{Nothing}
-use Rattle.task_core.specs.declared.moves.Position.TheVariants.{Deliverer, Leaving, OrphanHolder}
-use Rattle.task_core.specs.declared.moves.Rest.TheVariants.{Ended}
-use Rattle.task_core.specs.declared.moves.After.TheVariants.{ThenEnds}
+use Rattle.task_laws.specs.declared.positions.Answer.TheVariants.{Nothing}
+use Rattle.task_laws.specs.declared.positions.Position.TheVariants.{Deliverer, Leaving, OrphanHolder}
+use Rattle.task_laws.specs.declared.positions.Rest.TheVariants.{Ended}
+use Rattle.task_laws.specs.declared.positions.After.TheVariants.{ThenEnds}
 use Rattle.task_core.specs.declared.moves.Act.TheVariants.{DropWaker, DropLastWaker, OrphanTask, CloseOrphan, EmptySlots, EndCall, HandOver}
 use Rattle.async_task.specs.declared.table.Deed.{Deed}
 use Rattle.async_task.specs.declared.cell.Party.{Party}

@@ -6,13 +6,13 @@ use Rattle.atomic_table.specs.Table.{Me, Allows}
 use Rattle.task_core.specs.Word.{State, is_open, state_of, number_of}
 use Rattle.task_core.proofs.Bits.{state_of_number_of}
 use Rattle.task_core.specs.Rows.{written, row as row_of}
-use Rattle.task_core.specs.Table.{Slots}
-use Rattle.task_core.specs.declared.moves.Answer.TheVariants.{Nothing}
-use Rattle.task_core.specs.declared.moves.Rest.{Rest}
-use Rattle.task_core.specs.declared.moves.Rest.TheVariants.{Runnable, Waker, Lent, Ended, Task}
-use Rattle.task_core.specs.declared.moves.After.TheVariants.{ThenEnds}
-use Rattle.task_core.specs.declared.moves.Position.{Position}
-use Rattle.task_core.specs.declared.moves.Position.TheVariants.{At, Deliverer, Emptier, OrphanHolder}
+use Rattle.task_laws.specs.Table.{Slots}
+use Rattle.task_laws.specs.declared.positions.Answer.TheVariants.{Nothing}
+use Rattle.task_laws.specs.declared.positions.Rest.{Rest}
+use Rattle.task_laws.specs.declared.positions.Rest.TheVariants.{Runnable, Waker, Lent, Ended, Task}
+use Rattle.task_laws.specs.declared.positions.After.TheVariants.{ThenEnds}
+use Rattle.task_laws.specs.declared.positions.Position.{Position}
+use Rattle.task_laws.specs.declared.positions.Position.TheVariants.{At, Deliverer, Emptier, OrphanHolder}
 use Rattle.task_core.specs.declared.moves.Act.{Act}
 use Rattle.task_core.specs.declared.moves.Act.TheVariants.{GainReference, FindLimit, RefuseGain, DropWaker, DropLastWaker, OrphanTask, CloseOrphan, WakeOver, WakeScheduled, WakeRunning, WakeIdle, EndCall}
 use Rattle.async_task.specs.declared.table.Slot.{Slot}

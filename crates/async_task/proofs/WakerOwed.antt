@@ -4,19 +4,19 @@ use Rattle.std.specs.Prelude.{nat_lt, nat_le, nat_eq, if◌then◌else◌}
 use Rattle.std.proofs.lemmas.Bool.Decides.{nat_tests}
 use lib.ListN.{get_elem?}
 use Rattle.task_core.specs.Word.{State, bit, state_of, number_of, is_open, orphan_word}
-use Rattle.task_core.specs.Event.{Event, WakerGained, WakerGivenUp, Wakes, Made, ByWake, ByClosing, Closes, CallBegins, CallEnds}
-use Rattle.task_core.specs.declared.moves.Answer.TheVariants.{Nothing, Gained}
-use Rattle.task_core.specs.declared.moves.Rest.{Rest}
-use Rattle.task_core.specs.declared.moves.Rest.TheVariants.{Runnable, Waker, Lent, Ended, Task}
-use Rattle.task_core.specs.declared.moves.After.TheVariants.{ThenEnds}
-use Rattle.task_core.specs.declared.moves.Position.TheVariants.{At, Leaving, Deliverer, Emptier, OrphanHolder}
+use Rattle.task_laws.specs.Event.{Event, WakerGained, WakerGivenUp, Wakes, Made, ByWake, ByClosing, Closes, CallBegins, CallEnds}
+use Rattle.task_laws.specs.declared.positions.Answer.TheVariants.{Nothing, Gained}
+use Rattle.task_laws.specs.declared.positions.Rest.{Rest}
+use Rattle.task_laws.specs.declared.positions.Rest.TheVariants.{Runnable, Waker, Lent, Ended, Task}
+use Rattle.task_laws.specs.declared.positions.After.TheVariants.{ThenEnds}
+use Rattle.task_laws.specs.declared.positions.Position.TheVariants.{At, Leaving, Deliverer, Emptier, OrphanHolder}
 use Rattle.task_core.specs.declared.moves.Act.TheVariants.{GainReference, FindLimit, RefuseGain, DropWaker, DropLastWaker, OrphanTask, WakeOver, WakeScheduled, WakeRunning, WakeIdle, EndCall}
 use Rattle.task_core.specs.Rows.{written, row}
-use Rattle.task_core.specs.Table.{Slots, Outcome, when, steps, may_gain, may_wake}
-use Rattle.task_core.specs.Machine.{Machine, scene, how_many, polls_future}
-use Rattle.task_core.specs.Laws.{count, is_emptying}
-use Rattle.task_core.proofs.Census.{Census, census}
-use Rattle.task_core.proofs.Invariant.{Holds}
+use Rattle.task_laws.specs.Table.{Slots, Outcome, when, steps, may_gain, may_wake}
+use Rattle.task_laws.specs.Machine.{Machine, scene, how_many, polls_future}
+use Rattle.task_laws.specs.Laws.{count, is_emptying}
+use Rattle.task_laws.proofs.Census.{Census, census}
+use Rattle.task_laws.proofs.Invariant.{Holds}
 use Rattle.task_core.proofs.Bits.{state_of_number_of, fetch_sub-reference}
 use Rattle.async_task.specs.declared.table.Slot.{Slot}
 use Rattle.async_task.specs.declared.table.Deed.{Deed}

@@ -4,7 +4,7 @@ use mathlib.Core.Option.{some, some-injective}
 use lib.ListN.{get_elem?}
 use Rattle.atomic_table.specs.Table.{State as Board, Me, Allows, Splits, keeps}
 use Rattle.atomic_table.proofs.Lists.{at_set, at_longer, set_again}
-use Rattle.task_core.specs.declared.moves.Position.{Position}
+use Rattle.task_laws.specs.declared.positions.Position.{Position}
 use Rattle.async_task.specs.declared.table.Slot.{Slot}
 use Rattle.async_task.specs.declared.table.Deed.{Deed}
 use Rattle.async_task.specs.declared.table.Member.{Member}

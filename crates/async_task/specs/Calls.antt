@@ -1,16 +1,16 @@
 -- What a call of the cell asks of its party, and says of it.
 use Rattle.std.specs.Prelude.{◌≡◌, ℕ, List, [], ◌∷◌, Bool, true, false, Option, Some, None}
 use Rattle.task_core.specs.Word.{State}
-use Rattle.task_core.specs.declared.moves.Position.{Position}
+use Rattle.task_laws.specs.declared.positions.Position.{Position}
 use Rattle.task_core.specs.declared.moves.Act.{Act}
-use Rattle.task_core.specs.declared.moves.Position.TheVariants.{At, Deliverer, Leaving, Answering, FutureInHand, Notifier, AwaiterInHand}
-use Rattle.task_core.specs.declared.moves.Rest.TheVariants.{Task, Runnable, Waker, Ended}
+use Rattle.task_laws.specs.declared.positions.Position.TheVariants.{At, Deliverer, Leaving, Answering, FutureInHand, Notifier, AwaiterInHand}
+use Rattle.task_laws.specs.declared.positions.Rest.TheVariants.{Task, Runnable, Waker, Ended}
 use Rattle.task_core.specs.declared.moves.Act.TheVariants.{MissNotify, BeginNotify, TakeAwaiter, EndNotify}
-use Rattle.task_core.specs.Table.{goes_on, goes_after}
-use Rattle.task_core.specs.declared.moves.Answer.TheVariants.{Nothing}
-use Rattle.task_core.specs.declared.moves.Way.{Way}
-use Rattle.task_core.specs.declared.moves.Way.TheVariants.{OfRun, OfDrop}
-use Rattle.task_core.specs.declared.moves.Closer.TheVariants.{DroppedRunnable}
+use Rattle.task_laws.specs.Table.{goes_on, goes_after}
+use Rattle.task_laws.specs.declared.positions.Answer.TheVariants.{Nothing}
+use Rattle.task_laws.specs.declared.positions.Way.{Way}
+use Rattle.task_laws.specs.declared.positions.Way.TheVariants.{OfRun, OfDrop}
+use Rattle.task_laws.specs.declared.positions.Closer.TheVariants.{DroppedRunnable}
 use Rattle.async_task.specs.declared.table.Slot.{Slot}
 use Rattle.async_task.specs.declared.table.Deed.{Deed}
 use Rattle.async_task.specs.declared.cell.Party.{Party}

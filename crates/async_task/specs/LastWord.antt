@@ -3,8 +3,8 @@ use Rattle.std.specs.Prelude.{◌≡◌, ℕ, List, Some}
 use mathlib.Core.Option.{some}
 use lib.ListN.{get_elem?}
 use Rattle.task_core.specs.Word.{number_of}
-use Rattle.task_core.specs.Machine.{Machine, run}
-use Rattle.task_core.specs.Theorem.{Laws}
+use Rattle.task_laws.specs.Machine.{Machine, run}
+use Rattle.task_laws.specs.Theorem.{Laws}
 use Rattle.async_task.specs.declared.cell.Party.{Party}
 use Rattle.async_task.specs.Rule.{Entry, Reaches, steps_of, deeds_of, Among}
 use Rattle.async_task.specs.Calls.{deeds, position}

@@ -5,15 +5,15 @@ use mathlib.Core.Option as maybe
 use lib.ListN.{get_elem?}
 use Rattle.atomic_table.specs.Table.{State as Board}
 use Rattle.task_core.specs.Word.{State, number_of, opening_word}
-use Rattle.task_core.specs.declared.moves.Rest.TheVariants.{Runnable, Task}
-use Rattle.task_core.specs.declared.moves.Position.{Position}
-use Rattle.task_core.specs.declared.moves.Way.TheVariants.{OfClaim}
-use Rattle.task_core.specs.declared.moves.Position.TheVariants.{At, Starting, Polling, Pending, Ready, Unstored, Stored, Cleared, FutureInHand, FutureGone, OutputInHand, Notifier, Taker, Releaser, AwaiterInHand, Claimer, OutputCloser}
+use Rattle.task_laws.specs.declared.positions.Rest.TheVariants.{Runnable, Task}
+use Rattle.task_laws.specs.declared.positions.Position.{Position}
+use Rattle.task_laws.specs.declared.positions.Way.TheVariants.{OfClaim}
+use Rattle.task_laws.specs.declared.positions.Position.TheVariants.{At, Starting, Polling, Pending, Ready, Unstored, Stored, Cleared, FutureInHand, FutureGone, OutputInHand, Notifier, Taker, Releaser, AwaiterInHand, Claimer, OutputCloser}
 use Rattle.task_core.specs.declared.moves.Act.{Act}
 use Rattle.task_core.specs.declared.moves.Act.TheVariants.{StartPoll, AnswerPending, AnswerReady, DropFuture, StoreOutput, DropOutput, HandOutOutput, CloneAwaiter, RefuseClone, StoreAwaiter, TakeAwaiter, WakeAwaiter, DropAwaiter, HandOver, EmptySlots, RefuseGain, EndCall}
-use Rattle.task_core.specs.Machine.{Machine, Step, opening, step, how_many}
-use Rattle.task_core.specs.Laws.{count, is_emptying}
-use Rattle.task_core.specs.Theorem.{owns_awaiter}
+use Rattle.task_laws.specs.Machine.{Machine, Step, opening, step, how_many}
+use Rattle.task_laws.specs.Laws.{count, is_emptying}
+use Rattle.task_laws.specs.Theorem.{owns_awaiter}
 use Rattle.async_task.specs.declared.table.Slot.{Slot}
 use Rattle.async_task.specs.declared.table.Slot.TheVariants.{Empty, Future, Output, Awaiter}
 use Rattle.async_task.specs.declared.table.Stage.{Stage}

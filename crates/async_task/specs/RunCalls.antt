@@ -1,15 +1,15 @@
 -- What the steps of a run and of a Runnable's drop come to.
 use Rattle.std.specs.Prelude.{◌≡◌, ℕ, ◌||◌, nat_lt, if◌then◌else◌, Bool, true, false, List, [], ◌∷◌, Option, Some, None, is_some}
 use Rattle.task_core.specs.Word.{State}
-use Rattle.task_core.specs.declared.moves.Answer.{Answer}
-use Rattle.task_core.specs.declared.moves.Position.TheVariants.{At, AwaiterInHand, Deliverer, Emptier, Pending, Cleared, OutputInHand}
+use Rattle.task_laws.specs.declared.positions.Answer.{Answer}
+use Rattle.task_laws.specs.declared.positions.Position.TheVariants.{At, AwaiterInHand, Deliverer, Emptier, Pending, Cleared, OutputInHand}
 use Rattle.task_core.specs.declared.moves.Act.TheVariants.{GiveUpReference, GiveUpLastReference, DropFuture, StoreOutput, Complete, CompleteDetached, AnswerPending, Reschedule, EndIdle, EndCall, EndOrphaned, EndClosed}
-use Rattle.task_core.specs.declared.moves.Answer.TheVariants.{Ran}
-use Rattle.task_core.specs.declared.moves.Rest.TheVariants.{Ended}
-use Rattle.task_core.specs.declared.moves.After.TheVariants.{ThenEnds}
-use Rattle.task_core.specs.declared.moves.Way.TheVariants.{OfRun}
-use Rattle.task_core.specs.declared.moves.Way.{Way}
-use Rattle.task_core.specs.Table.{after_giving_up, notifies, goes_on, goes_off}
+use Rattle.task_laws.specs.declared.positions.Answer.TheVariants.{Ran}
+use Rattle.task_laws.specs.declared.positions.Rest.TheVariants.{Ended}
+use Rattle.task_laws.specs.declared.positions.After.TheVariants.{ThenEnds}
+use Rattle.task_laws.specs.declared.positions.Way.TheVariants.{OfRun}
+use Rattle.task_laws.specs.declared.positions.Way.{Way}
+use Rattle.task_laws.specs.Table.{after_giving_up, notifies, goes_on, goes_off}
 use Rattle.async_task.specs.declared.table.Slot.{Slot}
 use Rattle.async_task.specs.declared.table.Deed.{Deed}
 use Rattle.async_task.specs.declared.cell.Party.{Party}

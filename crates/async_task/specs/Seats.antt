@@ -1,7 +1,7 @@
 -- How the parties of a seat go to other seats.
 use Rattle.std.specs.Prelude.{List, [], ◌∷◌, None}
-use Rattle.task_core.specs.declared.moves.Position.TheVariants.{At}
-use Rattle.task_core.specs.declared.moves.Rest.TheVariants.{Runnable}
+use Rattle.task_laws.specs.declared.positions.Position.TheVariants.{At}
+use Rattle.task_laws.specs.declared.positions.Rest.TheVariants.{Runnable}
 use Rattle.task_core.specs.declared.moves.Act.TheVariants.{HandOver}
 use Rattle.async_task.specs.declared.table.Member.{Member}
 use Rattle.async_task.specs.declared.table.View.{View}

@@ -1,8 +1,8 @@
 -- The steps of a spawn: the memory is found, the future is put in, the Runnable and the Task get seats.
 use Rattle.std.specs.Prelude.{◌≡◌, ℕ, [], ◌∷◌}
 use Rattle.atomic_table.specs.Table.{Me, Step, rest}
-use Rattle.task_core.specs.declared.moves.Position.TheVariants.{At}
-use Rattle.task_core.specs.declared.moves.Rest.TheVariants.{Runnable, Task}
+use Rattle.task_laws.specs.declared.positions.Position.TheVariants.{At}
+use Rattle.task_laws.specs.declared.positions.Rest.TheVariants.{Runnable, Task}
 use Rattle.async_task.specs.declared.table.Slot.{Slot}
 use Rattle.async_task.specs.declared.table.View.{View}
 use Rattle.async_task.specs.Rule.{view, fresh, filling_view, opening_view, IsEmpty}

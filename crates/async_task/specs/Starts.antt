@@ -1,9 +1,9 @@
 -- How a Runnable is taken up by a run.
 use Rattle.std.specs.Prelude.{◌≡◌, Bool, true, false, [], ◌∷◌}
 use Rattle.task_core.specs.Word.{State}
-use Rattle.task_core.specs.declared.moves.Position.TheVariants.{At, FutureInHand, Polling}
-use Rattle.task_core.specs.declared.moves.Rest.TheVariants.{Lent}
-use Rattle.task_core.specs.declared.moves.Closer.TheVariants.{ClosedRun}
+use Rattle.task_laws.specs.declared.positions.Position.TheVariants.{At, FutureInHand, Polling}
+use Rattle.task_laws.specs.declared.positions.Rest.TheVariants.{Lent}
+use Rattle.task_laws.specs.declared.positions.Closer.TheVariants.{ClosedRun}
 use Rattle.task_core.specs.declared.moves.Act.TheVariants.{TakeUpClosed, StartRun, StartPoll}
 use Rattle.async_task.specs.declared.table.Slot.{Slot}
 use Rattle.async_task.specs.declared.table.View.{View}

@@ -2,13 +2,13 @@
 use Rattle.std.specs.Prelude.{◌≡◌, ◌≢◌, ℕ, Bool, true, false, not, ◌||◌, List, [], ◌∷◌, ◌++◌, map, Option, Some, None}
 use Rattle.atomic_table.specs.Table.{Me, Step, rest}
 use Rattle.task_core.specs.Word.{State, state_of, is_open}
-use Rattle.task_core.specs.declared.moves.Position.{Position}
-use Rattle.task_core.specs.declared.moves.Position.TheVariants.{OrphanHolder, Releaser, OldAwaiterInHand, Registered, OutputCloser, Claimer, Notifier}
-use Rattle.task_core.specs.declared.moves.Way.TheVariants.{OfClaim}
+use Rattle.task_laws.specs.declared.positions.Position.{Position}
+use Rattle.task_laws.specs.declared.positions.Position.TheVariants.{OrphanHolder, Releaser, OldAwaiterInHand, Registered, OutputCloser, Claimer, Notifier}
+use Rattle.task_laws.specs.declared.positions.Way.TheVariants.{OfClaim}
 use Rattle.task_core.specs.declared.moves.Act.{Act}
 use Rattle.task_core.specs.Rows.{written}
-use Rattle.task_core.specs.Table.{Slots, Scene, Outcome, steps, goes}
-use Rattle.task_core.specs.Theorem.{owns_awaiter}
+use Rattle.task_laws.specs.Table.{Slots, Scene, Outcome, steps, goes}
+use Rattle.task_laws.specs.Theorem.{owns_awaiter}
 use Rattle.async_task.specs.declared.table.Slot.{Slot}
 use Rattle.async_task.specs.declared.table.Deed.{Deed}
 use Rattle.async_task.specs.declared.table.Member.{Member}

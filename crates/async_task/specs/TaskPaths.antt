@@ -2,11 +2,11 @@
 use Rattle.std.specs.Prelude.{◌≡◌, ℕ, Bool, true, false, not, ◌&&◌, ◌||◌, nat_lt, if◌then◌else◌, List, [], ◌∷◌, ◌++◌, None}
 use Rattle.task_core.specs.Word.{State}
 use Rattle.task_core.specs.Rows.{found}
-use Rattle.task_core.specs.Table.{cancels_after, notifies}
-use Rattle.task_core.specs.declared.moves.Answer.TheVariants.{Nothing}
-use Rattle.task_core.specs.declared.moves.Way.TheVariants.{OfCancel}
-use Rattle.task_core.specs.declared.moves.After.TheVariants.{ThenEnds}
-use Rattle.task_core.specs.declared.moves.Position.TheVariants.{Deliverer, Emptier, OutputCloser}
+use Rattle.task_laws.specs.Table.{cancels_after, notifies}
+use Rattle.task_laws.specs.declared.positions.Answer.TheVariants.{Nothing}
+use Rattle.task_laws.specs.declared.positions.Way.TheVariants.{OfCancel}
+use Rattle.task_laws.specs.declared.positions.After.TheVariants.{ThenEnds}
+use Rattle.task_laws.specs.declared.positions.Position.TheVariants.{Deliverer, Emptier, OutputCloser}
 use Rattle.task_core.specs.declared.moves.Act.{Act}
 use Rattle.task_core.specs.declared.moves.Act.TheVariants.{CancelOver, CancelBusy, CancelIdle, GiveUpOutput, DropOutput, DetachOrphan, DetachLast, Detach, EmptySlots, EndCall, HandOver, BeginNotify, MissNotify, TakeAwaiter, EndNotify, WakeAwaiter}
 use Rattle.async_task.specs.declared.table.Slot.{Slot}

@@ -1,9 +1,9 @@
 -- The paths by which a waker is gained, wakes and is dropped, each with the words that its rows found and with what the foreign calls on it did.
 use Rattle.std.specs.Prelude.{◌≡◌, ℕ, nat_lt, if◌then◌else◌, Bool, true, false, List, [], ◌∷◌, ◌++◌, Option, Some, None}
 use Rattle.task_core.specs.Word.{State, is_open}
-use Rattle.task_core.specs.declared.moves.Answer.TheVariants.{Nothing}
-use Rattle.task_core.specs.declared.moves.Rest.{Rest}
-use Rattle.task_core.specs.declared.moves.Position.TheVariants.{Emptier, OrphanHolder}
+use Rattle.task_laws.specs.declared.positions.Answer.TheVariants.{Nothing}
+use Rattle.task_laws.specs.declared.positions.Rest.{Rest}
+use Rattle.task_laws.specs.declared.positions.Position.TheVariants.{Emptier, OrphanHolder}
 use Rattle.task_core.specs.declared.moves.Act.TheVariants.{GainReference, FindLimit, DropWaker, DropLastWaker, OrphanTask, CloseOrphan, WakeOver, WakeScheduled, WakeRunning, WakeIdle, EmptySlots, HandOver, EndCall}
 use Rattle.async_task.specs.declared.table.Slot.{Slot}
 use Rattle.async_task.specs.declared.table.Deed.{Deed}

@@ -2,8 +2,9 @@
 use atomic_table::TableRule;
 use std::collections::LinkedList;
 use task_core::Yields;
-use task_core::moves::{Act, Position};
+use task_core::moves::Act;
 use task_core::word::Word;
+use task_laws::positions::Position;
 
 /// What lies in a slot of the table.
 #[derive(Drop)]

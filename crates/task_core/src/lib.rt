@@ -1,9 +1,8 @@
-//! What a task cell stands on: its word and the steps on it, the machine of moves, its laws and its replay, and the traits of an executor's own types.
+//! What a task cell stands on: its word and the steps on it, the names of what a party does, the traits of an executor's own types, and a task of one thread.
 #![tactic(auto)]
 
 pub mod local;
 pub mod moves;
-pub mod replay;
 pub mod traits;
 pub mod word;
 

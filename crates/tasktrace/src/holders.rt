@@ -1,11 +1,11 @@
 //! Who holds the slots of a task.
 ghost use Rattle.std.specs.Prelude.{◌≡◌};
-ghost use Rattle.task_core.specs.Theorem as theorem;
+ghost use Rattle.task_laws.specs.Theorem as theorem;
 
 use std::alloc::Allocator;
 use std::fmt;
-use task_core::moves::{Position, Way};
-use task_core::replay::Machine;
+use task_laws::positions::{Position, Way};
+use task_replay::machine::Machine;
 
 /// One of the three slots.
 #[derive(Clone, Copy, Debug, PartialEq, Eq)]

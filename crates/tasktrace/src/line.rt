@@ -4,7 +4,7 @@ ghost use Rattle.tasktrace.specs.Names.{name_of};
 
 use crate::names::named;
 use std::fmt;
-use task_core::replay::Step;
+use task_replay::machine::Step;
 
 /// What was expected where a line could not be read.
 #[derive(Clone, Copy, Debug, PartialEq, Eq)]

@@ -4,10 +4,10 @@ use crate::names::{ACTS, name};
 use crate::row::{FLAGS, ShownStep};
 use std::alloc::Global;
 use std::io;
-use task_core::replay::Step;
-use task_core::replay::player::Player;
-use task_core::replay::refusal::Refusal;
 use task_core::word::Word;
+use task_replay::machine::Step;
+use task_replay::player::Player;
+use task_replay::refusal::Refusal;
 
 /// Prints that the step is not allowed, and why.
 pub fn print_refusal<W: io::Write>(

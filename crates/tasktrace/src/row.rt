@@ -4,12 +4,12 @@ use crate::holders::{Slot, held_by};
 use crate::names::name;
 use std::alloc::Global;
 use std::{fmt, io};
-use task_core::moves::{Position, Rest};
-use task_core::replay::player::Player;
-use task_core::replay::{Machine, Step};
 use task_core::word::{
     AWAITER, CLOSED, COMPLETED, NOTIFYING, REGISTERING, RUNNING, SCHEDULED, TASK, Word,
 };
+use task_laws::positions::{Position, Rest};
+use task_replay::machine::{Machine, Step};
+use task_replay::player::Player;
 
 /// The flags of a word, each with its name.
 pub const FLAGS: [(u64, &str); 8] = [

@@ -6,8 +6,8 @@ use crate::reason::print_refusal;
 use crate::row::{print_head, print_row};
 use std::alloc::{AllocError, Global};
 use std::io;
-use task_core::replay::Step;
-use task_core::replay::player::{PlayError, Player};
+use task_replay::machine::Step;
+use task_replay::player::{PlayError, Player};
 
 // What comes after a line.
 #[derive(Clone, Copy, Debug, PartialEq, Eq)]

@@ -1,11 +1,11 @@
 //! The stored awaiter: taken out by whoever ends or closes the task.
 ghost use Rattle.std.specs.Prelude.{◌≡◌, ℕ, ◌∷◌, [], List, true};
-ghost use Rattle.task_core.specs.declared.moves.Way.{Way};
-ghost use Rattle.task_core.specs.declared.moves.Rest.{Rest};
-ghost use Rattle.task_core.specs.declared.moves.Position.TheVariants.{Notifier, AwaiterInHand, Leaving};
+ghost use Rattle.task_laws.specs.declared.positions.Way.{Way};
+ghost use Rattle.task_laws.specs.declared.positions.Rest.{Rest};
+ghost use Rattle.task_laws.specs.declared.positions.Position.TheVariants.{Notifier, AwaiterInHand, Leaving};
 ghost use Rattle.task_core.specs.declared.moves.Act.TheVariants.{WakeAwaiter, DropAwaiter, EndCall};
-ghost use Rattle.task_core.specs.declared.moves.Answer.{Answer};
-ghost use Rattle.task_core.specs.Table.{goes_off, may_drop, notifies};
+ghost use Rattle.task_laws.specs.declared.positions.Answer.{Answer};
+ghost use Rattle.task_laws.specs.Table.{goes_off, may_drop, notifies};
 ghost use Rattle.async_task.specs.declared.table.Slot.{Slot};
 ghost use Rattle.async_task.specs.RunCalls.{TakesDue, HasTaken, Wakes};
 ghost use Rattle.async_task.specs.Calls.{Stands, StandsWith, Goes, GoesWith, Notifies, act, position, holds, way_of, rest_of};

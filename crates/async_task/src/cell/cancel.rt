@@ -2,8 +2,8 @@
 ghost use Rattle.std.specs.Prelude.{◌≡◌, ℕ, ◌<◌, if◌then◌else◌, List, [], ◌∷◌, ◌++◌, Some, None, false};
 ghost use Rattle.std.specs.Arc.{arc_value};
 ghost use Rattle.task_core.specs.Word.{is_open};
-ghost use Rattle.task_core.specs.Table.{notifies};
-ghost use Rattle.task_core.specs.declared.moves.Way.TheVariants.{OfCancel};
+ghost use Rattle.task_laws.specs.Table.{notifies};
+ghost use Rattle.task_laws.specs.declared.positions.Way.TheVariants.{OfCancel};
 ghost use Rattle.task_core.specs.declared.moves.Act.TheVariants.{EndCall};
 ghost use Rattle.async_task.specs.declared.table.Deed.{Deed};
 ghost use Rattle.async_task.specs.TaskScripts.{cancelled};

@@ -1,10 +1,10 @@
 //! The output of a completed task: claimed by a poll, and handed out.
 ghost use Rattle.std.specs.Prelude.{◌≡◌, ℕ, ◌∷◌, [], List, Bool, true};
-ghost use Rattle.task_core.specs.declared.moves.Way.{Way};
-ghost use Rattle.task_core.specs.declared.moves.Way.TheVariants.{OfClaim};
-ghost use Rattle.task_core.specs.declared.moves.Position.TheVariants.{Notifier, Claimer};
+ghost use Rattle.task_laws.specs.declared.positions.Way.{Way};
+ghost use Rattle.task_laws.specs.declared.positions.Way.TheVariants.{OfClaim};
+ghost use Rattle.task_laws.specs.declared.positions.Position.TheVariants.{Notifier, Claimer};
 ghost use Rattle.task_core.specs.declared.moves.Act.TheVariants.{ClaimOutput, HandOutOutput, EndCall};
-ghost use Rattle.task_core.specs.Table.{notifies, goes_off, may_drop};
+ghost use Rattle.task_laws.specs.Table.{notifies, goes_off, may_drop};
 ghost use Rattle.async_task.specs.declared.table.Slot.{Slot};
 ghost use Rattle.async_task.specs.declared.table.Deed.{Deed};
 ghost use Rattle.async_task.specs.Rule.{IsOutput};

@@ -1,9 +1,9 @@
 //! Handing a Runnable over to the schedule value.
 ghost use Rattle.std.specs.Prelude.{◌≡◌, ◌∷◌, [], true, false};
 ghost use Rattle.std.specs.Arc.{arc_value};
-ghost use Rattle.task_core.specs.declared.moves.Position.{Position};
-ghost use Rattle.task_core.specs.declared.moves.Position.TheVariants.{Deliverer};
-ghost use Rattle.task_core.specs.declared.moves.After.{After};
+ghost use Rattle.task_laws.specs.declared.positions.Position.{Position};
+ghost use Rattle.task_laws.specs.declared.positions.Position.TheVariants.{Deliverer};
+ghost use Rattle.task_laws.specs.declared.positions.After.{After};
 ghost use Rattle.task_core.specs.declared.moves.Act.TheVariants.{HandOver, EndCall};
 ghost use Rattle.async_task.specs.Calls.{Stands, Goes, IsNew, act, position, hands_over, handed_over, limit_of, as_runnable, as_ended};
 ghost use Rattle.async_task.specs.Wakers.{as_deliverer};

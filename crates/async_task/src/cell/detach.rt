@@ -1,7 +1,7 @@
 //! Giving the Task up.
 ghost use Rattle.std.specs.Prelude.{◌≡◌, ℕ, List, [], ◌∷◌, true, false};
 ghost use Rattle.std.specs.Arc.{arc_value};
-ghost use Rattle.task_core.specs.declared.moves.Position.TheVariants.{OutputCloser, Detacher};
+ghost use Rattle.task_laws.specs.declared.positions.Position.TheVariants.{OutputCloser, Detacher};
 ghost use Rattle.task_core.specs.declared.moves.Act.TheVariants.{DropOutput};
 ghost use Rattle.async_task.specs.declared.table.Deed.{Deed};
 ghost use Rattle.async_task.specs.declared.table.Slot.{Slot};

@@ -1,7 +1,7 @@
 //! A Runnable that is dropped.
 ghost use Rattle.std.specs.Prelude.{◌≡◌, ℕ, ◌∷◌, [], List};
-ghost use Rattle.task_core.specs.declared.moves.Position.TheVariants.{FutureInHand};
-ghost use Rattle.task_core.specs.declared.moves.Closer.TheVariants.{DroppedRunnable};
+ghost use Rattle.task_laws.specs.declared.positions.Position.TheVariants.{FutureInHand};
+ghost use Rattle.task_laws.specs.declared.positions.Closer.TheVariants.{DroppedRunnable};
 ghost use Rattle.async_task.specs.declared.table.Slot.{Slot};
 ghost use Rattle.async_task.specs.declared.table.Deed.{Deed};
 ghost use Rattle.async_task.specs.Calls.{Stands, GoesWith, as_runnable};

@@ -2,7 +2,7 @@
 ghost use Rattle.std.specs.Prelude.{◌≡◌, ℕ, [], ◌∷◌, List, false};
 ghost use Rattle.std.specs.Arc.{arc_value};
 ghost use Rattle.task_core.specs.Word.{State};
-ghost use Rattle.task_core.specs.declared.moves.Position.TheVariants.{OrphanHolder};
+ghost use Rattle.task_laws.specs.declared.positions.Position.TheVariants.{OrphanHolder};
 ghost use Rattle.task_core.specs.declared.moves.Act.TheVariants.{CloseOrphan};
 ghost use Rattle.async_task.specs.declared.table.Deed.{Deed};
 ghost use Rattle.async_task.specs.Calls.{Stands, Goes, row, limit_of, as_ended, as_waker};

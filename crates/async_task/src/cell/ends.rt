@@ -1,9 +1,9 @@
 //! The ends of a run whose poll has answered.
 ghost use Rattle.std.specs.Prelude.{◌≡◌, ℕ, ◌∷◌, [], List, Bool, false};
-ghost use Rattle.task_core.specs.declared.moves.Position.TheVariants.{Polling, Ready, Pending, Cleared, OutputInHand};
-ghost use Rattle.task_core.specs.declared.moves.Way.TheVariants.{OfRun};
+ghost use Rattle.task_laws.specs.declared.positions.Position.TheVariants.{Polling, Ready, Pending, Cleared, OutputInHand};
+ghost use Rattle.task_laws.specs.declared.positions.Way.TheVariants.{OfRun};
 ghost use Rattle.task_core.specs.declared.moves.Act.TheVariants.{AnswerReady, DropOutput, EndClosed};
-ghost use Rattle.task_core.specs.Table.{notifies};
+ghost use Rattle.task_laws.specs.Table.{notifies};
 ghost use Rattle.async_task.specs.declared.table.Slot.{Slot};
 ghost use Rattle.async_task.specs.Calls.{StandsWith, Goes, GoesWith, row, act};
 ghost use Rattle.async_task.specs.Rule.{IsEmpty, IsFuture};

@@ -1,6 +1,6 @@
 //! Gaining a reference for a new waker.
 ghost use Rattle.std.specs.Prelude.{◌≡◌, ℕ, [], ◌∷◌, List};
-ghost use Rattle.task_core.specs.declared.moves.Rest.{Rest};
+ghost use Rattle.task_laws.specs.declared.positions.Rest.{Rest};
 ghost use Rattle.task_core.specs.declared.moves.Act.TheVariants.{RefuseGain, EndCall};
 ghost use Rattle.async_task.specs.declared.table.Member.{Member};
 ghost use Rattle.async_task.specs.Calls.{act, limit_of};

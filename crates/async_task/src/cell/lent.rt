@@ -1,7 +1,7 @@
 //! The poll of the future, and the waker that it is lent.
 ghost use Rattle.std.specs.Prelude.{◌≡◌, ℕ, ◌∷◌, []};
 ghost use Rattle.std.specs.Arc.{arc_value};
-ghost use Rattle.task_core.specs.declared.moves.Position.TheVariants.{Polling};
+ghost use Rattle.task_laws.specs.declared.positions.Position.TheVariants.{Polling};
 ghost use Rattle.task_core.specs.Poll.{IfReady};
 ghost use Rattle.task_core.specs.Word.{State};
 ghost use Rattle.async_task.specs.declared.table.Slot.{Slot};

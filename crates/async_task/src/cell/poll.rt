@@ -1,8 +1,8 @@
 //! Polls of the Task.
 ghost use Rattle.std.specs.Prelude.{◌≡◌, ℕ, ◌∷◌, ◌++◌, [], List};
-ghost use Rattle.task_core.specs.declared.moves.PollAnswer.{PollAnswer};
-ghost use Rattle.task_core.specs.declared.moves.Position.TheVariants.{Answering, Notifier, Looking as LookingAt};
-ghost use Rattle.task_core.specs.declared.moves.Way.TheVariants.{OfPoll};
+ghost use Rattle.task_laws.specs.declared.positions.PollAnswer.{PollAnswer};
+ghost use Rattle.task_laws.specs.declared.positions.Position.TheVariants.{Answering, Notifier, Looking as LookingAt};
+ghost use Rattle.task_laws.specs.declared.positions.Way.TheVariants.{OfPoll};
 ghost use Rattle.task_core.specs.declared.moves.Act.TheVariants.{EndCall};
 ghost use Rattle.async_task.specs.declared.table.Deed.{Deed};
 ghost use Rattle.async_task.specs.PollPaths.{PollPath, AnswerPath, TakePath, Looks, LooksAgain, poll_number};

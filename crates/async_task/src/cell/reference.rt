@@ -1,11 +1,11 @@
 //! The reference of a run or of a Runnable that is dropped: it is given up at the end.
 ghost use Rattle.std.specs.Prelude.{◌≡◌, ℕ, ◌∷◌, [], List, Option};
-ghost use Rattle.task_core.specs.declared.moves.Position.{Position};
-ghost use Rattle.task_core.specs.declared.moves.Position.TheVariants.{GivingUp, Emptier};
+ghost use Rattle.task_laws.specs.declared.positions.Position.{Position};
+ghost use Rattle.task_laws.specs.declared.positions.Position.TheVariants.{GivingUp, Emptier};
 ghost use Rattle.task_core.specs.declared.moves.Act.TheVariants.{EmptySlots};
-ghost use Rattle.task_core.specs.declared.moves.Answer.{Answer};
-ghost use Rattle.task_core.specs.Table.{after_giving_up, notifies};
-ghost use Rattle.task_core.specs.declared.moves.Way.TheVariants.{OfRun};
+ghost use Rattle.task_laws.specs.declared.positions.Answer.{Answer};
+ghost use Rattle.task_laws.specs.Table.{after_giving_up, notifies};
+ghost use Rattle.task_laws.specs.declared.positions.Way.TheVariants.{OfRun};
 ghost use Rattle.async_task.specs.declared.table.Slot.{Slot};
 ghost use Rattle.async_task.specs.declared.table.Slot.TheVariants.{Empty};
 ghost use Rattle.async_task.specs.Calls.{Stands, StandsWith, Goes, GoesWith, act};

@@ -1,9 +1,9 @@
 //! The registering of a poll's awaiter, beside parties that notify.
 ghost use Rattle.std.specs.Prelude.{◌≡◌, ℕ, ◌∷◌, [], List, Bool, true, Option, None};
 ghost use Rattle.task_core.specs.Word.{State};
-ghost use Rattle.task_core.specs.declared.moves.Position.TheVariants.{Registrar, RefusedClone, Registered, CloneInHand, Looking};
+ghost use Rattle.task_laws.specs.declared.positions.Position.TheVariants.{Registrar, RefusedClone, Registered, CloneInHand, Looking};
 ghost use Rattle.task_core.specs.declared.moves.Act.TheVariants.{TakeAwaiter, EndRegisterNotified, RefuseClone, EndCall, DropAwaiter, WakeAwaiter};
-ghost use Rattle.task_core.specs.Table.{after_storing};
+ghost use Rattle.task_laws.specs.Table.{after_storing};
 ghost use Rattle.async_task.specs.declared.table.Slot.{Slot};
 ghost use Rattle.async_task.specs.declared.table.Slot.TheVariants.{Awaiter};
 ghost use Rattle.async_task.specs.declared.table.Deed.{Deed};

@@ -1,8 +1,8 @@
 //! Steps with the seat of a handle, which is taken from what holds it, and put back.
 ghost use Rattle.std.specs.Prelude.{◌≡◌, ℕ, [], ◌∷◌, List, true, IfSome};
 ghost use Rattle.std.specs.Arc.{arc_value};
-ghost use Rattle.task_core.specs.declared.moves.Rest.{Rest};
-ghost use Rattle.task_core.specs.declared.moves.Position.TheVariants.{At};
+ghost use Rattle.task_laws.specs.declared.positions.Rest.{Rest};
+ghost use Rattle.task_laws.specs.declared.positions.Position.TheVariants.{At};
 ghost use Rattle.async_task.specs.declared.table.Deed.{Deed};
 ghost use Rattle.async_task.specs.declared.table.Member.{Member};
 ghost use Rattle.async_task.specs.Rule.{view, fresh};

@@ -1,13 +1,13 @@
 //! The steps of a run and of a Runnable's drop.
 ghost use Rattle.std.specs.Prelude.{◌≡◌, ℕ, ◌∷◌, [], not, ◌&&◌, Bool};
 ghost use Rattle.std.specs.Arc.{arc_value};
-ghost use Rattle.task_core.specs.declared.moves.Answer.{Answer};
-ghost use Rattle.task_core.specs.declared.moves.After.TheVariants.{ThenEnds};
-ghost use Rattle.task_core.specs.declared.moves.Closer.TheVariants.{ClosedRun};
-ghost use Rattle.task_core.specs.declared.moves.Closer.{Closer};
-ghost use Rattle.task_core.specs.declared.moves.Position.TheVariants.{FutureInHand, Ready, Cleared, Polling, Deliverer};
+ghost use Rattle.task_laws.specs.declared.positions.Answer.{Answer};
+ghost use Rattle.task_laws.specs.declared.positions.After.TheVariants.{ThenEnds};
+ghost use Rattle.task_laws.specs.declared.positions.Closer.TheVariants.{ClosedRun};
+ghost use Rattle.task_laws.specs.declared.positions.Closer.{Closer};
+ghost use Rattle.task_laws.specs.declared.positions.Position.TheVariants.{FutureInHand, Ready, Cleared, Polling, Deliverer};
 ghost use Rattle.task_core.specs.declared.moves.Act.TheVariants.{DropFuture, Unschedule, HandOver, EndCall};
-ghost use Rattle.task_core.specs.Table.{notifies};
+ghost use Rattle.task_laws.specs.Table.{notifies};
 ghost use Rattle.async_task.specs.declared.table.Slot.{Slot};
 ghost use Rattle.async_task.specs.Calls.{StandsWith, Stands, Goes, row, act, position, closing_way, limit_of, as_ended};
 ghost use Rattle.async_task.specs.Rule.{IsEmpty, IsFuture};

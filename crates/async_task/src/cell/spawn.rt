@@ -4,7 +4,7 @@ ghost use Rattle.std.specs.Arc.{arc_value};
 ghost use Rattle.async_task.specs.declared.table.Slot.{Slot};
 ghost use Rattle.async_task.specs.Rule.{laid_view, opening_view};
 ghost use Rattle.async_task.specs.Calls.{Stands, StandsWith, deeds, limit_of, as_runnable, as_task};
-ghost use Rattle.task_core.specs.declared.moves.Position.{Position};
+ghost use Rattle.task_laws.specs.declared.positions.Position.{Position};
 ghost use Rattle.async_task.specs.LastWord.{IsLastWord};
 
 use super::{Board, Cell, Party};

@@ -1,7 +1,7 @@
 //! Waking the task.
 ghost use Rattle.std.specs.Prelude.{◌≡◌, ◌<◌, not, ◌&&◌, List, Some, None, if◌then◌else◌};
 ghost use Rattle.task_core.specs.Word.{is_open};
-ghost use Rattle.task_core.specs.declared.moves.Rest.{Rest};
+ghost use Rattle.task_laws.specs.declared.positions.Rest.{Rest};
 ghost use Rattle.async_task.specs.declared.table.Member.{Member};
 ghost use Rattle.async_task.specs.Wakers.{MayWake};
 ghost use Rattle.async_task.specs.WakerScripts.{woken_word};

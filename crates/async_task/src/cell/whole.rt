@@ -1,8 +1,8 @@
 //! A whole run.
 ghost use Rattle.std.specs.Prelude.{◌≡◌, ℕ, ◌∷◌, [], List};
 ghost use Rattle.std.specs.Arc.{arc_value};
-ghost use Rattle.task_core.specs.declared.moves.Position.TheVariants.{FutureInHand, Polling};
-ghost use Rattle.task_core.specs.declared.moves.Closer.TheVariants.{ClosedRun};
+ghost use Rattle.task_laws.specs.declared.positions.Position.TheVariants.{FutureInHand, Polling};
+ghost use Rattle.task_laws.specs.declared.positions.Closer.TheVariants.{ClosedRun};
 ghost use Rattle.async_task.specs.declared.table.Deed.{Deed};
 ghost use Rattle.async_task.specs.declared.table.Slot.{Slot};
 ghost use Rattle.async_task.specs.Rule.{IsFuture};

@@ -1,6 +1,6 @@
 use Rattle.std.proofs.Common.{◌∷◌, [], sym, ◌∙◌, true, false}
-use Rattle.task_core.specs.declared.moves.Way.TheVariants.{OfPoll}
-use Rattle.task_core.specs.declared.moves.Position.TheVariants.{Notifier, Claiming}
+use Rattle.task_laws.specs.declared.positions.Way.TheVariants.{OfPoll}
+use Rattle.task_laws.specs.declared.positions.Position.TheVariants.{Notifier, Claiming}
 use Rattle.task_core.specs.declared.moves.Act.TheVariants.{Look, EndCall}
 use Rattle.async_task.specs.Calls.{row, act, position}
 use Rattle.async_task.specs.PollPaths.{poll_number, waits}

@@ -1,7 +1,7 @@
-use Rattle.task_core.specs.declared.moves.PollAnswer.TheVariants.{IsReady}
+use Rattle.task_laws.specs.declared.positions.PollAnswer.TheVariants.{IsReady}
 use Rattle.std.proofs.Common.{[], refl}
-use Rattle.task_core.specs.declared.moves.Way.TheVariants.{OfPoll}
-use Rattle.task_core.specs.declared.moves.Position.TheVariants.{Answering}
+use Rattle.task_laws.specs.declared.positions.Way.TheVariants.{OfPoll}
+use Rattle.task_laws.specs.declared.positions.Position.TheVariants.{Answering}
 use Rattle.async_task.proofs.Moved.{stands}
 use Rattle.async_task.proofs.PollWays.{is_answering, ended_closed}
 use Rattle.async_task.proofs.cell.Cell.answer_closed.Goals as goal

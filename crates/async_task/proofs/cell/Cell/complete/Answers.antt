@@ -2,7 +2,7 @@ use Rattle.std.proofs.Common.{rules, ap, ◌∙◌, ◌∷◌, []}
 use Rattle.task_core.specs.Word.{state_of, number_of}
 use Rattle.async_task.specs.Steps.{output_first}
 use Rattle.async_task.proofs.Allowed.{steps_or_misses}
-use Rattle.task_core.specs.declared.moves.Position.TheVariants.{Ready}
+use Rattle.task_laws.specs.declared.positions.Position.TheVariants.{Ready}
 use Rattle.async_task.specs.declared.table.Slot.TheVariants.{Output}
 use Rattle.async_task.specs.RunScripts.{completing}
 use Rattle.async_task.proofs.Owed.{does_nothing}

@@ -1,5 +1,5 @@
 use Rattle.std.proofs.Common.{[]}
-use Rattle.task_core.specs.declared.moves.Position.TheVariants.{Ready}
+use Rattle.task_laws.specs.declared.positions.Position.TheVariants.{Ready}
 use Rattle.async_task.specs.declared.table.Slot.TheVariants.{Output}
 use Rattle.async_task.specs.Steps.{output_first}
 use Rattle.async_task.specs.Calls.{GoesWith}

@@ -1,5 +1,5 @@
 use Rattle.std.proofs.Common.{refl}
-use Rattle.task_core.specs.declared.moves.Position.TheVariants.{Deliverer}
+use Rattle.task_laws.specs.declared.positions.Position.TheVariants.{Deliverer}
 use Rattle.async_task.proofs.cell.Cell.deliver.Goals as goal
 
 pub hand_to_schedule-requires-clause-party : goal.hand_to_schedule-requires-clause-party

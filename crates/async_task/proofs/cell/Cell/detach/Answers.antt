@@ -1,8 +1,8 @@
 use Rattle.std.proofs.Common.{◌∷◌, ◌∙◌, ap, sym, [], false}
-use Rattle.task_core.specs.declared.moves.Answer.TheVariants.{Nothing}
-use Rattle.task_core.specs.declared.moves.Rest.TheVariants.{Ended}
-use Rattle.task_core.specs.declared.moves.After.TheVariants.{ThenEnds}
-use Rattle.task_core.specs.declared.moves.Position.TheVariants.{Deliverer, Leaving}
+use Rattle.task_laws.specs.declared.positions.Answer.TheVariants.{Nothing}
+use Rattle.task_laws.specs.declared.positions.Rest.TheVariants.{Ended}
+use Rattle.task_laws.specs.declared.positions.After.TheVariants.{ThenEnds}
+use Rattle.task_laws.specs.declared.positions.Position.TheVariants.{Deliverer, Leaving}
 use Rattle.task_core.specs.declared.moves.Act.TheVariants.{GiveUpOutput, DropOutput, DetachLast, EmptySlots}
 use Rattle.async_task.specs.Calls.{row, act}
 use Rattle.async_task.proofs.Moved.{stands}

@@ -1,10 +1,10 @@
 use Rattle.std.proofs.Common.{rules, ap, ◌∷◌, []}
 use Rattle.task_core.specs.Word.{state_of}
 use Rattle.async_task.proofs.Allowed.{steps_always}
-use Rattle.task_core.specs.declared.moves.Position.TheVariants.{OutputInHand}
-use Rattle.task_core.specs.declared.moves.Way.TheVariants.{OfRun}
+use Rattle.task_laws.specs.declared.positions.Position.TheVariants.{OutputInHand}
+use Rattle.task_laws.specs.declared.positions.Way.TheVariants.{OfRun}
 use Rattle.task_core.specs.declared.moves.Act.TheVariants.{DropOutput}
-use Rattle.task_core.specs.Table.{notifies}
+use Rattle.task_laws.specs.Table.{notifies}
 use Rattle.async_task.specs.Steps.{output_first}
 use Rattle.async_task.specs.Calls.{act}
 use Rattle.async_task.specs.declared.table.Slot.TheVariants.{Empty}

@@ -1,7 +1,7 @@
 use Rattle.std.proofs.Common.{rules, ap, ◌∷◌, [], sym, ◌∙◌, subst}
 use Rattle.std.specs.Prelude.{nat_eq}
 use Rattle.task_core.specs.Word.{State}
-use Rattle.task_core.specs.declared.moves.Position.TheVariants.{OutputCloser, Detacher}
+use Rattle.task_laws.specs.declared.positions.Position.TheVariants.{OutputCloser, Detacher}
 use Rattle.task_core.specs.declared.moves.Act.TheVariants.{DropOutput}
 use Rattle.async_task.specs.declared.table.Slot.TheVariants.{Empty}
 use Rattle.async_task.specs.Steps.{head_of, saw_closed, output_first}

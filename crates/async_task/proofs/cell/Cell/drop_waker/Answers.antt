@@ -1,8 +1,8 @@
 use Rattle.std.proofs.Common.{false, ◌∙◌, ap, sym, []}
-use Rattle.task_core.specs.declared.moves.Answer.TheVariants.{Nothing}
-use Rattle.task_core.specs.declared.moves.Rest.TheVariants.{Ended}
-use Rattle.task_core.specs.declared.moves.After.TheVariants.{ThenEnds}
-use Rattle.task_core.specs.declared.moves.Position.TheVariants.{Deliverer, Leaving}
+use Rattle.task_laws.specs.declared.positions.Answer.TheVariants.{Nothing}
+use Rattle.task_laws.specs.declared.positions.Rest.TheVariants.{Ended}
+use Rattle.task_laws.specs.declared.positions.After.TheVariants.{ThenEnds}
+use Rattle.task_laws.specs.declared.positions.Position.TheVariants.{Deliverer, Leaving}
 use Rattle.async_task.proofs.Moved.{stands}
 use Rattle.async_task.proofs.WakerCalls.{drops_shared, last_emptied, drops_last, orphan_closed, drops_orphaned}
 use Rattle.async_task.proofs.cell.Cell.drop_waker.Goals as goal

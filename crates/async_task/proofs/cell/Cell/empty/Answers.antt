@@ -1,10 +1,10 @@
 use Rattle.std.proofs.Common.{rules, ap, ◌∷◌, []}
 use Rattle.task_core.specs.Word.{state_of}
 use Rattle.async_task.proofs.Allowed.{steps_always}
-use Rattle.task_core.specs.declared.moves.Position.TheVariants.{Emptier}
+use Rattle.task_laws.specs.declared.positions.Position.TheVariants.{Emptier}
 use Rattle.async_task.specs.declared.table.Slot.TheVariants.{Empty}
 use Rattle.task_core.specs.declared.moves.Act.TheVariants.{EmptySlots}
-use Rattle.task_core.specs.Table.{after_giving_up}
+use Rattle.task_laws.specs.Table.{after_giving_up}
 use Rattle.async_task.specs.Calls.{act}
 use Rattle.async_task.proofs.RunOwed.{empties}
 use Rattle.async_task.proofs.RunGoes.{emptied}

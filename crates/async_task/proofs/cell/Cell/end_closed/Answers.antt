@@ -1,10 +1,10 @@
 use Rattle.std.proofs.Common.{rules, ap, sym, subst, ◌∷◌, []}
 use Rattle.task_core.specs.Word.{state_of}
 use Rattle.async_task.proofs.Allowed.{steps_always}
-use Rattle.task_core.specs.declared.moves.Position.TheVariants.{Cleared}
-use Rattle.task_core.specs.declared.moves.Way.TheVariants.{OfRun}
+use Rattle.task_laws.specs.declared.positions.Position.TheVariants.{Cleared}
+use Rattle.task_laws.specs.declared.positions.Way.TheVariants.{OfRun}
 use Rattle.task_core.specs.declared.moves.Act.TheVariants.{EndClosed}
-use Rattle.task_core.specs.Table.{notifies}
+use Rattle.task_laws.specs.Table.{notifies}
 use Rattle.async_task.specs.Calls.{row, Goes}
 use Rattle.async_task.proofs.RunOwed.{ends_closed}
 use Rattle.async_task.proofs.RunGoes.{ended_closed}

@@ -2,7 +2,7 @@ use Rattle.std.proofs.Common.{rules, ap, sym, subst, ◌∙◌, []}
 use Rattle.task_core.specs.Word.{state_of, number_of}
 use Rattle.async_task.specs.Steps.{future_first}
 use Rattle.async_task.proofs.Allowed.{steps_or_misses}
-use Rattle.task_core.specs.declared.moves.Position.TheVariants.{Pending}
+use Rattle.task_laws.specs.declared.positions.Position.TheVariants.{Pending}
 use Rattle.async_task.specs.declared.cell.ends.PendingEnd.TheVariants.{Closed}
 use Rattle.async_task.specs.RunScripts.{ending_pending}
 use Rattle.async_task.specs.RunCalls.{EndsPending, is_closed, ending_of}

@@ -1,8 +1,8 @@
 use Rattle.std.proofs.Common.{◌∙◌, [], false}
-use Rattle.task_core.specs.declared.moves.Way.TheVariants.{OfRun}
-use Rattle.task_core.specs.declared.moves.Answer.TheVariants.{Ran}
-use Rattle.task_core.specs.declared.moves.Rest.TheVariants.{Ended}
-use Rattle.task_core.specs.declared.moves.Position.TheVariants.{Leaving}
+use Rattle.task_laws.specs.declared.positions.Way.TheVariants.{OfRun}
+use Rattle.task_laws.specs.declared.positions.Answer.TheVariants.{Ran}
+use Rattle.task_laws.specs.declared.positions.Rest.TheVariants.{Ended}
+use Rattle.task_laws.specs.declared.positions.Position.TheVariants.{Leaving}
 use Rattle.async_task.proofs.Moved.{stands}
 use Rattle.async_task.proofs.RunRest.{run_gives_up, due_cell, run_has, rested, ended_call}
 use Rattle.async_task.proofs.cell.Cell.finish.Goals as goal

@@ -1,8 +1,8 @@
 use Rattle.std.proofs.Common.{◌∙◌, sym, subst, ◌∷◌, []}
-use Rattle.task_core.specs.declared.moves.Way.TheVariants.{OfRun}
-use Rattle.task_core.specs.declared.moves.Position.TheVariants.{Cleared}
+use Rattle.task_laws.specs.declared.positions.Way.TheVariants.{OfRun}
+use Rattle.task_laws.specs.declared.positions.Position.TheVariants.{Cleared}
 use Rattle.task_core.specs.declared.moves.Act.TheVariants.{EndClosed}
-use Rattle.task_core.specs.Table.{notifies}
+use Rattle.task_laws.specs.Table.{notifies}
 use Rattle.async_task.specs.declared.table.Slot.TheVariants.{Empty}
 use Rattle.async_task.specs.Calls.{row, Stands}
 use Rattle.async_task.specs.RunCalls.{Rests}

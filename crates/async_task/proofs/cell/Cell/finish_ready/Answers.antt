@@ -1,8 +1,8 @@
 use Rattle.std.proofs.Common.{◌∙◌, sym, subst, ◌∷◌, []}
-use Rattle.task_core.specs.declared.moves.Way.TheVariants.{OfRun}
-use Rattle.task_core.specs.declared.moves.Position.TheVariants.{Ready}
+use Rattle.task_laws.specs.declared.positions.Way.TheVariants.{OfRun}
+use Rattle.task_laws.specs.declared.positions.Position.TheVariants.{Ready}
 use Rattle.task_core.specs.declared.moves.Act.TheVariants.{AnswerReady}
-use Rattle.task_core.specs.Table.{notifies}
+use Rattle.task_laws.specs.Table.{notifies}
 use Rattle.async_task.specs.declared.table.Slot.TheVariants.{Empty}
 use Rattle.async_task.specs.Calls.{act, Stands}
 use Rattle.async_task.specs.RunCalls.{Rests}

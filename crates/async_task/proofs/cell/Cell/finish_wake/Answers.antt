@@ -1,5 +1,5 @@
 use Rattle.std.proofs.Common.{[]}
-use Rattle.task_core.specs.declared.moves.Answer.TheVariants.{Nothing}
+use Rattle.task_laws.specs.declared.positions.Answer.TheVariants.{Nothing}
 use Rattle.async_task.specs.Calls.{as_ended}
 use Rattle.async_task.proofs.Moved.{stands, position_is}
 use Rattle.async_task.proofs.cell.Cell.finish_wake.Goals as goal

@@ -1,5 +1,5 @@
 use Rattle.std.proofs.Common.{rules, ap, ◌∷◌, [], refl}
-use Rattle.task_core.specs.declared.moves.Position.TheVariants.{Claimer}
+use Rattle.task_laws.specs.declared.positions.Position.TheVariants.{Claimer}
 use Rattle.async_task.specs.declared.table.Slot.TheVariants.{Empty}
 use Rattle.async_task.specs.Steps.{output_first}
 use Rattle.async_task.proofs.Allowed.{steps_always}

@@ -1,7 +1,7 @@
 use Rattle.std.proofs.Common.{◌∙◌}
-use Rattle.task_core.specs.declared.moves.Answer.TheVariants.{Nothing}
-use Rattle.task_core.specs.declared.moves.Rest.TheVariants.{Task}
-use Rattle.task_core.specs.declared.moves.Way.TheVariants.{OfCancel}
+use Rattle.task_laws.specs.declared.positions.Answer.TheVariants.{Nothing}
+use Rattle.task_laws.specs.declared.positions.Rest.TheVariants.{Task}
+use Rattle.task_laws.specs.declared.positions.Way.TheVariants.{OfCancel}
 use Rattle.async_task.proofs.Moved.{stands}
 use Rattle.async_task.proofs.RunRest.{due_cell, cancel_has}
 use Rattle.async_task.proofs.TaskMoves.{ends_noticed}

@@ -1,5 +1,5 @@
 use Rattle.std.proofs.Common.{rules, ap}
-use Rattle.task_core.specs.declared.moves.Position.TheVariants.{OutputCloser}
+use Rattle.task_laws.specs.declared.positions.Position.TheVariants.{OutputCloser}
 use Rattle.async_task.proofs.Allowed.{steps_always}
 use Rattle.async_task.proofs.Moved.{output_held}
 use Rattle.async_task.proofs.TaskOwed.{drops_output}

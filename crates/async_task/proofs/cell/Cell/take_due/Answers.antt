@@ -1,5 +1,5 @@
 use Rattle.std.proofs.Common.{sym, subst, [], refl, None}
-use Rattle.task_core.specs.Table.{notifies}
+use Rattle.task_laws.specs.Table.{notifies}
 use Rattle.async_task.specs.Calls.{Stands}
 use Rattle.async_task.specs.RunCalls.{TakesDue, takes_none}
 use Rattle.async_task.specs.RunPaths.{not_due}

@@ -1,8 +1,8 @@
 use Rattle.std.proofs.Common.{[], ◌∷◌, ◌++◌}
 use Rattle.task_core.specs.declared.moves.Act.TheVariants.{ClaimOutput}
-use Rattle.task_core.specs.declared.moves.Way.TheVariants.{OfClaim}
-use Rattle.task_core.specs.declared.moves.Position.TheVariants.{Claimer}
-use Rattle.task_core.specs.Table.{notifies}
+use Rattle.task_laws.specs.declared.positions.Way.TheVariants.{OfClaim}
+use Rattle.task_laws.specs.declared.positions.Position.TheVariants.{Claimer}
+use Rattle.task_laws.specs.Table.{notifies}
 use Rattle.async_task.specs.Calls.{row, position}
 use Rattle.async_task.specs.PollPaths.{poll_number}
 use Rattle.async_task.specs.Steps.{output_first}

@@ -1,5 +1,5 @@
 use Rattle.std.proofs.Common.{rules, ap}
-use Rattle.task_core.specs.declared.moves.Position.TheVariants.{FutureInHand}
+use Rattle.task_laws.specs.declared.positions.Position.TheVariants.{FutureInHand}
 use Rattle.async_task.proofs.Allowed.{steps_always}
 use Rattle.async_task.proofs.Moved.{future_held}
 use Rattle.async_task.proofs.Owed.{unschedules}

@@ -1,0 +1,130 @@
+-- The invariant holds after every list of steps that the machine allows.
+use Rattle.std.proofs.Common.{◌≡◌, ℕ, zero, suc, List, [], ◌∷◌, ◌++◌, Option, Some, None, refl, sym, ap, ◌∙◌, subst, arith}
+use Rattle.std.specs.Prelude.{slice_get, slice_set, nat_lt}
+use Rattle.std.proofs.lemmas.Bool.Decides.{nat_tests}
+use Rattle.task_laws.specs.Position.{Position, Act}
+use Rattle.task_laws.specs.Table.{Outcome, rule}
+use Rattle.task_laws.specs.Machine.{Machine, Step, opening, scene, begins, after, moves, step, run_from, run, how_many, polls_future}
+use Rattle.task_laws.proofs.Census.{Census, plus, weigh, census, nobody}
+use Rattle.task_laws.proofs.Invariant.{Holds, Kept, kept_by_rule}
+use Rattle.task_laws.proofs.Awaiting.{Awaiting, join, none, await, awaiting, fits}
+use Rattle.task_laws.proofs.Handshake.{HandshakeHolds, HandshakeKept, handshake_kept_by_rule}
+use Rattle.task_laws.proofs.InvariantRows.{every_row}
+use Rattle.task_laws.proofs.HandshakeRows.{every_handshake_row}
+use Rattle.task_core.specs.Word.{bit, opening_word}
+
+-- all parties but number i
+abbrev pub others : List Position → ℕ → List Position
+others [] i = []
+others (p ∷ ps) zero = ps
+others (p ∷ ps) (suc i) = p ∷ others ps i
+
+plus_left_comm : (a b c : Census) → plus a (plus b c) ≡ plus b (plus a c)
+plus_left_comm a b c = grind arith
+
+plus_assoc : (a b c : Census) → plus (plus a b) c ≡ plus a (plus b c)
+plus_assoc a b c = grind arith
+
+plus_nobody : (a : Census) → plus nobody a ≡ a
+plus_nobody a = grind arith
+
+plus_comm : (a b : Census) → plus a b ≡ plus b a
+plus_comm a b = grind arith
+
+census-append : (ps qs : List Position) → census (ps ++ qs) ≡ plus (census ps) (census qs)
+census-append [] qs = sym (plus_nobody (census qs))
+census-append (p ∷ ps) qs = ap (plus (weigh p)) (census-append ps qs) ∙ sym (plus_assoc (weigh p) (census ps) (census qs))
+
+pub split : (ps : List Position) (i : ℕ) (p : Position) → slice_get ps i ≡ Some p → census ps ≡ plus (weigh p) (census (others ps i))
+split [] i p e = cc
+split (x ∷ ps) zero p e = cc
+split (x ∷ ps) (suc i) p e = ap (plus (weigh x)) (split ps i p e) ∙ plus_left_comm (weigh x) (weigh p) (census (others ps i))
+
+put : (ps : List Position) (i : ℕ) (p q : Position) → slice_get ps i ≡ Some p → census (slice_set ps i q) ≡ plus (weigh q) (census (others ps i))
+put [] i p q e = cc
+put (x ∷ ps) zero p q e = refl
+put (x ∷ ps) (suc i) p q e = ap (plus (weigh x)) (put ps i p q e) ∙ plus_left_comm (weigh x) (weigh q) (census (others ps i))
+
+pub put_born : (ps : List Position) (i : ℕ) (p q : Position) (born : List Position) → slice_get ps i ≡ Some p → census (slice_set ps i q ++ born) ≡ plus (census (q ∷ born)) (census (others ps i))
+put_born ps i p q born e =
+    census-append (slice_set ps i q) born ∙ (ap (λ c. plus c (census born)) (put ps i p q e) ∙ (plus_assoc (weigh q) (census (others ps i)) (census born) ∙ (ap (plus (weigh q)) (plus_comm (census (others ps i)) (census born)) ∙ sym (plus_assoc (weigh q) (census born) (census (others ps i))))))
+
+-- .. and the same for the handshake
+join_left_comm : (a b c : Awaiting) → join a (join b c) ≡ join b (join a c)
+join_left_comm a b c = grind arith
+
+join_assoc : (a b c : Awaiting) → join (join a b) c ≡ join a (join b c)
+join_assoc a b c = grind arith
+
+join_none : (a : Awaiting) → join none a ≡ a
+join_none a = grind arith
+
+join_comm : (a b : Awaiting) → join a b ≡ join b a
+join_comm a b = grind arith
+
+awaiting-append : (i : ℕ) (ps qs : List Position) → awaiting i (ps ++ qs) ≡ join (awaiting i ps) (awaiting i qs)
+awaiting-append i [] qs = sym (join_none (awaiting i qs))
+awaiting-append i (p ∷ ps) qs = ap (join (await i p)) (awaiting-append i ps qs) ∙ sym (join_assoc (await i p) (awaiting i ps) (awaiting i qs))
+
+pub split_awaiting : (k : ℕ) (ps : List Position) (i : ℕ) (p : Position) → slice_get ps i ≡ Some p → awaiting k ps ≡ join (await k p) (awaiting k (others ps i))
+split_awaiting k [] i p e = cc
+split_awaiting k (x ∷ ps) zero p e = cc
+split_awaiting k (x ∷ ps) (suc i) p e = ap (join (await k x)) (split_awaiting k ps i p e) ∙ join_left_comm (await k x) (await k p) (awaiting k (others ps i))
+
+put_awaiting : (k : ℕ) (ps : List Position) (i : ℕ) (p q : Position) → slice_get ps i ≡ Some p → awaiting k (slice_set ps i q) ≡ join (await k q) (awaiting k (others ps i))
+put_awaiting k [] i p q e = cc
+put_awaiting k (x ∷ ps) zero p q e = refl
+put_awaiting k (x ∷ ps) (suc i) p q e = ap (join (await k x)) (put_awaiting k ps i p q e) ∙ join_left_comm (await k x) (await k q) (awaiting k (others ps i))
+
+put_born_awaiting : (k : ℕ) (ps : List Position) (i : ℕ) (p q : Position) (born : List Position) → slice_get ps i ≡ Some p → awaiting k (slice_set ps i q ++ born) ≡ join (awaiting k (q ∷ born)) (awaiting k (others ps i))
+put_born_awaiting k ps i p q born e =
+    awaiting-append k (slice_set ps i q) born ∙ (ap (λ c. join c (awaiting k born)) (put_awaiting k ps i p q e) ∙ (join_assoc (await k q) (awaiting k (others ps i)) (awaiting k born) ∙ (ap (join (await k q)) (join_comm (awaiting k (others ps i)) (awaiting k born)) ∙ sym (join_assoc (await k q) (awaiting k born) (awaiting k (others ps i))))))
+
+pub record Invariant (m : Machine) : Type 0 where
+  pub holds : Holds m.limit m.word m.slots m.trace (census m.parties)
+  pub shakes : (i : ℕ) → HandshakeHolds i m.word m.slots m.trace (awaiting i m.parties)
+
+polling_one : (p : Position) → bit (polls_future p) ≡ (weigh p).polling
+polling_one p = grind arith
+
+pub polling : (ps : List Position) → how_many polls_future ps ≡ (census ps).polling
+polling [] = refl
+polling (p ∷ ps) = omega (arith, polling_one p, polling ps)
+
+abbrev pub Stays : Option Machine → Type 0
+Stays None = Unit {0}
+Stays (Some m) = Invariant m
+
+opens_holds : (limit : ℕ) → Holds limit opening_word (opening limit).slots (opening limit).trace (census (opening limit).parties)
+opens_holds limit = grind (arith, nat_tests)
+
+opens_shakes : (limit i : ℕ) → HandshakeHolds i opening_word (opening limit).slots (opening limit).trace (awaiting i (opening limit).parties)
+opens_shakes limit i = grind (arith, nat_tests)
+
+pub opens : (limit : ℕ) → Invariant (opening limit)
+opens limit = record { holds = opens_holds limit; shakes = opens_shakes limit }
+
+after_stays : (m : Machine) (i : ℕ) (p : Position) (o : Option Outcome) → slice_get m.parties i ≡ Some p
+    → Kept m.limit m.trace (census (others m.parties i)) p o → ((k : ℕ) → HandshakeKept k m.trace (awaiting k (others m.parties i)) p o) → Stays (after m i p o)
+after_stays m i p None e k l = tt
+after_stays m i p (Some o) e k l = record {
+  holds = subst (Holds m.limit o.word o.slots (o.told ++ (begins p ++ m.trace))) (sym (put_born m.parties i p o.next o.born e)) k;
+  shakes = λ j. subst (HandshakeHolds j o.word o.slots (o.told ++ (begins p ++ m.trace))) (sym (put_born_awaiting j m.parties i p o.next o.born e)) (l j);
+}
+
+pub moves_stays : (m : Machine) (i : ℕ) (act : Act) (o : Option Position) → slice_get m.parties i ≡ o → Invariant m → Stays (moves m i act o)
+moves_stays m i act None e h = tt
+moves_stays m i act (Some p) e h =
+    let holds = subst (Holds m.limit m.word m.slots m.trace) (split m.parties i p e) h.holds in
+    after_stays m i p (rule (scene m) act p) e
+    (kept_by_rule act p (every_row act p) (scene m) m.trace (census (others m.parties i)) (ap (nat_lt 0) (polling m.parties ∙ ap (λ (c : Census). c.polling) (split m.parties i p e))) holds)
+    (λ k. handshake_kept_by_rule act p (every_handshake_row act p) k (scene m) m.trace (census (others m.parties i)) (awaiting k (others m.parties i)) (fits k (others m.parties i)) holds
+    (subst (HandshakeHolds k m.word m.slots m.trace) (split_awaiting k m.parties i p e) (h.shakes k)))
+
+run_stays : (m : Option Machine) (steps : List Step) → Stays m → Stays (run_from m steps)
+run_stays m [] h = h
+run_stays None (s ∷ steps) h = tt
+run_stays (Some m) (s ∷ steps) h = run_stays (step m s) steps (moves_stays m s.party s.act (slice_get m.parties s.party) refl h)
+
+pub always : (limit : ℕ) (steps : List Step) → Stays (run limit steps)
+always limit steps = run_stays (Some (opening limit)) steps (opens limit)

@@ -1,0 +1,10 @@
+pub mod Event
+pub mod Position
+pub mod Table
+pub mod Machine
+pub mod Laws
+pub mod Theorem
+pub mod Abstract
+pub mod Whole
+pub mod WholeCalls
+pub mod LocalRows

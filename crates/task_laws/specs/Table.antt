@@ -1,0 +1,216 @@
+-- The table of moves: from where a party steps, and where it goes.
+use Rattle.std.specs.Prelude.{ℕ, ◌+◌, Bool, true, false, not, ◌&&◌, ◌||◌, if◌then◌else◌, List, [], ◌∷◌, Option, Some, None}
+use Rattle.task_core.specs.Word.{State, is_open}
+use Rattle.task_core.specs.Rows.{found, written}
+use Rattle.task_laws.specs.Event.{ByWake, ByClosing, IsPending, IsReady, HasOutput, IsRefused, Answer, Nothing, Ran, Gained, Finished, Event, Started, AnsweredPending, AnsweredReady, FutureDropped, OutputTaken, OutputDropped, Made, TakenUp, RunEnded, HandedOver, Wakes, Completes, Closes, Empties, Polls, PollEnds, Cloned, Woken, CloneEnded, WakerGained, WakerGivenUp, TaskGivenUp, CallBegins, CallEnds}
+use Rattle.task_laws.specs.Position.{Rest, Runnable, Waker, Lent, Ended, Task, ClosedRun, DroppedRunnable, Way, OfRun, OfDrop, OfCancel, OfPoll, OfClaim, After, ThenEnds, ThenTask, ThenNotifies, Position, At, Leaving, Deliverer, Starting, Polling, Pending, Ready, Unstored, Stored, Cleared, FutureInHand, FutureGone, OutputInHand, GivingUp, Emptier, Notifier, Taker, Releaser, AwaiterInHand, OrphanHolder, Registrar, HasClone, RefusedClone, Storing, Registered, TookBack, CloneInHand, Looking, Claiming, Claimer, OldAwaiterInHand, Answering, OutputCloser, Detacher, Act, GainReference, FindLimit, DropWaker, DropLastWaker, OrphanTask, CloseOrphan, GiveUpReference, GiveUpLastReference, WakeOver, WakeScheduled, WakeRunning, WakeIdle, DiscardOpen, DiscardClosed, CancelOver, CancelBusy, CancelIdle, ClaimOutput, GiveUpOutput, DetachOrphan, DetachLast, Detach, TakeUpClosed, StartRun, Unschedule, Complete, CompleteDetached, EndClosed, Reschedule, EndIdle, EndOrphaned, BeginNotify, MissNotify, FindNotify, BeginRegister, EndNotify, EndRegister, EndRegisterNotified, Look, LookFinished, StartPoll, AnswerPending, AnswerReady, DropFuture, StoreOutput, DropOutput, HandOutOutput, CloneAwaiter, RefuseClone, StoreAwaiter, TakeAwaiter, WakeAwaiter, DropAwaiter, HandOver, EmptySlots, RefuseGain, EndCall}
+
+-- what the three slots hold: the future, the output, and the awaiter's clone of that poll
+pub record Slots : Type 0 where
+  pub future : Bool
+  pub output : Bool
+  pub awaiter : Option ℕ
+
+-- what a party finds: the limit, the word, the slots, and whether a poll of the future is between its start and its answer
+pub record Scene : Type 0 where
+  pub limit : ℕ
+  pub word : State
+  pub slots : Slots
+  pub polling : Bool
+
+-- what a party leaves: the word, the slots, its own next position, the parties that it adds, and what is told of it, newest first
+pub record Outcome : Type 0 where
+  pub word : State
+  pub slots : Slots
+  pub next : Position
+  pub born : List Position
+  pub told : List Event
+
+abbrev pub when : Bool → Outcome → Option Outcome
+when b o = if b then Some o else None
+
+-- a step that touches no slot
+abbrev pub steps : Scene → State → Position → List Position → List Event → Outcome
+steps s w next born told = record { word = w; slots = s.slots; next = next; born = born; told = told }
+
+-- an act on the slots
+abbrev pub keeps : Scene → State → Slots → Position → List Event → Outcome
+keeps s w slots next told = record { word = w; slots = slots; next = next; born = []; told = told }
+
+-- a reference may be gained by a waker, a Runnable, or a lent waker while it is lent
+abbrev pub may_gain : Scene → Rest → Bool
+may_gain s Runnable = true
+may_gain s Waker = true
+may_gain s Lent = s.polling
+may_gain s Ended = false
+may_gain s (Task i) = false
+
+abbrev pub may_wake : Scene → Rest → Bool
+may_wake s Runnable = false
+may_wake s Waker = true
+may_wake s Lent = s.polling
+may_wake s Ended = false
+may_wake s (Task i) = false
+
+-- the way on once an awaiter was taken, or was not
+abbrev pub goes_on : Option ℕ → Way → Position
+goes_on hand OfRun = GivingUp hand (Ran false)
+goes_on (Some i) OfDrop = AwaiterInHand i OfDrop
+goes_on None OfDrop = GivingUp None Nothing
+goes_on (Some i) (OfCancel n) = AwaiterInHand i (OfCancel n)
+goes_on None (OfCancel n) = Leaving Nothing (Task n)
+goes_on (Some i) (OfPoll n) = AwaiterInHand i (OfPoll n)
+goes_on None (OfPoll n) = Answering n IsReady
+goes_on (Some i) (OfClaim n) = AwaiterInHand i (OfClaim n)
+goes_on None (OfClaim n) = Claimer n
+
+-- an awaiter is to be taken where AWAITER was found
+abbrev pub notifies : Bool → Way → Position
+notifies true way = Notifier way
+notifies false way = goes_on None way
+
+abbrev pub cancels_after : Bool → ℕ → After
+cancels_after true n = ThenNotifies n
+cancels_after false n = ThenTask n
+
+-- .. and once the Runnable was handed over
+abbrev pub goes_after : After → Position
+goes_after (ThenEnds answer) = Leaving answer Ended
+goes_after (ThenTask n) = Leaving Nothing (Task n)
+goes_after (ThenNotifies n) = Notifier (OfCancel n)
+
+-- .. and once the awaiter in hand was woken or dropped
+abbrev pub goes_off : Way → Position
+goes_off OfRun = Leaving (Ran false) Ended
+goes_off OfDrop = GivingUp None Nothing
+goes_off (OfCancel n) = Leaving Nothing (Task n)
+goes_off (OfPoll n) = Answering n IsReady
+goes_off (OfClaim n) = Claimer n
+
+-- a ready poll may drop the awaiter in place of waking it
+abbrev pub may_drop : Way → Bool
+may_drop OfRun = false
+may_drop OfDrop = false
+may_drop (OfCancel n) = false
+may_drop (OfPoll n) = true
+may_drop (OfClaim n) = true
+
+abbrev pub after_giving_up : Option ℕ → Answer → Position
+after_giving_up (Some i) answer = AwaiterInHand i OfRun
+after_giving_up None answer = Leaving answer Ended
+
+-- where a poll of the Task goes by the word that its first load found, and its second, after it registered
+abbrev pub first_look : State → ℕ → Position
+first_look w i = if w.closed && not (w.scheduled || w.running) then Notifier (OfPoll i) else Registrar i
+
+abbrev pub second_look : State → ℕ → Position
+second_look w i =
+    if w.closed then (if w.scheduled || w.running then Answering i IsPending else Notifier (OfPoll i))
+    else (if w.completed then Claiming i else Answering i IsPending)
+
+-- the awaiter that stood in the slot before is dropped
+abbrev pub after_storing : ℕ → Option ℕ → Position
+after_storing i (Some old) = OldAwaiterInHand i old
+after_storing i None = Registered i
+
+-- the events of a step that sets closed, which are told once
+abbrev pub closing : State → List Event → List Event
+closing w told = if w.closed then told else Closes ∷ told
+
+abbrev pub ended_clone : Option ℕ → List Event
+ended_clone (Some i) = CloneEnded i ∷ []
+ended_clone None = []
+
+-- what the party may do, act by act, where v is the word that it writes: None where it may not
+abbrev pub goes : Scene → State → Act → Position → Option Outcome
+-- 1 reference gained
+goes s v GainReference (At r) = when (may_gain s r) (steps s v (Leaving (Gained true) r) (At Waker ∷ []) (WakerGained ∷ []))
+goes s v FindLimit (At r) = when (may_gain s r) (steps s v (Leaving (Gained false) r) [] [])
+goes s v RefuseGain (At r) = when (may_gain s r) (steps s v (Leaving (Gained false) r) [] [])
+-- 2 reference given up
+goes s v DropWaker (At Waker) = Some (steps s v (Leaving Nothing Ended) [] (WakerGivenUp ∷ []))
+goes s v DropLastWaker (At Waker) = Some (steps s v (Emptier None Nothing) [] (WakerGivenUp ∷ []))
+goes s v OrphanTask (At Waker) = Some (steps s v OrphanHolder [] (WakerGivenUp ∷ []))
+goes s v CloseOrphan OrphanHolder = Some (steps s v (Deliverer false (ThenEnds Nothing)) [] (Made ByClosing ∷ Closes ∷ []))
+goes s v GiveUpReference (GivingUp hand answer) = Some (steps s v (after_giving_up hand answer) [] [])
+goes s v GiveUpLastReference (GivingUp hand answer) = Some (steps s v (Emptier hand answer) [] [])
+-- 3 wake
+goes s v WakeOver (At r) = when (may_wake s r) (steps s v (Leaving Nothing r) [] (Wakes ∷ []))
+goes s v WakeScheduled (At r) = when (may_wake s r) (steps s v (Leaving Nothing r) [] (Wakes ∷ []))
+goes s v WakeRunning (At r) = when (may_wake s r) (steps s v (Leaving Nothing r) [] (Wakes ∷ []))
+goes s v WakeIdle (At r) = when (may_wake s r) (steps s v (Leaving Nothing r) (Deliverer false (ThenEnds Nothing) ∷ []) (CallBegins ∷ Made ByWake ∷ Wakes ∷ []))
+-- 4 close
+goes s v DiscardOpen (At Runnable) = Some (steps s v (FutureInHand DroppedRunnable) [] (Closes ∷ TakenUp ∷ []))
+goes s v DiscardClosed (At Runnable) = Some (steps s v (FutureInHand DroppedRunnable) [] (TakenUp ∷ []))
+goes s v CancelOver (At (Task n)) = Some (steps s v (Leaving Nothing (Task n)) [] [])
+goes s v CancelBusy (At (Task n)) = let w = s.word in Some (steps s v (notifies w.awaiter (OfCancel n)) [] (Closes ∷ []))
+goes s v CancelIdle (At (Task n)) = let w = s.word in Some (steps s v (Deliverer false (cancels_after w.awaiter n)) [] (Made ByClosing ∷ Closes ∷ []))
+goes s v ClaimOutput (At (Task n)) = let w = s.word in Some (steps s v (notifies w.awaiter (OfClaim (n + 1))) [] (Closes ∷ Polls (n + 1) ∷ []))
+goes s v ClaimOutput (Claiming n) = let w = s.word in Some (steps s v (notifies w.awaiter (OfClaim n)) [] (Closes ∷ []))
+goes s v GiveUpOutput (At (Task n)) = Some (steps s v OutputCloser [] (Closes ∷ []))
+goes s v DetachOrphan (At (Task n)) = Some (steps s v (Deliverer false (ThenEnds Nothing)) [] (Made ByClosing ∷ Closes ∷ TaskGivenUp ∷ []))
+goes s v DetachLast (At (Task n)) = Some (steps s v (Emptier None Nothing) [] (TaskGivenUp ∷ []))
+goes s v Detach (At (Task n)) = Some (steps s v (Leaving Nothing Ended) [] (TaskGivenUp ∷ []))
+goes s v DetachLast Detacher = Some (steps s v (Emptier None Nothing) [] (TaskGivenUp ∷ []))
+goes s v Detach Detacher = Some (steps s v (Leaving Nothing Ended) [] (TaskGivenUp ∷ []))
+-- 5 run start
+goes s v TakeUpClosed (At Runnable) = Some (steps s v (FutureInHand ClosedRun) [] (TakenUp ∷ []))
+goes s v StartRun (At Runnable) = Some (steps s v Starting [] (TakenUp ∷ []))
+-- 6 run end
+goes s v Unschedule (FutureGone ClosedRun) = let w = s.word in Some (steps s v (notifies w.awaiter OfRun) [] (RunEnded ∷ []))
+goes s v Unschedule (FutureGone DroppedRunnable) = let w = s.word in Some (steps s v (notifies w.awaiter OfDrop) [] (RunEnded ∷ []))
+goes s v Complete Stored = let w = s.word in Some (steps s v (if w.closed then OutputInHand w.awaiter else notifies w.awaiter OfRun) [] (Completes ∷ RunEnded ∷ []))
+goes s v CompleteDetached Stored = let w = s.word in Some (steps s v (OutputInHand w.awaiter) [] (closing w (Completes ∷ RunEnded ∷ [])))
+goes s v EndClosed Cleared = let w = s.word in Some (steps s v (notifies w.awaiter OfRun) [] (RunEnded ∷ []))
+goes s v Reschedule Pending = Some (steps s v (Deliverer true (ThenEnds (Ran true))) [] (Made ByWake ∷ RunEnded ∷ []))
+goes s v EndIdle Pending = Some (steps s v (Leaving (Ran false) Ended) [] (RunEnded ∷ []))
+goes s v EndOrphaned Pending = Some (steps s v (Deliverer false (ThenEnds (Ran false))) [] (Made ByClosing ∷ Closes ∷ RunEnded ∷ []))
+-- 7 handshake begin
+goes s v BeginNotify (Notifier way) = Some (steps s v (Taker way) [] [])
+goes s v MissNotify (Notifier way) = Some (steps s v (goes_on None way) [] [])
+goes s v FindNotify (HasClone i) = Some (steps s v (RefusedClone i) [] (Woken i ∷ []))
+goes s v BeginRegister (HasClone i) = Some (steps s v (Storing i) [] [])
+-- 8 handshake end
+goes s v EndNotify (Releaser hand way) = Some (steps s v (goes_on hand way) [] [])
+goes s v EndRegister (Registered i) = Some (steps s v (Looking i) [] [])
+goes s v EndRegisterNotified (TookBack i) = Some (steps s v (CloneInHand i) [] [])
+-- loads
+goes s v Look (At (Task n)) = let w = s.word in when (not (w.completed && not w.closed)) (steps s v (first_look w (n + 1)) [] (Polls (n + 1) ∷ []))
+goes s v Look (Looking i) = let w = s.word in Some (steps s v (second_look w i) [] [])
+goes s v LookFinished (At (Task n)) = Some (steps s v (Leaving (Finished (not (is_open s.word))) (Task n)) [] [])
+-- private acts
+goes s v StartPoll Starting = Some (steps s v Polling (At Lent ∷ []) (Started ∷ []))
+goes s v AnswerPending Polling = Some (steps s v Pending [] (AnsweredPending ∷ []))
+goes s v AnswerReady Polling = Some (steps s v Ready [] (AnsweredReady ∷ []))
+goes s v DropFuture Ready = Some (keeps s v (record (s.slots) { future = false }) Unstored (FutureDropped ∷ []))
+goes s v DropFuture Pending = let w = s.word in when (w.closed) (keeps s v (record (s.slots) { future = false }) Cleared (FutureDropped ∷ []))
+goes s v DropFuture (FutureInHand ClosedRun) = Some (keeps s v (record (s.slots) { future = false }) (FutureGone ClosedRun) (FutureDropped ∷ []))
+goes s v DropFuture (FutureInHand DroppedRunnable) = Some (keeps s v (record (s.slots) { future = false }) (FutureGone DroppedRunnable) (FutureDropped ∷ []))
+goes s v StoreOutput Unstored = Some (keeps s v (record (s.slots) { output = true }) Stored [])
+goes s v DropOutput (OutputInHand due) = Some (keeps s v (record (s.slots) { output = false }) (notifies due OfRun) (OutputDropped ∷ []))
+goes s v DropOutput OutputCloser = Some (keeps s v (record (s.slots) { output = false }) Detacher (OutputDropped ∷ []))
+goes s v HandOutOutput (Claimer i) = Some (keeps s v (record (s.slots) { output = false }) (Answering i HasOutput) (OutputTaken ∷ []))
+goes s v CloneAwaiter (Registrar i) = Some (steps s v (HasClone i) [] (Cloned i ∷ []))
+goes s v RefuseClone (Registrar i) = Some (steps s v (Answering i IsRefused) [] [])
+goes s v StoreAwaiter (Storing i) = Some (keeps s v (record (s.slots) { awaiter = Some i }) (after_storing i (s.slots.awaiter)) [])
+goes s v WakeAwaiter (CloneInHand i) = Some (steps s v (Looking i) [] (CloneEnded i ∷ Woken i ∷ []))
+goes s v DropAwaiter (OldAwaiterInHand i old) = Some (steps s v (Registered i) [] (CloneEnded old ∷ []))
+goes s v DropAwaiter (RefusedClone i) = Some (steps s v (Looking i) [] (CloneEnded i ∷ []))
+goes s v TakeAwaiter (Registered i) = let w = s.word in when (w.notifying) (keeps s v (record (s.slots) { awaiter = None }) (TookBack i) [])
+goes s v TakeAwaiter (Taker way) = Some (keeps s v (record (s.slots) { awaiter = None }) (Releaser (s.slots.awaiter) way) [])
+goes s v WakeAwaiter (AwaiterInHand i way) = Some (steps s v (goes_off way) [] (CloneEnded i ∷ Woken i ∷ []))
+goes s v DropAwaiter (AwaiterInHand i way) = when (may_drop way) (steps s v (goes_off way) [] (CloneEnded i ∷ []))
+goes s v HandOver (At Runnable) = Some (steps s v (Leaving Nothing Ended) (At Runnable ∷ []) (HandedOver false ∷ []))
+goes s v HandOver (Deliverer woken next) = Some (steps s v (goes_after next) (At Runnable ∷ []) (HandedOver woken ∷ []))
+goes s v EmptySlots (Emptier hand answer) = Some (keeps s v (record (s.slots) { awaiter = None }) (after_giving_up hand answer) (Empties ∷ ended_clone (s.slots.awaiter)))
+goes s v EndCall (Leaving answer rest) = Some (steps s v (At rest) [] (CallEnds answer ∷ []))
+goes s v EndCall (Answering i answer) = Some (steps s v (At (Task i)) [] (PollEnds i answer ∷ []))
+goes s v _ _ = None
+
+-- .. where the word found is the row's
+abbrev pub where_found : Bool → Option Outcome → Option Outcome
+where_found b None = None
+where_found b (Some o) = when b o
+
+abbrev pub rule : Scene → Act → Position → Option Outcome
+rule s act p = where_found (found s.limit act s.word) (goes s (written act s.word) act p)

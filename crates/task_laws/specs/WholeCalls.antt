@@ -1,0 +1,35 @@
+-- A call that is made whole, with no call inside.
+use Rattle.std.specs.Prelude.{◌≡◌, ℕ, ◌⊎◌, Bool, true, false, ◌&&◌, List, [], ◌∷◌, ◌++◌, Option, Some, None}
+use Rattle.task_laws.specs.Machine.{Step}
+use Rattle.task_laws.specs.Abstract.{Call, Frame, Left, begin, go, follow, Move, Begin, Go}
+use Rattle.task_laws.specs.Whole.{Whole, whole, whole_from, reading, read}
+
+-- the call goes on to the next mark, or has ended
+abbrev pub to_next : Left → Option Frame → Bool → Left
+to_next l None answer = l
+to_next l (Some f) answer = let next = go l.cell f answer in record next { told = next.told ++ l.told }
+
+-- .. with an answer of foreign code at each mark
+abbrev pub alone : Left → List Bool → Left
+alone l [] = l
+alone l (answer ∷ answers) = alone (to_next l l.frame answer) answers
+
+-- the moves of such a call, and whether it took all these answers
+abbrev pub made : List Bool → List Move → List Move
+made [] moves = moves
+made (answer ∷ answers) moves = made answers (Go answer ∷ moves)
+
+abbrev pub is_some : Option Frame → Bool
+is_some (Some f) = true
+is_some None = false
+
+abbrev pub takes_all : Left → List Bool → Bool
+takes_all l [] = true
+takes_all l (answer ∷ answers) = is_some l.frame && takes_all (to_next l l.frame answer) answers
+
+-- Wherever a whole run makes a call whole, with no call inside, it leads to the reading to which the abstract call leads. Where other calls are open below it, the last answers must be the call's own.
+abbrev pub WholeCallsAgree : Type 0
+WholeCallsAgree = (limit : ℕ) (steps more : List Step) (w v : Whole) (call : Call) (answers : List Bool)
+    → whole limit steps ≡ Some w → w.cut ≡ true → whole_from (Some w) more ≡ Some v → v.cut ≡ true
+    → v.moves ≡ made answers (Begin call ∷ w.moves) → (w.stack ≡ []) ⊎ (takes_all (begin limit (reading w.machine) call) answers ≡ true)
+    → read v ≡ follow (alone (begin limit (reading w.machine) call) answers) (read w).frames (read w).told

@@ -1,0 +1,17 @@
+//! The machine of moves, and the laws of every interleaving.
+#![tactic(auto)]
+
+pub mod positions;
+
+ghost use Rattle.task_laws.specs.Theorem.{LawsHold};
+ghost use Rattle.task_laws.specs.Whole.{WholeRunsAgree};
+ghost use Rattle.task_laws.specs.WholeCalls.{WholeCallsAgree};
+ghost use Rattle.task_laws.specs.LocalRows.{EachRowAgrees};
+
+/// For every limit and every list of steps that the machine allows from the opening state, the laws hold of the state reached.
+pub fn laws()
+    ensures interleavings { LawsHold }
+    ensures whole_runs { WholeRunsAgree }
+    ensures whole_calls { WholeCallsAgree }
+    ensures local_rows { EachRowAgrees }
+{}

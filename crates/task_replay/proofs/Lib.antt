@@ -1,0 +1,4 @@
+pub mod Modest
+pub mod Replayed
+pub mod Playing
+pub mod Refused
