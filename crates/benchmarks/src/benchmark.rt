@@ -5,7 +5,7 @@ mod spawning;
 mod waking;
 
 use crate::failure::Failure;
-use std::alloc::Global;
+use std::alloc::Allocator;
 use std::sync::Wait;
 
 /// A benchmark of one thread, by what one operation of it is.
@@ -84,6 +84,20 @@ impl Benchmark {
         }
     }
 
+    /// The name under which the allocations of one operation are printed, where they are.
+    pub fn heap_name(self) -> Option<&'static str> {
+        match self {
+            Benchmark::SpawnRunPollDrop => Some("a_heap"),
+            Benchmark::WakeRunQueue => Some("b_heap"),
+            Benchmark::CloneDrop => Some("c_heap"),
+            Benchmark::SpawnDropDrop => Some("d_heap"),
+            Benchmark::Execute1000 => Some("e_executor_n1000_k0_heap_per_task"),
+            Benchmark::Execute1000Yield10 => Some("e_executor_n1000_k10_heap_per_task"),
+            Benchmark::Execute10000Yield10 => Some("e_executor_n10000_k10_heap_per_task"),
+            _ => None,
+        }
+    }
+
     /// The benchmark of that name.
     pub fn named(name: &str) -> Option<Benchmark> {
         for benchmark in Benchmark::ALL {
@@ -95,10 +109,10 @@ impl Benchmark {
     }
 
     /// Does `count` operations, or the next whole number of executors' tasks: how many it did.
-    pub fn perform<R: Wait + Drop + Copy>(
+    pub fn perform<R: Wait + Drop + Copy, B: Allocator + Copy>(
         self,
         rt: R,
-        alloc: Global,
+        alloc: B,
         count: u64,
     ) -> Result<u64, Failure> {
         match self {

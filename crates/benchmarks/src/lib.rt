@@ -1,10 +1,12 @@
-//! Benchmarks of the task cell: what one operation of each is, and how long it takes.
+//! Benchmarks of the task cell: what one operation of each is, how long it takes, and what it asks of the allocator.
 #![tactic(auto)]
 
 pub mod benchmark;
 pub mod contended;
+pub mod counting;
 pub mod failure;
 mod futures;
 pub mod measure;
 mod queue;
+pub mod requests;
 mod slot;

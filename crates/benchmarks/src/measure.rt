@@ -8,7 +8,7 @@ use std::rt::Clock;
 use std::sync::Wait;
 use std::time::{Duration, Instant};
 
-/// A time in hundredths of a nanosecond, which is shown as nanoseconds.
+/// A number in hundredths, as of a nanosecond, which is shown with two decimals.
 #[derive(Drop)]
 pub struct Hundredths(pub u64);
 

@@ -5,15 +5,15 @@ use crate::futures::Nobody;
 use async_task::{
     ParkedRunnable, Runnable, Schedule, ScheduleInfo, Task, TaskWaker, Yields, spawn,
 };
-use std::alloc::{AllocError, Global};
+use std::alloc::{AllocError, Allocator, Global};
 use std::collections::VecDeque;
 use std::sync::{Mutex, Wait};
 
 /// A queue of the Runnables of one type of future.
-pub struct Queue<R: Wait + Drop + Copy, F: Yields> {
+pub struct Queue<R: Wait + Drop + Copy, F: Yields, B: Allocator = Global> {
     rt: R,
-    alloc: Global,
-    waiting: Mutex<VecDeque<ParkedRunnable<R, F, ToQueue, (), Nobody>>>,
+    alloc: B,
+    waiting: Mutex<VecDeque<ParkedRunnable<R, F, ToQueue, (), Nobody, B>, B>>,
 }
 
 /// The schedule value of tasks whose Runnables go to the queue that they carry.
@@ -21,28 +21,37 @@ pub struct Queue<R: Wait + Drop + Copy, F: Yields> {
 pub struct ToQueue;
 
 /// A Runnable that carries a queue.
-pub type QueueRunnable<'x, R, F> = Runnable<R, F, ToQueue, (), Nobody, &'x Queue<R, F>>;
+pub type QueueRunnable<'x, R, F, B> = Runnable<R, F, ToQueue, (), Nobody, &'x Queue<R, F, B>, B>;
 
 /// A Task that carries a queue.
-pub type QueueTask<'x, R, F> = Task<R, F, ToQueue, (), Nobody, &'x Queue<R, F>>;
+pub type QueueTask<'x, R, F, B> = Task<R, F, ToQueue, (), Nobody, &'x Queue<R, F, B>, B>;
 
 /// A waker that carries a queue.
-pub type QueueWaker<'x, R, F> = TaskWaker<R, F, ToQueue, (), Nobody, &'x Queue<R, F>>;
+pub type QueueWaker<'x, R, F, B = Global> = TaskWaker<
+    R,
+    F,
+    ToQueue,
+    (),
+    Nobody,
+    &'x Queue<R, F, B>,
+    B,
+>;
 
 /// A Runnable and its Task.
-pub type QueueHandles<'x, R, F> = (QueueRunnable<'x, R, F>, QueueTask<'x, R, F>);
+pub type QueueHandles<'x, R, F, B> = (QueueRunnable<'x, R, F, B>, QueueTask<'x, R, F, B>);
 
-impl<'x, R: Wait + Drop + Copy, F: Yields> Schedule<QueueRunnable<'x, R, F>> for ToQueue {
+impl<'x, R: Wait + Drop + Copy, F: Yields, B: Allocator + Copy> Schedule<QueueRunnable<'x, R, F, B>>
+    for ToQueue {
     ghost scheduled = { λ _ _ _. ⊤ };
 
-    fn schedule(&self, runnable: QueueRunnable<'x, R, F>, _info: ScheduleInfo) {
+    fn schedule(&self, runnable: QueueRunnable<'x, R, F, B>, _info: ScheduleInfo) {
         runnable.around().push(runnable);
     }
 }
 
-impl<R: Wait + Drop + Copy, F: Yields> Queue<R, F> {
+impl<R: Wait + Drop + Copy, F: Yields, B: Allocator + Copy> Queue<R, F, B> {
     /// An empty queue.
-    pub fn new(rt: R, alloc: Global) -> Queue<R, F> {
+    pub fn new(rt: R, alloc: B) -> Queue<R, F, B> {
         Queue {
             rt,
             alloc,
@@ -56,7 +65,7 @@ impl<R: Wait + Drop + Copy, F: Yields> Queue<R, F> {
     }
 
     /// Spawns a task.
-    pub fn spawn(&self, future: F) -> Result<QueueHandles<'_, R, F>, AllocError> {
+    pub fn spawn(&self, future: F) -> Result<QueueHandles<'_, R, F, B>, AllocError> {
         match spawn(self.rt, self.alloc, future, ToQueue, self) {
             Ok(handles) => Ok(handles),
             Err(_) => Err(AllocError),
@@ -64,7 +73,7 @@ impl<R: Wait + Drop + Copy, F: Yields> Queue<R, F> {
     }
 
     /// Pushes a Runnable. Where there is no memory it is dropped, which cancels its task.
-    pub fn push<'x>(&'x self, runnable: QueueRunnable<'x, R, F>) {
+    pub fn push<'x>(&'x self, runnable: QueueRunnable<'x, R, F, B>) {
         let pushed = self.waiting.lock(&self.rt).push_back(runnable.park());
         if let Err(refused) = pushed {
             drop(refused.value.unpark(self));
@@ -72,14 +81,14 @@ impl<R: Wait + Drop + Copy, F: Yields> Queue<R, F> {
     }
 
     /// Takes the Runnable that has waited longest.
-    pub fn pop(&self) -> Option<QueueRunnable<'_, R, F>> {
+    pub fn pop(&self) -> Option<QueueRunnable<'_, R, F, B>> {
         let parked = self.waiting.lock(&self.rt).pop_front()?;
         Some(parked.unpark(self))
     }
 }
 
 // A parked handle cannot be dropped: what is left in the queue is unparked first.
-impl<R: Wait + Drop + Copy, F: Yields> Drop for Queue<R, F> {
+impl<R: Wait + Drop + Copy, F: Yields, B: Allocator> Drop for Queue<R, F, B> {
     fn drop(self) {
         let Queue {
             rt: _,

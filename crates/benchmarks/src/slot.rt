@@ -3,15 +3,15 @@ ghost use Rattle.std.specs.Prelude.{⊤};
 
 use crate::futures::Nobody;
 use async_task::{ParkedRunnable, Runnable, Schedule, ScheduleInfo, Task, Yields, spawn};
-use std::alloc::{AllocError, Global};
+use std::alloc::{AllocError, Allocator};
 use std::cell::Cell;
 use std::sync::Wait;
 
 /// A place for one Runnable.
-pub struct Slot<R: Wait + Drop + Copy, F: Yields> {
+pub struct Slot<R: Wait + Drop + Copy, F: Yields, B: Allocator> {
     rt: R,
-    alloc: Global,
-    held: Cell<Option<ParkedRunnable<R, F, ToSlot, (), Nobody>>>,
+    alloc: B,
+    held: Cell<Option<ParkedRunnable<R, F, ToSlot, (), Nobody, B>>>,
 }
 
 /// The schedule value of tasks whose Runnables go to the place that they carry.
@@ -19,25 +19,26 @@ pub struct Slot<R: Wait + Drop + Copy, F: Yields> {
 pub struct ToSlot;
 
 /// A Runnable that carries a place.
-pub type SlotRunnable<'x, R, F> = Runnable<R, F, ToSlot, (), Nobody, &'x Slot<R, F>>;
+pub type SlotRunnable<'x, R, F, B> = Runnable<R, F, ToSlot, (), Nobody, &'x Slot<R, F, B>, B>;
 
 /// A Task that carries a place.
-pub type SlotTask<'x, R, F> = Task<R, F, ToSlot, (), Nobody, &'x Slot<R, F>>;
+pub type SlotTask<'x, R, F, B> = Task<R, F, ToSlot, (), Nobody, &'x Slot<R, F, B>, B>;
 
 /// A Runnable and its Task.
-pub type SlotHandles<'x, R, F> = (SlotRunnable<'x, R, F>, SlotTask<'x, R, F>);
+pub type SlotHandles<'x, R, F, B> = (SlotRunnable<'x, R, F, B>, SlotTask<'x, R, F, B>);
 
-impl<'x, R: Wait + Drop + Copy, F: Yields> Schedule<SlotRunnable<'x, R, F>> for ToSlot {
+impl<'x, R: Wait + Drop + Copy, F: Yields, B: Allocator + Copy> Schedule<SlotRunnable<'x, R, F, B>>
+    for ToSlot {
     ghost scheduled = { λ _ _ _. ⊤ };
 
-    fn schedule(&self, runnable: SlotRunnable<'x, R, F>, _info: ScheduleInfo) {
+    fn schedule(&self, runnable: SlotRunnable<'x, R, F, B>, _info: ScheduleInfo) {
         runnable.around().put(runnable);
     }
 }
 
-impl<R: Wait + Drop + Copy, F: Yields> Slot<R, F> {
+impl<R: Wait + Drop + Copy, F: Yields, B: Allocator + Copy> Slot<R, F, B> {
     /// An empty place.
-    pub fn new(rt: R, alloc: Global) -> Slot<R, F> {
+    pub fn new(rt: R, alloc: B) -> Slot<R, F, B> {
         Slot {
             rt,
             alloc,
@@ -46,7 +47,7 @@ impl<R: Wait + Drop + Copy, F: Yields> Slot<R, F> {
     }
 
     /// Spawns a task.
-    pub fn spawn(&self, future: F) -> Result<SlotHandles<'_, R, F>, AllocError> {
+    pub fn spawn(&self, future: F) -> Result<SlotHandles<'_, R, F, B>, AllocError> {
         match spawn(self.rt, self.alloc, future, ToSlot, self) {
             Ok(handles) => Ok(handles),
             Err(_) => Err(AllocError),
@@ -54,21 +55,21 @@ impl<R: Wait + Drop + Copy, F: Yields> Slot<R, F> {
     }
 
     /// Puts a Runnable there, and drops the one that was there.
-    pub fn put<'x>(&'x self, runnable: SlotRunnable<'x, R, F>) {
+    pub fn put<'x>(&'x self, runnable: SlotRunnable<'x, R, F, B>) {
         if let Some(previous) = self.held.replace(Some(runnable.park())) {
             drop(previous.unpark(self));
         }
     }
 
     /// Takes the Runnable away.
-    pub fn take(&self) -> Option<SlotRunnable<'_, R, F>> {
+    pub fn take(&self) -> Option<SlotRunnable<'_, R, F, B>> {
         let parked = self.held.replace(None)?;
         Some(parked.unpark(self))
     }
 }
 
 // A parked handle cannot be dropped: one that is left is unparked first.
-impl<R: Wait + Drop + Copy, F: Yields> Drop for Slot<R, F> {
+impl<R: Wait + Drop + Copy, F: Yields, B: Allocator> Drop for Slot<R, F, B> {
     fn drop(self) {
         let Slot {
             rt: _,

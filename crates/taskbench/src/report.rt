@@ -6,6 +6,7 @@ use benchmarks::benchmark::Benchmark;
 use benchmarks::contended::Contention;
 use benchmarks::failure::Failure;
 use benchmarks::measure::{self, Hundredths};
+use benchmarks::requests;
 use std::alloc::Global;
 use std::io;
 use std::rt::Clock;
@@ -15,6 +16,7 @@ use std::thread::Threads;
 /// Does what the arguments ask for, and answers the status.
 ///
 /// Without arguments it does nothing. Times are printed on `out`, a line for each benchmark, and its name on `err` before it is measured.
+/// After the benchmarks of one thread stand the allocations and bytes of one operation, of those that have a name for them.
 /// The status is 0; 1 where a benchmark or a writer failed, which is told on `err`; and 2, with a line on `err`, where it is not known what is asked for.
 pub fn answer<R, W: io::Write, E: io::Write>(
     rt: R,
@@ -59,7 +61,7 @@ fn status_of<T: Drop, E: io::Write>(outcome: Result<T, Failure>, err: &mut E) ->
     }
 }
 
-// Measures all benchmarks.
+// Measures all benchmarks, and counts what those of one thread ask of the allocator.
 fn print_all<R, W: io::Write, E: io::Write>(
     rt: R,
     alloc: Global,
@@ -73,9 +75,28 @@ where
     for benchmark in Benchmark::ALL {
         print_time(rt, alloc, benchmark, repetitions, out, err)?;
     }
+    print_all_requests(rt, alloc, out, err)?;
     for contention in Contention::ALL {
         for threads in [1, 2, 4] {
             print_throughput(rt, alloc, contention, threads, repetitions, out, err)?;
+        }
+    }
+    Ok(())
+}
+
+// Counts what an operation asks of the allocator, for each benchmark that has a name for it.
+fn print_all_requests<R, W: io::Write, E: io::Write>(
+    rt: R,
+    alloc: Global,
+    out: &mut W,
+    err: &mut E,
+) -> Result<(), Failure>
+where
+    R: Wait + Drop + Copy,
+{
+    for benchmark in Benchmark::ALL {
+        if let Some(name) = benchmark.heap_name() {
+            print_requests(rt, alloc, benchmark, name, out, err)?;
         }
     }
     Ok(())
@@ -99,6 +120,27 @@ where
     let median = Hundredths(time.median);
     let least = Hundredths(time.least);
     writeln!(out, "{name} {median} min {least}")?;
+    out.flush()?;
+    Ok(())
+}
+
+// Counts what an operation of a benchmark asks of the allocator and prints a line.
+fn print_requests<R, W: io::Write, E: io::Write>(
+    rt: R,
+    alloc: Global,
+    benchmark: Benchmark,
+    name: &str,
+    out: &mut W,
+    err: &mut E,
+) -> Result<(), Failure>
+where
+    R: Wait + Drop + Copy,
+{
+    writeln!(err, "{name}")?;
+    let counted = requests::count_requests(rt, alloc, benchmark)?;
+    let allocations = counted.allocations;
+    let bytes = counted.bytes;
+    writeln!(out, "{name} allocations {allocations} bytes {bytes}")?;
     out.flush()?;
     Ok(())
 }

@@ -4,8 +4,10 @@ use crate::asked::{Request, asked};
 use crate::report::answer;
 use benchmarks::benchmark::Benchmark;
 use benchmarks::contended::Contention;
+use benchmarks::counting::Counting;
 use benchmarks::failure::Failure;
 use benchmarks::measure::{Hundredths, hundredths_of_one, summarize};
+use benchmarks::requests::count_requests;
 use std::alloc::{AllocError, AllocFailed};
 use std::io;
 use std::process::Abort;
@@ -31,6 +33,47 @@ fn an_executor_is_played_to_its_end(rt: HostRuntime) {
 fn each_contention_is_measured(rt: HostRuntime) {
     for contention in Contention::ALL {
         assert!(rt; contention.measure(rt, rt.alloc(), 2, 1).is_ok());
+    }
+}
+
+// Five `u32` are 20 bytes, fourteen 56, and a `u64` is 8. A row that grows is a new block, and what is given back is not counted.
+#[test]
+fn blocks_are_counted_with_their_bytes(rt: HostRuntime) -> Result<(), Fail> {
+    let counting = Counting::new(rt.alloc());
+    assert_eq!(rt; (counting.allocations(), counting.bytes()), (0, 0));
+    let mut row = Vec::with_capacity(&counting, 5)?;
+    row.push(1u32)?;
+    assert_eq!(rt; (counting.allocations(), counting.bytes()), (1, 20));
+    drop(Box::new(&counting, 7u64)?);
+    assert_eq!(rt; (counting.allocations(), counting.bytes()), (2, 28));
+    row.try_reserve_exact(13)?;
+    assert_eq!(rt; (counting.allocations(), counting.bytes()), (3, 84));
+    drop(row);
+    assert_eq!(rt; (counting.allocations(), counting.bytes()), (3, 84));
+    Ok(())
+}
+
+// No machine has so much memory. The allocator below is asked too.
+#[test]
+fn a_refused_request_is_counted(rt: HostRuntime) {
+    let below = Counting::new(rt.alloc());
+    let above = Counting::new(&below);
+    let refused: Result<Vec<u8, _>, AllocError> = Vec::with_capacity(&above, 1 << 60);
+    assert!(rt; refused.is_err());
+    assert_eq!(rt; (above.allocations(), above.bytes()), (1, 1 << 60));
+    assert_eq!(rt; (below.allocations(), below.bytes()), (1, 1 << 60));
+}
+
+// A spawn allocates four times, and a clone of a waker never.
+#[test]
+fn an_operation_asks_for_what_its_calls_do(rt: HostRuntime) {
+    let expected = [(Benchmark::SpawnDropDrop, 400), (Benchmark::CloneDrop, 0)];
+    for (benchmark, allocations) in expected {
+        let Ok(counted) = count_requests(rt, rt.alloc(), benchmark) else {
+            panic!(rt; "nothing is refused")
+        };
+        assert_eq!(rt; counted.allocations.0, allocations);
+        assert_eq!(rt; counted.bytes.0 == 0, allocations == 0);
     }
 }
 

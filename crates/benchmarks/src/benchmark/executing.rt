@@ -3,7 +3,7 @@
 use crate::failure::Failure;
 use crate::futures::Yielding;
 use crate::queue::Queue;
-use std::alloc::{AllocError, Global};
+use std::alloc::{AllocError, Allocator};
 use std::sync::Wait;
 
 // Room in the queue: as many as the largest number of tasks.
@@ -11,9 +11,9 @@ const ROOM: usize = 10_000;
 
 /// Spawns and detaches `tasks` tasks, each of which gives way `yields` times, and runs all to their end; and this until there were `count` tasks.
 /// The answer is how many there were, which may be more.
-pub fn execute<R: Wait + Drop + Copy>(
+pub fn execute<R: Wait + Drop + Copy, B: Allocator + Copy>(
     rt: R,
-    alloc: Global,
+    alloc: B,
     tasks: u64,
     yields: u64,
     count: u64,
@@ -33,8 +33,8 @@ pub fn execute<R: Wait + Drop + Copy>(
 }
 
 // Spawns, detaches and schedules that many tasks.
-fn schedule_all<R: Wait + Drop + Copy>(
-    queue: &Queue<R, Yielding>,
+fn schedule_all<R: Wait + Drop + Copy, B: Allocator + Copy>(
+    queue: &Queue<R, Yielding, B>,
     tasks: u64,
     yields: u64,
 ) -> Result<(), AllocError> {
@@ -47,7 +47,7 @@ fn schedule_all<R: Wait + Drop + Copy>(
 }
 
 // Runs what is in the queue, until it is empty.
-fn run_all<R: Wait + Drop + Copy>(rt: R, queue: &Queue<R, Yielding>) {
+fn run_all<R: Wait + Drop + Copy, B: Allocator + Copy>(rt: R, queue: &Queue<R, Yielding, B>) {
     for _ in rt.forever() {
         let Some(runnable) = queue.pop() else {
             return;

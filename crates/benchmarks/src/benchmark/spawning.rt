@@ -4,13 +4,13 @@ use crate::failure::Failure;
 use crate::futures::{Nobody, Ready};
 use crate::queue::Queue;
 use async_task::TaskPoll;
-use std::alloc::Global;
+use std::alloc::Allocator;
 use std::sync::Wait;
 
 /// Spawns, runs to the output, polls the Task for it, and drops the Task.
-pub fn run_and_poll<R: Wait + Drop + Copy>(
+pub fn run_and_poll<R: Wait + Drop + Copy, B: Allocator + Copy>(
     rt: R,
-    alloc: Global,
+    alloc: B,
     count: u64,
 ) -> Result<(), Failure> {
     let queue = Queue::new(rt, alloc);
@@ -26,9 +26,9 @@ pub fn run_and_poll<R: Wait + Drop + Copy>(
 }
 
 /// Spawns, detaches, and runs to the output, which the run drops.
-pub fn detach_and_run<R: Wait + Drop + Copy>(
+pub fn detach_and_run<R: Wait + Drop + Copy, B: Allocator + Copy>(
     rt: R,
-    alloc: Global,
+    alloc: B,
     count: u64,
 ) -> Result<(), Failure> {
     let queue = Queue::new(rt, alloc);
@@ -41,9 +41,9 @@ pub fn detach_and_run<R: Wait + Drop + Copy>(
 }
 
 /// Spawns, polls the Task, which registers an awaiter, runs to the output, polls the Task for it, and drops the Task.
-pub fn poll_run_and_poll<R: Wait + Drop + Copy>(
+pub fn poll_run_and_poll<R: Wait + Drop + Copy, B: Allocator + Copy>(
     rt: R,
-    alloc: Global,
+    alloc: B,
     count: u64,
 ) -> Result<(), Failure> {
     let queue = Queue::new(rt, alloc);
@@ -61,7 +61,11 @@ pub fn poll_run_and_poll<R: Wait + Drop + Copy>(
 }
 
 /// Spawns, and drops the Runnable and then the Task.
-pub fn drop_both<R: Wait + Drop + Copy>(rt: R, alloc: Global, count: u64) -> Result<(), Failure> {
+pub fn drop_both<R: Wait + Drop + Copy, B: Allocator + Copy>(
+    rt: R,
+    alloc: B,
+    count: u64,
+) -> Result<(), Failure> {
     let queue = Queue::new(rt, alloc);
     for number in 0..count {
         let (runnable, task) = queue.spawn(Ready(number))?;

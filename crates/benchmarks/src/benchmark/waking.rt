@@ -5,13 +5,13 @@ use crate::futures::{Nobody, Pending, Ready, Yielding};
 use crate::queue::Queue;
 use crate::slot::Slot;
 use async_task::TaskPoll;
-use std::alloc::{AllocError, Global};
+use std::alloc::{AllocError, Allocator};
 use std::sync::Wait;
 
 /// Wakes the task and runs it, which goes through a place without a lock.
-pub fn wake_and_run_by_slot<R: Wait + Drop + Copy>(
+pub fn wake_and_run_by_slot<R: Wait + Drop + Copy, B: Allocator + Copy>(
     rt: R,
-    alloc: Global,
+    alloc: B,
     count: u64,
 ) -> Result<(), Failure> {
     let slot = Slot::new(rt, alloc);
@@ -29,9 +29,9 @@ pub fn wake_and_run_by_slot<R: Wait + Drop + Copy>(
 }
 
 /// Wakes the task and runs it, which goes through a queue under a lock.
-pub fn wake_and_run_by_queue<R: Wait + Drop + Copy>(
+pub fn wake_and_run_by_queue<R: Wait + Drop + Copy, B: Allocator + Copy>(
     rt: R,
-    alloc: Global,
+    alloc: B,
     count: u64,
 ) -> Result<(), Failure> {
     let queue = Queue::new(rt, alloc);
@@ -49,7 +49,11 @@ pub fn wake_and_run_by_queue<R: Wait + Drop + Copy>(
 }
 
 /// Runs a task whose poll wakes it, which goes through a place without a lock.
-pub fn wake_in_run<R: Wait + Drop + Copy>(rt: R, alloc: Global, count: u64) -> Result<(), Failure> {
+pub fn wake_in_run<R: Wait + Drop + Copy, B: Allocator + Copy>(
+    rt: R,
+    alloc: B,
+    count: u64,
+) -> Result<(), Failure> {
     let slot = Slot::new(rt, alloc);
     let (runnable, task) = slot.spawn(Yielding::new(u64::MAX))?;
     slot.put(runnable);
@@ -62,9 +66,9 @@ pub fn wake_in_run<R: Wait + Drop + Copy>(rt: R, alloc: Global, count: u64) -> R
 }
 
 /// Wakes a task that is scheduled.
-pub fn wake_scheduled<R: Wait + Drop + Copy>(
+pub fn wake_scheduled<R: Wait + Drop + Copy, B: Allocator + Copy>(
     rt: R,
-    alloc: Global,
+    alloc: B,
     count: u64,
 ) -> Result<(), Failure> {
     let queue = Queue::new(rt, alloc);
@@ -78,9 +82,9 @@ pub fn wake_scheduled<R: Wait + Drop + Copy>(
 }
 
 /// Wakes a task that is completed.
-pub fn wake_completed<R: Wait + Drop + Copy>(
+pub fn wake_completed<R: Wait + Drop + Copy, B: Allocator + Copy>(
     rt: R,
-    alloc: Global,
+    alloc: B,
     count: u64,
 ) -> Result<(), Failure> {
     let queue = Queue::new(rt, alloc);
@@ -95,7 +99,11 @@ pub fn wake_completed<R: Wait + Drop + Copy>(
 }
 
 /// Asks a Task whose task is completed whether it is finished.
-pub fn is_finished<R: Wait + Drop + Copy>(rt: R, alloc: Global, count: u64) -> Result<(), Failure> {
+pub fn is_finished<R: Wait + Drop + Copy, B: Allocator + Copy>(
+    rt: R,
+    alloc: B,
+    count: u64,
+) -> Result<(), Failure> {
     let queue = Queue::new(rt, alloc);
     let (runnable, mut task) = queue.spawn(Ready(1))?;
     runnable.run();
@@ -108,9 +116,9 @@ pub fn is_finished<R: Wait + Drop + Copy>(rt: R, alloc: Global, count: u64) -> R
 }
 
 /// Polls a Task whose task is scheduled, which registers the awaiter anew.
-pub fn register_awaiter<R: Wait + Drop + Copy>(
+pub fn register_awaiter<R: Wait + Drop + Copy, B: Allocator + Copy>(
     rt: R,
-    alloc: Global,
+    alloc: B,
     count: u64,
 ) -> Result<(), Failure> {
     let queue = Queue::new(rt, alloc);
@@ -125,9 +133,9 @@ pub fn register_awaiter<R: Wait + Drop + Copy>(
 }
 
 /// Clones a waker and drops the clone.
-pub fn clone_and_drop<R: Wait + Drop + Copy>(
+pub fn clone_and_drop<R: Wait + Drop + Copy, B: Allocator + Copy>(
     rt: R,
-    alloc: Global,
+    alloc: B,
     count: u64,
 ) -> Result<(), Failure> {
     let queue = Queue::new(rt, alloc);
