@@ -89,6 +89,11 @@ impl<'heap, R: Wait + Drop> Tray<'heap, R> {
         let parked = self.held.lock(&self.rt).take()?;
         Some(parked.unpark(self))
     }
+
+    // Takes the Runnable off the tray and runs it: what the run answers, or `None` where the tray is empty.
+    fn run_next(&self) -> Option<bool> {
+        Some(self.receive()?.run())
+    }
 }
 
 // A parked handle cannot be dropped: one that is left is unparked first.
@@ -159,17 +164,17 @@ fn build_in_blocks<R: Wait + Abort + Drop + Copy>(
     let builder = Builder::new().metadata(7u64).reference_limit(5);
     let refused = match builder.spawn(*rt, &heap, maker, scheduler, &tray) {
         Ok((runnable, task)) => {
-            assert_eq!(rt; calls.get(), 1);
             drop((runnable, task));
+            assert_eq!(rt; calls.get(), 1);
             return Ok(true);
         }
         Err(refused) => refused,
     };
-    assert_eq!(rt; heap.used(), 0);
-    assert_eq!(rt; calls.get(), 0);
-    assert_eq!(rt; counters.counts(), Counts::new(0, 0, 0, 0));
+    let counts = counters.counts();
     let builder = refused.builder;
     let shown = format!(in alloc; "{builder:?}")?;
+    assert_eq!(rt; (heap.used(), calls.get()), (0, 0));
+    assert_eq!(rt; counts, Counts::new(0, 0, 0, 0));
     assert_eq!(rt; shown.as_str(), "Builder { metadata: 7, limit: 5 }");
     Ok(false)
 }
@@ -233,19 +238,22 @@ fn drops_and_detaches_ask_for_no_memory(rt: HostRuntime) -> Result<(), Fail> {
     let (other, other_task) = spawn_in(&heap, &tray, &counters, Behaviour::Ready(1))?;
     let filling = fill(rt.alloc(), &heap)?;
     let used = heap.used();
-    assert_eq!(rt; *runnable.metadata(), 7);
+    let metadata = (*runnable.metadata(), *task.metadata());
     runnable.discard();
-    assert_eq!(rt; counters.counts(), Counts::new(0, 0, 1, 0));
-    assert!(rt; task.is_finished());
-    assert_eq!(rt; *task.metadata(), 7);
-    assert_eq!(rt; heap.used(), used);
+    let closed = (task.is_finished(), counters.counts(), heap.used());
     task.detach();
-    assert_eq!(rt; counters.counts(), Counts::new(0, 0, 1, 1));
+    let detached = counters.counts();
     other_task.detach();
-    assert_eq!(rt; counters.counts(), Counts::new(0, 0, 1, 1));
+    let other_detached = counters.counts();
     drop(other);
-    assert_eq!(rt; counters.counts(), Counts::new(0, 0, 2, 2));
     drop(filling);
+    assert_eq!(rt; metadata, (7, 7));
+    assert_eq!(rt; closed, (true, Counts::new(0, 0, 1, 0), used));
+    assert_eq!(rt;
+        [detached, other_detached],
+        [Counts::new(0, 0, 1, 1), Counts::new(0, 0, 1, 1)]
+    );
+    assert_eq!(rt; counters.counts(), Counts::new(0, 0, 2, 2));
     assert_eq!(rt; heap.used(), 0);
     Ok(())
 }
@@ -260,9 +268,9 @@ fn cancels_and_schedules_ask_for_no_memory(rt: HostRuntime) -> Result<(), Fail> 
     let (mut scheduled, scheduled_task) = spawn_in(&heap, &tray, &counters, Behaviour::Pending)?;
     let filling = fill(rt.alloc(), &heap)?;
     drop(task);
-    assert_eq!(rt; counters.counts(), Counts::new(0, 0, 0, 0));
-    assert!(rt; !runnable.run());
-    assert_eq!(rt; counters.counts(), Counts::new(0, 0, 1, 1));
+    let cancelled = counters.counts();
+    let rescheduled = runnable.run();
+    let ended = counters.counts();
     for _ in 0..3u8 {
         scheduled.schedule();
         let Some(received) = tray.receive() else {
@@ -270,10 +278,15 @@ fn cancels_and_schedules_ask_for_no_memory(rt: HostRuntime) -> Result<(), Fail> 
         };
         scheduled = received;
     }
-    assert_eq!(rt; counters.counts(), Counts::new(0, 3, 1, 1));
+    let queued = counters.counts();
     drop(scheduled_task);
     drop(scheduled);
     drop(filling);
+    assert_eq!(rt; (cancelled, rescheduled), (Counts::new(0, 0, 0, 0), false));
+    assert_eq!(rt;
+        [ended, queued],
+        [Counts::new(0, 0, 1, 1), Counts::new(0, 3, 1, 1)]
+    );
     Ok(())
 }
 
@@ -289,26 +302,24 @@ fn wakers_ask_for_no_memory(rt: HostRuntime) -> Result<(), Fail> {
     let used = heap.used();
     let waker = runnable.waker().ok_or(AllocError)?;
     let clone = waker.clone().ok_or(AllocError)?;
-    assert!(rt; !runnable.run());
+    let first = runnable.run();
     waker.wake_by_ref();
-    let Some(received) = tray.receive() else {
-        panic!(rt; "nothing was scheduled");
-    };
-    assert!(rt; !received.run());
+    let second = tray.run_next();
     clone.wake();
-    assert_eq!(rt; counters.counts(), Counts::new(2, 2, 0, 0));
-    let Some(received) = tray.receive() else {
-        panic!(rt; "nothing was scheduled");
-    };
-    assert!(rt; !received.run());
+    let woken = counters.counts();
+    let third = tray.run_next();
     before.wake();
     waker.discard();
-    assert_eq!(rt; counters.counts(), Counts::new(3, 3, 0, 0));
-    assert_eq!(rt; heap.used(), used);
+    let left = (counters.counts(), heap.used());
     drop(task);
     drop(tray.receive());
-    assert_eq!(rt; counters.counts(), Counts::new(3, 3, 1, 1));
     drop(filling);
+    assert_eq!(rt; (first, second, third), (false, Some(false), Some(false)));
+    assert_eq!(rt;
+        (woken, left),
+        (Counts::new(2, 2, 0, 0), (Counts::new(3, 3, 0, 0), used))
+    );
+    assert_eq!(rt; counters.counts(), Counts::new(3, 3, 1, 1));
     assert_eq!(rt; heap.used(), 0);
     Ok(())
 }
@@ -334,14 +345,19 @@ fn spawn_in_blocks<R: Wait + Abort + Drop + Copy>(
     let future = RowFuture::new(Behaviour::Ready(4), Arc::try_clone(&counters)?);
     let scheduler = Scheduler::new(Arc::try_clone(&counters)?);
     let spawned: Spawned<'_, R> = spawn(*rt, &heap, future, scheduler, ());
-    assert_eq!(rt; counters.counts(), Counts::new(0, 0, 0, 0));
+    let spawn_counts = counters.counts();
     let Err(refused) = spawned else {
+        assert_eq!(rt; spawn_counts, Counts::new(0, 0, 0, 0));
         return Ok(true);
     };
-    assert_eq!(rt; heap.used(), 0);
-    assert_eq!(rt; refused.maker.behaviour, Behaviour::Ready(4));
+    let behaviour = refused.maker.behaviour;
     drop(refused);
-    assert_eq!(rt; counters.counts(), Counts::new(0, 0, 1, 1));
+    assert_eq!(rt; heap.used(), 0);
+    assert_eq!(rt; behaviour, Behaviour::Ready(4));
+    assert_eq!(rt;
+        [spawn_counts, counters.counts()],
+        [Counts::new(0, 0, 0, 0), Counts::new(0, 0, 1, 1)]
+    );
     Ok(false)
 }
 

@@ -95,15 +95,20 @@ fn a_full_heap_hands_back_and_stays(rt: HostRuntime) -> Result<(), Fail> {
     let fixture = Fixture::new(rt, rt.alloc())?;
     let queue = fixture.priorities(0)?;
     let mut heap = PriorityHeap::new(rt.alloc(), 2)?;
-    assert_eq!(rt; push(&mut heap, &fixture, &queue, 1)?, None);
-    assert_eq!(rt; push(&mut heap, &fixture, &queue, 2)?, None);
-    assert_eq!(rt; push(&mut heap, &fixture, &queue, 3)?, Some(3));
-    assert_eq!(rt; pop(&mut heap), Some(2));
-    assert_eq!(rt; push(&mut heap, &fixture, &queue, 0)?, None);
-    assert_eq!(rt; push(&mut heap, &fixture, &queue, 4)?, Some(4));
-    assert_eq!(rt; pop(&mut heap), Some(1));
-    assert_eq!(rt; pop(&mut heap), Some(0));
-    assert_eq!(rt; pop(&mut heap), None);
+    let pushed = [
+        push(&mut heap, &fixture, &queue, 1),
+        push(&mut heap, &fixture, &queue, 2),
+        push(&mut heap, &fixture, &queue, 3),
+    ];
+    let largest = pop(&mut heap);
+    let pushed_again = [
+        push(&mut heap, &fixture, &queue, 0),
+        push(&mut heap, &fixture, &queue, 4),
+    ];
+    let popped = [pop(&mut heap), pop(&mut heap), pop(&mut heap)];
+    assert_eq!(rt; pushed, [Ok(None), Ok(None), Ok(Some(3))]);
+    assert_eq!(rt; pushed_again, [Ok(None), Ok(Some(4))]);
+    assert_eq!(rt; (largest, popped), (Some(2), [Some(1), Some(0), None]));
     Ok(())
 }
 
@@ -112,9 +117,10 @@ fn a_heap_without_room_hands_back(rt: HostRuntime) -> Result<(), Fail> {
     let fixture = Fixture::new(rt, rt.alloc())?;
     let queue = fixture.priorities(0)?;
     let mut heap = PriorityHeap::new(rt.alloc(), 0)?;
-    assert_eq!(rt; pop(&mut heap), None);
-    assert_eq!(rt; push(&mut heap, &fixture, &queue, 1)?, Some(1));
-    assert_eq!(rt; pop(&mut heap), None);
+    let before = pop(&mut heap);
+    let pushed = push(&mut heap, &fixture, &queue, 1);
+    let after = pop(&mut heap);
+    assert_eq!(rt; (before, pushed, after), (None, Ok(Some(1)), None));
     Ok(())
 }
 
@@ -128,8 +134,11 @@ fn what_is_left_in_the_queue_is_cancelled_with_it(rt: HostRuntime) -> Result<(),
     second_runnable.schedule();
     first.detach();
     second.detach();
-    assert_eq!(rt; fixture.counts(), Counts::new(0, 2, 0, 0));
+    let queued = fixture.counts();
     drop(queue);
-    assert_eq!(rt; fixture.counts(), Counts::new(0, 2, 2, 2));
+    assert_eq!(rt;
+        [queued, fixture.counts()],
+        [Counts::new(0, 2, 0, 0), Counts::new(0, 2, 2, 2)]
+    );
     Ok(())
 }

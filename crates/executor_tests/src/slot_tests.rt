@@ -84,6 +84,13 @@ impl<R: Wait + Drop> Slots<R> {
         Some(parked.unpark(self))
     }
 
+    // Takes the Runnable out of the slot and runs it: its metadata, and what the run answers.
+    fn run_last(&self) -> Option<(u64, bool)> {
+        let runnable = self.take()?;
+        let number = *runnable.metadata();
+        Some((number, runnable.run()))
+    }
+
     // Whether the list has just the Runnables of tasks with these metadata, in this order.
     fn list_is(&self, expected: &[u64]) -> bool {
         let list = self.list.lock(&self.rt);
@@ -150,14 +157,12 @@ fn the_last_runnable_stands_in_the_slot(rt: HostRuntime) -> Result<(), Fail> {
     let first = spawn_scheduled(rt, rt.alloc(), &slots, 1)?;
     let second = spawn_scheduled(rt, rt.alloc(), &slots, 2)?;
     let third = spawn_scheduled(rt, rt.alloc(), &slots, 3)?;
-    assert!(rt; slots.list_is(&[1, 2]));
-    let Some(runnable) = slots.take() else {
-        panic!(rt; "the slot is empty");
-    };
-    assert_eq!(rt; *runnable.metadata(), 3);
-    assert!(rt; runnable.run());
-    assert!(rt; slots.take().is_none());
-    assert!(rt; slots.list_is(&[1, 2, 3]));
+    let listed = slots.list_is(&[1, 2]);
+    let ran = slots.run_last();
+    let is_empty = slots.take().is_none();
+    let listed_last = slots.list_is(&[1, 2, 3]);
     drop((first, second, third));
+    assert_eq!(rt; ran, Some((3, true)));
+    assert!(rt; listed && is_empty && listed_last);
     Ok(())
 }

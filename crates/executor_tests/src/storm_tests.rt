@@ -65,20 +65,14 @@ fn four_threads_wake_one_task(rt: HostRuntime) -> Result<(), Fail> {
     let fixture = Fixture::new(rt, rt.alloc())?;
     let (runnable, task) = fixture.spawn(Behaviour::Pending)?;
     let ended = Counter::new();
-    assert!(rt; storm(&rt, &fixture, &ended, runnable));
-    assert_eq!(rt; fixture.overlaps(), 0);
-    let Counts {
-        polls,
-        schedules,
-        future_drops,
-        scheduler_drops,
-    } = fixture.counts();
-    assert_eq!(rt; polls, schedules.wrapping_add(1));
-    assert_eq!(rt; (future_drops, scheduler_drops), (0, 0));
+    let all_ended = storm(&rt, &fixture, &ended, runnable);
+    let idle = fixture.counts();
     drop(task);
-    assert_eq!(rt; fixture.surroundings.run_next(), Some(false));
-    let last = fixture.counts();
-    assert_eq!(rt; (last.future_drops, last.scheduler_drops), (1, 1));
-    assert_eq!(rt; last.polls, polls);
+    let ran = fixture.surroundings.run_next();
+    let polls = idle.polls;
+    assert_eq!(rt; (all_ended, ran), (true, Some(false)));
+    assert_eq!(rt; fixture.overlaps(), 0);
+    assert_eq!(rt; idle, Counts::new(polls, polls.wrapping_sub(1), 0, 0));
+    assert_eq!(rt; fixture.counts(), Counts::new(polls, polls, 1, 1));
     Ok(())
 }

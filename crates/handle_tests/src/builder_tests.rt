@@ -19,17 +19,17 @@ fn handles_show_the_flags_the_count_and_the_metadata(rt: HostRuntime) -> Result<
     let alloc = rt.alloc();
     let fixture = Fixture::new(rt, alloc)?;
     let (runnable, task) = fixture.spawn(Behaviour::Pending)?;
-    let shown = format!(in alloc; "{runnable:?}")?;
-    let expected = format!(in alloc; "Runnable{SPAWNED}")?;
-    assert_eq!(rt; shown.as_str(), expected.as_str());
-    let shown = format!(in alloc; "{task:?}")?;
-    let expected = format!(in alloc; "Task{SPAWNED}")?;
-    assert_eq!(rt; shown.as_str(), expected.as_str());
+    let runnable_text = format!(in alloc; "{runnable:?}");
+    let task_text = format!(in alloc; "{task:?}");
     let fallible = task.fallible();
-    let shown = format!(in alloc; "{fallible:?}")?;
+    let fallible_text = format!(in alloc; "{fallible:?}");
+    drop((runnable, fallible));
+    let expected = format!(in alloc; "Runnable{SPAWNED}")?;
+    assert_eq!(rt; runnable_text?.as_str(), expected.as_str());
+    let expected = format!(in alloc; "Task{SPAWNED}")?;
+    assert_eq!(rt; task_text?.as_str(), expected.as_str());
     let expected = format!(in alloc; "FallibleTask{SPAWNED}")?;
-    assert_eq!(rt; shown.as_str(), expected.as_str());
-    drop(runnable);
+    assert_eq!(rt; fallible_text?.as_str(), expected.as_str());
     Ok(())
 }
 
@@ -77,14 +77,14 @@ fn the_maker_is_called_once_with_the_metadata(rt: HostRuntime) -> Result<(), Fai
     let Ok((runnable, mut task)) = builder.spawn(rt, rt.alloc(), maker, scheduler, &queue) else {
         panic!(rt; "no memory");
     };
-    assert_eq!(rt; calls.get(), 1);
-    assert_eq!(rt; *runnable.metadata(), 7);
-    assert_eq!(rt; *task.metadata(), 7);
-    assert!(rt; !runnable.run());
+    let calls_of_spawn = calls.get();
+    let metadata = (*runnable.metadata(), *task.metadata());
+    let rescheduled = runnable.run();
     let polled = task.poll(&flag);
-    assert!(rt; matches!(&polled, TaskPoll::Ready(Ok(Output { number: 7, .. }))));
     drop(task);
-    assert_eq!(rt; calls.get(), 1);
+    assert_eq!(rt; (calls_of_spawn, calls.get()), (1, 1));
+    assert_eq!(rt; (metadata, rescheduled), ((7, 7), false));
+    assert!(rt; matches!(polled, TaskPoll::Ready(Ok(Output { number: 7, .. }))));
     Ok(())
 }
 
@@ -94,9 +94,10 @@ fn a_limit_refuses_wakers(rt: HostRuntime) -> Result<(), Fail> {
     let fixture = Fixture::new(rt, rt.alloc())?;
     for references in 0..2u64 {
         let (runnable, task) = fixture.spawn_limited(Behaviour::Pending, references)?;
-        assert!(rt; runnable.waker().is_none());
-        assert!(rt; fixture.shows(&runnable, 0x111)?);
-        drop(task);
+        let is_refused = runnable.waker().is_none();
+        let shown = fixture.shows(&runnable, 0x111);
+        drop((runnable, task));
+        assert_eq!(rt; (is_refused, shown), (true, Ok(true)));
     }
     Ok(())
 }

@@ -89,12 +89,16 @@ fn a_dropped_cancel_leaves_the_same_word(rt: HostRuntime) -> Result<(), Fail> {
     let fixture = Fixture::new(rt, rt.alloc())?;
     let (first, task) = fixture.spawn(Behaviour::Pending)?;
     drop(task);
-    assert!(rt; fixture.shows(&first, 0x109)?);
     let (second, task) = fixture.spawn(Behaviour::Pending)?;
     let cancel = task.cancel();
-    assert!(rt; fixture.shows(&second, 0x111)?);
+    let before = fixture.shows(&second, 0x111);
     drop(cancel);
-    assert!(rt; fixture.shows(&second, 0x109)?);
+    let shown = [
+        before,
+        fixture.shows(&first, 0x109),
+        fixture.shows(&second, 0x109),
+    ];
+    assert_eq!(rt; shown, [Ok(true), Ok(true), Ok(true)]);
     Ok(())
 }
 
@@ -104,36 +108,54 @@ fn a_fallible_task_answers_each_call(rt: HostRuntime) -> Result<(), Fail> {
     let flag = fixture.flag(1)?;
     let (runnable, task) = fixture.spawn(Behaviour::Ready(4))?;
     let mut fallible = task.fallible();
-    assert_eq!(rt; *fallible.metadata(), ());
-    assert!(rt; !fallible.is_finished());
-    assert!(rt; matches!(fallible.poll(&flag), TaskPoll::Pending));
-    assert!(rt; !runnable.run());
-    assert!(rt; fallible.is_finished());
-    assert!(rt; is_some_with(&fallible.poll(&flag), 4));
-    assert!(rt; matches!(fallible.poll(&flag), TaskPoll::Ready(None)));
+    let spawned = (*fallible.metadata(), fallible.is_finished());
+    let first = fallible.poll(&flag);
+    let rescheduled = runnable.run();
+    let finished = fallible.is_finished();
+    let second = fallible.poll(&flag);
+    let third = fallible.poll(&flag);
     fallible.detach();
+    assert_eq!(rt;
+        (spawned, rescheduled, finished),
+        (((), false), false, true)
+    );
+    assert!(rt; matches!(first, TaskPoll::Pending));
+    assert!(rt; is_some_with(&second, 4));
+    assert!(rt; matches!(third, TaskPoll::Ready(None)));
     assert_eq!(rt; fixture.counts(), Counts::new(1, 0, 1, 1));
     Ok(())
 }
 
 #[test]
-fn a_fallible_task_cancels(rt: HostRuntime) -> Result<(), Fail> {
+fn a_discarded_fallible_task_cancels(rt: HostRuntime) -> Result<(), Fail> {
+    let fixture = Fixture::new(rt, rt.alloc())?;
+    let (runnable, task) = fixture.spawn(Behaviour::Ready(4))?;
+    task.fallible().discard();
+    let shown = fixture.shows(&runnable, 0x109);
+    runnable.discard();
+    assert_eq!(rt;
+        (shown, fixture.counts()),
+        (Ok(true), Counts::new(0, 0, 1, 1))
+    );
+    Ok(())
+}
+
+#[test]
+fn a_fallible_task_becomes_a_cancel(rt: HostRuntime) -> Result<(), Fail> {
     let fixture = Fixture::new(rt, rt.alloc())?;
     let flag = fixture.flag(1)?;
     let (runnable, task) = fixture.spawn(Behaviour::Ready(4))?;
-    task.fallible().discard();
-    assert!(rt; fixture.shows(&runnable, 0x109)?);
-    runnable.discard();
-    assert_eq!(rt; fixture.counts(), Counts::new(0, 0, 1, 1));
-    let (runnable, task) = fixture.spawn(Behaviour::Ready(4))?;
     let mut cancel = task.fallible().cancel();
-    assert!(rt; matches!(cancel.poll(&flag), TaskPoll::Pending));
-    assert!(rt; fixture.shows(&runnable, 0x139)?);
-    assert!(rt; cancel.is_finished());
-    assert!(rt; !runnable.run());
-    assert!(rt; matches!(cancel.poll(&flag), TaskPoll::Ready(None)));
+    let first = cancel.poll(&flag);
+    let shown = fixture.shows(&runnable, 0x139);
+    let finished = cancel.is_finished();
+    let rescheduled = runnable.run();
+    let second = cancel.poll(&flag);
     drop(cancel);
-    assert_eq!(rt; fixture.counts(), Counts::new(0, 0, 2, 2));
+    assert_eq!(rt; (shown, finished, rescheduled), (Ok(true), true, false));
+    assert!(rt; matches!(first, TaskPoll::Pending));
+    assert!(rt; matches!(second, TaskPoll::Ready(None)));
+    assert_eq!(rt; fixture.counts(), Counts::new(0, 0, 1, 1));
     Ok(())
 }
 
@@ -143,15 +165,20 @@ fn a_closed_task_answers_closed(rt: HostRuntime) -> Result<(), Fail> {
     let fixture = Fixture::new(rt, rt.alloc())?;
     let flag = fixture.flag(1)?;
     let (runnable, mut task) = fixture.spawn(Behaviour::Ready(1))?;
-    assert!(rt; matches!(task.poll(&flag), TaskPoll::Pending));
-    assert_eq!(rt; flag.wakes(), 0);
+    let first = task.poll(&flag);
+    let unwoken = flag.wakes();
     drop(runnable);
-    assert_eq!(rt; flag.wakes(), 1);
-    assert!(rt; task.is_finished());
-    assert!(rt; matches!(task.poll(&flag), TaskPoll::Ready(Err(TaskClosed))));
-    assert!(rt; matches!(task.poll(&flag), TaskPoll::Ready(Err(TaskClosed))));
-    assert_eq!(rt; flag.wakes(), 1);
-    assert_eq!(rt; fixture.counts(), Counts::new(0, 0, 1, 0));
+    let woken = flag.wakes();
+    let finished = task.is_finished();
+    let second = task.poll(&flag);
+    let third = task.poll(&flag);
+    let counts = fixture.counts();
+    drop(task);
+    assert_eq!(rt; (unwoken, woken, flag.wakes(), finished), (0, 1, 1, true));
+    assert!(rt; matches!(first, TaskPoll::Pending));
+    assert!(rt; matches!(second, TaskPoll::Ready(Err(TaskClosed))));
+    assert!(rt; matches!(third, TaskPoll::Ready(Err(TaskClosed))));
+    assert_eq!(rt; counts, Counts::new(0, 0, 1, 0));
     Ok(())
 }
 
@@ -159,12 +186,13 @@ fn a_closed_task_answers_closed(rt: HostRuntime) -> Result<(), Fail> {
 fn a_detach_drops_the_output(rt: HostRuntime) -> Result<(), Fail> {
     let fixture = Fixture::new(rt, rt.alloc())?;
     let (runnable, mut task) = fixture.spawn(Behaviour::Ready(1))?;
-    assert!(rt; !task.is_finished());
+    let scheduled = task.is_finished();
     runnable.run();
-    assert!(rt; task.is_finished());
-    assert_eq!(rt; fixture.output_drops(), 0);
+    let completed = task.is_finished();
+    let kept = fixture.output_drops();
     task.detach();
-    assert_eq!(rt; fixture.output_drops(), 1);
+    assert_eq!(rt; (scheduled, completed), (false, true));
+    assert_eq!(rt; (kept, fixture.output_drops()), (0, 1));
     assert_eq!(rt; fixture.counts(), Counts::new(1, 0, 1, 1));
     Ok(())
 }

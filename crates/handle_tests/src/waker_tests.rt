@@ -12,24 +12,6 @@ use std::process::Abort;
 use std::sync::{Arc, Wait};
 use std::test::Fail;
 
-// The handles of a task without surroundings: its schedule value drops each Runnable.
-type BareHandles<R, A> = (
-    Runnable<R, RowFuture, Scheduler, (), A, ()>,
-    Task<R, RowFuture, Scheduler, (), A, ()>,
-);
-
-// Spawns a task without surroundings, whose future behaves like that and which counts here.
-fn spawn_bare<R: Wait + Drop + Copy, A: Wake>(
-    rt: R,
-    alloc: Global,
-    behaviour: Behaviour,
-    counters: &Arc<Counters>,
-) -> Result<BareHandles<R, A>, AllocError> {
-    let future = RowFuture::new(behaviour, Arc::try_clone(counters)?);
-    let scheduler = Scheduler::new(Arc::try_clone(counters)?);
-    spawn(rt, alloc, future, scheduler, ()).map_err(|_| AllocError)
-}
-
 // A pending task without wakers loses its Task after a run, by a detach or by a drop: a closing Runnable ends it.
 fn idle_end<R: Wait + Abort + Drop + Copy>(
     rt: &R,
@@ -38,16 +20,18 @@ fn idle_end<R: Wait + Abort + Drop + Copy>(
 ) -> Result<(), Fail> {
     let fixture = Fixture::new(*rt, alloc)?;
     let (runnable, task) = fixture.spawn(Behaviour::Pending)?;
-    assert!(rt; !runnable.run());
+    let rescheduled = runnable.run();
     if detaches {
         task.detach();
     } else {
         drop(task);
     }
-    assert_eq!(rt; fixture.counts(), Counts::new(1, 1, 0, 0));
-    assert_eq!(rt; fixture.surroundings.queued(), 1);
+    let counts = fixture.counts();
+    let queued = fixture.surroundings.queued();
+    let ran = fixture.surroundings.run_next();
+    assert_eq!(rt; (rescheduled, queued, ran), (false, 1, Some(false)));
     assert!(rt; fixture.surroundings.infos_are(&[false]));
-    assert_eq!(rt; fixture.surroundings.run_next(), Some(false));
+    assert_eq!(rt; counts, Counts::new(1, 1, 0, 0));
     assert_eq!(rt; fixture.counts(), Counts::new(1, 1, 1, 1));
     Ok(())
 }
@@ -61,21 +45,18 @@ fn an_idle_task_ends_by_a_closing_runnable(rt: HostRuntime) -> Result<(), Fail> 
 // The run of a detached pending task without wakers hands a closing Runnable over, which the schedule value drops.
 #[test]
 fn a_closing_runnable_may_be_dropped(rt: HostRuntime) -> Result<(), Fail> {
-    let counters = Arc::new(rt.alloc(), Counters::new())?;
-    let handles: BareHandles<HostRuntime, Flag> = spawn_bare(
-        rt,
-        rt.alloc(),
-        Behaviour::Pending,
-        &counters,
-    )?;
-    let (runnable, task) = handles;
+    let fixture = Fixture::new(rt, rt.alloc())?;
+    let (runnable, task) = fixture.spawn_bare(Behaviour::Pending)?;
     task.detach();
-    assert!(rt; !runnable.run());
-    assert_eq!(rt; counters.counts(), Counts::new(1, 1, 1, 1));
+    let rescheduled = runnable.run();
+    assert_eq!(rt;
+        (rescheduled, fixture.counts()),
+        (false, Counts::new(1, 1, 1, 1))
+    );
     Ok(())
 }
 
-// Each call of a waker, and of one that is parked.
+// A waker that is lent or cloned, each call of it, and one that is parked.
 #[test]
 fn a_waker_answers_each_call(rt: HostRuntime) -> Result<(), Fail> {
     let fixture = Fixture::new(rt, rt.alloc())?;
@@ -83,21 +64,26 @@ fn a_waker_answers_each_call(rt: HostRuntime) -> Result<(), Fail> {
     let (runnable, task) = fixture.spawn(Behaviour::Pending)?;
     let waker = runnable.waker().ok_or(AllocError)?;
     let clone = waker.clone().ok_or(AllocError)?;
-    assert!(rt; !waker.will_wake(&clone));
-    let clone = clone.park().unpark(surroundings);
-    clone.discard();
-    assert!(rt; !runnable.run());
+    let known = waker.will_wake(&clone);
+    clone.park().unpark(surroundings).discard();
+    let rescheduled = runnable.run();
     waker.wake_by_ref();
-    assert_eq!(rt; waker.around().queued(), 1);
+    let woken = waker.around().queued();
     waker.wake_by_ref();
     waker.wake();
-    assert_eq!(rt; surroundings.queued(), 1);
-    assert_eq!(rt; fixture.counts(), Counts::new(1, 1, 0, 0));
+    let still = surroundings.queued();
+    let idle = fixture.counts();
     task.detach();
-    assert_eq!(rt; surroundings.run_next(), Some(false));
-    assert_eq!(rt; fixture.counts(), Counts::new(2, 2, 0, 0));
-    assert_eq!(rt; surroundings.run_next(), Some(false));
+    let second = surroundings.run_next();
+    let orphan = fixture.counts();
+    let last = surroundings.run_next();
+    assert_eq!(rt; (known, rescheduled, woken, still), (false, false, 1, 1));
+    assert_eq!(rt; (second, last), (Some(false), Some(false)));
     assert!(rt; surroundings.infos_are(&[false, false]));
+    assert_eq!(rt;
+        [idle, orphan],
+        [Counts::new(1, 1, 0, 0), Counts::new(2, 2, 0, 0)]
+    );
     assert_eq!(rt; fixture.counts(), Counts::new(2, 2, 1, 1));
     Ok(())
 }
@@ -115,43 +101,64 @@ fn wake_thrice<W: Wake>(awaiter: W) -> Option<bool> {
 #[test]
 fn a_waker_is_an_awaiter(rt: HostRuntime) -> Result<(), Fail> {
     let fixture = Fixture::new(rt, rt.alloc())?;
+    let surroundings = &fixture.surroundings;
     let (runnable, task) = fixture.spawn(Behaviour::Pending)?;
     let waker = runnable.waker().ok_or(AllocError)?;
-    assert!(rt; !runnable.run());
-    assert_eq!(rt; wake_thrice(waker), Some(false));
-    assert_eq!(rt; fixture.surroundings.queued(), 1);
-    assert!(rt; fixture.surroundings.infos_are(&[false]));
+    let rescheduled = runnable.run();
+    let known = wake_thrice(waker);
+    let queued = surroundings.queued();
     drop(task);
-    assert_eq!(rt; fixture.surroundings.run_next(), Some(false));
+    let ran = surroundings.run_next();
+    assert_eq!(rt;
+        (rescheduled, known, queued, ran),
+        (false, Some(false), 1, Some(false))
+    );
+    assert!(rt; surroundings.infos_are(&[false]));
     assert_eq!(rt; fixture.counts(), Counts::new(1, 1, 1, 1));
     Ok(())
+}
+
+// The handles of a task without surroundings, which is awaited by wakers of the rows.
+type AwaitedHandles<'x, R> = (
+    Runnable<R, RowFuture, Scheduler, (), RowWaker<'x, R>, ()>,
+    Task<R, RowFuture, Scheduler, (), RowWaker<'x, R>, ()>,
+);
+
+// Spawns a task that other tasks may await, whose future answers 5 and which counts here.
+fn spawn_awaited<'x, R: Wait + Drop + Copy>(
+    rt: R,
+    alloc: Global,
+    counters: &Arc<Counters>,
+) -> Result<AwaitedHandles<'x, R>, AllocError> {
+    let future = RowFuture::new(Behaviour::Ready(5), Arc::try_clone(counters)?);
+    let scheduler = Scheduler::new(Arc::try_clone(counters)?);
+    spawn(rt, alloc, future, scheduler, ()).map_err(|_| AllocError)
 }
 
 // A task that awaits another one by its own waker is scheduled once the other one has completed.
 #[test]
 fn a_task_awaits_another(rt: HostRuntime) -> Result<(), Fail> {
     let fixture = Fixture::new(rt, rt.alloc())?;
+    let surroundings = &fixture.surroundings;
+    let counters = Arc::new(rt.alloc(), Counters::new())?;
     let (runnable, task) = fixture.spawn(Behaviour::Pending)?;
     let waker = runnable.waker().ok_or(AllocError)?;
     runnable.run();
-    let counters = Arc::new(rt.alloc(), Counters::new())?;
-    let handles: BareHandles<HostRuntime, RowWaker<'_, HostRuntime>> = spawn_bare(
-        rt,
-        rt.alloc(),
-        Behaviour::Ready(5),
-        &counters,
-    )?;
-    let (awaited_runnable, mut awaited) = handles;
-    assert!(rt; matches!(awaited.poll(&waker), TaskPoll::Pending));
-    assert_eq!(rt; fixture.surroundings.queued(), 0);
+    let (awaited_runnable, mut awaited) = spawn_awaited(rt, rt.alloc(), &counters)?;
+    let first = awaited.poll(&waker);
+    let before = surroundings.queued();
     awaited_runnable.run();
-    assert_eq!(rt; fixture.surroundings.queued(), 1);
-    let polled = awaited.poll(&waker);
-    assert!(rt; matches!(&polled, TaskPoll::Ready(Ok(Output { number: 5, .. }))));
+    let after = surroundings.queued();
+    let second = awaited.poll(&waker);
     drop(awaited);
-    assert_eq!(rt; counters.counts(), Counts::new(1, 0, 1, 1));
-    assert_eq!(rt; fixture.counts(), Counts::new(1, 1, 0, 0));
+    let counts = fixture.counts();
+    drop(waker);
     drop(task);
+    assert_eq!(rt; (before, after), (0, 1));
+    assert!(rt; matches!(first, TaskPoll::Pending));
+    assert!(rt; matches!(second, TaskPoll::Ready(Ok(Output { number: 5, .. }))));
+    assert_eq!(rt; counters.counts(), Counts::new(1, 0, 1, 1));
+    assert_eq!(rt; counts, Counts::new(1, 1, 0, 0));
     Ok(())
 }
 
@@ -163,9 +170,11 @@ fn a_waker_carries_what_it_was_unparked_with(rt: HostRuntime) -> Result<(), Fail
     let waker = runnable.waker().ok_or(AllocError)?;
     runnable.run();
     waker.park().unpark(()).wake();
-    assert_eq!(rt; fixture.surroundings.queued(), 0);
-    assert!(rt; task.is_finished());
-    assert_eq!(rt; fixture.counts(), Counts::new(1, 1, 1, 0));
+    let finished = task.is_finished();
+    let counts = fixture.counts();
+    drop(task);
+    assert_eq!(rt; (finished, fixture.surroundings.queued()), (true, 0));
+    assert_eq!(rt; counts, Counts::new(1, 1, 1, 0));
     Ok(())
 }
 
@@ -179,12 +188,19 @@ fn a_kept_waker_replaces_the_one_before(rt: HostRuntime) -> Result<(), Fail> {
     task.detach();
     runnable.run();
     waker.wake();
-    assert_eq!(rt; surroundings.run_next(), Some(false));
-    assert_eq!(rt; fixture.counts(), Counts::new(2, 1, 0, 0));
+    let second = surroundings.run_next();
+    let kept = fixture.counts();
     drop(surroundings.take_kept());
-    assert!(rt; surroundings.take_kept().is_none());
-    assert_eq!(rt; surroundings.run_next(), Some(false));
-    assert_eq!(rt; fixture.counts(), Counts::new(2, 2, 1, 1));
+    let has_another = surroundings.take_kept().is_some();
+    let last = surroundings.run_next();
+    assert_eq!(rt;
+        (second, has_another, last),
+        (Some(false), false, Some(false))
+    );
+    assert_eq!(rt;
+        [kept, fixture.counts()],
+        [Counts::new(2, 1, 0, 0), Counts::new(2, 2, 1, 1)]
+    );
     Ok(())
 }
 
@@ -195,9 +211,9 @@ fn a_forgotten_waker_is_a_handle_that_is_left(rt: HostRuntime) -> Result<(), Fai
     let (runnable, task) = fixture.spawn(Behaviour::Pending)?;
     let waker = runnable.waker().ok_or(AllocError)?;
     mem::forget(waker.park().unpark(&fixture.surroundings));
-    assert!(rt; !runnable.run());
+    let rescheduled = runnable.run();
     task.detach();
-    assert_eq!(rt; fixture.surroundings.queued(), 0);
+    assert_eq!(rt; (rescheduled, fixture.surroundings.queued()), (false, 0));
     assert_eq!(rt; fixture.counts(), Counts::new(1, 0, 0, 0));
     Ok(())
 }

@@ -2,9 +2,6 @@
 //!
 //! It is the machine that `task_laws::laws` speaks of, without its trace. So what the laws say of a list of steps holds of the one that is replayed.
 
-#[cfg(test)]
-mod tests;
-
 ghost use Rattle.std.specs.Prelude.{◌≡◌, ◌<◌, ◌-◌, ◌^◌, Some, None, false, IfOk, IfErr, OnOk, OnErr, min, ◌++◌, length, slice_get, if◌then◌else◌};
 ghost use Rattle.task_laws.specs.Machine as machine;
 ghost use Rattle.task_laws.specs.declared.positions.Position.{Position};

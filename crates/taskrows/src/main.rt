@@ -1,11 +1,7 @@
 //! The program that runs the worked rows.
 #![tactic(auto)]
 
-mod local;
-mod rows;
-mod table;
-
-use rows::rows;
+use row_table::rows::rows;
 use std::process::ExitCode;
 use std::{env, io};
 

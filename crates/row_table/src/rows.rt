@@ -1,7 +1,7 @@
 //! Runs the rows that the arguments ask for, and prints what each answers.
 ghost use Rattle.std.specs.Prelude.{◌≡◌, ◌≢◌, ◌==◌, ◌<◌, ◌≤◌, ◌↔◌, if◌then◌else◌, []};
 ghost use Rattle.std.specs.Prelude.{IsTrue, IsSome, IfSome, IfOk, IsOkAnd};
-ghost use Rattle.taskrows.specs.Arguments.{AskForRows};
+ghost use Rattle.row_table.specs.Arguments.{AskForRows};
 
 use crate::table::Row;
 use fixtures::fixture::Outcome;

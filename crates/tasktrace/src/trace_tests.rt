@@ -1,7 +1,8 @@
 //! Whole inputs, and what is printed of them.
 
-use super::*;
+use std::io;
 use std::test::Fail;
+use trace_table::trace::trace;
 
 // A writer that takes so many bytes and then fails, and may fail to flush.
 #[derive(Drop)]

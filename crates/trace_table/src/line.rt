@@ -1,6 +1,6 @@
 //! What a line of the input says.
 ghost use Rattle.std.specs.Prelude.{◌≡◌, IfOk};
-ghost use Rattle.tasktrace.specs.Names.{name_of};
+ghost use Rattle.trace_table.specs.Names.{name_of};
 
 use crate::names::named;
 use std::fmt;
@@ -80,6 +80,3 @@ fn step_of(party: &str, act: &str) -> Result<Step, Expected>
     let act = named(act).ok_or(Expected::Act)?;
     Ok(Step { party, act })
 }
-
-#[cfg(test)]
-mod tests;

@@ -166,6 +166,3 @@ fn play_step<W: io::Write>(
         }
     }
 }
-
-#[cfg(test)]
-mod tests;

@@ -2,15 +2,15 @@ use Rattle.std.specs.Prelude.{◌≡◌, IsTrue}
 use Rattle.fixtures.specs.declared.counters.Counts.{Counts}
 use Rattle.fixtures.specs.declared.fixture.Outcome.{Outcome}
 use Rattle.worked_rows.specs.Agreement.{counts}
-use Rattle.taskrows.specs.declared.table.Row.{Row}
-use Rattle.taskrows.specs.declared.table.Row.TheVariants.{DropAndDetach, DetachAndDrop, DetachAndRun, RunAndDetach}
-use Rattle.taskrows.specs.declared.table.Row.TheVariants.{CancelAndRun, CancelJoin, LastRun, RefusedClone}
-use Rattle.taskrows.specs.declared.table.Row.TheVariants.{AwaiterCompletes, AwaiterOrphan, ScheduleCounter, Sum}
-use Rattle.taskrows.specs.declared.table.Row.TheVariants.{Waker, WakerClone, WakerWake, WakeDropped, DropLastWaker}
-use Rattle.taskrows.specs.declared.table.Row.TheVariants.{WakeDuringRun, CancelDuringRun}
-use Rattle.taskrows.specs.declared.table.Row.TheVariants.{Limit, ClosedPoll, CancelFuture, Priorities, Local, RunAndCancel, DropInSchedule}
-use Rattle.taskrows.specs.declared.table.Row.TheVariants.{WakeAndCancel, CancelAndWake, DetachDuringRun, DropDuringRun, PollDuringRun}
-use Rattle.taskrows.specs.declared.table.Row.TheVariants.{CancelRefused, ClearQueue, WakeIntoDrop, DropInPoll, Priority, PriorityYield, PriorityFull}
+use Rattle.row_table.specs.declared.table.Row.{Row}
+use Rattle.row_table.specs.declared.table.Row.TheVariants.{DropAndDetach, DetachAndDrop, DetachAndRun, RunAndDetach}
+use Rattle.row_table.specs.declared.table.Row.TheVariants.{CancelAndRun, CancelJoin, LastRun, RefusedClone}
+use Rattle.row_table.specs.declared.table.Row.TheVariants.{AwaiterCompletes, AwaiterOrphan, ScheduleCounter, Sum}
+use Rattle.row_table.specs.declared.table.Row.TheVariants.{Waker, WakerClone, WakerWake, WakeDropped, DropLastWaker}
+use Rattle.row_table.specs.declared.table.Row.TheVariants.{WakeDuringRun, CancelDuringRun}
+use Rattle.row_table.specs.declared.table.Row.TheVariants.{Limit, ClosedPoll, CancelFuture, Priorities, Local, RunAndCancel, DropInSchedule}
+use Rattle.row_table.specs.declared.table.Row.TheVariants.{WakeAndCancel, CancelAndWake, DetachDuringRun, DropDuringRun, PollDuringRun}
+use Rattle.row_table.specs.declared.table.Row.TheVariants.{CancelRefused, ClearQueue, WakeIntoDrop, DropInPoll, Priority, PriorityYield, PriorityFull}
 
 -- the numbers that the table of the rows has for a row
 abbrev pub counts_of : Row → Counts

@@ -1,28 +1,16 @@
 //! Lives of a task, replayed, with the words that the tables of the machine give.
 
-use super::*;
+use crate::lives::{self, Life};
+use crate::turns::steps_of;
 use linked_list_allocator::LocalHeap;
-use lives::Life;
+use std::alloc::Global;
 use std::process::Abort;
 use std::test::Fail;
+use task_core::moves::Act;
 use task_core::moves::Act::*;
-
-mod lives;
-mod player;
-
-// The acts of each turn, one after the other.
-fn steps_of(alloc: Global, turns: &[(u64, &[Act])]) -> Result<Vec<Step>, AllocError> {
-    let mut steps = Vec::new(alloc);
-    for (party, acts) in turns {
-        for act in *acts {
-            steps.push(Step {
-                party: *party,
-                act: *act,
-            })?;
-        }
-    }
-    Ok(steps)
-}
+use task_core::word::LIMIT;
+use task_laws::positions::{Position, Rest};
+use task_replay::{ReplayError, Step, replay};
 
 #[test]
 fn each_front_of_a_life_has_the_word_of_the_tables(rt: HostRuntime) -> Result<(), Fail> {

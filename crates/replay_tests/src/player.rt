@@ -1,8 +1,17 @@
 //! Steps played one at a time, and why one is refused.
 
-use super::*;
-use crate::player::PlayError;
-use crate::refusal::Refusal;
+use crate::turns::steps_of;
+use linked_list_allocator::LocalHeap;
+use std::alloc::Global;
+use std::process::Abort;
+use std::test::Fail;
+use task_core::moves::Act;
+use task_core::moves::Act::*;
+use task_core::word::{LIMIT, Word};
+use task_laws::positions::{Position, Rest};
+use task_replay::Step;
+use task_replay::player::{PlayError, Player};
+use task_replay::refusal::Refusal;
 
 // The player after these turns, of which each step must be allowed.
 fn played(

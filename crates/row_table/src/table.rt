@@ -91,7 +91,7 @@ pub enum Row {
 }
 
 impl Row {
-    ghost use Rattle.taskrows.specs.Row.{AgreesAs};
+    ghost use Rattle.row_table.specs.Row.{AgreesAs};
 
     /// The rows of a run without arguments, in order of number.
     pub const ALL: [Row; 31] = [

@@ -1,9 +1,10 @@
 //! What lines say, and what is expected where one cannot be read.
 
-use super::*;
-use crate::names::{ACTS, name};
 use std::test::Fail;
 use task_core::moves::Act;
+use task_replay::machine::Step;
+use trace_table::line::{Expected, content, is_blank, read_limit, read_step};
+use trace_table::names::{ACTS, name};
 
 #[test]
 fn each_act_is_read_by_its_name(rt: HostRuntime) -> Result<(), Fail> {

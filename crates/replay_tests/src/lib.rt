@@ -1,0 +1,11 @@
+//! The tests of the machine as a program: lives of a task, replayed, and each reason to refuse a step.
+#![tactic(auto)]
+
+#[cfg(test)]
+mod lives;
+#[cfg(test)]
+mod player;
+#[cfg(test)]
+mod replay;
+#[cfg(test)]
+mod turns;
