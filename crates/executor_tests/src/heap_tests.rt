@@ -350,10 +350,10 @@ fn spawn_in_blocks<R: Wait + Abort + Drop + Copy>(
         assert_eq!(rt; spawn_counts, Counts::new(0, 0, 0, 0));
         return Ok(true);
     };
+    let used = heap.used();
     let behaviour = refused.maker.behaviour;
     drop(refused);
-    assert_eq!(rt; heap.used(), 0);
-    assert_eq!(rt; behaviour, Behaviour::Ready(4));
+    assert_eq!(rt; (used, behaviour), (0, Behaviour::Ready(4)));
     assert_eq!(rt;
         [spawn_counts, counters.counts()],
         [Counts::new(0, 0, 0, 0), Counts::new(0, 0, 1, 1)]
