@@ -40,43 +40,23 @@ fn a_player_stands_as_the_tables_say(rt: HostRuntime) -> Result<(), Fail> {
 // The first acts of a run whose poll answers Pending.
 const RUNS: [Act; 3] = [StartRun, StartPoll, AnswerPending];
 
+// The word does not fit, and this one would.
+fn unfit(bits: u64) -> Option<Refusal> {
+    Some(Refusal::UnfitWord(Some(Word::from_bits(bits))))
+}
+
 #[test]
 fn each_refusal_has_its_reason(rt: HostRuntime) -> Result<(), Fail> {
     let runnable = Position::At(Rest::Runnable);
-    let word = Word::from_bits;
     let cases = [
         (4, 0, 0, StartRun, None),
         (4, 0, 7, StartRun, Some(Refusal::NoParty)),
         (4, 0, 0, Complete, Some(Refusal::NeverThere(runnable))),
         (4, 3, 2, GainReference, Some(Refusal::NoPoll)),
-        (
-            4,
-            0,
-            1,
-            ClaimOutput,
-            Some(Refusal::UnfitWord(Some(word(0x115)))),
-        ),
-        (
-            4,
-            3,
-            0,
-            DropFuture,
-            Some(Refusal::UnfitWord(Some(word(0x11A)))),
-        ),
-        (
-            4,
-            0,
-            1,
-            DetachOrphan,
-            Some(Refusal::UnfitWord(Some(word(0x011)))),
-        ),
-        (
-            1,
-            0,
-            0,
-            GainReference,
-            Some(Refusal::UnfitWord(Some(word(0x011)))),
-        ),
+        (4, 0, 1, ClaimOutput, unfit(0x115)),
+        (4, 3, 0, DropFuture, unfit(0x11A)),
+        (4, 0, 1, DetachOrphan, unfit(0x011)),
+        (1, 0, 0, GainReference, unfit(0x011)),
         (0, 0, 0, GainReference, Some(Refusal::UnfitWord(None))),
     ];
     for (limit, front, party, act, reason) in cases {

@@ -124,50 +124,48 @@ fn a_row_is_printed_for_each_step(rt: HostRuntime) -> Result<(), Fail> {
     Ok(())
 }
 
+// A limit, the first step, and why it is not allowed.
+const REFUSED: [(u64, &str, &str); 7] = [
+    (4, "7 look", "there are 2 parties, counted from 0."),
+    (
+        4,
+        "0 complete",
+        "it is never made at At(Runnable), where gain-reference, find-limit, discard-open, discard-closed, take-up-closed, start-run, hand-over, refuse-gain may be made.",
+    ),
+    (
+        4,
+        "1 claim-output",
+        "the word 0x111 does not fit, 0x115 would: COMPLETED set.",
+    ),
+    (
+        4,
+        "0 take-up-closed",
+        "the word 0x111 does not fit, 0x119 would: CLOSED set.",
+    ),
+    (
+        4,
+        "1 cancel-idle",
+        "the word 0x111 does not fit, 0x110 would: SCHEDULED clear.",
+    ),
+    (
+        1,
+        "0 gain-reference",
+        "the word 0x111 does not fit, 0x011 would: count 0.",
+    ),
+    (0, "0 gain-reference", "no word fits at this limit."),
+];
+
 #[test]
 fn a_refused_step_is_told_with_its_reason(rt: HostRuntime) -> Result<(), Fail> {
     let alloc = rt.alloc();
-    let at_runnable =
-        "gain-reference, find-limit, discard-open, discard-closed, take-up-closed, start-run, hand-over, refuse-gain";
-    let never = format!(in alloc;
-        "it is never made at At(Runnable), where {at_runnable} may be made."
-    )?;
-    let cases = [
-        (4, "7 look", "there are 2 parties, counted from 0."),
-        (4, "0 complete", never.as_str()),
-        (
-            4,
-            "1 claim-output",
-            "the word 0x111 does not fit, 0x115 would: COMPLETED set.",
-        ),
-        (
-            4,
-            "0 take-up-closed",
-            "the word 0x111 does not fit, 0x119 would: CLOSED set.",
-        ),
-        (
-            4,
-            "1 cancel-idle",
-            "the word 0x111 does not fit, 0x110 would: SCHEDULED clear.",
-        ),
-        (
-            1,
-            "0 gain-reference",
-            "the word 0x111 does not fit, 0x011 would: count 0.",
-        ),
-        (0, "0 gain-reference", "no word fits at this limit."),
-    ];
-    for (limit, step, reason) in cases {
+    for (limit, step, reason) in REFUSED {
         let input = format!(in alloc; "limit {limit}\n{step}\n1 look\n")?;
         let mut out = Vec::new(alloc);
         let mut err = Vec::new(alloc);
-        assert_eq!(rt;
-            trace(alloc, input.as_str().as_bytes(), &mut out, &mut err),
-            1
-        );
+        let status = trace(alloc, input.as_str().as_bytes(), &mut out, &mut err);
         let wanted = format!(in alloc; "{HEAD}\nStep 1, `{step}`, is not allowed: {reason}\n")?;
+        assert_eq!(rt; (status, err.len()), (1, 0), "{step}");
         assert_eq!(rt; out.as_slice(), wanted.as_bytes(), "{step}");
-        assert_eq!(rt; err.len(), 0);
     }
     Ok(())
 }
