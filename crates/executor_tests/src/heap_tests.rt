@@ -170,11 +170,10 @@ fn build_in_blocks<R: Wait + Abort + Drop + Copy>(
         }
         Err(refused) => refused,
     };
-    let counts = counters.counts();
+    let left = (heap.used(), calls.get(), counters.counts());
     let builder = refused.builder;
     let shown = format!(in alloc; "{builder:?}")?;
-    assert_eq!(rt; (heap.used(), calls.get()), (0, 0));
-    assert_eq!(rt; counts, Counts::new(0, 0, 0, 0));
+    assert_eq!(rt; left, (0, 0, Counts::new(0, 0, 0, 0)));
     assert_eq!(rt; shown.as_str(), "Builder { metadata: 7, limit: 5 }");
     Ok(false)
 }
@@ -238,17 +237,18 @@ fn drops_and_detaches_ask_for_no_memory(rt: HostRuntime) -> Result<(), Fail> {
     let (other, other_task) = spawn_in(&heap, &tray, &counters, Behaviour::Ready(1))?;
     let filling = fill(rt.alloc(), &heap)?;
     let used = heap.used();
-    let metadata = (*runnable.metadata(), *task.metadata());
+    let metadata = *runnable.metadata();
     runnable.discard();
-    let closed = (task.is_finished(), counters.counts(), heap.used());
+    let closed = (task.is_finished(), *task.metadata());
+    let left = (counters.counts(), heap.used());
     task.detach();
     let detached = counters.counts();
     other_task.detach();
     let other_detached = counters.counts();
     drop(other);
     drop(filling);
-    assert_eq!(rt; metadata, (7, 7));
-    assert_eq!(rt; closed, (true, Counts::new(0, 0, 1, 0), used));
+    assert_eq!(rt; (metadata, closed), (7, (true, 7)));
+    assert_eq!(rt; left, (Counts::new(0, 0, 1, 0), used));
     assert_eq!(rt;
         [detached, other_detached],
         [Counts::new(0, 0, 1, 1), Counts::new(0, 0, 1, 1)]

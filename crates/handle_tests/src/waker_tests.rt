@@ -56,7 +56,7 @@ fn a_closing_runnable_may_be_dropped(rt: HostRuntime) -> Result<(), Fail> {
     Ok(())
 }
 
-// A waker that is lent or cloned, each call of it, and one that is parked.
+// Each call of a waker, and of one that is parked.
 #[test]
 fn a_waker_answers_each_call(rt: HostRuntime) -> Result<(), Fail> {
     let fixture = Fixture::new(rt, rt.alloc())?;
