@@ -2,15 +2,14 @@
 ghost use Rattle.std.specs.Prelude.{◌≡◌, ◌<◌, [], min, IfOk, IfErr};
 ghost use Rattle.std.specs.Fn.{FnOnceReturnsAt};
 ghost use Rattle.std.specs.Arc.{arc_value};
-ghost use Rattle.async_task.specs.Rule.{laid_view};
+ghost use Rattle.task_cell.specs.Rule.{laid_view};
 
-use crate::cell::{Cell, Runnable, RunnableSeat};
-use crate::handles::Task;
-use crate::handles::task::TaskParty;
-use crate::table::{Kept, Slot, View};
+use crate::task::{Task, TaskParty};
 use atomic_table::Seat;
 use std::alloc::Allocator;
 use std::sync::{Arc, Wait};
+use task_cell::table::{Kept, Slot, View};
+use task_cell::{Cell, Runnable};
 use task_core::word::LIMIT;
 use task_core::{Schedule, Wake, Yields};
 
@@ -149,16 +148,13 @@ where
     ensures cells { (result.0.inner.cell ≡ first) × (result.1.inner.cell ≡ second) }
 {
     let (runnable, task) = first.fill(seat, future);
-    let runnable = RunnableSeat::new(first, runnable);
+    let runnable = Runnable::new(first, runnable, around);
     let task = TaskParty {
         cell: second,
         party: task,
     };
     (
-        Runnable {
-            inner: runnable,
-            around,
-        },
+        runnable,
         Task {
             inner: task,
             around,

@@ -1,18 +1,19 @@
-//! A task cell on one atomic word, and the handles that executors use.
+//! A task for executors: the builder that spawns it, its Task, and what the cell hands out.
 #![tactic(auto)]
 
 pub mod builder;
-pub mod cell;
-pub mod handles;
-pub mod steps;
-pub mod table;
+pub mod cancel;
+mod debug;
+pub mod fallible;
+pub mod parked;
+pub mod task;
 
 pub use builder::{Builder, SpawnError, spawn};
-pub use cell::{Cell, Party, Runnable, TaskWaker};
-pub use handles::{
-    Cancel, FallibleTask, ParkedRunnable, ParkedTask, ParkedWaker, Task, TaskClosed,
-};
-pub use table::Kept;
+pub use cancel::Cancel;
+pub use fallible::FallibleTask;
+pub use parked::ParkedTask;
+pub use task::{Task, TaskClosed};
+pub use task_cell::{Cell, Kept, ParkedRunnable, ParkedWaker, Party, Runnable, TaskWaker};
 pub use task_core::{
     Future, LocalTask, Poll, Schedule, ScheduleInfo, Settled, Start, TaskPoll, Wake, WithInfo,
     Yields,

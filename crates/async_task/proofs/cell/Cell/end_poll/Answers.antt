@@ -1,8 +1,0 @@
-use Rattle.std.proofs.Common.{rules, ap}
-use Rattle.async_task.proofs.Allowed.{steps_always}
-use Rattle.async_task.proofs.PollOwed.{ends_poll}
-use Rattle.async_task.proofs.cell.Cell.end_poll.Goals as goal
-
-pub load-requires : goal.load-requires
-load-requires g c = let s = c.requires.party in
-    (search rules, search rules, steps_always _ _ _ _ _ _ _ _ _ _ _ _ _ (search rules) (ap (λ m. m.0) s.2) (ends_poll _ _ _ _ s.0 s.1 _ _ _))

@@ -1,8 +1,0 @@
-use Rattle.std.proofs.Common.{[]}
-use Rattle.task_laws.specs.declared.positions.Answer.TheVariants.{Nothing}
-use Rattle.async_task.specs.Calls.{as_ended}
-use Rattle.async_task.proofs.Moved.{stands, position_is}
-use Rattle.async_task.proofs.cell.Cell.finish_wake.Goals as goal
-
-pub let_go-requires : goal.let_go-requires
-let_go-requires g c = position_is c.hand_on.new.party as_ended [] (stands c.args.deliverer c.hand_on.new.party _ as_ended [] (c.hand_on.ensures.path Nothing c.requires.deliverer))

@@ -1,8 +1,0 @@
-use Rattle.std.proofs.Common.{rules, ap}
-use Rattle.async_task.proofs.Known.{steps_knowing}
-use Rattle.async_task.proofs.Owed.{looks_finished}
-use Rattle.async_task.proofs.cell.Cell.is_finished.Goals as goal
-
-pub load-found-requires : goal.load-found-requires
-load-found-requires g c = let s = c.requires.party in
-    (search rules, search rules, steps_knowing _ _ _ _ _ _ _ _ _ _ _ _ _ (search rules) (ap (λ m. m.0) s.1) (looks_finished _ _ _ _ s.0 _ _ _))

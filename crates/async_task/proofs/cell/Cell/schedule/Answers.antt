@@ -1,6 +1,0 @@
-use Rattle.std.proofs.Common.{refl}
-use Rattle.async_task.specs.Calls.{as_runnable}
-use Rattle.async_task.proofs.cell.Cell.schedule.Goals as goal
-
-pub hand_to_schedule-requires-clause-party : goal.hand_to_schedule-requires-clause-party
-hand_to_schedule-requires-clause-party g c = (as_runnable, refl, c.requires.party)

@@ -1,0 +1,80 @@
+//! The Task as a handle that cancels the task, and waits until its future is gone.
+ghost use Rattle.std.specs.Prelude.{◌≡◌, List, true, false};
+ghost use Rattle.std.specs.Arc.{arc_value};
+ghost use Rattle.task_cell.specs.declared.table.Deed.{Deed};
+ghost use Rattle.task_cell.specs.Steps.{saw_over};
+ghost use Rattle.task_cell.specs.TaskPaths.{CancelPath};
+ghost use Rattle.async_task.specs.HandlePaths.{ClosesUnless, FindsFinished, PollsClosed, IfSomeOutput};
+ghost use Rattle.task_cell.specs.Calls.{Goes, deeds, position};
+
+use crate::task::Task;
+use std::alloc::{Allocator, Global};
+use std::sync::Wait;
+use task_cell::Runnable;
+use task_core::{Schedule, TaskPoll, Wake, Yields};
+
+/// A Task whose first poll cancels the task. Each poll answers as that of a `FallibleTask` does. Dropped, polled or not, it cancels the task.
+#[derive(Drop)]
+pub struct Cancel<
+    R: Wait + Drop,
+    F: Yields,
+    Q: Drop,
+    M: Drop,
+    A: Wake,
+    X: Copy,
+    B: Allocator = Global,
+>
+where
+    Q: Schedule<Runnable<R, F, Q, M, A, X, B>>,
+{
+    pub(crate) task: Task<R, F, Q, M, A, X, B>,
+    pub(crate) cancelled: bool,
+}
+
+impl<R: Wait + Drop, F: Yields, Q: Drop, M: Drop, A: Wake, X: Copy, B: Allocator> Cancel<
+    R,
+    F,
+    Q,
+    M,
+    A,
+    X,
+    B,
+>
+where
+    Q: Schedule<Runnable<R, F, Q, M, A, X, B>>,
+{
+    /// Whether the task is completed or closed. Once it is, each further answer is true.
+    pub fn is_finished(&mut self) -> bool
+        ensures path { FindsFinished self.old.task.inner.party self.new.task.inner.party result }
+        ensures seen { saw_over (deeds self.old.task.inner.party) ≡ true → result ≡ true }
+        ensures cancelled { self.new.cancelled ≡ self.old.cancelled }
+    {
+        self.task.is_finished()
+    }
+
+    /// Cancels the task, if no earlier poll did, and then answers with the output of a task that was completed before, or with `None` once the future of the task is gone.
+    /// Otherwise a clone of `awaiter` is registered, to be woken then.
+    ///
+    /// The output meets what the type of the future states. After `None` each later poll answers the same.
+    /// `NoMemory` says that the clone was refused: the task is cancelled all the same, nothing was registered, and an awaiter that an earlier poll registered is still woken.
+    pub fn poll(&mut self, awaiter: &A) -> TaskPoll<Option<F::Output>>
+        ensures path { PollsClosed self.old.cancelled (CancelPath ((n : _) × Q.scheduled (arc_value self.old.task.inner.cell).schedule n (record { woken_while_running = false })) ((a : A) × A.woken a)) A.cloned A.woken A.woken_by_ref A.compared awaiter.now self.old.task.inner.party self.new.task.inner.party result }
+        ensures meets { IfSomeOutput result (λ output. ∥ F.Yields.meets output ∥₁) }
+        ensures cancelled { self.new.cancelled ≡ true }
+    {
+        self.cancel_once();
+        self.task.inner.poll(awaiter)
+    }
+
+    // Cancels the task, unless an earlier poll did.
+    fn cancel_once(&mut self)
+        ensures path { (path : List Deed) × ClosesUnless self.old.cancelled (CancelPath ((n : _) × Q.scheduled (arc_value self.old.task.inner.cell).schedule n (record { woken_while_running = false })) ((a : A) × A.woken a)) path × Goes path (position self.old.task.inner.party) self.old.task.inner.party self.new.task.inner.party }
+        ensures cancelled { self.new.cancelled ≡ true }
+    {
+        if self.cancelled {
+            return;
+        }
+        self.cancelled = true;
+        self.task.inner.cancel(self.task.around);
+    }
+}

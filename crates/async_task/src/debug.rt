@@ -1,0 +1,44 @@
+//! How a Task and a FallibleTask are shown.
+use crate::fallible::FallibleTask;
+use crate::task::Task;
+use std::alloc::Allocator;
+use std::fmt;
+use std::sync::Wait;
+use task_cell::Runnable;
+use task_core::{Schedule, Wake, Yields};
+
+/// Shows the word as one load finds it, and the metadata. No party notes that load.
+impl<
+    R: Wait + Drop,
+    F: Yields,
+    Q: Drop,
+    M: Drop + fmt::Debug,
+    A: Wake,
+    X: Copy,
+    B: Allocator,
+> fmt::Debug for Task<R, F, Q, M, A, X, B>
+where
+    Q: Schedule<Runnable<R, F, Q, M, A, X, B>>,
+{
+    fn fmt<W: fmt::Write>(&self, f: &mut fmt::Formatter<W>) -> fmt::Result {
+        self.inner.cell.show(f, "Task")
+    }
+}
+
+/// Shows the word as one load finds it, and the metadata. No party notes that load.
+impl<
+    R: Wait + Drop,
+    F: Yields,
+    Q: Drop,
+    M: Drop + fmt::Debug,
+    A: Wake,
+    X: Copy,
+    B: Allocator,
+> fmt::Debug for FallibleTask<R, F, Q, M, A, X, B>
+where
+    Q: Schedule<Runnable<R, F, Q, M, A, X, B>>,
+{
+    fn fmt<W: fmt::Write>(&self, f: &mut fmt::Formatter<W>) -> fmt::Result {
+        self.task.inner.cell.show(f, "FallibleTask")
+    }
+}

@@ -1,0 +1,89 @@
+//! The Task as a handle whose polls answer `None` for a task that is closed.
+ghost use Rattle.std.specs.Prelude.{◌≡◌, true, false};
+ghost use Rattle.std.specs.Arc.{arc_value};
+ghost use Rattle.task_cell.specs.Steps.{saw_over};
+ghost use Rattle.async_task.specs.HandlePaths.{FindsFinished, PollsOnce, IfSomeOutput};
+ghost use Rattle.task_cell.specs.Calls.{deeds};
+
+use crate::cancel::Cancel;
+use crate::task::Task;
+use std::alloc::{Allocator, Global};
+use std::sync::Wait;
+use task_cell::Runnable;
+use task_core::{Schedule, TaskPoll, Wake, Yields};
+
+/// A Task whose polls answer `None` where a Task's answer `TaskClosed`. Dropped, it cancels the task.
+#[derive(Drop)]
+pub struct FallibleTask<
+    R: Wait + Drop,
+    F: Yields,
+    Q: Drop,
+    M: Drop,
+    A: Wake,
+    X: Copy,
+    B: Allocator = Global,
+>
+where
+    Q: Schedule<Runnable<R, F, Q, M, A, X, B>>,
+{
+    pub(crate) task: Task<R, F, Q, M, A, X, B>,
+}
+
+impl<R: Wait + Drop, F: Yields, Q: Drop, M: Drop, A: Wake, X: Copy, B: Allocator> FallibleTask<
+    R,
+    F,
+    Q,
+    M,
+    A,
+    X,
+    B,
+>
+where
+    Q: Schedule<Runnable<R, F, Q, M, A, X, B>>,
+{
+    /// The metadata that the builder was given.
+    pub fn metadata(&self) -> &M
+        ensures { result.now ≡ (arc_value self.now.task.inner.cell).metadata }
+    {
+        self.task.metadata()
+    }
+
+    /// Does what a drop does: cancels the task, and gives the Task up.
+    pub fn discard(self) {
+        drop(self);
+    }
+
+    /// Gives the Task up and lets the task go on. An output that nobody claimed is dropped.
+    pub fn detach(self) {
+        let FallibleTask { task } = self;
+        task.detach();
+    }
+
+    /// The same Task, as a handle whose first poll cancels the task. This call makes no step.
+    pub fn cancel(self) -> Cancel<R, F, Q, M, A, X, B>
+        ensures task { result.task ≡ self.task }
+        ensures cancelled { result.cancelled ≡ false }
+    {
+        let FallibleTask { task } = self;
+        task.cancel()
+    }
+
+    /// Whether the task is completed or closed. Once it is, each further answer is true.
+    pub fn is_finished(&mut self) -> bool
+        ensures path { FindsFinished self.old.task.inner.party self.new.task.inner.party result }
+        ensures seen { saw_over (deeds self.old.task.inner.party) ≡ true → result ≡ true }
+    {
+        self.task.is_finished()
+    }
+
+    /// Answers with the output once there is one, or with `None` where the task is closed. Otherwise a clone of `awaiter` is registered, to be woken then.
+    ///
+    /// The output meets what the type of the future states. `None` says that no output will come, and each later poll answers the same.
+    /// `NoMemory` says that the clone was refused: nothing was registered, and an awaiter that an earlier poll registered is still woken.
+    pub fn poll(&mut self, awaiter: &A) -> TaskPoll<Option<F::Output>>
+        ensures path { PollsOnce A.cloned A.woken A.woken_by_ref A.compared awaiter.now self.old.task.inner.party self.new.task.inner.party result }
+        ensures meets { IfSomeOutput result (λ output. ∥ F.Yields.meets output ∥₁) }
+    {
+        self.task.inner.poll(awaiter)
+    }
+}

@@ -1,0 +1,43 @@
+//! A Task without the surroundings, to be kept in a queue or a store that stands in the surroundings.
+//! It must be unparked again; nothing is dropped of one that is forgotten.
+
+ghost use Rattle.std.specs.Prelude.{◌≡◌};
+ghost use Rattle.std.specs.Arc.{arc_value};
+
+use crate::task::{Task, TaskParty};
+use std::alloc::{Allocator, Global};
+use std::sync::Wait;
+use task_cell::Runnable;
+use task_core::{Schedule, Wake, Yields};
+
+/// A Task without the surroundings. It counts as the Task, and can't be dropped: it is unparked.
+pub struct ParkedTask<R, F: Yields, Q, M, A, B: Allocator = Global> {
+    pub(crate) inner: TaskParty<R, F, Q, M, A, B>,
+}
+
+impl<R: Wait + Drop, F: Yields, Q: Drop, M: Drop, A: Wake, B: Allocator> ParkedTask<
+    R,
+    F,
+    Q,
+    M,
+    A,
+    B,
+> {
+    /// The metadata that the builder was given.
+    pub fn metadata(&self) -> &M
+        ensures { result.now ≡ (arc_value self.now.inner.cell).metadata }
+    {
+        self.inner.cell.metadata()
+    }
+
+    /// The Task again, with these surroundings. It makes no step.
+    pub fn unpark<X: Copy>(self, around: X) -> Task<R, F, Q, M, A, X, B>
+    where
+        Q: Schedule<Runnable<R, F, Q, M, A, X, B>>,
+        ensures inner { result.inner ≡ self.inner }
+        ensures around { result.around ≡ around }
+    {
+        let ParkedTask { inner } = self;
+        Task { inner, around }
+    }
+}

@@ -1,0 +1,88 @@
+-- What a step comes to for the party that made it.
+use Rattle.std.proofs.Common.{◌≡◌, ℕ, Bool, true, false, List, [], ◌∷◌, ◌++◌, refl, sym, ap, ◌∙◌, subst}
+use Rattle.atomic_table.specs.Table.{Me, rest}
+use Rattle.task_core.specs.Word.{State}
+use Rattle.task_laws.specs.declared.positions.Position.{Position}
+use Rattle.task_core.specs.declared.moves.Act.{Act}
+use Rattle.task_laws.specs.Table.{Slots}
+use Rattle.task_cell.specs.declared.table.Slot.{Slot}
+use Rattle.task_cell.specs.declared.table.Deed.{Deed}
+use Rattle.task_cell.specs.declared.table.View.{View}
+use Rattle.task_cell.specs.declared.cell.Party.{Party}
+use Rattle.task_laws.specs.Theorem.{owns_awaiter}
+use Rattle.task_cell.specs.Rule.{member, view, has_work}
+use Rattle.task_cell.specs.Steps.{head_of, future_first, output_first, acted, Carries, Carried, Makes}
+use Rattle.task_cell.specs.Calls.{deeds, position, holds, limit_of, after, StandsWith, GoesWith}
+
+after-append : (a b l : List Deed) → after (a ++ b) l ≡ after b (after a l)
+after-append [] b l = refl
+after-append (d ∷ a) b l = after-append a b (d ∷ l)
+
+module _ {F T A : Type 0} where
+  -- the seat after the step, where the party stood
+  pub record Moved (acts : List Act) (w : State) (at : Position) (held : List (ℕ × Slot F T A)) (p q : Party F T A) : Type 0 where
+    pub slots : Slots
+    pub viewed : q.seat.me.0 ≡ acted w slots acts (view (limit_of p) (member at (deeds p) ∷ []))
+    pub carried : Carried at (head_of (acted w slots acts (view (limit_of p) (member at (deeds p) ∷ []))).members).at held q.seat.me.1
+
+  pub moved : (acts : List Act) (w : State) (at : Position) (held : List (ℕ × Slot F T A)) (p q : Party F T A) → StandsWith at held p → Makes acts w p.seat.me q.seat.me → Moved acts w at held p q
+  moved acts w at held p q s m = let viewed = m.viewed ∙ ap (λ x. acted w m.slots acts x.0) s in record {
+    slots = m.slots;
+    viewed = viewed;
+    carried = subst (λ (z : Position × Position × List (ℕ × Slot F T A)). Carried z.0 z.1 z.2 q.seat.me.1)
+        (λ i. (ap (λ (x : Me (Slot F T A) View). (head_of x.0.members).at) s i, ap (λ (v : View). (head_of v.members).at) viewed i, ap (λ (x : Me (Slot F T A) View). x.1) s i)) m.carried;
+  }
+
+  -- .. where it ends there, with these places
+  pub goes : (p q : Party F T A) (path : List Deed) (at : Position) (held : List (ℕ × Slot F T A)) → q.seat.table_id ≡ p.seat.table_id → q.seat.me.0 ≡ view (limit_of p) (member at (after path (deeds p)) ∷ []) → q.seat.me.1 ≡ held → GoesWith path at held p q
+  goes p q path at held cell viewed has = record { cell = cell; is = λ i. (viewed i, has i) }
+
+  -- one path, and then another
+  pub goes_on : (p q r : Party F T A) (a b : List Deed) (at at' : Position) (held held' : List (ℕ × Slot F T A)) → GoesWith a at held p q → GoesWith b at' held' q r → GoesWith (a ++ b) at' held' p r
+  goes_on p q r a b at at' held held' f g = record {
+    cell = g.cell ∙ f.cell;
+    is = g.is ∙ ap (λ (z : ℕ × List Deed). (view z.0 (member at' z.1 ∷ []), held'))
+        (λ i. (ap (λ (x : Me (Slot F T A) View). x.0.limit) f.is i, (ap (λ (x : Me (Slot F T A) View). after b (head_of x.0.members).deeds) f.is ∙ sym (after-append a b (deeds p))) i));
+  }
+
+  -- it stands where it went
+  pub stands : (p q : Party F T A) (path : List Deed) (at : Position) (held : List (ℕ × Slot F T A)) → GoesWith path at held p q → StandsWith at held q
+  stands p q path at held g = g.is ∙ ap (λ (z : ℕ × List Deed). (view z.0 (member at z.1 ∷ []), held))
+      (λ i. (sym (ap (λ (x : Me (Slot F T A) View). x.0.limit) g.is) i, sym (ap (λ (x : Me (Slot F T A) View). (head_of x.0.members).deeds) g.is) i))
+
+  pub position_is : (p : Party F T A) (at : Position) (held : List (ℕ × Slot F T A)) → StandsWith at held p → position p ≡ at
+  position_is p at held s = ap (λ (x : Me (Slot F T A) View). (head_of x.0.members).at) s
+
+  pub held_is : (p : Party F T A) (at : Position) (held : List (ℕ × Slot F T A)) → StandsWith at held p → holds p ≡ held
+  held_is p at held s = ap (λ (x : Me (Slot F T A) View). x.1) s
+
+  -- the cell has the same limit
+  pub limit_is : (p q : Party F T A) (path : List Deed) (at : Position) (held : List (ℕ × Slot F T A)) → GoesWith path at held p q → limit_of q ≡ limit_of p
+  limit_is p q path at held g = ap (λ (x : Me (Slot F T A) View). x.0.limit) g.is
+
+  -- the first place of those that it has
+  pub first_held : (p : Party F T A) (at : Position) (k : ℕ) (y : Slot F T A) (l : List (ℕ × Slot F T A)) → StandsWith at ((k, y) ∷ l) p → holds p ≡ (k, y) ∷ rest (holds p)
+  first_held p at k y l s = let e = held_is p at ((k, y) ∷ l) s in e ∙ ap (λ r. (k, y) ∷ r) (ap rest (sym e))
+
+  -- .. and the first two, of future and output
+  pub future_held : (p : Party F T A) (at : Position) (y z : Slot F T A) → StandsWith at (future_first y z []) p → holds p ≡ future_first y z (rest (rest (holds p)))
+  future_held p at y z s = let e = held_is p at (future_first y z []) s in e ∙ ap (future_first y z) (ap (λ l. rest (rest l)) (sym e))
+
+  pub output_held : (p : Party F T A) (at : Position) (y z : Slot F T A) → StandsWith at (output_first y z []) p → holds p ≡ output_first y z (rest (rest (holds p)))
+  output_held p at y z s = let e = held_is p at (output_first y z []) s in e ∙ ap (output_first y z) (ap (λ l. rest (rest l)) (sym e))
+
+-- a place that nobody takes or gives stays
+carries_nothing : {F T A : Type 0} (a c : Bool) (q : Position) (l l' : List (ℕ × Slot F T A)) → Carries {F = F} {T = T} {A = A} a a c c q l l' → l' ≡ l
+carries_nothing true true q l l' e = e
+carries_nothing true false q l l' e = e
+carries_nothing false true q l l' e = e
+carries_nothing false false q l l' e = e
+
+-- a step without acts leaves the seat as it was
+pub still : {F T A : Type 0} (w : State) (at : Position) (held : List (ℕ × Slot F T A)) (p q : Party F T A) → StandsWith at held p → Makes [] w p.seat.me q.seat.me → q.seat.me ≡ p.seat.me
+still w at held p q s m = let x = moved [] w at held p q s m in
+    (λ i. (x.viewed i, carries_nothing (has_work at) (owns_awaiter at) at held q.seat.me.1 x.carried i)) ∙ sym s
+
+-- a fact over a value and some other is one over the value that it equals
+pub fact_along : {C N : Type 0} (Fact : C → N → Type 0) (n : N) {x y : C} → x ≡ y → Fact x n → (n : N) × Fact y n
+fact_along Fact n e h = (n, subst (λ z. Fact z n) e h)

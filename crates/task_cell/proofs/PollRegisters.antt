@@ -1,0 +1,105 @@
+-- The paths of a registering, put together from those of its parts.
+use Rattle.std.proofs.Common.{◌≡◌, ℕ, Bool, true, false, Option, Some, None, List, [], ◌∷◌, ◌++◌, refl, ◌∙◌, subst}
+use Rattle.task_core.specs.Word.{State}
+use Rattle.task_laws.specs.declared.positions.Position.{Position}
+use Rattle.task_laws.specs.declared.positions.Position.TheVariants.{Looking, RefusedClone, Registered, CloneInHand}
+use Rattle.task_core.specs.declared.moves.Act.TheVariants.{CloneAwaiter, StoreAwaiter, TakeAwaiter, FindNotify, BeginRegister, EndRegister, EndRegisterNotified, DropAwaiter, WakeAwaiter}
+use Rattle.task_laws.specs.Table.{after_storing}
+use Rattle.task_cell.specs.declared.table.Slot.{Slot}
+use Rattle.task_cell.specs.declared.table.Slot.TheVariants.{Awaiter}
+use Rattle.task_cell.specs.declared.table.Deed.{Deed}
+use Rattle.task_cell.specs.declared.cell.Party.{Party}
+use Rattle.task_cell.specs.Rule.{Waits}
+use Rattle.task_cell.specs.Calls.{position, holds, StandsWith, GoesWith, Goes, row, act}
+use Rattle.task_cell.specs.PollPaths as paths
+use Rattle.task_cell.specs.PollPaths.{RegisterPath, poll_number, dropped_if, BeginsRegister, begins, finds_one, EndsRegister, ends, finds_notified}
+use Rattle.task_cell.proofs.Moved.{held_is}
+use Rattle.task_cell.proofs.PollOwed.{same_first}
+use Rattle.task_cell.proofs.PollWays.{then_goes}
+
+-- the deeds of a Task that puts its clone in
+abbrev pub stored : State → List Deed
+stored w = act CloneAwaiter ∷ row BeginRegister w ∷ act StoreAwaiter ∷ []
+
+number_after : (n : ℕ) (hand : Option ℕ) → poll_number (after_storing n hand) ≡ n
+number_after n None = refl
+number_after n (Some old) = refl
+
+module _ {F T A : Type 0} where
+  -- what a Task comes to that would take the slot, and that would give it back
+  abbrev pub Begun : Party F T A → Party F T A → Bool → Type 0
+  Begun p q true = (w : State) × (hand : Option ℕ) × (y : Slot F T A) × (w.notifying ≡ false) × Waits hand y × GoesWith (stored w) (after_storing (poll_number (position p)) hand) ((2, y) ∷ []) p q
+  Begun p q false = (w : State) × (w.notifying ≡ true) × Goes (act CloneAwaiter ∷ row FindNotify w ∷ []) (RefusedClone (poll_number (position p))) p q
+
+  begun_by : (p q : Party F T A) (b : Bool) → BeginsRegister p q b → Begun p q b
+  begun_by p q true (begins w hand y e h g) = (w, hand, y, e, h, g)
+  begun_by p q false (finds_one w e g) = (w, e, g)
+
+  pub has_begun : (p q : Party F T A) (b c : Bool) → BeginsRegister p q b → b ≡ c → Begun p q c
+  has_begun p q b c r e = begun_by p q c (subst (λ b. BeginsRegister p q b) e r)
+
+  abbrev pub Ended : Party F T A → Party F T A → Bool → Type 0
+  Ended p q true = (v : State) × (v.notifying ≡ false) × Goes (row EndRegister v ∷ []) (Looking (poll_number (position p))) p q
+  Ended p q false = (q.seat.table_id ≡ p.seat.table_id) × (q.seat.me ≡ p.seat.me)
+
+  ended_by : (p q : Party F T A) (b : Bool) → EndsRegister p q b → Ended p q b
+  ended_by p q true (ends v e g) = (v, e, g)
+  ended_by p q false (finds_notified e f) = (e, f)
+
+  pub has_ended : (p q : Party F T A) (b c : Bool) → EndsRegister p q b → b ≡ c → Ended p q c
+  has_ended p q b c r e = ended_by p q c (subst (λ b. EndsRegister p q b) e r)
+
+  -- the old awaiter was dropped, where there was one
+  is_stored : (p q r : Party F T A) (w : State) (stood : Bool) (hand : Option ℕ) (n : ℕ) (held held' : List (ℕ × Slot F T A)) → GoesWith (stored w) (after_storing n hand) held p q → GoesWith (dropped_if stood) (Registered (poll_number (position q))) held' q r
+      → GoesWith (stored w ++ dropped_if stood) (Registered n) held' p r
+  is_stored p q r w stood hand n held held' g h = subst (λ i. GoesWith (stored w ++ dropped_if stood) (Registered i) held' p r) (number_after n hand)
+      (then_goes p q r (stored w) (dropped_if stood) (after_storing n hand) held held' (λ x. Registered (poll_number x)) g h)
+
+  -- a step that left the seat as it was
+  goes_still : (p q r : Party F T A) (path : List Deed) (at : Position) (held : List (ℕ × Slot F T A)) → GoesWith path at held p q → (r.seat.table_id ≡ q.seat.table_id) × (r.seat.me ≡ q.seat.me) → GoesWith path at held p r
+  goes_still p q r path at held g e = record { cell = e.0 ∙ g.cell; is = e.1 ∙ g.is }
+
+  -- the clone was put in
+  abbrev pub HasStored : A → Party F T A → Party F T A → Type 0
+  HasStored clone p q = (w : State) × (stood : Bool) × (w.notifying ≡ false) × GoesWith (stored w ++ dropped_if stood) (Registered (poll_number (position p))) ((2, Awaiter clone) ∷ []) p q
+
+  pub stores_clone : (p q r : Party F T A) (b : Bool) (clone : A) → BeginsRegister p q b → b ≡ true → (stood : Bool) × GoesWith (dropped_if stood) (Registered (poll_number (position q))) ((2, Awaiter clone) ∷ []) q r → HasStored clone p r
+  stores_clone p q r b clone f e s = let x = has_begun p q b true f e in (x.0, s.0, x.3, is_stored p q r x.0 s.0 x.1 (poll_number (position p)) ((2, x.2) ∷ []) ((2, Awaiter clone) ∷ []) x.5 s.1)
+
+  -- .. and is still there, where a notifier came meanwhile
+  pub keeps_clone : (p r t : Party F T A) (b : Bool) (clone : A) → HasStored clone p r → EndsRegister r t b → b ≡ false → HasStored clone p t
+  keeps_clone p r t b clone x f e = (x.0, x.1, x.2, goes_still p r t (stored x.0 ++ dropped_if x.1) (Registered (poll_number (position p))) ((2, Awaiter clone) ∷ []) x.3 (has_ended r t b false f e))
+
+  -- the clone that is taken out is the one that was put in
+  pub same_clone : (p : Party F T A) (n : ℕ) (a b : A) → StandsWith (Registered n) ((2, Awaiter a) ∷ []) p → holds p ≡ (2, Awaiter b) ∷ [] → b ≡ a
+  same_clone p n a b s e = let same = same_first (holds p) [] [] 2 (Awaiter a) (Awaiter b) (held_is p (Registered n) ((2, Awaiter a) ∷ []) s) e in cc
+
+  module _ (cloned : A → Option A → Type 0) (woken woken_by_ref : A → Type 0) (awaiter : A) where
+    abbrev pub IsRegistered : ℕ → Party F T A → Party F T A → Type 0
+    IsRegistered n p r = (path : List Deed) × RegisterPath cloned woken woken_by_ref awaiter path × Goes path (Looking n) p r
+
+    pub woken_at_once : (p q r : Party F T A) (n : ℕ) (w : State) (clone : A) → w.notifying ≡ true → cloned awaiter (Some clone) → woken_by_ref awaiter
+        → Goes (act CloneAwaiter ∷ row FindNotify w ∷ []) (RefusedClone n) p q → Goes (act DropAwaiter ∷ []) (Looking (poll_number (position q))) q r → IsRegistered n p r
+    woken_at_once p q r n w clone e c made g h = let a : List Deed = act CloneAwaiter ∷ row FindNotify w ∷ [] in
+        (a ++ (act DropAwaiter ∷ []), paths.finds_notifier w clone e c made, then_goes p q r a (act DropAwaiter ∷ []) (RefusedClone n) [] [] (λ x. Looking (poll_number x)) g h)
+
+    pub registered : (p r t : Party F T A) (n : ℕ) (w v : State) (stood : Bool) (held : List (ℕ × Slot F T A)) (clone : A) → w.notifying ≡ false → v.notifying ≡ false → cloned awaiter (Some clone)
+        → GoesWith (stored w ++ dropped_if stood) (Registered n) held p r → Goes (row EndRegister v ∷ []) (Looking (poll_number (position r))) r t → IsRegistered n p t
+    registered p r t n w v stood held clone e f c g h = let a : List Deed = stored w ++ dropped_if stood in
+        (a ++ (row EndRegister v ∷ []), paths.registers w v stood clone e f c, then_goes p r t a (row EndRegister v ∷ []) (Registered n) held [] (λ x. Looking (poll_number x)) g h)
+
+    pub was_taken_back : (p r t : Party F T A) (n : ℕ) (w v : State) (stood : Bool) (held : List (ℕ × Slot F T A)) → GoesWith (stored w ++ dropped_if stood) (Registered n) held p r
+        → Goes (act TakeAwaiter ∷ row EndRegisterNotified v ∷ []) (CloneInHand (poll_number (position r))) r t → Goes ((stored w ++ dropped_if stood) ++ (act TakeAwaiter ∷ row EndRegisterNotified v ∷ [])) (CloneInHand n) p t
+    was_taken_back p r t n w v stood held g h = then_goes p r t (stored w ++ dropped_if stood) (act TakeAwaiter ∷ row EndRegisterNotified v ∷ []) (Registered n) held [] (λ x. CloneInHand (poll_number x)) g h
+
+    pub was_notified : (p r t u : Party F T A) (n : ℕ) (w v : State) (stood : Bool) (held : List (ℕ × Slot F T A)) (clone : A) → w.notifying ≡ false → v.notifying ≡ true → cloned awaiter (Some clone) → woken clone
+        → GoesWith (stored w ++ dropped_if stood) (Registered n) held p r → Goes (act TakeAwaiter ∷ row EndRegisterNotified v ∷ []) (CloneInHand (poll_number (position r))) r t → Goes (act WakeAwaiter ∷ []) (Looking (poll_number (position t))) t u → IsRegistered n p u
+    was_notified p r t u n w v stood held clone e f c made g h k = let a : List Deed = stored w ++ dropped_if stood in let b : List Deed = act TakeAwaiter ∷ row EndRegisterNotified v ∷ [] in (
+      a ++ (act TakeAwaiter ∷ row EndRegisterNotified v ∷ act WakeAwaiter ∷ []),
+      paths.was_notified w v stood clone e f c made,
+      subst (λ path. Goes path (Looking n) p u) (joined stood) (then_goes p t u (a ++ b) (act WakeAwaiter ∷ []) (CloneInHand n) [] [] (λ x. Looking (poll_number x)) (was_taken_back p r t n w v stood held g h) k),
+    )
+      where
+        joined : (stood : Bool) → ((stored w ++ dropped_if stood) ++ (act TakeAwaiter ∷ row EndRegisterNotified v ∷ [])) ++ (act WakeAwaiter ∷ []) ≡ (stored w ++ dropped_if stood) ++ (act TakeAwaiter ∷ row EndRegisterNotified v ∷ act WakeAwaiter ∷ [])
+        joined true = refl
+        joined false = refl

@@ -1,0 +1,168 @@
+-- The paths of a poll, put together from those of its parts.
+use Rattle.std.proofs.Common.{◌≡◌, ℕ, Bool, true, false, Option, Some, None, List, [], ◌∷◌, ◌++◌, refl, sym, ap, ◌∙◌, subst}
+use Rattle.task_core.specs.Word.{State}
+use Rattle.task_laws.specs.declared.positions.Position.{Position}
+use Rattle.task_laws.specs.declared.positions.Way.{Way}
+use Rattle.task_laws.specs.declared.positions.Way.TheVariants.{OfRun, OfDrop, OfCancel, OfPoll, OfClaim}
+use Rattle.task_laws.specs.declared.positions.Position.TheVariants.{Notifier, AwaiterInHand, Claimer, Answering}
+use Rattle.task_core.specs.declared.moves.Act.TheVariants.{ClaimOutput, HandOutOutput, TakeAwaiter, DropAwaiter, WakeAwaiter, EndCall, BeginNotify, MissNotify, EndNotify}
+use Rattle.task_laws.specs.declared.positions.PollAnswer.TheVariants.{IsReady}
+use Rattle.task_laws.specs.Table.{goes_on as on_from, goes_off, may_drop, notifies}
+use Rattle.task_cell.specs.declared.table.Slot.{Slot}
+use Rattle.task_cell.specs.declared.table.Deed.{Deed}
+use Rattle.task_cell.specs.declared.cell.Party.{Party}
+use Rattle.task_cell.specs.Calls.{position, holds, StandsWith, Stands, GoesWith, Goes, Notifies, misses, finds_none, takes_awaiter, row, act, as_task, way_of}
+use Rattle.task_cell.specs.PollScripts.{has_output}
+use Rattle.task_cell.specs.PollPaths as paths
+use Rattle.task_cell.specs.PollPaths.{TakePath, TakePathIf, ClaimPath, RegisterPath, AnswerPath, PollPath, poll_number, claims_from, dropped_if, Looks, LooksAgain, BeginsRegister, EndsRegister, Registers}
+use Rattle.task_cell.proofs.Moved.{goes_on, stands, position_is, held_is}
+
+never : {P : Type 0} → false ≡ true → P
+never e = absurd (cc)
+
+-- the way on of a poll that may drop the awaiter
+some_goes_on : (way : Way) (i : ℕ) → may_drop way ≡ true → on_from (Some i) way ≡ AwaiterInHand i way
+some_goes_on OfRun i e = never e
+some_goes_on OfDrop i e = never e
+some_goes_on (OfCancel n) i e = never e
+some_goes_on (OfPoll n) i e = refl
+some_goes_on (OfClaim n) i e = refl
+
+none_goes_on : (way : Way) → may_drop way ≡ true → on_from None way ≡ goes_off way
+none_goes_on OfRun e = never e
+none_goes_on OfDrop e = never e
+none_goes_on (OfCancel n) e = never e
+none_goes_on (OfPoll n) e = refl
+none_goes_on (OfClaim n) e = refl
+
+-- where the poll ends that stands here
+abbrev pub ends : Position → Position
+ends p = as_task (poll_number p)
+
+-- the deeds of a notifier that takes the slot
+abbrev pub took : State → State → List Deed
+took w v = row BeginNotify w ∷ act TakeAwaiter ∷ row EndNotify v ∷ []
+
+module _ {F T A : Type 0} where
+  abbrev Took : Party F T A → Party F T A → Option A → Type 0
+  Took p q None = Unit {0}
+  Took p q (Some a) = (w : State) × (v : State) × (i : ℕ) × GoesWith (took w v) (on_from (Some i) (way_of (position p))) (holds p) p q
+
+  took_one : (p q : Party F T A) (x : Option A) → Notifies p q x → Took p q x
+  took_one p q None (misses w g) = tt
+  took_one p q None (finds_none w v g) = tt
+  took_one p q (Some a) (takes_awaiter w v i b g) = (w, v, i, g)
+
+  -- .. and where it stands with the awaiter in hand
+  abbrev pub InHand : Way → List (ℕ × Slot F T A) → Party F T A → Party F T A → Type 0
+  InHand way held p q = (w : State) × (v : State) × (i : ℕ) × GoesWith (took w v) (AwaiterInHand i way) held p q
+
+  pub in_hand : (way : Way) (held : List (ℕ × Slot F T A)) (p q : Party F T A) (a : A) (x : Option A) → StandsWith (Notifier way) held p → may_drop way ≡ true → Notifies p q x → x ≡ Some a → InHand way held p q
+  in_hand way held p q a x s e n is = let g = took_one p q (Some a) (subst (λ y. Notifies p q y) is n) in (
+    g.0,
+    g.1,
+    g.2,
+    subst (λ (z : Position × List (ℕ × Slot F T A)). GoesWith (took g.0 g.1) z.0 z.1 p q)
+        (λ j. ((ap (λ (at : Position). on_from (Some g.2) (way_of at)) (position_is p (Notifier way) held s) ∙ some_goes_on way g.2 e) j, held_is p (Notifier way) held s j)) g.3,
+  )
+
+  pub hand_stands : (way : Way) (held : List (ℕ × Slot F T A)) (p q : Party F T A) → (h : InHand way held p q) → StandsWith (AwaiterInHand h.2 way) held q
+  hand_stands way held p q h = stands p q (took h.0 h.1) (AwaiterInHand h.2 way) held h.3
+
+  -- the awaiter is dealt with, and the poll goes on
+  dealt : (way : Way) (held : List (ℕ × Slot F T A)) (b : List Deed) (p q r : Party F T A) → StandsWith (Notifier way) held p → (h : InHand way held p q) → GoesWith b (goes_off (way_of (position q))) (holds q) q r
+      → GoesWith (took h.0 h.1 ++ b) (goes_off (way_of (position p))) (holds p) p r
+  dealt way held b p q r s h g = let t = hand_stands way held p q h in
+      let at = position_is q (AwaiterInHand h.2 way) held t in let has = held_is q (AwaiterInHand h.2 way) held t in
+      let whole = goes_on p q r (took h.0 h.1) b (AwaiterInHand h.2 way) (goes_off way) held held h.3
+      (subst (λ (z : Position × List (ℕ × Slot F T A)). GoesWith b (goes_off (way_of z.0)) z.1 q r) (λ j. (at j, has j)) g) in
+      subst (λ (z : Position × List (ℕ × Slot F T A)). GoesWith (took h.0 h.1 ++ b) (goes_off (way_of z.0)) z.1 p r) (λ j. (sym (position_is p (Notifier way) held s) j, sym (held_is p (Notifier way) held s) j)) whole
+
+  module _ (woken : A → Type 0) (compared : A → A → Bool → Type 0) (awaiter : A) where
+    abbrev pub Takes : Party F T A → Party F T A → Type 0
+    Takes p r = (path : List Deed) × TakePath woken compared awaiter path × GoesWith path (goes_off (way_of (position p))) (holds p) p r
+
+    pub dropped : (way : Way) (held : List (ℕ × Slot F T A)) (p q r : Party F T A) (a : A) (x : Option A) → StandsWith (Notifier way) held p → may_drop way ≡ true → Notifies p q x → x ≡ Some a
+        → compared a awaiter true → GoesWith (act DropAwaiter ∷ []) (goes_off (way_of (position q))) (holds q) q r → Takes p r
+    dropped way held p q r a x s e n is same g = let h = in_hand way held p q a x s e n is in
+        (took h.0 h.1 ++ (act DropAwaiter ∷ []), paths.drops h.0 h.1 a same, dealt way held (act DropAwaiter ∷ []) p q r s h g)
+
+    pub woke : (way : Way) (held : List (ℕ × Slot F T A)) (p q r : Party F T A) (a : A) (x : Option A) → StandsWith (Notifier way) held p → may_drop way ≡ true → Notifies p q x → x ≡ Some a
+        → compared a awaiter false → woken a → GoesWith (act WakeAwaiter ∷ []) (goes_off (way_of (position q))) (holds q) q r → Takes p r
+    woke way held p q r a x s e n is other made g = let h = in_hand way held p q a x s e n is in
+        (took h.0 h.1 ++ (act WakeAwaiter ∷ []), paths.wakes h.0 h.1 a other made, dealt way held (act WakeAwaiter ∷ []) p q r s h g)
+
+    took_none : (way : Way) (held : List (ℕ × Slot F T A)) (p r : Party F T A) (path : List Deed) → StandsWith (Notifier way) held p → may_drop way ≡ true → TakePath woken compared awaiter path
+        → GoesWith path (on_from None (way_of (position p))) (holds p) p r → Takes p r
+    took_none way held p r path s e t g = (
+      path,
+      t,
+      subst (λ at. GoesWith path at (holds p) p r)
+          (ap (λ (at : Position). on_from None (way_of at)) (position_is p (Notifier way) held s) ∙ (none_goes_on way e ∙ ap (λ (at : Position). goes_off (way_of at)) (sym (position_is p (Notifier way) held s)))) g,
+    )
+
+    nothing_by : (way : Way) (held : List (ℕ × Slot F T A)) (p r : Party F T A) (x : Option A) → StandsWith (Notifier way) held p → may_drop way ≡ true → Notifies p r x → x ≡ None → Takes p r
+    nothing_by way held p r None s e (misses w g) is = took_none way held p r (row MissNotify w ∷ []) s e (paths.misses w) g
+    nothing_by way held p r None s e (finds_none w v g) is = took_none way held p r (took w v) s e (paths.finds_none w v) g
+    nothing_by way held p r (Some a) s e (takes_awaiter w v i b g) is = absurd (cc)
+
+    pub nothing : (way : Way) (held : List (ℕ × Slot F T A)) (p r : Party F T A) (x : Option A) → StandsWith (Notifier way) held p → may_drop way ≡ true → Notifies p r x → x ≡ None → Takes p r
+    nothing way held p r x s e n is = nothing_by way held p r x s e n is
+
+  -- a path, and then another whose end goes by where the first one ends
+  pub then_goes : (p q r : Party F T A) (a b : List Deed) (at : Position) (held held' : List (ℕ × Slot F T A)) (f : Position → Position) → GoesWith a at held p q → GoesWith b (f (position q)) held' q r → GoesWith (a ++ b) (f at) held' p r
+  then_goes p q r a b at held held' f g h = goes_on p q r a b at (f at) held held' g (subst (λ x. GoesWith b (f x) held' q r) (position_is q at held (stands p q a at held g)) h)
+
+  -- .. by where the party stood before
+  goes_from : (p q : Party F T A) (path : List Deed) (at : Position) (held held' : List (ℕ × Slot F T A)) (f : Position → Position) → StandsWith at held p → GoesWith path (f at) held' p q → GoesWith path (f (position p)) held' p q
+  goes_from p q path at held held' f s g = subst (λ x. GoesWith path (f x) held' p q) (sym (position_is p at held s)) g
+
+  goes_by : (p q : Party F T A) (path : List Deed) (at : Position) (held held' : List (ℕ × Slot F T A)) (f : Position → Position) → StandsWith at held p → GoesWith path (f (position p)) held' p q → GoesWith path (f at) held' p q
+  goes_by p q path at held held' f s g = subst (λ x. GoesWith path (f x) held' p q) (position_is p at held s) g
+
+  -- a closed task: the awaiter was taken, and the poll ends
+  pub is_answering : (i : ℕ) (path : List Deed) (p q : Party F T A) → Stands (Notifier (OfPoll i)) p → GoesWith path (goes_off (way_of (position p))) (holds p) p q → Goes path (Answering i IsReady) p q
+  is_answering i path p q s g = subst (λ l. GoesWith path (Answering i IsReady) l p q) (held_is p (Notifier (OfPoll i)) [] s) (goes_by p q path (Notifier (OfPoll i)) [] (holds p) (λ x. goes_off (way_of x)) s g)
+
+  pub ended_closed : (i : ℕ) (path : List Deed) (p q r : Party F T A) → Stands (Notifier (OfPoll i)) p → GoesWith path (goes_off (way_of (position p))) (holds p) p q → Goes (act EndCall ∷ []) (ends (position q)) q r
+      → Goes (path ++ (act EndCall ∷ [])) (ends (position p)) p r
+  ended_closed i path p q r s g h = goes_from p r (path ++ (act EndCall ∷ [])) (Notifier (OfPoll i)) [] [] ends s (then_goes p q r path (act EndCall ∷ []) (Answering i IsReady) [] [] ends (is_answering i path p q s g) h)
+
+  -- the output is claimed: the awaiter is taken where there is one
+  pub notifies_so : (i : ℕ) (held : List (ℕ × Slot F T A)) (b : Bool) (p : Party F T A) → StandsWith (notifies b (OfClaim i)) held p → b ≡ true → StandsWith (Notifier (OfClaim i)) held p
+  notifies_so i held b p s e = subst (λ (b : Bool). StandsWith (notifies b (OfClaim i)) held p) e s
+
+  pub taken_if : (woken : A → Type 0) (compared : A → A → Bool → Type 0) (awaiter : A) (i : ℕ) (held : List (ℕ × Slot F T A)) (b : Bool) (p q : Party F T A) → StandsWith (notifies b (OfClaim i)) held p → b ≡ true
+      → Takes woken compared awaiter p q → (path : List Deed) × TakePathIf woken compared awaiter b path × GoesWith path (Claimer (poll_number (position p))) (holds p) p q
+  taken_if woken compared awaiter i held b p q s e t = let s' = notifies_so i held b p s e in (
+    t.0,
+    subst (λ (b : Bool). TakePathIf woken compared awaiter b t.0) (sym e) t.1,
+    goes_from p q t.0 (Notifier (OfClaim i)) held (holds p) (λ x. Claimer (poll_number x)) s' (goes_by p q t.0 (Notifier (OfClaim i)) held (holds p) (λ x. goes_off (way_of x)) s' t.2),
+  )
+
+  pub none_taken : (woken : A → Type 0) (compared : A → A → Bool → Type 0) (awaiter : A) (i : ℕ) (held : List (ℕ × Slot F T A)) (b : Bool) (p : Party F T A) → StandsWith (notifies b (OfClaim i)) held p → b ≡ false
+      → (path : List Deed) × TakePathIf woken compared awaiter b path × GoesWith path (Claimer (poll_number (position p))) (holds p) p p
+  none_taken woken compared awaiter i held b p s e = let s' = subst (λ (b : Bool). StandsWith (notifies b (OfClaim i)) held p) e s in let path : List Deed = [] in (
+    path,
+    subst (λ (b : Bool). TakePathIf woken compared awaiter b path) (sym e) (let x : path ≡ [] = refl in x),
+    goes_from p p path (Claimer i) held (holds p) (λ x. Claimer (poll_number x)) s' (subst (λ l. GoesWith path (Claimer i) l p p) (sym (held_is p (Claimer i) held s')) (record { cell = refl; is = s' })),
+  )
+
+  pub is_claimer : (n : ℕ) (held : List (ℕ × Slot F T A)) (a b : List Deed) (w : State) (p q r : Party F T A) → GoesWith a (notifies w.awaiter (OfClaim n)) held p q → GoesWith b (Claimer (poll_number (position q))) (holds q) q r
+      → GoesWith (a ++ b) (Claimer n) held p r
+  is_claimer n held a b w p q r g h = let s = stands p q a (notifies w.awaiter (OfClaim n)) held g in
+      subst (λ (z : ℕ × List (ℕ × Slot F T A)). GoesWith (a ++ b) (Claimer z.0) z.1 p r) (λ j. (number w.awaiter j, held_is q (notifies w.awaiter (OfClaim n)) held s j))
+      (then_goes p q r a b (notifies w.awaiter (OfClaim n)) held (holds q) (λ x. Claimer (poll_number x)) g h)
+    where
+      number : (b : Bool) → poll_number (notifies b (OfClaim n)) ≡ n
+      number true = refl
+      number false = refl
+
+  pub handed_out : (woken : A → Type 0) (compared : A → A → Bool → Type 0) (awaiter : A) (n : ℕ) (held : List (ℕ × Slot F T A)) (taken : List Deed) (w : State) (p q r t : Party F T A) → has_output w ≡ true → TakePathIf woken compared awaiter w.awaiter taken
+      → GoesWith (row ClaimOutput w ∷ []) (notifies w.awaiter (OfClaim n)) held p q → GoesWith taken (Claimer (poll_number (position q))) (holds q) q r → Goes (act HandOutOutput ∷ act EndCall ∷ []) (ends (position r)) r t
+      → (path : List Deed) × ClaimPath woken compared awaiter path × Goes path (as_task n) p t
+  handed_out woken compared awaiter n held taken w p q r t e k g h o = (
+    row ClaimOutput w ∷ taken ++ (act HandOutOutput ∷ act EndCall ∷ []),
+    paths.claims w taken e k,
+    then_goes p r t (row ClaimOutput w ∷ taken) (act HandOutOutput ∷ act EndCall ∷ []) (Claimer n) held [] ends (is_claimer n held (row ClaimOutput w ∷ []) taken w p q r g h) o,
+  )

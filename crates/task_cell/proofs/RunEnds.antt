@@ -1,0 +1,175 @@
+-- What the calls that end a run come to, step after step.
+use Rattle.std.proofs.Common.{◌≡◌, ℕ, Bool, true, false, not, ◌&&◌, List, [], ◌∷◌, ◌++◌, ap, ◌∙◌}
+use Rattle.std.specs.Prelude.{nat_lt, ◌||◌}
+use Rattle.task_core.specs.Word.{State}
+use Rattle.task_laws.specs.declared.positions.Rest.TheVariants.{Ended}
+use Rattle.task_laws.specs.declared.positions.Way.TheVariants.{OfRun}
+use Rattle.task_laws.specs.declared.positions.After.TheVariants.{ThenEnds}
+use Rattle.task_laws.specs.declared.positions.Position.{Position}
+use Rattle.task_laws.specs.declared.positions.Position.TheVariants.{At, Deliverer, Polling, Pending, Ready, Cleared, OutputInHand}
+use Rattle.task_core.specs.declared.moves.Act.TheVariants.{AnswerReady, AnswerPending, DropFuture, StoreOutput, Complete, CompleteDetached, DropOutput, EndClosed, Reschedule, EndIdle, EndOrphaned, HandOver, EndCall}
+use Rattle.task_laws.specs.declared.positions.Answer.TheVariants.{Ran}
+use Rattle.task_laws.specs.Table.{notifies}
+use Rattle.task_cell.specs.declared.table.Slot.{Slot}
+use Rattle.task_cell.specs.declared.table.Deed.{Deed}
+use Rattle.task_cell.specs.declared.cell.Party.{Party}
+use Rattle.task_cell.specs.declared.cell.ends.PendingEnd.{PendingEnd}
+use Rattle.task_cell.specs.declared.cell.ends.PendingEnd.TheVariants.{Closed, Rescheduled, Idle, Orphaned}
+use Rattle.task_cell.specs.Rule.{IsFuture}
+use Rattle.task_cell.specs.Steps.{future_first, output_first}
+use Rattle.task_cell.specs.Calls.{row, act, StandsWith, GoesWith, Goes}
+use Rattle.task_cell.specs.RunPaths.{kept, not_claimed, detached, ready, closed_meanwhile, woken_meanwhile, idle, orphaned}
+use Rattle.task_cell.specs.RunCalls.{Rests, Completes, keeps, finds_closed, finds_detached, Stores, ClosesPending, EndsReady, EndsUnready, AnswersPending, stays_pending, clears, EndsPending, is_closed, is_rescheduled, is_idle, is_orphaned}
+use Rattle.task_cell.proofs.Moved as moved
+
+unkept : (w : State) → w.task ≡ true → w.closed ≡ false → (w.task && not w.closed) ≡ true
+unkept w h k = ap (λ b. b && not w.closed) h ∙ ap not k
+
+module _ {F T A : Type 0} where
+  -- the output
+  pub completes_cell : (p q : Party F T A) (w : State) → Completes p q w → q.seat.table_id ≡ p.seat.table_id
+  completes_cell p q w (keeps h k g) = g.cell
+  completes_cell p q w (finds_closed y z h k g) = g.cell
+  completes_cell p q w (finds_detached y z h g) = g.cell
+
+  pub output_left : (p q : Party F T A) (w : State) → Completes p q w → (w.task && not w.closed) ≡ false → (y : Slot F T A) × (z : Slot F T A) × StandsWith (OutputInHand w.awaiter) (output_first y z []) q
+  output_left p q w (keeps h k g) e = let z = unkept w h k in absurd (cc)
+  output_left p q w (finds_closed y z h k g) e = (y, z, moved.stands p q _ (OutputInHand w.awaiter) (output_first y z []) g)
+  output_left p q w (finds_detached y z h g) e = (y, z, moved.stands p q _ (OutputInHand w.awaiter) (output_first y z []) g)
+
+  pub stores_kept : (p q : Party F T A) (w : State) → Completes p q w → (w.task && not w.closed) ≡ true → Stores w p q
+  stores_kept p q w (keeps h k g) e = (_, kept h k, g)
+  stores_kept p q w (finds_closed y z h k g) e = let x : (w.task && not w.closed) ≡ false = ap (λ b. b && not w.closed) h ∙ ap not k in absurd (cc)
+  stores_kept p q w (finds_detached y z h g) e = let x : (w.task && not w.closed) ≡ false = ap (λ b. b && not w.closed) h in absurd (cc)
+
+  pub stores_dropped : (p q r : Party F T A) (w : State) → Completes p q w → (w.task && not w.closed) ≡ false
+      → ((due : Bool) (y z : Slot F T A) → StandsWith (OutputInHand due) (output_first y z []) q → Goes (act DropOutput ∷ []) (notifies due OfRun) q r) → Stores w p r
+  stores_dropped p q r w (keeps h k g) e drops = let z = unkept w h k in absurd (cc)
+  stores_dropped p q r w (finds_closed y z h k g) e drops = (
+    _,
+    not_claimed h k,
+    moved.goes_on p q r (act DropFuture ∷ act StoreOutput ∷ row Complete w ∷ []) (act DropOutput ∷ []) (OutputInHand w.awaiter) (notifies w.awaiter OfRun) (output_first y z []) [] g
+        (drops w.awaiter y z (moved.stands p q (act DropFuture ∷ act StoreOutput ∷ row Complete w ∷ []) (OutputInHand w.awaiter) (output_first y z []) g)),
+  )
+  stores_dropped p q r w (finds_detached y z h g) e drops = (
+    _,
+    detached h,
+    moved.goes_on p q r (act DropFuture ∷ act StoreOutput ∷ row CompleteDetached w ∷ []) (act DropOutput ∷ []) (OutputInHand w.awaiter) (notifies w.awaiter OfRun) (output_first y z []) [] g
+        (drops w.awaiter y z (moved.stands p q (act DropFuture ∷ act StoreOutput ∷ row CompleteDetached w ∷ []) (OutputInHand w.awaiter) (output_first y z []) g)),
+  )
+
+  pub ready_rest : (Woken : Type 0) (w : State) (held cleared : List (ℕ × Slot F T A)) (p q r s t : Party F T A) → GoesWith (act AnswerReady ∷ []) Ready held p q → GoesWith [] Ready cleared q r → Stores w r s → Rests Woken w.awaiter s t → EndsReady Woken p t
+  ready_rest Woken w held cleared p q r s t f g x z = (
+    act AnswerReady ∷ (x.0 ++ z.0),
+    ready w x.0 z.0 x.1 z.1,
+    moved.goes_on p q t (act AnswerReady ∷ []) (x.0 ++ z.0) Ready (At Ended) held [] f
+        (moved.goes_on q r t [] (x.0 ++ z.0) Ready (At Ended) cleared [] g
+        (moved.goes_on r s t x.0 z.0 (notifies w.awaiter OfRun) (At Ended) [] [] x.2 z.2)),
+  )
+
+  -- a closed task
+  pub closes_rest : (Woken : Type 0) (w : State) (held : List (ℕ × Slot F T A)) (p q r s : Party F T A) → GoesWith [] Cleared held p q → Goes (row EndClosed w ∷ []) (notifies w.awaiter OfRun) q r → Rests Woken w.awaiter r s → ClosesPending Woken p s
+  closes_rest Woken w held p q r s g h x = (
+    w,
+    x.0,
+    x.1,
+    moved.goes_on p q s [] (row EndClosed w ∷ x.0) Cleared (At Ended) held [] g
+        (moved.goes_on q r s (row EndClosed w ∷ []) x.0 (notifies w.awaiter OfRun) (At Ended) [] [] h x.2),
+  )
+
+  pending_clears : (held : List (ℕ × Slot F T A)) (p q : Party F T A) (b : Bool) → AnswersPending held p q b → b ≡ true → GoesWith (act AnswerPending ∷ act DropFuture ∷ []) Cleared held p q
+  pending_clears held p q true (clears g) e = g
+  pending_clears held p q false (stays_pending g) e = absurd (cc)
+
+  pending_stays : (held : List (ℕ × Slot F T A)) (p q : Party F T A) (b : Bool) → AnswersPending held p q b → b ≡ false → GoesWith (act AnswerPending ∷ []) Pending held p q
+  pending_stays held p q true (clears g) e = absurd (cc)
+  pending_stays held p q false (stays_pending g) e = g
+
+  -- after a poll that answered Pending, by how the run ends
+  abbrev pub IsRescheduled : Party F T A → Party F T A → Type 0
+  IsRescheduled p q = (w : State) × (w.closed ≡ false) × (w.scheduled ≡ true) × Goes (act AnswerPending ∷ row Reschedule w ∷ []) (Deliverer true (ThenEnds (Ran true))) p q
+
+  abbrev pub IsIdle : Party F T A → Party F T A → Type 0
+  IsIdle p q = (w : State) × (w.closed ≡ false) × (w.scheduled ≡ false) × ((nat_lt 1 w.references || w.task) ≡ true) × Goes (act AnswerPending ∷ row EndIdle w ∷ act EndCall ∷ []) (At Ended) p q
+
+  abbrev pub IsOrphaned : Party F T A → Party F T A → Type 0
+  IsOrphaned p q = (w : State) × (w.closed ≡ false) × (w.scheduled ≡ false) × ((nat_lt 1 w.references || w.task) ≡ false) × Goes (act AnswerPending ∷ row EndOrphaned w ∷ []) (Deliverer false (ThenEnds (Ran false))) p q
+
+  closed_left : (held : List (ℕ × Slot F T A)) (p q : Party F T A) (e : PendingEnd) → EndsPending held p q e → e ≡ Closed → GoesWith (act DropFuture ∷ []) Cleared held p q
+  closed_left held p q e (is_closed g) h = g
+  closed_left held p q e (is_rescheduled w a b g) h = absurd (cc)
+  closed_left held p q e (is_idle w a b d g) h = absurd (cc)
+  closed_left held p q e (is_orphaned w a b d g) h = absurd (cc)
+
+  rescheduled_left : (held : List (ℕ × Slot F T A)) (p q : Party F T A) (e : PendingEnd) → EndsPending held p q e → e ≡ Rescheduled → (w : State) × (w.closed ≡ false) × (w.scheduled ≡ true) × Goes (row Reschedule w ∷ []) (Deliverer true (ThenEnds (Ran true))) p q
+  rescheduled_left held p q e (is_closed g) h = absurd (cc)
+  rescheduled_left held p q e (is_rescheduled w a b g) h = (w, a, b, g)
+  rescheduled_left held p q e (is_idle w a b d g) h = absurd (cc)
+  rescheduled_left held p q e (is_orphaned w a b d g) h = absurd (cc)
+
+  idle_left : (held : List (ℕ × Slot F T A)) (p q : Party F T A) (e : PendingEnd) → EndsPending held p q e → e ≡ Idle
+      → (w : State) × (w.closed ≡ false) × (w.scheduled ≡ false) × ((nat_lt 1 w.references || w.task) ≡ true) × Goes (row EndIdle w ∷ act EndCall ∷ []) (At Ended) p q
+  idle_left held p q e (is_closed g) h = absurd (cc)
+  idle_left held p q e (is_rescheduled w a b g) h = absurd (cc)
+  idle_left held p q e (is_idle w a b d g) h = (w, a, b, d, g)
+  idle_left held p q e (is_orphaned w a b d g) h = absurd (cc)
+
+  orphan_left : (held : List (ℕ × Slot F T A)) (p q : Party F T A) (e : PendingEnd) → EndsPending held p q e → e ≡ Orphaned
+      → (w : State) × (w.closed ≡ false) × (w.scheduled ≡ false) × ((nat_lt 1 w.references || w.task) ≡ false) × Goes (row EndOrphaned w ∷ []) (Deliverer false (ThenEnds (Ran false))) p q
+  orphan_left held p q e (is_closed g) h = absurd (cc)
+  orphan_left held p q e (is_rescheduled w a b g) h = absurd (cc)
+  orphan_left held p q e (is_idle w a b d g) h = absurd (cc)
+  orphan_left held p q e (is_orphaned w a b d g) h = (w, a, b, d, g)
+
+  -- a run that polls, and what the two steps tell that follow a poll which answered Pending
+  abbrev pub IsPolling : Party F T A → Type 0
+  IsPolling p = (y : Slot F T A) × (z : Slot F T A) × StandsWith Polling (future_first y z []) p × IsFuture y
+
+  abbrev pub Answers : Party F T A → Party F T A → Bool → Type 0
+  Answers p q b = (held : List (ℕ × Slot F T A)) → StandsWith Polling held p → AnswersPending held p q b
+
+  abbrev pub Ends : Party F T A → Party F T A → PendingEnd → Type 0
+  Ends q r e = (y z : Slot F T A) → StandsWith Pending (future_first y z []) q → EndsPending (future_first y z []) q r e
+
+  -- the task was found closed, or not
+  pub cleared_first : (p q : Party F T A) (b : Bool) (s : IsPolling p) → Answers p q b → b ≡ true → GoesWith (act AnswerPending ∷ act DropFuture ∷ []) Cleared (future_first s.0 s.1 []) p q
+  cleared_first p q b s f h = pending_clears (future_first s.0 s.1 []) p q b (f (future_first s.0 s.1 []) s.2) h
+
+  pub left_pending : (p q : Party F T A) (b : Bool) (s : IsPolling p) → Answers p q b → b ≡ false → GoesWith (act AnswerPending ∷ []) Pending (future_first s.0 s.1 []) p q
+  left_pending p q b s f h = pending_stays (future_first s.0 s.1 []) p q b (f (future_first s.0 s.1 []) s.2) h
+
+  -- .. and then how the run ended
+  module _ (p q r : Party F T A) (b : Bool) (e : PendingEnd) (s : IsPolling p) (f : Answers p q b) (h : b ≡ false) (g : Ends q r e) where
+    first : GoesWith (act AnswerPending ∷ []) Pending (future_first s.0 s.1 []) p q
+    first = left_pending p q b s f h
+
+    ended : EndsPending (future_first s.0 s.1 []) q r e
+    ended = g s.0 s.1 (moved.stands p q (act AnswerPending ∷ []) Pending (future_first s.0 s.1 []) first)
+
+    both : (path : List Deed) (at : Position) (held : List (ℕ × Slot F T A)) → GoesWith path at held q r → GoesWith (act AnswerPending ∷ path) at held p r
+    both path at held x = moved.goes_on p q r (act AnswerPending ∷ []) path Pending at (future_first s.0 s.1 []) held first x
+
+    pub cleared_later : e ≡ Closed → GoesWith (act AnswerPending ∷ act DropFuture ∷ []) Cleared (future_first s.0 s.1 []) p r
+    cleared_later is = both (act DropFuture ∷ []) Cleared (future_first s.0 s.1 []) (closed_left (future_first s.0 s.1 []) q r e ended is)
+
+    pub went_rescheduled : e ≡ Rescheduled → IsRescheduled p r
+    went_rescheduled is = let x = rescheduled_left (future_first s.0 s.1 []) q r e ended is in (x.0, x.1, x.2, both (row Reschedule x.0 ∷ []) (Deliverer true (ThenEnds (Ran true))) [] x.3)
+
+    pub went_idle : e ≡ Idle → IsIdle p r
+    went_idle is = let x = idle_left (future_first s.0 s.1 []) q r e ended is in (x.0, x.1, x.2, x.3, both (row EndIdle x.0 ∷ act EndCall ∷ []) (At Ended) [] x.4)
+
+    pub went_orphaned : e ≡ Orphaned → IsOrphaned p r
+    went_orphaned is = let x = orphan_left (future_first s.0 s.1 []) q r e ended is in (x.0, x.1, x.2, x.3, both (row EndOrphaned x.0 ∷ []) (Deliverer false (ThenEnds (Ran false))) [] x.4)
+
+  module _ (Woken : Type 0) (Scheduled : Bool → Type 0) where
+    pub found_closed : (held : List (ℕ × Slot F T A)) (p q r : Party F T A) → GoesWith (act AnswerPending ∷ act DropFuture ∷ []) Cleared held p q → ClosesPending Woken q r → EndsUnready Woken Scheduled false p r
+    found_closed held p q r f x = (_, closed_meanwhile x.0 x.1 x.2, moved.goes_on p q r (act AnswerPending ∷ act DropFuture ∷ []) (row EndClosed x.0 ∷ x.1) Cleared (At Ended) held [] f x.3)
+
+    pub found_idle : (p q : Party F T A) → IsIdle p q → EndsUnready Woken Scheduled false p q
+    found_idle p q x = (_, idle x.0 x.1 x.2 x.3, x.4)
+
+    pub found_woken : (p q r : Party F T A) → IsRescheduled p q → Scheduled true → Goes (act HandOver ∷ act EndCall ∷ []) (At Ended) q r → EndsUnready Woken Scheduled true p r
+    found_woken p q r x fact h = (_, woken_meanwhile x.0 x.1 x.2 fact, moved.goes_on p q r (act AnswerPending ∷ row Reschedule x.0 ∷ []) (act HandOver ∷ act EndCall ∷ []) (Deliverer true (ThenEnds (Ran true))) (At Ended) [] [] x.3 h)
+
+    pub found_orphaned : (p q r : Party F T A) → IsOrphaned p q → Scheduled false → Goes (act HandOver ∷ act EndCall ∷ []) (At Ended) q r → EndsUnready Woken Scheduled false p r
+    found_orphaned p q r x fact h = (_, orphaned x.0 x.1 x.2 x.3 fact, moved.goes_on p q r (act AnswerPending ∷ row EndOrphaned x.0 ∷ []) (act HandOver ∷ act EndCall ∷ []) (Deliverer false (ThenEnds (Ran false))) (At Ended) [] [] x.4 h)

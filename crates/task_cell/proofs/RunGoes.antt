@@ -1,0 +1,182 @@
+-- What the steps of a run and of a Runnable's drop come to.
+use Rattle.std.proofs.Common.{◌≡◌, ℕ, Bool, true, false, not, ◌||◌, List, [], ◌∷◌, Option, Some, None, refl, sym, ap, ◌∙◌, subst}
+use Rattle.std.specs.Prelude.{if◌then◌else◌, nat_lt, is_some}
+use Rattle.atomic_table.specs.Table.{turned}
+use Rattle.task_core.specs.Word.{State, state_of, number_of}
+use Rattle.task_core.proofs.Bits.{state_of_number_of}
+use Rattle.task_laws.specs.declared.positions.Answer.{Answer}
+use Rattle.task_laws.specs.declared.positions.Answer.TheVariants.{Ran}
+use Rattle.task_laws.specs.declared.positions.Rest.TheVariants.{Runnable, Ended}
+use Rattle.task_laws.specs.declared.positions.Way.TheVariants.{OfRun}
+use Rattle.task_laws.specs.declared.positions.After.TheVariants.{ThenEnds}
+use Rattle.task_laws.specs.declared.positions.Closer.TheVariants.{DroppedRunnable}
+use Rattle.task_laws.specs.declared.positions.Position.{Position}
+use Rattle.task_laws.specs.declared.positions.Position.TheVariants.{At, Deliverer, GivingUp, Emptier, FutureInHand, Polling, Pending, Ready, Cleared, OutputInHand}
+use Rattle.task_core.specs.declared.moves.Act.{Act}
+use Rattle.task_core.specs.declared.moves.Act.TheVariants.{GiveUpReference, GiveUpLastReference, EmptySlots, DiscardOpen, DiscardClosed, AnswerReady, AnswerPending, DropFuture, StoreOutput, Complete, CompleteDetached, DropOutput, EndClosed, Reschedule, EndIdle, EndCall, EndOrphaned}
+use Rattle.task_core.specs.Rows.{row as row_of, written}
+use Rattle.task_laws.specs.Table.{after_giving_up, notifies}
+use Rattle.task_cell.specs.declared.table.Slot.{Slot}
+use Rattle.task_cell.specs.declared.table.Deed.{Deed}
+use Rattle.task_cell.specs.declared.cell.Party.{Party}
+use Rattle.task_cell.specs.declared.cell.ends.PendingEnd.{PendingEnd}
+use Rattle.task_cell.specs.declared.cell.ends.PendingEnd.TheVariants.{Rescheduled, Idle, Orphaned}
+use Rattle.task_cell.specs.Rule.{IsFuture}
+use Rattle.task_cell.specs.Steps.{future_first, output_first, Makes, Carried}
+use Rattle.task_cell.specs.Scripts.{dropping_output}
+use Rattle.task_cell.specs.RunScripts.{giving_up, emptying, discarding, answering_ready, answering_pending, completing, ending_pending, missing_end, ending_closed}
+use Rattle.task_cell.specs.Calls.{row, act, StandsWith, Stands, GoesWith, Goes}
+use Rattle.task_cell.specs.RunPaths.{leaves_others, leaves_none, DiscardStart, found_open, found_closed}
+use Rattle.task_cell.specs.RunCalls.{GivesUp, not_last, last, Releases, Completes, keeps, finds_closed, finds_detached, AnswersPending, stays_pending, clears, EndsPending, is_closed, is_rescheduled, is_idle, is_orphaned, ending_of}
+use Rattle.task_cell.proofs.Moved as moved
+use Rattle.task_cell.proofs.Carried.{keeps_places, took_awaiter, gave_awaiter, took_work, gave_work}
+use Rattle.task_cell.proofs.RunOwed.{given_work, given_free, due_work, closed_already}
+
+some_if : (b : Bool) (x : State) → is_some (if b then Some x else None) ≡ b
+some_if true x = refl
+some_if false x = refl
+
+not_not : (b : Bool) → not (not b) ≡ b
+not_not true = refl
+not_not false = refl
+
+-- the row fits exactly where another handle is left
+pub none_left : (w : State) (o : Option State) (b : Bool) → o ≡ row_of 0 GiveUpReference w → is_some o ≡ not b → not (nat_lt 1 w.references || w.task) ≡ b
+none_left w o b e f = ap not (sym (some_if (nat_lt 1 w.references || w.task) (written GiveUpReference w)) ∙ (ap is_some (sym e) ∙ f)) ∙ not_not b
+
+module _ {F T A : Type 0} where
+  pub discarded : (p q : Party F T A) (w : State) → Stands (At Runnable) p → q.seat.table_id ≡ p.seat.table_id → Makes (discarding w) w p.seat.me q.seat.me
+      → (d : Deed) × (y : Slot F T A) × (z : Slot F T A) × DiscardStart d × GoesWith (d ∷ []) (FutureInHand DroppedRunnable) (future_first y z []) p q × IsFuture y
+  discarded p q w s cell made = by w.closed refl made
+    where
+      by : (b : Bool) → w.closed ≡ b → Makes (if b then DiscardClosed ∷ [] else DiscardOpen ∷ []) w p.seat.me q.seat.me
+          → (d : Deed) × (y : Slot F T A) × (z : Slot F T A) × DiscardStart d × GoesWith (d ∷ []) (FutureInHand DroppedRunnable) (future_first y z []) p q × IsFuture y
+      by true h made = let m = moved.moved (DiscardClosed ∷ []) w (At Runnable) [] p q s made in let y = took_work (At Runnable) (FutureInHand DroppedRunnable) [] q.seat.me.1 refl refl m.carried in
+          (row DiscardClosed w, y.0, y.1, found_closed w h, moved.goes p q (row DiscardClosed w ∷ []) (FutureInHand DroppedRunnable) (future_first y.0 y.1 []) cell m.viewed y.3, y.2)
+      by false h made = let m = moved.moved (DiscardOpen ∷ []) w (At Runnable) [] p q s made in let y = took_work (At Runnable) (FutureInHand DroppedRunnable) [] q.seat.me.1 refl refl m.carried in
+          (row DiscardOpen w, y.0, y.1, found_open w h, moved.goes p q (row DiscardOpen w ∷ []) (FutureInHand DroppedRunnable) (future_first y.0 y.1 []) cell m.viewed y.3, y.2)
+
+  pub gave_up : (hand : Option ℕ) (answer : Answer) (p q : Party F T A) (w : State) → Stands (GivingUp hand answer) p → q.seat.table_id ≡ p.seat.table_id → Makes (giving_up w) w p.seat.me q.seat.me
+      → GivesUp hand answer p q (not (nat_lt 1 w.references || w.task))
+  gave_up hand answer p q w s cell made = by (nat_lt 1 w.references || w.task) made
+    where
+      by : (b : Bool) → Makes (if b then GiveUpReference ∷ [] else GiveUpLastReference ∷ []) w p.seat.me q.seat.me → GivesUp hand answer p q (not b)
+      by true made = let m = moved.moved (GiveUpReference ∷ []) w (GivingUp hand answer) [] p q s made in
+          not_last w (moved.goes p q (row GiveUpReference w ∷ []) (after_giving_up hand answer) [] cell m.viewed (keeps_places (GivingUp hand answer) (after_giving_up hand answer) [] q.seat.me.1 (given_work hand answer) (given_free hand answer) m.carried))
+      by false made = let m = moved.moved (GiveUpLastReference ∷ []) w (GivingUp hand answer) [] p q s made in let y = took_awaiter (GivingUp hand answer) (Emptier hand answer) [] q.seat.me.1 refl refl refl m.carried in
+          last w y.0 (moved.goes p q (row GiveUpLastReference w ∷ []) (Emptier hand answer) ((2, y.0) ∷ []) cell m.viewed y.2)
+
+  pub gives_cell : (hand : Option ℕ) (answer : Answer) (p q : Party F T A) (b : Bool) → GivesUp hand answer p q b → q.seat.table_id ≡ p.seat.table_id
+  gives_cell hand answer p q true (last w y g) = g.cell
+  gives_cell hand answer p q false (not_last w g) = g.cell
+
+  pub last_stands : (hand : Option ℕ) (answer : Answer) (p q : Party F T A) (b : Bool) → GivesUp hand answer p q b → b ≡ true → (y : Slot F T A) × StandsWith (Emptier hand answer) ((2, y) ∷ []) q
+  last_stands hand answer p q true (last w y g) e = (y, moved.stands p q (row GiveUpLastReference w ∷ []) (Emptier hand answer) ((2, y) ∷ []) g)
+  last_stands hand answer p q false (not_last w g) e = absurd (cc)
+
+  pub emptied : (hand : Option ℕ) (answer : Answer) (y : Slot F T A) (p q : Party F T A) (w : State) → StandsWith (Emptier hand answer) ((2, y) ∷ []) p → q.seat.table_id ≡ p.seat.table_id → Makes (emptying w) w p.seat.me q.seat.me
+      → Goes (act EmptySlots ∷ []) (after_giving_up hand answer) p q
+  emptied hand answer y p q w s cell made = let m = moved.moved (EmptySlots ∷ []) w (Emptier hand answer) ((2, y) ∷ []) p q s made in
+      moved.goes p q (act EmptySlots ∷ []) (after_giving_up hand answer) [] cell m.viewed (gave_awaiter (Emptier hand answer) (after_giving_up hand answer) ((2, y) ∷ []) q.seat.me.1 (given_work hand answer) refl (given_free hand answer) m.carried)
+
+  pub releases_last : (hand : Option ℕ) (answer : Answer) (p q r : Party F T A) (b : Bool) → GivesUp hand answer p q b → b ≡ true
+      → ((y : Slot F T A) → StandsWith (Emptier hand answer) ((2, y) ∷ []) q → Goes (act EmptySlots ∷ []) (after_giving_up hand answer) q r) → Releases hand answer p r
+  releases_last hand answer p q r true (last w y g) e ends = (
+    row GiveUpLastReference w ∷ act EmptySlots ∷ [],
+    leaves_none w,
+    moved.goes_on p q r (row GiveUpLastReference w ∷ []) (act EmptySlots ∷ []) (Emptier hand answer) (after_giving_up hand answer) ((2, y) ∷ []) [] g (ends y (moved.stands p q (row GiveUpLastReference w ∷ []) (Emptier hand answer) ((2, y) ∷ []) g)),
+  )
+  releases_last hand answer p q r false (not_last w g) e ends = absurd (cc)
+
+  pub releases_other : (hand : Option ℕ) (answer : Answer) (p q : Party F T A) (b : Bool) → GivesUp hand answer p q b → b ≡ false → Releases hand answer p q
+  releases_other hand answer p q false (not_last w g) e = (row GiveUpReference w ∷ [], leaves_others w, g)
+  releases_other hand answer p q true (last w y g) e = absurd (cc)
+
+  pub answered_ready : (held : List (ℕ × Slot F T A)) (p q : Party F T A) (w : State) → StandsWith Polling held p → q.seat.table_id ≡ p.seat.table_id → Makes (answering_ready w) w p.seat.me q.seat.me → GoesWith (act AnswerReady ∷ []) Ready held p q
+  answered_ready held p q w s cell made = let m = moved.moved (AnswerReady ∷ []) w Polling held p q s made in moved.goes p q (act AnswerReady ∷ []) Ready held cell m.viewed (keeps_places Polling Ready held q.seat.me.1 refl refl m.carried)
+
+  -- what is found closed is closed
+  at_closed : (acts : List Act) (w : State) (p q : Party F T A) → w.closed ≡ true → Makes acts w p.seat.me q.seat.me → Makes acts (record w { closed = true }) p.seat.me q.seat.me
+  at_closed acts w p q e made = subst (λ (v : State). Makes acts v p.seat.me q.seat.me) (sym (closed_already w e)) made
+
+  pub answered_pending : (held : List (ℕ × Slot F T A)) (p q : Party F T A) (w : State) → StandsWith Polling held p → q.seat.table_id ≡ p.seat.table_id → Makes (answering_pending w) w p.seat.me q.seat.me → AnswersPending held p q w.closed
+  answered_pending held p q w s cell made = by w.closed refl made
+    where
+      by : (b : Bool) → w.closed ≡ b → Makes (if b then AnswerPending ∷ DropFuture ∷ [] else AnswerPending ∷ []) w p.seat.me q.seat.me → AnswersPending held p q b
+      by true h made = let v : State = record w { closed = true } in let m = moved.moved (AnswerPending ∷ DropFuture ∷ []) v Polling held p q s (at_closed (AnswerPending ∷ DropFuture ∷ []) w p q h made) in
+          clears (moved.goes p q (act AnswerPending ∷ act DropFuture ∷ []) Cleared held cell m.viewed (keeps_places Polling Cleared held q.seat.me.1 refl refl m.carried))
+      by false h made = let m = moved.moved (AnswerPending ∷ []) w Polling held p q s made in
+          stays_pending (moved.goes p q (act AnswerPending ∷ []) Pending held cell m.viewed (keeps_places Polling Pending held q.seat.me.1 refl refl m.carried))
+
+  -- a word that changed in between
+  pub unchanged : (at : Position) (held : List (ℕ × Slot F T A)) (p q : Party F T A) (w : State) → StandsWith at held p → q.seat.table_id ≡ p.seat.table_id → Makes [] w p.seat.me q.seat.me → GoesWith [] at held p q
+  unchanged at held p q w s cell made = let m = moved.moved [] w at held p q s made in moved.goes p q [] at held cell m.viewed (keeps_places at at held q.seat.me.1 refl refl m.carried)
+
+  pub found_closed_meanwhile : (held : List (ℕ × Slot F T A)) (p q : Party F T A) (w : State) → StandsWith Pending held p → q.seat.table_id ≡ p.seat.table_id → Makes (missing_end w) w p.seat.me q.seat.me → w.closed ≡ true → GoesWith (act DropFuture ∷ []) Cleared held p q
+  found_closed_meanwhile held p q w s cell made h = let v : State = record w { closed = true } in
+      let m = moved.moved (DropFuture ∷ []) v Pending held p q s (at_closed (DropFuture ∷ []) w p q h (subst (λ b. Makes (if b then DropFuture ∷ [] else []) w p.seat.me q.seat.me) h made)) in
+      moved.goes p q (act DropFuture ∷ []) Cleared held cell m.viewed (keeps_places Pending Cleared held q.seat.me.1 refl refl m.carried)
+
+  pub found_open_still : (held : List (ℕ × Slot F T A)) (p q : Party F T A) (w : State) → StandsWith Pending held p → q.seat.table_id ≡ p.seat.table_id → Makes (missing_end w) w p.seat.me q.seat.me → w.closed ≡ false → GoesWith [] Pending held p q
+  found_open_still held p q w s cell made h = unchanged Pending held p q w s cell (subst (λ b. Makes (if b then DropFuture ∷ [] else []) w p.seat.me q.seat.me) h made)
+
+  pub ended_closed : (y z : Slot F T A) (p q : Party F T A) (w : State) → StandsWith Cleared (future_first y z []) p → q.seat.table_id ≡ p.seat.table_id → Makes (ending_closed w) w p.seat.me q.seat.me → Goes (row EndClosed w ∷ []) (notifies w.awaiter OfRun) p q
+  ended_closed y z p q w s cell made = let m = moved.moved (EndClosed ∷ []) w Cleared (future_first y z []) p q s made in
+      moved.goes p q (row EndClosed w ∷ []) (notifies w.awaiter OfRun) [] cell m.viewed (gave_work Cleared (notifies w.awaiter OfRun) (future_first y z []) q.seat.me.1 refl (due_work w.awaiter) m.carried)
+
+  pub dropped_output : (due : Bool) (y z : Slot F T A) (p q : Party F T A) (w : State) → StandsWith (OutputInHand due) (output_first y z []) p → q.seat.table_id ≡ p.seat.table_id → Makes (dropping_output w) w p.seat.me q.seat.me → Goes (act DropOutput ∷ []) (notifies due OfRun) p q
+  dropped_output due y z p q w s cell made = let m = moved.moved (DropOutput ∷ []) w (OutputInHand due) (output_first y z []) p q s made in
+      moved.goes p q (act DropOutput ∷ []) (notifies due OfRun) [] cell m.viewed (gave_work (OutputInHand due) (notifies due OfRun) (output_first y z []) q.seat.me.1 refl (due_work due) m.carried)
+
+  pub completed : (y z : Slot F T A) (p q : Party F T A) (w : State) → StandsWith Ready (output_first y z []) p → q.seat.table_id ≡ p.seat.table_id → Makes (completing w) w p.seat.me q.seat.me → Completes p q w
+  completed y z p q w s cell made = by w.task w.closed refl refl made
+    where
+      by : (b c : Bool) → w.task ≡ b → w.closed ≡ c → Makes (if b then DropFuture ∷ StoreOutput ∷ Complete ∷ [] else DropFuture ∷ StoreOutput ∷ CompleteDetached ∷ []) w p.seat.me q.seat.me → Completes p q w
+      by true true h k made = let m = moved.moved (DropFuture ∷ StoreOutput ∷ Complete ∷ []) w Ready (output_first y z []) p q s made in let e : (if w.closed then OutputInHand w.awaiter else notifies w.awaiter OfRun) ≡ OutputInHand w.awaiter = ap (λ b. if b then OutputInHand w.awaiter else notifies w.awaiter OfRun) k in
+          finds_closed y z h k (subst (λ (at : Position). GoesWith (act DropFuture ∷ act StoreOutput ∷ row Complete w ∷ []) at (output_first y z []) p q) e
+          (moved.goes p q (act DropFuture ∷ act StoreOutput ∷ row Complete w ∷ []) (if w.closed then OutputInHand w.awaiter else notifies w.awaiter OfRun) (output_first y z []) cell m.viewed
+          (keeps_places Ready (OutputInHand w.awaiter) (output_first y z []) q.seat.me.1 refl refl (subst (λ (at : Position). Carried Ready at (output_first y z []) q.seat.me.1) e m.carried))))
+      by true false h k made = let m = moved.moved (DropFuture ∷ StoreOutput ∷ Complete ∷ []) w Ready (output_first y z []) p q s made in let e : (if w.closed then OutputInHand w.awaiter else notifies w.awaiter OfRun) ≡ notifies w.awaiter OfRun = ap (λ b. if b then OutputInHand w.awaiter else notifies w.awaiter OfRun) k in
+          keeps h k (subst (λ (at : Position). Goes (act DropFuture ∷ act StoreOutput ∷ row Complete w ∷ []) at p q) e
+          (moved.goes p q (act DropFuture ∷ act StoreOutput ∷ row Complete w ∷ []) (if w.closed then OutputInHand w.awaiter else notifies w.awaiter OfRun) [] cell m.viewed
+          (gave_work Ready (notifies w.awaiter OfRun) (output_first y z []) q.seat.me.1 refl (due_work w.awaiter) (subst (λ (at : Position). Carried Ready at (output_first y z []) q.seat.me.1) e m.carried))))
+      by false c h k made = let m = moved.moved (DropFuture ∷ StoreOutput ∷ CompleteDetached ∷ []) w Ready (output_first y z []) p q s made in
+          finds_detached y z h (moved.goes p q (act DropFuture ∷ act StoreOutput ∷ row CompleteDetached w ∷ []) (OutputInHand w.awaiter) (output_first y z []) cell m.viewed (keeps_places Ready (OutputInHand w.awaiter) (output_first y z []) q.seat.me.1 refl refl m.carried))
+
+  pub ended_pending : (y z : Slot F T A) (p q : Party F T A) (w : State) → w.closed ≡ false → StandsWith Pending (future_first y z []) p → q.seat.table_id ≡ p.seat.table_id → Makes (ending_pending w) w p.seat.me q.seat.me → EndsPending (future_first y z []) p q (ending_of w)
+  ended_pending y z p q w unclosed s cell made = by w.scheduled (nat_lt 1 w.references || w.task) refl refl made
+    where
+      by : (b d : Bool) → w.scheduled ≡ b → (nat_lt 1 w.references || w.task) ≡ d → Makes (if b then Reschedule ∷ [] else (if d then EndIdle ∷ EndCall ∷ [] else EndOrphaned ∷ [])) w p.seat.me q.seat.me
+          → EndsPending (future_first y z []) p q (if b then Rescheduled else (if d then Idle else Orphaned))
+      by true d h k made = let m = moved.moved (Reschedule ∷ []) w Pending (future_first y z []) p q s made in
+          is_rescheduled w unclosed h (moved.goes p q (row Reschedule w ∷ []) (Deliverer true (ThenEnds (Ran true))) [] cell m.viewed (gave_work Pending (Deliverer true (ThenEnds (Ran true))) (future_first y z []) q.seat.me.1 refl refl m.carried))
+      by false true h k made = let m = moved.moved (EndIdle ∷ EndCall ∷ []) w Pending (future_first y z []) p q s made in
+          is_idle w unclosed h k (moved.goes p q (row EndIdle w ∷ act EndCall ∷ []) (At Ended) [] cell m.viewed (gave_work Pending (At Ended) (future_first y z []) q.seat.me.1 refl refl m.carried))
+      by false false h k made = let m = moved.moved (EndOrphaned ∷ []) w Pending (future_first y z []) p q s made in
+          is_orphaned w unclosed h k (moved.goes p q (row EndOrphaned w ∷ []) (Deliverer false (ThenEnds (Ran false))) [] cell m.viewed (gave_work Pending (Deliverer false (ThenEnds (Ran false))) (future_first y z []) q.seat.me.1 refl refl m.carried))
+
+  -- nothing was done yet
+  pub at_rest : (at : Position) (held : List (ℕ × Slot F T A)) (p q : Party F T A) → StandsWith at held p → q.seat.table_id ≡ p.seat.table_id → q.seat.me ≡ p.seat.me → GoesWith [] at held p q
+  at_rest at held p q s cell same = record { cell = cell; is = same ∙ s }
+
+  -- the place of the output comes before that of the future
+  pub turns : (at : Position) (y z : Slot F T A) (p q : Party F T A) → StandsWith at (future_first y z []) p → q.seat.table_id ≡ p.seat.table_id → q.seat.me ≡ (p.seat.me.0, turned p.seat.me.1) → GoesWith [] at (output_first y z []) p q
+  turns at y z p q s cell turn = record { cell = cell; is = turn ∙ ap (λ m. (m.0, turned m.1)) s }
+
+  pub same_me : (at : Position) (held : List (ℕ × Slot F T A)) (p q : Party F T A) → StandsWith at held p → GoesWith [] at held p q → q.seat.me ≡ p.seat.me
+  same_me at held p q s g = g.is ∙ sym s
+
+  pub completes_then : (at : Position) (held : List (ℕ × Slot F T A)) (p q r : Party F T A) (w : State) → GoesWith [] at held p q → Completes q r w → Completes p r w
+  completes_then at held p q r w g (keeps h k x) = keeps h k (moved.goes_on p q r [] (act DropFuture ∷ act StoreOutput ∷ row Complete w ∷ []) at (notifies w.awaiter OfRun) held [] g x)
+  completes_then at held p q r w g (finds_closed y z h k x) = finds_closed y z h k (moved.goes_on p q r [] (act DropFuture ∷ act StoreOutput ∷ row Complete w ∷ []) at (OutputInHand w.awaiter) held (output_first y z []) g x)
+  completes_then at held p q r w g (finds_detached y z h x) = finds_detached y z h (moved.goes_on p q r [] (act DropFuture ∷ act StoreOutput ∷ row CompleteDetached w ∷ []) at (OutputInHand w.awaiter) held (output_first y z []) g x)
+
+  pub ends_then : (at : Position) (held : List (ℕ × Slot F T A)) (p q r : Party F T A) (e : PendingEnd) → GoesWith [] at held p q → EndsPending held q r e → EndsPending held p r e
+  ends_then at held p q r e g (is_closed x) = is_closed (moved.goes_on p q r [] (act DropFuture ∷ []) at Cleared held held g x)
+  ends_then at held p q r e g (is_rescheduled w a b x) = is_rescheduled w a b (moved.goes_on p q r [] (row Reschedule w ∷ []) at (Deliverer true (ThenEnds (Ran true))) held [] g x)
+  ends_then at held p q r e g (is_idle w a b d x) = is_idle w a b d (moved.goes_on p q r [] (row EndIdle w ∷ act EndCall ∷ []) at (At Ended) held [] g x)
+  ends_then at held p q r e g (is_orphaned w a b d x) = is_orphaned w a b d (moved.goes_on p q r [] (row EndOrphaned w ∷ []) at (Deliverer false (ThenEnds (Ran false))) held [] g x)
+
+  -- the word that a step names, where it finds its number
+  pub at_found : (acts : State → List Act) (p q : Party F T A) (n old : ℕ) (w : State) → n ≡ old → old ≡ number_of w → Makes (acts (state_of n)) (state_of n) p.seat.me q.seat.me → Makes (acts w) w p.seat.me q.seat.me
+  at_found acts p q n old w e f made = subst (λ (v : State). Makes (acts v) v p.seat.me q.seat.me) (ap state_of (e ∙ f) ∙ state_of_number_of w) made

@@ -1,0 +1,86 @@
+-- The parts of a run, put together.
+use Rattle.std.proofs.Common.{◌≡◌, ℕ, Bool, true, false, List, [], ◌∷◌, sym, ap, ◌∙◌, subst}
+use Rattle.atomic_table.specs.Table.{Me, rest}
+use Rattle.task_core.specs.Word.{State}
+use Rattle.task_laws.specs.declared.positions.Position.TheVariants.{At, FutureInHand, Polling}
+use Rattle.task_laws.specs.declared.positions.Rest.TheVariants.{Lent}
+use Rattle.task_laws.specs.declared.positions.Closer.TheVariants.{ClosedRun}
+use Rattle.task_core.specs.declared.moves.Act.TheVariants.{TakeUpClosed, StartRun, StartPoll}
+use Rattle.task_core.specs.declared.traits.Poll.{Poll}
+use Rattle.task_core.specs.declared.traits.Poll.TheVariants.{Pending as Unready, Ready as Answered}
+use Rattle.task_cell.specs.declared.table.Slot.{Slot}
+use Rattle.task_cell.specs.declared.table.Deed.{Deed}
+use Rattle.task_cell.specs.declared.table.View.{View}
+use Rattle.task_cell.specs.declared.cell.Party.{Party}
+use Rattle.task_cell.specs.Rule.{member, view, fresh, IsFuture}
+use Rattle.task_cell.specs.Steps.{head_of, future_first}
+use Rattle.task_cell.specs.Calls.{row, act, deeds, limit_of, StandsWith, GoesWith, Goes, as_ended}
+use Rattle.task_cell.specs.Seats.{lent_of, taking_back}
+use Rattle.task_cell.specs.Starts.{polling_view, TakesUp, finds_closed, starts, IsLending}
+use Rattle.task_cell.specs.RunPaths.{RunPath, finds_closed as closed_path, answers_ready, answers_pending}
+use Rattle.task_cell.specs.RunCalls.{Closes, EndsReady, EndsUnready}
+use Rattle.task_cell.proofs.Moved as moved
+
+module _ {F T A : Type 0} where
+  -- what a run has done that is not polled
+  pub record Shut (p q : Party F T A) : Type 0 where
+    pub word : State
+    pub place : Slot F T A
+    pub other : Slot F T A
+    pub closed : word.closed ≡ true
+    pub goes : GoesWith (row TakeUpClosed word ∷ []) (FutureInHand ClosedRun) (future_first place other []) p q
+
+  -- .. and one that is
+  pub record Started (p q : Party F T A) : Type 0 where
+    pub word : State
+    pub place : Slot F T A
+    pub other : Slot F T A
+    pub unclosed : word.closed ≡ false
+    pub future : IsFuture place
+    pub cell : q.seat.table_id ≡ p.seat.table_id
+    pub is : q.seat.me ≡ (polling_view word p, future_first place other [])
+
+  pub shut : (p q : Party F T A) (b : Bool) → TakesUp p q b → b ≡ false → Shut p q
+  shut p q b (finds_closed w y z e f g) is = record { word = w; place = y; other = z; closed = e; goes = g }
+  shut p q b (starts w y z e f cell me) is = absurd (cc)
+
+  pub started : (p q : Party F T A) (b : Bool) → TakesUp p q b → b ≡ true → Started p q
+  started p q b (finds_closed w y z e f g) is = absurd (cc)
+  started p q b (starts w y z e f cell me) is = record { word = w; place = y; other = z; unclosed = e; future = f; cell = cell; is = me }
+
+  pub lending : (p q : Party F T A) (s : Started p q) → IsLending s.place s.other q
+  lending p q s = s.is ∙ ap (λ (z : ℕ × List Deed). (view z.0 (member Polling z.1 ∷ fresh (At Lent) ∷ []), future_first s.place s.other []))
+      (λ i. (sym (ap (λ (m : Me (Slot F T A) View). m.0.limit) s.is) i, sym (ap (λ (m : Me (Slot F T A) View). (head_of m.0.members).deeds) s.is) i))
+
+  -- the run is alone on its seat again, and the poll left this in the place of the future
+  pub came_back : (p q : Party F T A) (v w : View) (y z left : Slot F T A) (held : List (ℕ × Slot F T A)) → IsLending y z p → held ≡ p.seat.me.1 → w ≡ lent_of p.seat.me.0
+      → q.seat.me ≡ (taking_back v w, (0, left) ∷ rest held) → StandsWith Polling (future_first left z []) q
+  came_back p q v w y z left held s has is back =
+      let same : q.seat.me ≡ (view (limit_of p) (member Polling (deeds p) ∷ []), future_first left z []) =
+      back ∙ (λ i. (taking_back v ((is ∙ ap (λ (m : Me (Slot F T A) View). lent_of m.0) s) i), (0, left) ∷ rest ((has ∙ ap (λ (m : Me (Slot F T A) View). m.1) s) i))) in
+      same ∙ ap (λ (x : ℕ × List Deed). (view x.0 (member Polling x.1 ∷ []), future_first left z []))
+      (λ i. (sym (ap (λ (m : Me (Slot F T A) View). m.0.limit) same) i, sym (ap (λ (m : Me (Slot F T A) View). (head_of m.0.members).deeds) same) i))
+
+  pub limit_started : (p q : Party F T A) → Started p q → limit_of q ≡ limit_of p
+  limit_started p q s = ap (λ (m : Me (Slot F T A) View). m.0.limit) s.is
+
+  -- after its poll
+  polled : (p q r : Party F T A) (s : Started p q) (held : List (ℕ × Slot F T A)) → r.seat.table_id ≡ q.seat.table_id → limit_of r ≡ limit_of q → deeds r ≡ deeds q → StandsWith Polling held r
+      → GoesWith (row StartRun s.word ∷ act StartPoll ∷ []) Polling held p r
+  polled p q r s held cell limit did stands = record {
+    cell = cell ∙ s.cell;
+    is = stands ∙ ap (λ (z : ℕ × List Deed). (view z.0 (member Polling z.1 ∷ []), held))
+        (λ i. ((limit ∙ limit_started p q s) i, (did ∙ ap (λ (m : Me (Slot F T A) View). (head_of m.0.members).deeds) s.is) i));
+  }
+
+  module _ {O : Type 0} (Polled : Poll O → Type 0) (Woken : Type 0) (Scheduled : Bool → Type 0) where
+    pub run_closed : (p q r : Party F T A) → Shut p q → Closes Woken q r → (path : List Deed) × RunPath Polled Woken Scheduled false path × Goes path as_ended p r
+    run_closed p q r s c = (row TakeUpClosed s.word ∷ c.0, closed_path s.word c.0 s.closed c.1, moved.goes_on p q r _ _ _ _ _ _ s.goes c.2)
+
+    pub run_ready : (p q r t : Party F T A) (s : Started p q) (v : Poll O) (x : O) → v ≡ Answered x → (held : List (ℕ × Slot F T A)) → r.seat.table_id ≡ q.seat.table_id → limit_of r ≡ limit_of q → deeds r ≡ deeds q → StandsWith Polling held r
+        → Polled v → EndsReady Woken r t → (path : List Deed) × RunPath Polled Woken Scheduled false path × Goes path as_ended p t
+    run_ready p q r t s v x is held cell limit did stands fact e = (row StartRun s.word ∷ act StartPoll ∷ e.0, answers_ready s.word x e.0 s.unclosed (subst Polled is fact) e.1, moved.goes_on p r t _ _ _ _ _ _ (polled p q r s held cell limit did stands) e.2)
+
+    pub run_pending : (p q r t : Party F T A) (s : Started p q) (v : Poll O) → v ≡ Unready → (b : Bool) (held : List (ℕ × Slot F T A)) → r.seat.table_id ≡ q.seat.table_id → limit_of r ≡ limit_of q → deeds r ≡ deeds q → StandsWith Polling held r
+        → Polled v → EndsUnready Woken Scheduled b r t → (path : List Deed) × RunPath Polled Woken Scheduled b path × Goes path as_ended p t
+    run_pending p q r t s v is b held cell limit did stands fact e = (row StartRun s.word ∷ act StartPoll ∷ e.0, answers_pending s.word b e.0 s.unclosed (subst Polled is fact) e.1, moved.goes_on p r t _ _ _ _ _ _ (polled p q r s held cell limit did stands) e.2)

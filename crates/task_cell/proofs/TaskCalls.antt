@@ -1,0 +1,118 @@
+-- A cancel and a detach, put together from their steps.
+use Rattle.std.proofs.Common.{◌≡◌, ℕ, Bool, true, false, List, [], ◌∷◌, ◌++◌, Option, None, refl, sym, subst}
+use Rattle.task_core.specs.Word.{State}
+use Rattle.task_laws.specs.declared.positions.Answer.{Answer}
+use Rattle.task_laws.specs.declared.positions.Answer.TheVariants.{Nothing}
+use Rattle.task_laws.specs.declared.positions.Position.TheVariants.{Deliverer, Emptier, OutputCloser, Leaving}
+use Rattle.task_laws.specs.declared.positions.Rest.TheVariants.{Ended}
+use Rattle.task_laws.specs.declared.positions.Way.TheVariants.{OfCancel}
+use Rattle.task_laws.specs.declared.positions.After.{After}
+use Rattle.task_laws.specs.declared.positions.After.TheVariants.{ThenEnds}
+use Rattle.task_core.specs.declared.moves.Act.TheVariants.{CancelOver, CancelBusy, CancelIdle, GiveUpOutput, DropOutput, DetachOrphan, DetachLast, Detach, EmptySlots, EndCall, HandOver}
+use Rattle.task_laws.specs.Table.{notifies, cancels_after, goes_after, after_giving_up}
+use Rattle.task_cell.specs.declared.table.Slot.{Slot}
+use Rattle.task_cell.specs.declared.table.Deed.{Deed}
+use Rattle.task_cell.specs.declared.cell.Party.{Party}
+use Rattle.task_cell.specs.declared.cell.cancel.Cancelled.{Cancelled}
+use Rattle.task_cell.specs.declared.cell.cancel.Cancelled.TheVariants.{Over, Busy, Idle}
+use Rattle.task_cell.specs.declared.cell.detach.Detached.TheVariants.{Unclaimed, Shared, Last, Orphaned}
+use Rattle.task_cell.specs.Steps.{output_first}
+use Rattle.task_cell.specs.Calls.{row, act, position, StandsWith, Stands, GoesWith, Goes, as_task, as_ended, handed_over, rest_of}
+use Rattle.task_cell.specs.TaskPaths.{Fits, Notice, CancelPath, is_over, is_busy, is_idle, DetachPath, drops_output, drops_output_last, is_shared, is_last, is_orphaned, Cancels, Detaches, GivesTaskUp}
+use Rattle.task_cell.proofs.Moved.{goes_on, stands, position_is}
+use Rattle.task_cell.proofs.TaskMoves.{Ends, ends}
+
+-- a cancel goes on where its Runnable was handed over
+cancel_goes_on : (due : Bool) (n : ℕ) → goes_after (cancels_after due n) ≡ notifies due (OfCancel n)
+cancel_goes_on true n = refl
+cancel_goes_on false n = refl
+
+module _ {F T A : Type 0} where
+  -- the Runnable of a deliverer is handed over
+  pub hands_over : (p q r : Party F T A) (path : List Deed) (next : After) → Goes path (Deliverer false next) p q → Goes (act HandOver ∷ []) (handed_over (position q)) q r → Goes (path ++ act HandOver ∷ []) (goes_after next) p r
+  hands_over p q r path next g h = goes_on p q r path (act HandOver ∷ []) (Deliverer false next) (goes_after next) [] [] g
+      (subst (λ at. Goes (act HandOver ∷ []) (handed_over at) q r) (position_is q (Deliverer false next) [] (stands p q path (Deliverer false next) [] g)) h)
+
+  pub delivered : (p q r : Party F T A) (n : ℕ) (due : Bool) (path : List Deed) → Goes path (Deliverer false (cancels_after due n)) p q → Goes (act HandOver ∷ []) (handed_over (position q)) q r → Goes (path ++ act HandOver ∷ []) (notifies due (OfCancel n)) p r
+  delivered p q r n due path g h = subst (λ at. Goes (path ++ act HandOver ∷ []) at p r) (cancel_goes_on due n) (hands_over p q r path (cancels_after due n) g h)
+
+  -- a cancel goes such a path
+  abbrev pub Cancelling : Type 0 → Type 0 → Party F T A → Party F T A → Type 0
+  Cancelling Scheduled Woken p q = (path : List Deed) × CancelPath Scheduled Woken path × Goes path (position p) p q
+
+  -- the row of a cancel, by what it found
+  abbrev pub Closes : Party F T A → Party F T A → Cancelled → Type 0
+  Closes p q found = (n : ℕ) → Stands (as_task n) p → Cancels n p q found
+
+  -- a cancel that has closed a busy task; an idle one, whose Runnable was handed over
+  pub closed_busy : (p q : Party F T A) (due : Bool) (s : (n : ℕ) × Stands (as_task n) p) → Closes p q (Busy due) → (path : List Deed) × Goes path (notifies due (OfCancel s.0)) p q
+  closed_busy p q due s f = let x = f s.0 s.1 in (row CancelBusy x.0 ∷ [], x.3)
+
+  pub closed_idle : (p q r : Party F T A) (due : Bool) (s : (n : ℕ) × Stands (as_task n) p) → Closes p q (Idle due) → Goes (act HandOver ∷ []) (handed_over (position q)) q r → (path : List Deed) × Goes path (notifies due (OfCancel s.0)) p r
+  closed_idle p q r due s f h = let x = f s.0 s.1 in (row CancelIdle x.0 ∷ act HandOver ∷ [], delivered p q r s.0 due (row CancelIdle x.0 ∷ []) x.3 h)
+
+  as_was : (p q : Party F T A) (n : ℕ) (path : List Deed) → Stands (as_task n) p → Goes path (as_task n) p q → Goes path (position p) p q
+  as_was p q n path s g = subst (λ at. Goes path at p q) (sym (position_is p (as_task n) [] s)) g
+
+  pub cancels_over : (Scheduled Woken : Type 0) (p q : Party F T A) (n : ℕ) → Stands (as_task n) p → Cancels n p q Over → Cancelling Scheduled Woken p q
+  cancels_over Scheduled Woken p q n s x = let path : List Deed = row CancelOver x.0 ∷ act EndCall ∷ [] in (path, is_over x.0 x.1, as_was p q n path s x.2)
+
+  pub cancels_busy : (Scheduled Woken : Type 0) (p q r : Party F T A) (n : ℕ) (due : Bool) → Stands (as_task n) p → Cancels n p q (Busy due) → Ends Woken due n q r → Cancelling Scheduled Woken p r
+  cancels_busy Scheduled Woken p q r n due s x y = let path : List Deed = row CancelBusy x.0 ∷ [] in let more : List Deed = y.0 ++ act EndCall ∷ [] in
+      (path ++ more, is_busy x.0 y.0 x.2 (subst (λ b. Notice Woken b y.0) (sym x.1) y.1), as_was p r n (path ++ more) s (goes_on p q r path more (notifies due (OfCancel n)) (as_task n) [] [] x.3 y.2))
+
+  pub cancels_idle : (Scheduled Woken : Type 0) (p q r t : Party F T A) (n : ℕ) (due : Bool) → Stands (as_task n) p → Cancels n p q (Idle due) → Scheduled → Goes (act HandOver ∷ []) (handed_over (position q)) q r → Ends Woken due n r t
+      → Cancelling Scheduled Woken p t
+  cancels_idle Scheduled Woken p q r t n due s x fact h y = let path : List Deed = row CancelIdle x.0 ∷ act HandOver ∷ [] in let more : List Deed = y.0 ++ act EndCall ∷ [] in (
+    path ++ more,
+    is_idle x.0 y.0 x.2 fact (subst (λ b. Notice Woken b y.0) (sym x.1) y.1),
+    as_was p t n (path ++ more) s (goes_on p r t path more (notifies due (OfCancel n)) (as_task n) [] [] (delivered p q r n due (row CancelIdle x.0 ∷ []) x.3 h) y.2),
+  )
+
+  -- a detach goes such a path
+  abbrev pub Detaching : Type 0 → Party F T A → Party F T A → Type 0
+  Detaching Scheduled p q = (path : List Deed) × DetachPath Scheduled path × Goes path as_ended p q
+
+  -- the emptier of the slots
+  abbrev pub Empties : Party F T A → Party F T A → Type 0
+  Empties p q = (hand : Option ℕ) (answer : Answer) (y : Slot F T A) → StandsWith (Emptier hand answer) ((2, y) ∷ []) p → Goes (act EmptySlots ∷ []) (after_giving_up hand answer) p q
+
+  pub empties : (p q r : Party F T A) (path : List Deed) (y : Slot F T A) → GoesWith path (Emptier None Nothing) ((2, y) ∷ []) p q → Empties q r → Goes (path ++ act EmptySlots ∷ []) (Leaving Nothing Ended) p r
+  empties p q r path y g e = goes_on p q r path (act EmptySlots ∷ []) (Emptier None Nothing) (Leaving Nothing Ended) ((2, y) ∷ []) [] g
+      (e None Nothing y (stands p q path (Emptier None Nothing) ((2, y) ∷ []) g))
+
+  -- the Task of a completed task was the last handle
+  pub unclaimed_last : (p q r t : Party F T A) (b : Bool) → b ≡ true → Detaches p q Unclaimed → GivesTaskUp q r b → Empties r t
+      → (w v : State) × Fits GiveUpOutput w × Fits DetachLast v × Goes (row GiveUpOutput w ∷ act DropOutput ∷ row DetachLast v ∷ act EmptySlots ∷ []) (Leaving Nothing Ended) p t
+  unclaimed_last p q r t false is x y e = absurd (cc)
+  unclaimed_last p q r t true is x y e = let path : List Deed = row GiveUpOutput x.0 ∷ [] in let more : List Deed = act DropOutput ∷ row DetachLast y.0 ∷ [] in
+      (x.0, y.0, x.3, y.2, empties p r t (path ++ more) y.1 (goes_on p q r path more OutputCloser (Emptier None Nothing) (output_first x.1 x.2 []) ((2, y.1) ∷ []) x.5 y.3) e)
+
+  pub detaches_unclaimed_last : (Scheduled : Type 0) (p q r t u : Party F T A) (b : Bool) → b ≡ true → Detaches p q Unclaimed → GivesTaskUp q r b → Empties r t → Goes (act EndCall ∷ []) (rest_of (position t)) t u → Detaching Scheduled p u
+  detaches_unclaimed_last Scheduled p q r t u b is x y e end = let z = unclaimed_last p q r t b is x y e in let path : List Deed = row GiveUpOutput z.0 ∷ act DropOutput ∷ row DetachLast z.1 ∷ act EmptySlots ∷ [] in
+      (path ++ act EndCall ∷ [], drops_output_last z.0 z.1 z.2 z.3, ends p t u path Nothing Ended z.4 end)
+
+  -- .. and was not
+  pub detaches_unclaimed : (Scheduled : Type 0) (p q r : Party F T A) (b : Bool) → b ≡ false → Detaches p q Unclaimed → GivesTaskUp q r b → Detaching Scheduled p r
+  detaches_unclaimed Scheduled p q r true is x y = absurd (cc)
+  detaches_unclaimed Scheduled p q r false is x y = let path : List Deed = row GiveUpOutput x.0 ∷ [] in let more : List Deed = act DropOutput ∷ row Detach y.0 ∷ act EndCall ∷ [] in
+      (path ++ more, drops_output x.0 y.0 x.3 y.1, goes_on p q r path more OutputCloser as_ended (output_first x.1 x.2 []) [] x.5 y.2)
+
+  pub detaches_shared : (Scheduled : Type 0) (p q : Party F T A) → Detaches p q Shared → Detaching Scheduled p q
+  detaches_shared Scheduled p q x = (row Detach x.0 ∷ act EndCall ∷ [], is_shared x.0 x.1, x.2)
+
+  -- a closed task has no other handle
+  pub last_emptied : (p q r : Party F T A) (x : Detaches p q Last) → Empties q r → Goes (row DetachLast x.0 ∷ act EmptySlots ∷ []) (Leaving Nothing Ended) p r
+  last_emptied p q r x e = empties p q r (row DetachLast x.0 ∷ []) x.1 x.3 e
+
+  pub detaches_last : (Scheduled : Type 0) (p q r t : Party F T A) → Detaches p q Last → Empties q r → Goes (act EndCall ∷ []) (rest_of (position r)) r t → Detaching Scheduled p t
+  detaches_last Scheduled p q r t x e end = let path : List Deed = row DetachLast x.0 ∷ act EmptySlots ∷ [] in
+      (path ++ act EndCall ∷ [], is_last x.0 x.2, ends p r t path Nothing Ended (last_emptied p q r x e) end)
+
+  -- an open task has no other handle
+  pub orphan_delivered : (p q r : Party F T A) (x : Detaches p q Orphaned) → Goes (act HandOver ∷ []) (handed_over (position q)) q r → Goes (row DetachOrphan x.0 ∷ act HandOver ∷ []) (Leaving Nothing Ended) p r
+  orphan_delivered p q r x h = hands_over p q r (row DetachOrphan x.0 ∷ []) (ThenEnds Nothing) x.2 h
+
+  pub detaches_orphaned : (Scheduled : Type 0) (p q r t : Party F T A) → Detaches p q Orphaned → Scheduled → Goes (act HandOver ∷ []) (handed_over (position q)) q r → Goes (act EndCall ∷ []) (rest_of (position r)) r t → Detaching Scheduled p t
+  detaches_orphaned Scheduled p q r t x fact h end = let path : List Deed = row DetachOrphan x.0 ∷ act HandOver ∷ [] in
+      (path ++ act EndCall ∷ [], is_orphaned x.0 x.1 fact, ends p r t path Nothing Ended (orphan_delivered p q r x h) end)

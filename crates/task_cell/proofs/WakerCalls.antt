@@ -1,0 +1,41 @@
+-- A waker's drop, put together from its steps.
+use Rattle.std.proofs.Common.{false, List, [], ◌∷◌, ◌++◌}
+use Rattle.task_core.specs.Word.{State}
+use Rattle.task_laws.specs.declared.positions.Answer.TheVariants.{Nothing}
+use Rattle.task_laws.specs.declared.positions.Position.TheVariants.{Deliverer, Leaving, OrphanHolder}
+use Rattle.task_laws.specs.declared.positions.Rest.TheVariants.{Ended}
+use Rattle.task_laws.specs.declared.positions.After.TheVariants.{ThenEnds}
+use Rattle.task_core.specs.declared.moves.Act.TheVariants.{DropWaker, DropLastWaker, OrphanTask, CloseOrphan, EmptySlots, EndCall, HandOver}
+use Rattle.task_cell.specs.declared.table.Deed.{Deed}
+use Rattle.task_cell.specs.declared.cell.Party.{Party}
+use Rattle.task_cell.specs.declared.cell.dropping.Dropped.TheVariants.{Shared, Last, Orphaned}
+use Rattle.task_cell.specs.Calls.{row, act, position, Goes, as_ended, rest_of}
+use Rattle.task_cell.specs.WakerPaths.{WakerDropPath, leaves_others, leaves_none, leaves_orphan, DropsWaker}
+use Rattle.task_cell.proofs.Moved.{goes_on}
+use Rattle.task_cell.proofs.TaskMoves.{ends}
+use Rattle.task_cell.proofs.TaskCalls.{Empties, empties}
+
+module _ {F T A : Type 0} where
+  -- a waker's drop goes such a path
+  abbrev pub DroppingWaker : Type 0 → Party F T A → Party F T A → Type 0
+  DroppingWaker Scheduled p q = (path : List Deed) × WakerDropPath Scheduled path × Goes path as_ended p q
+
+  pub drops_shared : (Scheduled : Type 0) (p q : Party F T A) → DropsWaker p q Shared → DroppingWaker Scheduled p q
+  drops_shared Scheduled p q x = (row DropWaker x.0 ∷ act EndCall ∷ [], leaves_others x.0 x.1, x.2)
+
+  -- the last handle of a task that is over
+  pub last_emptied : (p q r : Party F T A) (x : DropsWaker p q Last) → Empties q r → Goes (row DropLastWaker x.0 ∷ act EmptySlots ∷ []) (Leaving Nothing Ended) p r
+  last_emptied p q r x e = empties p q r (row DropLastWaker x.0 ∷ []) x.1 x.4 e
+
+  pub drops_last : (Scheduled : Type 0) (p q r t : Party F T A) → DropsWaker p q Last → Empties q r → Goes (act EndCall ∷ []) (rest_of (position r)) r t → DroppingWaker Scheduled p t
+  drops_last Scheduled p q r t x e end = let path : List Deed = row DropLastWaker x.0 ∷ act EmptySlots ∷ [] in
+      (path ++ act EndCall ∷ [], leaves_none x.0 x.2 x.3, ends p r t path Nothing Ended (last_emptied p q r x e) end)
+
+  -- the last handle of an open task
+  pub orphan_closed : (p q r : Party F T A) (x : DropsWaker p q Orphaned) (y : (v : State) × Goes (row CloseOrphan v ∷ []) (Deliverer false (ThenEnds Nothing)) q r) → Goes (row OrphanTask x.0 ∷ row CloseOrphan y.0 ∷ []) (Deliverer false (ThenEnds Nothing)) p r
+  orphan_closed p q r x y = goes_on p q r (row OrphanTask x.0 ∷ []) (row CloseOrphan y.0 ∷ []) OrphanHolder (Deliverer false (ThenEnds Nothing)) [] [] x.3 y.1
+
+  pub drops_orphaned : (Scheduled : Type 0) (p q r t : Party F T A) → DropsWaker p q Orphaned → (v : State) × Goes (row CloseOrphan v ∷ []) (Deliverer false (ThenEnds Nothing)) q r → Scheduled
+      → Goes (act HandOver ∷ act EndCall ∷ []) as_ended r t → DroppingWaker Scheduled p t
+  drops_orphaned Scheduled p q r t x y fact h = let path : List Deed = row OrphanTask x.0 ∷ row CloseOrphan y.0 ∷ [] in let more : List Deed = act HandOver ∷ act EndCall ∷ [] in
+      (path ++ more, leaves_orphan x.0 y.0 x.1 x.2 fact, goes_on p r t path more (Deliverer false (ThenEnds Nothing)) as_ended [] [] (orphan_closed p q r x y) h)

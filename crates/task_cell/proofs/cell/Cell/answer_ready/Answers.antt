@@ -1,0 +1,12 @@
+use Rattle.std.proofs.Common.{rules, ap}
+use Rattle.task_core.specs.Word.{state_of}
+use Rattle.task_cell.proofs.Allowed.{steps_always}
+use Rattle.task_cell.proofs.RunOwed.{answers_ready}
+use Rattle.task_cell.proofs.RunGoes.{answered_ready}
+use Rattle.task_cell.proofs.cell.Cell.answer_ready.Goals as goal
+
+pub load-requires : goal.load-requires
+load-requires g c = (search rules, search rules, steps_always _ _ _ _ _ _ _ _ _ _ _ _ _ (search rules) (ap (λ m. m.0) c.requires.party.1) (answers_ready _ _ _ _ _ _ _))
+
+pub returns : goal.returns
+returns g c = λ held s. let l = c.load.ensures in answered_ready held c.args.party.now (record { seat = c.load.new.seat }) (state_of c.load.result) s l.0 l.2

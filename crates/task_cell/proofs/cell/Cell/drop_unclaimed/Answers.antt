@@ -1,0 +1,33 @@
+use Rattle.std.proofs.Common.{rules, ap, ◌∷◌, [], sym, ◌∙◌, subst}
+use Rattle.std.specs.Prelude.{nat_eq}
+use Rattle.task_core.specs.Word.{State}
+use Rattle.task_laws.specs.declared.positions.Position.TheVariants.{OutputCloser, Detacher}
+use Rattle.task_core.specs.declared.moves.Act.TheVariants.{DropOutput}
+use Rattle.task_cell.specs.declared.table.Slot.TheVariants.{Empty}
+use Rattle.task_cell.specs.Steps.{head_of, saw_closed, output_first}
+use Rattle.task_cell.specs.Calls.{act}
+use Rattle.task_cell.specs.TaskPaths.{GivesTaskUp}
+use Rattle.task_cell.proofs.Known.{steps_knowing}
+use Rattle.task_cell.proofs.Moved.{stands, goes_on}
+use Rattle.task_cell.proofs.TaskOwed.{gives_task_up}
+use Rattle.task_cell.proofs.TaskMoves.{gives_rest}
+use Rattle.task_cell.proofs.cell.Cell.drop_unclaimed.Goals as goal
+
+pub note_output_dropped-requires-clause-cell : goal.note_output_dropped-requires-clause-cell
+note_output_dropped-requires-clause-cell g c = let s = c.requires.party in (c.clear.ensures OutputCloser s.1 ((0, s.0) ∷ []) s.2).cell ∙ c.requires.cell
+
+pub note_output_dropped-requires-clause-party : goal.note_output_dropped-requires-clause-party
+note_output_dropped-requires-clause-party g c = let s = c.requires.party in let put = c.clear.ensures OutputCloser s.1 ((0, s.0) ∷ []) s.2 in
+    (s.0, Empty, stands c.args.party.now c.clear.new.party [] OutputCloser (output_first s.0 Empty []) put, tt)
+
+pub fetch_and-found-requires : goal.fetch_and-found-requires
+fetch_and-found-requires g c = let s = c.requires.party in let put = c.clear.ensures OutputCloser s.1 ((0, s.0) ∷ []) s.2 in
+    let d = goes_on c.args.party.now c.clear.new.party c.note_output_dropped.new.party [] (act DropOutput ∷ []) OutputCloser Detacher (output_first s.0 Empty []) [] put c.note_output_dropped.ensures in
+    (search rules, search rules, steps_knowing _ _ _ _ _ _ _ _ _ _ _ _ _ (search rules) (ap (λ m. m.0) d.is) (gives_task_up _ _ _ _ _ _ _ s.3))
+
+pub returns : goal.returns
+returns g c = let s = c.requires.party in let put = c.clear.ensures OutputCloser s.1 ((0, s.0) ∷ []) s.2 in let given = c.fetch_and-found.ensures in
+    let d = goes_on c.args.party.now c.clear.new.party c.note_output_dropped.new.party [] (act DropOutput ∷ []) OutputCloser Detacher (output_first s.0 Empty []) [] put c.note_output_dropped.ensures in
+    let closed = given.2.1.closed (ap (λ m. saw_closed (head_of m.0.members).deeds) d.is ∙ s.3) in
+    subst (λ k. GivesTaskUp c.args.party.now (record { seat = c.fetch_and-found.new.seat }) (nat_eq k 0)) (sym (c.references.ensures ∙ ap (λ (w : State). w.references) c.from_bits.ensures))
+    (gives_rest c.args.party.now c.note_output_dropped.new.party (record { seat = c.fetch_and-found.new.seat }) _ d given.0 closed given.2.0)

@@ -1,0 +1,23 @@
+use Rattle.std.proofs.Common.{rules, ap, ◌∷◌, []}
+use Rattle.task_core.specs.Word.{state_of}
+use Rattle.task_cell.proofs.Allowed.{steps_always}
+use Rattle.task_laws.specs.declared.positions.Position.TheVariants.{Emptier}
+use Rattle.task_cell.specs.declared.table.Slot.TheVariants.{Empty}
+use Rattle.task_core.specs.declared.moves.Act.TheVariants.{EmptySlots}
+use Rattle.task_laws.specs.Table.{after_giving_up}
+use Rattle.task_cell.specs.Calls.{act}
+use Rattle.task_cell.proofs.RunOwed.{empties}
+use Rattle.task_cell.proofs.RunGoes.{emptied}
+use Rattle.task_cell.proofs.Moved.{stands, first_held, goes_on}
+use Rattle.task_cell.proofs.cell.Cell.empty.Goals as goal
+
+pub load-requires : goal.load-requires
+load-requires g c = let s = c.requires.party in let x = c.clear.ensures (Emptier s.0 s.1) s.2 [] s.3 in
+    let at = stands c.args.party.now c.clear.new.party [] (Emptier s.0 s.1) ((2, Empty) ∷ []) x in
+    (search rules, search rules, steps_always _ _ _ _ _ _ _ _ _ _ _ _ _ (search rules) (ap (λ m. m.0) at) (empties _ _ _ _ s.0 s.1 _ _ _ (first_held c.clear.new.party (Emptier s.0 s.1) 2 Empty [] at)))
+
+pub returns : goal.returns
+returns g c = λ hand answer y s. let x = c.clear.ensures (Emptier hand answer) y [] s in let l = c.load.ensures in
+    let at = stands c.args.party.now c.clear.new.party [] (Emptier hand answer) ((2, Empty) ∷ []) x in
+    goes_on c.args.party.now c.clear.new.party (record { seat = c.load.new.seat }) [] (act EmptySlots ∷ []) (Emptier hand answer) (after_giving_up hand answer) ((2, Empty) ∷ []) [] x
+    (emptied hand answer Empty c.clear.new.party (record { seat = c.load.new.seat }) (state_of c.load.result) at l.0 l.2)

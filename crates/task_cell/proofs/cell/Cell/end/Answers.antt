@@ -1,0 +1,8 @@
+use Rattle.std.proofs.Common.{rules, ap}
+use Rattle.task_cell.proofs.Allowed.{steps_always}
+use Rattle.task_cell.proofs.AwaiterOwed.{ends}
+use Rattle.task_cell.proofs.cell.Cell.end.Goals as goal
+
+pub load-requires : goal.load-requires
+load-requires g c = let s = c.requires.party in
+    (search rules, search rules, steps_always _ _ _ _ _ _ _ _ _ _ _ _ _ (search rules) (ap (λ m. m.0) s.2) (ends _ _ _ _ s.0 s.1 _ _ _))

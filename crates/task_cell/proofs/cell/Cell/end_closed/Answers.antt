@@ -1,0 +1,21 @@
+use Rattle.std.proofs.Common.{rules, ap, sym, subst, ◌∷◌, []}
+use Rattle.task_core.specs.Word.{state_of}
+use Rattle.task_cell.proofs.Allowed.{steps_always}
+use Rattle.task_laws.specs.declared.positions.Position.TheVariants.{Cleared}
+use Rattle.task_laws.specs.declared.positions.Way.TheVariants.{OfRun}
+use Rattle.task_core.specs.declared.moves.Act.TheVariants.{EndClosed}
+use Rattle.task_laws.specs.Table.{notifies}
+use Rattle.task_cell.specs.Calls.{row, Goes}
+use Rattle.task_cell.proofs.RunOwed.{ends_closed}
+use Rattle.task_cell.proofs.RunGoes.{ended_closed}
+use Rattle.task_cell.proofs.Moved.{future_held}
+use Rattle.task_cell.proofs.cell.Cell.end_closed.Goals as goal
+
+pub fetch_and-found-requires : goal.fetch_and-found-requires
+fetch_and-found-requires g c = let s = c.requires.party in
+    (search rules, search rules, steps_always _ _ _ _ _ _ _ _ _ _ _ _ _ (search rules) (ap (λ m. m.0) s.2) (ends_closed _ _ _ _ _ _ _ _ _ (future_held c.args.party.now Cleared s.0 s.1 s.2)))
+
+pub returns : goal.returns
+returns g c = λ y z s. let l = c.fetch_and-found.ensures in
+    subst (λ w. Goes (row EndClosed w ∷ []) (notifies w.awaiter OfRun) c.args.party.now (record { seat = c.fetch_and-found.new.seat })) (sym c.from_bits.ensures)
+    (ended_closed y z c.args.party.now (record { seat = c.fetch_and-found.new.seat }) (state_of c.fetch_and-found.result) s l.0 l.2)

@@ -1,0 +1,8 @@
+use Rattle.std.proofs.Common.{rules, ap}
+use Rattle.task_cell.proofs.Allowed.{steps_always}
+use Rattle.task_cell.proofs.PollOwed.{looks_again}
+use Rattle.task_cell.proofs.cell.Cell.look_again.Goals as goal
+
+pub load-requires : goal.load-requires
+load-requires g c = let s = c.requires.party in
+    (search rules, search rules, steps_always _ _ _ _ _ _ _ _ _ _ _ _ _ (search rules) (ap (λ m. m.0) s.1) (looks_again _ _ _ _ s.0 _ _ _))

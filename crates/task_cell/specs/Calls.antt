@@ -1,0 +1,123 @@
+-- What a call of the cell asks of its party, and says of it.
+use Rattle.std.specs.Prelude.{◌≡◌, ℕ, List, [], ◌∷◌, Bool, true, false, Option, Some, None}
+use Rattle.task_core.specs.Word.{State}
+use Rattle.task_laws.specs.declared.positions.Position.{Position}
+use Rattle.task_core.specs.declared.moves.Act.{Act}
+use Rattle.task_laws.specs.declared.positions.Position.TheVariants.{At, Deliverer, Leaving, Answering, FutureInHand, Notifier, AwaiterInHand}
+use Rattle.task_laws.specs.declared.positions.Rest.TheVariants.{Task, Runnable, Waker, Ended}
+use Rattle.task_core.specs.declared.moves.Act.TheVariants.{MissNotify, BeginNotify, TakeAwaiter, EndNotify}
+use Rattle.task_laws.specs.Table.{goes_on, goes_after}
+use Rattle.task_laws.specs.declared.positions.Answer.TheVariants.{Nothing}
+use Rattle.task_laws.specs.declared.positions.Way.{Way}
+use Rattle.task_laws.specs.declared.positions.Way.TheVariants.{OfRun, OfDrop}
+use Rattle.task_laws.specs.declared.positions.Closer.TheVariants.{DroppedRunnable}
+use Rattle.task_cell.specs.declared.table.Slot.{Slot}
+use Rattle.task_cell.specs.declared.table.Deed.{Deed}
+use Rattle.task_cell.specs.declared.cell.Party.{Party}
+use Rattle.task_cell.specs.Rule.{member, view, fresh}
+use Rattle.task_cell.specs.Steps.{head_of}
+
+-- a row or a load, with the word that it found
+abbrev pub row : Act → State → Deed
+row a w = record { act = a; found = Some w }
+
+-- a private act
+abbrev pub act : Act → Deed
+act a = record { act = a; found = None }
+
+-- a list of deeds, the newest first, after the deeds of a path, the oldest first
+abbrev pub after : List Deed → List Deed → List Deed
+after [] l = l
+after (d ∷ path) l = after path (d ∷ l)
+
+module _ {F T A : Type 0} where
+  -- what the party has done, the newest first
+  abbrev pub deeds : Party F T A → List Deed
+  deeds p = (head_of p.seat.me.0.members).deeds
+
+  abbrev pub position : Party F T A → Position
+  position p = (head_of p.seat.me.0.members).at
+
+  -- the places of the table that the party has, each with its value
+  abbrev pub holds : Party F T A → List (ℕ × Slot F T A)
+  holds p = p.seat.me.1
+
+  abbrev pub limit_of : Party F T A → ℕ
+  limit_of p = p.seat.me.0.limit
+
+  -- the party is alone on its seat, stands here and has these places
+  abbrev pub StandsWith : Position → List (ℕ × Slot F T A) → Party F T A → Type 0
+  StandsWith at held p = p.seat.me ≡ (view (limit_of p) (member at (deeds p) ∷ []), held)
+
+  abbrev pub Stands : Position → Party F T A → Type 0
+  Stands at p = StandsWith at [] p
+
+  -- q is the party p after this path: it stands here now, and has these places
+  pub record GoesWith (path : List Deed) (at : Position) (held : List (ℕ × Slot F T A)) (p q : Party F T A) : Type 0 where
+    pub cell : q.seat.table_id ≡ p.seat.table_id
+    pub is : q.seat.me ≡ (view (limit_of p) (member at (after path (deeds p)) ∷ []), held)
+
+  abbrev pub Goes : List Deed → Position → Party F T A → Party F T A → Type 0
+  Goes path at p q = GoesWith path at [] p q
+
+-- in which call the awaiter is taken that stands when a future is dropped unpolled
+abbrev pub closing_way : Position → Way
+closing_way (FutureInHand DroppedRunnable) = OfDrop
+closing_way _ = OfRun
+
+-- the call in which a notifier takes the awaiter, or has it
+abbrev pub way_of : Position → Way
+way_of (Notifier way) = way
+way_of (AwaiterInHand i way) = way
+way_of _ = OfRun
+
+-- where a party stands once its call has ended
+abbrev pub rest_of : Position → Position
+rest_of (Leaving answer r) = At r
+rest_of (Answering i answer) = At (Task i)
+rest_of p = p
+
+module _ {F T A : Type 0} where
+  -- a party of the same cell, of its own, that has done nothing yet
+  pub record IsNew (at : Position) (p q : Party F T A) : Type 0 where
+    pub cell : q.seat.table_id ≡ p.seat.table_id
+    pub is : q.seat.me ≡ (view (limit_of p) (fresh at ∷ []), [])
+
+  -- a notifier: it finds another party at the awaiter, or takes it out
+  pub data Notifies (p q : Party F T A) : Option A → Type 0 where
+    misses : (w : State) → GoesWith (row MissNotify w ∷ []) (goes_on None (way_of (position p))) (holds p) p q → Notifies p q None
+    finds_none : (w v : State) → GoesWith (row BeginNotify w ∷ act TakeAwaiter ∷ row EndNotify v ∷ []) (goes_on None (way_of (position p))) (holds p) p q → Notifies p q None
+    takes_awaiter : (w v : State) (i : ℕ) (a : A) → GoesWith (row BeginNotify w ∷ act TakeAwaiter ∷ row EndNotify v ∷ []) (goes_on (Some i) (way_of (position p))) (holds p) p q → Notifies p q (Some a)
+
+-- a party that hands a Runnable over: a deliverer, or a Runnable that is scheduled again
+abbrev pub hands_over : Position → Bool
+hands_over (At Runnable) = true
+hands_over (Deliverer woken next) = true
+hands_over p = false
+
+-- where it stands once it has handed the Runnable over
+abbrev pub handed_over : Position → Position
+handed_over (At Runnable) = Leaving Nothing Ended
+handed_over (Deliverer woken next) = goes_after next
+handed_over p = p
+
+abbrev pub is_empty : {X : Type 0} → List X → Bool
+is_empty [] = true
+is_empty (x ∷ xs) = false
+
+-- the positions of a handle between two calls
+abbrev pub as_runnable : Position
+as_runnable = At Runnable
+
+abbrev pub as_waker : Position
+as_waker = At Waker
+
+abbrev pub as_task : ℕ → Position
+as_task n = At (Task n)
+
+abbrev pub as_ended : Position
+as_ended = At Ended
+
+abbrev pub is_task : Position → Bool
+is_task (At (Task n)) = true
+is_task _ = false

@@ -1,0 +1,92 @@
+-- What the steps of a run and of a Runnable's drop come to.
+use Rattle.std.specs.Prelude.{◌≡◌, ℕ, ◌||◌, nat_lt, if◌then◌else◌, Bool, true, false, List, [], ◌∷◌, Option, Some, None, is_some}
+use Rattle.task_core.specs.Word.{State}
+use Rattle.task_laws.specs.declared.positions.Answer.{Answer}
+use Rattle.task_laws.specs.declared.positions.Position.TheVariants.{At, AwaiterInHand, Deliverer, Emptier, Pending, Cleared, OutputInHand}
+use Rattle.task_core.specs.declared.moves.Act.TheVariants.{GiveUpReference, GiveUpLastReference, DropFuture, StoreOutput, Complete, CompleteDetached, AnswerPending, Reschedule, EndIdle, EndCall, EndOrphaned, EndClosed}
+use Rattle.task_laws.specs.declared.positions.Answer.TheVariants.{Ran}
+use Rattle.task_laws.specs.declared.positions.Rest.TheVariants.{Ended}
+use Rattle.task_laws.specs.declared.positions.After.TheVariants.{ThenEnds}
+use Rattle.task_laws.specs.declared.positions.Way.TheVariants.{OfRun}
+use Rattle.task_laws.specs.declared.positions.Way.{Way}
+use Rattle.task_laws.specs.Table.{after_giving_up, notifies, goes_on, goes_off}
+use Rattle.task_cell.specs.declared.table.Slot.{Slot}
+use Rattle.task_cell.specs.declared.table.Deed.{Deed}
+use Rattle.task_cell.specs.declared.cell.Party.{Party}
+use Rattle.task_cell.specs.declared.cell.ends.PendingEnd.{PendingEnd}
+use Rattle.task_cell.specs.declared.cell.ends.PendingEnd.TheVariants.{Closed, Rescheduled, Idle, Orphaned}
+use Rattle.task_cell.specs.Steps.{output_first}
+use Rattle.task_cell.specs.Calls.{row, act, Stands, Goes, GoesWith}
+use Rattle.task_cell.specs.RunPaths.{ReleasePath, NotifyPath, WakePath, RestPath, StorePath, ClosedRunPath, ReadyPath, PendingPath, DiscardPath}
+
+-- how a run ends without an output that finds this word, of an open task
+abbrev pub ending_of : State → PendingEnd
+ending_of w = if w.scheduled then Rescheduled else (if nat_lt 1 w.references || w.task then Idle else Orphaned)
+
+module _ {F T A : Type 0} where
+  -- a reference was given up, and whether it was the last handle
+  pub data GivesUp (hand : Option ℕ) (answer : Answer) (p q : Party F T A) : Bool → Type 0 where
+    not_last : (w : State) → Goes (row GiveUpReference w ∷ []) (after_giving_up hand answer) p q → GivesUp hand answer p q false
+    last : (w : State) (y : Slot F T A) → GoesWith (row GiveUpLastReference w ∷ []) (Emptier hand answer) ((2, y) ∷ []) p q → GivesUp hand answer p q true
+
+  -- a reference was given up, and the places were emptied where it was the last handle
+  abbrev pub Releases : Option ℕ → Answer → Party F T A → Party F T A → Type 0
+  Releases hand answer p q = (path : List Deed) × ReleasePath path × Goes path (after_giving_up hand answer) p q
+
+  -- a run has ended with its output, which stays where somebody may claim it
+  pub data Completes (p q : Party F T A) (w : State) : Type 0 where
+    keeps : w.task ≡ true → w.closed ≡ false → Goes (act DropFuture ∷ act StoreOutput ∷ row Complete w ∷ []) (notifies w.awaiter OfRun) p q → Completes p q w
+    finds_closed : (y z : Slot F T A) → w.task ≡ true → w.closed ≡ true → GoesWith (act DropFuture ∷ act StoreOutput ∷ row Complete w ∷ []) (OutputInHand w.awaiter) (output_first y z []) p q → Completes p q w
+    finds_detached : (y z : Slot F T A) → w.task ≡ false → GoesWith (act DropFuture ∷ act StoreOutput ∷ row CompleteDetached w ∷ []) (OutputInHand w.awaiter) (output_first y z []) p q → Completes p q w
+
+  -- the poll has answered Pending, and whether the task was found closed
+  pub data AnswersPending (held : List (ℕ × Slot F T A)) (p q : Party F T A) : Bool → Type 0 where
+    stays_pending : GoesWith (act AnswerPending ∷ []) Pending held p q → AnswersPending held p q false
+    clears : GoesWith (act AnswerPending ∷ act DropFuture ∷ []) Cleared held p q → AnswersPending held p q true
+
+  -- a run has ended without an output, or has found the task closed
+  pub data EndsPending (held : List (ℕ × Slot F T A)) (p q : Party F T A) : PendingEnd → Type 0 where
+    is_closed : GoesWith (act DropFuture ∷ []) Cleared held p q → EndsPending held p q Closed
+    is_rescheduled : (w : State) → w.closed ≡ false → w.scheduled ≡ true → Goes (row Reschedule w ∷ []) (Deliverer true (ThenEnds (Ran true))) p q → EndsPending held p q Rescheduled
+    is_idle : (w : State) → w.closed ≡ false → w.scheduled ≡ false → (nat_lt 1 w.references || w.task) ≡ true → Goes (row EndIdle w ∷ act EndCall ∷ []) (At Ended) p q → EndsPending held p q Idle
+    is_orphaned : (w : State) → w.closed ≡ false → w.scheduled ≡ false → (nat_lt 1 w.references || w.task) ≡ false → Goes (row EndOrphaned w ∷ []) (Deliverer false (ThenEnds (Ran false))) p q → EndsPending held p q Orphaned
+
+  -- the awaiter was taken that was due
+  pub data TakesDue (way : Way) (due : Bool) (p q : Party F T A) : Option A → Type 0 where
+    takes_none : (path : List Deed) → NotifyPath due false path → Goes path (goes_on None way) p q → TakesDue way due p q None
+    takes_one : (i : ℕ) (a : A) (path : List Deed) → NotifyPath due true path → Goes path (goes_on (Some i) way) p q → TakesDue way due p q (Some a)
+
+  -- a party that has what was taken, to be woken
+  pub data HasTaken (way : Way) (p : Party F T A) : Option A → Type 0 where
+    has_none : Stands (goes_off way) p → HasTaken way p None
+    has_one : (i : ℕ) (a : A) → Stands (AwaiterInHand i way) p → HasTaken way p (Some a)
+
+  abbrev pub Wakes : Type 0 → Way → Option A → Party F T A → Party F T A → Type 0
+  Wakes Woken way awaiter p q = (path : List Deed) × WakePath Woken (is_some awaiter) path × Goes path (goes_off way) p q
+
+  -- a run has gone from its end step to the end of its call
+  abbrev pub Rests : Type 0 → Bool → Party F T A → Party F T A → Type 0
+  Rests Woken due p q = (path : List Deed) × RestPath Woken due path × Goes path (At Ended) p q
+
+  -- a run has ended with its output, which was dropped where nobody will claim it
+  abbrev pub Stores : State → Party F T A → Party F T A → Type 0
+  Stores w p q = (path : List Deed) × StorePath w path × Goes path (notifies w.awaiter OfRun) p q
+
+  -- the rest of a run of a closed task whose poll answered Pending
+  abbrev pub ClosesPending : Type 0 → Party F T A → Party F T A → Type 0
+  ClosesPending Woken p q = (w : State) × (path : List Deed) × RestPath Woken w.awaiter path × Goes (row EndClosed w ∷ path) (At Ended) p q
+
+  -- a whole run of a closed task, after its first step
+  abbrev pub Closes : Type 0 → Party F T A → Party F T A → Type 0
+  Closes Woken p q = (path : List Deed) × ClosedRunPath Woken path × Goes path (At Ended) p q
+
+  -- a whole run after its poll
+  abbrev pub EndsReady : Type 0 → Party F T A → Party F T A → Type 0
+  EndsReady Woken p q = (path : List Deed) × ReadyPath Woken path × Goes path (At Ended) p q
+
+  abbrev pub EndsUnready : Type 0 → (Bool → Type 0) → Bool → Party F T A → Party F T A → Type 0
+  EndsUnready Woken Scheduled answer p q = (path : List Deed) × PendingPath Woken Scheduled answer path × Goes path (At Ended) p q
+
+  -- a whole drop of a Runnable
+  abbrev pub Discards : Type 0 → Party F T A → Party F T A → Type 0
+  Discards Woken p q = (path : List Deed) × DiscardPath Woken path × Goes path (At Ended) p q

@@ -1,0 +1,65 @@
+-- The paths by which a waker is gained, wakes and is dropped, each with the words that its rows found and with what the foreign calls on it did.
+use Rattle.std.specs.Prelude.{◌≡◌, ℕ, nat_lt, if◌then◌else◌, Bool, true, false, List, [], ◌∷◌, ◌++◌, Option, Some, None}
+use Rattle.task_core.specs.Word.{State, is_open}
+use Rattle.task_laws.specs.declared.positions.Answer.TheVariants.{Nothing}
+use Rattle.task_laws.specs.declared.positions.Rest.{Rest}
+use Rattle.task_laws.specs.declared.positions.Position.TheVariants.{Emptier, OrphanHolder}
+use Rattle.task_core.specs.declared.moves.Act.TheVariants.{GainReference, FindLimit, DropWaker, DropLastWaker, OrphanTask, CloseOrphan, WakeOver, WakeScheduled, WakeRunning, WakeIdle, EmptySlots, HandOver, EndCall}
+use Rattle.task_cell.specs.declared.table.Slot.{Slot}
+use Rattle.task_cell.specs.declared.table.Deed.{Deed}
+use Rattle.task_cell.specs.declared.table.Member.{Member}
+use Rattle.task_cell.specs.declared.cell.Party.{Party}
+use Rattle.task_cell.specs.declared.cell.dropping.Dropped.{Dropped}
+use Rattle.task_cell.specs.declared.cell.dropping.Dropped.TheVariants.{Shared, Last, Orphaned}
+use Rattle.task_cell.specs.Rule.{fresh}
+use Rattle.task_cell.specs.Calls.{row, act, IsNew, Goes, GoesWith, as_waker, as_ended}
+use Rattle.task_cell.specs.TaskPaths.{Fits}
+use Rattle.task_cell.specs.Wakers.{GoesBeside, as_deliverer}
+use Rattle.task_cell.specs.WakerScripts.{others_left}
+
+-- a gain, and whether there is a new waker: the count was below the limit, or at it
+pub data GainPath (limit : ℕ) : Bool → List Deed → Type 0 where
+  is_gained : (w : State) → nat_lt w.references limit ≡ true → GainPath limit true (row GainReference w ∷ act EndCall ∷ [])
+  finds_limit : (w : State) → nat_lt w.references limit ≡ false → GainPath limit false (row FindLimit w ∷ act EndCall ∷ [])
+
+-- a wake of the task, and whether a Runnable is to be handed over
+pub data TaskWakePath : Bool → List Deed → Type 0 where
+  is_over : (w : State) → Fits WakeOver w → TaskWakePath false (row WakeOver w ∷ act EndCall ∷ [])
+  is_scheduled : (w : State) → Fits WakeScheduled w → TaskWakePath false (row WakeScheduled w ∷ act EndCall ∷ [])
+  is_running : (w : State) → Fits WakeRunning w → TaskWakePath false (row WakeRunning w ∷ act EndCall ∷ [])
+  is_idle : (w : State) → Fits WakeIdle w → TaskWakePath true (row WakeIdle w ∷ act EndCall ∷ [])
+
+-- a waker's drop: the last one of a task that is over empties the slots, and that of an open task closes it and hands a Runnable over
+pub data WakerDropPath (Scheduled : Type 0) : List Deed → Type 0 where
+  leaves_others : (w : State) → others_left w ≡ true → WakerDropPath Scheduled (row DropWaker w ∷ act EndCall ∷ [])
+  leaves_none : (w : State) → others_left w ≡ false → is_open w ≡ false → WakerDropPath Scheduled (row DropLastWaker w ∷ act EmptySlots ∷ act EndCall ∷ [])
+  leaves_orphan : (w v : State) → others_left w ≡ false → is_open w ≡ true → Scheduled → WakerDropPath Scheduled (row OrphanTask w ∷ row CloseOrphan v ∷ act HandOver ∷ act EndCall ∷ [])
+
+-- what a drop found that took its reference off this word
+abbrev pub dropped_by : State → Dropped
+dropped_by w = if others_left w then Shared else (if is_open w then Orphaned else Last)
+
+module _ {F T A : Type 0} where
+  -- a gain, and the new waker
+  pub data Gains (limit : ℕ) (r : Rest) (us : List Member) (p q : Party F T A) : Option (Party F T A) → Type 0 where
+    gains_none : (path : List Deed) → GainPath limit false path → GoesBeside path r us p q → Gains limit r us p q None
+    gains_one : (path : List Deed) (waker : Party F T A) → GainPath limit true path → GoesBeside path r us p q → IsNew as_waker p waker → Gains limit r us p q (Some waker)
+
+  -- .. as long as the new waker is on the seat of the party that gained it
+  abbrev pub GainsBeside : ℕ → Rest → List Member → Party F T A → Party F T A → Bool → Type 0
+  GainsBeside limit r us p q gained = (path : List Deed) × GainPath limit gained path × GoesBeside path r (us ++ (if gained then fresh as_waker ∷ [] else [])) p q
+
+  -- a wake, and the deliverer that is to hand the Runnable over
+  pub data WakesTask (r : Rest) (us : List Member) (p q : Party F T A) : Option (Party F T A) → Type 0 where
+    makes_none : (path : List Deed) → TaskWakePath false path → GoesBeside path r us p q → WakesTask r us p q None
+    makes_one : (path : List Deed) (deliverer : Party F T A) → TaskWakePath true path → GoesBeside path r us p q → IsNew as_deliverer p deliverer → WakesTask r us p q (Some deliverer)
+
+  -- .. as long as the deliverer is on the seat of the party that woke the task
+  abbrev pub WakesBeside : Rest → List Member → Party F T A → Party F T A → Bool → Type 0
+  WakesBeside r us p q idle = (path : List Deed) × TaskWakePath idle path × GoesBeside path r (us ++ (if idle then fresh as_deliverer ∷ [] else [])) p q
+
+  -- the row of a waker's drop
+  abbrev pub DropsWaker : Party F T A → Party F T A → Dropped → Type 0
+  DropsWaker p q Shared = (w : State) × (others_left w ≡ true) × Goes (row DropWaker w ∷ act EndCall ∷ []) as_ended p q
+  DropsWaker p q Last = (w : State) × (y : Slot F T A) × (others_left w ≡ false) × (is_open w ≡ false) × GoesWith (row DropLastWaker w ∷ []) (Emptier None Nothing) ((2, y) ∷ []) p q
+  DropsWaker p q Orphaned = (w : State) × (others_left w ≡ false) × (is_open w ≡ true) × Goes (row OrphanTask w ∷ []) OrphanHolder p q

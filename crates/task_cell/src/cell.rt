@@ -1,0 +1,172 @@
+//! The cell, a party of it, which must be spent, and the handles that the cell hands out.
+ghost use Rattle.std.specs.Prelude.{◌≡◌, ℕ, ◌<◌, [], ◌∷◌};
+ghost use Rattle.std.specs.Arc.{arc_value};
+ghost use Rattle.task_cell.specs.Rule.{view, fresh};
+ghost use Rattle.task_cell.specs.Calls.{limit_of, position, Stands, as_runnable, as_ended};
+ghost use Rattle.task_cell.specs.Holders.{roost};
+ghost use Rattle.task_cell.specs.Wakers.{runnable_view};
+
+use self::holder::SeatHolder;
+use crate::table::{Kept, Law, Slot, View};
+use atomic_table::{Seat, Table};
+use std::alloc::{Allocator, Global};
+use std::sync::{Arc, Wait};
+use task_core::{Wake, Yields};
+
+/// The table of a cell: one word, and a place each for the future, the output and the awaiter.
+pub type Board<F, T, A, B> = Table<Slot<F, T, A>, View, u64, Law, B>;
+
+/// What the handles of one task share: the word and the places, the schedule value and the metadata.
+#[derive(Drop)]
+pub struct Cell<R, F: Yields, Q, M, A, B: Allocator = Global> {
+    pub(crate) table: Board<F, Kept<F>, A, B>,
+    pub(crate) schedule: Q,
+    metadata: M,
+    pub(crate) limit: u64,
+    pub(crate) rt: R,
+    ghost limited: { (table.shared.key ≡ limit) × (limit < 36028797018963968) },
+    ghost sized: { (table.shared.table_id.words ≡ 1) × (table.shared.table_id.slots ≡ 3) },
+}
+
+/// One party of a task at one position. It must be spent: only calls of the cell move it, and only an ended one may be let go.
+pub struct Party<F, T, A> {
+    pub(crate) seat: Seat<Slot<F, T, A>, View>,
+}
+
+impl<F, T, A> Party<F, T, A> {
+    /// Lets an ended party go.
+    pub fn let_go(self)
+        requires { position self ≡ as_ended }
+    {
+        let Party { seat: _ } = self;
+    }
+}
+
+/// A share of a cell, and what holds the seat of its Runnable.
+pub(crate) struct RunnableSeat<R, F: Yields, Q, M, A, B: Allocator> {
+    pub(crate) cell: Arc<Cell<R, F, Q, M, A, B>, B>,
+    pub(crate) holder: SeatHolder<F, Kept<F>, A>,
+    ghost seated: { (roost holder).table_id ≡ (arc_value cell).table.shared.table_id },
+    ghost limited: { (roost holder).view.limit ≡ (arc_value cell).limit },
+    ghost placed: { (roost holder).view ≡ runnable_view (roost holder).view },
+}
+
+impl<R: Wait + Drop, F: Yields, Q: Drop, M: Drop, A: Wake, B: Allocator> RunnableSeat<
+    R,
+    F,
+    Q,
+    M,
+    A,
+    B,
+> {
+    // A Runnable that has done nothing yet.
+    pub(crate) fn new(
+        cell: Arc<Cell<R, F, Q, M, A, B>, B>,
+        party: Party<F, Kept<F>, A>,
+    ) -> RunnableSeat<R, F, Q, M, A, B>
+        requires cell { party.seat.table_id ≡ (arc_value cell).table.shared.table_id }
+        requires party { party.seat.me ≡ (view (arc_value cell).limit (fresh as_runnable ∷ []), []) }
+        ensures { result.cell ≡ cell }
+    {
+        let Party { seat } = party;
+        RunnableSeat {
+            cell,
+            holder: SeatHolder::locked(seat),
+        }
+    }
+
+    // The share of the cell, and the party, which will step.
+    pub(crate) fn into_party(self) -> (Arc<Cell<R, F, Q, M, A, B>, B>, Party<F, Kept<F>, A>)
+        ensures cell { (result.1.seat.table_id ≡ (arc_value result.0).table.shared.table_id) × (limit_of result.1 ≡ (arc_value result.0).limit) }
+        ensures party { Stands as_runnable result.1 }
+    {
+        let RunnableSeat { cell, holder } = self;
+        let seat = holder.into_seat(&cell.rt);
+        (cell, Party { seat })
+    }
+}
+
+/// A task that is due: whoever has it runs it, schedules it, or drops it, which cancels the task.
+pub struct Runnable<
+    R: Wait + Drop,
+    F: Yields,
+    Q: Drop,
+    M: Drop,
+    A: Wake,
+    X: Copy,
+    B: Allocator = Global,
+> {
+    pub(crate) inner: RunnableSeat<R, F, Q, M, A, B>,
+    pub(crate) around: X,
+}
+
+impl<R: Wait + Drop, F: Yields, Q: Drop, M: Drop, A: Wake, X: Copy, B: Allocator> Drop
+    for Runnable<R, F, Q, M, A, X, B> {
+    fn drop(self) {
+        let (inner, _) = self.into_parts();
+        let (cell, mut party) = inner.into_party();
+        cell.discard_runnable(&mut party);
+        party.let_go();
+        drop(cell);
+    }
+}
+
+impl<R: Wait + Drop, F: Yields, Q: Drop, M: Drop, A: Wake, X: Copy, B: Allocator> Runnable<
+    R,
+    F,
+    Q,
+    M,
+    A,
+    X,
+    B,
+> {
+    /// The Runnable of a task that was just spawned, by a share of its cell and the party that `fill` answered with. It makes no step.
+    pub fn new(
+        cell: Arc<Cell<R, F, Q, M, A, B>, B>,
+        party: Party<F, Kept<F>, A>,
+        around: X,
+    ) -> Runnable<R, F, Q, M, A, X, B>
+        requires cell { party.seat.table_id ≡ (arc_value cell).table.shared.table_id }
+        requires party { party.seat.me ≡ (view (arc_value cell).limit (fresh as_runnable ∷ []), []) }
+        ensures cell { result.inner.cell ≡ cell }
+        ensures around { result.around ≡ around }
+    {
+        let inner = RunnableSeat::new(cell, party);
+        Runnable { inner, around }
+    }
+
+    // What the Runnable is made of.
+    pub(crate) fn into_parts(self) -> (RunnableSeat<R, F, Q, M, A, B>, X)
+        ensures inner { result.0 ≡ self.inner }
+        ensures around { result.1 ≡ self.around }
+    {
+        let Runnable { inner, around } = self;
+        (inner, around)
+    }
+}
+
+pub use waker::TaskWaker;
+
+mod awaiter;
+mod cancel;
+mod claim;
+mod deliver;
+mod detach;
+mod discard;
+mod dropping;
+mod ends;
+mod gain;
+pub(crate) mod holder;
+mod lent;
+pub(crate) mod lock;
+mod poll;
+mod reference;
+mod register;
+mod resting;
+mod run;
+mod spawn;
+mod start;
+mod task;
+mod wake;
+pub(crate) mod waker;
+mod whole;

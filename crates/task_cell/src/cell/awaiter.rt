@@ -1,0 +1,93 @@
+//! The stored awaiter: taken out by whoever ends or closes the task.
+ghost use Rattle.std.specs.Prelude.{◌≡◌, ℕ, ◌∷◌, [], List, true};
+ghost use Rattle.task_laws.specs.declared.positions.Way.{Way};
+ghost use Rattle.task_laws.specs.declared.positions.Rest.{Rest};
+ghost use Rattle.task_laws.specs.declared.positions.Position.TheVariants.{Notifier, AwaiterInHand, Leaving};
+ghost use Rattle.task_core.specs.declared.moves.Act.TheVariants.{WakeAwaiter, DropAwaiter, EndCall};
+ghost use Rattle.task_laws.specs.declared.positions.Answer.{Answer};
+ghost use Rattle.task_laws.specs.Table.{goes_off, may_drop, notifies};
+ghost use Rattle.task_cell.specs.declared.table.Slot.{Slot};
+ghost use Rattle.task_cell.specs.RunCalls.{TakesDue, HasTaken, Wakes};
+ghost use Rattle.task_cell.specs.Calls.{Stands, StandsWith, Goes, GoesWith, Notifies, act, position, holds, way_of, rest_of};
+
+use super::{Cell, Party};
+use crate::steps::Always;
+use crate::steps::common::{Dropping, Ending, ReleasingAwaiter, TakingAwaiter, Waking};
+use crate::table::{Kept, Slot};
+use std::alloc::Allocator;
+use task_core::word::{AWAITER, NOTIFYING, Word};
+use task_core::{Wake, Yields};
+
+impl<R: Drop, F: Yields, Q: Drop, M: Drop, A: Drop, B: Allocator> Cell<R, F, Q, M, A, B> {
+    // Takes the stored awaiter, unless another party is at it. Both steps are single fetches, never tried again.
+    pub(crate) fn notify(&self, party: &mut Party<F, Kept<F>, A>) -> Option<A>
+        requires cell { party.old.seat.table_id ≡ self.now.table.shared.table_id }
+        requires party { (way : Way) × (held : List (ℕ × Slot F _ A)) × StandsWith (Notifier way) held party.old }
+        ensures { Notifies party.old party.new result }
+    {
+        let shared = &self.table.shared;
+        let found = shared.fetch_or::<Always<TakingAwaiter>>(&mut party.seat, 0, NOTIFYING);
+        let found = Word::from_bits(found);
+        if found.notifying() || found.registering() {
+            return None;
+        }
+        let awaiter = match shared.exchange(&mut party.seat, 2, Slot::Empty) {
+            Slot::Awaiter(awaiter) => Some(awaiter),
+            _ => None,
+        };
+        shared.fetch_and::<Always<ReleasingAwaiter>>(&mut party.seat, 0, !(NOTIFYING | AWAITER));
+        awaiter
+    }
+
+    // Takes the stored awaiter where AWAITER was found.
+    pub(crate) fn take_due(&self, party: &mut Party<F, Kept<F>, A>, due: bool) -> Option<A>
+        requires cell { party.old.seat.table_id ≡ self.now.table.shared.table_id }
+        requires party { (way : Way) × Stands (notifies due way) party.old }
+        ensures { (way : Way) → Stands (notifies due way) party.old → TakesDue way due party.old party.new result }
+    {
+        if due { self.notify(party) } else { None }
+    }
+
+    // Writes down that the awaiter in hand was woken. One load.
+    pub(crate) fn note_woken(&self, party: &mut Party<F, Kept<F>, A>)
+        requires cell { party.old.seat.table_id ≡ self.now.table.shared.table_id }
+        requires party { (i : ℕ) × (way : Way) × (held : List (ℕ × Slot F _ A)) × StandsWith (AwaiterInHand i way) held party.old }
+        ensures { GoesWith (act WakeAwaiter ∷ []) (goes_off (way_of (position party.old))) (holds party.old) party.old party.new }
+    {
+        self.table.shared.load::<Always<Waking>>(&mut party.seat, 0);
+    }
+
+    // Writes down that the awaiter in hand was dropped. One load.
+    pub(crate) fn note_dropped(&self, party: &mut Party<F, Kept<F>, A>)
+        requires cell { party.old.seat.table_id ≡ self.now.table.shared.table_id }
+        requires party { (i : ℕ) × (way : Way) × (held : List (ℕ × Slot F _ A)) × StandsWith (AwaiterInHand i way) held party.old × (may_drop way ≡ true) }
+        ensures { GoesWith (act DropAwaiter ∷ []) (goes_off (way_of (position party.old))) (holds party.old) party.old party.new }
+    {
+        self.table
+            .shared
+            .load::<Always<Dropping>>(&mut party.seat, 0);
+    }
+
+    // Writes down that the call has ended. One load.
+    pub(crate) fn end(&self, party: &mut Party<F, Kept<F>, A>)
+        requires cell { party.old.seat.table_id ≡ self.now.table.shared.table_id }
+        requires party { (answer : Answer) × (r : Rest) × Stands (Leaving answer r) party.old }
+        ensures { Goes (act EndCall ∷ []) (rest_of (position party.old)) party.old party.new }
+    {
+        self.table.shared.load::<Always<Ending>>(&mut party.seat, 0);
+    }
+}
+
+impl<R: Drop, F: Yields, Q: Drop, M: Drop, A: Wake, B: Allocator> Cell<R, F, Q, M, A, B> {
+    // Wakes the awaiter that was taken.
+    pub(crate) fn wake_taken(&self, party: &mut Party<F, Kept<F>, A>, awaiter: Option<A>)
+        requires cell { party.old.seat.table_id ≡ self.now.table.shared.table_id }
+        requires party { (way : Way) × HasTaken way party.old awaiter }
+        ensures { (way : Way) → HasTaken way party.old awaiter → Wakes ((a : A) × A.woken a) way awaiter party.old party.new }
+    {
+        if let Some(awaiter) = awaiter {
+            awaiter.wake();
+            self.note_woken(party);
+        }
+    }
+}

@@ -1,0 +1,106 @@
+//! Closing a task by its Task.
+ghost use Rattle.std.specs.Prelude.{◌≡◌, ℕ, ◌<◌, if◌then◌else◌, List, [], ◌∷◌, ◌++◌, Some, None, false};
+ghost use Rattle.std.specs.Arc.{arc_value};
+ghost use Rattle.task_core.specs.Word.{is_open};
+ghost use Rattle.task_laws.specs.Table.{notifies};
+ghost use Rattle.task_laws.specs.declared.positions.Way.TheVariants.{OfCancel};
+ghost use Rattle.task_core.specs.declared.moves.Act.TheVariants.{EndCall};
+ghost use Rattle.task_cell.specs.declared.table.Deed.{Deed};
+ghost use Rattle.task_cell.specs.TaskScripts.{cancelled};
+ghost use Rattle.task_cell.specs.TaskPaths.{closed_by, Cancels, Notice, CancelPath};
+ghost use Rattle.task_cell.specs.Calls.{Stands, Goes, act, position, limit_of, as_task};
+
+use super::{Cell, Party, Runnable};
+use crate::steps::task::{Cancelling, Knowing, KnowingExchange, LookingOver};
+use crate::table::Kept;
+use std::alloc::Allocator;
+use std::sync::{Arc, Wait};
+use task_core::word::Word;
+use task_core::{Schedule, Wake, Yields};
+
+/// What a cancel found; where it closed the task, whether an awaiter is to be taken.
+pub enum Cancelled {
+    /// The task was over.
+    Over,
+    /// The task was scheduled or running.
+    Busy(bool),
+    /// The task waited for a wake, and a Runnable is to be handed over.
+    Idle(bool),
+}
+
+// The word that a cancel writes; `None` where the task is over.
+fn closing(word: Word) -> Option<Word>
+    requires room { word.references < 72057594037927935 }
+    ensures { result ≡ (if is_open word then Some (cancelled word) else None) }
+{
+    word.cancel_busy().or(word.cancel_idle())
+}
+
+// What the cancel found that wrote on this word.
+fn closed_as(word: Word) -> Cancelled
+    ensures { result ≡ closed_by word }
+{
+    if word.scheduled() || word.running() {
+        Cancelled::Busy(word.awaiter())
+    } else {
+        Cancelled::Idle(word.awaiter())
+    }
+}
+
+impl<R: Wait + Drop, F: Yields, Q: Drop, M: Drop, A: Wake, B: Allocator> Cell<R, F, Q, M, A, B> {
+    /// Closes the task, if it is not over. Its future is dropped by the run or the Runnable that there is, or else by one that is handed over here.
+    pub fn cancel<X: Copy>(this: &Arc<Self, B>, party: &mut Party<F, Kept<F>, A>, around: X)
+    where
+        Q: Schedule<Runnable<R, F, Q, M, A, X, B>>,
+        requires cell { (party.old.seat.table_id ≡ (arc_value this.now).table.shared.table_id) × (limit_of party.old ≡ (arc_value this.now).limit) }
+        requires party { (n : ℕ) × Stands (as_task n) party.old }
+        ensures path { (path : List Deed) × CancelPath ((n : _) × Q.scheduled (arc_value this.now).schedule n (record { woken_while_running = false })) ((a : A) × A.woken a) path × Goes path (position party.old) party.old party.new }
+    {
+        match this.close_task(party) {
+            Cancelled::Over => {}
+            Cancelled::Busy(due) => this.leave_closed(party, due),
+            Cancelled::Idle(due) => {
+                Cell::deliver(this, party, around, false);
+                this.leave_closed(party, due);
+            }
+        }
+    }
+
+    // The row of a cancel.
+    fn close_task(&self, party: &mut Party<F, Kept<F>, A>) -> Cancelled
+        requires cell { party.old.seat.table_id ≡ self.now.table.shared.table_id }
+        requires party { (n : ℕ) × Stands (as_task n) party.old }
+        ensures { (n : ℕ) → Stands (as_task n) party.old → Cancels n party.old party.new result }
+    {
+        let shared = &self.table.shared;
+        let found = shared.load::<Knowing<LookingOver>>(&mut party.seat, 0);
+        let mut word = Word::from_bits(found);
+        for _ in self.rt.forever() {
+            let Some(closed) = closing(word) else {
+                return Cancelled::Over;
+            };
+            let found = shared.compare_exchange::<KnowingExchange<Cancelling>>(
+                &mut party.seat,
+                0,
+                word.bits(),
+                closed.bits(),
+            );
+            if found == word.bits() {
+                return closed_as(word);
+            }
+            word = Word::from_bits(found);
+        }
+        unreachable!()
+    }
+
+    // The awaiter is taken and woken, if one is due, and the call ends.
+    fn leave_closed(&self, party: &mut Party<F, Kept<F>, A>, due: bool)
+        requires cell { party.old.seat.table_id ≡ self.now.table.shared.table_id }
+        requires party { (n : ℕ) × Stands (notifies due (OfCancel n)) party.old }
+        ensures { (n : ℕ) → Stands (notifies due (OfCancel n)) party.old → (path : List Deed) × Notice ((a : A) × A.woken a) due path × Goes (path ++ act EndCall ∷ []) (as_task n) party.old party.new }
+    {
+        let awaiter = self.take_due(party, due);
+        self.wake_taken(party, awaiter);
+        self.end(party);
+    }
+}

@@ -1,0 +1,106 @@
+//! The output of a completed task: claimed by a poll, and handed out.
+ghost use Rattle.std.specs.Prelude.{◌≡◌, ℕ, ◌∷◌, [], List, Bool, true};
+ghost use Rattle.task_laws.specs.declared.positions.Way.{Way};
+ghost use Rattle.task_laws.specs.declared.positions.Way.TheVariants.{OfClaim};
+ghost use Rattle.task_laws.specs.declared.positions.Position.TheVariants.{Notifier, Claimer};
+ghost use Rattle.task_core.specs.declared.moves.Act.TheVariants.{ClaimOutput, HandOutOutput, EndCall};
+ghost use Rattle.task_laws.specs.Table.{notifies, goes_off, may_drop};
+ghost use Rattle.task_cell.specs.declared.table.Slot.{Slot};
+ghost use Rattle.task_cell.specs.declared.table.Deed.{Deed};
+ghost use Rattle.task_cell.specs.Rule.{IsOutput};
+ghost use Rattle.task_cell.specs.Steps.{output_first};
+ghost use Rattle.task_cell.specs.PollScripts.{has_output};
+ghost use Rattle.task_cell.specs.PollPaths.{TakePath, TakePathIf, ClaimPath, poll_number, claims_from};
+ghost use Rattle.task_cell.specs.Calls.{Stands, StandsWith, Goes, GoesWith, row, act, position, holds, way_of, as_task};
+
+use super::{Cell, Party};
+use crate::steps::poll::{Claiming, HandingOut};
+use crate::steps::{Always, Exchange};
+use crate::table::{Kept, Slot};
+use std::alloc::Allocator;
+use std::sync::Wait;
+use task_core::word::Word;
+use task_core::{Wake, Yields};
+
+impl<R: Drop, F: Yields, Q: Drop, M: Drop, A: Drop, B: Allocator> Cell<R, F, Q, M, A, B> {
+    // Hands the output out, and ends the poll. One load.
+    fn hand_out(&self, party: &mut Party<F, Kept<F>, A>) -> Kept<F>
+        requires cell { party.old.seat.table_id ≡ self.now.table.shared.table_id }
+        requires party { (i : ℕ) × (y : Slot F _ A) × (z : Slot F _ A) × StandsWith (Claimer i) (output_first y z []) party.old × IsOutput z }
+        ensures { Goes (act HandOutOutput ∷ act EndCall ∷ []) (as_task (poll_number (position party.old))) party.old party.new }
+    {
+        let shared = &self.table.shared;
+        let Slot::Output(output) = shared.exchange(&mut party.seat, 1, Slot::Empty) else {
+            unreachable!()
+        };
+        shared.load::<Always<HandingOut>>(&mut party.seat, 0);
+        output
+    }
+}
+
+impl<R: Wait + Drop, F: Yields, Q: Drop, M: Drop, A: Wake, B: Allocator> Cell<R, F, Q, M, A, B> {
+    // Takes the stored awaiter, and wakes it, unless its wake wakes the caller.
+    pub(crate) fn take_awaiter(&self, party: &mut Party<F, Kept<F>, A>, awaiter: &A)
+        requires cell { party.old.seat.table_id ≡ self.now.table.shared.table_id }
+        requires party { (way : Way) × (held : List (ℕ × Slot F _ A)) × StandsWith (Notifier way) held party.old × (may_drop way ≡ true) }
+        ensures { (path : List Deed) × TakePath A.woken A.compared awaiter.now path × GoesWith path (goes_off (way_of (position party.old))) (holds party.old) party.old party.new }
+    {
+        if let Some(taken) = self.notify(party) {
+            if taken.will_wake(awaiter) {
+                drop(taken);
+                self.note_dropped(party);
+            } else {
+                taken.wake();
+                self.note_woken(party);
+            }
+        }
+    }
+
+    // Takes the output of a task that was seen completed and open. Only the Task closes such a task.
+    fn claim(&self, party: &mut Party<F, Kept<F>, A>) -> Word
+        requires cell { party.old.seat.table_id ≡ self.now.table.shared.table_id }
+        requires party { (looked : Bool) × (n : ℕ) × Stands (claims_from looked n) party.old }
+        ensures found { has_output result ≡ true }
+        ensures path { (y : Slot F _ A) × (z : Slot F _ A) × IsOutput z × GoesWith (row ClaimOutput result ∷ []) (notifies result.awaiter (OfClaim (poll_number (position party.old)))) (output_first y z []) party.old party.new }
+    {
+        let shared = &self.table.shared;
+        for _ in self.rt.forever() {
+            let word = Word::from_bits(shared.peek(0));
+            let Some(next) = word.claim_output() else {
+                continue;
+            };
+            let found = shared.compare_exchange::<Exchange<Claiming>>(
+                &mut party.seat,
+                0,
+                word.bits(),
+                next.bits(),
+            );
+            if found == word.bits() {
+                return word;
+            }
+        }
+        unreachable!()
+    }
+
+    // Takes the stored awaiter where the word that was found says that there is one.
+    fn take_awaiter_of(&self, party: &mut Party<F, Kept<F>, A>, awaiter: &A, found: Word)
+        requires cell { party.old.seat.table_id ≡ self.now.table.shared.table_id }
+        requires party { (i : ℕ) × (held : List (ℕ × Slot F _ A)) × StandsWith (notifies found.awaiter (OfClaim i)) held party.old }
+        ensures { (path : List Deed) × TakePathIf A.woken A.compared awaiter.now found.awaiter path × GoesWith path (Claimer (poll_number (position party.old))) (holds party.old) party.old party.new }
+    {
+        if found.awaiter() {
+            self.take_awaiter(party, awaiter);
+        }
+    }
+
+    // Claims the output, takes the stored awaiter where there is one, and hands the output out.
+    pub(crate) fn take_output(&self, party: &mut Party<F, Kept<F>, A>, awaiter: &A) -> Kept<F>
+        requires cell { party.old.seat.table_id ≡ self.now.table.shared.table_id }
+        requires party { (looked : Bool) × (n : ℕ) × Stands (claims_from looked n) party.old }
+        ensures { (path : List Deed) × ClaimPath A.woken A.compared awaiter.now path × Goes path (as_task (poll_number (position party.old))) party.old party.new }
+    {
+        let found = self.claim(party);
+        self.take_awaiter_of(party, awaiter, found);
+        self.hand_out(party)
+    }
+}

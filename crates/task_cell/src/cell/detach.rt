@@ -1,0 +1,142 @@
+//! Giving the Task up.
+ghost use Rattle.std.specs.Prelude.{◌≡◌, ℕ, List, [], ◌∷◌, true, false};
+ghost use Rattle.std.specs.Arc.{arc_value};
+ghost use Rattle.task_laws.specs.declared.positions.Position.TheVariants.{OutputCloser, Detacher};
+ghost use Rattle.task_core.specs.declared.moves.Act.TheVariants.{DropOutput};
+ghost use Rattle.task_cell.specs.declared.table.Deed.{Deed};
+ghost use Rattle.task_cell.specs.declared.table.Slot.{Slot};
+ghost use Rattle.task_cell.specs.Rule.{IsEmpty};
+ghost use Rattle.task_cell.specs.Steps.{saw_closed, output_first};
+ghost use Rattle.task_cell.specs.TaskScripts.{detached};
+ghost use Rattle.task_cell.specs.TaskPaths.{given_up_by, Detaches, GivesTaskUp, DetachPath};
+ghost use Rattle.task_cell.specs.Calls.{Stands, StandsWith, Goes, act, deeds, limit_of, as_task, as_ended};
+
+use super::{Cell, Party, Runnable};
+use crate::steps::common::DroppingOutput;
+use crate::steps::task::{Detaching, GivingTaskUp, Knowing};
+use crate::steps::{Always, Exchange};
+use crate::table::Kept;
+use std::alloc::Allocator;
+use std::sync::{Arc, Wait};
+use task_core::word::{TASK, Word};
+use task_core::{Schedule, Wake, Yields};
+
+/// What a detach found.
+pub enum Detached {
+    /// The task was completed, and nobody had claimed the output.
+    Unclaimed,
+    /// Other handles were left.
+    Shared,
+    /// No other handle was left, and the task was closed.
+    Last,
+    /// No other handle was left, and the task was open.
+    Orphaned,
+}
+
+// The word that a detach writes.
+fn giving_up(word: Word) -> Word
+    ensures { result ≡ detached word }
+{
+    let shared = word.give_up_output().or(word.detach());
+    shared
+        .or(word.detach_last())
+        .or(word.detach_orphan())
+        .unwrap_or(word)
+}
+
+// What the detach found that wrote on this word.
+fn given_up_as(word: Word) -> Detached
+    ensures { result ≡ given_up_by word }
+{
+    if word.completed() && !word.closed() {
+        return Detached::Unclaimed;
+    }
+    if word.references() > 0 {
+        return Detached::Shared;
+    }
+    if word.closed() {
+        Detached::Last
+    } else {
+        Detached::Orphaned
+    }
+}
+
+impl<R: Drop, F: Yields, Q: Drop, M: Drop, A: Drop, B: Allocator> Cell<R, F, Q, M, A, B> {
+    // Writes down that the output in hand was dropped, and gives the places back. One load.
+    fn note_output_dropped(&self, party: &mut Party<F, Kept<F>, A>)
+        requires cell { party.old.seat.table_id ≡ self.now.table.shared.table_id }
+        requires party { (y : Slot F _ A) × (z : Slot F _ A) × StandsWith OutputCloser (output_first y z []) party.old × IsEmpty z }
+        ensures { Goes (act DropOutput ∷ []) Detacher party.old party.new }
+    {
+        self.table
+            .shared
+            .load::<Always<DroppingOutput>>(&mut party.seat, 0);
+    }
+
+    // The output that nobody claimed is dropped, and then the Task given up, by a single fetch. Whether the slots are to be emptied.
+    fn drop_unclaimed(&self, party: &mut Party<F, Kept<F>, A>) -> bool
+        requires cell { party.old.seat.table_id ≡ self.now.table.shared.table_id }
+        requires party { (y : Slot F _ A) × (z : Slot F _ A) × StandsWith OutputCloser (output_first y z []) party.old × (saw_closed (deeds party.old) ≡ true) }
+        ensures { GivesTaskUp party.old party.new result }
+    {
+        self.clear(party, 1);
+        self.note_output_dropped(party);
+        let found = self
+            .table
+            .shared
+            .fetch_and::<Knowing<GivingTaskUp>>(&mut party.seat, 0, !TASK);
+        Word::from_bits(found).references() == 0
+    }
+}
+
+impl<R: Wait + Drop, F: Yields, Q: Drop, M: Drop, A: Wake, B: Allocator> Cell<R, F, Q, M, A, B> {
+    /// Gives the Task up. An output that nobody claimed is dropped, and an open task without another handle is closed, and scheduled once more.
+    pub fn detach<X: Copy>(this: &Arc<Self, B>, party: &mut Party<F, Kept<F>, A>, around: X)
+    where
+        Q: Schedule<Runnable<R, F, Q, M, A, X, B>>,
+        requires cell { (party.old.seat.table_id ≡ (arc_value this.now).table.shared.table_id) × (limit_of party.old ≡ (arc_value this.now).limit) }
+        requires party { (n : ℕ) × Stands (as_task n) party.old }
+        ensures path { (path : List Deed) × DetachPath ((n : _) × Q.scheduled (arc_value this.now).schedule n (record { woken_while_running = false })) path × Goes path as_ended party.old party.new }
+    {
+        match this.give_task_up(party) {
+            Detached::Unclaimed => {
+                if this.drop_unclaimed(party) {
+                    this.empty(party);
+                    this.end(party);
+                }
+            }
+            Detached::Shared => {}
+            Detached::Last => {
+                this.empty(party);
+                this.end(party);
+            }
+            Detached::Orphaned => {
+                Cell::deliver(this, party, around, false);
+                this.end(party);
+            }
+        }
+    }
+
+    // The row of a detach.
+    fn give_task_up(&self, party: &mut Party<F, Kept<F>, A>) -> Detached
+        requires cell { party.old.seat.table_id ≡ self.now.table.shared.table_id }
+        requires party { (n : ℕ) × Stands (as_task n) party.old }
+        ensures { Detaches party.old party.new result }
+    {
+        let shared = &self.table.shared;
+        let mut word = Word::from_bits(shared.peek(0));
+        for _ in self.rt.forever() {
+            let found = shared.compare_exchange::<Exchange<Detaching>>(
+                &mut party.seat,
+                0,
+                word.bits(),
+                giving_up(word).bits(),
+            );
+            if found == word.bits() {
+                return given_up_as(word);
+            }
+            word = Word::from_bits(found);
+        }
+        unreachable!()
+    }
+}

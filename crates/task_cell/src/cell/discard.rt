@@ -1,0 +1,49 @@
+//! A Runnable that is dropped.
+ghost use Rattle.std.specs.Prelude.{◌≡◌, ℕ, ◌∷◌, [], List};
+ghost use Rattle.task_laws.specs.declared.positions.Position.TheVariants.{FutureInHand};
+ghost use Rattle.task_laws.specs.declared.positions.Closer.TheVariants.{DroppedRunnable};
+ghost use Rattle.task_cell.specs.declared.table.Slot.{Slot};
+ghost use Rattle.task_cell.specs.declared.table.Deed.{Deed};
+ghost use Rattle.task_cell.specs.Calls.{Stands, GoesWith, as_runnable};
+ghost use Rattle.task_cell.specs.Rule.{IsFuture};
+ghost use Rattle.task_cell.specs.Steps.{future_first};
+ghost use Rattle.task_cell.specs.RunPaths.{DiscardStart};
+ghost use Rattle.task_cell.specs.RunCalls.{Discards};
+
+use super::{Cell, Party};
+use crate::steps::Always;
+use crate::steps::run::Discarding;
+use crate::table::Kept;
+use std::alloc::Allocator;
+use task_core::word::CLOSED;
+use task_core::{Wake, Yields};
+
+impl<R: Drop, F: Yields, Q: Drop, M: Drop, A: Drop, B: Allocator> Cell<R, F, Q, M, A, B> {
+    // The task is closed, and its future taken over: a single fetch, never tried again.
+    pub(crate) fn discard_start(&self, party: &mut Party<F, Kept<F>, A>)
+        requires cell { party.old.seat.table_id ≡ self.now.table.shared.table_id }
+        requires party { Stands as_runnable party.old }
+        ensures { (d : Deed) × (y : Slot F _ A) × (z : Slot F _ A) × DiscardStart d × GoesWith (d ∷ []) (FutureInHand DroppedRunnable) (future_first y z []) party.old party.new × IsFuture y }
+    {
+        self.table
+            .shared
+            .fetch_or::<Always<Discarding>>(&mut party.seat, 0, CLOSED);
+    }
+}
+
+impl<R: Drop, F: Yields, Q: Drop, M: Drop, A: Wake, B: Allocator> Cell<R, F, Q, M, A, B> {
+    /// Drops a Runnable: the task is closed, its future dropped, and an awaiter that waits is woken.
+    pub fn discard_runnable(&self, party: &mut Party<F, Kept<F>, A>)
+        requires cell { party.old.seat.table_id ≡ self.now.table.shared.table_id }
+        requires party { Stands as_runnable party.old }
+        ensures { Discards ((a : A) × A.woken a) party.old party.new }
+    {
+        self.discard_start(party);
+        self.clear(party, 0);
+        let found = self.unschedule(party);
+        let awaiter = self.take_due(party, found.awaiter());
+        self.wake_taken(party, awaiter);
+        self.release(party);
+        self.end(party);
+    }
+}

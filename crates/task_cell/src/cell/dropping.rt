@@ -1,0 +1,92 @@
+//! A waker that is dropped.
+ghost use Rattle.std.specs.Prelude.{◌≡◌, ℕ, [], ◌∷◌, List, false};
+ghost use Rattle.std.specs.Arc.{arc_value};
+ghost use Rattle.task_core.specs.Word.{State};
+ghost use Rattle.task_laws.specs.declared.positions.Position.TheVariants.{OrphanHolder};
+ghost use Rattle.task_core.specs.declared.moves.Act.TheVariants.{CloseOrphan};
+ghost use Rattle.task_cell.specs.declared.table.Deed.{Deed};
+ghost use Rattle.task_cell.specs.Calls.{Stands, Goes, row, limit_of, as_ended, as_waker};
+ghost use Rattle.task_cell.specs.Wakers.{as_deliverer};
+ghost use Rattle.task_cell.specs.WakerPaths.{dropped_by, DropsWaker, WakerDropPath};
+
+use super::{Cell, Party, Runnable};
+use crate::steps::Always;
+use crate::steps::waker::{ClosingOrphan, DroppingWaker};
+use crate::table::Kept;
+use std::alloc::Allocator;
+use std::sync::{Arc, Wait};
+use task_core::word::{CLOSED, REFERENCE, SCHEDULED, Word};
+use task_core::{Schedule, Wake, Yields};
+
+/// The word of a task that nobody has: scheduled, closed, and with the reference of its last Runnable.
+const ORPHAN: u64 = SCHEDULED | CLOSED | REFERENCE;
+
+/// What a waker's drop found.
+pub enum Dropped {
+    /// Other handles were left.
+    Shared,
+    /// No other handle was left, and the task was over.
+    Last,
+    /// No other handle was left, and the task was open.
+    Orphaned,
+}
+
+// What the drop found that took its reference off this word.
+fn dropped_as(word: Word) -> Dropped
+    ensures { result ≡ dropped_by word }
+{
+    if word.references() > 1 || word.task() {
+        Dropped::Shared
+    } else if word.is_open() {
+        Dropped::Orphaned
+    } else {
+        Dropped::Last
+    }
+}
+
+impl<R: Drop, F: Yields, Q: Drop, M: Drop, A: Drop, B: Allocator> Cell<R, F, Q, M, A, B> {
+    // The row of a waker's drop: a single fetch, never tried again.
+    fn drop_reference(&self, party: &mut Party<F, Kept<F>, A>) -> Dropped
+        requires cell { party.old.seat.table_id ≡ self.now.table.shared.table_id }
+        requires party { Stands as_waker party.old }
+        ensures { DropsWaker party.old party.new result }
+    {
+        let shared = &self.table.shared;
+        let found = shared.fetch_sub::<Always<DroppingWaker>>(&mut party.seat, 0, REFERENCE);
+        dropped_as(Word::from_bits(found))
+    }
+
+    // The last waker of an open task closes it, and schedules it once more. Nobody else is left to change the word.
+    fn close_orphan(&self, party: &mut Party<F, Kept<F>, A>)
+        requires cell { party.old.seat.table_id ≡ self.now.table.shared.table_id }
+        requires party { Stands OrphanHolder party.old }
+        ensures { (v : State) × Goes (row CloseOrphan v ∷ []) as_deliverer party.old party.new }
+    {
+        self.table
+            .shared
+            .swap::<Always<ClosingOrphan>>(&mut party.seat, 0, ORPHAN);
+    }
+}
+
+impl<R: Wait + Drop, F: Yields, Q: Drop, M: Drop, A: Wake, B: Allocator> Cell<R, F, Q, M, A, B> {
+    /// Drops a waker. The last handle of a task that is over empties the slots; the last waker of an open task that nobody else has closes it, and hands a Runnable over that ends it.
+    pub fn drop_waker<X: Copy>(this: &Arc<Self, B>, party: &mut Party<F, Kept<F>, A>, around: X)
+    where
+        Q: Schedule<Runnable<R, F, Q, M, A, X, B>>,
+        requires cell { (party.old.seat.table_id ≡ (arc_value this.now).table.shared.table_id) × (limit_of party.old ≡ (arc_value this.now).limit) }
+        requires party { Stands as_waker party.old }
+        ensures path { (path : List Deed) × WakerDropPath ((n : _) × Q.scheduled (arc_value this.now).schedule n (record { woken_while_running = false })) path × Goes path as_ended party.old party.new }
+    {
+        match this.drop_reference(party) {
+            Dropped::Shared => {}
+            Dropped::Last => {
+                this.empty(party);
+                this.end(party);
+            }
+            Dropped::Orphaned => {
+                this.close_orphan(party);
+                Cell::hand_on(this, party, around, false);
+            }
+        }
+    }
+}

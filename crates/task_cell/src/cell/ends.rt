@@ -1,0 +1,177 @@
+//! The ends of a run whose poll has answered.
+ghost use Rattle.std.specs.Prelude.{◌≡◌, ℕ, ◌∷◌, [], List, Bool, false};
+ghost use Rattle.task_laws.specs.declared.positions.Position.TheVariants.{Polling, Ready, Pending, Cleared, OutputInHand};
+ghost use Rattle.task_laws.specs.declared.positions.Way.TheVariants.{OfRun};
+ghost use Rattle.task_core.specs.declared.moves.Act.TheVariants.{AnswerReady, DropOutput, EndClosed};
+ghost use Rattle.task_laws.specs.Table.{notifies};
+ghost use Rattle.task_cell.specs.declared.table.Slot.{Slot};
+ghost use Rattle.task_cell.specs.Calls.{StandsWith, Goes, GoesWith, row, act};
+ghost use Rattle.task_cell.specs.Rule.{IsEmpty, IsFuture};
+ghost use Rattle.task_cell.specs.Steps.{future_first, output_first};
+ghost use Rattle.task_cell.specs.RunScripts.{completed_word, after_pending};
+ghost use Rattle.task_cell.specs.RunCalls.{Completes, AnswersPending, EndsPending, ending_of};
+
+use super::{Cell, Party};
+use crate::steps::common::DroppingOutput;
+use crate::steps::run::{
+    AnsweringPending, AnsweringReady, Completing, EndingClosed, EndingPending,
+};
+use crate::steps::{Always, Exchange};
+use crate::table::{Kept, Slot};
+use std::alloc::Allocator;
+use std::sync::Wait;
+use task_core::Yields;
+use task_core::word::{RUNNING, SCHEDULED, Word};
+
+// How a run ends whose poll answered Pending.
+pub(crate) enum PendingEnd {
+    // The task is closed: its future is dropped, and the end step is still to be made.
+    Closed,
+    // The task was woken meanwhile: the run's Runnable is to be handed over.
+    Rescheduled,
+    // The task waits for a wake, and the call has ended.
+    Idle,
+    // No handle is left: a closing Runnable is to be handed over.
+    Orphaned,
+}
+
+// The word of a run that ends with an output.
+fn completed(word: Word) -> Word
+    ensures { result ≡ completed_word word }
+{
+    match word.complete() {
+        Some(next) => next,
+        None => word.complete_detached().unwrap_or(word),
+    }
+}
+
+// The word of a run that ends without an output on an open task.
+fn ended(word: Word) -> Word
+    ensures { result ≡ after_pending word }
+{
+    word.reschedule()
+        .or(word.end_idle())
+        .or(word.end_orphaned())
+        .unwrap_or(word)
+}
+
+impl<R: Drop, F: Yields, Q: Drop, M: Drop, A: Drop, B: Allocator> Cell<R, F, Q, M, A, B> {
+    // The poll has answered Ready. One load.
+    pub(crate) fn answer_ready(&self, party: &mut Party<F, Kept<F>, A>)
+        requires cell { party.old.seat.table_id ≡ self.now.table.shared.table_id }
+        requires party { (held : List (ℕ × Slot F _ A)) × StandsWith Polling held party.old }
+        ensures { (held : List (ℕ × Slot F _ A)) → StandsWith Polling held party.old → GoesWith (act AnswerReady ∷ []) Ready held party.old party.new }
+    {
+        self.table
+            .shared
+            .load::<Always<AnsweringReady>>(&mut party.seat, 0);
+    }
+
+    // The poll has answered Pending. Whether the task is closed, so that the future is to be dropped. One load.
+    pub(crate) fn answer_pending(&self, party: &mut Party<F, Kept<F>, A>) -> Word
+        requires cell { party.old.seat.table_id ≡ self.now.table.shared.table_id }
+        requires party { (held : List (ℕ × Slot F _ A)) × StandsWith Polling held party.old }
+        ensures { (held : List (ℕ × Slot F _ A)) → StandsWith Polling held party.old → AnswersPending held party.old party.new result.closed }
+    {
+        let shared = &self.table.shared;
+        let found = shared.load::<Always<AnsweringPending>>(&mut party.seat, 0);
+        Word::from_bits(found)
+    }
+
+    // The output that nobody will claim is dropped. One load.
+    pub(crate) fn drop_output(&self, party: &mut Party<F, Kept<F>, A>)
+        requires cell { party.old.seat.table_id ≡ self.now.table.shared.table_id }
+        requires party { (due : Bool) × (y : Slot F _ A) × (z : Slot F _ A) × StandsWith (OutputInHand due) (output_first y z []) party.old }
+        ensures { (due : Bool) (y z : Slot F _ A) → StandsWith (OutputInHand due) (output_first y z []) party.old → Goes (act DropOutput ∷ []) (notifies due OfRun) party.old party.new }
+    {
+        self.clear(party, 1);
+        self.table
+            .shared
+            .load::<Always<DroppingOutput>>(&mut party.seat, 0);
+    }
+
+    // The end step of a run of a closed task, after its future was dropped: a single fetch, never tried again.
+    pub(crate) fn end_closed(&self, party: &mut Party<F, Kept<F>, A>) -> Word
+        requires cell { party.old.seat.table_id ≡ self.now.table.shared.table_id }
+        requires party { (y : Slot F _ A) × (z : Slot F _ A) × StandsWith Cleared (future_first y z []) party.old }
+        ensures { (y z : Slot F _ A) → StandsWith Cleared (future_first y z []) party.old → Goes (row EndClosed result ∷ []) (notifies result.awaiter OfRun) party.old party.new }
+    {
+        let shared = &self.table.shared;
+        let found = shared.fetch_and::<Always<EndingClosed>>(
+            &mut party.seat,
+            0,
+            !(SCHEDULED | RUNNING),
+        );
+        Word::from_bits(found)
+    }
+}
+
+impl<R: Wait + Drop, F: Yields, Q: Drop, M: Drop, A: Drop, B: Allocator> Cell<R, F, Q, M, A, B> {
+    // The end step of a run with its output, after its future was dropped. It is tried again where the word has changed. The seat turns, since only the place in front can be written.
+    pub(crate) fn complete(&self, party: &mut Party<F, Kept<F>, A>, output: Kept<F>) -> Word
+        requires cell { party.old.seat.table_id ≡ self.now.table.shared.table_id }
+        requires party { (y : Slot F _ A) × (z : Slot F _ A) × StandsWith Ready (future_first y z []) party.old × IsEmpty y }
+        ensures { (y z : Slot F _ A) → StandsWith Ready (future_first y z []) party.old → Completes party.old party.new result }
+    {
+        let shared = &self.table.shared;
+        party.seat.turn();
+        drop(shared.exchange(&mut party.seat, 1, Slot::Output(output)));
+        let mut word = Word::from_bits(shared.peek(0));
+        for _ in self.rt.forever() {
+            let old = word.bits();
+            let new = completed(word).bits();
+            let found = shared.compare_exchange::<Exchange<Completing>>(
+                &mut party.seat,
+                0,
+                old,
+                new,
+            );
+            if found == old {
+                return word;
+            }
+            word = Word::from_bits(found);
+        }
+        unreachable!()
+    }
+
+    // The end step of a run without an output. It is tried again where the word has changed.
+    pub(crate) fn end_pending(&self, party: &mut Party<F, Kept<F>, A>, mut word: Word) -> PendingEnd
+        requires cell { party.old.seat.table_id ≡ self.now.table.shared.table_id }
+        requires unclosed { word.closed ≡ false }
+        requires party { (y : Slot F _ A) × (z : Slot F _ A) × StandsWith Pending (future_first y z []) party.old × IsFuture y }
+        ensures { (y z : Slot F _ A) → StandsWith Pending (future_first y z []) party.old → EndsPending (future_first y z []) party.old party.new result }
+    {
+        let shared = &self.table.shared;
+        for _ in self.rt.forever() {
+            let old = word.bits();
+            let new = ended(word).bits();
+            let found = shared.compare_exchange::<Exchange<EndingPending>>(
+                &mut party.seat,
+                0,
+                old,
+                new,
+            );
+            if found == old {
+                return pending_end(word);
+            }
+            word = Word::from_bits(found);
+            if word.closed() {
+                return PendingEnd::Closed;
+            }
+        }
+        unreachable!()
+    }
+}
+
+// How a run ends that finds this word, of an open task.
+fn pending_end(word: Word) -> PendingEnd
+    ensures { result ≡ ending_of word }
+{
+    if word.scheduled() {
+        PendingEnd::Rescheduled
+    } else if word.give_up_reference().is_some() {
+        PendingEnd::Idle
+    } else {
+        PendingEnd::Orphaned
+    }
+}

@@ -1,0 +1,75 @@
+//! The poll of the future, and the waker that it is lent.
+ghost use Rattle.std.specs.Prelude.{◌≡◌, ℕ, ◌∷◌, []};
+ghost use Rattle.std.specs.Arc.{arc_value};
+ghost use Rattle.task_laws.specs.declared.positions.Position.TheVariants.{Polling};
+ghost use Rattle.task_core.specs.Poll.{IfReady};
+ghost use Rattle.task_core.specs.Word.{State};
+ghost use Rattle.task_cell.specs.declared.table.Slot.{Slot};
+ghost use Rattle.task_cell.specs.Rule.{IsFuture};
+ghost use Rattle.task_cell.specs.Steps.{future_first};
+ghost use Rattle.task_cell.specs.Calls.{StandsWith, deeds, limit_of};
+ghost use Rattle.task_cell.specs.Starts.{IsLending};
+
+use super::holder::SeatHolder;
+use super::waker::{Hold, WakerSeat};
+use super::{Cell, Party, Runnable, TaskWaker};
+use crate::steps::start::{Lending, TakingBack};
+use crate::table::{Kept, Slot};
+use std::alloc::Allocator;
+use std::sync::{Arc, Wait};
+use task_core::{Future, Poll, Schedule, Wake, Yields};
+
+// Polls the future where it lies.
+fn polled<W, F: Future<W>, A>(slot: &mut Slot<F, Kept<F>, A>, waker: &W) -> Poll<F::Output>
+    requires { IsFuture slot.old }
+    ensures future { IsFuture slot.new }
+    ensures meets { IfReady result F.Yields.meets }
+    ensures fact { (f : _) × (g : _) × F.polled f waker.now result g }
+{
+    match slot {
+        Slot::Future(future) => future.poll(waker),
+        _ => unreachable!(),
+    }
+}
+
+impl<R: Wait + Drop, F: Yields, Q: Drop, M: Drop, A: Wake, B: Allocator> Cell<R, F, Q, M, A, B> {
+    // One poll of a run that has started, with a waker that it is lent. No lock is held, and the future stays in its place.
+    pub(crate) fn poll_future<X: Copy>(
+        this: Arc<Self, B>,
+        party: Party<F, Kept<F>, A>,
+        around: X,
+    ) -> (Arc<Self, B>, Party<F, Kept<F>, A>, Poll<F::Output>)
+    where
+        F: Future<TaskWaker<R, F, Q, M, A, X, B>>,
+        Q: Schedule<Runnable<R, F, Q, M, A, X, B>>,
+        requires cell { party.seat.table_id ≡ (arc_value this).table.shared.table_id }
+        requires limit { limit_of party ≡ (arc_value this).limit }
+        requires party { (y : Slot F _ A) × (z : Slot F _ A) × IsLending y z party × IsFuture y }
+        ensures cell { result.0 ≡ this }
+        ensures seat { result.1.seat.table_id ≡ party.seat.table_id }
+        ensures limit { limit_of result.1 ≡ limit_of party }
+        ensures deeds { deeds result.1 ≡ deeds party }
+        ensures party { (y : Slot F _ A) × (z : Slot F _ A) × StandsWith Polling (future_first y z []) result.1 × IsFuture y }
+        ensures meets { IfReady result.2 F.Yields.meets }
+        ensures fact { (f : _) × (w : _) × (g : _) × F.polled f w result.2 g }
+    {
+        let Party { mut seat } = party;
+        let other = this.table.shared.split_seat::<Lending>(&mut seat);
+        let inner = WakerSeat {
+            cell: this,
+            holder: SeatHolder::locked(other),
+            hold: Hold::Lent,
+        };
+        let waker = TaskWaker { inner, around };
+        let answer = polled(seat.slot_mut(&waker.inner.cell.table.shared, 0), &waker);
+        let (inner, _) = waker.into_parts();
+        let WakerSeat {
+            cell,
+            holder,
+            hold: _,
+        } = inner;
+        let other = holder.into_seat(&cell.rt);
+        cell.table.shared.join_seat::<TakingBack>(&mut seat, other);
+        (cell, Party { seat }, answer)
+    }
+}

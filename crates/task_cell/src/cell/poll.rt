@@ -1,0 +1,129 @@
+//! Polls of the Task.
+ghost use Rattle.std.specs.Prelude.{◌≡◌, ℕ, ◌∷◌, ◌++◌, [], List};
+ghost use Rattle.task_laws.specs.declared.positions.PollAnswer.{PollAnswer};
+ghost use Rattle.task_laws.specs.declared.positions.Position.TheVariants.{Answering, Notifier, Looking as LookingAt};
+ghost use Rattle.task_laws.specs.declared.positions.Way.TheVariants.{OfPoll};
+ghost use Rattle.task_core.specs.declared.moves.Act.TheVariants.{EndCall};
+ghost use Rattle.task_cell.specs.declared.table.Deed.{Deed};
+ghost use Rattle.task_cell.specs.PollPaths.{PollPath, AnswerPath, TakePath, Looks, LooksAgain, poll_number};
+ghost use Rattle.task_cell.specs.PollScripts.{has_output, has_ended, has_to_wait};
+ghost use Rattle.task_cell.specs.Calls.{Stands, Goes, act, position, as_task};
+
+use super::{Cell, Party};
+use crate::steps::Always;
+use crate::steps::common::Ending;
+use crate::steps::poll::{Looking, LookingAgain};
+use crate::table::Kept;
+use std::alloc::Allocator;
+use std::sync::Wait;
+use task_core::word::Word;
+use task_core::{TaskPoll, Wake, Yields};
+
+// The output is there, and nobody has taken it.
+fn has_output(word: Word) -> bool
+    ensures { result ≡ has_output word }
+{
+    word.completed() && !word.closed()
+}
+
+// The task is closed, and no Runnable or run holds the future.
+fn has_ended(word: Word) -> bool
+    ensures { result ≡ has_ended word }
+{
+    word.closed() && !(word.scheduled() || word.running())
+}
+
+// A poll that has registered waits on.
+fn has_to_wait(word: Word) -> bool
+    ensures { result ≡ has_to_wait word }
+{
+    if word.closed() {
+        word.scheduled() || word.running()
+    } else {
+        !word.completed()
+    }
+}
+
+impl<R: Drop, F: Yields, Q: Drop, M: Drop, A: Drop, B: Allocator> Cell<R, F, Q, M, A, B> {
+    // The first look of a poll. It is no look of the poll where the output is there to be claimed.
+    fn look(&self, party: &mut Party<F, Kept<F>, A>) -> Word
+        requires cell { party.old.seat.table_id ≡ self.now.table.shared.table_id }
+        requires party { (n : ℕ) × Stands (as_task n) party.old }
+        ensures { Looks party.old party.new result }
+    {
+        let shared = &self.table.shared;
+        Word::from_bits(shared.load::<Always<Looking>>(&mut party.seat, 0))
+    }
+
+    // The look of a poll that has registered, which ends there where it has to wait.
+    fn look_again(&self, party: &mut Party<F, Kept<F>, A>) -> Word
+        requires cell { party.old.seat.table_id ≡ self.now.table.shared.table_id }
+        requires party { (i : ℕ) × Stands (LookingAt i) party.old }
+        ensures { LooksAgain party.old party.new result }
+    {
+        let shared = &self.table.shared;
+        Word::from_bits(shared.load::<Always<LookingAgain>>(&mut party.seat, 0))
+    }
+
+    // Writes down that the poll has ended. One load.
+    fn end_poll(&self, party: &mut Party<F, Kept<F>, A>)
+        requires cell { party.old.seat.table_id ≡ self.now.table.shared.table_id }
+        requires party { (i : ℕ) × (answer : PollAnswer) × Stands (Answering i answer) party.old }
+        ensures { Goes (act EndCall ∷ []) (as_task (poll_number (position party.old))) party.old party.new }
+    {
+        self.table.shared.load::<Always<Ending>>(&mut party.seat, 0);
+    }
+}
+
+impl<R: Wait + Drop, F: Yields, Q: Drop, M: Drop, A: Wake, B: Allocator> Cell<R, F, Q, M, A, B> {
+    // Answers ready without output: takes the stored awaiter, and ends the poll.
+    fn answer_closed(&self, party: &mut Party<F, Kept<F>, A>, awaiter: &A)
+        requires cell { party.old.seat.table_id ≡ self.now.table.shared.table_id }
+        requires party { (i : ℕ) × Stands (Notifier (OfPoll i)) party.old }
+        ensures { (taken : List Deed) × TakePath A.woken A.compared awaiter.now taken × Goes (taken ++ (act EndCall ∷ [])) (as_task (poll_number (position party.old))) party.old party.new }
+    {
+        self.take_awaiter(party, awaiter);
+        self.end_poll(party);
+    }
+
+    // Looks again, after the awaiter was registered, and answers by what it finds.
+    fn answer(&self, party: &mut Party<F, Kept<F>, A>, awaiter: &A) -> TaskPoll<Option<Kept<F>>>
+        requires cell { party.old.seat.table_id ≡ self.now.table.shared.table_id }
+        requires party { (i : ℕ) × Stands (LookingAt i) party.old }
+        ensures { (path : List Deed) × AnswerPath A.woken A.compared awaiter.now path result × Goes path (as_task (poll_number (position party.old))) party.old party.new }
+    {
+        let found = self.look_again(party);
+        if has_to_wait(found) {
+            return TaskPoll::Pending;
+        }
+        if found.closed() {
+            self.answer_closed(party, awaiter);
+            return TaskPoll::Ready(None);
+        }
+        TaskPoll::Ready(Some(self.take_output(party, awaiter)))
+    }
+
+    /// Answers with the output, once there is one, or without one, where the task was closed and its future is gone.
+    ///
+    /// Where there is no answer yet, a clone of the awaiter is registered in the place of the one before, and is woken once there is one.
+    /// The output comes with the fact that it meets what the future's type states.
+    /// A poll registers at most once. It waits for nobody, but tries a step anew where another party changed the word meanwhile.
+    pub fn poll(&self, party: &mut Party<F, Kept<F>, A>, awaiter: &A) -> TaskPoll<Option<Kept<F>>>
+        requires cell { party.old.seat.table_id ≡ self.now.table.shared.table_id }
+        requires party { (n : ℕ) × Stands (as_task n) party.old }
+        ensures path { (path : List Deed) × PollPath A.cloned A.woken A.woken_by_ref A.compared awaiter.now path result × Goes path (as_task (poll_number (position party.old))) party.old party.new }
+    {
+        let found = self.look(party);
+        if has_output(found) {
+            return TaskPoll::Ready(Some(self.take_output(party, awaiter)));
+        }
+        if has_ended(found) {
+            self.answer_closed(party, awaiter);
+            return TaskPoll::Ready(None);
+        }
+        if !self.register(party, awaiter) {
+            return TaskPoll::NoMemory;
+        }
+        self.answer(party, awaiter)
+    }
+}

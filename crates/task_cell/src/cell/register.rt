@@ -1,0 +1,185 @@
+//! The registering of a poll's awaiter, beside parties that notify.
+ghost use Rattle.std.specs.Prelude.{◌≡◌, ℕ, ◌∷◌, [], List, Bool, true, Option, None};
+ghost use Rattle.task_core.specs.Word.{State};
+ghost use Rattle.task_laws.specs.declared.positions.Position.TheVariants.{Registrar, RefusedClone, Registered, CloneInHand, Looking};
+ghost use Rattle.task_core.specs.declared.moves.Act.TheVariants.{TakeAwaiter, EndRegisterNotified, RefuseClone, EndCall, DropAwaiter, WakeAwaiter};
+ghost use Rattle.task_laws.specs.Table.{after_storing};
+ghost use Rattle.task_cell.specs.declared.table.Slot.{Slot};
+ghost use Rattle.task_cell.specs.declared.table.Slot.TheVariants.{Awaiter};
+ghost use Rattle.task_cell.specs.declared.table.Deed.{Deed};
+ghost use Rattle.task_cell.specs.Rule.{Waits};
+ghost use Rattle.task_cell.specs.PollPaths.{RegisterPath, Registers, BeginsRegister, EndsRegister, dropped_if, poll_number};
+ghost use Rattle.task_cell.specs.Calls.{Stands, StandsWith, Goes, GoesWith, row, act, position, holds, as_task};
+
+use super::{Cell, Party};
+use crate::steps::common::{Dropping, Waking};
+use crate::steps::poll::{
+    BeginningRegister, EndingNotified, EndingRegister, FindingNotifier, Refusing,
+};
+use crate::steps::{Always, Exchange};
+use crate::table::{Kept, Slot};
+use std::alloc::Allocator;
+use std::sync::Wait;
+use task_core::word::Word;
+use task_core::{Wake, Yields};
+
+impl<R: Drop, F: Yields, Q: Drop, M: Drop, A: Drop, B: Allocator> Cell<R, F, Q, M, A, B> {
+    // Writes down that the clone was refused, and that the poll ends so. One load.
+    fn note_refused(&self, party: &mut Party<F, Kept<F>, A>)
+        requires cell { party.old.seat.table_id ≡ self.now.table.shared.table_id }
+        requires party { (i : ℕ) × Stands (Registrar i) party.old }
+        ensures { Goes (act RefuseClone ∷ act EndCall ∷ []) (as_task (poll_number (position party.old))) party.old party.new }
+    {
+        self.table
+            .shared
+            .load::<Always<Refusing>>(&mut party.seat, 0);
+    }
+
+    // Writes down that the clone which a notifier made useless was dropped. One load.
+    fn note_clone_dropped(&self, party: &mut Party<F, Kept<F>, A>)
+        requires cell { party.old.seat.table_id ≡ self.now.table.shared.table_id }
+        requires party { (i : ℕ) × Stands (RefusedClone i) party.old }
+        ensures { Goes (act DropAwaiter ∷ []) (Looking (poll_number (position party.old))) party.old party.new }
+    {
+        self.table
+            .shared
+            .load::<Always<Dropping>>(&mut party.seat, 0);
+    }
+
+    // Writes down that the clone which was taken out again was woken. One load.
+    fn note_clone_woken(&self, party: &mut Party<F, Kept<F>, A>)
+        requires cell { party.old.seat.table_id ≡ self.now.table.shared.table_id }
+        requires party { (i : ℕ) × Stands (CloneInHand i) party.old }
+        ensures { Goes (act WakeAwaiter ∷ []) (Looking (poll_number (position party.old))) party.old party.new }
+    {
+        self.table.shared.load::<Always<Waking>>(&mut party.seat, 0);
+    }
+
+    // Puts the clone into the awaiter slot, and drops what stood there.
+    fn store(&self, party: &mut Party<F, Kept<F>, A>, clone: A)
+        requires cell { party.old.seat.table_id ≡ self.now.table.shared.table_id }
+        requires party { (i : ℕ) × (hand : Option ℕ) × (y : Slot F _ A) × StandsWith (after_storing i hand) ((2, y) ∷ []) party.old × Waits hand y }
+        ensures { (stood : Bool) × GoesWith (dropped_if stood) (Registered (poll_number (position party.old))) ((2, Awaiter clone) ∷ []) party.old party.new }
+    {
+        let shared = &self.table.shared;
+        let old = shared.exchange(&mut party.seat, 2, Slot::Awaiter(clone));
+        if let Slot::Awaiter(old) = old {
+            drop(old);
+            shared.load::<Always<Dropping>>(&mut party.seat, 0);
+        }
+    }
+}
+
+impl<R: Wait + Drop, F: Yields, Q: Drop, M: Drop, A: Wake, B: Allocator> Cell<R, F, Q, M, A, B> {
+    // Takes the awaiter slot, and answers whether it did: it does not where there is a notifier.
+    fn begin_register(&self, party: &mut Party<F, Kept<F>, A>) -> bool
+        requires cell { party.old.seat.table_id ≡ self.now.table.shared.table_id }
+        requires party { (i : ℕ) × Stands (Registrar i) party.old }
+        ensures { BeginsRegister party.old party.new result }
+    {
+        let shared = &self.table.shared;
+        for _ in self.rt.forever() {
+            let word = Word::from_bits(shared.load::<Always<FindingNotifier>>(&mut party.seat, 0));
+            let Some(next) = word.begin_register() else {
+                return false;
+            };
+            let found = shared.compare_exchange::<Exchange<BeginningRegister>>(
+                &mut party.seat,
+                0,
+                word.bits(),
+                next.bits(),
+            );
+            if found == word.bits() {
+                return true;
+            }
+        }
+        unreachable!()
+    }
+
+    // Gives the awaiter slot back with the clone in it, and answers whether it did: it does not where there is a notifier.
+    fn end_register(&self, party: &mut Party<F, Kept<F>, A>) -> bool
+        requires cell { party.old.seat.table_id ≡ self.now.table.shared.table_id }
+        requires party { (i : ℕ) × (clone : A) × StandsWith (Registered i) ((2, Awaiter clone) ∷ []) party.old }
+        ensures { EndsRegister party.old party.new result }
+    {
+        let shared = &self.table.shared;
+        for _ in self.rt.forever() {
+            let word = Word::from_bits(shared.peek(0));
+            let Some(next) = word.end_register() else {
+                return false;
+            };
+            let found = shared.compare_exchange::<Exchange<EndingRegister>>(
+                &mut party.seat,
+                0,
+                word.bits(),
+                next.bits(),
+            );
+            if found == word.bits() {
+                return true;
+            }
+        }
+        unreachable!()
+    }
+
+    // Takes the clone out again, since a notifier came, and gives the awaiter slot back. A notifier stays while the slot is the Task's.
+    fn take_back(&self, party: &mut Party<F, Kept<F>, A>) -> A
+        requires cell { party.old.seat.table_id ≡ self.now.table.shared.table_id }
+        requires party { (i : ℕ) × (clone : A) × StandsWith (Registered i) ((2, Awaiter clone) ∷ []) party.old }
+        ensures same { holds party.old ≡ (2, Awaiter result) ∷ [] }
+        ensures path { (v : State) × (v.notifying ≡ true) × Goes (act TakeAwaiter ∷ row EndRegisterNotified v ∷ []) (CloneInHand (poll_number (position party.old))) party.old party.new }
+    {
+        let shared = &self.table.shared;
+        let Slot::Awaiter(clone) = shared.exchange(&mut party.seat, 2, Slot::Empty) else {
+            unreachable!()
+        };
+        for _ in self.rt.forever() {
+            let word = Word::from_bits(shared.peek(0));
+            let Some(next) = word.end_register_notified() else {
+                continue;
+            };
+            let found = shared.compare_exchange::<Exchange<EndingNotified>>(
+                &mut party.seat,
+                0,
+                word.bits(),
+                next.bits(),
+            );
+            if found == word.bits() {
+                return clone;
+            }
+        }
+        unreachable!()
+    }
+
+    // Registers a clone of the caller's awaiter, or wakes one where a notifier came before or meanwhile.
+    fn register_clone(&self, party: &mut Party<F, Kept<F>, A>, awaiter: &A, clone: A)
+        requires cell { party.old.seat.table_id ≡ self.now.table.shared.table_id }
+        requires party { (i : ℕ) × Stands (Registrar i) party.old }
+        requires cloned { A.cloned awaiter.now (Some clone) }
+        ensures { (path : List Deed) × RegisterPath A.cloned A.woken A.woken_by_ref awaiter.now path × Goes path (Looking (poll_number (position party.old))) party.old party.new }
+    {
+        if !self.begin_register(party) {
+            awaiter.wake_by_ref();
+            drop(clone);
+            return self.note_clone_dropped(party);
+        }
+        self.store(party, clone);
+        if !self.end_register(party) {
+            self.take_back(party).wake();
+            self.note_clone_woken(party);
+        }
+    }
+
+    // Registers the caller's awaiter, and answers whether it did: a clone that is refused ends the poll.
+    pub(crate) fn register(&self, party: &mut Party<F, Kept<F>, A>, awaiter: &A) -> bool
+        requires cell { party.old.seat.table_id ≡ self.now.table.shared.table_id }
+        requires party { (i : ℕ) × Stands (Registrar i) party.old }
+        ensures { Registers A.cloned A.woken A.woken_by_ref awaiter.now party.old party.new result }
+    {
+        let Some(clone) = awaiter.try_clone() else {
+            self.note_refused(party);
+            return false;
+        };
+        self.register_clone(party, awaiter, clone);
+        true
+    }
+}

@@ -1,0 +1,82 @@
+//! Steps with the seat of a handle, which is taken from what holds it, and put back.
+ghost use Rattle.std.specs.Prelude.{◌≡◌, ℕ, [], ◌∷◌, List, true, IfSome};
+ghost use Rattle.std.specs.Arc.{arc_value};
+ghost use Rattle.task_laws.specs.declared.positions.Rest.{Rest};
+ghost use Rattle.task_laws.specs.declared.positions.Position.TheVariants.{At};
+ghost use Rattle.task_cell.specs.declared.table.Deed.{Deed};
+ghost use Rattle.task_cell.specs.declared.table.Member.{Member};
+ghost use Rattle.task_cell.specs.Rule.{view, fresh};
+ghost use Rattle.task_cell.specs.Calls.{IsNew, limit_of, as_waker};
+ghost use Rattle.task_cell.specs.Holders.{roost};
+ghost use Rattle.task_cell.specs.Wakers.{may_gain_beside, may_wake_beside, as_deliverer, StandsBeside, MayGain, GoesBeside};
+
+use super::holder::SeatHolder;
+use super::{Cell, Party};
+use crate::steps::waker::Forgetting;
+use crate::table::Kept;
+use std::alloc::Allocator;
+use std::sync::{Arc, Wait};
+use task_core::Yields;
+
+impl<R: Wait + Drop, F: Yields, Q: Drop, M: Drop, A: Drop, B: Allocator> Cell<R, F, Q, M, A, B> {
+    // Puts the seat of a party back. It forgets what the party did, since what rests there has one view. One load.
+    fn put_back(&self, holder: &SeatHolder<F, Kept<F>, A>, mut party: Party<F, Kept<F>, A>)
+        requires cell { (party.seat.table_id ≡ self.now.table.shared.table_id) × ((roost holder.now).table_id ≡ self.now.table.shared.table_id) }
+        requires party { (r : Rest) × (us : List Member) × StandsBeside r us party × ((roost holder.now).view ≡ view (limit_of party) (fresh (At r) ∷ us)) }
+    {
+        self.table.shared.load::<Forgetting>(&mut party.seat, 0);
+        let Party { seat } = party;
+        holder.put_back(&self.rt, seat);
+    }
+
+    // A gain, and a share of the cell for the new waker.
+    fn gain_with_share(
+        this: &Arc<Self, B>,
+        party: &mut Party<F, Kept<F>, A>,
+    ) -> Option<(Arc<Self, B>, Party<F, Kept<F>, A>)>
+        requires cell { (party.old.seat.table_id ≡ (arc_value this.now).table.shared.table_id) × (limit_of party.old ≡ (arc_value this.now).limit) }
+        requires party { (r : Rest) × (us : List Member) × MayGain r us party.old }
+        ensures party { (r : Rest) (us : List Member) → MayGain r us party.old → (path : List Deed) × GoesBeside path r us party.old party.new }
+        ensures cell { IfSome result (λ gained. arc_value gained.0 ≡ arc_value this.now) }
+        ensures waker { IfSome result (λ gained. IsNew as_waker party.old gained.1) }
+    {
+        let Ok(share) = Arc::try_clone(this) else {
+            this.refuse_gain(party);
+            return None;
+        };
+        let waker = this.gain(party)?;
+        Some((share, waker))
+    }
+
+    // A gain by the party whose seat rests here.
+    pub(crate) fn gain_at(
+        this: &Arc<Self, B>,
+        holder: &SeatHolder<F, Kept<F>, A>,
+    ) -> Option<(Arc<Self, B>, Party<F, Kept<F>, A>)>
+        requires cell { ((roost holder.now).table_id ≡ (arc_value this.now).table.shared.table_id) × ((roost holder.now).view.limit ≡ (arc_value this.now).limit) }
+        requires party { (r : Rest) × (us : List Member) × (may_gain_beside r us ≡ true) × ((roost holder.now).view ≡ view (roost holder.now).view.limit (fresh (At r) ∷ us)) }
+        ensures cell { IfSome result (λ gained. arc_value gained.0 ≡ arc_value this.now) }
+        ensures waker { IfSome result (λ gained. (gained.1.seat.table_id ≡ (roost holder.now).table_id) × (gained.1.seat.me ≡ (view (roost holder.now).view.limit (fresh as_waker ∷ []), []))) }
+    {
+        let mut party = Party {
+            seat: holder.take(&this.rt),
+        };
+        let gained = Cell::gain_with_share(this, &mut party);
+        this.put_back(holder, party);
+        gained
+    }
+
+    // A wake by the party whose seat rests here: the deliverer, where the task was idle.
+    pub(crate) fn wake_at(&self, holder: &SeatHolder<F, Kept<F>, A>) -> Option<Party<F, Kept<F>, A>>
+        requires cell { (roost holder.now).table_id ≡ self.now.table.shared.table_id }
+        requires party { (r : Rest) × (us : List Member) × (may_wake_beside r us ≡ true) × ((roost holder.now).view ≡ view (roost holder.now).view.limit (fresh (At r) ∷ us)) }
+        ensures deliverer { IfSome result (λ d. (d.seat.table_id ≡ (roost holder.now).table_id) × (d.seat.me ≡ (view (roost holder.now).view.limit (fresh as_deliverer ∷ []), []))) }
+    {
+        let mut party = Party {
+            seat: holder.take(&self.rt),
+        };
+        let deliverer = self.wake_by_ref(&mut party);
+        self.put_back(holder, party);
+        deliverer
+    }
+}

@@ -1,0 +1,153 @@
+//! The steps of a run and of a Runnable's drop.
+ghost use Rattle.std.specs.Prelude.{◌≡◌, ℕ, ◌∷◌, [], not, ◌&&◌, Bool};
+ghost use Rattle.std.specs.Arc.{arc_value};
+ghost use Rattle.task_laws.specs.declared.positions.Answer.{Answer};
+ghost use Rattle.task_laws.specs.declared.positions.After.TheVariants.{ThenEnds};
+ghost use Rattle.task_laws.specs.declared.positions.Closer.TheVariants.{ClosedRun};
+ghost use Rattle.task_laws.specs.declared.positions.Closer.{Closer};
+ghost use Rattle.task_laws.specs.declared.positions.Position.TheVariants.{FutureInHand, Ready, Cleared, Polling, Deliverer};
+ghost use Rattle.task_core.specs.declared.moves.Act.TheVariants.{DropFuture, Unschedule, HandOver, EndCall};
+ghost use Rattle.task_laws.specs.Table.{notifies};
+ghost use Rattle.task_cell.specs.declared.table.Slot.{Slot};
+ghost use Rattle.task_cell.specs.Calls.{StandsWith, Stands, Goes, row, act, position, closing_way, limit_of, as_ended};
+ghost use Rattle.task_cell.specs.Rule.{IsEmpty, IsFuture};
+ghost use Rattle.task_cell.specs.Steps.{future_first};
+ghost use Rattle.task_cell.specs.RunCalls.{Stores, ClosesPending, Closes, EndsReady, EndsUnready};
+
+use super::ends::PendingEnd;
+use super::{Cell, Party, Runnable};
+use crate::steps::Always;
+use crate::steps::run::Unscheduling;
+use crate::table::Kept;
+use std::alloc::Allocator;
+use std::sync::{Arc, Wait};
+use task_core::word::Word;
+use task_core::{Schedule, Wake, Yields};
+
+// Whether somebody may claim the output of a run that finds this word.
+fn keeps_output(found: Word) -> bool
+    ensures { result ≡ (found.task && not found.closed) }
+{
+    found.task() && !found.closed()
+}
+
+impl<R: Drop, F: Yields, Q: Drop, M: Drop, A: Drop, B: Allocator> Cell<R, F, Q, M, A, B> {
+    // SCHEDULED is cleared, after the future was dropped: a single fetch, never tried again.
+    pub(crate) fn unschedule(&self, party: &mut Party<F, Kept<F>, A>) -> Word
+        requires cell { party.old.seat.table_id ≡ self.now.table.shared.table_id }
+        requires party { (closer : Closer) × (y : Slot F _ A) × (z : Slot F _ A) × StandsWith (FutureInHand closer) (future_first y z []) party.old × IsEmpty y }
+        ensures { Goes (act DropFuture ∷ row Unschedule result ∷ []) (notifies result.awaiter (closing_way (position party.old))) party.old party.new }
+    {
+        let found = self
+            .table
+            .shared
+            .fetch_and::<Always<Unscheduling>>(&mut party.seat, 0, !1);
+        Word::from_bits(found)
+    }
+}
+
+impl<R: Wait + Drop, F: Yields, Q: Drop, M: Drop, A: Drop, B: Allocator> Cell<R, F, Q, M, A, B> {
+    // The end step of a run with its output, which is dropped where nobody will claim it.
+    pub(crate) fn store_output(&self, party: &mut Party<F, Kept<F>, A>, output: Kept<F>) -> Word
+        requires cell { party.old.seat.table_id ≡ self.now.table.shared.table_id }
+        requires party { (y : Slot F _ A) × (z : Slot F _ A) × StandsWith Ready (future_first y z []) party.old × IsEmpty y }
+        ensures { (y z : Slot F _ A) → StandsWith Ready (future_first y z []) party.old → Stores result party.old party.new }
+    {
+        let found = self.complete(party, output);
+        if keeps_output(found) {
+            return found;
+        }
+        self.drop_output(party);
+        found
+    }
+}
+
+impl<R: Drop, F: Yields, Q: Drop, M: Drop, A: Wake, B: Allocator> Cell<R, F, Q, M, A, B> {
+    // A run of a task that was closed before, from where it has taken the future over.
+    pub(crate) fn close_run(&self, party: &mut Party<F, Kept<F>, A>)
+        requires cell { party.old.seat.table_id ≡ self.now.table.shared.table_id }
+        requires party { (y : Slot F _ A) × (z : Slot F _ A) × StandsWith (FutureInHand ClosedRun) (future_first y z []) party.old }
+        ensures { Closes ((a : A) × A.woken a) party.old party.new }
+    {
+        self.clear(party, 0);
+        let found = self.unschedule(party);
+        self.finish(party, found.awaiter());
+    }
+
+    // A run of a task that was closed meanwhile, from where its poll answered Pending.
+    pub(crate) fn finish_cleared(&self, party: &mut Party<F, Kept<F>, A>)
+        requires cell { party.old.seat.table_id ≡ self.now.table.shared.table_id }
+        requires party { (y : Slot F _ A) × (z : Slot F _ A) × StandsWith Cleared (future_first y z []) party.old }
+        ensures { ClosesPending ((a : A) × A.woken a) party.old party.new }
+    {
+        self.clear(party, 0);
+        let found = self.end_closed(party);
+        self.finish(party, found.awaiter());
+    }
+}
+
+impl<R: Wait + Drop, F: Yields, Q: Drop, M: Drop, A: Wake, B: Allocator> Cell<R, F, Q, M, A, B> {
+    // A run, from where its poll answered Ready.
+    pub(crate) fn finish_ready(&self, party: &mut Party<F, Kept<F>, A>, output: Kept<F>)
+        requires cell { party.old.seat.table_id ≡ self.now.table.shared.table_id }
+        requires party { (y : Slot F _ A) × (z : Slot F _ A) × StandsWith Polling (future_first y z []) party.old }
+        ensures { EndsReady ((a : A) × A.woken a) party.old party.new }
+    {
+        self.answer_ready(party);
+        self.clear(party, 0);
+        let found = self.store_output(party, output);
+        self.finish(party, found.awaiter());
+    }
+
+    // Hands the Runnable of a run over that has ended, which ends the call.
+    pub(crate) fn hand_on<X: Copy>(
+        this: &Arc<Self, B>,
+        party: &mut Party<F, Kept<F>, A>,
+        around: X,
+        woken: bool,
+    )
+    where
+        Q: Schedule<Runnable<R, F, Q, M, A, X, B>>,
+        requires cell { (party.old.seat.table_id ≡ (arc_value this.now).table.shared.table_id) × (limit_of party.old ≡ (arc_value this.now).limit) }
+        requires party { (answer : Answer) × Stands (Deliverer woken (ThenEnds answer)) party.old }
+        ensures path { (answer : Answer) → Stands (Deliverer woken (ThenEnds answer)) party.old → Goes (act HandOver ∷ act EndCall ∷ []) as_ended party.old party.new }
+        ensures fact { (n : _) × Q.scheduled (arc_value this.now).schedule n (record { woken_while_running = woken }) }
+    {
+        Cell::deliver(this, party, around, woken);
+        this.end(party);
+    }
+
+    // A run, from where its poll answered Pending. Whether the task was woken meanwhile.
+    pub(crate) fn finish_pending<X: Copy>(
+        this: &Arc<Self, B>,
+        party: &mut Party<F, Kept<F>, A>,
+        around: X,
+    ) -> bool
+    where
+        Q: Schedule<Runnable<R, F, Q, M, A, X, B>>,
+        requires cell { (party.old.seat.table_id ≡ (arc_value this.now).table.shared.table_id) × (limit_of party.old ≡ (arc_value this.now).limit) }
+        requires party { (y : Slot F _ A) × (z : Slot F _ A) × StandsWith Polling (future_first y z []) party.old × IsFuture y }
+        ensures { EndsUnready ((a : A) × A.woken a) (λ b. (n : _) × Q.scheduled (arc_value this.now).schedule n (record { woken_while_running = b })) result party.old party.new }
+    {
+        let found = this.answer_pending(party);
+        if found.closed() {
+            this.finish_cleared(party);
+            return false;
+        }
+        match this.end_pending(party, found) {
+            PendingEnd::Closed => {
+                this.finish_cleared(party);
+                false
+            }
+            PendingEnd::Rescheduled => {
+                Cell::hand_on(this, party, around, true);
+                true
+            }
+            PendingEnd::Idle => false,
+            PendingEnd::Orphaned => {
+                Cell::hand_on(this, party, around, false);
+                false
+            }
+        }
+    }
+}

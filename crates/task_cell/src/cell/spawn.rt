@@ -1,0 +1,165 @@
+//! The beginning and the end of a cell.
+ghost use Rattle.std.specs.Prelude.{◌≡◌, ℕ, ◌+◌, ◌^◌, ◌<◌, ◌∷◌, [], List, IfOk, IfErr};
+ghost use Rattle.std.specs.Arc.{arc_value};
+ghost use Rattle.task_cell.specs.declared.table.Slot.{Slot};
+ghost use Rattle.task_cell.specs.Rule.{laid_view, opening_view};
+ghost use Rattle.task_cell.specs.Calls.{Stands, StandsWith, deeds, limit_of, as_runnable, as_task};
+ghost use Rattle.task_laws.specs.declared.positions.Position.{Position};
+ghost use Rattle.task_cell.specs.LastWord.{IsLastWord};
+
+use super::{Board, Cell, Party};
+use crate::steps::spawn::{Filling, Opening, Spawning};
+use crate::table::{Kept, Slot, View};
+use atomic_table::{Refused, Seat, Table};
+use std::alloc::{AllocError, Allocator};
+use std::sync::{Arc, Wait};
+use task_core::{Wake, Yields};
+
+/// The word of a task that was just spawned: scheduled, with its Task, and one reference.
+const OPENING: u64 = 0x111;
+
+// A table whose places are empty.
+fn lay<F: Drop, T: Drop, A: Drop, B: Allocator + Copy>(
+    alloc: B,
+    limit: u64,
+) -> Result<(Board<F, T, A, B>, Seat<Slot<F, T, A>, View>), AllocError>
+    requires { limit < 2 ^ 55 }
+    ensures { IfOk result (λ t. (t.0.shared.table_id.words ≡ 1) × (t.0.shared.table_id.slots ≡ 3) × (t.0.shared.key ≡ limit) × (t.1.table_id ≡ t.0.shared.table_id) × (t.1.me ≡ (laid_view limit, []))) }
+{
+    let mut slots = Vec::with_capacity(alloc, 3)?;
+    slots.push_reserved(Slot::Empty);
+    slots.push_reserved(Slot::Empty);
+    slots.push_reserved(Slot::Empty);
+    match Table::new(alloc, &[OPENING], slots, &limit) {
+        Ok(laid) => Ok(laid),
+        Err(Refused { slots: _ }) => Err(AllocError),
+    }
+}
+
+impl<R: Drop, F: Yields, Q: Drop, M: Drop, A: Drop, B: Allocator> Cell<R, F, Q, M, A, B> {
+    // What a cell was given.
+    fn into_given(self) -> (Q, M)
+        ensures schedule { result.0 ≡ self.schedule }
+        ensures metadata { result.1 ≡ self.metadata }
+    {
+        let Cell {
+            table,
+            schedule,
+            metadata,
+            limit: _,
+            rt,
+        } = self;
+        drop(table);
+        drop(rt);
+        (schedule, metadata)
+    }
+
+    /// Gives up a share that may be the last. The last one is taken apart after a load, and makes no atomic step.
+    pub fn leave(this: Arc<Self, B>) {
+        match Arc::try_unwrap(this) {
+            Ok(cell) => drop(cell),
+            Err(share) => drop(share),
+        }
+    }
+
+    /// What the builder was given as metadata. It waits for nobody.
+    pub fn metadata(&self) -> &M
+        ensures { result.now ≡ self.now.metadata }
+    {
+        &self.metadata
+    }
+
+    /// Puts the future in, by the seat of a cell whose memory was found: the Runnable and the Task.
+    pub fn fill(
+        &self,
+        mut seat: Seat<Slot<F, Kept<F>, A>, View>,
+        future: F,
+    ) -> (Party<F, Kept<F>, A>, Party<F, Kept<F>, A>)
+        requires cell { seat.table_id ≡ self.now.table.shared.table_id }
+        requires seat { seat.me ≡ (laid_view self.now.limit, []) }
+        ensures cell { (result.0.seat.table_id ≡ self.now.table.shared.table_id) × (result.1.seat.table_id ≡ self.now.table.shared.table_id) }
+        ensures limit { (limit_of result.0 ≡ self.now.limit) × (limit_of result.1 ≡ self.now.limit) }
+        ensures runnable { Stands as_runnable result.0 × (deeds result.0 ≡ []) }
+        ensures task { Stands (as_task 0) result.1 × (deeds result.1 ≡ []) }
+    {
+        let shared = &self.table.shared;
+        shared.load::<Filling>(&mut seat, 0);
+        drop(shared.exchange(&mut seat, 0, Slot::Future(future)));
+        shared.load::<Spawning>(&mut seat, 0);
+        let task = shared.split_seat::<Opening>(&mut seat);
+        (Party { seat }, Party { seat: task })
+    }
+
+    /// Takes the cell apart by a party that is left: the last word, and what it means.
+    pub fn into_word(self, party: Party<F, Kept<F>, A>) -> u64
+        requires cell { party.seat.table_id ≡ self.table.shared.table_id }
+        requires party { (at : Position) × (held : List (ℕ × Slot F _ A)) × StandsWith at held party }
+        ensures { IsLastWord self.limit result party }
+    {
+        let Cell {
+            table,
+            schedule: _,
+            metadata: _,
+            limit: _,
+            rt: _,
+        } = self;
+        let Party { seat } = party;
+        let mut closed = table.close_with(seat);
+        let word = closed.word(0);
+        drop(closed.take(0));
+        drop(closed.take(1));
+        drop(closed.take(2));
+        closed.free();
+        word
+    }
+}
+
+impl<R: Wait + Drop, F: Yields, Q: Drop, M: Drop, A: Wake, B: Allocator + Copy> Cell<
+    R,
+    F,
+    Q,
+    M,
+    A,
+    B,
+> {
+    /// Two shares of a cell whose memory was found, and the seat by which it is filled; or what was given, where memory was refused.
+    pub fn make(
+        rt: R,
+        alloc: B,
+        schedule: Q,
+        metadata: M,
+        limit: u64,
+    ) -> Result<(Arc<Self, B>, Arc<Self, B>, Seat<Slot<F, Kept<F>, A>, View>), (Q, M)>
+        requires { limit < 2 ^ 55 }
+        ensures shares { IfOk result (λ made. arc_value made.1 ≡ arc_value made.0) }
+        ensures given { IfOk result (λ made. ((arc_value made.0).metadata ≡ metadata) × ((arc_value made.0).schedule ≡ schedule) × ((arc_value made.0).limit ≡ limit)) }
+        ensures seat { IfOk result (λ made. (made.2.table_id ≡ (arc_value made.0).table.shared.table_id) × (made.2.me ≡ (laid_view limit, []))) }
+        ensures refused { IfErr result (λ back. (back.0 ≡ schedule) × (back.1 ≡ metadata)) }
+    {
+        let Ok((table, seat)) = lay(alloc, limit) else {
+            return Err((schedule, metadata));
+        };
+        let cell = Cell {
+            table,
+            schedule,
+            metadata,
+            limit,
+            rt,
+        };
+        match Arc::new(alloc, cell) {
+            Ok(first) => {
+                let second = Cell::share(&first);
+                Ok((first, second, seat))
+            }
+            Err(refused) => {
+                discard(seat);
+                Err(refused.value.into_given())
+            }
+        }
+    }
+}
+
+// A seat that nobody will step with again.
+pub(super) fn discard<S, V>(seat: Seat<S, V>) {
+    let Seat { .. } = seat;
+}

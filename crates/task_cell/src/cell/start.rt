@@ -1,0 +1,42 @@
+//! The start of a run.
+ghost use Rattle.std.specs.Prelude.{◌≡◌, ℕ, ◌∷◌, []};
+ghost use Rattle.task_cell.specs.Calls.{Stands, as_runnable};
+ghost use Rattle.task_cell.specs.Starts.{TakesUp};
+
+use super::{Cell, Party};
+use crate::steps::start::{StartingRun, TakingUpClosed};
+use crate::steps::{Always, Exchange};
+use crate::table::Kept;
+use std::alloc::Allocator;
+use std::sync::Wait;
+use task_core::Yields;
+use task_core::word::Word;
+
+impl<R: Wait + Drop, F: Yields, Q: Drop, M: Drop, A: Drop, B: Allocator> Cell<R, F, Q, M, A, B> {
+    // Takes the future for a run: true where the run has started, false where the task was closed.
+    pub(crate) fn take_up(&self, party: &mut Party<F, Kept<F>, A>) -> bool
+        requires cell { party.old.seat.table_id ≡ self.now.table.shared.table_id }
+        requires party { Stands as_runnable party.old }
+        ensures { TakesUp party.old party.new result }
+    {
+        let shared = &self.table.shared;
+        let seat = &mut party.seat;
+        let mut word = Word::from_bits(shared.load::<Always<TakingUpClosed>>(seat, 0));
+        for _ in self.rt.forever() {
+            let Some(next) = word.start_run() else {
+                return false;
+            };
+            let found = shared.compare_exchange::<Exchange<StartingRun>>(
+                seat,
+                0,
+                word.bits(),
+                next.bits(),
+            );
+            if found == word.bits() {
+                return true;
+            }
+            word = Word::from_bits(found);
+        }
+        unreachable!()
+    }
+}

@@ -1,0 +1,34 @@
+//! Calls that only look at the word.
+ghost use Rattle.std.specs.Prelude.{◌≡◌, ℕ, ◌∷◌, [], not, true};
+ghost use Rattle.task_core.specs.Word.{State, is_open};
+ghost use Rattle.task_core.specs.declared.moves.Act.TheVariants.{LookFinished, EndCall};
+ghost use Rattle.task_cell.specs.Steps.{saw_over};
+ghost use Rattle.task_cell.specs.Calls.{Stands, Goes, row, act, position, deeds, as_task};
+
+use super::{Cell, Party};
+use crate::steps::task::{Knowing, LookingFinished};
+use crate::table::Kept;
+use std::alloc::Allocator;
+use task_core::Yields;
+use task_core::word::Word;
+
+impl<R: Drop, F: Yields, Q: Drop, M: Drop, A: Drop, B: Allocator> Cell<R, F, Q, M, A, B> {
+    /// Whether the task is completed or closed. It is one load, and waits for nobody.
+    pub fn is_finished(&self, party: &mut Party<F, Kept<F>, A>) -> bool
+        requires cell { party.old.seat.table_id ≡ self.now.table.shared.table_id }
+        requires party { (n : ℕ) × Stands (as_task n) party.old }
+        ensures path { (w : State) × Goes (row LookFinished w ∷ act EndCall ∷ []) (position party.old) party.old party.new × (result ≡ not (is_open w)) }
+        ensures seen { saw_over (deeds party.old) ≡ true → result ≡ true }
+    {
+        let found = self
+            .table
+            .shared
+            .load::<Knowing<LookingFinished>>(&mut party.seat, 0);
+        !Word::from_bits(found).is_open()
+    }
+
+    /// The word as one load finds it. No party notes it, and the next moment it may be another; only a task that is over stays so. It waits for nobody.
+    pub fn word(&self) -> Word {
+        Word::from_bits(self.table.shared.peek(0))
+    }
+}

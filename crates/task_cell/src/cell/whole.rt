@@ -1,0 +1,104 @@
+//! A whole run.
+ghost use Rattle.std.specs.Prelude.{◌≡◌, ℕ, ◌∷◌, [], List};
+ghost use Rattle.std.specs.Arc.{arc_value};
+ghost use Rattle.task_laws.specs.declared.positions.Position.TheVariants.{FutureInHand, Polling};
+ghost use Rattle.task_laws.specs.declared.positions.Closer.TheVariants.{ClosedRun};
+ghost use Rattle.task_cell.specs.declared.table.Deed.{Deed};
+ghost use Rattle.task_cell.specs.declared.table.Slot.{Slot};
+ghost use Rattle.task_cell.specs.Rule.{IsFuture};
+ghost use Rattle.task_cell.specs.Steps.{future_first};
+ghost use Rattle.task_cell.specs.Calls.{Stands, StandsWith, Goes, limit_of, as_runnable, as_ended};
+ghost use Rattle.task_cell.specs.Starts.{TakesUp};
+ghost use Rattle.task_cell.specs.RunPaths.{RunPath};
+ghost use Rattle.task_cell.specs.RunCalls.{Closes, EndsReady, EndsUnready};
+
+use super::{Cell, Party, Runnable, TaskWaker};
+use crate::table::Kept;
+use std::alloc::Allocator;
+use std::sync::{Arc, Wait};
+use task_core::{Future, Poll, Schedule, Wake, Yields};
+
+impl<R: Wait + Drop, F: Yields, Q: Drop, M: Drop, A: Wake, B: Allocator> Cell<R, F, Q, M, A, B> {
+    /// Runs the task once. A task that was closed is not polled: its future is dropped. Otherwise the future is polled once, and the run ends by what it answered.
+    ///
+    /// True where the task was woken meanwhile, and its Runnable was handed to the schedule value.
+    pub fn run<X: Copy>(
+        this: Arc<Self, B>,
+        party: Party<F, Kept<F>, A>,
+        around: X,
+    ) -> (Arc<Self, B>, Party<F, Kept<F>, A>, bool)
+    where
+        F: Future<TaskWaker<R, F, Q, M, A, X, B>>,
+        Q: Schedule<Runnable<R, F, Q, M, A, X, B>>,
+        requires cell { (party.seat.table_id ≡ (arc_value this).table.shared.table_id) × (limit_of party ≡ (arc_value this).limit) }
+        requires party { Stands as_runnable party }
+        ensures cell { result.0 ≡ this }
+        ensures path { (path : List Deed) × RunPath (λ answer. (f : _) × (w : _) × (g : _) × F.polled f w answer g) ((a : A) × A.woken a) (λ woken. (n : _) × Q.scheduled (arc_value this).schedule n (record { woken_while_running = woken })) result.2 path × Goes path as_ended party result.1 }
+    {
+        let (party, started) = this.begin_run(party);
+        if !started {
+            let ended = this.end_closed_run(party);
+            return (this, ended, false);
+        }
+        let (this, party, answer) = Cell::poll_future(this, party, around);
+        match answer {
+            Poll::Ready(output) => {
+                let ended = this.end_ready_run(party, Kept { output });
+                (this, ended, false)
+            }
+            Poll::Pending => {
+                let (ended, woken) = Cell::end_pending_run(&this, party, around);
+                (this, ended, woken)
+            }
+        }
+    }
+}
+
+// The parts of a run, each of a party by value.
+impl<R: Wait + Drop, F: Yields, Q: Drop, M: Drop, A: Wake, B: Allocator> Cell<R, F, Q, M, A, B> {
+    fn begin_run(&self, mut party: Party<F, Kept<F>, A>) -> (Party<F, Kept<F>, A>, bool)
+        requires cell { party.seat.table_id ≡ self.now.table.shared.table_id }
+        requires party { Stands as_runnable party }
+        ensures { TakesUp party result.0 result.1 }
+    {
+        let started = self.take_up(&mut party);
+        (party, started)
+    }
+
+    fn end_closed_run(&self, mut party: Party<F, Kept<F>, A>) -> Party<F, Kept<F>, A>
+        requires cell { party.seat.table_id ≡ self.now.table.shared.table_id }
+        requires party { (y : Slot F _ A) × (z : Slot F _ A) × StandsWith (FutureInHand ClosedRun) (future_first y z []) party }
+        ensures { Closes ((a : A) × A.woken a) party result }
+    {
+        self.close_run(&mut party);
+        party
+    }
+
+    fn end_ready_run(
+        &self,
+        mut party: Party<F, Kept<F>, A>,
+        output: Kept<F>,
+    ) -> Party<F, Kept<F>, A>
+        requires cell { party.seat.table_id ≡ self.now.table.shared.table_id }
+        requires party { (y : Slot F _ A) × (z : Slot F _ A) × StandsWith Polling (future_first y z []) party }
+        ensures { EndsReady ((a : A) × A.woken a) party result }
+    {
+        self.finish_ready(&mut party, output);
+        party
+    }
+
+    fn end_pending_run<X: Copy>(
+        this: &Arc<Self, B>,
+        mut party: Party<F, Kept<F>, A>,
+        around: X,
+    ) -> (Party<F, Kept<F>, A>, bool)
+    where
+        Q: Schedule<Runnable<R, F, Q, M, A, X, B>>,
+        requires cell { (party.seat.table_id ≡ (arc_value this.now).table.shared.table_id) × (limit_of party ≡ (arc_value this.now).limit) }
+        requires party { (y : Slot F _ A) × (z : Slot F _ A) × StandsWith Polling (future_first y z []) party × IsFuture y }
+        ensures { EndsUnready ((a : A) × A.woken a) (λ woken. (n : _) × Q.scheduled (arc_value this.now).schedule n (record { woken_while_running = woken })) result.1 party result.0 }
+    {
+        let woken = Cell::finish_pending(this, &mut party, around);
+        (party, woken)
+    }
+}

@@ -1,0 +1,8 @@
+//! The calls of a Runnable and of a waker.
+
+mod debug;
+pub mod parked;
+pub mod runnable;
+pub mod waker;
+
+pub use parked::{ParkedRunnable, ParkedWaker};

@@ -1,0 +1,62 @@
+//! How a task is shown, and a Runnable.
+use crate::cell::{Cell, Runnable};
+use std::alloc::Allocator;
+use std::fmt;
+use std::sync::Wait;
+use task_core::word::Word;
+use task_core::{Wake, Yields};
+
+// What is shown of a task: its word, as one load finds it, and its metadata.
+#[derive(Drop)]
+struct Header<'a, M> {
+    word: Word,
+    metadata: &'a M,
+}
+
+impl<'a, M: fmt::Debug> fmt::Debug for Header<'a, M> {
+    fn fmt<W: fmt::Write>(&self, f: &mut fmt::Formatter<W>) -> fmt::Result {
+        f.debug_struct("Header")
+            .field("scheduled", &self.word.scheduled())
+            .field("running", &self.word.running())
+            .field("completed", &self.word.completed())
+            .field("closed", &self.word.closed())
+            .field("awaiter", &self.word.awaiter())
+            .field("task", &self.word.task())
+            .field("ref_count", &self.word.references())
+            .field("metadata", self.metadata)
+            .finish()
+    }
+}
+
+impl<R: Drop, F: Yields, Q: Drop, M: Drop + fmt::Debug, A: Drop, B: Allocator> Cell<
+    R,
+    F,
+    Q,
+    M,
+    A,
+    B,
+> {
+    /// Shows a handle of this name: the word as one load finds it, and the metadata. No party notes that load.
+    pub fn show<W: fmt::Write>(&self, f: &mut fmt::Formatter<W>, name: &str) -> fmt::Result {
+        let header = Header {
+            word: self.word(),
+            metadata: self.metadata(),
+        };
+        f.debug_struct(name).field("header", &header).finish()
+    }
+}
+
+/// Shows the word as one load finds it, and the metadata. No party notes that load.
+impl<
+    R: Wait + Drop,
+    F: Yields,
+    Q: Drop,
+    M: Drop + fmt::Debug,
+    A: Wake,
+    X: Copy,
+    B: Allocator,
+> fmt::Debug for Runnable<R, F, Q, M, A, X, B> {
+    fn fmt<W: fmt::Write>(&self, f: &mut fmt::Formatter<W>) -> fmt::Result {
+        self.inner.cell.show(f, "Runnable")
+    }
+}

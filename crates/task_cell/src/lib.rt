@@ -1,0 +1,11 @@
+//! The cell of a task, on one atomic word; its Runnables, and its wakers.
+#![tactic(auto)]
+
+pub mod cell;
+pub mod handles;
+pub mod steps;
+pub mod table;
+
+pub use cell::{Cell, Party, Runnable, TaskWaker};
+pub use handles::{ParkedRunnable, ParkedWaker};
+pub use table::Kept;
