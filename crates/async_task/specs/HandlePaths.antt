@@ -4,10 +4,12 @@ use Rattle.task_core.specs.Word.{State, is_open}
 use Rattle.task_core.specs.declared.traits.TaskPoll.{TaskPoll}
 use Rattle.task_core.specs.declared.traits.TaskPoll.TheVariants.{Pending as Waits, Ready, NoMemory}
 use Rattle.task_core.specs.declared.moves.Act.TheVariants.{LookFinished, EndCall}
-use Rattle.task_cell.specs.declared.table.Deed.{Deed}
+use Rattle.task_steps.specs.declared.table.Deed.{Deed}
 use Rattle.task_cell.specs.declared.cell.Party.{Party}
-use Rattle.task_cell.specs.Calls.{row, act, Goes, as_task, position}
-use Rattle.task_cell.specs.PollPaths.{PollPath, poll_number}
+use Rattle.task_cell.specs.Calls.{Goes, position}
+use Rattle.task_steps.specs.Deeds.{row, act}
+use Rattle.task_steps.specs.Standing.{as_task, poll_number}
+use Rattle.task_cell.specs.PollPaths.{PollPath}
 
 -- the answer of a Task's poll as a FallibleTask gives it
 abbrev pub fallible_answer : {T E : Type 0} → TaskPoll (Result T E) → TaskPoll (Option T)

@@ -2,16 +2,16 @@
 ghost use Rattle.std.specs.Prelude.{◌≡◌, ◌<◌, [], min, IfOk, IfErr};
 ghost use Rattle.std.specs.Fn.{FnOnceReturnsAt};
 ghost use Rattle.std.specs.Arc.{arc_value};
-ghost use Rattle.task_cell.specs.Rule.{laid_view};
+ghost use Rattle.task_steps.specs.Rule.{laid_view};
 
 use crate::task::{Task, TaskParty};
 use atomic_table::Seat;
 use std::alloc::Allocator;
 use std::sync::{Arc, Wait};
-use task_cell::table::{Kept, Slot, View};
 use task_cell::{Cell, Runnable};
 use task_core::word::LIMIT;
 use task_core::{Schedule, Wake, Yields};
+use task_steps::table::{Kept, Slot, View};
 
 /// What a spawn is given beside the future and the schedule value: the metadata, and the limit of references.
 #[derive(Debug, Drop)]

@@ -1,8 +1,8 @@
 //! The Task as a handle that cancels the task, and waits until its future is gone.
 ghost use Rattle.std.specs.Prelude.{◌≡◌, List, true, false};
 ghost use Rattle.std.specs.Arc.{arc_value};
-ghost use Rattle.task_cell.specs.declared.table.Deed.{Deed};
-ghost use Rattle.task_cell.specs.Steps.{saw_over};
+ghost use Rattle.task_steps.specs.declared.table.Deed.{Deed};
+ghost use Rattle.task_steps.specs.Steps.{saw_over};
 ghost use Rattle.task_cell.specs.TaskPaths.{CancelPath};
 ghost use Rattle.async_task.specs.HandlePaths.{ClosesUnless, FindsFinished, PollsClosed, IfSomeOutput};
 ghost use Rattle.task_cell.specs.Calls.{Goes, deeds, position};

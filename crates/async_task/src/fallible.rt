@@ -1,7 +1,7 @@
 //! The Task as a handle whose polls answer `None` for a task that is closed.
 ghost use Rattle.std.specs.Prelude.{◌≡◌, true, false};
 ghost use Rattle.std.specs.Arc.{arc_value};
-ghost use Rattle.task_cell.specs.Steps.{saw_over};
+ghost use Rattle.task_steps.specs.Steps.{saw_over};
 ghost use Rattle.async_task.specs.HandlePaths.{FindsFinished, PollsOnce, IfSomeOutput};
 ghost use Rattle.task_cell.specs.Calls.{deeds};
 

@@ -1,13 +1,14 @@
 //! The Task: the handle that awaits the output.
 ghost use Rattle.std.specs.Prelude.{◌≡◌, ℕ, List, ◌∷◌, [], true, false};
 ghost use Rattle.std.specs.Arc.{arc_value};
-ghost use Rattle.task_cell.specs.declared.table.Deed.{Deed};
-ghost use Rattle.task_cell.specs.Rule.{view, member};
-ghost use Rattle.task_cell.specs.Steps.{saw_over};
+ghost use Rattle.task_steps.specs.declared.table.Deed.{Deed};
+ghost use Rattle.task_steps.specs.Rule.{view, member};
+ghost use Rattle.task_steps.specs.Steps.{saw_over};
 ghost use Rattle.task_cell.specs.TaskPaths.{CancelPath};
 ghost use Rattle.task_cell.specs.PollPaths.{IfOutput};
 ghost use Rattle.async_task.specs.HandlePaths.{FindsFinished, PollsOnce, IfSomeOutput, fallible_answer};
-ghost use Rattle.task_cell.specs.Calls.{Goes, deeds, position, holds, limit_of, is_empty, is_task};
+ghost use Rattle.task_cell.specs.Calls.{Goes, deeds, position, holds, limit_of, is_empty};
+ghost use Rattle.task_steps.specs.Standing.{is_task};
 
 use crate::cancel::Cancel;
 use crate::fallible::FallibleTask;

@@ -2,11 +2,11 @@
 
 use async_task::ParkedRunnable;
 use fixtures::counters::Counts;
-use fixtures::executor::heap::PriorityHeap;
 use fixtures::executor::{PriorityQueue, PriorityScheduler};
 use fixtures::fixture::Fixture;
 use fixtures::flag::Flag;
 use fixtures::future::{Behaviour, RowFuture};
+use priority_heap::PriorityHeap;
 use std::alloc::AllocError;
 use std::process::Abort;
 use std::sync::Wait;

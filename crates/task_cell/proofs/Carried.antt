@@ -3,12 +3,12 @@ use Rattle.std.proofs.Common.{◌≡◌, ℕ, Bool, true, false, List, [], ◌�
 use Rattle.atomic_table.specs.Table.{Me, rest}
 use Rattle.task_laws.specs.declared.positions.Position.{Position}
 use Rattle.task_laws.specs.Theorem.{owns_awaiter}
-use Rattle.task_cell.specs.declared.table.Slot.{Slot}
-use Rattle.task_cell.specs.declared.table.Deed.{Deed}
-use Rattle.task_cell.specs.declared.table.View.{View}
+use Rattle.task_steps.specs.declared.table.Slot.{Slot}
+use Rattle.task_steps.specs.declared.table.Deed.{Deed}
+use Rattle.task_steps.specs.declared.table.View.{View}
 use Rattle.task_cell.specs.declared.cell.Party.{Party}
-use Rattle.task_cell.specs.Rule.{has_work}
-use Rattle.task_cell.specs.Steps.{Works, Awaits, Carries, Carried}
+use Rattle.task_steps.specs.Rule.{has_work}
+use Rattle.task_steps.specs.Steps.{Works, Awaits, Carries, Carried}
 use Rattle.task_cell.specs.Calls.{GoesWith}
 
 module _ {F T A : Type 0} where

@@ -5,14 +5,15 @@ use Rattle.task_core.specs.Word.{State}
 use Rattle.task_laws.specs.declared.positions.Position.{Position}
 use Rattle.task_core.specs.declared.moves.Act.{Act}
 use Rattle.task_laws.specs.Table.{Slots}
-use Rattle.task_cell.specs.declared.table.Slot.{Slot}
-use Rattle.task_cell.specs.declared.table.Deed.{Deed}
-use Rattle.task_cell.specs.declared.table.View.{View}
+use Rattle.task_steps.specs.declared.table.Slot.{Slot}
+use Rattle.task_steps.specs.declared.table.Deed.{Deed}
+use Rattle.task_steps.specs.declared.table.View.{View}
 use Rattle.task_cell.specs.declared.cell.Party.{Party}
 use Rattle.task_laws.specs.Theorem.{owns_awaiter}
-use Rattle.task_cell.specs.Rule.{member, view, has_work}
-use Rattle.task_cell.specs.Steps.{head_of, future_first, output_first, acted, Carries, Carried, Makes}
-use Rattle.task_cell.specs.Calls.{deeds, position, holds, limit_of, after, StandsWith, GoesWith}
+use Rattle.task_steps.specs.Rule.{member, view, has_work}
+use Rattle.task_steps.specs.Steps.{head_of, future_first, output_first, acted, Carries, Carried, Makes}
+use Rattle.task_cell.specs.Calls.{deeds, position, holds, limit_of, StandsWith, GoesWith}
+use Rattle.task_steps.specs.Deeds.{after}
 
 after-append : (a b l : List Deed) → after (a ++ b) l ≡ after b (after a l)
 after-append [] b l = refl

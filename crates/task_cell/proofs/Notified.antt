@@ -6,17 +6,19 @@ use Rattle.task_laws.specs.declared.positions.Way.{Way}
 use Rattle.task_laws.specs.declared.positions.Position.TheVariants.{Notifier, Releaser}
 use Rattle.task_core.specs.declared.moves.Act.TheVariants.{MissNotify, BeginNotify, TakeAwaiter, EndNotify}
 use Rattle.task_laws.specs.Table.{goes_on}
-use Rattle.task_cell.specs.declared.table.Slot.{Slot}
-use Rattle.task_cell.specs.declared.table.Slot.TheVariants.{Empty, Future, Output, Awaiter}
-use Rattle.task_cell.specs.declared.table.Deed.{Deed}
+use Rattle.task_steps.specs.declared.table.Slot.{Slot}
+use Rattle.task_steps.specs.declared.table.Slot.TheVariants.{Empty, Future, Output, Awaiter}
+use Rattle.task_steps.specs.declared.table.Deed.{Deed}
 use Rattle.task_cell.specs.declared.cell.Party.{Party}
-use Rattle.task_cell.specs.Rule.{Waits}
-use Rattle.task_cell.specs.Steps.{Makes}
-use Rattle.task_cell.specs.Scripts.{taking_awaiter, releasing_awaiter}
-use Rattle.task_cell.specs.Calls.{row, act, position, holds, way_of, StandsWith, GoesWith, Notifies, misses, finds_none, takes_awaiter}
+use Rattle.task_steps.specs.Rule.{Waits}
+use Rattle.task_steps.specs.Steps.{Makes}
+use Rattle.task_steps.specs.Scripts.{taking_awaiter, releasing_awaiter}
+use Rattle.task_cell.specs.Calls.{position, holds, StandsWith, GoesWith, Notifies, misses, finds_none, takes_awaiter}
+use Rattle.task_steps.specs.Deeds.{row, act}
+use Rattle.task_steps.specs.Standing.{way_of}
 use Rattle.task_cell.proofs.Moved as moved
 use Rattle.task_cell.proofs.Carried.{keeps_places, took_awaiter, gave_awaiter}
-use Rattle.task_cell.proofs.AwaiterOwed.{on_work, on_free, same_way}
+use Rattle.task_steps.proofs.AwaiterOwed.{on_work, on_free, same_way}
 
 -- what is in the place of the awaiter
 abbrev pub awaiter_of : {F T A : Type 0} → Slot F T A → Option A

@@ -9,12 +9,14 @@ use Rattle.task_laws.specs.declared.positions.Position.TheVariants.{Notifier, Lo
 use Rattle.task_core.specs.declared.moves.Act.TheVariants.{Look, RefuseClone, EndCall}
 use Rattle.task_laws.specs.declared.positions.PollAnswer.TheVariants.{IsPending}
 use Rattle.task_laws.specs.Table.{second_look}
-use Rattle.task_cell.specs.declared.table.Deed.{Deed}
+use Rattle.task_steps.specs.declared.table.Deed.{Deed}
 use Rattle.task_cell.specs.declared.cell.Party.{Party}
-use Rattle.task_cell.specs.Calls.{position, Stands, Goes, row, act, as_task}
-use Rattle.task_cell.specs.PollScripts.{has_output, has_ended, has_to_wait}
+use Rattle.task_cell.specs.Calls.{position, Stands, Goes}
+use Rattle.task_steps.specs.Deeds.{row, act}
+use Rattle.task_steps.specs.Standing.{as_task, poll_number}
+use Rattle.task_steps.specs.PollScripts.{has_output, has_ended, has_to_wait}
 use Rattle.task_cell.specs.PollPaths as paths
-use Rattle.task_cell.specs.PollPaths.{TakePath, ClaimPath, RegisterPath, AnswerPath, PollPath, poll_number, Looks, sees_output, sees_none, LooksAgain, has_to_wait_on, goes_on_by, Registers, is_registered, clone_refused}
+use Rattle.task_cell.specs.PollPaths.{TakePath, ClaimPath, RegisterPath, AnswerPath, PollPath, Looks, sees_output, sees_none, LooksAgain, has_to_wait_on, goes_on_by, Registers, is_registered, clone_refused}
 use Rattle.task_cell.proofs.Moved.{position_is}
 use Rattle.task_cell.proofs.PollWays.{ends, then_goes}
 

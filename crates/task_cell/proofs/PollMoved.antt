@@ -10,15 +10,17 @@ use Rattle.task_core.specs.declared.moves.Act.{Act}
 use Rattle.task_core.specs.declared.moves.Act.TheVariants.{CloneAwaiter, StoreAwaiter, FindNotify, BeginRegister, EndRegister}
 use Rattle.task_laws.specs.Table.{after_storing}
 use Rattle.task_core.proofs.Bits.{state_of_number_of}
-use Rattle.task_cell.specs.declared.table.Slot.{Slot}
-use Rattle.task_cell.specs.declared.table.Deed.{Deed}
-use Rattle.task_cell.specs.declared.table.View.{View}
+use Rattle.task_steps.specs.declared.table.Slot.{Slot}
+use Rattle.task_steps.specs.declared.table.Deed.{Deed}
+use Rattle.task_steps.specs.declared.table.View.{View}
 use Rattle.task_cell.specs.declared.cell.Party.{Party}
-use Rattle.task_cell.specs.Rule.{member, view, fresh, Waits}
-use Rattle.task_cell.specs.Steps.{head_of, next_of, born_of, leaves_by, noted, acted, Carried, Makes}
-use Rattle.task_cell.specs.Calls.{deeds, limit_of, after, StandsWith, Stands, GoesWith, Goes, row, act}
-use Rattle.task_cell.specs.PollScripts.{finding_notifier, beginning_register, ending_register}
-use Rattle.task_cell.specs.PollPaths.{poll_number, BeginsRegister, begins, finds_one, EndsRegister, ends}
+use Rattle.task_steps.specs.Rule.{member, view, fresh, Waits}
+use Rattle.task_steps.specs.Steps.{head_of, next_of, born_of, leaves_by, noted, acted, Carried, Makes}
+use Rattle.task_cell.specs.Calls.{deeds, limit_of, StandsWith, Stands, GoesWith, Goes}
+use Rattle.task_steps.specs.Deeds.{after, row, act}
+use Rattle.task_steps.specs.PollScripts.{finding_notifier, beginning_register, ending_register}
+use Rattle.task_cell.specs.PollPaths.{BeginsRegister, begins, finds_one, EndsRegister, ends}
+use Rattle.task_steps.specs.Standing.{poll_number}
 use Rattle.task_cell.proofs.Moved.{position_is}
 
 -- whether a function of the word allowed its row

@@ -5,16 +5,18 @@ use Rattle.task_laws.specs.declared.positions.Position.{Position}
 use Rattle.task_laws.specs.declared.positions.Position.TheVariants.{Looking, RefusedClone, Registered, CloneInHand}
 use Rattle.task_core.specs.declared.moves.Act.TheVariants.{CloneAwaiter, StoreAwaiter, TakeAwaiter, FindNotify, BeginRegister, EndRegister, EndRegisterNotified, DropAwaiter, WakeAwaiter}
 use Rattle.task_laws.specs.Table.{after_storing}
-use Rattle.task_cell.specs.declared.table.Slot.{Slot}
-use Rattle.task_cell.specs.declared.table.Slot.TheVariants.{Awaiter}
-use Rattle.task_cell.specs.declared.table.Deed.{Deed}
+use Rattle.task_steps.specs.declared.table.Slot.{Slot}
+use Rattle.task_steps.specs.declared.table.Slot.TheVariants.{Awaiter}
+use Rattle.task_steps.specs.declared.table.Deed.{Deed}
 use Rattle.task_cell.specs.declared.cell.Party.{Party}
-use Rattle.task_cell.specs.Rule.{Waits}
-use Rattle.task_cell.specs.Calls.{position, holds, StandsWith, GoesWith, Goes, row, act}
+use Rattle.task_steps.specs.Rule.{Waits}
+use Rattle.task_cell.specs.Calls.{position, holds, StandsWith, GoesWith, Goes}
+use Rattle.task_steps.specs.Deeds.{row, act}
 use Rattle.task_cell.specs.PollPaths as paths
-use Rattle.task_cell.specs.PollPaths.{RegisterPath, poll_number, dropped_if, BeginsRegister, begins, finds_one, EndsRegister, ends, finds_notified}
+use Rattle.task_cell.specs.PollPaths.{RegisterPath, dropped_if, BeginsRegister, begins, finds_one, EndsRegister, ends, finds_notified}
+use Rattle.task_steps.specs.Standing.{poll_number}
 use Rattle.task_cell.proofs.Moved.{held_is}
-use Rattle.task_cell.proofs.PollOwed.{same_first}
+use Rattle.task_steps.proofs.PollOwed.{same_first}
 use Rattle.task_cell.proofs.PollWays.{then_goes}
 
 -- the deeds of a Task that puts its clone in

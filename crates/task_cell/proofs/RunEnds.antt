@@ -10,14 +10,15 @@ use Rattle.task_laws.specs.declared.positions.Position.TheVariants.{At, Delivere
 use Rattle.task_core.specs.declared.moves.Act.TheVariants.{AnswerReady, AnswerPending, DropFuture, StoreOutput, Complete, CompleteDetached, DropOutput, EndClosed, Reschedule, EndIdle, EndOrphaned, HandOver, EndCall}
 use Rattle.task_laws.specs.declared.positions.Answer.TheVariants.{Ran}
 use Rattle.task_laws.specs.Table.{notifies}
-use Rattle.task_cell.specs.declared.table.Slot.{Slot}
-use Rattle.task_cell.specs.declared.table.Deed.{Deed}
+use Rattle.task_steps.specs.declared.table.Slot.{Slot}
+use Rattle.task_steps.specs.declared.table.Deed.{Deed}
 use Rattle.task_cell.specs.declared.cell.Party.{Party}
-use Rattle.task_cell.specs.declared.cell.ends.PendingEnd.{PendingEnd}
-use Rattle.task_cell.specs.declared.cell.ends.PendingEnd.TheVariants.{Closed, Rescheduled, Idle, Orphaned}
-use Rattle.task_cell.specs.Rule.{IsFuture}
-use Rattle.task_cell.specs.Steps.{future_first, output_first}
-use Rattle.task_cell.specs.Calls.{row, act, StandsWith, GoesWith, Goes}
+use Rattle.task_steps.specs.declared.words.PendingEnd.{PendingEnd}
+use Rattle.task_steps.specs.declared.words.PendingEnd.TheVariants.{Closed, Rescheduled, Idle, Orphaned}
+use Rattle.task_steps.specs.Rule.{IsFuture}
+use Rattle.task_steps.specs.Steps.{future_first, output_first}
+use Rattle.task_cell.specs.Calls.{StandsWith, GoesWith, Goes}
+use Rattle.task_steps.specs.Deeds.{row, act}
 use Rattle.task_cell.specs.RunPaths.{kept, not_claimed, detached, ready, closed_meanwhile, woken_meanwhile, idle, orphaned}
 use Rattle.task_cell.specs.RunCalls.{Rests, Completes, keeps, finds_closed, finds_detached, Stores, ClosesPending, EndsReady, EndsUnready, AnswersPending, stays_pending, clears, EndsPending, is_closed, is_rescheduled, is_idle, is_orphaned}
 use Rattle.task_cell.proofs.Moved as moved

@@ -16,21 +16,23 @@ use Rattle.task_core.specs.declared.moves.Act.{Act}
 use Rattle.task_core.specs.declared.moves.Act.TheVariants.{GiveUpReference, GiveUpLastReference, EmptySlots, DiscardOpen, DiscardClosed, AnswerReady, AnswerPending, DropFuture, StoreOutput, Complete, CompleteDetached, DropOutput, EndClosed, Reschedule, EndIdle, EndCall, EndOrphaned}
 use Rattle.task_core.specs.Rows.{row as row_of, written}
 use Rattle.task_laws.specs.Table.{after_giving_up, notifies}
-use Rattle.task_cell.specs.declared.table.Slot.{Slot}
-use Rattle.task_cell.specs.declared.table.Deed.{Deed}
+use Rattle.task_steps.specs.declared.table.Slot.{Slot}
+use Rattle.task_steps.specs.declared.table.Deed.{Deed}
 use Rattle.task_cell.specs.declared.cell.Party.{Party}
-use Rattle.task_cell.specs.declared.cell.ends.PendingEnd.{PendingEnd}
-use Rattle.task_cell.specs.declared.cell.ends.PendingEnd.TheVariants.{Rescheduled, Idle, Orphaned}
-use Rattle.task_cell.specs.Rule.{IsFuture}
-use Rattle.task_cell.specs.Steps.{future_first, output_first, Makes, Carried}
-use Rattle.task_cell.specs.Scripts.{dropping_output}
-use Rattle.task_cell.specs.RunScripts.{giving_up, emptying, discarding, answering_ready, answering_pending, completing, ending_pending, missing_end, ending_closed}
-use Rattle.task_cell.specs.Calls.{row, act, StandsWith, Stands, GoesWith, Goes}
+use Rattle.task_steps.specs.declared.words.PendingEnd.{PendingEnd}
+use Rattle.task_steps.specs.declared.words.PendingEnd.TheVariants.{Rescheduled, Idle, Orphaned}
+use Rattle.task_steps.specs.Rule.{IsFuture}
+use Rattle.task_steps.specs.Steps.{future_first, output_first, Makes, Carried}
+use Rattle.task_steps.specs.Scripts.{dropping_output}
+use Rattle.task_steps.specs.RunScripts.{giving_up, emptying, discarding, answering_ready, answering_pending, completing, ending_pending, missing_end, ending_closed}
+use Rattle.task_cell.specs.Calls.{StandsWith, Stands, GoesWith, Goes}
+use Rattle.task_steps.specs.Deeds.{row, act}
 use Rattle.task_cell.specs.RunPaths.{leaves_others, leaves_none, DiscardStart, found_open, found_closed}
-use Rattle.task_cell.specs.RunCalls.{GivesUp, not_last, last, Releases, Completes, keeps, finds_closed, finds_detached, AnswersPending, stays_pending, clears, EndsPending, is_closed, is_rescheduled, is_idle, is_orphaned, ending_of}
+use Rattle.task_cell.specs.RunCalls.{GivesUp, not_last, last, Releases, Completes, keeps, finds_closed, finds_detached, AnswersPending, stays_pending, clears, EndsPending, is_closed, is_rescheduled, is_idle, is_orphaned}
+use Rattle.task_steps.specs.Found.{ending_of}
 use Rattle.task_cell.proofs.Moved as moved
 use Rattle.task_cell.proofs.Carried.{keeps_places, took_awaiter, gave_awaiter, took_work, gave_work}
-use Rattle.task_cell.proofs.RunOwed.{given_work, given_free, due_work, closed_already}
+use Rattle.task_steps.proofs.RunOwed.{given_work, given_free, due_work, closed_already}
 
 some_if : (b : Bool) (x : State) → is_some (if b then Some x else None) ≡ b
 some_if true x = refl

@@ -13,13 +13,15 @@ use Rattle.task_core.specs.declared.moves.Act.TheVariants.{EndCall, WakeAwaiter,
 use Rattle.task_laws.specs.declared.positions.Answer.{Answer}
 use Rattle.task_laws.specs.declared.positions.Answer.TheVariants.{Ran, Nothing}
 use Rattle.task_laws.specs.Table.{goes_on, goes_off, notifies}
-use Rattle.task_cell.specs.declared.table.Slot.{Slot}
-use Rattle.task_cell.specs.declared.table.Slot.TheVariants.{Empty}
-use Rattle.task_cell.specs.declared.table.Deed.{Deed}
+use Rattle.task_steps.specs.declared.table.Slot.{Slot}
+use Rattle.task_steps.specs.declared.table.Slot.TheVariants.{Empty}
+use Rattle.task_steps.specs.declared.table.Deed.{Deed}
 use Rattle.task_cell.specs.declared.cell.Party.{Party}
-use Rattle.task_cell.specs.Rule.{IsFuture}
-use Rattle.task_cell.specs.Steps.{future_first}
-use Rattle.task_cell.specs.Calls.{row, act, closing_way, position, holds, way_of, rest_of, StandsWith, Stands, GoesWith, Goes, Notifies, misses, finds_none, takes_awaiter}
+use Rattle.task_steps.specs.Rule.{IsFuture}
+use Rattle.task_steps.specs.Steps.{future_first}
+use Rattle.task_cell.specs.Calls.{position, holds, StandsWith, Stands, GoesWith, Goes, Notifies, misses, finds_none, takes_awaiter}
+use Rattle.task_steps.specs.Deeds.{row, act}
+use Rattle.task_steps.specs.Standing.{closing_way, way_of, rest_of}
 use Rattle.task_cell.specs.RunPaths.{missed, none_there, taken, nobody, woken, rests, DiscardStart, discards, closed_run}
 use Rattle.task_cell.specs.RunCalls.{Releases, TakesDue, takes_none, takes_one, HasTaken, has_none, has_one, Wakes, Rests, Closes, Discards}
 use Rattle.task_cell.proofs.Moved as moved

@@ -8,14 +8,16 @@ use Rattle.task_laws.specs.declared.positions.Closer.TheVariants.{ClosedRun}
 use Rattle.task_core.specs.declared.moves.Act.TheVariants.{TakeUpClosed, StartRun, StartPoll}
 use Rattle.task_core.specs.declared.traits.Poll.{Poll}
 use Rattle.task_core.specs.declared.traits.Poll.TheVariants.{Pending as Unready, Ready as Answered}
-use Rattle.task_cell.specs.declared.table.Slot.{Slot}
-use Rattle.task_cell.specs.declared.table.Deed.{Deed}
-use Rattle.task_cell.specs.declared.table.View.{View}
+use Rattle.task_steps.specs.declared.table.Slot.{Slot}
+use Rattle.task_steps.specs.declared.table.Deed.{Deed}
+use Rattle.task_steps.specs.declared.table.View.{View}
 use Rattle.task_cell.specs.declared.cell.Party.{Party}
-use Rattle.task_cell.specs.Rule.{member, view, fresh, IsFuture}
-use Rattle.task_cell.specs.Steps.{head_of, future_first}
-use Rattle.task_cell.specs.Calls.{row, act, deeds, limit_of, StandsWith, GoesWith, Goes, as_ended}
-use Rattle.task_cell.specs.Seats.{lent_of, taking_back}
+use Rattle.task_steps.specs.Rule.{member, view, fresh, IsFuture}
+use Rattle.task_steps.specs.Steps.{head_of, future_first}
+use Rattle.task_cell.specs.Calls.{deeds, limit_of, StandsWith, GoesWith, Goes}
+use Rattle.task_steps.specs.Deeds.{row, act}
+use Rattle.task_steps.specs.Standing.{as_ended}
+use Rattle.task_steps.specs.Seats.{lent_of, taking_back}
 use Rattle.task_cell.specs.Starts.{polling_view, TakesUp, finds_closed, starts, IsLending}
 use Rattle.task_cell.specs.RunPaths.{RunPath, finds_closed as closed_path, answers_ready, answers_pending}
 use Rattle.task_cell.specs.RunCalls.{Closes, EndsReady, EndsUnready}

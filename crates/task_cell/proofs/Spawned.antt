@@ -11,20 +11,20 @@ use Rattle.task_laws.specs.declared.positions.Position.TheVariants.{At}
 use Rattle.task_laws.specs.declared.positions.Rest.TheVariants.{Runnable, Task}
 use Rattle.task_laws.specs.Machine.{opening as opening_machine}
 use Rattle.task_laws.proofs.Theorem.{laws_of}
-use Rattle.task_cell.specs.declared.table.Slot.{Slot}
-use Rattle.task_cell.specs.declared.table.Member.{Member}
-use Rattle.task_cell.specs.declared.table.Stage.TheVariants.{Laid, Filling, Spawned}
-use Rattle.task_cell.specs.declared.table.View.{View}
+use Rattle.task_steps.specs.declared.table.Slot.{Slot}
+use Rattle.task_steps.specs.declared.table.Member.{Member}
+use Rattle.task_steps.specs.declared.table.Stage.TheVariants.{Laid, Filling, Spawned}
+use Rattle.task_steps.specs.declared.table.View.{View}
 use Rattle.task_cell.specs.declared.cell.Party.{Party}
-use Rattle.task_cell.specs.Rule.{member, view, fresh, laid_view, filling_view, opening_view, IsFuture, IsEmpty, AtHome, Told, Spawning, Running, Ruled}
-use Rattle.task_cell.specs.Steps.{head_of}
+use Rattle.task_steps.specs.Rule.{member, view, fresh, laid_view, filling_view, opening_view, IsFuture, IsEmpty, AtHome, Told, Spawning, Running, Ruled}
+use Rattle.task_steps.specs.Steps.{head_of}
 use Rattle.task_cell.specs.Calls.{deeds, limit_of, StandsWith}
 use Rattle.task_cell.specs.LastWord.{IsLastWord}
-use Rattle.task_cell.specs.Spawns.{opening_runnable, opening_task}
-use Rattle.task_cell.proofs.Told.{inside, runs}
-use Rattle.task_cell.proofs.Facts.{law}
-use Rattle.task_cell.proofs.Allowed.{spawned}
-use Rattle.task_cell.proofs.Seats.{just, leaves, retold, staged_more}
+use Rattle.task_steps.specs.Spawns.{opening_runnable, opening_task}
+use Rattle.task_steps.proofs.Told.{inside, runs}
+use Rattle.task_steps.proofs.Facts.{law}
+use Rattle.task_steps.proofs.Allowed.{spawned}
+use Rattle.task_steps.proofs.Seats.{just, leaves, retold, staged_more}
 
 module _ (F T A : Type 0) (limit : ℕ) where
   abbrev B : Type 0

@@ -11,23 +11,20 @@ use Rattle.task_core.specs.Rows.{written, row}
 use Rattle.task_laws.specs.Table.{Outcome, steps}
 use Rattle.task_laws.specs.Machine.{Machine, scene}
 use Rattle.task_core.proofs.Bits.{state_of_number_of}
-use Rattle.task_cell.specs.declared.table.Slot.{Slot}
-use Rattle.task_cell.specs.declared.table.Deed.{Deed}
-use Rattle.task_cell.specs.declared.table.View.{View}
+use Rattle.task_steps.specs.declared.table.Slot.{Slot}
+use Rattle.task_steps.specs.declared.table.Deed.{Deed}
+use Rattle.task_steps.specs.declared.table.View.{View}
 use Rattle.task_cell.specs.declared.cell.Party.{Party}
-use Rattle.task_cell.specs.Steps.{Makes}
+use Rattle.task_steps.specs.Steps.{Makes}
 use Rattle.task_cell.specs.Calls.{Stands}
-use Rattle.task_cell.specs.StartScripts.{taking_up_closed, starting_run}
+use Rattle.task_steps.specs.StartScripts.{taking_up_closed, starting_run}
 use Rattle.task_cell.specs.Starts.{TakesUp, finds_closed, starts}
-use Rattle.task_cell.proofs.Facts.{queued}
-use Rattle.task_cell.proofs.Acts.{leads_found, row_found}
-use Rattle.task_cell.proofs.Advance.{Finds, stays, takes_future, Steps}
-use Rattle.task_cell.proofs.Allowed.{Owes}
+use Rattle.task_steps.proofs.Numbers.{same_word}
+use Rattle.task_steps.proofs.Facts.{queued}
+use Rattle.task_steps.proofs.Acts.{leads_found, row_found}
+use Rattle.task_steps.proofs.Advance.{Finds, stays, takes_future, Steps}
+use Rattle.task_steps.proofs.Allowed.{Owes}
 use Rattle.task_cell.proofs.Moved.{moved, still}
-
--- the word that a number names is the machine's
-pub same_word : (m w : State) (n : ℕ) → n ≡ number_of w → n ≡ number_of m → m ≡ w
-same_word m w n e f = sym (state_of_number_of m) ∙ (ap state_of (sym f ∙ e) ∙ state_of_number_of w)
 
 module _ (F T A : Type 0) (limit : ℕ) where
   taking_up_if : (b : Bool) (ds : List Deed) (l : List (ℕ × Slot F T A)) (m : Machine) (new : ℕ) → Finds limit (At Runnable) ds [] m → m.word.closed ≡ b → new ≡ number_of m.word

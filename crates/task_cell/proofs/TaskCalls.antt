@@ -10,14 +10,16 @@ use Rattle.task_laws.specs.declared.positions.After.{After}
 use Rattle.task_laws.specs.declared.positions.After.TheVariants.{ThenEnds}
 use Rattle.task_core.specs.declared.moves.Act.TheVariants.{CancelOver, CancelBusy, CancelIdle, GiveUpOutput, DropOutput, DetachOrphan, DetachLast, Detach, EmptySlots, EndCall, HandOver}
 use Rattle.task_laws.specs.Table.{notifies, cancels_after, goes_after, after_giving_up}
-use Rattle.task_cell.specs.declared.table.Slot.{Slot}
-use Rattle.task_cell.specs.declared.table.Deed.{Deed}
+use Rattle.task_steps.specs.declared.table.Slot.{Slot}
+use Rattle.task_steps.specs.declared.table.Deed.{Deed}
 use Rattle.task_cell.specs.declared.cell.Party.{Party}
-use Rattle.task_cell.specs.declared.cell.cancel.Cancelled.{Cancelled}
-use Rattle.task_cell.specs.declared.cell.cancel.Cancelled.TheVariants.{Over, Busy, Idle}
-use Rattle.task_cell.specs.declared.cell.detach.Detached.TheVariants.{Unclaimed, Shared, Last, Orphaned}
-use Rattle.task_cell.specs.Steps.{output_first}
-use Rattle.task_cell.specs.Calls.{row, act, position, StandsWith, Stands, GoesWith, Goes, as_task, as_ended, handed_over, rest_of}
+use Rattle.task_steps.specs.declared.words.Cancelled.{Cancelled}
+use Rattle.task_steps.specs.declared.words.Cancelled.TheVariants.{Over, Busy, Idle}
+use Rattle.task_steps.specs.declared.words.Detached.TheVariants.{Unclaimed, Shared, Last, Orphaned}
+use Rattle.task_steps.specs.Steps.{output_first}
+use Rattle.task_cell.specs.Calls.{position, StandsWith, Stands, GoesWith, Goes}
+use Rattle.task_steps.specs.Deeds.{row, act}
+use Rattle.task_steps.specs.Standing.{as_task, as_ended, handed_over, rest_of}
 use Rattle.task_cell.specs.TaskPaths.{Fits, Notice, CancelPath, is_over, is_busy, is_idle, DetachPath, drops_output, drops_output_last, is_shared, is_last, is_orphaned, Cancels, Detaches, GivesTaskUp}
 use Rattle.task_cell.proofs.Moved.{goes_on, stands, position_is}
 use Rattle.task_cell.proofs.TaskMoves.{Ends, ends}

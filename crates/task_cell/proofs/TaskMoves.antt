@@ -15,22 +15,25 @@ use Rattle.task_laws.specs.declared.positions.Way.TheVariants.{OfCancel}
 use Rattle.task_core.specs.declared.moves.Act.TheVariants.{CancelOver, CancelBusy, CancelIdle, GiveUpOutput, DropOutput, DetachOrphan, DetachLast, Detach, EndCall}
 use Rattle.task_laws.specs.Table.{notifies, cancels_after}
 use Rattle.task_laws.specs.Theorem.{owns_awaiter}
-use Rattle.task_cell.specs.declared.table.Slot.{Slot}
-use Rattle.task_cell.specs.declared.table.Deed.{Deed}
+use Rattle.task_steps.specs.declared.table.Slot.{Slot}
+use Rattle.task_steps.specs.declared.table.Deed.{Deed}
 use Rattle.task_cell.specs.declared.cell.Party.{Party}
-use Rattle.task_cell.specs.declared.cell.cancel.Cancelled.{Cancelled}
-use Rattle.task_cell.specs.declared.cell.detach.Detached.{Detached}
-use Rattle.task_cell.specs.declared.cell.cancel.Cancelled.TheVariants.{Over, Busy, Idle}
-use Rattle.task_cell.specs.declared.cell.detach.Detached.TheVariants.{Unclaimed, Shared, Last, Orphaned}
-use Rattle.task_cell.specs.Rule.{has_work}
-use Rattle.task_cell.specs.Steps.{output_first, Carries, Makes}
-use Rattle.task_cell.specs.Calls.{row, act, position, rest_of, StandsWith, Stands, GoesWith, Goes, as_task}
+use Rattle.task_steps.specs.declared.words.Cancelled.{Cancelled}
+use Rattle.task_steps.specs.declared.words.Detached.{Detached}
+use Rattle.task_steps.specs.declared.words.Cancelled.TheVariants.{Over, Busy, Idle}
+use Rattle.task_steps.specs.declared.words.Detached.TheVariants.{Unclaimed, Shared, Last, Orphaned}
+use Rattle.task_steps.specs.Rule.{has_work}
+use Rattle.task_steps.specs.Steps.{output_first, Carries, Makes}
+use Rattle.task_cell.specs.Calls.{position, StandsWith, Stands, GoesWith, Goes}
+use Rattle.task_steps.specs.Deeds.{row, act}
+use Rattle.task_steps.specs.Standing.{rest_of, as_task}
 use Rattle.task_cell.specs.RunPaths.{NotifyPath, not_due as none_due, missed as miss, none_there, taken, WakePath, nobody, woken}
 use Rattle.task_cell.specs.RunCalls.{TakesDue, takes_none, takes_one, Wakes}
-use Rattle.task_cell.specs.TaskScripts.{looking_over, cancelling, detaching, giving_task_up}
-use Rattle.task_cell.specs.TaskPaths.{Notice, not_due, missed, found_none, woke, closed_by, given_up_by, Cancels, Detaches, GivesTaskUp}
+use Rattle.task_steps.specs.TaskScripts.{looking_over, cancelling, detaching, giving_task_up}
+use Rattle.task_cell.specs.TaskPaths.{Notice, not_due, missed, found_none, woke, Cancels, Detaches, GivesTaskUp}
+use Rattle.task_steps.specs.Found.{closed_by, given_up_by}
 use Rattle.task_cell.proofs.Moved.{moved, goes, goes_on, stands, position_is}
-use Rattle.task_cell.proofs.TaskOwed.{both, over, neither, none_left, last_orphan, closed_claimed, idle_cancel}
+use Rattle.task_steps.proofs.TaskOwed.{both, over, neither, none_left, last_orphan, closed_claimed, idle_cancel}
 
 -- a word that is written only where the test holds
 pub opened : (b : Bool) (v w : State) → Some v ≡ (if b then Some w else None) → (b ≡ true) × (v ≡ w)

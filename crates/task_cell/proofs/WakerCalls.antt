@@ -6,10 +6,12 @@ use Rattle.task_laws.specs.declared.positions.Position.TheVariants.{Deliverer, L
 use Rattle.task_laws.specs.declared.positions.Rest.TheVariants.{Ended}
 use Rattle.task_laws.specs.declared.positions.After.TheVariants.{ThenEnds}
 use Rattle.task_core.specs.declared.moves.Act.TheVariants.{DropWaker, DropLastWaker, OrphanTask, CloseOrphan, EmptySlots, EndCall, HandOver}
-use Rattle.task_cell.specs.declared.table.Deed.{Deed}
+use Rattle.task_steps.specs.declared.table.Deed.{Deed}
 use Rattle.task_cell.specs.declared.cell.Party.{Party}
-use Rattle.task_cell.specs.declared.cell.dropping.Dropped.TheVariants.{Shared, Last, Orphaned}
-use Rattle.task_cell.specs.Calls.{row, act, position, Goes, as_ended, rest_of}
+use Rattle.task_steps.specs.declared.words.Dropped.TheVariants.{Shared, Last, Orphaned}
+use Rattle.task_cell.specs.Calls.{position, Goes}
+use Rattle.task_steps.specs.Deeds.{row, act}
+use Rattle.task_steps.specs.Standing.{as_ended, rest_of}
 use Rattle.task_cell.specs.WakerPaths.{WakerDropPath, leaves_others, leaves_none, leaves_orphan, DropsWaker}
 use Rattle.task_cell.proofs.Moved.{goes_on}
 use Rattle.task_cell.proofs.TaskMoves.{ends}

@@ -15,28 +15,32 @@ use Rattle.task_laws.specs.declared.positions.Position.{Position}
 use Rattle.task_laws.specs.declared.positions.Position.TheVariants.{At, Deliverer, Emptier, OrphanHolder}
 use Rattle.task_core.specs.declared.moves.Act.{Act}
 use Rattle.task_core.specs.declared.moves.Act.TheVariants.{GainReference, FindLimit, RefuseGain, DropWaker, DropLastWaker, OrphanTask, CloseOrphan, WakeOver, WakeScheduled, WakeRunning, WakeIdle, EndCall}
-use Rattle.task_cell.specs.declared.table.Slot.{Slot}
-use Rattle.task_cell.specs.declared.table.Deed.{Deed}
-use Rattle.task_cell.specs.declared.table.Member.{Member}
-use Rattle.task_cell.specs.declared.table.View.{View}
+use Rattle.task_steps.specs.declared.table.Slot.{Slot}
+use Rattle.task_steps.specs.declared.table.Deed.{Deed}
+use Rattle.task_steps.specs.declared.table.Member.{Member}
+use Rattle.task_steps.specs.declared.table.View.{View}
 use Rattle.task_cell.specs.declared.cell.Party.{Party}
-use Rattle.task_cell.specs.declared.cell.dropping.Dropped.TheVariants.{Shared, Last, Orphaned}
-use Rattle.task_cell.specs.Rule.{member, view, fresh, Ruled}
-use Rattle.task_cell.specs.Steps.{head_of, acted, Carried, Makes}
-use Rattle.task_cell.specs.Knows.{Knows}
-use Rattle.task_cell.specs.Calls.{row, act, deeds, limit_of, after, IsNew, Stands, Goes, as_waker}
-use Rattle.task_cell.specs.WakerScripts.{others_left, looking_for_room, gaining, refusing_gain, finding_over, waking_task, dropping_waker, closing_orphan}
-use Rattle.task_cell.specs.Wakers.{as_deliverer, StandsBeside, MayWake, GoesBeside, may_wake_beside, may_gain_beside, without_newest, newest}
-use Rattle.task_cell.specs.WakerPaths.{is_gained, finds_limit, is_over, is_scheduled, is_running, is_idle, GainsBeside, WakesBeside, Gains, gains_none, gains_one, WakesTask, makes_none, makes_one, dropped_by, DropsWaker}
-use Rattle.task_cell.proofs.Allowed.{Owes}
-use Rattle.task_cell.proofs.Known.{steps_knowing, steps_or_misses_knowing}
-use Rattle.task_cell.proofs.Acts.{row_found}
+use Rattle.task_steps.specs.declared.words.Dropped.TheVariants.{Shared, Last, Orphaned}
+use Rattle.task_steps.specs.Rule.{member, view, fresh, Ruled}
+use Rattle.task_steps.specs.Steps.{head_of, acted, Carried, Makes}
+use Rattle.task_steps.specs.Knows.{Knows}
+use Rattle.task_cell.specs.Calls.{deeds, limit_of, IsNew, Stands, Goes}
+use Rattle.task_steps.specs.Deeds.{row, act, after}
+use Rattle.task_steps.specs.Standing.{as_waker, as_deliverer}
+use Rattle.task_steps.specs.WakerScripts.{others_left, looking_for_room, gaining, refusing_gain, finding_over, waking_task, dropping_waker, closing_orphan}
+use Rattle.task_cell.specs.Wakers.{StandsBeside, MayWake, GoesBeside}
+use Rattle.task_steps.specs.Beside.{may_wake_beside, may_gain_beside, without_newest, newest}
+use Rattle.task_cell.specs.WakerPaths.{is_gained, finds_limit, is_over, is_scheduled, is_running, is_idle, GainsBeside, WakesBeside, Gains, gains_none, gains_one, WakesTask, makes_none, makes_one, DropsWaker}
+use Rattle.task_steps.specs.Found.{dropped_by}
+use Rattle.task_steps.proofs.Allowed.{Owes}
+use Rattle.task_steps.proofs.Known.{steps_knowing, steps_or_misses_knowing}
+use Rattle.task_steps.proofs.Acts.{row_found}
 use Rattle.task_cell.proofs.Carried.{keeps_places}
 use Rattle.task_cell.proofs.Moved.{moved, goes}
 use Rattle.task_cell.proofs.TaskMoves.{Same}
-use Rattle.task_cell.proofs.TaskOwed.{both, over}
-use Rattle.task_cell.proofs.WakerSeats.{others_are, newest_is}
-use Rattle.task_cell.proofs.WakerOwed.{looks_for_room, gains, third, fourth}
+use Rattle.task_steps.proofs.TaskOwed.{both, over}
+use Rattle.task_steps.proofs.WakerSeats.{others_are, newest_is}
+use Rattle.task_steps.proofs.WakerOwed.{looks_for_room, gains, third, fourth}
 
 never : {P : Type 0} → false ≡ true → P
 never e = absurd (cc)

@@ -11,24 +11,13 @@ use Rattle.task_laws.specs.declared.positions.Answer.TheVariants.{Nothing}
 use Rattle.task_laws.specs.declared.positions.Way.{Way}
 use Rattle.task_laws.specs.declared.positions.Way.TheVariants.{OfRun, OfDrop}
 use Rattle.task_laws.specs.declared.positions.Closer.TheVariants.{DroppedRunnable}
-use Rattle.task_cell.specs.declared.table.Slot.{Slot}
-use Rattle.task_cell.specs.declared.table.Deed.{Deed}
+use Rattle.task_steps.specs.declared.table.Slot.{Slot}
+use Rattle.task_steps.specs.declared.table.Deed.{Deed}
 use Rattle.task_cell.specs.declared.cell.Party.{Party}
-use Rattle.task_cell.specs.Rule.{member, view, fresh}
-use Rattle.task_cell.specs.Steps.{head_of}
-
--- a row or a load, with the word that it found
-abbrev pub row : Act → State → Deed
-row a w = record { act = a; found = Some w }
-
--- a private act
-abbrev pub act : Act → Deed
-act a = record { act = a; found = None }
-
--- a list of deeds, the newest first, after the deeds of a path, the oldest first
-abbrev pub after : List Deed → List Deed → List Deed
-after [] l = l
-after (d ∷ path) l = after path (d ∷ l)
+use Rattle.task_steps.specs.Rule.{member, view, fresh}
+use Rattle.task_steps.specs.Deeds.{row, act, after}
+use Rattle.task_steps.specs.Standing.{way_of}
+use Rattle.task_steps.specs.Steps.{head_of}
 
 module _ {F T A : Type 0} where
   -- what the party has done, the newest first
@@ -60,23 +49,6 @@ module _ {F T A : Type 0} where
   abbrev pub Goes : List Deed → Position → Party F T A → Party F T A → Type 0
   Goes path at p q = GoesWith path at [] p q
 
--- in which call the awaiter is taken that stands when a future is dropped unpolled
-abbrev pub closing_way : Position → Way
-closing_way (FutureInHand DroppedRunnable) = OfDrop
-closing_way _ = OfRun
-
--- the call in which a notifier takes the awaiter, or has it
-abbrev pub way_of : Position → Way
-way_of (Notifier way) = way
-way_of (AwaiterInHand i way) = way
-way_of _ = OfRun
-
--- where a party stands once its call has ended
-abbrev pub rest_of : Position → Position
-rest_of (Leaving answer r) = At r
-rest_of (Answering i answer) = At (Task i)
-rest_of p = p
-
 module _ {F T A : Type 0} where
   -- a party of the same cell, of its own, that has done nothing yet
   pub record IsNew (at : Position) (p q : Party F T A) : Type 0 where
@@ -89,35 +61,6 @@ module _ {F T A : Type 0} where
     finds_none : (w v : State) → GoesWith (row BeginNotify w ∷ act TakeAwaiter ∷ row EndNotify v ∷ []) (goes_on None (way_of (position p))) (holds p) p q → Notifies p q None
     takes_awaiter : (w v : State) (i : ℕ) (a : A) → GoesWith (row BeginNotify w ∷ act TakeAwaiter ∷ row EndNotify v ∷ []) (goes_on (Some i) (way_of (position p))) (holds p) p q → Notifies p q (Some a)
 
--- a party that hands a Runnable over: a deliverer, or a Runnable that is scheduled again
-abbrev pub hands_over : Position → Bool
-hands_over (At Runnable) = true
-hands_over (Deliverer woken next) = true
-hands_over p = false
-
--- where it stands once it has handed the Runnable over
-abbrev pub handed_over : Position → Position
-handed_over (At Runnable) = Leaving Nothing Ended
-handed_over (Deliverer woken next) = goes_after next
-handed_over p = p
-
 abbrev pub is_empty : {X : Type 0} → List X → Bool
 is_empty [] = true
 is_empty (x ∷ xs) = false
-
--- the positions of a handle between two calls
-abbrev pub as_runnable : Position
-as_runnable = At Runnable
-
-abbrev pub as_waker : Position
-as_waker = At Waker
-
-abbrev pub as_task : ℕ → Position
-as_task n = At (Task n)
-
-abbrev pub as_ended : Position
-as_ended = At Ended
-
-abbrev pub is_task : Position → Bool
-is_task (At (Task n)) = true
-is_task _ = false

@@ -6,7 +6,7 @@ use Rattle.task_core.specs.Word.{number_of}
 use Rattle.task_laws.specs.Machine.{Machine, run}
 use Rattle.task_laws.specs.Theorem.{Laws}
 use Rattle.task_cell.specs.declared.cell.Party.{Party}
-use Rattle.task_cell.specs.Rule.{Entry, Reaches, steps_of, deeds_of, Among}
+use Rattle.task_steps.specs.Rule.{Entry, Reaches, steps_of, deeds_of, Among}
 use Rattle.task_cell.specs.Calls.{deeds, position}
 
 -- an interleaving of the machine ends in this word, all its laws hold of it, and in it the party did what its list says and stands where it stands

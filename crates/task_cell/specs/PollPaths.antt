@@ -9,12 +9,14 @@ use Rattle.task_laws.specs.declared.positions.Position.TheVariants.{At, Notifier
 use Rattle.task_laws.specs.declared.positions.Rest.TheVariants.{Task}
 use Rattle.task_core.specs.declared.moves.Act.TheVariants.{Look, ClaimOutput, HandOutOutput, CloneAwaiter, RefuseClone, StoreAwaiter, TakeAwaiter, FindNotify, BeginRegister, EndRegister, EndRegisterNotified, DropAwaiter, WakeAwaiter, EndCall, BeginNotify, MissNotify, EndNotify}
 use Rattle.task_laws.specs.Table.{first_look, second_look, after_storing}
-use Rattle.task_cell.specs.declared.table.Slot.{Slot}
-use Rattle.task_cell.specs.declared.table.Deed.{Deed}
+use Rattle.task_steps.specs.declared.table.Slot.{Slot}
+use Rattle.task_steps.specs.declared.table.Deed.{Deed}
 use Rattle.task_cell.specs.declared.cell.Party.{Party}
-use Rattle.task_cell.specs.Rule.{Waits as SlotWaits}
-use Rattle.task_cell.specs.Calls.{row, act, Goes, GoesWith, as_task, position}
-use Rattle.task_cell.specs.PollScripts.{has_output, has_ended, has_to_wait}
+use Rattle.task_steps.specs.Rule.{Waits as SlotWaits}
+use Rattle.task_cell.specs.Calls.{Goes, GoesWith, position}
+use Rattle.task_steps.specs.Deeds.{row, act}
+use Rattle.task_steps.specs.Standing.{as_task, poll_number}
+use Rattle.task_steps.specs.PollScripts.{has_output, has_ended, has_to_wait}
 
 -- the awaiter of an older poll is dropped, where one stood
 abbrev pub dropped_if : Bool → List Deed
@@ -72,27 +74,6 @@ abbrev pub IfOutput : {T E : Type 0} → TaskPoll (Result T E) → (T → Type 0
 IfOutput (Ready answer) P = IfOk answer P
 IfOutput Waits P = ⊤
 IfOutput NoMemory P = ⊤
-
--- the number of the poll that a party is in, or begins
-abbrev pub poll_number : Position → ℕ
-poll_number (At (Task n)) = n + 1
-poll_number (Notifier (OfPoll i)) = i
-poll_number (Notifier (OfClaim i)) = i
-poll_number (Registrar i) = i
-poll_number (RefusedClone i) = i
-poll_number (OldAwaiterInHand i old) = i
-poll_number (Registered i) = i
-poll_number (CloneInHand i) = i
-poll_number (Looking i) = i
-poll_number (Claiming i) = i
-poll_number (Claimer i) = i
-poll_number (Answering i answer) = i
-poll_number p = 0
-
--- a poll that claims the output at once, or after a look
-abbrev pub claims_from : Bool → ℕ → Position
-claims_from false n = as_task n
-claims_from true i = Claiming i
 
 module _ {F T A : Type 0} where
   -- the first look of a poll

@@ -10,18 +10,15 @@ use Rattle.task_laws.specs.declared.positions.After.TheVariants.{ThenEnds}
 use Rattle.task_laws.specs.declared.positions.Way.TheVariants.{OfRun}
 use Rattle.task_laws.specs.declared.positions.Way.{Way}
 use Rattle.task_laws.specs.Table.{after_giving_up, notifies, goes_on, goes_off}
-use Rattle.task_cell.specs.declared.table.Slot.{Slot}
-use Rattle.task_cell.specs.declared.table.Deed.{Deed}
+use Rattle.task_steps.specs.declared.table.Slot.{Slot}
+use Rattle.task_steps.specs.declared.table.Deed.{Deed}
 use Rattle.task_cell.specs.declared.cell.Party.{Party}
-use Rattle.task_cell.specs.declared.cell.ends.PendingEnd.{PendingEnd}
-use Rattle.task_cell.specs.declared.cell.ends.PendingEnd.TheVariants.{Closed, Rescheduled, Idle, Orphaned}
-use Rattle.task_cell.specs.Steps.{output_first}
-use Rattle.task_cell.specs.Calls.{row, act, Stands, Goes, GoesWith}
+use Rattle.task_steps.specs.declared.words.PendingEnd.{PendingEnd}
+use Rattle.task_steps.specs.declared.words.PendingEnd.TheVariants.{Closed, Rescheduled, Idle, Orphaned}
+use Rattle.task_steps.specs.Steps.{output_first}
+use Rattle.task_cell.specs.Calls.{Stands, Goes, GoesWith}
+use Rattle.task_steps.specs.Deeds.{row, act}
 use Rattle.task_cell.specs.RunPaths.{ReleasePath, NotifyPath, WakePath, RestPath, StorePath, ClosedRunPath, ReadyPath, PendingPath, DiscardPath}
-
--- how a run ends without an output that finds this word, of an open task
-abbrev pub ending_of : State → PendingEnd
-ending_of w = if w.scheduled then Rescheduled else (if nat_lt 1 w.references || w.task then Idle else Orphaned)
 
 module _ {F T A : Type 0} where
   -- a reference was given up, and whether it was the last handle

@@ -2,8 +2,8 @@
 use Rattle.std.specs.Prelude.{◌≡◌, ◌||◌, nat_lt, Bool, true, false, List, [], ◌∷◌, ◌++◌}
 use Rattle.task_core.specs.Word.{State}
 use Rattle.task_core.specs.declared.moves.Act.TheVariants.{GiveUpReference, GiveUpLastReference, EmptySlots, DiscardOpen, DiscardClosed, DropFuture, Unschedule, MissNotify, BeginNotify, TakeAwaiter, EndNotify, WakeAwaiter, EndCall, AnswerReady, StoreOutput, Complete, CompleteDetached, DropOutput, AnswerPending, EndClosed, Reschedule, HandOver, EndIdle, EndOrphaned}
-use Rattle.task_cell.specs.declared.table.Deed.{Deed}
-use Rattle.task_cell.specs.Calls.{row, act}
+use Rattle.task_steps.specs.declared.table.Deed.{Deed}
+use Rattle.task_steps.specs.Deeds.{row, act}
 use Rattle.task_core.specs.declared.moves.Act.TheVariants.{TakeUpClosed, StartRun, StartPoll}
 use Rattle.task_core.specs.declared.traits.Poll.{Poll}
 use Rattle.task_core.specs.declared.traits.Poll.TheVariants.{Pending, Ready}

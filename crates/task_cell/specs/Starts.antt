@@ -5,12 +5,13 @@ use Rattle.task_laws.specs.declared.positions.Position.TheVariants.{At, FutureIn
 use Rattle.task_laws.specs.declared.positions.Rest.TheVariants.{Lent}
 use Rattle.task_laws.specs.declared.positions.Closer.TheVariants.{ClosedRun}
 use Rattle.task_core.specs.declared.moves.Act.TheVariants.{TakeUpClosed, StartRun, StartPoll}
-use Rattle.task_cell.specs.declared.table.Slot.{Slot}
-use Rattle.task_cell.specs.declared.table.View.{View}
+use Rattle.task_steps.specs.declared.table.Slot.{Slot}
+use Rattle.task_steps.specs.declared.table.View.{View}
 use Rattle.task_cell.specs.declared.cell.Party.{Party}
-use Rattle.task_cell.specs.Rule.{member, view, fresh, IsFuture}
-use Rattle.task_cell.specs.Steps.{future_first}
-use Rattle.task_cell.specs.Calls.{row, act, deeds, limit_of, GoesWith}
+use Rattle.task_steps.specs.Rule.{member, view, fresh, IsFuture}
+use Rattle.task_steps.specs.Steps.{future_first}
+use Rattle.task_cell.specs.Calls.{deeds, limit_of, GoesWith}
+use Rattle.task_steps.specs.Deeds.{row, act}
 
 module _ {F T A : Type 0} where
   -- the seat of a run that has started: its own party, and the waker that its poll is lent

@@ -9,16 +9,18 @@ use Rattle.task_laws.specs.declared.positions.After.TheVariants.{ThenEnds}
 use Rattle.task_laws.specs.declared.positions.Position.TheVariants.{Deliverer, Emptier, OutputCloser}
 use Rattle.task_core.specs.declared.moves.Act.{Act}
 use Rattle.task_core.specs.declared.moves.Act.TheVariants.{CancelOver, CancelBusy, CancelIdle, GiveUpOutput, DropOutput, DetachOrphan, DetachLast, Detach, EmptySlots, EndCall, HandOver, BeginNotify, MissNotify, TakeAwaiter, EndNotify, WakeAwaiter}
-use Rattle.task_cell.specs.declared.table.Slot.{Slot}
-use Rattle.task_cell.specs.declared.table.Deed.{Deed}
+use Rattle.task_steps.specs.declared.table.Slot.{Slot}
+use Rattle.task_steps.specs.declared.table.Deed.{Deed}
 use Rattle.task_cell.specs.declared.cell.Party.{Party}
-use Rattle.task_cell.specs.declared.cell.cancel.Cancelled.{Cancelled}
-use Rattle.task_cell.specs.declared.cell.cancel.Cancelled.TheVariants.{Over, Busy, Idle}
-use Rattle.task_cell.specs.declared.cell.detach.Detached.{Detached}
-use Rattle.task_cell.specs.declared.cell.detach.Detached.TheVariants.{Unclaimed, Shared, Last, Orphaned}
-use Rattle.task_cell.specs.Rule.{IsOutput}
-use Rattle.task_cell.specs.Steps.{output_first}
-use Rattle.task_cell.specs.Calls.{row, act, GoesWith, Goes, as_ended, as_task}
+use Rattle.task_steps.specs.declared.words.Cancelled.{Cancelled}
+use Rattle.task_steps.specs.declared.words.Cancelled.TheVariants.{Over, Busy, Idle}
+use Rattle.task_steps.specs.declared.words.Detached.{Detached}
+use Rattle.task_steps.specs.declared.words.Detached.TheVariants.{Unclaimed, Shared, Last, Orphaned}
+use Rattle.task_steps.specs.Rule.{IsOutput}
+use Rattle.task_steps.specs.Steps.{output_first}
+use Rattle.task_cell.specs.Calls.{GoesWith, Goes}
+use Rattle.task_steps.specs.Deeds.{row, act}
+use Rattle.task_steps.specs.Standing.{as_ended, as_task}
 
 -- the table has the row for this word; no limit is asked for
 abbrev pub Fits : Act → State → Type 0
@@ -44,14 +46,6 @@ pub data DetachPath (Scheduled : Type 0) : List Deed → Type 0 where
   is_shared : (w : State) → Fits Detach w → DetachPath Scheduled (row Detach w ∷ act EndCall ∷ [])
   is_last : (w : State) → Fits DetachLast w → DetachPath Scheduled (row DetachLast w ∷ act EmptySlots ∷ act EndCall ∷ [])
   is_orphaned : (w : State) → Fits DetachOrphan w → Scheduled → DetachPath Scheduled (row DetachOrphan w ∷ act HandOver ∷ act EndCall ∷ [])
-
--- what a cancel found that wrote on this word
-abbrev pub closed_by : State → Cancelled
-closed_by w = if w.scheduled || w.running then Busy w.awaiter else Idle w.awaiter
-
--- .. and a detach
-abbrev pub given_up_by : State → Detached
-given_up_by w = if w.completed && not w.closed then Unclaimed else (if nat_lt 0 w.references then Shared else (if w.closed then Last else Orphaned))
 
 module _ {F T A : Type 0} where
   -- the row of a cancel, by a Task that has begun n polls

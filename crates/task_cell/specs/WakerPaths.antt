@@ -5,17 +5,19 @@ use Rattle.task_laws.specs.declared.positions.Answer.TheVariants.{Nothing}
 use Rattle.task_laws.specs.declared.positions.Rest.{Rest}
 use Rattle.task_laws.specs.declared.positions.Position.TheVariants.{Emptier, OrphanHolder}
 use Rattle.task_core.specs.declared.moves.Act.TheVariants.{GainReference, FindLimit, DropWaker, DropLastWaker, OrphanTask, CloseOrphan, WakeOver, WakeScheduled, WakeRunning, WakeIdle, EmptySlots, HandOver, EndCall}
-use Rattle.task_cell.specs.declared.table.Slot.{Slot}
-use Rattle.task_cell.specs.declared.table.Deed.{Deed}
-use Rattle.task_cell.specs.declared.table.Member.{Member}
+use Rattle.task_steps.specs.declared.table.Slot.{Slot}
+use Rattle.task_steps.specs.declared.table.Deed.{Deed}
+use Rattle.task_steps.specs.declared.table.Member.{Member}
 use Rattle.task_cell.specs.declared.cell.Party.{Party}
-use Rattle.task_cell.specs.declared.cell.dropping.Dropped.{Dropped}
-use Rattle.task_cell.specs.declared.cell.dropping.Dropped.TheVariants.{Shared, Last, Orphaned}
-use Rattle.task_cell.specs.Rule.{fresh}
-use Rattle.task_cell.specs.Calls.{row, act, IsNew, Goes, GoesWith, as_waker, as_ended}
+use Rattle.task_steps.specs.declared.words.Dropped.{Dropped}
+use Rattle.task_steps.specs.declared.words.Dropped.TheVariants.{Shared, Last, Orphaned}
+use Rattle.task_steps.specs.Rule.{fresh}
+use Rattle.task_cell.specs.Calls.{IsNew, Goes, GoesWith}
+use Rattle.task_steps.specs.Deeds.{row, act}
+use Rattle.task_steps.specs.Standing.{as_waker, as_ended, as_deliverer}
 use Rattle.task_cell.specs.TaskPaths.{Fits}
-use Rattle.task_cell.specs.Wakers.{GoesBeside, as_deliverer}
-use Rattle.task_cell.specs.WakerScripts.{others_left}
+use Rattle.task_cell.specs.Wakers.{GoesBeside}
+use Rattle.task_steps.specs.WakerScripts.{others_left}
 
 -- a gain, and whether there is a new waker: the count was below the limit, or at it
 pub data GainPath (limit : ℕ) : Bool → List Deed → Type 0 where
@@ -34,10 +36,6 @@ pub data WakerDropPath (Scheduled : Type 0) : List Deed → Type 0 where
   leaves_others : (w : State) → others_left w ≡ true → WakerDropPath Scheduled (row DropWaker w ∷ act EndCall ∷ [])
   leaves_none : (w : State) → others_left w ≡ false → is_open w ≡ false → WakerDropPath Scheduled (row DropLastWaker w ∷ act EmptySlots ∷ act EndCall ∷ [])
   leaves_orphan : (w v : State) → others_left w ≡ false → is_open w ≡ true → Scheduled → WakerDropPath Scheduled (row OrphanTask w ∷ row CloseOrphan v ∷ act HandOver ∷ act EndCall ∷ [])
-
--- what a drop found that took its reference off this word
-abbrev pub dropped_by : State → Dropped
-dropped_by w = if others_left w then Shared else (if is_open w then Orphaned else Last)
 
 module _ {F T A : Type 0} where
   -- a gain, and the new waker

@@ -10,37 +10,19 @@ use Rattle.task_laws.specs.declared.positions.After.TheVariants.{ThenEnds}
 use Rattle.task_laws.specs.declared.positions.Answer.TheVariants.{Nothing}
 use Rattle.task_core.specs.declared.moves.Act.{Act}
 use Rattle.task_laws.specs.Machine.{polls_future}
-use Rattle.task_cell.specs.declared.table.Slot.{Slot}
-use Rattle.task_cell.specs.declared.table.Deed.{Deed}
-use Rattle.task_cell.specs.declared.table.Member.{Member}
-use Rattle.task_cell.specs.declared.table.View.{View}
+use Rattle.task_steps.specs.declared.table.Slot.{Slot}
+use Rattle.task_steps.specs.declared.table.Deed.{Deed}
+use Rattle.task_steps.specs.declared.table.Member.{Member}
+use Rattle.task_steps.specs.declared.table.View.{View}
 use Rattle.task_cell.specs.declared.cell.Party.{Party}
-use Rattle.task_cell.specs.Rule.{member, view, fresh}
-use Rattle.task_cell.specs.Steps.{head_of, tail_of}
-use Rattle.task_cell.specs.Calls.{deeds, limit_of, after}
-use Rattle.task_cell.specs.Knows.{known, known_exchanged}
+use Rattle.task_steps.specs.Rule.{member, view, fresh}
+use Rattle.task_steps.specs.Beside.{may_gain_beside, may_wake_beside}
+use Rattle.task_steps.specs.Steps.{head_of, tail_of}
+use Rattle.task_cell.specs.Calls.{deeds, limit_of}
+use Rattle.task_steps.specs.Deeds.{after}
+use Rattle.task_steps.specs.Knows.{known, known_exchanged}
 use Rattle.task_cell.specs.declared.cell.waker.Hold.{Hold}
 use Rattle.task_cell.specs.declared.cell.waker.Hold.TheVariants.{Owned, Lent as Borrowed}
-
--- the deliverer that a wake of an idle task makes
-abbrev pub as_deliverer : Position
-as_deliverer = Deliverer false (ThenEnds Nothing)
-
--- the first of these parties polls the future
-abbrev pub polls_first : List Member → Bool
-polls_first [] = false
-polls_first (u ∷ us) = polls_future u.at
-
--- who may wake: a waker, and one that is lent while its run polls beside it
-abbrev pub may_wake_beside : Rest → List Member → Bool
-may_wake_beside Waker us = true
-may_wake_beside Lent us = polls_first us
-may_wake_beside _ us = false
-
--- who may gain a reference: a Runnable too
-abbrev pub may_gain_beside : Rest → List Member → Bool
-may_gain_beside Runnable us = true
-may_gain_beside r us = may_wake_beside r us
 
 module _ {F T A : Type 0} where
   -- the party stands here, with these parties beside it on its seat
@@ -58,36 +40,6 @@ module _ {F T A : Type 0} where
   pub record GoesBeside (path : List Deed) (r : Rest) (us : List Member) (p q : Party F T A) : Type 0 where
     pub cell : q.seat.table_id ≡ p.seat.table_id
     pub is : q.seat.me ≡ (view (limit_of p) (member (At r) (after path (deeds p)) ∷ us), [])
-
-  -- what a step tells whose acts depend on the limit that the seat knows
-  abbrev pub limited : (ℕ → State → List Act) → Step (Slot F T A) → Me (Slot F T A) View → ℕ → Me (Slot F T A) View → Type 0
-  limited acts st m r m' = known (acts m.0.limit) st m r m'
-
-  -- .. and a compare and exchange, where it misses
-  abbrev pub limited_exchanged : (State → List Act) → (ℕ → State → List Act) → Step (Slot F T A) → Me (Slot F T A) View → ℕ → Me (Slot F T A) View → Type 0
-  limited_exchanged acts missed st m r m' = known_exchanged acts (missed m.0.limit) st m r m'
-
-  -- the seat forgets what its first party did
-  abbrev pub forgetting : Step (Slot F T A) → Me (Slot F T A) View → ℕ → Me (Slot F T A) View → Type 0
-  forgetting st m r m' = m' ≡ (view m.0.limit (fresh (head_of m.0.members).at ∷ tail_of m.0.members), m.1)
-
--- all but the newest party
-abbrev pub others : List Member → List Member
-others [] = []
-others (u ∷ []) = []
-others (u ∷ w ∷ us) = u ∷ others (w ∷ us)
-
-abbrev pub newest_of : List Member → List Member
-newest_of [] = []
-newest_of (u ∷ []) = u ∷ []
-newest_of (u ∷ w ∷ us) = newest_of (w ∷ us)
-
--- the newest party of a seat gets a seat of its own
-abbrev pub without_newest : View → View
-without_newest v = view v.limit (others v.members)
-
-abbrev pub newest : View → View
-newest v = view v.limit (newest_of v.members)
 
 -- the seat of a waker at rest
 abbrev pub waker_view : Hold → View → View

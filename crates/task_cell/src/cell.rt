@@ -1,20 +1,18 @@
 //! The cell, a party of it, which must be spent, and the handles that the cell hands out.
 ghost use Rattle.std.specs.Prelude.{◌≡◌, ℕ, ◌<◌, [], ◌∷◌};
 ghost use Rattle.std.specs.Arc.{arc_value};
-ghost use Rattle.task_cell.specs.Rule.{view, fresh};
-ghost use Rattle.task_cell.specs.Calls.{limit_of, position, Stands, as_runnable, as_ended};
-ghost use Rattle.task_cell.specs.Holders.{roost};
+ghost use Rattle.task_steps.specs.Rule.{view, fresh};
+ghost use Rattle.task_cell.specs.Calls.{limit_of, position, Stands};
+ghost use Rattle.task_steps.specs.Standing.{as_runnable, as_ended};
+ghost use Rattle.task_steps.specs.Holders.{roost};
 ghost use Rattle.task_cell.specs.Wakers.{runnable_view};
 
-use self::holder::SeatHolder;
-use crate::table::{Kept, Law, Slot, View};
-use atomic_table::{Seat, Table};
+use atomic_table::Seat;
 use std::alloc::{Allocator, Global};
 use std::sync::{Arc, Wait};
 use task_core::{Wake, Yields};
-
-/// The table of a cell: one word, and a place each for the future, the output and the awaiter.
-pub type Board<F, T, A, B> = Table<Slot<F, T, A>, View, u64, Law, B>;
+use task_steps::holder::SeatHolder;
+use task_steps::table::{Board, Kept, Slot, View};
 
 /// What the handles of one task share: the word and the places, the schedule value and the metadata.
 #[derive(Drop)]
@@ -156,9 +154,7 @@ mod discard;
 mod dropping;
 mod ends;
 mod gain;
-pub(crate) mod holder;
 mod lent;
-pub(crate) mod lock;
 mod poll;
 mod reference;
 mod register;

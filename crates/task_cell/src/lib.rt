@@ -3,9 +3,7 @@
 
 pub mod cell;
 pub mod handles;
-pub mod steps;
-pub mod table;
 
 pub use cell::{Cell, Party, Runnable, TaskWaker};
 pub use handles::{ParkedRunnable, ParkedWaker};
-pub use table::Kept;
+pub use task_steps::table::Kept;

@@ -6,17 +6,19 @@ ghost use Rattle.task_laws.specs.declared.positions.Position.TheVariants.{Notifi
 ghost use Rattle.task_core.specs.declared.moves.Act.TheVariants.{WakeAwaiter, DropAwaiter, EndCall};
 ghost use Rattle.task_laws.specs.declared.positions.Answer.{Answer};
 ghost use Rattle.task_laws.specs.Table.{goes_off, may_drop, notifies};
-ghost use Rattle.task_cell.specs.declared.table.Slot.{Slot};
+ghost use Rattle.task_steps.specs.declared.table.Slot.{Slot};
 ghost use Rattle.task_cell.specs.RunCalls.{TakesDue, HasTaken, Wakes};
-ghost use Rattle.task_cell.specs.Calls.{Stands, StandsWith, Goes, GoesWith, Notifies, act, position, holds, way_of, rest_of};
+ghost use Rattle.task_cell.specs.Calls.{Stands, StandsWith, Goes, GoesWith, Notifies, position, holds};
+ghost use Rattle.task_steps.specs.Deeds.{act};
+ghost use Rattle.task_steps.specs.Standing.{way_of, rest_of};
 
 use super::{Cell, Party};
-use crate::steps::Always;
-use crate::steps::common::{Dropping, Ending, ReleasingAwaiter, TakingAwaiter, Waking};
-use crate::table::{Kept, Slot};
 use std::alloc::Allocator;
 use task_core::word::{AWAITER, NOTIFYING, Word};
 use task_core::{Wake, Yields};
+use task_steps::Always;
+use task_steps::common::{Dropping, Ending, ReleasingAwaiter, TakingAwaiter, Waking};
+use task_steps::table::{Kept, Slot};
 
 impl<R: Drop, F: Yields, Q: Drop, M: Drop, A: Drop, B: Allocator> Cell<R, F, Q, M, A, B> {
     // Takes the stored awaiter, unless another party is at it. Both steps are single fetches, never tried again.

@@ -5,47 +5,22 @@ ghost use Rattle.task_core.specs.Word.{is_open};
 ghost use Rattle.task_laws.specs.Table.{notifies};
 ghost use Rattle.task_laws.specs.declared.positions.Way.TheVariants.{OfCancel};
 ghost use Rattle.task_core.specs.declared.moves.Act.TheVariants.{EndCall};
-ghost use Rattle.task_cell.specs.declared.table.Deed.{Deed};
-ghost use Rattle.task_cell.specs.TaskScripts.{cancelled};
-ghost use Rattle.task_cell.specs.TaskPaths.{closed_by, Cancels, Notice, CancelPath};
-ghost use Rattle.task_cell.specs.Calls.{Stands, Goes, act, position, limit_of, as_task};
+ghost use Rattle.task_steps.specs.declared.table.Deed.{Deed};
+ghost use Rattle.task_steps.specs.TaskScripts.{cancelled};
+ghost use Rattle.task_cell.specs.TaskPaths.{Cancels, Notice, CancelPath};
+ghost use Rattle.task_steps.specs.Found.{closed_by};
+ghost use Rattle.task_cell.specs.Calls.{Stands, Goes, position, limit_of};
+ghost use Rattle.task_steps.specs.Deeds.{act};
+ghost use Rattle.task_steps.specs.Standing.{as_task};
 
 use super::{Cell, Party, Runnable};
-use crate::steps::task::{Cancelling, Knowing, KnowingExchange, LookingOver};
-use crate::table::Kept;
 use std::alloc::Allocator;
 use std::sync::{Arc, Wait};
 use task_core::word::Word;
 use task_core::{Schedule, Wake, Yields};
-
-/// What a cancel found; where it closed the task, whether an awaiter is to be taken.
-pub enum Cancelled {
-    /// The task was over.
-    Over,
-    /// The task was scheduled or running.
-    Busy(bool),
-    /// The task waited for a wake, and a Runnable is to be handed over.
-    Idle(bool),
-}
-
-// The word that a cancel writes; `None` where the task is over.
-fn closing(word: Word) -> Option<Word>
-    requires room { word.references < 72057594037927935 }
-    ensures { result ≡ (if is_open word then Some (cancelled word) else None) }
-{
-    word.cancel_busy().or(word.cancel_idle())
-}
-
-// What the cancel found that wrote on this word.
-fn closed_as(word: Word) -> Cancelled
-    ensures { result ≡ closed_by word }
-{
-    if word.scheduled() || word.running() {
-        Cancelled::Busy(word.awaiter())
-    } else {
-        Cancelled::Idle(word.awaiter())
-    }
-}
+use task_steps::table::Kept;
+use task_steps::task::{Cancelling, Knowing, KnowingExchange, LookingOver};
+use task_steps::words::{Cancelled, closed_as, closing};
 
 impl<R: Wait + Drop, F: Yields, Q: Drop, M: Drop, A: Wake, B: Allocator> Cell<R, F, Q, M, A, B> {
     /// Closes the task, if it is not over. Its future is dropped by the run or the Runnable that there is, or else by one that is handed over here.

@@ -5,22 +5,24 @@ ghost use Rattle.task_laws.specs.declared.positions.Way.TheVariants.{OfClaim};
 ghost use Rattle.task_laws.specs.declared.positions.Position.TheVariants.{Notifier, Claimer};
 ghost use Rattle.task_core.specs.declared.moves.Act.TheVariants.{ClaimOutput, HandOutOutput, EndCall};
 ghost use Rattle.task_laws.specs.Table.{notifies, goes_off, may_drop};
-ghost use Rattle.task_cell.specs.declared.table.Slot.{Slot};
-ghost use Rattle.task_cell.specs.declared.table.Deed.{Deed};
-ghost use Rattle.task_cell.specs.Rule.{IsOutput};
-ghost use Rattle.task_cell.specs.Steps.{output_first};
-ghost use Rattle.task_cell.specs.PollScripts.{has_output};
-ghost use Rattle.task_cell.specs.PollPaths.{TakePath, TakePathIf, ClaimPath, poll_number, claims_from};
-ghost use Rattle.task_cell.specs.Calls.{Stands, StandsWith, Goes, GoesWith, row, act, position, holds, way_of, as_task};
+ghost use Rattle.task_steps.specs.declared.table.Slot.{Slot};
+ghost use Rattle.task_steps.specs.declared.table.Deed.{Deed};
+ghost use Rattle.task_steps.specs.Rule.{IsOutput};
+ghost use Rattle.task_steps.specs.Steps.{output_first};
+ghost use Rattle.task_steps.specs.PollScripts.{has_output};
+ghost use Rattle.task_cell.specs.PollPaths.{TakePath, TakePathIf, ClaimPath};
+ghost use Rattle.task_steps.specs.Standing.{poll_number, claims_from, way_of, as_task};
+ghost use Rattle.task_cell.specs.Calls.{Stands, StandsWith, Goes, GoesWith, position, holds};
+ghost use Rattle.task_steps.specs.Deeds.{row, act};
 
 use super::{Cell, Party};
-use crate::steps::poll::{Claiming, HandingOut};
-use crate::steps::{Always, Exchange};
-use crate::table::{Kept, Slot};
 use std::alloc::Allocator;
 use std::sync::Wait;
 use task_core::word::Word;
 use task_core::{Wake, Yields};
+use task_steps::poll::{Claiming, HandingOut};
+use task_steps::table::{Kept, Slot};
+use task_steps::{Always, Exchange};
 
 impl<R: Drop, F: Yields, Q: Drop, M: Drop, A: Drop, B: Allocator> Cell<R, F, Q, M, A, B> {
     // Hands the output out, and ends the poll. One load.

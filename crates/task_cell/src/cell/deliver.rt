@@ -5,15 +5,16 @@ ghost use Rattle.task_laws.specs.declared.positions.Position.{Position};
 ghost use Rattle.task_laws.specs.declared.positions.Position.TheVariants.{Deliverer};
 ghost use Rattle.task_laws.specs.declared.positions.After.{After};
 ghost use Rattle.task_core.specs.declared.moves.Act.TheVariants.{HandOver, EndCall};
-ghost use Rattle.task_cell.specs.Calls.{Stands, Goes, IsNew, act, position, hands_over, handed_over, limit_of, as_runnable, as_ended};
-ghost use Rattle.task_cell.specs.Wakers.{as_deliverer};
+ghost use Rattle.task_cell.specs.Calls.{Stands, Goes, IsNew, position, limit_of};
+ghost use Rattle.task_steps.specs.Deeds.{act};
+ghost use Rattle.task_steps.specs.Standing.{hands_over, handed_over, as_runnable, as_ended, as_deliverer};
 
 use super::{Cell, Party, Runnable, RunnableSeat};
-use crate::steps::common::HandingOver;
-use crate::table::Kept;
 use std::alloc::Allocator;
 use std::sync::{Arc, Wait};
 use task_core::{Schedule, ScheduleInfo, Wake, Yields};
+use task_steps::common::HandingOver;
+use task_steps::table::Kept;
 
 impl<R: Drop, F: Yields, Q: Drop, M: Drop, A: Drop, B: Allocator> Cell<R, F, Q, M, A, B> {
     // The Runnable of a party that hands one over. One load.

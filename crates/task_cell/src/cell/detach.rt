@@ -3,63 +3,27 @@ ghost use Rattle.std.specs.Prelude.{◌≡◌, ℕ, List, [], ◌∷◌, true, f
 ghost use Rattle.std.specs.Arc.{arc_value};
 ghost use Rattle.task_laws.specs.declared.positions.Position.TheVariants.{OutputCloser, Detacher};
 ghost use Rattle.task_core.specs.declared.moves.Act.TheVariants.{DropOutput};
-ghost use Rattle.task_cell.specs.declared.table.Deed.{Deed};
-ghost use Rattle.task_cell.specs.declared.table.Slot.{Slot};
-ghost use Rattle.task_cell.specs.Rule.{IsEmpty};
-ghost use Rattle.task_cell.specs.Steps.{saw_closed, output_first};
-ghost use Rattle.task_cell.specs.TaskScripts.{detached};
-ghost use Rattle.task_cell.specs.TaskPaths.{given_up_by, Detaches, GivesTaskUp, DetachPath};
-ghost use Rattle.task_cell.specs.Calls.{Stands, StandsWith, Goes, act, deeds, limit_of, as_task, as_ended};
+ghost use Rattle.task_steps.specs.declared.table.Deed.{Deed};
+ghost use Rattle.task_steps.specs.declared.table.Slot.{Slot};
+ghost use Rattle.task_steps.specs.Rule.{IsEmpty};
+ghost use Rattle.task_steps.specs.Steps.{saw_closed, output_first};
+ghost use Rattle.task_steps.specs.TaskScripts.{detached};
+ghost use Rattle.task_cell.specs.TaskPaths.{Detaches, GivesTaskUp, DetachPath};
+ghost use Rattle.task_steps.specs.Found.{given_up_by};
+ghost use Rattle.task_cell.specs.Calls.{Stands, StandsWith, Goes, deeds, limit_of};
+ghost use Rattle.task_steps.specs.Deeds.{act};
+ghost use Rattle.task_steps.specs.Standing.{as_task, as_ended};
 
 use super::{Cell, Party, Runnable};
-use crate::steps::common::DroppingOutput;
-use crate::steps::task::{Detaching, GivingTaskUp, Knowing};
-use crate::steps::{Always, Exchange};
-use crate::table::Kept;
 use std::alloc::Allocator;
 use std::sync::{Arc, Wait};
 use task_core::word::{TASK, Word};
 use task_core::{Schedule, Wake, Yields};
-
-/// What a detach found.
-pub enum Detached {
-    /// The task was completed, and nobody had claimed the output.
-    Unclaimed,
-    /// Other handles were left.
-    Shared,
-    /// No other handle was left, and the task was closed.
-    Last,
-    /// No other handle was left, and the task was open.
-    Orphaned,
-}
-
-// The word that a detach writes.
-fn giving_up(word: Word) -> Word
-    ensures { result ≡ detached word }
-{
-    let shared = word.give_up_output().or(word.detach());
-    shared
-        .or(word.detach_last())
-        .or(word.detach_orphan())
-        .unwrap_or(word)
-}
-
-// What the detach found that wrote on this word.
-fn given_up_as(word: Word) -> Detached
-    ensures { result ≡ given_up_by word }
-{
-    if word.completed() && !word.closed() {
-        return Detached::Unclaimed;
-    }
-    if word.references() > 0 {
-        return Detached::Shared;
-    }
-    if word.closed() {
-        Detached::Last
-    } else {
-        Detached::Orphaned
-    }
-}
+use task_steps::common::DroppingOutput;
+use task_steps::table::Kept;
+use task_steps::task::{Detaching, GivingTaskUp, Knowing};
+use task_steps::words::{Detached, given_up_as, giving_up};
+use task_steps::{Always, Exchange};
 
 impl<R: Drop, F: Yields, Q: Drop, M: Drop, A: Drop, B: Allocator> Cell<R, F, Q, M, A, B> {
     // Writes down that the output in hand was dropped, and gives the places back. One load.

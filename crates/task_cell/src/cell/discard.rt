@@ -2,21 +2,22 @@
 ghost use Rattle.std.specs.Prelude.{◌≡◌, ℕ, ◌∷◌, [], List};
 ghost use Rattle.task_laws.specs.declared.positions.Position.TheVariants.{FutureInHand};
 ghost use Rattle.task_laws.specs.declared.positions.Closer.TheVariants.{DroppedRunnable};
-ghost use Rattle.task_cell.specs.declared.table.Slot.{Slot};
-ghost use Rattle.task_cell.specs.declared.table.Deed.{Deed};
-ghost use Rattle.task_cell.specs.Calls.{Stands, GoesWith, as_runnable};
-ghost use Rattle.task_cell.specs.Rule.{IsFuture};
-ghost use Rattle.task_cell.specs.Steps.{future_first};
+ghost use Rattle.task_steps.specs.declared.table.Slot.{Slot};
+ghost use Rattle.task_steps.specs.declared.table.Deed.{Deed};
+ghost use Rattle.task_cell.specs.Calls.{Stands, GoesWith};
+ghost use Rattle.task_steps.specs.Standing.{as_runnable};
+ghost use Rattle.task_steps.specs.Rule.{IsFuture};
+ghost use Rattle.task_steps.specs.Steps.{future_first};
 ghost use Rattle.task_cell.specs.RunPaths.{DiscardStart};
 ghost use Rattle.task_cell.specs.RunCalls.{Discards};
 
 use super::{Cell, Party};
-use crate::steps::Always;
-use crate::steps::run::Discarding;
-use crate::table::Kept;
 use std::alloc::Allocator;
 use task_core::word::CLOSED;
 use task_core::{Wake, Yields};
+use task_steps::Always;
+use task_steps::run::Discarding;
+use task_steps::table::Kept;
 
 impl<R: Drop, F: Yields, Q: Drop, M: Drop, A: Drop, B: Allocator> Cell<R, F, Q, M, A, B> {
     // The task is closed, and its future taken over: a single fetch, never tried again.

@@ -4,45 +4,25 @@ ghost use Rattle.std.specs.Arc.{arc_value};
 ghost use Rattle.task_core.specs.Word.{State};
 ghost use Rattle.task_laws.specs.declared.positions.Position.TheVariants.{OrphanHolder};
 ghost use Rattle.task_core.specs.declared.moves.Act.TheVariants.{CloseOrphan};
-ghost use Rattle.task_cell.specs.declared.table.Deed.{Deed};
-ghost use Rattle.task_cell.specs.Calls.{Stands, Goes, row, limit_of, as_ended, as_waker};
-ghost use Rattle.task_cell.specs.Wakers.{as_deliverer};
-ghost use Rattle.task_cell.specs.WakerPaths.{dropped_by, DropsWaker, WakerDropPath};
+ghost use Rattle.task_steps.specs.declared.table.Deed.{Deed};
+ghost use Rattle.task_cell.specs.Calls.{Stands, Goes, limit_of};
+ghost use Rattle.task_steps.specs.Deeds.{row};
+ghost use Rattle.task_steps.specs.Standing.{as_ended, as_waker, as_deliverer};
+ghost use Rattle.task_cell.specs.WakerPaths.{DropsWaker, WakerDropPath};
+ghost use Rattle.task_steps.specs.Found.{dropped_by};
 
 use super::{Cell, Party, Runnable};
-use crate::steps::Always;
-use crate::steps::waker::{ClosingOrphan, DroppingWaker};
-use crate::table::Kept;
 use std::alloc::Allocator;
 use std::sync::{Arc, Wait};
 use task_core::word::{CLOSED, REFERENCE, SCHEDULED, Word};
 use task_core::{Schedule, Wake, Yields};
+use task_steps::Always;
+use task_steps::table::Kept;
+use task_steps::waker::{ClosingOrphan, DroppingWaker};
+use task_steps::words::{Dropped, dropped_as};
 
 /// The word of a task that nobody has: scheduled, closed, and with the reference of its last Runnable.
 const ORPHAN: u64 = SCHEDULED | CLOSED | REFERENCE;
-
-/// What a waker's drop found.
-pub enum Dropped {
-    /// Other handles were left.
-    Shared,
-    /// No other handle was left, and the task was over.
-    Last,
-    /// No other handle was left, and the task was open.
-    Orphaned,
-}
-
-// What the drop found that took its reference off this word.
-fn dropped_as(word: Word) -> Dropped
-    ensures { result ≡ dropped_by word }
-{
-    if word.references() > 1 || word.task() {
-        Dropped::Shared
-    } else if word.is_open() {
-        Dropped::Orphaned
-    } else {
-        Dropped::Last
-    }
-}
 
 impl<R: Drop, F: Yields, Q: Drop, M: Drop, A: Drop, B: Allocator> Cell<R, F, Q, M, A, B> {
     // The row of a waker's drop: a single fetch, never tried again.

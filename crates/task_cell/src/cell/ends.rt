@@ -4,56 +4,25 @@ ghost use Rattle.task_laws.specs.declared.positions.Position.TheVariants.{Pollin
 ghost use Rattle.task_laws.specs.declared.positions.Way.TheVariants.{OfRun};
 ghost use Rattle.task_core.specs.declared.moves.Act.TheVariants.{AnswerReady, DropOutput, EndClosed};
 ghost use Rattle.task_laws.specs.Table.{notifies};
-ghost use Rattle.task_cell.specs.declared.table.Slot.{Slot};
-ghost use Rattle.task_cell.specs.Calls.{StandsWith, Goes, GoesWith, row, act};
-ghost use Rattle.task_cell.specs.Rule.{IsEmpty, IsFuture};
-ghost use Rattle.task_cell.specs.Steps.{future_first, output_first};
-ghost use Rattle.task_cell.specs.RunScripts.{completed_word, after_pending};
-ghost use Rattle.task_cell.specs.RunCalls.{Completes, AnswersPending, EndsPending, ending_of};
+ghost use Rattle.task_steps.specs.declared.table.Slot.{Slot};
+ghost use Rattle.task_cell.specs.Calls.{StandsWith, Goes, GoesWith};
+ghost use Rattle.task_steps.specs.Deeds.{row, act};
+ghost use Rattle.task_steps.specs.Rule.{IsEmpty, IsFuture};
+ghost use Rattle.task_steps.specs.Steps.{future_first, output_first};
+ghost use Rattle.task_steps.specs.RunScripts.{completed_word, after_pending};
+ghost use Rattle.task_cell.specs.RunCalls.{Completes, AnswersPending, EndsPending};
+ghost use Rattle.task_steps.specs.Found.{ending_of};
 
 use super::{Cell, Party};
-use crate::steps::common::DroppingOutput;
-use crate::steps::run::{
-    AnsweringPending, AnsweringReady, Completing, EndingClosed, EndingPending,
-};
-use crate::steps::{Always, Exchange};
-use crate::table::{Kept, Slot};
 use std::alloc::Allocator;
 use std::sync::Wait;
 use task_core::Yields;
 use task_core::word::{RUNNING, SCHEDULED, Word};
-
-// How a run ends whose poll answered Pending.
-pub(crate) enum PendingEnd {
-    // The task is closed: its future is dropped, and the end step is still to be made.
-    Closed,
-    // The task was woken meanwhile: the run's Runnable is to be handed over.
-    Rescheduled,
-    // The task waits for a wake, and the call has ended.
-    Idle,
-    // No handle is left: a closing Runnable is to be handed over.
-    Orphaned,
-}
-
-// The word of a run that ends with an output.
-fn completed(word: Word) -> Word
-    ensures { result ≡ completed_word word }
-{
-    match word.complete() {
-        Some(next) => next,
-        None => word.complete_detached().unwrap_or(word),
-    }
-}
-
-// The word of a run that ends without an output on an open task.
-fn ended(word: Word) -> Word
-    ensures { result ≡ after_pending word }
-{
-    word.reschedule()
-        .or(word.end_idle())
-        .or(word.end_orphaned())
-        .unwrap_or(word)
-}
+use task_steps::common::DroppingOutput;
+use task_steps::run::{AnsweringPending, AnsweringReady, Completing, EndingClosed, EndingPending};
+use task_steps::table::{Kept, Slot};
+use task_steps::words::{PendingEnd, completed, ended, pending_end};
+use task_steps::{Always, Exchange};
 
 impl<R: Drop, F: Yields, Q: Drop, M: Drop, A: Drop, B: Allocator> Cell<R, F, Q, M, A, B> {
     // The poll has answered Ready. One load.
@@ -160,18 +129,5 @@ impl<R: Wait + Drop, F: Yields, Q: Drop, M: Drop, A: Drop, B: Allocator> Cell<R,
             }
         }
         unreachable!()
-    }
-}
-
-// How a run ends that finds this word, of an open task.
-fn pending_end(word: Word) -> PendingEnd
-    ensures { result ≡ ending_of word }
-{
-    if word.scheduled() {
-        PendingEnd::Rescheduled
-    } else if word.give_up_reference().is_some() {
-        PendingEnd::Idle
-    } else {
-        PendingEnd::Orphaned
     }
 }

@@ -2,19 +2,20 @@
 ghost use Rattle.std.specs.Prelude.{◌≡◌, ℕ, [], ◌∷◌, List};
 ghost use Rattle.task_laws.specs.declared.positions.Rest.{Rest};
 ghost use Rattle.task_core.specs.declared.moves.Act.TheVariants.{RefuseGain, EndCall};
-ghost use Rattle.task_cell.specs.declared.table.Member.{Member};
-ghost use Rattle.task_cell.specs.Calls.{act, limit_of};
+ghost use Rattle.task_steps.specs.declared.table.Member.{Member};
+ghost use Rattle.task_cell.specs.Calls.{limit_of};
+ghost use Rattle.task_steps.specs.Deeds.{act};
 ghost use Rattle.task_cell.specs.Wakers.{MayGain, GoesBeside};
 ghost use Rattle.task_cell.specs.WakerPaths.{Gains, GainsBeside};
 
 use super::{Cell, Party};
-use crate::steps::Always;
-use crate::steps::waker::{Gaining, LookingForRoom, Parting, RefusingGain};
-use crate::table::Kept;
 use std::alloc::Allocator;
 use std::sync::Wait;
 use task_core::Yields;
 use task_core::word::Word;
+use task_steps::Always;
+use task_steps::table::Kept;
+use task_steps::waker::{Gaining, LookingForRoom, Parting, RefusingGain};
 
 impl<R: Drop, F: Yields, Q: Drop, M: Drop, A: Drop, B: Allocator> Cell<R, F, Q, M, A, B> {
     /// Ends a gain whose memory was refused: it made no row. One load.

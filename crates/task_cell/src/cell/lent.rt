@@ -4,33 +4,20 @@ ghost use Rattle.std.specs.Arc.{arc_value};
 ghost use Rattle.task_laws.specs.declared.positions.Position.TheVariants.{Polling};
 ghost use Rattle.task_core.specs.Poll.{IfReady};
 ghost use Rattle.task_core.specs.Word.{State};
-ghost use Rattle.task_cell.specs.declared.table.Slot.{Slot};
-ghost use Rattle.task_cell.specs.Rule.{IsFuture};
-ghost use Rattle.task_cell.specs.Steps.{future_first};
+ghost use Rattle.task_steps.specs.declared.table.Slot.{Slot};
+ghost use Rattle.task_steps.specs.Rule.{IsFuture};
+ghost use Rattle.task_steps.specs.Steps.{future_first};
 ghost use Rattle.task_cell.specs.Calls.{StandsWith, deeds, limit_of};
 ghost use Rattle.task_cell.specs.Starts.{IsLending};
 
-use super::holder::SeatHolder;
 use super::waker::{Hold, WakerSeat};
 use super::{Cell, Party, Runnable, TaskWaker};
-use crate::steps::start::{Lending, TakingBack};
-use crate::table::{Kept, Slot};
 use std::alloc::Allocator;
 use std::sync::{Arc, Wait};
 use task_core::{Future, Poll, Schedule, Wake, Yields};
-
-// Polls the future where it lies.
-fn polled<W, F: Future<W>, A>(slot: &mut Slot<F, Kept<F>, A>, waker: &W) -> Poll<F::Output>
-    requires { IsFuture slot.old }
-    ensures future { IsFuture slot.new }
-    ensures meets { IfReady result F.Yields.meets }
-    ensures fact { (f : _) × (g : _) × F.polled f waker.now result g }
-{
-    match slot {
-        Slot::Future(future) => future.poll(waker),
-        _ => unreachable!(),
-    }
-}
+use task_steps::holder::SeatHolder;
+use task_steps::start::{Lending, TakingBack};
+use task_steps::table::{Kept, polled};
 
 impl<R: Wait + Drop, F: Yields, Q: Drop, M: Drop, A: Wake, B: Allocator> Cell<R, F, Q, M, A, B> {
     // One poll of a run that has started, with a waker that it is lent. No lock is held, and the future stays in its place.

@@ -4,45 +4,23 @@ ghost use Rattle.task_laws.specs.declared.positions.PollAnswer.{PollAnswer};
 ghost use Rattle.task_laws.specs.declared.positions.Position.TheVariants.{Answering, Notifier, Looking as LookingAt};
 ghost use Rattle.task_laws.specs.declared.positions.Way.TheVariants.{OfPoll};
 ghost use Rattle.task_core.specs.declared.moves.Act.TheVariants.{EndCall};
-ghost use Rattle.task_cell.specs.declared.table.Deed.{Deed};
-ghost use Rattle.task_cell.specs.PollPaths.{PollPath, AnswerPath, TakePath, Looks, LooksAgain, poll_number};
-ghost use Rattle.task_cell.specs.PollScripts.{has_output, has_ended, has_to_wait};
-ghost use Rattle.task_cell.specs.Calls.{Stands, Goes, act, position, as_task};
+ghost use Rattle.task_steps.specs.declared.table.Deed.{Deed};
+ghost use Rattle.task_cell.specs.PollPaths.{PollPath, AnswerPath, TakePath, Looks, LooksAgain};
+ghost use Rattle.task_steps.specs.Standing.{poll_number, as_task};
+ghost use Rattle.task_steps.specs.PollScripts.{has_output, has_ended, has_to_wait};
+ghost use Rattle.task_cell.specs.Calls.{Stands, Goes, position};
+ghost use Rattle.task_steps.specs.Deeds.{act};
 
 use super::{Cell, Party};
-use crate::steps::Always;
-use crate::steps::common::Ending;
-use crate::steps::poll::{Looking, LookingAgain};
-use crate::table::Kept;
 use std::alloc::Allocator;
 use std::sync::Wait;
 use task_core::word::Word;
 use task_core::{TaskPoll, Wake, Yields};
-
-// The output is there, and nobody has taken it.
-fn has_output(word: Word) -> bool
-    ensures { result ≡ has_output word }
-{
-    word.completed() && !word.closed()
-}
-
-// The task is closed, and no Runnable or run holds the future.
-fn has_ended(word: Word) -> bool
-    ensures { result ≡ has_ended word }
-{
-    word.closed() && !(word.scheduled() || word.running())
-}
-
-// A poll that has registered waits on.
-fn has_to_wait(word: Word) -> bool
-    ensures { result ≡ has_to_wait word }
-{
-    if word.closed() {
-        word.scheduled() || word.running()
-    } else {
-        !word.completed()
-    }
-}
+use task_steps::Always;
+use task_steps::common::Ending;
+use task_steps::poll::{Looking, LookingAgain};
+use task_steps::table::Kept;
+use task_steps::words::{has_ended, has_output, has_to_wait};
 
 impl<R: Drop, F: Yields, Q: Drop, M: Drop, A: Drop, B: Allocator> Cell<R, F, Q, M, A, B> {
     // The first look of a poll. It is no look of the poll where the output is there to be claimed.

@@ -6,18 +6,19 @@ ghost use Rattle.task_core.specs.declared.moves.Act.TheVariants.{EmptySlots};
 ghost use Rattle.task_laws.specs.declared.positions.Answer.{Answer};
 ghost use Rattle.task_laws.specs.Table.{after_giving_up, notifies};
 ghost use Rattle.task_laws.specs.declared.positions.Way.TheVariants.{OfRun};
-ghost use Rattle.task_cell.specs.declared.table.Slot.{Slot};
-ghost use Rattle.task_cell.specs.declared.table.Slot.TheVariants.{Empty};
-ghost use Rattle.task_cell.specs.Calls.{Stands, StandsWith, Goes, GoesWith, act};
+ghost use Rattle.task_steps.specs.declared.table.Slot.{Slot};
+ghost use Rattle.task_steps.specs.declared.table.Slot.TheVariants.{Empty};
+ghost use Rattle.task_cell.specs.Calls.{Stands, StandsWith, Goes, GoesWith};
+ghost use Rattle.task_steps.specs.Deeds.{act};
 ghost use Rattle.task_cell.specs.RunCalls.{GivesUp, Releases, Rests};
 
 use super::{Cell, Party};
-use crate::steps::Always;
-use crate::steps::run::{Emptying, GivingReferenceUp};
-use crate::table::{Kept, Slot};
 use std::alloc::Allocator;
 use task_core::word::{REFERENCE, Word};
 use task_core::{Wake, Yields};
+use task_steps::Always;
+use task_steps::run::{Emptying, GivingReferenceUp};
+use task_steps::table::{Kept, Slot};
 
 impl<R: Drop, F: Yields, Q: Drop, M: Drop, A: Drop, B: Allocator> Cell<R, F, Q, M, A, B> {
     // Drops what is in the place of the table that the party has in front, and leaves nothing there.

@@ -4,24 +4,26 @@ ghost use Rattle.task_core.specs.Word.{State};
 ghost use Rattle.task_laws.specs.declared.positions.Position.TheVariants.{Registrar, RefusedClone, Registered, CloneInHand, Looking};
 ghost use Rattle.task_core.specs.declared.moves.Act.TheVariants.{TakeAwaiter, EndRegisterNotified, RefuseClone, EndCall, DropAwaiter, WakeAwaiter};
 ghost use Rattle.task_laws.specs.Table.{after_storing};
-ghost use Rattle.task_cell.specs.declared.table.Slot.{Slot};
-ghost use Rattle.task_cell.specs.declared.table.Slot.TheVariants.{Awaiter};
-ghost use Rattle.task_cell.specs.declared.table.Deed.{Deed};
-ghost use Rattle.task_cell.specs.Rule.{Waits};
-ghost use Rattle.task_cell.specs.PollPaths.{RegisterPath, Registers, BeginsRegister, EndsRegister, dropped_if, poll_number};
-ghost use Rattle.task_cell.specs.Calls.{Stands, StandsWith, Goes, GoesWith, row, act, position, holds, as_task};
+ghost use Rattle.task_steps.specs.declared.table.Slot.{Slot};
+ghost use Rattle.task_steps.specs.declared.table.Slot.TheVariants.{Awaiter};
+ghost use Rattle.task_steps.specs.declared.table.Deed.{Deed};
+ghost use Rattle.task_steps.specs.Rule.{Waits};
+ghost use Rattle.task_cell.specs.PollPaths.{RegisterPath, Registers, BeginsRegister, EndsRegister, dropped_if};
+ghost use Rattle.task_steps.specs.Standing.{poll_number, as_task};
+ghost use Rattle.task_cell.specs.Calls.{Stands, StandsWith, Goes, GoesWith, position, holds};
+ghost use Rattle.task_steps.specs.Deeds.{row, act};
 
 use super::{Cell, Party};
-use crate::steps::common::{Dropping, Waking};
-use crate::steps::poll::{
-    BeginningRegister, EndingNotified, EndingRegister, FindingNotifier, Refusing,
-};
-use crate::steps::{Always, Exchange};
-use crate::table::{Kept, Slot};
 use std::alloc::Allocator;
 use std::sync::Wait;
 use task_core::word::Word;
 use task_core::{Wake, Yields};
+use task_steps::common::{Dropping, Waking};
+use task_steps::poll::{
+    BeginningRegister, EndingNotified, EndingRegister, FindingNotifier, Refusing,
+};
+use task_steps::table::{Kept, Slot};
+use task_steps::{Always, Exchange};
 
 impl<R: Drop, F: Yields, Q: Drop, M: Drop, A: Drop, B: Allocator> Cell<R, F, Q, M, A, B> {
     // Writes down that the clone was refused, and that the poll ends so. One load.

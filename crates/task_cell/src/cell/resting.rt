@@ -3,20 +3,22 @@ ghost use Rattle.std.specs.Prelude.{◌≡◌, ℕ, [], ◌∷◌, List, true, I
 ghost use Rattle.std.specs.Arc.{arc_value};
 ghost use Rattle.task_laws.specs.declared.positions.Rest.{Rest};
 ghost use Rattle.task_laws.specs.declared.positions.Position.TheVariants.{At};
-ghost use Rattle.task_cell.specs.declared.table.Deed.{Deed};
-ghost use Rattle.task_cell.specs.declared.table.Member.{Member};
-ghost use Rattle.task_cell.specs.Rule.{view, fresh};
-ghost use Rattle.task_cell.specs.Calls.{IsNew, limit_of, as_waker};
-ghost use Rattle.task_cell.specs.Holders.{roost};
-ghost use Rattle.task_cell.specs.Wakers.{may_gain_beside, may_wake_beside, as_deliverer, StandsBeside, MayGain, GoesBeside};
+ghost use Rattle.task_steps.specs.declared.table.Deed.{Deed};
+ghost use Rattle.task_steps.specs.declared.table.Member.{Member};
+ghost use Rattle.task_steps.specs.Rule.{view, fresh};
+ghost use Rattle.task_cell.specs.Calls.{IsNew, limit_of};
+ghost use Rattle.task_steps.specs.Standing.{as_waker, as_deliverer};
+ghost use Rattle.task_steps.specs.Holders.{roost};
+ghost use Rattle.task_cell.specs.Wakers.{StandsBeside, MayGain, GoesBeside};
+ghost use Rattle.task_steps.specs.Beside.{may_gain_beside, may_wake_beside};
 
-use super::holder::SeatHolder;
 use super::{Cell, Party};
-use crate::steps::waker::Forgetting;
-use crate::table::Kept;
 use std::alloc::Allocator;
 use std::sync::{Arc, Wait};
 use task_core::Yields;
+use task_steps::holder::SeatHolder;
+use task_steps::table::Kept;
+use task_steps::waker::Forgetting;
 
 impl<R: Wait + Drop, F: Yields, Q: Drop, M: Drop, A: Drop, B: Allocator> Cell<R, F, Q, M, A, B> {
     // Puts the seat of a party back. It forgets what the party did, since what rests there has one view. One load.

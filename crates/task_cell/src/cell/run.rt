@@ -8,28 +8,23 @@ ghost use Rattle.task_laws.specs.declared.positions.Closer.{Closer};
 ghost use Rattle.task_laws.specs.declared.positions.Position.TheVariants.{FutureInHand, Ready, Cleared, Polling, Deliverer};
 ghost use Rattle.task_core.specs.declared.moves.Act.TheVariants.{DropFuture, Unschedule, HandOver, EndCall};
 ghost use Rattle.task_laws.specs.Table.{notifies};
-ghost use Rattle.task_cell.specs.declared.table.Slot.{Slot};
-ghost use Rattle.task_cell.specs.Calls.{StandsWith, Stands, Goes, row, act, position, closing_way, limit_of, as_ended};
-ghost use Rattle.task_cell.specs.Rule.{IsEmpty, IsFuture};
-ghost use Rattle.task_cell.specs.Steps.{future_first};
+ghost use Rattle.task_steps.specs.declared.table.Slot.{Slot};
+ghost use Rattle.task_cell.specs.Calls.{StandsWith, Stands, Goes, position, limit_of};
+ghost use Rattle.task_steps.specs.Deeds.{row, act};
+ghost use Rattle.task_steps.specs.Standing.{closing_way, as_ended};
+ghost use Rattle.task_steps.specs.Rule.{IsEmpty, IsFuture};
+ghost use Rattle.task_steps.specs.Steps.{future_first};
 ghost use Rattle.task_cell.specs.RunCalls.{Stores, ClosesPending, Closes, EndsReady, EndsUnready};
 
-use super::ends::PendingEnd;
 use super::{Cell, Party, Runnable};
-use crate::steps::Always;
-use crate::steps::run::Unscheduling;
-use crate::table::Kept;
 use std::alloc::Allocator;
 use std::sync::{Arc, Wait};
 use task_core::word::Word;
 use task_core::{Schedule, Wake, Yields};
-
-// Whether somebody may claim the output of a run that finds this word.
-fn keeps_output(found: Word) -> bool
-    ensures { result ≡ (found.task && not found.closed) }
-{
-    found.task() && !found.closed()
-}
+use task_steps::Always;
+use task_steps::run::Unscheduling;
+use task_steps::table::Kept;
+use task_steps::words::{PendingEnd, keeps_output};
 
 impl<R: Drop, F: Yields, Q: Drop, M: Drop, A: Drop, B: Allocator> Cell<R, F, Q, M, A, B> {
     // SCHEDULED is cleared, after the future was dropped: a single fetch, never tried again.

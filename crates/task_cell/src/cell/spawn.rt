@@ -1,40 +1,20 @@
 //! The beginning and the end of a cell.
 ghost use Rattle.std.specs.Prelude.{◌≡◌, ℕ, ◌+◌, ◌^◌, ◌<◌, ◌∷◌, [], List, IfOk, IfErr};
 ghost use Rattle.std.specs.Arc.{arc_value};
-ghost use Rattle.task_cell.specs.declared.table.Slot.{Slot};
-ghost use Rattle.task_cell.specs.Rule.{laid_view, opening_view};
-ghost use Rattle.task_cell.specs.Calls.{Stands, StandsWith, deeds, limit_of, as_runnable, as_task};
+ghost use Rattle.task_steps.specs.declared.table.Slot.{Slot};
+ghost use Rattle.task_steps.specs.Rule.{laid_view, opening_view};
+ghost use Rattle.task_cell.specs.Calls.{Stands, StandsWith, deeds, limit_of};
+ghost use Rattle.task_steps.specs.Standing.{as_runnable, as_task};
 ghost use Rattle.task_laws.specs.declared.positions.Position.{Position};
 ghost use Rattle.task_cell.specs.LastWord.{IsLastWord};
 
-use super::{Board, Cell, Party};
-use crate::steps::spawn::{Filling, Opening, Spawning};
-use crate::table::{Kept, Slot, View};
-use atomic_table::{Refused, Seat, Table};
-use std::alloc::{AllocError, Allocator};
+use super::{Cell, Party};
+use atomic_table::Seat;
+use std::alloc::Allocator;
 use std::sync::{Arc, Wait};
 use task_core::{Wake, Yields};
-
-/// The word of a task that was just spawned: scheduled, with its Task, and one reference.
-const OPENING: u64 = 0x111;
-
-// A table whose places are empty.
-fn lay<F: Drop, T: Drop, A: Drop, B: Allocator + Copy>(
-    alloc: B,
-    limit: u64,
-) -> Result<(Board<F, T, A, B>, Seat<Slot<F, T, A>, View>), AllocError>
-    requires { limit < 2 ^ 55 }
-    ensures { IfOk result (λ t. (t.0.shared.table_id.words ≡ 1) × (t.0.shared.table_id.slots ≡ 3) × (t.0.shared.key ≡ limit) × (t.1.table_id ≡ t.0.shared.table_id) × (t.1.me ≡ (laid_view limit, []))) }
-{
-    let mut slots = Vec::with_capacity(alloc, 3)?;
-    slots.push_reserved(Slot::Empty);
-    slots.push_reserved(Slot::Empty);
-    slots.push_reserved(Slot::Empty);
-    match Table::new(alloc, &[OPENING], slots, &limit) {
-        Ok(laid) => Ok(laid),
-        Err(Refused { slots: _ }) => Err(AllocError),
-    }
-}
+use task_steps::spawn::{Filling, Opening, Spawning};
+use task_steps::table::{Kept, Slot, View, discard, lay};
 
 impl<R: Drop, F: Yields, Q: Drop, M: Drop, A: Drop, B: Allocator> Cell<R, F, Q, M, A, B> {
     // What a cell was given.
@@ -157,9 +137,4 @@ impl<R: Wait + Drop, F: Yields, Q: Drop, M: Drop, A: Wake, B: Allocator + Copy> 
             }
         }
     }
-}
-
-// A seat that nobody will step with again.
-pub(super) fn discard<S, V>(seat: Seat<S, V>) {
-    let Seat { .. } = seat;
 }

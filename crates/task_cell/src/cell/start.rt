@@ -1,16 +1,17 @@
 //! The start of a run.
 ghost use Rattle.std.specs.Prelude.{◌≡◌, ℕ, ◌∷◌, []};
-ghost use Rattle.task_cell.specs.Calls.{Stands, as_runnable};
+ghost use Rattle.task_cell.specs.Calls.{Stands};
+ghost use Rattle.task_steps.specs.Standing.{as_runnable};
 ghost use Rattle.task_cell.specs.Starts.{TakesUp};
 
 use super::{Cell, Party};
-use crate::steps::start::{StartingRun, TakingUpClosed};
-use crate::steps::{Always, Exchange};
-use crate::table::Kept;
 use std::alloc::Allocator;
 use std::sync::Wait;
 use task_core::Yields;
 use task_core::word::Word;
+use task_steps::start::{StartingRun, TakingUpClosed};
+use task_steps::table::Kept;
+use task_steps::{Always, Exchange};
 
 impl<R: Wait + Drop, F: Yields, Q: Drop, M: Drop, A: Drop, B: Allocator> Cell<R, F, Q, M, A, B> {
     // Takes the future for a run: true where the run has started, false where the task was closed.

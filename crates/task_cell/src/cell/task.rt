@@ -2,15 +2,17 @@
 ghost use Rattle.std.specs.Prelude.{◌≡◌, ℕ, ◌∷◌, [], not, true};
 ghost use Rattle.task_core.specs.Word.{State, is_open};
 ghost use Rattle.task_core.specs.declared.moves.Act.TheVariants.{LookFinished, EndCall};
-ghost use Rattle.task_cell.specs.Steps.{saw_over};
-ghost use Rattle.task_cell.specs.Calls.{Stands, Goes, row, act, position, deeds, as_task};
+ghost use Rattle.task_steps.specs.Steps.{saw_over};
+ghost use Rattle.task_cell.specs.Calls.{Stands, Goes, position, deeds};
+ghost use Rattle.task_steps.specs.Deeds.{row, act};
+ghost use Rattle.task_steps.specs.Standing.{as_task};
 
 use super::{Cell, Party};
-use crate::steps::task::{Knowing, LookingFinished};
-use crate::table::Kept;
 use std::alloc::Allocator;
 use task_core::Yields;
 use task_core::word::Word;
+use task_steps::table::Kept;
+use task_steps::task::{Knowing, LookingFinished};
 
 impl<R: Drop, F: Yields, Q: Drop, M: Drop, A: Drop, B: Allocator> Cell<R, F, Q, M, A, B> {
     /// Whether the task is completed or closed. It is one load, and waits for nobody.

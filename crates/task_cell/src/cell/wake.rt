@@ -2,35 +2,20 @@
 ghost use Rattle.std.specs.Prelude.{◌≡◌, ◌<◌, not, ◌&&◌, List, Some, None, if◌then◌else◌};
 ghost use Rattle.task_core.specs.Word.{is_open};
 ghost use Rattle.task_laws.specs.declared.positions.Rest.{Rest};
-ghost use Rattle.task_cell.specs.declared.table.Member.{Member};
+ghost use Rattle.task_steps.specs.declared.table.Member.{Member};
 ghost use Rattle.task_cell.specs.Wakers.{MayWake};
-ghost use Rattle.task_cell.specs.WakerScripts.{woken_word};
+ghost use Rattle.task_steps.specs.WakerScripts.{woken_word};
 ghost use Rattle.task_cell.specs.WakerPaths.{WakesTask, WakesBeside};
 
 use super::{Cell, Party};
-use crate::steps::task::{Knowing, KnowingExchange};
-use crate::steps::waker::{FindingOver, Parting, WakingTask};
-use crate::table::Kept;
 use std::alloc::Allocator;
 use std::sync::Wait;
 use task_core::Yields;
 use task_core::word::Word;
-
-// The word that a wake writes; `None` where the task is over.
-fn woken(word: Word) -> Option<Word>
-    requires room { word.references < 72057594037927935 }
-    ensures { result ≡ (if is_open word then Some (woken_word word) else None) }
-{
-    let busy = word.wake_scheduled().or(word.wake_running());
-    busy.or(word.wake_idle())
-}
-
-// Whether the task of this word was idle, if it was open.
-fn was_idle(word: Word) -> bool
-    ensures { result ≡ (not word.scheduled && not word.running) }
-{
-    !word.scheduled() && !word.running()
-}
+use task_steps::table::Kept;
+use task_steps::task::{Knowing, KnowingExchange};
+use task_steps::waker::{FindingOver, Parting, WakingTask};
+use task_steps::words::{was_idle, woken};
 
 impl<R: Wait + Drop, F: Yields, Q: Drop, M: Drop, A: Drop, B: Allocator> Cell<R, F, Q, M, A, B> {
     /// Wakes the task, unless it is over. Where it was idle, the answer is a deliverer, which is to hand a Runnable over by `deliver`.

@@ -1,18 +1,18 @@
 //! Wakers, as the cell hands them out.
 ghost use Rattle.std.specs.Prelude.{◌≡◌, ℕ, [], ◌∷◌, IfSome, IfOk};
 ghost use Rattle.std.specs.Arc.{arc_value};
-ghost use Rattle.task_cell.specs.Rule.{view, fresh};
-ghost use Rattle.task_cell.specs.Calls.{Stands, limit_of, as_waker};
-ghost use Rattle.task_cell.specs.Holders.{roost};
-ghost use Rattle.task_cell.specs.Wakers.{waker_view, as_deliverer};
+ghost use Rattle.task_steps.specs.Rule.{view, fresh};
+ghost use Rattle.task_cell.specs.Calls.{Stands, limit_of};
+ghost use Rattle.task_steps.specs.Standing.{as_waker, as_deliverer};
+ghost use Rattle.task_steps.specs.Holders.{roost};
+ghost use Rattle.task_cell.specs.Wakers.{waker_view};
 
-use super::holder::SeatHolder;
-use super::spawn::discard;
 use super::{Cell, Party, Runnable};
-use crate::table::Kept;
 use std::alloc::{Allocator, Global};
 use std::sync::{Arc, Wait};
 use task_core::{Schedule, Wake, Yields};
+use task_steps::holder::SeatHolder;
+use task_steps::table::{Kept, discard};
 
 /// Whether a waker holds a reference.
 #[derive(Drop)]

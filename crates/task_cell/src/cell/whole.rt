@@ -3,20 +3,21 @@ ghost use Rattle.std.specs.Prelude.{◌≡◌, ℕ, ◌∷◌, [], List};
 ghost use Rattle.std.specs.Arc.{arc_value};
 ghost use Rattle.task_laws.specs.declared.positions.Position.TheVariants.{FutureInHand, Polling};
 ghost use Rattle.task_laws.specs.declared.positions.Closer.TheVariants.{ClosedRun};
-ghost use Rattle.task_cell.specs.declared.table.Deed.{Deed};
-ghost use Rattle.task_cell.specs.declared.table.Slot.{Slot};
-ghost use Rattle.task_cell.specs.Rule.{IsFuture};
-ghost use Rattle.task_cell.specs.Steps.{future_first};
-ghost use Rattle.task_cell.specs.Calls.{Stands, StandsWith, Goes, limit_of, as_runnable, as_ended};
+ghost use Rattle.task_steps.specs.declared.table.Deed.{Deed};
+ghost use Rattle.task_steps.specs.declared.table.Slot.{Slot};
+ghost use Rattle.task_steps.specs.Rule.{IsFuture};
+ghost use Rattle.task_steps.specs.Steps.{future_first};
+ghost use Rattle.task_cell.specs.Calls.{Stands, StandsWith, Goes, limit_of};
+ghost use Rattle.task_steps.specs.Standing.{as_runnable, as_ended};
 ghost use Rattle.task_cell.specs.Starts.{TakesUp};
 ghost use Rattle.task_cell.specs.RunPaths.{RunPath};
 ghost use Rattle.task_cell.specs.RunCalls.{Closes, EndsReady, EndsUnready};
 
 use super::{Cell, Party, Runnable, TaskWaker};
-use crate::table::Kept;
 use std::alloc::Allocator;
 use std::sync::{Arc, Wait};
 use task_core::{Future, Poll, Schedule, Wake, Yields};
+use task_steps::table::Kept;
 
 impl<R: Wait + Drop, F: Yields, Q: Drop, M: Drop, A: Wake, B: Allocator> Cell<R, F, Q, M, A, B> {
     /// Runs the task once. A task that was closed is not polled: its future is dropped. Otherwise the future is polled once, and the run ends by what it answered.

@@ -1,8 +1,8 @@
 use Rattle.std.specs.Prelude.{[], ◌∷◌}
 use Rattle.std.proofs.Common.{ap, sym, ◌∙◌}
-use Rattle.task_cell.specs.Rule.{view, member}
-use Rattle.task_cell.specs.Steps.{head_of}
-use Rattle.task_cell.specs.Calls.{as_ended}
+use Rattle.task_steps.specs.Rule.{view, member}
+use Rattle.task_steps.specs.Steps.{head_of}
+use Rattle.task_steps.specs.Standing.{as_ended}
 use Rattle.handle_tests.proofs.cell_tests.a_cell_ends_with_its_last_word.Goals as goal
 
 pub into_word-requires-clause-party : goal.into_word-requires-clause-party

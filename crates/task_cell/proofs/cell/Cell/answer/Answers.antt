@@ -2,8 +2,10 @@ use Rattle.std.proofs.Common.{◌∷◌, [], sym, ◌∙◌, true, false}
 use Rattle.task_laws.specs.declared.positions.Way.TheVariants.{OfPoll}
 use Rattle.task_laws.specs.declared.positions.Position.TheVariants.{Notifier, Claiming}
 use Rattle.task_core.specs.declared.moves.Act.TheVariants.{Look, EndCall}
-use Rattle.task_cell.specs.Calls.{row, act, position}
-use Rattle.task_cell.specs.PollPaths.{poll_number, waits}
+use Rattle.task_cell.specs.Calls.{position}
+use Rattle.task_steps.specs.Deeds.{row, act}
+use Rattle.task_cell.specs.PollPaths.{waits}
+use Rattle.task_steps.specs.Standing.{poll_number}
 use Rattle.task_cell.proofs.Moved.{stands}
 use Rattle.task_cell.proofs.PollAnswers.{is_ended, is_there, waited, went_on, answers_ended, answers_output}
 use Rattle.task_cell.proofs.cell.Cell.answer.Goals as goal

@@ -1,8 +1,8 @@
 use Rattle.std.proofs.Common.{rules, ap, sym, subst}
 use Rattle.task_core.specs.Word.{state_of}
-use Rattle.task_cell.proofs.Allowed.{steps_always}
+use Rattle.task_steps.proofs.Allowed.{steps_always}
 use Rattle.task_cell.specs.RunCalls.{AnswersPending}
-use Rattle.task_cell.proofs.RunOwed.{answers_pending}
+use Rattle.task_steps.proofs.RunOwed.{answers_pending}
 use Rattle.task_cell.proofs.RunGoes.{answered_pending}
 use Rattle.task_cell.proofs.cell.Cell.answer_pending.Goals as goal
 

@@ -1,10 +1,10 @@
 use Rattle.std.proofs.Common.{rules, ap, sym, ◌∙◌, subst}
 use Rattle.task_core.specs.declared.moves.Act.TheVariants.{BeginRegister}
-use Rattle.task_cell.specs.Steps.{Makes}
-use Rattle.task_cell.specs.PollScripts.{finding_notifier, beginning_register}
-use Rattle.task_cell.proofs.Allowed.{steps_always, steps_or_misses}
-use Rattle.task_cell.proofs.Owed.{does_nothing}
-use Rattle.task_cell.proofs.PollOwed.{finds_notifier, begins_register, fits}
+use Rattle.task_steps.specs.Steps.{Makes}
+use Rattle.task_steps.specs.PollScripts.{finding_notifier, beginning_register}
+use Rattle.task_steps.proofs.Allowed.{steps_always, steps_or_misses}
+use Rattle.task_steps.proofs.Owed.{does_nothing}
+use Rattle.task_steps.proofs.PollOwed.{finds_notifier, begins_register, fits}
 use Rattle.task_cell.proofs.PollMoved.{hit, finds_none, finds_some, stayed, found_one, begun}
 use Rattle.task_cell.proofs.cell.Cell.begin_register.Goals as goal
 

@@ -1,8 +1,8 @@
 use Rattle.std.proofs.Common.{rules, ap, sym, ◌∙◌}
 use Rattle.task_core.specs.declared.moves.Act.TheVariants.{ClaimOutput}
-use Rattle.task_cell.proofs.Allowed.{steps_or_misses}
-use Rattle.task_cell.proofs.Owed.{does_nothing}
-use Rattle.task_cell.proofs.PollOwed.{claims, fits}
+use Rattle.task_steps.proofs.Allowed.{steps_or_misses}
+use Rattle.task_steps.proofs.Owed.{does_nothing}
+use Rattle.task_steps.proofs.PollOwed.{claims, fits}
 use Rattle.task_cell.proofs.cell.Cell.claim.Goals as goal
 
 pub compare_exchange-found-requires : goal.compare_exchange-found-requires

@@ -4,10 +4,11 @@ use Rattle.task_laws.specs.declared.positions.Closer.TheVariants.{ClosedRun}
 use Rattle.task_laws.specs.declared.positions.Position.TheVariants.{FutureInHand}
 use Rattle.task_core.specs.declared.moves.Act.TheVariants.{DropFuture, Unschedule}
 use Rattle.task_laws.specs.Table.{notifies}
-use Rattle.task_cell.specs.declared.table.Slot.TheVariants.{Empty}
-use Rattle.task_cell.specs.Calls.{row, act, Stands}
+use Rattle.task_steps.specs.declared.table.Slot.TheVariants.{Empty}
+use Rattle.task_cell.specs.Calls.{Stands}
+use Rattle.task_steps.specs.Deeds.{row, act}
 use Rattle.task_cell.specs.RunCalls.{Rests}
-use Rattle.task_cell.specs.Steps.{future_first}
+use Rattle.task_steps.specs.Steps.{future_first}
 use Rattle.task_cell.proofs.Moved.{stands}
 use Rattle.task_cell.proofs.RunRest.{unscheduled, close_rest}
 use Rattle.task_cell.proofs.cell.Cell.close_run.Goals as goal

@@ -1,13 +1,13 @@
 use Rattle.std.proofs.Common.{rules, ap, sym, ◌∙◌, ◌<◌, subst}
 use Rattle.atomic_table.specs.Table.{Me}
 use Rattle.task_core.specs.Word.{State, number_of}
-use Rattle.task_cell.specs.declared.table.Slot.{Slot}
-use Rattle.task_cell.specs.declared.table.Kept.{Kept}
-use Rattle.task_cell.specs.declared.table.View.{View}
-use Rattle.task_cell.specs.Steps.{Makes}
-use Rattle.task_cell.specs.TaskScripts.{looking_over}
-use Rattle.task_cell.proofs.Known.{steps_knowing, steps_or_misses_knowing}
-use Rattle.task_cell.proofs.TaskOwed.{looks_over as look, cancels}
+use Rattle.task_steps.specs.declared.table.Slot.{Slot}
+use Rattle.task_steps.specs.declared.table.Kept.{Kept}
+use Rattle.task_steps.specs.declared.table.View.{View}
+use Rattle.task_steps.specs.Steps.{Makes}
+use Rattle.task_steps.specs.TaskScripts.{looking_over}
+use Rattle.task_steps.proofs.Known.{steps_knowing, steps_or_misses_knowing}
+use Rattle.task_steps.proofs.TaskOwed.{looks_over as look, cancels}
 use Rattle.task_cell.proofs.TaskMoves.{opened, looks_on, closes_at}
 use Rattle.task_cell.proofs.cell.Cell.close_task.Goals as goal
 

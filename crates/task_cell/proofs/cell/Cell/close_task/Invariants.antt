@@ -1,6 +1,6 @@
 use Rattle.std.proofs.Common.{◌≡◌, ◌<◌}
-use Rattle.task_cell.specs.Steps.{Makes}
-use Rattle.task_cell.specs.TaskScripts.{looking_over}
+use Rattle.task_steps.specs.Steps.{Makes}
+use Rattle.task_steps.specs.TaskScripts.{looking_over}
 use Rattle.task_cell.proofs.cell.Cell.close_task.Given as goal
 
 abbrev pub invariant-loop : goal.invariant-loop

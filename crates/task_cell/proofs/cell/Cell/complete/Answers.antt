@@ -1,12 +1,12 @@
 use Rattle.std.proofs.Common.{rules, ap, ◌∙◌, ◌∷◌, []}
 use Rattle.task_core.specs.Word.{state_of, number_of}
-use Rattle.task_cell.specs.Steps.{output_first}
-use Rattle.task_cell.proofs.Allowed.{steps_or_misses}
+use Rattle.task_steps.specs.Steps.{output_first}
+use Rattle.task_steps.proofs.Allowed.{steps_or_misses}
 use Rattle.task_laws.specs.declared.positions.Position.TheVariants.{Ready}
-use Rattle.task_cell.specs.declared.table.Slot.TheVariants.{Output}
-use Rattle.task_cell.specs.RunScripts.{completing}
-use Rattle.task_cell.proofs.Owed.{does_nothing}
-use Rattle.task_cell.proofs.RunOwed.{may_complete}
+use Rattle.task_steps.specs.declared.table.Slot.TheVariants.{Output}
+use Rattle.task_steps.specs.RunScripts.{completing}
+use Rattle.task_steps.proofs.Owed.{does_nothing}
+use Rattle.task_steps.proofs.RunOwed.{may_complete}
 use Rattle.task_cell.proofs.RunGoes.{completed, completes_then, turns, unchanged, at_found}
 use Rattle.task_cell.proofs.Carried.{exchanges}
 use Rattle.task_cell.proofs.Moved.{stands, output_held, goes_on}

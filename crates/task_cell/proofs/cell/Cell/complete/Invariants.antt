@@ -1,7 +1,7 @@
 use Rattle.std.proofs.Common.{[]}
 use Rattle.task_laws.specs.declared.positions.Position.TheVariants.{Ready}
-use Rattle.task_cell.specs.declared.table.Slot.TheVariants.{Output}
-use Rattle.task_cell.specs.Steps.{output_first}
+use Rattle.task_steps.specs.declared.table.Slot.TheVariants.{Output}
+use Rattle.task_steps.specs.Steps.{output_first}
 use Rattle.task_cell.specs.Calls.{GoesWith}
 use Rattle.task_cell.proofs.cell.Cell.complete.Given as goal
 

@@ -4,7 +4,7 @@ use Rattle.task_laws.specs.declared.positions.Rest.TheVariants.{Ended}
 use Rattle.task_laws.specs.declared.positions.After.TheVariants.{ThenEnds}
 use Rattle.task_laws.specs.declared.positions.Position.TheVariants.{Deliverer, Leaving}
 use Rattle.task_core.specs.declared.moves.Act.TheVariants.{GiveUpOutput, DropOutput, DetachLast, EmptySlots}
-use Rattle.task_cell.specs.Calls.{row, act}
+use Rattle.task_steps.specs.Deeds.{row, act}
 use Rattle.task_cell.proofs.Moved.{stands}
 use Rattle.task_cell.proofs.TaskCalls.{unclaimed_last, last_emptied, detaches_unclaimed_last, detaches_unclaimed, detaches_shared, detaches_last, detaches_orphaned}
 use Rattle.task_cell.proofs.cell.Cell.detach.Goals as goal

@@ -1,7 +1,7 @@
 use Rattle.std.proofs.Common.{rules, ap}
 use Rattle.task_core.specs.Word.{state_of}
-use Rattle.task_cell.proofs.Allowed.{steps_always}
-use Rattle.task_cell.proofs.RunOwed.{discards}
+use Rattle.task_steps.proofs.Allowed.{steps_always}
+use Rattle.task_steps.proofs.RunOwed.{discards}
 use Rattle.task_cell.proofs.RunGoes.{discarded}
 use Rattle.task_cell.proofs.cell.Cell.discard_start.Goals as goal
 

@@ -1,14 +1,14 @@
 use Rattle.std.proofs.Common.{rules, ap, ◌∷◌, []}
 use Rattle.task_core.specs.Word.{state_of}
-use Rattle.task_cell.proofs.Allowed.{steps_always}
+use Rattle.task_steps.proofs.Allowed.{steps_always}
 use Rattle.task_laws.specs.declared.positions.Position.TheVariants.{OutputInHand}
 use Rattle.task_laws.specs.declared.positions.Way.TheVariants.{OfRun}
 use Rattle.task_core.specs.declared.moves.Act.TheVariants.{DropOutput}
 use Rattle.task_laws.specs.Table.{notifies}
-use Rattle.task_cell.specs.Steps.{output_first}
-use Rattle.task_cell.specs.Calls.{act}
-use Rattle.task_cell.specs.declared.table.Slot.TheVariants.{Empty}
-use Rattle.task_cell.proofs.RunOwed.{drops_output}
+use Rattle.task_steps.specs.Steps.{output_first}
+use Rattle.task_steps.specs.Deeds.{act}
+use Rattle.task_steps.specs.declared.table.Slot.TheVariants.{Empty}
+use Rattle.task_steps.proofs.RunOwed.{drops_output}
 use Rattle.task_cell.proofs.RunGoes.{dropped_output}
 use Rattle.task_cell.proofs.Moved.{stands, output_held, goes_on}
 use Rattle.task_cell.proofs.cell.Cell.drop_output.Goals as goal

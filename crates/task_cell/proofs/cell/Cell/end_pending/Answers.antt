@@ -1,12 +1,13 @@
 use Rattle.std.proofs.Common.{rules, ap, sym, subst, ◌∙◌, []}
 use Rattle.task_core.specs.Word.{state_of, number_of}
-use Rattle.task_cell.specs.Steps.{future_first}
-use Rattle.task_cell.proofs.Allowed.{steps_or_misses}
+use Rattle.task_steps.specs.Steps.{future_first}
+use Rattle.task_steps.proofs.Allowed.{steps_or_misses}
 use Rattle.task_laws.specs.declared.positions.Position.TheVariants.{Pending}
-use Rattle.task_cell.specs.declared.cell.ends.PendingEnd.TheVariants.{Closed}
-use Rattle.task_cell.specs.RunScripts.{ending_pending}
-use Rattle.task_cell.specs.RunCalls.{EndsPending, is_closed, ending_of}
-use Rattle.task_cell.proofs.RunOwed.{may_end, misses_end}
+use Rattle.task_steps.specs.declared.words.PendingEnd.TheVariants.{Closed}
+use Rattle.task_steps.specs.RunScripts.{ending_pending}
+use Rattle.task_cell.specs.RunCalls.{EndsPending, is_closed}
+use Rattle.task_steps.specs.Found.{ending_of}
+use Rattle.task_steps.proofs.RunOwed.{may_end, misses_end}
 use Rattle.task_cell.proofs.RunGoes.{ended_pending, ends_then, at_rest, found_closed_meanwhile, found_open_still, same_me, at_found}
 use Rattle.task_cell.proofs.Moved.{stands, future_held}
 use Rattle.task_cell.proofs.cell.Cell.end_pending.Goals as goal

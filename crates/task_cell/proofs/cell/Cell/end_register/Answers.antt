@@ -1,12 +1,12 @@
 use Rattle.std.proofs.Common.{rules, ap, sym, ◌∙◌, ◌∷◌}
 use Rattle.atomic_table.specs.Table.{rest}
 use Rattle.task_core.specs.declared.moves.Act.TheVariants.{EndRegister}
-use Rattle.task_cell.specs.declared.table.Slot.TheVariants.{Awaiter}
-use Rattle.task_cell.specs.PollScripts.{ending_register}
+use Rattle.task_steps.specs.declared.table.Slot.TheVariants.{Awaiter}
+use Rattle.task_steps.specs.PollScripts.{ending_register}
 use Rattle.task_cell.specs.PollPaths.{finds_notified}
-use Rattle.task_cell.proofs.Allowed.{steps_or_misses}
-use Rattle.task_cell.proofs.Owed.{does_nothing}
-use Rattle.task_cell.proofs.PollOwed.{ends_register, fits}
+use Rattle.task_steps.proofs.Allowed.{steps_or_misses}
+use Rattle.task_steps.proofs.Owed.{does_nothing}
+use Rattle.task_steps.proofs.PollOwed.{ends_register, fits}
 use Rattle.task_cell.proofs.PollMoved.{hit, leaves_none, ended}
 use Rattle.task_cell.proofs.cell.Cell.end_register.Goals as goal
 

@@ -1,6 +1,6 @@
 use Rattle.std.proofs.Common.{rules, ap, subst, ◌∙◌}
 use Rattle.task_cell.specs.WakerPaths.{GainsBeside}
-use Rattle.task_cell.proofs.WakerSeats.{parts_newest}
+use Rattle.task_steps.proofs.WakerSeats.{parts_newest}
 use Rattle.task_cell.proofs.WakerMoves.{gains_waker, gains_nothing}
 use Rattle.task_cell.proofs.cell.Cell.gain.Goals as goal
 

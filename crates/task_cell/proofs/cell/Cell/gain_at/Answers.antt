@@ -1,5 +1,5 @@
 use Rattle.std.proofs.Common.{ap, sym, ◌∙◌}
-use Rattle.task_cell.specs.Holders.{roost}
+use Rattle.task_steps.specs.Holders.{roost}
 use Rattle.task_cell.proofs.WakerMoves.{at_rest, may_rest}
 use Rattle.task_cell.proofs.cell.Cell.gain_at.Goals as goal
 

@@ -3,11 +3,11 @@ use Rattle.atomic_table.specs.Table.{Me}
 use Rattle.task_core.specs.Word.{State}
 use Rattle.task_core.specs.Rows.{row}
 use Rattle.task_core.specs.declared.moves.Act.TheVariants.{GainReference}
-use Rattle.task_cell.specs.declared.table.Slot.{Slot}
-use Rattle.task_cell.specs.declared.table.Kept.{Kept}
-use Rattle.task_cell.specs.declared.table.View.{View}
-use Rattle.task_cell.specs.Steps.{Makes}
-use Rattle.task_cell.specs.WakerScripts.{looking_for_room}
+use Rattle.task_steps.specs.declared.table.Slot.{Slot}
+use Rattle.task_steps.specs.declared.table.Kept.{Kept}
+use Rattle.task_steps.specs.declared.table.View.{View}
+use Rattle.task_steps.specs.Steps.{Makes}
+use Rattle.task_steps.specs.WakerScripts.{looking_for_room}
 use Rattle.task_cell.proofs.WakerMoves.{may_look, may_gain, viewed, stands_same, has_room, has_none, finds_room, finds_none, gained}
 use Rattle.task_cell.proofs.cell.Cell.gain_reference.Goals as goal
 

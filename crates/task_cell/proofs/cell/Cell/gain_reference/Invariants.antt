@@ -1,6 +1,6 @@
 use Rattle.std.proofs.Common.{◌≡◌, ◌<◌}
-use Rattle.task_cell.specs.Steps.{Makes}
-use Rattle.task_cell.specs.WakerScripts.{looking_for_room}
+use Rattle.task_steps.specs.Steps.{Makes}
+use Rattle.task_steps.specs.WakerScripts.{looking_for_room}
 use Rattle.task_cell.proofs.cell.Cell.gain_reference.Given as goal
 
 abbrev pub invariant-loop : goal.invariant-loop

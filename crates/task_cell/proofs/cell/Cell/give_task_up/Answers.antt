@@ -1,8 +1,8 @@
 use Rattle.std.proofs.Common.{rules, ap, sym, ◌∙◌}
 use Rattle.task_core.specs.Word.{number_of}
-use Rattle.task_cell.proofs.Allowed.{steps_or_misses}
-use Rattle.task_cell.proofs.Owed.{does_nothing}
-use Rattle.task_cell.proofs.TaskOwed.{detaches}
+use Rattle.task_steps.proofs.Allowed.{steps_or_misses}
+use Rattle.task_steps.proofs.Owed.{does_nothing}
+use Rattle.task_steps.proofs.TaskOwed.{detaches}
 use Rattle.task_cell.proofs.TaskMoves.{stays_here, gives_up_at}
 use Rattle.task_cell.proofs.cell.Cell.give_task_up.Goals as goal
 

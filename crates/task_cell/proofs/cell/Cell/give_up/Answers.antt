@@ -1,7 +1,7 @@
 use Rattle.std.proofs.Common.{rules, ap, subst, ◌∙◌}
 use Rattle.task_core.specs.Word.{state_of}
-use Rattle.task_cell.proofs.Allowed.{steps_always}
-use Rattle.task_cell.proofs.RunOwed.{gives_up}
+use Rattle.task_steps.proofs.Allowed.{steps_always}
+use Rattle.task_steps.proofs.RunOwed.{gives_up}
 use Rattle.task_cell.proofs.RunGoes.{gave_up, none_left}
 use Rattle.task_cell.specs.RunCalls.{GivesUp}
 use Rattle.task_core.specs.Rows.{row}

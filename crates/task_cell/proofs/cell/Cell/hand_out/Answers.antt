@@ -1,9 +1,9 @@
 use Rattle.std.proofs.Common.{rules, ap, ◌∷◌, [], refl}
 use Rattle.task_laws.specs.declared.positions.Position.TheVariants.{Claimer}
-use Rattle.task_cell.specs.declared.table.Slot.TheVariants.{Empty}
-use Rattle.task_cell.specs.Steps.{output_first}
-use Rattle.task_cell.proofs.Allowed.{steps_always}
-use Rattle.task_cell.proofs.PollOwed.{hands_out}
+use Rattle.task_steps.specs.declared.table.Slot.TheVariants.{Empty}
+use Rattle.task_steps.specs.Steps.{output_first}
+use Rattle.task_steps.proofs.Allowed.{steps_always}
+use Rattle.task_steps.proofs.PollOwed.{hands_out}
 use Rattle.task_cell.proofs.RunGoes.{at_rest}
 use Rattle.task_cell.proofs.Carried.{exchanges}
 use Rattle.task_cell.proofs.Moved.{stands, output_held}

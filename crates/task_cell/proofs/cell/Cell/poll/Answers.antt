@@ -2,8 +2,9 @@ use Rattle.std.proofs.Common.{◌∷◌, [], ◌++◌, sym, ◌∙◌, true, fal
 use Rattle.task_laws.specs.declared.positions.Way.TheVariants.{OfPoll}
 use Rattle.task_laws.specs.declared.positions.Position.TheVariants.{Notifier, Registrar, Looking}
 use Rattle.task_core.specs.declared.moves.Act.TheVariants.{Look}
-use Rattle.task_cell.specs.Calls.{row, position, as_task}
-use Rattle.task_cell.specs.PollPaths.{poll_number}
+use Rattle.task_cell.specs.Calls.{position}
+use Rattle.task_steps.specs.Deeds.{row}
+use Rattle.task_steps.specs.Standing.{as_task, poll_number}
 use Rattle.task_cell.proofs.Moved.{stands}
 use Rattle.task_cell.proofs.PollAnswers.{saw_output, saw_none, came, is_looking, polled_output, polled_ended, polled_refused, polled_again}
 use Rattle.task_cell.proofs.cell.Cell.poll.Goals as goal

@@ -1,7 +1,7 @@
 use Rattle.std.proofs.Common.{rules, ap, ◌∙◌}
-use Rattle.task_cell.specs.Seats.{lent_of}
-use Rattle.task_cell.specs.Holders.{roost}
-use Rattle.task_cell.proofs.Seats.{lends, takes_back}
+use Rattle.task_steps.specs.Seats.{lent_of}
+use Rattle.task_steps.specs.Holders.{roost}
+use Rattle.task_steps.proofs.Seats.{lends, takes_back}
 use Rattle.task_cell.proofs.Running.{came_back}
 use Rattle.task_cell.proofs.cell.Cell.poll_future.Goals as goal
 

@@ -1,7 +1,7 @@
 use Rattle.std.proofs.Common.{rules, ap, sym, ◌∷◌, ◌∙◌, []}
-use Rattle.task_cell.specs.Rule.{view, fresh}
-use Rattle.task_cell.specs.Steps.{head_of, tail_of}
-use Rattle.task_cell.proofs.WakerSeats.{may_forget}
+use Rattle.task_steps.specs.Rule.{view, fresh}
+use Rattle.task_steps.specs.Steps.{head_of, tail_of}
+use Rattle.task_steps.proofs.WakerSeats.{may_forget}
 use Rattle.task_cell.proofs.cell.Cell.put_back.Goals as goal
 
 pub load-requires : goal.load-requires

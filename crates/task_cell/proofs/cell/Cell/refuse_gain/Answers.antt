@@ -1,6 +1,6 @@
 use Rattle.std.proofs.Common.{rules, ap}
-use Rattle.task_cell.proofs.Allowed.{steps_always}
-use Rattle.task_cell.proofs.WakerOwed.{refuses_gain}
+use Rattle.task_steps.proofs.Allowed.{steps_always}
+use Rattle.task_steps.proofs.WakerOwed.{refuses_gain}
 use Rattle.task_cell.proofs.cell.Cell.refuse_gain.Goals as goal
 
 pub load-requires : goal.load-requires

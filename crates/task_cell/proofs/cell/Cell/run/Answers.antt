@@ -2,7 +2,7 @@ use Rattle.std.proofs.Common.{◌∙◌, sym, ap, subst, []}
 use Rattle.std.specs.Arc.{arc_value}
 use Rattle.task_cell.specs.declared.cell.Cell.{Cell}
 use Rattle.task_cell.specs.RunCalls.{EndsUnready}
-use Rattle.task_cell.specs.Steps.{future_first}
+use Rattle.task_steps.specs.Steps.{future_first}
 use Rattle.task_cell.proofs.Moved.{stands}
 use Rattle.task_cell.proofs.Running.{shut, started, lending, limit_started, run_closed, run_ready, run_pending}
 use Rattle.task_cell.proofs.cell.Cell.run.Goals as goal

@@ -1,6 +1,6 @@
 use Rattle.std.proofs.Common.{rules, ap, ◌∙◌}
-use Rattle.task_cell.proofs.Allowed.{steps_always}
-use Rattle.task_cell.proofs.PollOwed.{drops_stored, same_first}
+use Rattle.task_steps.proofs.Allowed.{steps_always}
+use Rattle.task_steps.proofs.PollOwed.{drops_stored, same_first}
 use Rattle.task_cell.proofs.cell.Cell.store.Goals as goal
 
 pub load-requires : goal.load-requires

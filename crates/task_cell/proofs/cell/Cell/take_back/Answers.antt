@@ -1,11 +1,11 @@
 use Rattle.std.proofs.Common.{rules, ap, sym, ◌∙◌, ◌∷◌}
 use Rattle.atomic_table.specs.Table.{rest}
 use Rattle.task_core.specs.declared.moves.Act.TheVariants.{EndRegisterNotified}
-use Rattle.task_cell.specs.declared.table.Slot.TheVariants.{Empty, Awaiter}
-use Rattle.task_cell.proofs.Allowed.{steps_or_misses}
+use Rattle.task_steps.specs.declared.table.Slot.TheVariants.{Empty, Awaiter}
+use Rattle.task_steps.proofs.Allowed.{steps_or_misses}
 use Rattle.task_cell.proofs.Moved.{first_held}
-use Rattle.task_cell.proofs.Owed.{does_nothing}
-use Rattle.task_cell.proofs.PollOwed.{ends_notified, fits}
+use Rattle.task_steps.proofs.Owed.{does_nothing}
+use Rattle.task_steps.proofs.PollOwed.{ends_notified, fits}
 use Rattle.task_cell.proofs.cell.Cell.take_back.Goals as goal
 
 pub compare_exchange-found-requires : goal.compare_exchange-found-requires

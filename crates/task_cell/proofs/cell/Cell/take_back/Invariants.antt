@@ -1,5 +1,5 @@
 use Rattle.std.proofs.Common.{◌≡◌, [], ◌∷◌}
-use Rattle.task_cell.specs.declared.table.Slot.TheVariants.{Empty}
+use Rattle.task_steps.specs.declared.table.Slot.TheVariants.{Empty}
 use Rattle.task_cell.proofs.cell.Cell.take_back.Given as goal
 
 abbrev pub invariant-loop : goal.invariant-loop

@@ -3,9 +3,10 @@ use Rattle.task_core.specs.declared.moves.Act.TheVariants.{ClaimOutput}
 use Rattle.task_laws.specs.declared.positions.Way.TheVariants.{OfClaim}
 use Rattle.task_laws.specs.declared.positions.Position.TheVariants.{Claimer}
 use Rattle.task_laws.specs.Table.{notifies}
-use Rattle.task_cell.specs.Calls.{row, position}
-use Rattle.task_cell.specs.PollPaths.{poll_number}
-use Rattle.task_cell.specs.Steps.{output_first}
+use Rattle.task_cell.specs.Calls.{position}
+use Rattle.task_steps.specs.Deeds.{row}
+use Rattle.task_steps.specs.Standing.{poll_number}
+use Rattle.task_steps.specs.Steps.{output_first}
 use Rattle.task_cell.proofs.Moved.{stands}
 use Rattle.task_cell.proofs.PollWays.{is_claimer, handed_out}
 use Rattle.task_cell.proofs.cell.Cell.take_output.Goals as goal

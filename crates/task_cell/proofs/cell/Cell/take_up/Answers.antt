@@ -1,12 +1,12 @@
 use Rattle.std.proofs.Common.{rules, sym, ap, ◌∙◌, subst}
 use Rattle.atomic_table.specs.Table.{Me}
 use Rattle.task_core.specs.Word.{State}
-use Rattle.task_cell.specs.declared.table.Slot.{Slot}
-use Rattle.task_cell.specs.declared.table.Kept.{Kept}
-use Rattle.task_cell.specs.declared.table.View.{View}
-use Rattle.task_cell.specs.Steps.{Makes}
-use Rattle.task_cell.specs.StartScripts.{taking_up_closed}
-use Rattle.task_cell.proofs.Allowed.{steps_always, steps_or_misses}
+use Rattle.task_steps.specs.declared.table.Slot.{Slot}
+use Rattle.task_steps.specs.declared.table.Kept.{Kept}
+use Rattle.task_steps.specs.declared.table.View.{View}
+use Rattle.task_steps.specs.Steps.{Makes}
+use Rattle.task_steps.specs.StartScripts.{taking_up_closed}
+use Rattle.task_steps.proofs.Allowed.{steps_always, steps_or_misses}
 use Rattle.task_cell.proofs.Starting.{takes_up_closed, starts_run, unmoved, found_closed, started_at}
 use Rattle.task_cell.proofs.cell.Cell.take_up.Goals as goal
 

@@ -1,6 +1,6 @@
 use Rattle.std.proofs.Common.{◌≡◌}
-use Rattle.task_cell.specs.Steps.{Makes}
-use Rattle.task_cell.specs.StartScripts.{taking_up_closed}
+use Rattle.task_steps.specs.Steps.{Makes}
+use Rattle.task_steps.specs.StartScripts.{taking_up_closed}
 use Rattle.task_cell.proofs.cell.Cell.take_up.Given as goal
 
 abbrev pub invariant-loop : goal.invariant-loop

@@ -1,5 +1,5 @@
 use Rattle.std.proofs.Common.{◌∙◌}
-use Rattle.task_cell.specs.Holders.{roost}
+use Rattle.task_steps.specs.Holders.{roost}
 use Rattle.task_cell.proofs.WakerMoves.{woke_at_rest, may_rest}
 use Rattle.task_cell.proofs.cell.Cell.wake_at.Goals as goal
 

@@ -1,6 +1,6 @@
 use Rattle.std.proofs.Common.{rules, ap, subst, ◌∙◌}
 use Rattle.task_cell.specs.WakerPaths.{WakesBeside}
-use Rattle.task_cell.proofs.WakerSeats.{parts_newest}
+use Rattle.task_steps.proofs.WakerSeats.{parts_newest}
 use Rattle.task_cell.proofs.WakerMoves.{wakes_idle, wakes_else}
 use Rattle.task_cell.proofs.cell.Cell.wake_by_ref.Goals as goal
 

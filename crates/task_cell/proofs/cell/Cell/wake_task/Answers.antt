@@ -1,14 +1,14 @@
 use Rattle.std.proofs.Common.{rules, ap, sym, subst, ◌∙◌, ◌<◌}
 use Rattle.atomic_table.specs.Table.{Me}
 use Rattle.task_core.specs.Word.{State, number_of}
-use Rattle.task_cell.specs.declared.table.Slot.{Slot}
-use Rattle.task_cell.specs.declared.table.Kept.{Kept}
-use Rattle.task_cell.specs.declared.table.View.{View}
-use Rattle.task_cell.specs.Steps.{Makes}
-use Rattle.task_cell.specs.WakerScripts.{finding_over}
+use Rattle.task_steps.specs.declared.table.Slot.{Slot}
+use Rattle.task_steps.specs.declared.table.Kept.{Kept}
+use Rattle.task_steps.specs.declared.table.View.{View}
+use Rattle.task_steps.specs.Steps.{Makes}
+use Rattle.task_steps.specs.WakerScripts.{finding_over}
 use Rattle.task_cell.specs.WakerPaths.{WakesBeside}
-use Rattle.task_cell.proofs.Known.{steps_knowing, steps_or_misses_knowing}
-use Rattle.task_cell.proofs.WakerOwed as owed
+use Rattle.task_steps.proofs.Known.{steps_knowing, steps_or_misses_knowing}
+use Rattle.task_steps.proofs.WakerOwed as owed
 use Rattle.task_cell.proofs.WakerMoves.{was_open, was_over, finds_open, finds_over, woke}
 use Rattle.task_cell.proofs.cell.Cell.wake_task.Goals as goal
 

@@ -1,0 +1,10 @@
+use Rattle.std.proofs.lemmas.List.Sorted.{IsPermutation-map}
+use Rattle.priority_heap.specs.Priority.{priority_of}
+use Rattle.priority_heap.proofs.Greatest.{bound_of_parts}
+use Rattle.priority_heap.proofs.heap.PriorityHeap.pop.Goals as goal
+
+pub returns-clause-greatest : goal.returns-clause-greatest
+returns-clause-greatest g c = rw c.into_parked.ensures (bound_of_parts (λ entry. entry.parked) priority_of c.in_ok-entry.entry _ (c.in_ok-entry.ensures.heap_order c.args.self.now.ordered).1)
+
+pub returns-clause-others : goal.returns-clause-others
+returns-clause-others g c = rw c.into_parked.ensures (IsPermutation-map (λ entry. entry.parked) _ _ c.in_ok-entry.ensures.permutation)

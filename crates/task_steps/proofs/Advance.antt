@@ -1,0 +1,240 @@
+-- What a step of a party owes: the interleaving, and the places that it takes and gives back.
+use Rattle.std.proofs.Common.{◌≡◌, ℕ, ◌+◌, ◌<◌, ◌≤◌, ◌≢◌, Bool, true, false, Some, List, ◌∷◌, length, get_or, set, sym, refl, ap, ◌∙◌, subst, ◌⊎◌, ⊎_elim, arith, length-set}
+use mathlib.Core.Option.{some, none, some-injective, some-ne-none}
+use mathlib.Core.Option as maybe
+use lib.ListN.{get_elem?}
+use Rattle.atomic_table.specs.Table.{State as Board, Me, Act as Move, keeps, takes, gives, chain, stepped, homes_after, carried_after, Valid, rest}
+use Rattle.atomic_table.proofs.Lists as lists
+use Rattle.task_core.specs.Word.{bit, number_of, is_open}
+use Rattle.task_laws.specs.declared.positions.Position.{Position}
+use Rattle.task_core.specs.declared.moves.Act.{Act}
+use Rattle.task_laws.specs.Table.{Outcome}
+use Rattle.task_laws.specs.Machine.{Machine, scene, how_many}
+use Rattle.task_laws.specs.Laws.{count, is_emptying}
+use Rattle.task_laws.specs.Theorem.{owns_awaiter}
+use Rattle.task_laws.proofs.Runs.{Invariant}
+use Rattle.task_steps.specs.declared.table.Slot.{Slot}
+use Rattle.task_steps.specs.declared.table.Deed.{Deed}
+use Rattle.task_steps.specs.declared.table.Member.{Member}
+use Rattle.task_steps.specs.declared.table.View.{View}
+use Rattle.task_steps.specs.Rule.{has_work, IsFuture, IsOutput, Waits, AtHome, Housed, Ruled}
+use Rattle.task_steps.specs.Steps.{future_first, output_first, TakesFuture, TakesOutput, Works, Awaits, Carries, Carried, saw_over, saw_closed}
+use Rattle.task_steps.proofs.Acts.{leads}
+
+-- the machine's slots of future and output are as they were
+abbrev pub SameWork : Machine → Outcome → Type 0
+SameWork m o = (o.slots.future ≡ m.slots.future) × (o.slots.output ≡ m.slots.output)
+
+abbrev pub SameAwaiter : Machine → Outcome → Type 0
+SameAwaiter m o = (o.slots.awaiter ≡ m.slots.awaiter) × (count is_emptying o.told ≡ 0)
+
+module _ {F T A : Type 0} where
+  -- the party has the places of future and output in front, with these values
+  abbrev pub HasBoth : Slot F T A → Slot F T A → List (ℕ × Slot F T A) → Type 0
+  HasBoth y z l = (l ≡ future_first y z (rest (rest l))) ⊎ (l ≡ output_first y z (rest (rest l)))
+
+  -- which places the party takes or gives back, and why it may
+  pub data Placing (m : Machine) (p : Position) (o : Outcome) (l : List (ℕ × Slot F T A)) : Type 0 where
+    stays : has_work o.next ≡ has_work p → owns_awaiter o.next ≡ owns_awaiter p → (has_work p ≡ true) ⊎ SameWork m o → (owns_awaiter p ≡ true) ⊎ SameAwaiter m o → Placing m p o l
+    takes_future : has_work p ≡ false → has_work o.next ≡ true → owns_awaiter o.next ≡ owns_awaiter p → (owns_awaiter p ≡ true) ⊎ SameAwaiter m o → m.slots.future ≡ true → ((l' : List (ℕ × Slot F T A)) → TakesFuture l l' → Works o.next l l') → Placing m p o l
+    takes_output : has_work p ≡ false → has_work o.next ≡ true → owns_awaiter o.next ≡ owns_awaiter p → (owns_awaiter p ≡ true) ⊎ SameAwaiter m o → m.slots.output ≡ true → ((l' : List (ℕ × Slot F T A)) → TakesOutput l l' → Works o.next l l') → Placing m p o l
+    gives_work : (y z : Slot F T A) → has_work p ≡ true → has_work o.next ≡ false → owns_awaiter o.next ≡ owns_awaiter p → (owns_awaiter p ≡ true) ⊎ SameAwaiter m o → HasBoth y z l → (o.slots.future ≡ true → IsFuture y) → (o.slots.output ≡ true → IsOutput z) → Placing m p o l
+    takes_awaiter : owns_awaiter p ≡ false → owns_awaiter o.next ≡ true → has_work o.next ≡ has_work p → (has_work p ≡ true) ⊎ SameWork m o → count is_emptying m.trace ≡ 0 → ((y : Slot F T A) → Waits m.slots.awaiter y → Awaits o.next y) → Placing m p o l
+    gives_awaiter : (y : Slot F T A) → owns_awaiter p ≡ true → owns_awaiter o.next ≡ false → has_work o.next ≡ has_work p → (has_work p ≡ true) ⊎ SameWork m o → l ≡ (2, y) ∷ rest l → (count is_emptying o.told ≡ 0 → Waits o.slots.awaiter y) → Placing m p o l
+
+  -- the step of a party at p that makes these acts, finds the machine so, and writes this number
+  pub record Steps (m : Machine) (p : Position) (acts : List Act) (new : ℕ) (l : List (ℕ × Slot F T A)) : Type 0 where
+    pub outcome : Outcome
+    pub leads_to : leads (scene m) acts p ≡ Some outcome
+    pub writes : new ≡ number_of outcome.word
+    pub idle : (how_many has_work outcome.born ≡ 0) × (how_many owns_awaiter outcome.born ≡ 0)
+    pub placing : Placing m p outcome l
+
+-- what a party may use of the machine that it finds: its invariant, where it stands itself, what it has seen, and where the other parties of its seat stand
+pub record Finds (limit : ℕ) (p : Position) (ds : List Deed) (us : List Member) (m : Machine) : Type 0 where
+  pub invariant : Invariant m
+  pub limited : m.limit ≡ limit
+  pub capped : limit < 36028797018963968
+  pub number : ℕ
+  pub stands : get_elem? m.parties number ≡ some p
+  pub over : saw_over ds ≡ true → is_open m.word ≡ false
+  pub closed : saw_closed ds ≡ true → m.word.closed ≡ true
+  pub beside : (j : ℕ) (u : Member) → get_elem? us j ≡ some u → (k : ℕ) × (get_elem? m.parties k ≡ some u.at)
+
+module _ (F T A : Type 0) (limit : ℕ) where
+  abbrev pub M : Type 0
+  M = Me (Slot F T A) View
+
+  abbrev pub B : Type 0
+  B = Board (Slot F T A) View
+
+  abbrev pub Rule : B → Type 0
+  Rule = Ruled {F = F} {T = T} {A = A} limit
+
+  abbrev pub now : B → ℕ
+  now s = get_or s.words 0 0
+
+  abbrev pub Result : B → ℕ → M → ℕ → (M → Type 0) → Type 0
+  Result s id me x then = (w : View) × (move : Move (Slot F T A)) × Valid s.homes me.1 move × Rule (stepped s 0 x id me.1 w move) × then (w, carried_after me.1 move)
+
+  -- the places after a step: what the machine says of them
+  pub record Places (m : Machine) (p : Position) (o : Outcome) (s : B) (l : List (ℕ × Slot F T A)) (q : Machine) : Type 0 where
+    pub move : Move (Slot F T A)
+    pub valid : Valid s.homes l move
+    pub housed : Housed q (homes_after s.homes l move)
+    pub carried : Carried p o.next l (carried_after l move)
+
+  -- the machine that follows, as far as the places are concerned
+  pub record After (m : Machine) (p : Position) (o : Outcome) (q : Machine) : Type 0 where
+    pub works : how_many has_work q.parties + bit (has_work p) ≡ how_many has_work m.parties + bit (has_work o.next)
+    pub owners : how_many owns_awaiter q.parties + bit (owns_awaiter p) ≡ how_many owns_awaiter m.parties + bit (owns_awaiter o.next)
+    pub here : bit (has_work p) ≤ how_many has_work m.parties
+    pub here_too : bit (owns_awaiter p) ≤ how_many owns_awaiter m.parties
+    pub slots_is : q.slots ≡ o.slots
+    pub emptied : count is_emptying q.trace ≡ count is_emptying o.told + count is_emptying m.trace
+    pub one_worker : how_many has_work q.parties ≤ 1
+    pub one_owner : how_many owns_awaiter q.parties ≤ 1
+
+  bit_is : (a b : Bool) → a ≡ b → bit a ≡ bit b
+  bit_is a b e = ap bit e
+
+  -- the places of future and output are as they were
+  abbrev SameHomes : List (maybe.Option (Slot F T A)) → List (maybe.Option (Slot F T A)) → Type 0
+  SameHomes homes homes' = (get_elem? homes' 0 ≡ get_elem? homes 0) × (get_elem? homes' 1 ≡ get_elem? homes 1)
+
+  -- the work stays where it is
+  pub same_work : (m : Machine) (p : Position) (o : Outcome) (q : Machine) (homes homes' : List (maybe.Option (Slot F T A))) → After m p o q → Housed m homes → has_work o.next ≡ has_work p → (has_work p ≡ true) ⊎ SameWork m o
+      → SameHomes homes homes' → how_many has_work q.parties ≡ 0 → AtHome homes' 0 (λ y. q.slots.future ≡ true → IsFuture y) × AtHome homes' 1 (λ z. q.slots.output ≡ true → IsOutput z)
+  same_work m p o q homes homes' a h e kept at nobody = ⊎_elim
+      (λ (z : has_work p ≡ true). absurd (let x = a.works in let y = a.here in let b = bit_is (has_work o.next) (has_work p) e in let c : bit (has_work p) ≡ 1 = ap bit z in omega arith))
+      (λ (z : SameWork m o). let before : how_many has_work m.parties ≡ 0 = (let x = a.works in let b = bit_is (has_work o.next) (has_work p) e in omega arith) in
+      let y = h.future before in let x = h.output before in (
+        (y.0, at.0 ∙ y.1, λ f. y.2 (sym z.0 ∙ (ap (λ x. x.future) (sym a.slots_is) ∙ f))),
+        (x.0, at.1 ∙ x.1, λ f. x.2 (sym z.1 ∙ (ap (λ x. x.output) (sym a.slots_is) ∙ f))),
+      ))
+      kept
+
+  pub same_awaiter : (m : Machine) (p : Position) (o : Outcome) (q : Machine) (homes homes' : List (maybe.Option (Slot F T A))) → After m p o q → Housed m homes → owns_awaiter o.next ≡ owns_awaiter p → (owns_awaiter p ≡ true) ⊎ SameAwaiter m o
+      → get_elem? homes' 2 ≡ get_elem? homes 2 → how_many owns_awaiter q.parties ≡ 0 → count is_emptying q.trace ≡ 0 → AtHome homes' 2 (Waits q.slots.awaiter)
+  same_awaiter m p o q homes homes' a h e kept at nobody left = ⊎_elim
+      (λ (z : owns_awaiter p ≡ true). absurd (let x = a.owners in let y = a.here_too in let b = bit_is (owns_awaiter o.next) (owns_awaiter p) e in let c : bit (owns_awaiter p) ≡ 1 = ap bit z in omega arith))
+      (λ (z : SameAwaiter m o). let before : how_many owns_awaiter m.parties ≡ 0 = (let x = a.owners in let b = bit_is (owns_awaiter o.next) (owns_awaiter p) e in omega arith) in
+      let g = h.awaiter before (let x = a.emptied in omega arith) in
+      (g.0, at ∙ g.1, subst (λ w. Waits w g.0) (sym z.0 ∙ ap (λ x. x.awaiter) (sym a.slots_is)) g.2))
+      kept
+
+  busy_work : (m : Machine) (p : Position) (o : Outcome) (q : Machine) → After m p o q → has_work p ≡ false → has_work o.next ≡ true → how_many has_work q.parties ≡ 1 + how_many has_work m.parties
+  busy_work m p o q a e f = let x = a.works in let b : bit (has_work p) ≡ 0 = ap bit e in let c : bit (has_work o.next) ≡ 1 = ap bit f in omega arith
+
+  busy_awaiter : (m : Machine) (p : Position) (o : Outcome) (q : Machine) → After m p o q → owns_awaiter p ≡ false → owns_awaiter o.next ≡ true → how_many owns_awaiter q.parties ≡ 1 + how_many owns_awaiter m.parties
+  busy_awaiter m p o q a e f = let x = a.owners in let b : bit (owns_awaiter p) ≡ 0 = ap bit e in let c : bit (owns_awaiter o.next) ≡ 1 = ap bit f in omega arith
+
+  abbrev CarriesAt : Position → List (ℕ × Slot F T A) → List (ℕ × Slot F T A) → Bool → Bool → Bool → Bool → Type 0
+  CarriesAt q l l' a b c d = Carries {F = F} {T = T} {A = A} a b c d q l l'
+
+  carries_same : (a c : Bool) (q : Position) (l : List (ℕ × Slot F T A)) → CarriesAt q l l a a c c
+  carries_same true true q l = refl
+  carries_same true false q l = refl
+  carries_same false true q l = refl
+  carries_same false false q l = refl
+
+  carries_awaiter : (a : Bool) (q : Position) (y : Slot F T A) (l : List (ℕ × Slot F T A)) → Awaits q y → CarriesAt q l ((2, y) ∷ l) a a false true
+  carries_awaiter true q y l h = (y, h, refl)
+  carries_awaiter false q y l h = (y, h, refl)
+
+  carries_back : (a : Bool) (q : Position) (l : List (ℕ × Slot F T A)) → CarriesAt q l (rest l) a a true false
+  carries_back true q l = refl
+  carries_back false q l = refl
+
+  put_at : (s : B) (l : List (ℕ × Slot F T A)) (k : ℕ) (y : Slot F T A) → l ≡ (k, y) ∷ rest l → k < length s.homes → get_elem? (homes_after s.homes l gives) k ≡ some (some y)
+  put_at s l k y e lt = subst (λ (c : List (ℕ × Slot F T A)). get_elem? (homes_after s.homes c gives) k ≡ some (some y)) (sym e) (lists.set_here s.homes k (some y) lt)
+
+  put_else : (s : B) (l : List (ℕ × Slot F T A)) (k j : ℕ) (y : Slot F T A) → l ≡ (k, y) ∷ rest l → j ≢ k → get_elem? (homes_after s.homes l gives) j ≡ get_elem? s.homes j
+  put_else s l k j y e ne = subst (λ (c : List (ℕ × Slot F T A)). get_elem? (homes_after s.homes c gives) j ≡ get_elem? s.homes j) (sym e) (lists.set_else s.homes k j (some y) ne)
+
+  carried_as : (p q : Position) (l l' : List (ℕ × Slot F T A)) (a b c d : Bool) → has_work p ≡ a → has_work q ≡ b → owns_awaiter p ≡ c → owns_awaiter q ≡ d → CarriesAt q l l' a b c d → Carried p q l l'
+  carried_as p q l l' a b c d e f g h x = subst (λ (z : Bool × Bool × Bool × Bool). CarriesAt q l l' z.0 z.1 z.2 z.3) (λ i. (sym e i, sym f i, sym g i, sym h i)) x
+
+  -- two places change, and not this one
+  set_both_else : (homes : List (maybe.Option (Slot F T A))) (i j k : ℕ) (x y : maybe.Option (Slot F T A)) → k ≢ i → k ≢ j → get_elem? (set (set homes i x) j y) k ≡ get_elem? homes k
+  set_both_else homes i j k x y e f = lists.set_else (set homes i x) j k y f ∙ lists.set_else homes i k x e
+
+  -- the places of future and output are at home again, and that of the awaiter is as it was
+  abbrev GivesBoth : B → Slot F T A → Slot F T A → List (ℕ × Slot F T A) → Type 0
+  GivesBoth s y z l = let homes = homes_after s.homes l (chain gives gives) in (get_elem? homes 0 ≡ some (some y)) × (get_elem? homes 1 ≡ some (some z)) × (get_elem? homes 2 ≡ get_elem? s.homes 2)
+
+  gives_both : (s : B) (y z : Slot F T A) (l : List (ℕ × Slot F T A)) → length s.homes ≡ 3 → HasBoth y z l → GivesBoth s y z l
+  gives_both s y z l three has = ⊎_elim
+      (λ (e : l ≡ future_first y z (rest (rest l))). subst (λ (c : List (ℕ × Slot F T A)). GivesBoth s y z c) (sym e) (
+        lists.set_else (set s.homes 0 (some y)) 1 0 (some z) (λ z. omega arith) ∙ lists.set_here s.homes 0 (some y) (omega arith),
+        lists.set_here (set s.homes 0 (some y)) 1 (some z) (let n = length-set s.homes 0 (some y) in omega arith),
+        set_both_else s.homes 0 1 2 (some y) (some z) (λ z. omega arith) (λ z. omega arith),
+      ))
+      (λ (e : l ≡ output_first y z (rest (rest l))). subst (λ (c : List (ℕ × Slot F T A)). GivesBoth s y z c) (sym e) (
+        lists.set_here (set s.homes 1 (some z)) 0 (some y) (let n = length-set s.homes 1 (some z) in omega arith),
+        lists.set_else (set s.homes 1 (some z)) 0 1 (some y) (λ z. omega arith) ∙ lists.set_here s.homes 1 (some z) (omega arith),
+        set_both_else s.homes 1 0 2 (some z) (some y) (λ z. omega arith) (λ z. omega arith),
+      ))
+      has
+
+  pub places : (m : Machine) (p : Position) (o : Outcome) (s : B) (l : List (ℕ × Slot F T A)) (q : Machine) → After m p o q → Housed m s.homes → length s.homes ≡ 3 → Placing m p o l → Places m p o s l q
+  places m p o s l q a h three (stays e f w z) = record {
+    move = keeps;
+    valid = tt;
+    housed = record { future = λ n. (same_work m p o q s.homes s.homes a h e w (refl, refl) n).0; output = λ n. (same_work m p o q s.homes s.homes a h e w (refl, refl) n).1; awaiter = λ n. same_awaiter m p o q s.homes s.homes a h f z refl n };
+    carried = carried_as p o.next l l (has_work p) (has_work p) (owns_awaiter p) (owns_awaiter p) refl e refl f (carries_same (has_work p) (owns_awaiter p) o.next l);
+  }
+  places m p o s l q a h three (takes_future e f g w there is) = let busy = busy_work m p o q a e f in let free : how_many has_work m.parties ≡ 0 = (let n = a.one_worker in omega arith) in
+      let y = h.future free in let z = h.output free in record {
+        move = chain (takes 1 z.0) (takes 0 y.0);
+        valid = (z.1, lists.set_else s.homes 1 0 none (λ z. omega arith) ∙ y.1);
+        housed = record {
+          future = λ n. absurd (omega arith);
+          output = λ n. absurd (omega arith);
+          awaiter = λ n. same_awaiter m p o q s.homes (set (set s.homes 1 none) 0 none) a h g w (set_both_else s.homes 1 0 2 none none (λ z. omega arith) (λ z. omega arith)) n;
+        };
+        carried = carried_as p o.next l (future_first y.0 z.0 l) false true (owns_awaiter p) (owns_awaiter p) e f refl g (is (future_first y.0 z.0 l) (y.0, z.0, y.2 there, refl));
+      }
+  places m p o s l q a h three (takes_output e f g w there is) = let busy = busy_work m p o q a e f in let free : how_many has_work m.parties ≡ 0 = (let n = a.one_worker in omega arith) in
+      let y = h.future free in let z = h.output free in record {
+        move = chain (takes 0 y.0) (takes 1 z.0);
+        valid = (y.1, lists.set_else s.homes 0 1 none (λ z. omega arith) ∙ z.1);
+        housed = record {
+          future = λ n. absurd (omega arith);
+          output = λ n. absurd (omega arith);
+          awaiter = λ n. same_awaiter m p o q s.homes (set (set s.homes 0 none) 1 none) a h g w (set_both_else s.homes 0 1 2 none none (λ z. omega arith) (λ z. omega arith)) n;
+        };
+        carried = carried_as p o.next l (output_first y.0 z.0 l) false true (owns_awaiter p) (owns_awaiter p) e f refl g (is (output_first y.0 z.0 l) (y.0, z.0, z.2 there, refl));
+      }
+  places m p o s l q a h three (gives_work y z e f g w has future output) = let home = gives_both s y z l three has in record {
+    move = chain gives gives;
+    valid = (tt, tt);
+    housed = record {
+      future = λ n. (y, home.0, λ b. future (ap (λ x. x.future) (sym a.slots_is) ∙ b));
+      output = λ n. (z, home.1, λ b. output (ap (λ x. x.output) (sym a.slots_is) ∙ b));
+      awaiter = λ n. same_awaiter m p o q s.homes (homes_after s.homes l (chain gives gives)) a h g w home.2 n;
+    };
+    carried = carried_as p o.next l (rest (rest l)) true false (owns_awaiter p) (owns_awaiter p) e f refl g refl;
+  }
+  places m p o s l q a h three (takes_awaiter e f g w left is) = let busy = busy_awaiter m p o q a e f in let y = h.awaiter (let n = a.one_owner in omega arith) left in
+      let same : SameHomes s.homes (set s.homes 2 none) = (lists.set_else s.homes 2 0 none (λ z. omega arith), lists.set_else s.homes 2 1 none (λ z. omega arith)) in record {
+        move = takes 2 y.0;
+        valid = y.1;
+        housed = record {
+          future = λ n. (same_work m p o q s.homes (set s.homes 2 none) a h g w same n).0;
+          output = λ n. (same_work m p o q s.homes (set s.homes 2 none) a h g w same n).1;
+          awaiter = λ n. absurd (omega arith);
+        };
+        carried = carried_as p o.next l ((2, y.0) ∷ l) (has_work p) (has_work p) false true refl g e f (carries_awaiter (has_work p) o.next y.0 l (is y.0 y.2));
+      }
+  places m p o s l q a h three (gives_awaiter y e f g w has waits) =
+      let same : SameHomes s.homes (homes_after s.homes l gives) = (put_else s l 2 0 y has (λ z. omega arith), put_else s l 2 1 y has (λ z. omega arith)) in record {
+        move = gives;
+        valid = tt;
+        housed = record {
+          future = λ n. (same_work m p o q s.homes (homes_after s.homes l gives) a h g w same n).0;
+          output = λ n. (same_work m p o q s.homes (homes_after s.homes l gives) a h g w same n).1;
+          awaiter = λ n left. (y, put_at s l 2 y has (omega arith), subst (λ x. Waits x y) (ap (λ x. x.awaiter) (sym a.slots_is)) (waits (let x = a.emptied in omega arith)));
+        };
+        carried = carried_as p o.next l (rest l) (has_work p) (has_work p) true false refl g e f (carries_back (has_work p) o.next l);
+      }

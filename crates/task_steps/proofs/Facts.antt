@@ -1,0 +1,134 @@
+-- What the machine's invariant says to a party that knows its own place.
+use Rattle.std.proofs.Common.{◌≡◌, ℕ, zero, suc, ◌+◌, ◌*◌, ◌/◌, ◌%◌, ◌≤◌, Bool, true, false, Some, List, [], ◌∷◌, ◌++◌, set, sym, refl, ap, subst, arith}
+use Rattle.std.specs.Prelude.{nat_lt}
+use Rattle.std.proofs.lemmas.Bool.Decides.{nat_tests}
+use mathlib.Core.Option.{some, some-injective, some-ne-none}
+use lib.ListN.{get_elem?}
+use Rattle.task_core.specs.Word.{State, bit, number_of}
+use Rattle.task_laws.specs.declared.positions.Position.{Position}
+use Rattle.task_laws.specs.declared.positions.Position.TheVariants.{At, Polling}
+use Rattle.task_laws.specs.declared.positions.Rest.TheVariants.{Runnable}
+use Rattle.task_laws.specs.Table.{Slots, Outcome, where_found, when}
+use Rattle.task_laws.specs.Event.{Event}
+use Rattle.task_laws.specs.Machine.{Machine, how_many, polls_future, scene}
+use Rattle.task_laws.proofs.Census.{Census, weigh, census, runs, closers}
+use Rattle.task_laws.proofs.Invariant.{Holds}
+use Rattle.task_laws.proofs.Runs.{Invariant, Stays, always}
+use Rattle.task_steps.specs.Rule.{Entry, Reaches, steps_of, has_work}
+use Rattle.task_steps.proofs.Told as told
+
+pub law : (limit : ℕ) (log : List Entry) (m : Machine) → Reaches limit log m → Invariant m
+law limit log m r = subst Stays (told.runs limit log m r) (always limit (steps_of log))
+
+pub bit_le : (b : Bool) → bit b ≤ 1
+bit_le true = omega arith
+bit_le false = omega arith
+
+pub is_set : (b : Bool) → bit b ≡ 1 → b ≡ true
+is_set true e = refl
+is_set false e = absurd (omega arith)
+
+pub is_clear : (b : Bool) → bit b ≡ 0 → b ≡ false
+is_clear true e = absurd (omega arith)
+is_clear false e = refl
+
+-- the flags of a word, by its number
+pub record Reads (f : ℕ) (w : State) : Type 0 where
+  pub scheduled : f % 2 ≡ bit w.scheduled
+  pub running : f / 2 % 2 ≡ bit w.running
+  pub over : f / 4 % 4 ≡ bit w.completed + 2 * bit w.closed
+  pub closed : f / 8 % 2 ≡ bit w.closed
+  pub task : f / 16 % 2 ≡ bit w.task
+  pub count : f / 256 ≡ w.references
+
+pub reads : (f : ℕ) (w : State) → f ≡ number_of w → Reads f w
+reads f w is = let h1 = bit_le w.scheduled in let h2 = bit_le w.running in let h3 = bit_le w.completed in let h4 = bit_le w.closed in let h5 = bit_le w.task in let h6 = bit_le w.awaiter in let h7 = bit_le w.registering in let h8 = bit_le w.notifying in record {
+  scheduled = omega arith;
+  running = omega arith;
+  over = omega arith;
+  closed = omega arith;
+  task = omega arith;
+  count = omega arith;
+}
+
+pub many_at : (f : Position → Bool) (ps : List Position) (k : ℕ) (p : Position) → get_elem? ps k ≡ some p → bit (f p) ≤ how_many f ps
+many_at f [] k p e = absurd (some-ne-none p (sym e))
+many_at f (x ∷ xs) zero p e = let is : bit (f x) ≡ bit (f p) = ap (λ y. bit (f y)) (some-injective x p e) in omega arith
+many_at f (x ∷ xs) (suc k) p e = let h = many_at f xs k p e in omega arith
+
+-- how many parties after an act
+pub many_set : (f : Position → Bool) (ps : List Position) (k : ℕ) (p q : Position) → get_elem? ps k ≡ some p → how_many f (set ps k q) + bit (f p) ≡ how_many f ps + bit (f q)
+many_set f [] k p q e = absurd (some-ne-none p (sym e))
+many_set f (x ∷ xs) zero p q e = let is : bit (f x) ≡ bit (f p) = ap (λ y. bit (f y)) (some-injective x p e) in omega arith
+many_set f (x ∷ xs) (suc k) p q e = let h = many_set f xs k p q e in omega arith
+
+pub many_append : (f : Position → Bool) (ps qs : List Position) → how_many f (ps ++ qs) ≡ how_many f ps + how_many f qs
+many_append f [] qs = omega arith
+many_append f (x ∷ xs) qs = let h = many_append f xs qs in omega arith
+
+pub many_next : (f : Position → Bool) (ps : List Position) (k : ℕ) (p q : Position) (born : List Position) → get_elem? ps k ≡ some p → how_many f (set ps k q ++ born) + bit (f p) ≡ how_many f ps + bit (f q) + how_many f born
+many_next f ps k p q born e = omega (arith, many_append f (set ps k q) born, many_set f ps k p q e)
+
+work_one : (p : Position) → bit (has_work p) ≤ runs (weigh p) + closers (weigh p) + (weigh p).outputs + (weigh p).claims
+work_one p = grind arith
+
+pub works : (ps : List Position) → how_many has_work ps ≤ runs (census ps) + closers (census ps) + (census ps).outputs + (census ps).claims
+works [] = omega arith
+works (p ∷ ps) = omega (arith, work_one p, works ps)
+
+pub queued_at : (ps : List Position) (k : ℕ) → get_elem? ps k ≡ some (At Runnable) → 1 ≤ (census ps).queued
+queued_at [] k e = absurd (some-ne-none (At Runnable) (sym e))
+queued_at (x ∷ xs) zero e = let is : (weigh x).queued ≡ 1 = ap (λ y. (weigh y).queued) (some-injective x (At Runnable) e) in omega arith
+queued_at (x ∷ xs) (suc k) e = let h = queued_at xs k e in omega arith
+
+pub polling_at : (ps : List Position) (k : ℕ) → get_elem? ps k ≡ some Polling → 1 ≤ (census ps).polling
+polling_at [] k e = absurd (some-ne-none Polling (sym e))
+polling_at (x ∷ xs) zero e = let is : (weigh x).polling ≡ 1 = ap (λ y. (weigh y).polling) (some-injective x Polling e) in omega arith
+polling_at (x ∷ xs) (suc k) e = let h = polling_at xs k e in omega arith
+
+pub is_polling : (m : Machine) (k : ℕ) → get_elem? m.parties k ≡ some Polling → (scene m).polling ≡ true
+is_polling m k at = positive (how_many polls_future m.parties) (many_at polls_future m.parties k Polling at)
+  where
+    positive : (n : ℕ) → 1 ≤ n → nat_lt 0 n ≡ true
+    positive n h = grind (arith, nat_tests)
+
+pub low : (m : Machine) → Invariant m → m.word.references ≤ m.limit + 1
+low m i = let h = i.holds in let a = h.references in let b = h.one in let c = h.few in omega arith
+
+-- while a Runnable exists
+pub record Queued (m : Machine) : Type 0 where
+  pub scheduled : m.word.scheduled ≡ true
+  pub running : m.word.running ≡ false
+  pub future : m.slots.future ≡ true
+  pub home : how_many has_work m.parties ≡ 0
+
+queued_facts : (limit : ℕ) (w : State) (slots : Slots) (t : List Event) (c : Census) → Holds limit w slots t c → 1 ≤ c.queued
+    → (w.scheduled ≡ true) × (w.running ≡ false) × (slots.future ≡ true) × (runs c + closers c + c.outputs + c.claims ≡ 0)
+queued_facts limit w slots t c h q = (grind arith, grind arith, grind arith, grind arith)
+
+pub queued : (m : Machine) (k : ℕ) → Invariant m → get_elem? m.parties k ≡ some (At Runnable) → Queued m
+queued m k i at = let f = queued_facts m.limit m.word m.slots m.trace (census m.parties) i.holds (queued_at m.parties k at) in
+    record { scheduled = f.0; running = f.1; future = f.2; home = omega (arith, works m.parties, f.3) }
+
+polling_facts : (limit : ℕ) (w : State) (slots : Slots) (t : List Event) (c : Census) → Holds limit w slots t c → 1 ≤ c.polling → (w.running ≡ true) × (1 ≤ w.references) × (slots.output ≡ false) × (slots.future ≡ true)
+polling_facts limit w slots t c h q = (grind arith, grind arith, grind arith, grind arith)
+
+pub polling : (m : Machine) (k : ℕ) → Invariant m → get_elem? m.parties k ≡ some Polling → (m.word.running ≡ true) × (1 ≤ m.word.references) × (m.slots.output ≡ false) × (m.slots.future ≡ true)
+polling m k i at = polling_facts m.limit m.word m.slots m.trace (census m.parties) i.holds (polling_at m.parties k at)
+
+-- what a row finds
+pub allowed : (g h : Bool) (o : Outcome) → g ≡ true → h ≡ true → where_found g (when h o) ≡ Some o
+allowed true true o e f = refl
+allowed true false o e f = cc
+allowed false h o e f = cc
+
+pub allowed_row : (g : Bool) (o : Outcome) → g ≡ true → where_found g (Some o) ≡ Some o
+allowed_row true o e = refl
+allowed_row false o e = cc
+
+few_works : (limit : ℕ) (w : State) (slots : Slots) (t : List Event) (c : Census) → Holds limit w slots t c → runs c + closers c + c.outputs + c.claims ≤ 1
+few_works limit w slots t c h = grind arith
+
+-- one party at most has the places of future and output
+pub one_work : (m : Machine) → Invariant m → how_many has_work m.parties ≤ 1
+one_work m i = omega (arith, works m.parties, few_works m.limit m.word m.slots m.trace (census m.parties) i.holds)

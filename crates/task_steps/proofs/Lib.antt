@@ -1,0 +1,17 @@
+pub mod Numbers
+pub mod Told
+pub mod Facts
+pub mod Acts
+pub mod Seen
+pub mod Advance
+pub mod Allowed
+pub mod Owed
+pub mod Seats
+pub mod Leads
+pub mod AwaiterOwed
+pub mod RunOwed
+pub mod Known
+pub mod TaskOwed
+pub mod PollOwed
+pub mod WakerOwed
+pub mod WakerSeats

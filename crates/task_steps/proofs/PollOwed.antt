@@ -1,0 +1,309 @@
+-- What each step of a poll of the Task owes: the machine allows its acts, and writes its number.
+use Rattle.std.proofs.Common.{◌≡◌, ℕ, zero, suc, ◌+◌, ◌≤◌, Bool, true, false, not, ◌||◌, Option, Some, None, List, [], ◌∷◌, refl, sym, ap, ◌∙◌, subst, inl, inr, ⊎_elim, arith}
+use Rattle.std.specs.Prelude.{if◌then◌else◌}
+use mathlib.Core.Option.{some, some-injective, some-ne-none}
+use lib.ListN.{get_elem?}
+use Rattle.atomic_table.specs.Table.{rest}
+use Rattle.task_core.specs.Word.{State, state_of, number_of}
+use Rattle.task_core.specs.Rows.{found, written, row}
+use Rattle.task_laws.specs.Event.{Event, Polls, PollEnds, Closes, OutputTaken, Cloned, Woken, CloneEnded}
+use Rattle.task_laws.specs.declared.positions.PollAnswer.{PollAnswer}
+use Rattle.task_laws.specs.declared.positions.PollAnswer.TheVariants.{IsPending, HasOutput, IsRefused}
+use Rattle.task_laws.specs.declared.positions.Position.{Position}
+use Rattle.task_laws.specs.declared.positions.Way.TheVariants.{OfPoll, OfClaim}
+use Rattle.task_laws.specs.declared.positions.Position.TheVariants.{At, Notifier, Looking, Claiming, Claimer, Answering, Registrar, HasClone, RefusedClone, Storing, Registered, OldAwaiterInHand, TookBack, CloneInHand}
+use Rattle.task_laws.specs.declared.positions.Rest.TheVariants.{Task}
+use Rattle.task_core.specs.declared.moves.Act.{Act}
+use Rattle.task_core.specs.declared.moves.Act.TheVariants.{Look, ClaimOutput, CloneAwaiter, StoreAwaiter, TakeAwaiter, FindNotify, BeginRegister, EndRegister, EndRegisterNotified, EndCall}
+use Rattle.task_laws.specs.Table.{Slots, steps, keeps, when, where_found, notifies, first_look, second_look, after_storing}
+use Rattle.task_laws.specs.Machine.{Machine, scene}
+use Rattle.task_laws.specs.Laws.{count, is_emptying, is_poll}
+use Rattle.task_laws.specs.Theorem.{owns_awaiter}
+use Rattle.task_laws.proofs.Census.{Census, census, plus}
+use Rattle.task_laws.proofs.Awaiting.{Awaiting, awaiting, await}
+use Rattle.task_laws.proofs.Handshake.{HandshakeHolds}
+use Rattle.task_laws.proofs.Invariant.{Holds}
+use Rattle.task_core.proofs.Bits.{state_of_number_of}
+use Rattle.task_steps.specs.declared.table.Slot.{Slot}
+use Rattle.task_steps.specs.declared.table.Slot.TheVariants.{Awaiter}
+use Rattle.task_steps.specs.declared.table.Deed.{Deed}
+use Rattle.task_steps.specs.declared.table.Member.{Member}
+use Rattle.task_steps.specs.Rule.{has_work, IsEmpty, IsAwaiter, Waits}
+use Rattle.task_steps.specs.Steps.{and_then, output_first, TakesOutput, Works, Awaits}
+use Rattle.task_steps.specs.Scripts.{ending, waking, dropping}
+use Rattle.task_steps.specs.PollScripts.{has_output, has_ended, has_to_wait, looking, looking_again, handing_out, refusing, finding_notifier}
+use Rattle.task_steps.specs.Standing.{claims_from}
+use Rattle.task_steps.proofs.Acts.{leads, apart}
+use Rattle.task_steps.proofs.Advance.{Finds, stays, takes_output, gives_work, takes_awaiter, gives_awaiter, Steps}
+use Rattle.task_steps.proofs.Allowed.{Owes}
+use Rattle.task_steps.proofs.Owed.{counted_at}
+
+never : {P : Type 0} → false ≡ true → P
+never e = absurd (cc)
+
+-- a position that has no place of the table
+abbrev pub Free : Position → Type 0
+Free p = (has_work p ≡ false) × (owns_awaiter p ≡ false)
+
+free_if : (b : Bool) (p q : Position) → Free p → Free q → Free (if b then p else q)
+free_if true p q x y = x
+free_if false p q x y = y
+
+pub first_free : (w : State) (i : ℕ) → Free (first_look w i)
+first_free w i = free_if (has_ended w) (Notifier (OfPoll i)) (Registrar i) (refl, refl) (refl, refl)
+
+pub second_free : (w : State) (i : ℕ) → Free (second_look w i)
+second_free w i = free_if w.closed (if w.scheduled || w.running then Answering i IsPending else Notifier (OfPoll i)) (if w.completed then Claiming i else Answering i IsPending)
+    (free_if (w.scheduled || w.running) (Answering i IsPending) (Notifier (OfPoll i)) (refl, refl) (refl, refl))
+    (free_if w.completed (Claiming i) (Answering i IsPending) (refl, refl) (refl, refl))
+
+-- .. and one that has the output
+claim_works : (b : Bool) (i : ℕ) → (has_work (notifies b (OfClaim i)) ≡ true) × (owns_awaiter (notifies b (OfClaim i)) ≡ false)
+claim_works true i = (refl, refl)
+claim_works false i = (refl, refl)
+
+-- a look that has to wait answers so
+waits : (i : ℕ) (closed busy completed : Bool) → (if closed then busy else not completed) ≡ true → (if closed then (if busy then Answering i IsPending else Notifier (OfPoll i)) else (if completed then Claiming i else Answering i IsPending)) ≡ Answering i IsPending
+waits i true true completed e = refl
+waits i true false completed e = never e
+waits i false busy true e = never e
+waits i false busy false e = refl
+
+pub has_waited : (w : State) (i : ℕ) → has_to_wait w ≡ true → second_look w i ≡ Answering i IsPending
+has_waited w i e = waits i w.closed (w.scheduled || w.running) w.completed e
+
+-- a row that a function of the word allowed, at the word that it found
+pub record Fits (a : Act) (w : State) (new : ℕ) : Type 0 where
+  pub finds : found 0 a w ≡ true
+  pub writes : new ≡ number_of (written a w)
+
+fits_by : (a : Act) (w next : State) (b : Bool) → found 0 a w ≡ b → (if b then Some (written a w) else None) ≡ Some next → (found 0 a w ≡ true) × (written a w ≡ next)
+fits_by a w next true e is = (e, (cc))
+fits_by a w next false e is = absurd (cc)
+
+pub fits : (a : Act) (w next : State) (old new : ℕ) (v : State) → row 0 a w ≡ Some next → old ≡ number_of w → new ≡ number_of next → old ≡ number_of v → Fits a v new
+fits a w next old new v is here there e = let f = fits_by a w next (found 0 a w) refl is in
+    let same : w ≡ v = sym (state_of_number_of w) ∙ (ap state_of (sym here ∙ e) ∙ state_of_number_of v) in record {
+      finds = ap (λ x. found 0 a x) (sym same) ∙ f.0;
+      writes = there ∙ (ap number_of (sym f.1) ∙ ap (λ x. number_of (written a x)) same);
+    }
+
+-- the value of the first place, which a list of places has once
+abbrev value_or : {X : Type 0} → X → List (ℕ × X) → X
+value_or y [] = y
+value_or y (x ∷ xs) = x.1
+
+pub same_first : {X : Type 0} (l r s : List (ℕ × X)) (k : ℕ) (x y : X) → l ≡ (k, x) ∷ r → l ≡ (k, y) ∷ s → x ≡ y
+same_first l r s k x y e f = ap (value_or x) (sym e ∙ f)
+
+-- what the invariant says to the Task
+tasks_sum : (a b : Census) → (plus a b).tasks ≡ a.tasks + b.tasks
+tasks_sum a b = refl
+
+claims_sum : (a b : Census) → (plus a b).claims ≡ a.claims + b.claims
+claims_sum a b = refl
+
+-- while the Task exists no slot was emptied
+not_emptied : (limit : ℕ) (w : State) (slots : Slots) (t : List Event) (c : Census) → Holds limit w slots t c → 1 ≤ c.tasks → count is_emptying t ≡ 0
+not_emptied limit w slots t c h e = grind arith
+
+output_there : (limit : ℕ) (w : State) (slots : Slots) (t : List Event) (c : Census) → Holds limit w slots t c → has_output w ≡ true → slots.output ≡ true
+output_there limit w slots t c h e = grind arith
+
+-- whoever has the output finds the future gone
+future_gone : (limit : ℕ) (w : State) (slots : Slots) (t : List Event) (c : Census) → Holds limit w slots t c → 1 ≤ c.claims → slots.future ≡ false
+future_gone limit w slots t c h e = grind arith
+
+registered_at : (i : ℕ) (ps : List Position) (k : ℕ) (p : Position) → get_elem? ps k ≡ some p → (await i p).registered ≤ (awaiting i ps).registered
+registered_at i [] k p e = absurd (some-ne-none p (sym e))
+registered_at i (x ∷ xs) zero p e = let is : (await i x).registered ≡ (await i p).registered = ap (λ y. (await i y).registered) (some-injective x p e) in omega arith
+registered_at i (x ∷ xs) (suc k) p e = let h = registered_at i xs k p e in omega arith
+
+clone_stored : (i : ℕ) (w : State) (slots : Slots) (t : List Event) (b : Awaiting) → HandshakeHolds i w slots t b → 1 ≤ b.registered → slots.awaiter ≡ Some (count is_poll t)
+clone_stored i w slots t b h e = ⊎_elim (λ (z : b.registered ≡ 0). absurd (omega arith)) (λ z. z) h.own
+
+module _ (F T A : Type 0) (limit : ℕ) where
+  looks_by : (m : Machine) (n number : ℕ) (l : List (ℕ × Slot F T A)) (b : Bool) → has_output m.word ≡ b → number ≡ number_of m.word → Steps m (At (Task n)) (if b then [] else Look ∷ []) number l
+  looks_by m n number l true e x = record {
+    outcome = steps (scene m) m.word (At (Task n)) [] [];
+    leads_to = refl;
+    writes = x;
+    idle = (refl, refl);
+    placing = stays refl refl (inr (refl, refl)) (inr (refl, refl));
+  }
+  looks_by m n number l false e x = let f = first_free m.word (n + 1) in record {
+    outcome = steps (scene m) m.word (first_look m.word (n + 1)) [] (Polls (n + 1) ∷ []);
+    leads_to = ap (λ (b : Bool). and_then (where_found true (when (not b) (steps (scene m) m.word (first_look m.word (n + 1)) [] (Polls (n + 1) ∷ [])))) (λ o. leads (apart m.limit o.word o.slots false) [] o.next)) e;
+    writes = x;
+    idle = (refl, refl);
+    placing = stays f.0 f.1 (inr (refl, refl)) (inr (refl, refl));
+  }
+
+  pub looks : (n : ℕ) (ds : List Deed) (us : List Member) (l : List (ℕ × Slot F T A)) → Owes F T A limit looking (λ n. n) (At (Task n)) ds us l
+  looks n ds us l m f number x lt = looks_by m n number l (has_output m.word) refl x
+
+  looks_again_by : (m : Machine) (i number : ℕ) (l : List (ℕ × Slot F T A)) (b : Bool) → has_to_wait m.word ≡ b → number ≡ number_of m.word → Steps m (Looking i) (if b then Look ∷ EndCall ∷ [] else Look ∷ []) number l
+  looks_again_by m i number l true e x = record {
+    outcome = steps (scene m) m.word (At (Task i)) [] (PollEnds i IsPending ∷ []);
+    leads_to = ap (λ (p : Position). and_then (Some (steps (scene m) m.word p [] [])) (λ o. leads (apart m.limit o.word o.slots false) (EndCall ∷ []) o.next)) (has_waited m.word i e);
+    writes = x;
+    idle = (refl, refl);
+    placing = stays refl refl (inr (refl, refl)) (inr (refl, refl));
+  }
+  looks_again_by m i number l false e x = let f = second_free m.word i in record {
+    outcome = steps (scene m) m.word (second_look m.word i) [] [];
+    leads_to = refl;
+    writes = x;
+    idle = (refl, refl);
+    placing = stays f.0 f.1 (inr (refl, refl)) (inr (refl, refl));
+  }
+
+  pub looks_again : (i : ℕ) (ds : List Deed) (us : List Member) (l : List (ℕ × Slot F T A)) → Owes F T A limit looking_again (λ n. n) (Looking i) ds us l
+  looks_again i ds us l m f number x lt = looks_again_by m i number l (has_to_wait m.word) refl x
+
+  pub ends_poll : (i : ℕ) (answer : PollAnswer) (ds : List Deed) (us : List Member) (l : List (ℕ × Slot F T A)) → Owes F T A limit ending (λ n. n) (Answering i answer) ds us l
+  ends_poll i answer ds us l m f number x lt = record {
+    outcome = steps (scene m) m.word (At (Task i)) [] (PollEnds i answer ∷ []);
+    leads_to = refl;
+    writes = x;
+    idle = (refl, refl);
+    placing = stays refl refl (inr (refl, refl)) (inr (refl, refl));
+  }
+
+  pub refuses : (i : ℕ) (ds : List Deed) (us : List Member) (l : List (ℕ × Slot F T A)) → Owes F T A limit refusing (λ n. n) (Registrar i) ds us l
+  refuses i ds us l m f number x lt = record {
+    outcome = steps (scene m) m.word (At (Task i)) [] (PollEnds i IsRefused ∷ []);
+    leads_to = refl;
+    writes = x;
+    idle = (refl, refl);
+    placing = stays refl refl (inr (refl, refl)) (inr (refl, refl));
+  }
+
+  claims_by : (m : Machine) (p : Position) (i : ℕ) (told : List Event) (new : ℕ) (l : List (ℕ × Slot F T A)) → Free p → count is_emptying told ≡ 0 → Fits ClaimOutput m.word new
+      → leads (scene m) (ClaimOutput ∷ []) p ≡ and_then (when (found 0 ClaimOutput m.word) (steps (scene m) (written ClaimOutput m.word) (notifies m.word.awaiter (OfClaim i)) [] told)) (λ o. leads (apart m.limit o.word o.slots false) [] o.next)
+      → m.slots.output ≡ true → Steps m p (ClaimOutput ∷ []) new l
+  claims_by m p i told new l free told_none fit is there = let f = claim_works m.word.awaiter i in record {
+    outcome = steps (scene m) (written ClaimOutput m.word) (notifies m.word.awaiter (OfClaim i)) [] told;
+    leads_to = is ∙ ap (λ (b : Bool). and_then (when b (steps (scene m) (written ClaimOutput m.word) (notifies m.word.awaiter (OfClaim i)) [] told)) (λ o. leads (apart m.limit o.word o.slots false) [] o.next)) fit.finds;
+    writes = fit.writes;
+    idle = (refl, refl);
+    placing = takes_output free.0 f.0 (f.1 ∙ sym free.1) (inr (refl, told_none)) there (works m.word.awaiter);
+  }
+    where
+      works : (b : Bool) (l' : List (ℕ × Slot F T A)) → TakesOutput l l' → Works (notifies b (OfClaim i)) l l'
+      works true l' h = h
+      works false l' h = h
+
+  pub hands_out : (i : ℕ) (ds : List Deed) (us : List Member) (y z : Slot F T A) (l : List (ℕ × Slot F T A)) → l ≡ output_first y z (rest (rest l)) → Owes F T A limit handing_out (λ n. n) (Claimer i) ds us l
+  hands_out i ds us y z l has m f number x lt = let none = future_gone m.limit m.word m.slots m.trace (census m.parties) f.invariant.holds (counted_at (λ c. c.claims) (λ a b. claims_sum a b) m.parties f.number (Claimer i) f.stands) in record {
+    outcome = record { word = m.word; slots = record (m.slots) { output = false }; next = At (Task i); born = []; told = PollEnds i HasOutput ∷ OutputTaken ∷ [] };
+    leads_to = refl;
+    writes = x;
+    idle = (refl, refl);
+    placing = gives_work y z refl refl refl (inr (refl, refl)) (inr has) (λ e. never (sym none ∙ e)) (λ e. never e);
+  }
+
+  finds_by : (m : Machine) (i number : ℕ) (l : List (ℕ × Slot F T A)) (b : Bool) → m.word.notifying ≡ b → number ≡ number_of m.word → Steps m (Registrar i) (if b then CloneAwaiter ∷ FindNotify ∷ [] else []) number l
+  finds_by m i number l true e x = record {
+    outcome = steps (scene m) m.word (RefusedClone i) [] (Woken i ∷ Cloned i ∷ []);
+    leads_to = ap (λ (b : Bool). and_then (Some (steps (scene m) m.word (HasClone i) [] (Cloned i ∷ []))) (λ o. and_then (when b (steps (apart m.limit o.word o.slots false) o.word (RefusedClone i) [] (Woken i ∷ []))) (λ o. leads (apart m.limit o.word o.slots false) [] o.next))) e;
+    writes = x;
+    idle = (refl, refl);
+    placing = stays refl refl (inr (refl, refl)) (inr (refl, refl));
+  }
+  finds_by m i number l false e x = record {
+    outcome = steps (scene m) m.word (Registrar i) [] [];
+    leads_to = refl;
+    writes = x;
+    idle = (refl, refl);
+    placing = stays refl refl (inr (refl, refl)) (inr (refl, refl));
+  }
+
+  pub finds_notifier : (i : ℕ) (ds : List Deed) (us : List Member) (l : List (ℕ × Slot F T A)) → Owes F T A limit finding_notifier (λ n. n) (Registrar i) ds us l
+  finds_notifier i ds us l m f number x lt = finds_by m i number l m.word.notifying refl x
+
+  pub drops_clone : (i : ℕ) (ds : List Deed) (us : List Member) (l : List (ℕ × Slot F T A)) → Owes F T A limit dropping (λ n. n) (RefusedClone i) ds us l
+  drops_clone i ds us l m f number x lt = record {
+    outcome = steps (scene m) m.word (Looking i) [] (CloneEnded i ∷ []);
+    leads_to = refl;
+    writes = x;
+    idle = (refl, refl);
+    placing = stays refl refl (inr (refl, refl)) (inr (refl, refl));
+  }
+
+  drops_old : (i old : ℕ) (ds : List Deed) (us : List Member) (l : List (ℕ × Slot F T A)) → Owes F T A limit dropping (λ n. n) (OldAwaiterInHand i old) ds us l
+  drops_old i old ds us l m f number x lt = record {
+    outcome = steps (scene m) m.word (Registered i) [] (CloneEnded old ∷ []);
+    leads_to = refl;
+    writes = x;
+    idle = (refl, refl);
+    placing = stays refl refl (inr (refl, refl)) (inl refl);
+  }
+
+  -- .. where the slot's awaiter tells that there was one
+  pub drops_stored : (i : ℕ) (hand : Option ℕ) (y : Slot F T A) (a : A) → Waits hand y → y ≡ Awaiter a → (ds : List Deed) (us : List Member) (l : List (ℕ × Slot F T A)) → Owes F T A limit dropping (λ n. n) (after_storing i hand) ds us l
+  drops_stored i None y a h e ds us l = absurd (subst (λ (x : Slot F T A). IsEmpty x) e h)
+  drops_stored i (Some old) y a h e ds us l = drops_old i old ds us l
+
+  pub wakes_clone : (i : ℕ) (ds : List Deed) (us : List Member) (l : List (ℕ × Slot F T A)) → Owes F T A limit waking (λ n. n) (CloneInHand i) ds us l
+  wakes_clone i ds us l m f number x lt = record {
+    outcome = steps (scene m) m.word (Looking i) [] (CloneEnded i ∷ Woken i ∷ []);
+    leads_to = refl;
+    writes = x;
+    idle = (refl, refl);
+    placing = stays refl refl (inr (refl, refl)) (inr (refl, refl));
+  }
+
+  -- where the clone was put in, by what stood there
+  stored_free : (i : ℕ) (hand : Option ℕ) → (has_work (after_storing i hand) ≡ false) × (owns_awaiter (after_storing i hand) ≡ true)
+  stored_free i None = (refl, refl)
+  stored_free i (Some old) = (refl, refl)
+
+  stored_awaits : (i : ℕ) (hand : Option ℕ) (y : Slot F T A) → Waits hand y → Awaits (after_storing i hand) y
+  stored_awaits i None y h = h
+  stored_awaits i (Some old) y h = h
+
+  pub begins_register : (i : ℕ) (ds : List Deed) (us : List Member) (l : List (ℕ × Slot F T A)) (m : Machine) (new : ℕ) → Finds limit (Registrar i) ds us m → Fits BeginRegister m.word new
+      → Steps m (Registrar i) (CloneAwaiter ∷ BeginRegister ∷ StoreAwaiter ∷ []) new l
+  begins_register i ds us l m new f fit = let s = stored_free i m.slots.awaiter in
+      let none = not_emptied m.limit m.word m.slots m.trace (census m.parties) f.invariant.holds (counted_at (λ c. c.tasks) (λ a b. tasks_sum a b) m.parties f.number (Registrar i) f.stands) in record {
+        outcome = record { word = written BeginRegister m.word; slots = record (m.slots) { awaiter = Some i }; next = after_storing i m.slots.awaiter; born = []; told = Cloned i ∷ [] };
+        leads_to = ap (λ (b : Bool). and_then (Some (steps (scene m) m.word (HasClone i) [] (Cloned i ∷ [])))
+            (λ o. and_then (when b (steps (apart m.limit o.word o.slots false) (written BeginRegister o.word) (Storing i) [] [])) (λ o. leads (apart m.limit o.word o.slots false) (StoreAwaiter ∷ []) o.next))) fit.finds;
+        writes = fit.writes;
+        idle = (refl, refl);
+        placing = takes_awaiter refl s.1 s.0 (inr (refl, refl)) none (stored_awaits i m.slots.awaiter);
+      }
+
+  pub ends_register : (i : ℕ) (ds : List Deed) (us : List Member) (y : Slot F T A) (l : List (ℕ × Slot F T A)) (m : Machine) (new : ℕ) → Finds limit (Registered i) ds us m → l ≡ (2, y) ∷ rest l → IsAwaiter y → Fits EndRegister m.word new
+      → Steps m (Registered i) (EndRegister ∷ []) new l
+  ends_register i ds us y l m new f has is fit = let stored = clone_stored i m.word m.slots m.trace (awaiting i m.parties) (f.invariant.shakes i) (registered_at i m.parties f.number (Registered i) f.stands) in record {
+    outcome = steps (scene m) (written EndRegister m.word) (Looking i) [] [];
+    leads_to = ap (λ (b : Bool). and_then (when b (steps (scene m) (written EndRegister m.word) (Looking i) [] [])) (λ o. leads (apart m.limit o.word o.slots false) [] o.next)) fit.finds;
+    writes = fit.writes;
+    idle = (refl, refl);
+    placing = gives_awaiter y refl refl refl (inr (refl, refl)) has (λ _. subst (λ (hand : Option ℕ). Waits hand y) (sym stored) is);
+  }
+
+  pub ends_notified : (i : ℕ) (ds : List Deed) (us : List Member) (y : Slot F T A) (l : List (ℕ × Slot F T A)) (m : Machine) (new : ℕ) → Finds limit (Registered i) ds us m → l ≡ (2, y) ∷ rest l → IsEmpty y → Fits EndRegisterNotified m.word new
+      → Steps m (Registered i) (TakeAwaiter ∷ EndRegisterNotified ∷ []) new l
+  ends_notified i ds us y l m new f has is fit = record {
+    outcome = record { word = written EndRegisterNotified m.word; slots = record (m.slots) { awaiter = None }; next = CloneInHand i; born = []; told = [] };
+    leads_to = ap (λ (b : Bool). and_then (where_found true (when b (keeps (scene m) m.word (record (m.slots) { awaiter = None }) (TookBack i) []))) (λ o. leads (apart m.limit o.word o.slots false) (EndRegisterNotified ∷ []) o.next)) fit.finds
+        ∙ ap (λ (b : Bool). and_then (Some (keeps (scene m) m.word (record (m.slots) { awaiter = None }) (TookBack i) []))
+        (λ o. and_then (when b (steps (apart m.limit o.word o.slots false) (written EndRegisterNotified o.word) (CloneInHand i) [] [])) (λ o. leads (apart m.limit o.word o.slots false) [] o.next))) fit.finds;
+    writes = fit.writes;
+    idle = (refl, refl);
+    placing = gives_awaiter y refl refl refl (inr (refl, refl)) has (λ _. is);
+  }
+
+  -- the output is claimed at once, or after a look
+  claims_first : (n : ℕ) (ds : List Deed) (us : List Member) (l : List (ℕ × Slot F T A)) (m : Machine) (new : ℕ) → Finds limit (At (Task n)) ds us m → Fits ClaimOutput m.word new → Steps m (At (Task n)) (ClaimOutput ∷ []) new l
+  claims_first n ds us l m new f fit = claims_by m (At (Task n)) (n + 1) (Closes ∷ Polls (n + 1) ∷ []) new l (refl, refl) refl fit refl (output_there m.limit m.word m.slots m.trace (census m.parties) f.invariant.holds fit.finds)
+
+  claims_later : (i : ℕ) (ds : List Deed) (us : List Member) (l : List (ℕ × Slot F T A)) (m : Machine) (new : ℕ) → Finds limit (Claiming i) ds us m → Fits ClaimOutput m.word new → Steps m (Claiming i) (ClaimOutput ∷ []) new l
+  claims_later i ds us l m new f fit = claims_by m (Claiming i) i (Closes ∷ []) new l (refl, refl) refl fit refl (output_there m.limit m.word m.slots m.trace (census m.parties) f.invariant.holds fit.finds)
+
+  pub claims : (looked : Bool) (n : ℕ) (ds : List Deed) (us : List Member) (l : List (ℕ × Slot F T A)) (m : Machine) (new : ℕ) → Finds limit (claims_from looked n) ds us m → Fits ClaimOutput m.word new → Steps m (claims_from looked n) (ClaimOutput ∷ []) new l
+  claims false n ds us l m new f fit = claims_first n ds us l m new f fit
+  claims true n ds us l m new f fit = claims_later n ds us l m new f fit

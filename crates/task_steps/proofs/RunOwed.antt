@@ -1,0 +1,336 @@
+-- What the steps of a run and of a Runnable's drop owe.
+use Rattle.std.proofs.Common.{◌≡◌, ℕ, ◌+◌, ◌-◌, ◌%◌, ◌^◌, ◌≤◌, Bool, true, false, not, ◌&&◌, ◌||◌, Option, Some, None, List, [], ◌∷◌, ◌++◌, refl, sym, ap, ◌∙◌, subst, inl, inr, arith}
+use Rattle.std.specs.Prelude.{bit_and, bit_or, unwrap_or, nat_eq, nat_lt, if◌then◌else◌}
+use Rattle.std.specs.Option.{option_or}
+use Rattle.std.proofs.lemmas.Bool.Decides.{nat_tests}
+use Rattle.atomic_table.specs.Table.{rest}
+use Rattle.task_core.specs.Word.{State, state_of, number_of}
+use Rattle.task_laws.specs.Event.{Event, ByWake, ByClosing, Empties, Closes, TakenUp, AnsweredReady, AnsweredPending, FutureDropped, Completes, RunEnded, OutputDropped, Made, CallEnds}
+use Rattle.task_laws.specs.declared.positions.Answer.{Answer}
+use Rattle.task_laws.specs.declared.positions.Answer.TheVariants.{Ran}
+use Rattle.task_laws.specs.declared.positions.Rest.TheVariants.{Runnable, Ended}
+use Rattle.task_laws.specs.declared.positions.Way.TheVariants.{OfRun}
+use Rattle.task_laws.specs.declared.positions.After.TheVariants.{ThenEnds}
+use Rattle.task_laws.specs.declared.positions.Closer.TheVariants.{DroppedRunnable}
+use Rattle.task_laws.specs.declared.positions.Position.TheVariants.{At, Leaving, Deliverer, GivingUp, Emptier, FutureInHand, Polling, Pending, Ready, Unstored, Stored, Cleared, OutputInHand}
+use Rattle.task_core.specs.declared.moves.Act.TheVariants.{GiveUpReference, GiveUpLastReference, DiscardOpen, DiscardClosed, DropFuture, StoreOutput, Complete, CompleteDetached, AnswerPending, Reschedule, EndIdle, EndOrphaned, EndCall}
+use Rattle.task_core.specs.Rows.{written}
+use Rattle.task_laws.specs.Table.{Slots, steps, keeps, notifies, after_giving_up, ended_clone, closing}
+use Rattle.task_laws.specs.Machine.{Machine, scene}
+use Rattle.task_laws.specs.Laws.{count, is_emptying}
+use Rattle.task_laws.specs.Theorem.{owns_awaiter}
+use Rattle.task_laws.proofs.Census.{Census, census}
+use Rattle.task_laws.proofs.Invariant.{Holds}
+use Rattle.task_core.proofs.Bits.{state_of_number_of, fetch_or-closed, fetch_sub-reference, fetch_and-scheduled_running}
+use Rattle.task_steps.specs.declared.table.Slot.{Slot}
+use Rattle.task_steps.specs.declared.table.Slot.TheVariants.{Empty}
+use Rattle.task_steps.specs.declared.table.Deed.{Deed}
+use Rattle.task_steps.specs.declared.table.Member.{Member}
+use Rattle.task_steps.specs.Rule.{has_work, IsFuture, IsOutput}
+use Rattle.task_steps.specs.Steps.{then_leaves, future_first, output_first}
+use Rattle.task_steps.specs.Scripts.{dropping_output}
+use Rattle.task_steps.specs.RunScripts.{giving_up, emptying, discarding, answering_ready, completing, answering_pending, ending_pending, missing_end, ending_closed, completed_word, after_pending}
+use Rattle.task_steps.proofs.Facts.{queued}
+use Rattle.task_steps.proofs.Acts.{apart}
+use Rattle.task_steps.proofs.Leads.{leads_first, counted}
+use Rattle.task_steps.proofs.AwaiterOwed.{not_emptied}
+use Rattle.task_steps.proofs.Advance.{Finds, Placing, stays, takes_future, gives_work, takes_awaiter, gives_awaiter, Steps}
+use Rattle.task_steps.proofs.Allowed.{Owes}
+
+never : {P : Type 0} → false ≡ true → P
+never e = absurd (cc)
+
+-- after a reference was given up, no place is held
+pub given_work : (hand : Option ℕ) (answer : Answer) → has_work (after_giving_up hand answer) ≡ false
+given_work None answer = refl
+given_work (Some i) answer = refl
+
+pub given_free : (hand : Option ℕ) (answer : Answer) → owns_awaiter (after_giving_up hand answer) ≡ false
+given_free None answer = refl
+given_free (Some i) answer = refl
+
+pub due_work : (b : Bool) → has_work (notifies b OfRun) ≡ false
+due_work true = refl
+due_work false = refl
+
+pub due_free : (b : Bool) → owns_awaiter (notifies b OfRun) ≡ false
+due_free true = refl
+due_free false = refl
+
+-- who gives its reference up holds one
+referred : (limit : ℕ) (w : State) (slots : Slots) (t : List Event) (c : Census) → Holds limit w slots t c → 1 ≤ c.finishing → 1 ≤ w.references
+referred limit w slots t c h e = grind arith
+
+is_last : (n : ℕ) (b : Bool) → 1 ≤ n → (nat_lt 1 n || b) ≡ false → (nat_eq n 1 && not b) ≡ true
+is_last n true e f = grind (arith, nat_tests)
+is_last n false e f = grind (arith, nat_tests)
+
+-- a word that is closed already
+pub closed_already : (w : State) → w.closed ≡ true → record w { closed = true } ≡ w
+closed_already w e = λ i. record w { closed = sym e i }
+
+-- a run has the only thing that is left of the work
+pending_facts : (limit : ℕ) (w : State) (slots : Slots) (t : List Event) (c : Census) → Holds limit w slots t c → 1 ≤ c.pending → (1 ≤ w.references) × (slots.output ≡ false)
+pending_facts limit w slots t c h e = (grind arith, grind arith)
+
+cleared_facts : (limit : ℕ) (w : State) (slots : Slots) (t : List Event) (c : Census) → Holds limit w slots t c → 1 ≤ c.cleared → (slots.future ≡ false) × (slots.output ≡ false)
+cleared_facts limit w slots t c h e = (grind arith, grind arith)
+
+output_facts : (limit : ℕ) (w : State) (slots : Slots) (t : List Event) (c : Census) → Holds limit w slots t c → 1 ≤ c.outputs → slots.future ≡ false
+output_facts limit w slots t c h e = grind arith
+
+both : {a b : Bool} → a ≡ true → b ≡ true → (a && b) ≡ true
+both {a} {b} e f = ap (λ (x : Bool). x && b) e ∙ f
+
+three : (c s d : Bool) → c ≡ false → s ≡ false → d ≡ true → (not c && not s && d) ≡ true
+three true s d e f g = never (sym e)
+three false true d e f g = never (sym f)
+three false false d e f g = g
+
+four : (c s r t : Bool) → c ≡ false → s ≡ false → (r && not t) ≡ true → (not c && not s && r && not t) ≡ true
+four true s r t e f g = never (sym e)
+four false true r t e f g = never (sym f)
+four false false r t e f g = g
+
+-- the row that fits a word that is not closed
+picked : (c s d r t : Bool) (x y z w : State) → c ≡ false → (d ≡ false → (r && not t) ≡ true)
+    → unwrap_or (option_or (option_or (if not c && s then Some x else None) (if not c && not s && d then Some y else None)) (if not c && not s && r && not t then Some z else None)) w ≡ (if s then x else (if d then y else z))
+picked true s d r t x y z w e f = never (sym e)
+picked false true d r t x y z w e f = refl
+picked false false true r t x y z w e f = refl
+picked false false false true true x y z w e f = never (f refl)
+picked false false false true false x y z w e f = refl
+picked false false false false t x y z w e f = never (f refl)
+
+module _ (F T A : Type 0) (limit : ℕ) where
+  pub gives_up : (hand : Option ℕ) (answer : Answer) (ds : List Deed) (us : List Member) (l : List (ℕ × Slot F T A)) → Owes F T A limit giving_up (λ n. (n + (2 ^ 64 - 256)) % 2 ^ 64) (GivingUp hand answer) ds us l
+  gives_up hand answer ds us l m f x e lt = by (nat_lt 1 m.word.references || m.word.task) refl
+    where
+      here : 1 ≤ (census m.parties).finishing
+      here = counted (λ c. c.finishing) (λ a b. refl) m.parties f.number (GivingUp hand answer) f.stands
+
+      some : 1 ≤ m.word.references
+      some = referred m.limit m.word m.slots m.trace (census m.parties) f.invariant.holds here
+
+      is : state_of x ≡ m.word
+      is = ap state_of e ∙ state_of_number_of m.word
+
+      fewer : (x + (2 ^ 64 - 256)) % 2 ^ 64 ≡ number_of (record (m.word) { references = m.word.references - 1 })
+      fewer = fetch_sub-reference x lt (subst (λ (w : State). 1 ≤ w.references) (sym is) some) ∙ ap (λ (w : State). number_of (record w { references = w.references - 1 })) is
+
+      by : (b : Bool) → (nat_lt 1 m.word.references || m.word.task) ≡ b → Steps m (GivingUp hand answer) (if b then GiveUpReference ∷ [] else GiveUpLastReference ∷ []) ((x + (2 ^ 64 - 256)) % 2 ^ 64) l
+      by true h = record {
+        outcome = steps (scene m) (record (m.word) { references = m.word.references - 1 }) (after_giving_up hand answer) [] [];
+        leads_to = leads_first (scene m) GiveUpReference [] (GivingUp hand answer) _ h refl;
+        writes = fewer;
+        idle = (refl, refl);
+        placing = stays (given_work hand answer) (given_free hand answer) (inr (refl, refl)) (inr (refl, refl));
+      }
+      by false h = record {
+        outcome = steps (scene m) (record (m.word) { references = m.word.references - 1 }) (Emptier hand answer) [] [];
+        leads_to = leads_first (scene m) GiveUpLastReference [] (GivingUp hand answer) _ (is_last m.word.references m.word.task some h) refl;
+        writes = fewer;
+        idle = (refl, refl);
+        placing = takes_awaiter refl refl refl (inr (refl, refl)) (not_emptied m.limit m.word m.slots m.trace (census m.parties) f.invariant.holds (let h = here in omega arith)) (λ y w. (m.slots.awaiter, w));
+      }
+
+  pub empties : (hand : Option ℕ) (answer : Answer) (ds : List Deed) (us : List Member) (l : List (ℕ × Slot F T A)) → l ≡ (2, Empty) ∷ rest l → Owes F T A limit emptying (λ n. n) (Emptier hand answer) ds us l
+  empties hand answer ds us l has m f x e lt = record {
+    outcome = keeps (scene m) m.word (record (m.slots) { awaiter = None }) (after_giving_up hand answer) (Empties ∷ ended_clone (m.slots.awaiter));
+    leads_to = refl;
+    writes = e;
+    idle = (refl, refl);
+    placing = gives_awaiter Empty refl (given_free hand answer) (given_work hand answer) (inr (refl, refl)) has (λ _. tt);
+  }
+
+  pub discards : (ds : List Deed) (us : List Member) (l : List (ℕ × Slot F T A)) → Owes F T A limit discarding (λ n. bit_or n 8) (At Runnable) ds us l
+  discards ds us l m f x e lt = by m.word.closed refl
+    where
+      there : m.slots.future ≡ true
+      there = (queued m f.number f.invariant f.stands).future
+
+      sets : bit_or x 8 ≡ number_of (record (m.word) { closed = true })
+      sets = fetch_or-closed x ∙ ap (λ (w : State). number_of (record w { closed = true })) (ap state_of e ∙ state_of_number_of m.word)
+
+      by : (b : Bool) → m.word.closed ≡ b → Steps m (At Runnable) (if b then DiscardClosed ∷ [] else DiscardOpen ∷ []) (bit_or x 8) l
+      by true h = record {
+        outcome = steps (scene m) m.word (FutureInHand DroppedRunnable) [] (TakenUp ∷ []);
+        leads_to = leads_first (scene m) DiscardClosed [] (At Runnable) _ h refl;
+        writes = sets ∙ ap number_of (closed_already m.word h);
+        idle = (refl, refl);
+        placing = takes_future refl refl refl (inr (refl, refl)) there (λ _ h. h);
+      }
+      by false h = record {
+        outcome = steps (scene m) (record (m.word) { closed = true }) (FutureInHand DroppedRunnable) [] (Closes ∷ TakenUp ∷ []);
+        leads_to = leads_first (scene m) DiscardOpen [] (At Runnable) _ (ap not h) refl;
+        writes = sets;
+        idle = (refl, refl);
+        placing = takes_future refl refl refl (inr (refl, refl)) there (λ _ h. h);
+      }
+
+  pub answers_ready : (ds : List Deed) (us : List Member) (l : List (ℕ × Slot F T A)) → Owes F T A limit answering_ready (λ n. n) Polling ds us l
+  answers_ready ds us l m f x e lt = record {
+    outcome = steps (scene m) m.word Ready [] (AnsweredReady ∷ []);
+    leads_to = refl;
+    writes = e;
+    idle = (refl, refl);
+    placing = stays refl refl (inl refl) (inr (refl, refl));
+  }
+
+  pub answers_pending : (ds : List Deed) (us : List Member) (l : List (ℕ × Slot F T A)) → Owes F T A limit answering_pending (λ n. n) Polling ds us l
+  answers_pending ds us l m f x e lt = by m.word.closed refl
+    where
+      by : (b : Bool) → m.word.closed ≡ b → Steps m Polling (if b then AnswerPending ∷ DropFuture ∷ [] else AnswerPending ∷ []) x l
+      by true h = record {
+        outcome = keeps (scene m) m.word (record (m.slots) { future = false }) Cleared (FutureDropped ∷ AnsweredPending ∷ []);
+        leads_to = ap (then_leaves (steps (scene m) m.word Pending [] (AnsweredPending ∷ [])))
+            (leads_first (apart m.limit m.word m.slots false) DropFuture [] Pending (keeps (scene m) m.word (record (m.slots) { future = false }) Cleared (FutureDropped ∷ [])) refl
+            (ap (λ b. if b then Some (keeps (scene m) m.word (record (m.slots) { future = false }) Cleared (FutureDropped ∷ [])) else None) h));
+        writes = e;
+        idle = (refl, refl);
+        placing = stays refl refl (inl refl) (inr (refl, refl));
+      }
+      by false h = record {
+        outcome = steps (scene m) m.word Pending [] (AnsweredPending ∷ []);
+        leads_to = refl;
+        writes = e;
+        idle = (refl, refl);
+        placing = stays refl refl (inl refl) (inr (refl, refl));
+      }
+
+  -- a word that changes in between changes nothing else, but that the task may be closed
+  pub misses_end : (ds : List Deed) (us : List Member) (l : List (ℕ × Slot F T A)) → Owes F T A limit missing_end (λ n. n) Pending ds us l
+  misses_end ds us l m f x e lt = by m.word.closed refl
+    where
+      by : (b : Bool) → m.word.closed ≡ b → Steps m Pending (if b then DropFuture ∷ [] else []) x l
+      by true h = record {
+        outcome = keeps (scene m) m.word (record (m.slots) { future = false }) Cleared (FutureDropped ∷ []);
+        leads_to = leads_first (scene m) DropFuture [] Pending (keeps (scene m) m.word (record (m.slots) { future = false }) Cleared (FutureDropped ∷ [])) refl
+            (ap (λ b. if b then Some (keeps (scene m) m.word (record (m.slots) { future = false }) Cleared (FutureDropped ∷ [])) else None) h);
+        writes = e;
+        idle = (refl, refl);
+        placing = stays refl refl (inl refl) (inr (refl, refl));
+      }
+      by false h = record {
+        outcome = steps (scene m) m.word Pending [] [];
+        leads_to = refl;
+        writes = e;
+        idle = (refl, refl);
+        placing = stays refl refl (inl refl) (inr (refl, refl));
+      }
+
+  pub ends_closed : (ds : List Deed) (us : List Member) (y z : Slot F T A) (l : List (ℕ × Slot F T A)) → l ≡ future_first y z (rest (rest l)) → Owes F T A limit ending_closed (λ n. bit_and n 18446744073709551612) Cleared ds us l
+  ends_closed ds us y z l has m f x e lt = record {
+    outcome = steps (scene m) (record (m.word) { running = false; scheduled = false }) (notifies m.word.awaiter OfRun) [] (RunEnded ∷ []);
+    leads_to = refl;
+    writes = fetch_and-scheduled_running x lt ∙ ap (λ (w : State). number_of (record w { scheduled = false; running = false })) (ap state_of e ∙ state_of_number_of m.word);
+    idle = (refl, refl);
+    placing = gives_work y z refl (due_work m.word.awaiter) (due_free m.word.awaiter) (inr (refl, refl)) (inl has) (λ e. never (sym gone.0 ∙ e)) (λ e. never (sym gone.1 ∙ e));
+  }
+    where
+      gone : (m.slots.future ≡ false) × (m.slots.output ≡ false)
+      gone = cleared_facts m.limit m.word m.slots m.trace (census m.parties) f.invariant.holds (counted (λ c. c.cleared) (λ a b. refl) m.parties f.number Cleared f.stands)
+
+  pub drops_output : (due : Bool) (ds : List Deed) (us : List Member) (y z : Slot F T A) (l : List (ℕ × Slot F T A)) → l ≡ output_first y z (rest (rest l)) → Owes F T A limit dropping_output (λ n. n) (OutputInHand due) ds us l
+  drops_output due ds us y z l has m f x e lt = record {
+    outcome = keeps (scene m) m.word (record (m.slots) { output = false }) (notifies due OfRun) (OutputDropped ∷ []);
+    leads_to = refl;
+    writes = e;
+    idle = (refl, refl);
+    placing = gives_work y z refl (due_work due) (due_free due) (inr (refl, refl)) (inr has) (λ e. never (sym gone ∙ e)) (λ e. never e);
+  }
+    where
+      gone : m.slots.future ≡ false
+      gone = output_facts m.limit m.word m.slots m.trace (census m.parties) f.invariant.holds (counted (λ c. c.outputs) (λ a b. refl) m.parties f.number (OutputInHand due) f.stands)
+
+  same_word : (w v : State) → number_of w ≡ number_of v → w ≡ v
+  same_word w v e = sym (state_of_number_of w) ∙ (ap state_of e ∙ state_of_number_of v)
+
+  -- the run of a Ready future
+  pub completes : (w : State) (ds : List Deed) (us : List Member) (y z : Slot F T A) (l : List (ℕ × Slot F T A)) → l ≡ output_first y z (rest (rest l)) → IsOutput z
+      → (m : Machine) → Finds limit Ready ds us m → number_of w ≡ number_of m.word → Steps m Ready (completing m.word) (number_of (completed_word w)) l
+  completes w ds us y z l has is m f e = by m.word.task refl
+    where
+      gone : Slots
+      gone = record (m.slots) { future = false }
+
+      stored : Slots
+      stored = record gone { output = true }
+
+      placed : (b a : Bool) (v : State) (told : List Event) → count is_emptying told ≡ 0 → Placing m Ready (record { word = v; slots = stored; next = if b then OutputInHand a else notifies a OfRun; born = []; told = told }) l
+      placed true a v told none = stays refl refl (inl refl) (inr (refl, none))
+      placed false a v told none = gives_work y z refl (due_work a) (due_free a) (inr (refl, none)) (inr has) (λ e. never e) (λ e. is)
+
+      told_closing : (b : Bool) → count is_emptying (((if b then Completes ∷ RunEnded ∷ [] else Closes ∷ Completes ∷ RunEnded ∷ []) ++ []) ++ FutureDropped ∷ []) ≡ 0
+      told_closing true = refl
+      told_closing false = refl
+
+      by : (b : Bool) → m.word.task ≡ b → Steps m Ready (if b then DropFuture ∷ StoreOutput ∷ Complete ∷ [] else DropFuture ∷ StoreOutput ∷ CompleteDetached ∷ []) (number_of (completed_word w)) l
+      by true h = record {
+        outcome = record { word = written Complete m.word; slots = stored; next = if m.word.closed then OutputInHand m.word.awaiter else notifies m.word.awaiter OfRun; born = []; told = Completes ∷ RunEnded ∷ FutureDropped ∷ [] };
+        leads_to = ap (λ x. then_leaves (keeps (scene m) m.word gone Unstored (FutureDropped ∷ [])) (then_leaves (keeps (apart m.limit m.word gone false) m.word stored Stored []) x))
+            (leads_first (apart m.limit m.word stored false) Complete [] Stored (steps (apart m.limit m.word stored false) (written Complete m.word) (if m.word.closed then OutputInHand m.word.awaiter else notifies m.word.awaiter OfRun) [] (Completes ∷ RunEnded ∷ [])) h refl);
+        writes = ap number_of (ap completed_word (same_word w m.word e) ∙ ap (λ b. if b then written Complete m.word else written CompleteDetached m.word) h);
+        idle = (refl, refl);
+        placing = placed m.word.closed m.word.awaiter (written Complete m.word) (Completes ∷ RunEnded ∷ FutureDropped ∷ []) refl;
+      }
+      by false h = record {
+        outcome = record { word = written CompleteDetached m.word; slots = stored; next = OutputInHand m.word.awaiter; born = []; told = (closing m.word (Completes ∷ RunEnded ∷ []) ++ []) ++ FutureDropped ∷ [] };
+        leads_to = ap (λ x. then_leaves (keeps (scene m) m.word gone Unstored (FutureDropped ∷ [])) (then_leaves (keeps (apart m.limit m.word gone false) m.word stored Stored []) x))
+            (leads_first (apart m.limit m.word stored false) CompleteDetached [] Stored (steps (apart m.limit m.word stored false) (written CompleteDetached m.word) (OutputInHand m.word.awaiter) [] (closing m.word (Completes ∷ RunEnded ∷ []))) (ap not h) refl);
+        writes = ap number_of (ap completed_word (same_word w m.word e) ∙ ap (λ b. if b then written Complete m.word else written CompleteDetached m.word) h);
+        idle = (refl, refl);
+        placing = stays refl refl (inl refl) (inr (refl, told_closing m.word.closed));
+      }
+
+  -- the run of a Pending future, on an open task
+  pub ends_pending : (w : State) (ds : List Deed) (us : List Member) (y z : Slot F T A) (l : List (ℕ × Slot F T A)) → l ≡ future_first y z (rest (rest l)) → IsFuture y → w.closed ≡ false
+      → (m : Machine) → Finds limit Pending ds us m → number_of w ≡ number_of m.word → Steps m Pending (ending_pending m.word) (number_of (after_pending w)) l
+  ends_pending w ds us y z l has is unclosed m f e = by m.word.scheduled (nat_lt 1 m.word.references || m.word.task) refl refl
+    where
+      facts : (1 ≤ m.word.references) × (m.slots.output ≡ false)
+      facts = pending_facts m.limit m.word m.slots m.trace (census m.parties) f.invariant.holds (counted (λ c. c.pending) (λ a b. refl) m.parties f.number Pending f.stands)
+
+      same : w ≡ m.word
+      same = same_word w m.word e
+
+      not_closed : m.word.closed ≡ false
+      not_closed = ap (λ (v : State). v.closed) (sym same) ∙ unclosed
+
+      shared : Bool
+      shared = nat_lt 1 m.word.references || m.word.task
+
+      wrote : after_pending w ≡ (if m.word.scheduled then written Reschedule m.word else (if shared then written EndIdle m.word else written EndOrphaned m.word))
+      wrote = ap after_pending same ∙ picked m.word.closed m.word.scheduled shared (nat_eq m.word.references 1) m.word.task (written Reschedule m.word) (written EndIdle m.word) (written EndOrphaned m.word) m.word not_closed (λ h. is_last m.word.references m.word.task facts.0 h)
+
+      by : (b d : Bool) → m.word.scheduled ≡ b → shared ≡ d → Steps m Pending (if b then Reschedule ∷ [] else (if d then EndIdle ∷ EndCall ∷ [] else EndOrphaned ∷ [])) (number_of (after_pending w)) l
+      by true d h k = record {
+        outcome = steps (scene m) (written Reschedule m.word) (Deliverer true (ThenEnds (Ran true))) [] (Made ByWake ∷ RunEnded ∷ []);
+        leads_to = leads_first (scene m) Reschedule [] Pending _ (both (ap not not_closed) h) refl;
+        writes = ap number_of (wrote ∙ ap (λ b. if b then written Reschedule m.word else (if shared then written EndIdle m.word else written EndOrphaned m.word)) h);
+        idle = (refl, refl);
+        placing = gives_work y z refl refl refl (inr (refl, refl)) (inl has) (λ e. is) (λ e. never (sym facts.1 ∙ e));
+      }
+      by false true h k = record {
+        outcome = steps (scene m) (written EndIdle m.word) (At Ended) [] (CallEnds (Ran false) ∷ RunEnded ∷ []);
+        leads_to = leads_first (scene m) EndIdle (EndCall ∷ []) Pending (steps (scene m) (written EndIdle m.word) (Leaving (Ran false) Ended) [] (RunEnded ∷ [])) (three m.word.closed m.word.scheduled shared not_closed h k) refl;
+        writes = ap number_of (wrote ∙ (ap (λ b. if b then written Reschedule m.word else (if shared then written EndIdle m.word else written EndOrphaned m.word)) h ∙ ap (λ b. if b then written EndIdle m.word else written EndOrphaned m.word) k));
+        idle = (refl, refl);
+        placing = gives_work y z refl refl refl (inr (refl, refl)) (inl has) (λ e. is) (λ e. never (sym facts.1 ∙ e));
+      }
+      by false false h k = record {
+        outcome = steps (scene m) (written EndOrphaned m.word) (Deliverer false (ThenEnds (Ran false))) [] (Made ByClosing ∷ Closes ∷ RunEnded ∷ []);
+        leads_to = leads_first (scene m) EndOrphaned [] Pending _ (four m.word.closed m.word.scheduled (nat_eq m.word.references 1) m.word.task not_closed h (is_last m.word.references m.word.task facts.0 k)) refl;
+        writes = ap number_of (wrote ∙ (ap (λ b. if b then written Reschedule m.word else (if shared then written EndIdle m.word else written EndOrphaned m.word)) h ∙ ap (λ b. if b then written EndIdle m.word else written EndOrphaned m.word) k));
+        idle = (refl, refl);
+        placing = gives_work y z refl refl refl (inr (refl, refl)) (inl has) (λ e. is) (λ e. never (sym facts.1 ∙ e));
+      }
+
+  -- .. by the numbers that the step names
+  pub may_complete : (w : State) (old new : ℕ) (ds : List Deed) (us : List Member) (y z : Slot F T A) (l : List (ℕ × Slot F T A)) → l ≡ output_first y z (rest (rest l)) → IsOutput z → old ≡ number_of w → new ≡ number_of (completed_word w)
+      → (m : Machine) → Finds limit Ready ds us m → old ≡ number_of m.word → Steps m Ready (completing m.word) new l
+  may_complete w old new ds us y z l has is e h m f found = subst (λ (n : ℕ). Steps m Ready (completing m.word) n l) (sym h) (completes w ds us y z l has is m f (sym e ∙ found))
+
+  pub may_end : (w : State) (old new : ℕ) (ds : List Deed) (us : List Member) (y z : Slot F T A) (l : List (ℕ × Slot F T A)) → l ≡ future_first y z (rest (rest l)) → IsFuture y → w.closed ≡ false → old ≡ number_of w → new ≡ number_of (after_pending w)
+      → (m : Machine) → Finds limit Pending ds us m → old ≡ number_of m.word → Steps m Pending (ending_pending m.word) new l
+  may_end w old new ds us y z l has is unclosed e h m f found = subst (λ (n : ℕ). Steps m Pending (ending_pending m.word) n l) (sym h) (ends_pending w ds us y z l has is unclosed m f (sym e ∙ found))

@@ -1,0 +1,237 @@
+-- How parties change their seats, and what the rule owes for it.
+use Rattle.std.proofs.Common.{◌≡◌, ℕ, zero, suc, ◌+◌, ◌<◌, ◌≢◌, true, false, Some, None, List, [], ◌∷◌, ◌++◌, length, set, sym, refl, ap, ◌∙◌, subst, ⊎_elim, ◌⊎◌, inl, inr, arith, length-set}
+use mathlib.Core.Option.{some, some-injective, some-ne-none}
+use native.Mathlib.Decide.{ℕ_discrete}
+use lib.ListN.{get_elem?}
+use Rattle.atomic_table.specs.Table.{State as Board, Splits, Joins}
+use Rattle.atomic_table.proofs.Lists.{at_set, set_here, set_else, set_again}
+use Rattle.task_core.specs.Word.{number_of}
+use Rattle.task_laws.specs.Event.{Event, HandedOver}
+use Rattle.task_laws.specs.Laws.{count, is_emptying}
+use Rattle.task_laws.specs.declared.positions.Position.{Position}
+use Rattle.task_laws.specs.declared.positions.After.{After}
+use Rattle.task_laws.specs.declared.positions.Position.TheVariants.{At, Deliverer, Leaving}
+use Rattle.task_laws.specs.declared.positions.Rest.TheVariants.{Runnable, Ended}
+use Rattle.task_core.specs.declared.moves.Act.TheVariants.{HandOver}
+use Rattle.task_laws.specs.declared.positions.After.TheVariants.{ThenEnds, ThenTask, ThenNotifies}
+use Rattle.task_laws.specs.declared.positions.Answer.TheVariants.{Nothing}
+use Rattle.task_laws.specs.Table.{Outcome, steps, goes_after}
+use Rattle.task_laws.specs.Machine.{Machine, scene}
+use Rattle.task_laws.specs.Theorem.{owns_awaiter}
+use Rattle.task_laws.proofs.Theorem.{laws_of}
+use Rattle.task_steps.specs.declared.table.Slot.{Slot}
+use Rattle.task_steps.specs.declared.table.Deed.{Deed}
+use Rattle.task_steps.specs.declared.table.Member.{Member}
+use Rattle.task_steps.specs.declared.table.Stage.TheVariants.{Spawned}
+use Rattle.task_steps.specs.declared.table.View.{View}
+use Rattle.task_steps.specs.Rule.{deed, member, view, fresh, Entry, Told, has_work, Housed, Running, Ruled}
+use Rattle.task_steps.specs.Standing.{hands_over, handed_over}
+use Rattle.task_steps.specs.Seats.{handing_over, runnable_of, lending, lent_of, taking_back, nobody}
+use Rattle.task_steps.proofs.Told.{inside, at_append, regroups}
+use Rattle.task_steps.proofs.Facts.{law, many_at, one_work}
+use Rattle.task_steps.proofs.Acts.{follows, leads}
+use Rattle.task_steps.proofs.Advance.{After as Afterwards, same_work, same_awaiter}
+use Rattle.task_steps.proofs.Allowed.{spawned, finds}
+
+-- a party gets a seat of its own
+abbrev moved : (id q new s j : ℕ) → Dec (s ≡ id) → Dec (j ≡ q) → ℕ × ℕ
+moved id q new s j (yes d) (yes e) = (new, 0)
+moved id q new s j (yes d) (no e) = (s, j)
+moved id q new s j (no d) e = (s, j)
+
+moved_there : (id q new s j : ℕ) (d : Dec (s ≡ id)) (e : Dec (j ≡ q)) → s ≡ id → j ≡ q → moved id q new s j d e ≡ (new, 0)
+moved_there id q new s j (yes d) (yes e) x y = refl
+moved_there id q new s j (yes d) (no e) x y = absurd (e y)
+moved_there id q new s j (no d) e x y = absurd (d x)
+
+moved_not : (id q new s j : ℕ) (d : Dec (s ≡ id)) (e : Dec (j ≡ q)) → (s ≢ id) ⊎ (j ≢ q) → moved id q new s j d e ≡ (s, j)
+moved_not id q new s j (yes d) (yes e) (inl x) = absurd (x d)
+moved_not id q new s j (yes d) (yes e) (inr y) = absurd (y e)
+moved_not id q new s j (yes d) (no e) x = refl
+moved_not id q new s j (no d) e x = refl
+
+pub leaves : (limit : ℕ) (views : List View) (seat l : ℕ) (log : List Entry) (m : Machine) (ms ns : List Member) (b : Member) (q : ℕ) → Told limit (set views seat (view l ms)) log m → seat < length views → get_elem? ms q ≡ some b
+    → ((j : ℕ) (u : Member) → get_elem? ns j ≡ some u → (get_elem? ms j ≡ some u) × (j ≢ q)) → Told limit (set views seat (view l ns) ++ view l (b ∷ []) ∷ []) log m
+leaves limit views seat l log m ms ns b q t lt there from = let here = set_here views seat (view l ms) lt in let new : ℕ = length views in
+    let V : List View = set views seat (view l ns) in let to : ℕ × ℕ → ℕ × ℕ = (λ p. moved seat q new p.0 p.1 (ℕ_discrete p.0 seat) (ℕ_discrete p.1 q)) in
+    regroups limit (set views seat (view l ms)) (V ++ view l (b ∷ []) ∷ []) log m to t
+    (λ s j v u f g. ⊎_elim
+    (λ (h : get_elem? V s ≡ some v). ⊎_elim
+    (λ (y : (s ≡ seat) × (view l ns ≡ v)). let x = from j u (ap (λ (w : View). get_elem? w.members j) y.1 ∙ g) in
+    (seat, j, view l ms, here, x.0, moved_not seat q new seat j (ℕ_discrete seat seat) (ℕ_discrete j q) (inr x.1) ∙ ap (λ (z : ℕ). (z, j)) (sym y.0), ap (λ (w : View). w.limit) (sym y.1)))
+    (λ (y : (s ≢ seat) × (get_elem? views s ≡ some v)). (s, j, v, set_else views seat s (view l ms) y.0 ∙ y.1, g, moved_not seat q new s j (ℕ_discrete s seat) (ℕ_discrete j q) (inl y.0), refl))
+    (at_set views seat s (view l ns) v h))
+    (λ (h : (n : ℕ) × (s ≡ length V + n) × (get_elem? (view l (b ∷ []) ∷ []) n ≡ some v)). let x = newest h.0 j v u h.2 g in
+    let e : new ≡ s = (let a = h.1 in let c = x.0 in let d = length-set views seat (view l ns) in omega arith) in
+    (seat, q, view l ms, here, there ∙ ap (λ z. some z) x.2, moved_there seat q new seat q (ℕ_discrete seat seat) (ℕ_discrete q q) refl refl ∙ (λ i. (e i, sym x.1 i)), one h.0 v h.2))
+    (at_append V (view l (b ∷ []) ∷ []) s v f))
+  where
+    one : (n : ℕ) (v : View) → get_elem? (view l (b ∷ []) ∷ []) n ≡ some v → v.limit ≡ l
+    one zero v e = ap (λ (x : View). x.limit) (sym (some-injective (view l (b ∷ [])) v e))
+    one (suc n) v e = absurd (some-ne-none v (sym e))
+
+    first : (j : ℕ) (u : Member) → get_elem? (b ∷ []) j ≡ some u → (j ≡ 0) × (b ≡ u)
+    first zero u e = (refl, some-injective b u e)
+    first (suc j) u e = absurd (some-ne-none u (sym e))
+
+    newest : (n j : ℕ) (v : View) (u : Member) → get_elem? (view l (b ∷ []) ∷ []) n ≡ some v → get_elem? v.members j ≡ some u → (n ≡ 0) × (j ≡ 0) × (b ≡ u)
+    newest zero j v u e f = let x = first j u (ap (λ (w : View). get_elem? w.members j) (some-injective (view l (b ∷ [])) v e) ∙ f) in (refl, x.0, x.1)
+    newest (suc n) j v u e f = absurd (some-ne-none v (sym e))
+
+pub just : {X : Type 0} (v : X) (n : ℕ) (w : X) → get_elem? (v ∷ []) n ≡ some w → (n ≡ 0) × (v ≡ w)
+just v zero w e = (refl, some-injective v w e)
+just v (suc n) w e = absurd (some-ne-none w (sym e))
+
+abbrev sent : (id new s j : ℕ) → (ℕ → ℕ) → Dec (s ≡ id) → ℕ × ℕ
+sent id new s j σ (yes d) = (new, σ j)
+sent id new s j σ (no d) = (s, j)
+
+sent_here : (id new s j : ℕ) (σ : ℕ → ℕ) (d : Dec (s ≡ id)) → s ≡ id → sent id new s j σ d ≡ (new, σ j)
+sent_here id new s j σ (yes d) e = refl
+sent_here id new s j σ (no d) e = absurd (d e)
+
+sent_else : (id new s j : ℕ) (σ : ℕ → ℕ) (d : Dec (s ≡ id)) → s ≢ id → sent id new s j σ d ≡ (s, j)
+sent_else id new s j σ (yes d) e = absurd (e d)
+sent_else id new s j σ (no d) e = refl
+
+abbrev crossed : ℕ → ℕ
+crossed zero = 1
+crossed (suc n) = 0
+
+abbrev before : ℕ → ℕ
+before zero = 0
+before (suc n) = n
+
+module _ (F T A : Type 0) (limit : ℕ) where
+  abbrev B : Type 0
+  B = Board (Slot F T A) View
+
+  abbrev Rule : B → Type 0
+  Rule = Ruled {F = F} {T = T} {A = A} limit
+
+  -- the rule once the views tell of this machine
+  pub retold : (s : B) (c : limit < 36028797018963968) (r : Running {F = F} {T = T} {A = A} limit s) (views : List View) (log : List Entry) (m : Machine) → Told limit views log m → m.word ≡ r.machine.word → m.limit ≡ limit → Housed m s.homes
+      → ((j : ℕ) (v : View) → get_elem? views j ≡ some v → v.stage ≡ Spawned) → Rule record { words = s.words; homes = s.homes; views = views }
+  retold s c r views log m t is limited housed staged = record {
+    capped = c;
+    phase = inr (record {
+      log = log;
+      machine = m;
+      limited = limited;
+      told = t;
+      wide = r.wide;
+      word_is = r.word_is ∙ ap number_of (sym is);
+      housed = housed;
+      staged = staged;
+    });
+  }
+
+  -- a seat that is changed and one that is added
+  pub staged_more : (s : B) (r : Running {F = F} {T = T} {A = A} limit s) (id : ℕ) (v w : View) → v.stage ≡ Spawned → w.stage ≡ Spawned → (j : ℕ) (x : View) → get_elem? (set s.views id v ++ w ∷ []) j ≡ some x → x.stage ≡ Spawned
+  staged_more s r id v w a b j x e = ⊎_elim
+      (λ (h : get_elem? (set s.views id v) j ≡ some x). ⊎_elim (λ (z : (j ≡ id) × (v ≡ x)). ap (λ (u : View). u.stage) (sym z.1) ∙ a) (λ (z : (j ≢ id) × (get_elem? s.views j ≡ some x)). r.staged j x z.1) (at_set s.views id j v x h))
+      (λ (h : (n : ℕ) × (j ≡ length (set s.views id v) + n) × (get_elem? (w ∷ []) n ≡ some x)). ap (λ (u : View). u.stage) (sym (just w h.0 x h.2).1) ∙ b)
+      (at_append (set s.views id v) (w ∷ []) j x e)
+
+  no_work_after : (next : After) → has_work (goes_after next) ≡ false
+  no_work_after (ThenEnds answer) = refl
+  no_work_after (ThenTask n) = refl
+  no_work_after (ThenNotifies n) = refl
+
+  no_awaiter_after : (next : After) → owns_awaiter (goes_after next) ≡ false
+  no_awaiter_after (ThenEnds answer) = refl
+  no_awaiter_after (ThenTask n) = refl
+  no_awaiter_after (ThenNotifies n) = refl
+
+  -- a party hands a Runnable over
+  hands_over_at : (id : ℕ) (v : View) (l : ℕ) (ds : List Deed) (p q : Position) (told : List Event) → v ≡ view l (member p ds ∷ [])
+      → ((m : Machine) → leads (scene m) (HandOver ∷ []) p ≡ Some (steps (scene m) m.word q (At Runnable ∷ []) told)) → handed_over p ≡ q
+      → has_work p ≡ false → has_work q ≡ false → owns_awaiter p ≡ false → owns_awaiter q ≡ false → count is_emptying told ≡ 0
+      → Splits Rule id v (handing_over v) (runnable_of v)
+  hands_over_at id v l ds p q told is allows there w0 w1 a0 a1 quiet s r at =
+      let run = spawned F T A limit s id v l (member p ds ∷ []) r at is in let m : Machine = run.machine in let lt = inside s.views id v at in
+      let t0 = subst (λ vs. Told limit vs run.log m) (sym (ap (λ z. set s.views id z) (sym is) ∙ set_again s.views id v at)) run.told in
+      let o : Outcome = steps (scene m) m.word q (At Runnable ∷ []) told in
+      let f = follows limit s.views id l (HandOver ∷ []) p ds [] run.log m o t0 lt (allows m) in
+      let k = finds F T A limit s r.capped run id v l p ds [] at is in
+      let i = law limit f.log f.machine f.told.reaches in
+      let a : Afterwards F T A limit m p o f.machine = record {
+        works = (let e = f.counts has_work in omega arith);
+        owners = (let e = f.counts owns_awaiter in omega arith);
+        here = many_at has_work m.parties k.number p k.stands;
+        here_too = many_at owns_awaiter m.parties k.number p k.stands;
+        slots_is = f.slots_is;
+        emptied = f.emptied;
+        one_worker = one_work f.machine i;
+        one_owner = (laws_of f.machine i).awaiter;
+      } in
+      let u : Member = member q (deed HandOver None ∷ ds) in let n : Member = fresh (At Runnable) in
+      let t1 = leaves limit s.views id l f.log f.machine (u ∷ n ∷ []) (u ∷ []) n 1 f.told lt refl (only u n) in
+      let housed : Housed f.machine s.homes = record {
+        future = λ z. (same_work F T A limit m p o f.machine s.homes s.homes a run.housed (w1 ∙ sym w0) (inr (refl, refl)) (refl, refl) z).0;
+        output = λ z. (same_work F T A limit m p o f.machine s.homes s.homes a run.housed (w1 ∙ sym w0) (inr (refl, refl)) (refl, refl) z).1;
+        awaiter = λ z. same_awaiter F T A limit m p o f.machine s.homes s.homes a run.housed (a1 ∙ sym a0) (inr (refl, quiet)) refl z;
+      } in
+      let views : set s.views id (view l (u ∷ [])) ++ view l (n ∷ []) ∷ [] ≡ set s.views id (handing_over v) ++ runnable_of v ∷ [] =
+      (λ j. set s.views id ((ap (λ z. view l (member z (deed HandOver None ∷ ds) ∷ [])) (sym there) ∙ ap handing_over (sym is)) j) ++ (ap runnable_of (sym is)) j ∷ []) in
+      subst (λ vs. Rule record { words = s.words; homes = s.homes; views = vs }) views
+      (retold s r.capped run (set s.views id (view l (u ∷ [])) ++ view l (n ∷ []) ∷ []) f.log f.machine t1 f.word_is (f.limit_is ∙ run.limited) housed (staged_more s run id (view l (u ∷ [])) (view l (n ∷ [])) refl refl))
+    where
+      only : (u n : Member) (j : ℕ) (x : Member) → get_elem? (u ∷ []) j ≡ some x → (get_elem? (u ∷ n ∷ []) j ≡ some x) × (j ≢ 1)
+      only u n zero x e = (e, λ z. omega arith)
+      only u n (suc j) x e = absurd (some-ne-none x (sym e))
+
+  pub splits : (id : ℕ) (v : View) (l : ℕ) (ds : List Deed) (p : Position) → hands_over p ≡ true → v ≡ view l (member p ds ∷ []) → Splits Rule id v (handing_over v) (runnable_of v)
+  splits id v l ds (Deliverer woken next) e is = hands_over_at id v l ds (Deliverer woken next) (goes_after next) (HandedOver woken ∷ []) is (λ m. refl) refl refl (no_work_after next) refl (no_awaiter_after next) refl
+  splits id v l ds (At Runnable) e is = hands_over_at id v l ds (At Runnable) (Leaving Nothing Ended) (HandedOver false ∷ []) is (λ m. refl) refl refl refl refl refl refl
+  splits id v l ds _ e is = absurd (cc)
+
+  -- a run lends its waker: both parties of its seat go to a new one
+  pub lends : (id : ℕ) (v : View) (l : ℕ) (u w : Member) → v ≡ view l (u ∷ w ∷ []) → Splits Rule id v (lending v) (lent_of v)
+  lends id v l u w is s r at = let run = spawned F T A limit s id v l (u ∷ w ∷ []) r at is in let new : ℕ = length s.views in
+      let views : set s.views id (view l []) ++ view l (w ∷ u ∷ []) ∷ [] ≡ set s.views id (lending v) ++ lent_of v ∷ [] = (λ j. set s.views id (ap lending (sym is) j) ++ (ap lent_of (sym is)) j ∷ []) in
+      let at' : get_elem? s.views id ≡ some (view l (u ∷ w ∷ [])) = at ∙ ap (λ z. some z) is in
+      subst (λ vs. Rule record { words = s.words; homes = s.homes; views = vs }) views
+      (retold s r.capped run (set s.views id (view l []) ++ view l (w ∷ u ∷ []) ∷ []) run.log run.machine
+      (regroups limit s.views (set s.views id (view l []) ++ view l (w ∷ u ∷ []) ∷ []) run.log run.machine (λ p. sent id new p.0 p.1 crossed (ℕ_discrete p.0 id)) run.told
+      (λ seat index y x f g. ⊎_elim
+      (λ (h : get_elem? (set s.views id (view l [])) seat ≡ some y). ⊎_elim
+      (λ (z : (seat ≡ id) × (view l [] ≡ y)). absurd (some-ne-none x (sym (ap (λ (q : View). get_elem? q.members index) z.1 ∙ g))))
+      (λ (z : (seat ≢ id) × (get_elem? s.views seat ≡ some y)). (seat, index, y, z.1, g, sent_else id new seat index crossed (ℕ_discrete seat id) z.0, refl))
+      (at_set s.views id seat (view l []) y h))
+      (λ (h : (n : ℕ) × (seat ≡ length (set s.views id (view l [])) + n) × (get_elem? (view l (w ∷ u ∷ []) ∷ []) n ≡ some y)). let e = just (view l (w ∷ u ∷ [])) h.0 y h.2 in
+      let there : new ≡ seat = (let a = h.1 in let b = e.0 in let d = length-set s.views id (view l []) in omega arith) in
+      let k = from index x (ap (λ (q : View). get_elem? q.members index) e.1 ∙ g) in
+      (id, k.0, view l (u ∷ w ∷ []), at', k.1, sent_here id new id k.0 crossed (ℕ_discrete id id) refl ∙ (λ i. (there i, k.2 i)), ap (λ (q : View). q.limit) (sym e.1)))
+      (at_append (set s.views id (view l [])) (view l (w ∷ u ∷ []) ∷ []) seat y f)))
+      refl run.limited run.housed (staged_more s run id (view l []) (view l (w ∷ u ∷ [])) refl refl))
+    where
+      from : (index : ℕ) (x : Member) → get_elem? (w ∷ u ∷ []) index ≡ some x → (k : ℕ) × (get_elem? (u ∷ w ∷ []) k ≡ some x) × (crossed k ≡ index)
+      from zero x e = (1, e, refl)
+      from (suc zero) x e = (0, e, refl)
+      from (suc (suc n)) x e = absurd (some-ne-none x (sym e))
+
+  -- .. and the run comes back
+  pub takes_back : (id : ℕ) (v : View) (other : ℕ) (w : View) (l : ℕ) (lent u : Member) → v.members ≡ [] → w ≡ view l (lent ∷ u ∷ []) → Joins Rule id v other w (taking_back v w) nobody
+  takes_back id v other w l lent u none_there is s r at apart there = let at' : get_elem? s.views other ≡ some w = sym (set_else s.views id other (taking_back v w) apart) ∙ there in
+      let run = spawned F T A limit s other w l (lent ∷ u ∷ []) r at' is in
+      let back : taking_back v w ≡ view l (u ∷ []) = ap (taking_back v) is in
+      let V : List View = set (set s.views id (taking_back v w)) other nobody in
+      retold s r.capped run V run.log run.machine
+      (regroups limit s.views V run.log run.machine (λ p. sent other id p.0 p.1 before (ℕ_discrete p.0 other)) run.told
+      (λ seat index y x f g. ⊎_elim
+      (λ (z : (seat ≡ other) × (nobody ≡ y)). absurd (some-ne-none x (sym (ap (λ (q : View). get_elem? q.members index) z.1 ∙ g))))
+      (λ (z : (seat ≢ other) × (get_elem? (set s.views id (taking_back v w)) seat ≡ some y)). ⊎_elim
+      (λ (h : (seat ≡ id) × (taking_back v w ≡ y)). let k = from index x (ap (λ (q : View). get_elem? q.members index) (sym back ∙ h.1) ∙ g) in
+      (other, k.0, view l (lent ∷ u ∷ []), at' ∙ ap (λ z. some z) is, k.1, sent_here other id other k.0 before (ℕ_discrete other other) refl ∙ (λ i. (sym h.0 i, k.2 i)), ap (λ (q : View). q.limit) (sym (sym back ∙ h.1))))
+      (λ (h : (seat ≢ id) × (get_elem? s.views seat ≡ some y)). (seat, index, y, h.1, g, sent_else other id seat index before (ℕ_discrete seat other) z.0, refl))
+      (at_set s.views id seat (taking_back v w) y z.1))
+      (at_set (set s.views id (taking_back v w)) other seat nobody y f)))
+      refl run.limited run.housed
+      (λ j y e. ⊎_elim (λ (z : (j ≡ other) × (nobody ≡ y)). ap (λ (q : View). q.stage) (sym z.1))
+      (λ (z : (j ≢ other) × (get_elem? (set s.views id (taking_back v w)) j ≡ some y)). ⊎_elim (λ (h : (j ≡ id) × (taking_back v w ≡ y)). ap (λ (q : View). q.stage) (sym h.1)) (λ (h : (j ≢ id) × (get_elem? s.views j ≡ some y)). run.staged j y h.1) (at_set s.views id j (taking_back v w) y z.1))
+      (at_set (set s.views id (taking_back v w)) other j nobody y e))
+    where
+      from : (index : ℕ) (x : Member) → get_elem? (u ∷ []) index ≡ some x → (k : ℕ) × (get_elem? (lent ∷ u ∷ []) k ≡ some x) × (before k ≡ index)
+      from zero x e = (1, e, refl)
+      from (suc n) x e = absurd (some-ne-none x (sym e))

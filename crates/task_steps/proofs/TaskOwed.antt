@@ -1,0 +1,190 @@
+-- What each step of a Task owes beside its polls.
+use Rattle.std.proofs.Common.{◌≡◌, ℕ, ◌+◌, ◌≤◌, Bool, true, false, not, ◌&&◌, ◌||◌, Option, Some, None, List, [], ◌∷◌, refl, sym, ap, ◌∙◌, subst, inr, arith}
+use Rattle.std.specs.Prelude.{bit_and, nat_lt, nat_eq, if◌then◌else◌}
+use Rattle.std.proofs.lemmas.Bool.Decides.{nat_tests}
+use Rattle.atomic_table.specs.Table.{rest}
+use Rattle.task_core.specs.Word.{State, state_of, number_of, is_open, orphan_word}
+use Rattle.task_laws.specs.Event.{Event, CallEnds, Closes, Made, ByClosing, TaskGivenUp, OutputDropped}
+use Rattle.task_laws.specs.declared.positions.Answer.TheVariants.{Nothing}
+use Rattle.task_laws.specs.declared.positions.Position.{Position}
+use Rattle.task_laws.specs.declared.positions.Position.TheVariants.{At, Deliverer, Emptier, OutputCloser, Detacher}
+use Rattle.task_laws.specs.declared.positions.Rest.TheVariants.{Task, Ended}
+use Rattle.task_laws.specs.declared.positions.After.TheVariants.{ThenEnds}
+use Rattle.task_laws.specs.declared.positions.Way.TheVariants.{OfCancel}
+use Rattle.task_core.specs.declared.moves.Act.{Act}
+use Rattle.task_core.specs.declared.moves.Act.TheVariants.{CancelOver, CancelBusy, CancelIdle, GiveUpOutput, DetachOrphan, DetachLast, Detach, EndCall}
+use Rattle.task_core.specs.Rows.{found, written}
+use Rattle.task_laws.specs.Table.{Slots, Outcome, steps, keeps, goes, where_found, notifies, cancels_after}
+use Rattle.task_laws.specs.Machine.{Machine, scene}
+use Rattle.task_laws.specs.Laws.{count, is_emptying}
+use Rattle.task_laws.specs.Theorem.{owns_awaiter}
+use Rattle.task_laws.proofs.Census.{Census, census, weigh}
+use Rattle.task_laws.proofs.Invariant.{Holds}
+use Rattle.task_core.proofs.Bits.{state_of_number_of, fetch_and-task}
+use Rattle.task_steps.specs.declared.table.Slot.{Slot}
+use Rattle.task_steps.specs.declared.table.Deed.{Deed}
+use Rattle.task_steps.specs.declared.table.Member.{Member}
+use Rattle.task_steps.specs.Rule.{has_work}
+use Rattle.task_steps.specs.Steps.{saw_closed, output_first}
+use Rattle.task_steps.specs.Scripts.{dropping_output}
+use Rattle.task_steps.specs.TaskScripts.{looking_over, cancelling, cancelled, detaching, detached, giving_task_up}
+use Rattle.task_steps.specs.Steps.{and_then}
+use Rattle.task_steps.proofs.Acts.{apart, leads}
+use Rattle.task_steps.proofs.Advance.{Finds, stays, gives_work, takes_output, takes_awaiter, Steps}
+use Rattle.task_steps.proofs.Allowed.{Owes}
+use Rattle.task_steps.proofs.Owed.{counted_at, does_nothing}
+
+never : {P : Type 0} → false ≡ true → P
+never e = absurd (cc)
+
+-- acts in a row, by whether the first finds its word
+abbrev leads_if : Machine → Position → Act → List Act → Bool → Option Outcome
+leads_if m p a more b = and_then (where_found b (goes (scene m) (written a m.word) a p)) (λ o. leads (apart m.limit o.word o.slots false) more o.next)
+
+finds_it : (m : Machine) (p : Position) (a : Act) (more : List Act) → found m.limit a m.word ≡ true → leads (scene m) (a ∷ more) p ≡ leads_if m p a more true
+finds_it m p a more e = ap (leads_if m p a more) e
+
+pub both : (a b : Bool) → a ≡ true → b ≡ true → (a && b) ≡ true
+both a b e f = cc
+
+pub over : (b : Bool) → b ≡ false → not b ≡ true
+over b e = cc
+
+pub neither : (o s r : Bool) → o ≡ true → (s || r) ≡ false → (o && not s && not r) ≡ true
+neither o s r e f = grind arith
+
+pub none_left : (n : ℕ) → nat_lt 0 n ≡ false → nat_eq n 0 ≡ true
+none_left n e = grind (arith, nat_tests)
+
+pub last_orphan : (n : ℕ) (completed closed : Bool) → nat_lt 0 n ≡ false → (completed && not closed) ≡ false → closed ≡ false → (nat_eq n 0 && (not completed && not closed)) ≡ true
+last_orphan n completed closed e f g = grind (arith, nat_tests)
+
+pub closed_claimed : (completed closed : Bool) → closed ≡ true → (completed && not closed) ≡ false
+closed_claimed completed closed e = grind arith
+
+-- the Task on its way in a cancel has no place of the table
+pub idle_cancel : (b : Bool) (n : ℕ) → (has_work (notifies b (OfCancel n)) ≡ false) × (owns_awaiter (notifies b (OfCancel n)) ≡ false)
+idle_cancel true n = (refl, refl)
+idle_cancel false n = (refl, refl)
+
+-- while the Task is there, the slots were not emptied
+unemptied : (limit : ℕ) (w : State) (slots : Slots) (t : List Event) (c : Census) → Holds limit w slots t c → 1 ≤ c.tasks → count is_emptying t ≡ 0
+unemptied limit w slots t c h e = grind arith
+
+-- of a completed task that is not closed, the output is there
+output_there : (limit : ℕ) (w : State) (slots : Slots) (t : List Event) (c : Census) → Holds limit w slots t c → (w.completed && not w.closed) ≡ true → slots.output ≡ true
+output_there limit w slots t c h e = grind arith
+
+-- whoever has claimed the output has the only thing that is left of the work
+no_future : (limit : ℕ) (w : State) (slots : Slots) (t : List Event) (c : Census) → Holds limit w slots t c → 1 ≤ c.claims → slots.future ≡ false
+no_future limit w slots t c h e = grind arith
+
+module _ (F T A : Type 0) (limit : ℕ) where
+  pub looks_over : (n : ℕ) (ds : List Deed) (us : List Member) (l : List (ℕ × Slot F T A)) → Owes F T A limit looking_over (λ n. n) (At (Task n)) ds us l
+  looks_over n ds us l m f x e lt = looks (is_open m.word) refl
+    where
+      looks : (b : Bool) → is_open m.word ≡ b → Steps m (At (Task n)) (if b then [] else CancelOver ∷ EndCall ∷ []) x l
+      looks true is = does_nothing F T A limit (At (Task n)) ds us l m f x e lt
+      looks false is = record {
+        outcome = steps (scene m) m.word (At (Task n)) [] (CallEnds Nothing ∷ []);
+        leads_to = finds_it m (At (Task n)) CancelOver (EndCall ∷ []) (over (is_open m.word) is);
+        writes = e;
+        idle = (refl, refl);
+        placing = stays refl refl (inr (refl, refl)) (inr (refl, refl));
+      }
+
+  pub cancels : (n : ℕ) (ds : List Deed) (us : List Member) (l : List (ℕ × Slot F T A)) (w : State) (old new : ℕ) → old ≡ number_of w → new ≡ number_of (cancelled w) → is_open w ≡ true
+      → (m : Machine) → Finds limit (At (Task n)) ds us m → old ≡ number_of m.word → Steps m (At (Task n)) (cancelling m.word) new l
+  cancels n ds us l w old new is wrote before m f e = subst (λ (k : ℕ). Steps m (At (Task n)) (cancelling m.word) k l) (ap (λ (v : State). number_of (cancelled v)) same ∙ sym wrote) (closes (m.word.scheduled || m.word.running) refl)
+    where
+      same : m.word ≡ w
+      same = sym (state_of_number_of m.word) ∙ ap state_of (sym e ∙ is) ∙ state_of_number_of w
+
+      now : is_open m.word ≡ true
+      now = ap is_open same ∙ before
+
+      closes : (b : Bool) → (m.word.scheduled || m.word.running) ≡ b
+          → Steps m (At (Task n)) (if b then CancelBusy ∷ [] else CancelIdle ∷ []) (number_of (if b then record (m.word) { closed = true } else record (m.word) { scheduled = true; closed = true; references = m.word.references + 1 })) l
+      closes true is = let i = idle_cancel m.word.awaiter n in record {
+        outcome = steps (scene m) (record (m.word) { closed = true }) (notifies m.word.awaiter (OfCancel n)) [] (Closes ∷ []);
+        leads_to = finds_it m (At (Task n)) CancelBusy [] (both (is_open m.word) (m.word.scheduled || m.word.running) now is);
+        writes = refl;
+        idle = (refl, refl);
+        placing = stays i.0 i.1 (inr (refl, refl)) (inr (refl, refl));
+      }
+      closes false is = record {
+        outcome = steps (scene m) (record (m.word) { scheduled = true; closed = true; references = m.word.references + 1 }) (Deliverer false (cancels_after m.word.awaiter n)) [] (Made ByClosing ∷ Closes ∷ []);
+        leads_to = finds_it m (At (Task n)) CancelIdle [] (neither (is_open m.word) m.word.scheduled m.word.running now is);
+        writes = refl;
+        idle = (refl, refl);
+        placing = stays refl refl (inr (refl, refl)) (inr (refl, refl));
+      }
+
+  -- the row of a Task that is given up, from here on
+  gives_reference : (p : Position) (m : Machine) (x : ℕ) (l : List (ℕ × Slot F T A)) → has_work p ≡ false → owns_awaiter p ≡ false
+      → leads_if m p Detach (EndCall ∷ []) true ≡ Some (steps (scene m) (record (m.word) { task = false }) (At Ended) [] (CallEnds Nothing ∷ TaskGivenUp ∷ []))
+      → x ≡ number_of (record (m.word) { task = false }) → nat_lt 0 m.word.references ≡ true → (m.word.completed && not m.word.closed) ≡ false → Steps m p (Detach ∷ EndCall ∷ []) x l
+  gives_reference p m x l free bare goes e counted claimed = record {
+    outcome = steps (scene m) (record (m.word) { task = false }) (At Ended) [] (CallEnds Nothing ∷ TaskGivenUp ∷ []);
+    leads_to = finds_it m p Detach (EndCall ∷ []) (both (nat_lt 0 m.word.references) (not (m.word.completed && not m.word.closed)) counted (over (m.word.completed && not m.word.closed) claimed)) ∙ goes;
+    writes = e;
+    idle = (refl, refl);
+    placing = stays (sym free) (sym bare) (inr (refl, refl)) (inr (refl, refl));
+  }
+
+  gives_last : (p : Position) (ds : List Deed) (us : List Member) (m : Machine) → Finds limit p ds us m → (x : ℕ) (l : List (ℕ × Slot F T A)) → has_work p ≡ false → owns_awaiter p ≡ false → 1 ≤ (weigh p).tasks
+      → leads_if m p DetachLast [] true ≡ Some (steps (scene m) (record (m.word) { task = false }) (Emptier None Nothing) [] (TaskGivenUp ∷ []))
+      → x ≡ number_of (record (m.word) { task = false }) → nat_lt 0 m.word.references ≡ false → m.word.closed ≡ true → Steps m p (DetachLast ∷ []) x l
+  gives_last p ds us m f x l free bare one goes e none closed = let left = unemptied m.limit m.word m.slots m.trace (census m.parties) f.invariant.holds (let h = counted_at (λ c. c.tasks) (λ a b. refl) m.parties f.number p f.stands in omega arith) in record {
+    outcome = steps (scene m) (record (m.word) { task = false }) (Emptier None Nothing) [] (TaskGivenUp ∷ []);
+    leads_to = finds_it m p DetachLast [] (both (nat_eq m.word.references 0) m.word.closed (none_left m.word.references none) closed) ∙ goes;
+    writes = e;
+    idle = (refl, refl);
+    placing = takes_awaiter bare refl (sym free) (inr (refl, refl)) left (λ y h. (m.slots.awaiter, h));
+  }
+
+  pub detaches : (n : ℕ) (ds : List Deed) (us : List Member) (l : List (ℕ × Slot F T A)) (w : State) (old new : ℕ) → old ≡ number_of w → new ≡ number_of (detached w)
+      → (m : Machine) → Finds limit (At (Task n)) ds us m → old ≡ number_of m.word → Steps m (At (Task n)) (detaching m.word) new l
+  detaches n ds us l w old new is wrote m f e = subst (λ (k : ℕ). Steps m (At (Task n)) (detaching m.word) k l) (ap (λ (v : State). number_of (detached v)) same ∙ sym wrote) (gives (m.word.completed && not m.word.closed) (nat_lt 0 m.word.references) m.word.closed refl refl refl)
+    where
+      same : m.word ≡ w
+      same = sym (state_of_number_of m.word) ∙ ap state_of (sym e ∙ is) ∙ state_of_number_of w
+
+      gives : (a b c : Bool) → (m.word.completed && not m.word.closed) ≡ a → nat_lt 0 m.word.references ≡ b → m.word.closed ≡ c
+          → Steps m (At (Task n)) (if a then GiveUpOutput ∷ [] else (if b then Detach ∷ EndCall ∷ [] else (if c then DetachLast ∷ [] else DetachOrphan ∷ [])))
+          (number_of (if a then record (m.word) { closed = true } else (if b || c then record (m.word) { task = false } else orphan_word))) l
+      gives true b c claimed counted closed = record {
+        outcome = steps (scene m) (record (m.word) { closed = true }) OutputCloser [] (Closes ∷ []);
+        leads_to = finds_it m (At (Task n)) GiveUpOutput [] claimed;
+        writes = refl;
+        idle = (refl, refl);
+        placing = takes_output refl refl refl (inr (refl, refl)) (output_there m.limit m.word m.slots m.trace (census m.parties) f.invariant.holds claimed) (λ _ h. h);
+      }
+      gives false true c claimed counted closed = gives_reference (At (Task n)) m (number_of (record (m.word) { task = false })) l refl refl refl refl counted claimed
+      gives false false true claimed counted closed = gives_last (At (Task n)) ds us m f (number_of (record (m.word) { task = false })) l refl refl (omega arith) refl refl counted closed
+      gives false false false claimed counted closed = record {
+        outcome = steps (scene m) orphan_word (Deliverer false (ThenEnds Nothing)) [] (Made ByClosing ∷ Closes ∷ TaskGivenUp ∷ []);
+        leads_to = finds_it m (At (Task n)) DetachOrphan [] (last_orphan m.word.references m.word.completed m.word.closed counted claimed closed);
+        writes = refl;
+        idle = (refl, refl);
+        placing = stays refl refl (inr (refl, refl)) (inr (refl, refl));
+      }
+
+  pub drops_output : (ds : List Deed) (us : List Member) (y z : Slot F T A) (l : List (ℕ × Slot F T A)) → l ≡ output_first y z (rest (rest l)) → Owes F T A limit dropping_output (λ n. n) OutputCloser ds us l
+  drops_output ds us y z l has m f x e lt = let none = no_future m.limit m.word m.slots m.trace (census m.parties) f.invariant.holds (counted_at (λ c. c.claims) (λ a b. refl) m.parties f.number OutputCloser f.stands) in record {
+    outcome = keeps (scene m) m.word (record (m.slots) { output = false }) Detacher (OutputDropped ∷ []);
+    leads_to = refl;
+    writes = e;
+    idle = (refl, refl);
+    placing = gives_work y z refl refl refl (inr (refl, refl)) (inr has) (λ e. never (sym none ∙ e)) (λ e. never e);
+  }
+
+  pub gives_task_up : (ds : List Deed) (us : List Member) (l : List (ℕ × Slot F T A)) → saw_closed ds ≡ true → Owes F T A limit giving_task_up (λ n. bit_and n 18446744073709551599) Detacher ds us l
+  gives_task_up ds us l saw m f x e lt = gives (nat_lt 0 m.word.references) refl
+    where
+      wrote : bit_and x 18446744073709551599 ≡ number_of (record (m.word) { task = false })
+      wrote = fetch_and-task x lt ∙ ap (λ (w : State). number_of (record w { task = false })) (ap state_of e ∙ state_of_number_of m.word)
+
+      gives : (b : Bool) → nat_lt 0 m.word.references ≡ b → Steps m Detacher (if b then Detach ∷ EndCall ∷ [] else DetachLast ∷ []) (bit_and x 18446744073709551599) l
+      gives true counted = gives_reference Detacher m (bit_and x 18446744073709551599) l refl refl refl wrote counted (closed_claimed m.word.completed m.word.closed (f.closed saw))
+      gives false counted = gives_last Detacher ds us m f (bit_and x 18446744073709551599) l refl refl (omega arith) refl wrote counted (f.closed saw)

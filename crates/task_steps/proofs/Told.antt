@@ -1,0 +1,209 @@
+-- One act more: the interleaving, and what each seat knows of it.
+use Rattle.std.proofs.Common.{◌≡◌, ℕ, zero, suc, ◌+◌, ◌-◌, ◌<◌, ◌≤◌, ◌≢◌, Option, Some, None, List, [], ◌∷◌, ◌++◌, length, map, set, sym, refl, ap, ◌∙◌, subst, ⊎_elim, ◌⊎◌, inl, inr, arith, length-set, length-append, eq-eqb, ne_eqb}
+use Rattle.std.specs.Prelude.{slice_get}
+use mathlib.Core.Option.{some, some-injective, some-ne-none}
+use native.Mathlib.Decide.{dec_le}
+use lib.ListN.{get_elem?}
+use Rattle.atomic_table.proofs.Lists.{at_set, set_here, set_else, at_longer}
+use Rattle.task_laws.specs.declared.positions.Position.{Position}
+use Rattle.task_core.specs.declared.moves.Act.{Act}
+use Rattle.task_laws.specs.Table.{Outcome, rule}
+use Rattle.task_laws.specs.Machine.{Machine, Step, opening, step, scene, begins, moves, after, run, run_from}
+use Rattle.task_steps.specs.declared.table.Deed.{Deed}
+use Rattle.task_steps.specs.declared.table.Member.{Member}
+use Rattle.task_steps.specs.declared.table.View.{View}
+use Rattle.task_steps.specs.Rule.{deed, member, view, fresh, found_by, Entry, Reaches, steps_of, noted_if, deeds_of, Among, Fared, Told}
+
+module _ {A : Type 0} where
+  pub inside : (l : List A) (i : ℕ) (a : A) → get_elem? l i ≡ some a → i < length l
+  inside [] i a e = absurd (some-ne-none a (sym e))
+  inside (x ∷ xs) zero a e = omega arith
+  inside (x ∷ xs) (suc i) a e = let h = inside xs i a e in omega arith
+
+  pub got : (l : List A) (i : ℕ) (a : A) → get_elem? l i ≡ some a → slice_get l i ≡ Some a
+  got [] i a e = absurd (some-ne-none a (sym e))
+  got (x ∷ xs) zero a e = ap (λ y. Some y) (some-injective x a e)
+  got (x ∷ xs) (suc i) a e = got xs i a e
+
+  pub got_inside : (l : List A) (i : ℕ) (a : A) → slice_get l i ≡ Some a → i < length l
+  got_inside [] i a e = cc
+  got_inside (x ∷ xs) zero a e = omega arith
+  got_inside (x ∷ xs) (suc i) a e = let h = got_inside xs i a e in omega arith
+
+  -- an element of two lists in a row
+  pub at_append : (l m : List A) (j : ℕ) (b : A) → get_elem? (l ++ m) j ≡ some b → (get_elem? l j ≡ some b) ⊎ ((n : ℕ) × (j ≡ length l + n) × (get_elem? m n ≡ some b))
+  at_append [] m j b e = inr (j, omega arith, e)
+  at_append (x ∷ xs) m zero b e = inl e
+  at_append (x ∷ xs) m (suc j) b e = ⊎_elim (λ f. inl f) (λ f. inr (f.0, (let e = f.1 in omega arith), f.2)) (at_append xs m j b e)
+
+  pub at_second : (l m : List A) (n : ℕ) (b : A) → get_elem? m n ≡ some b → get_elem? (l ++ m) (length l + n) ≡ some b
+  at_second [] m n b e = let q : n ≡ 0 + n = omega arith in subst (λ (q : ℕ). get_elem? m q ≡ some b) q e
+  at_second (x ∷ xs) m n b e = let q : suc (length xs + n) ≡ suc (length xs) + n = omega arith in subst (λ (q : ℕ). get_elem? (x ∷ (xs ++ m)) q ≡ some b) q (at_second xs m n b e)
+
+  pub at_mapped : {B : Type 0} (f : A → B) (l : List A) (j : ℕ) (b : B) → get_elem? (map f l) j ≡ some b → (a : A) × (get_elem? l j ≡ some a) × (f a ≡ b)
+  at_mapped f [] j b e = absurd (some-ne-none b (sym e))
+  at_mapped f (x ∷ xs) zero b e = (x, refl, some-injective (f x) b e)
+  at_mapped f (x ∷ xs) (suc j) b e = at_mapped f xs j b e
+
+-- the machine after what party k leaves
+abbrev pub next_machine : Machine → ℕ → Position → Outcome → Machine
+next_machine m k p o = record {
+  limit = m.limit;
+  word = o.word;
+  slots = o.slots;
+  parties = set m.parties k o.next ++ o.born;
+  trace = o.told ++ (begins p ++ m.trace);
+}
+
+-- a step by what the rule allows
+pub step_is : (m : Machine) (k : ℕ) (a : Act) (p : Position) (o : Outcome) → get_elem? m.parties k ≡ some p → rule (scene m) a p ≡ Some o → step m (record { party = k; act = a }) ≡ Some (next_machine m k p o)
+step_is m k a p o at e = ap (λ x. moves m k a x) (got m.parties k p at) ∙ ap (λ x. after m k p x) e
+
+after_grows : (n m : Machine) (k : ℕ) (p : Position) (x : Option Outcome) → after n k p x ≡ Some m → length n.parties ≤ length m.parties
+after_grows n m k p None e = absurd (cc)
+after_grows n m k p (Some o) e = let is : next_machine n k p o ≡ m = cc in
+    subst (λ (y : Machine). length n.parties ≤ length y.parties) is (omega (arith, length-append (set n.parties k o.next) o.born, length-set n.parties k o.next))
+
+moves_grow : (n m : Machine) (k : ℕ) (a : Act) (x : Option Position) → slice_get n.parties k ≡ x → moves n k a x ≡ Some m → (k < length n.parties) × (length n.parties ≤ length m.parties)
+moves_grow n m k a None at e = absurd (cc)
+moves_grow n m k a (Some p) at e = (got_inside n.parties k p at, after_grows n m k p (rule (scene n) a p) e)
+
+-- a party that is still to come has done nothing
+pub unborn : (limit : ℕ) (log : List Entry) (m : Machine) (k : ℕ) → Reaches limit log m → length m.parties ≤ k → deeds_of k log ≡ []
+unborn limit [] m k r h = refl
+unborn limit (e ∷ es) m k r h = let g = moves_grow r.0 m e.party e.deed.act (slice_get (r.0).parties e.party) refl r.3 in
+    ap (λ b. noted_if b e.deed (deeds_of k es)) (ne_eqb e.party k (λ z. let a = g.0 in let b = g.1 in omega arith)) ∙ unborn limit es r.0 k r.1 (let b = g.1 in omega arith)
+
+-- the interleaving is one of the machine's own runs
+run_snoc : (m : Option Machine) (l : List Step) (s : Step) (n p : Machine) → run_from m l ≡ Some n → step n s ≡ Some p → run_from m (l ++ s ∷ []) ≡ Some p
+run_snoc None [] s n p e f = absurd (cc)
+run_snoc (Some m) [] s n p e f = let is : m ≡ n = cc in ap (λ (x : Machine). step x s) is ∙ f
+run_snoc None (x ∷ l) s n p e f = absurd (cc)
+run_snoc (Some m) (x ∷ l) s n p e f = run_snoc (step m x) l s n p e f
+
+pub runs : (limit : ℕ) (log : List Entry) (m : Machine) → Reaches limit log m → run limit (steps_of log) ≡ Some m
+runs limit [] m r = ap (λ x. Some x) (sym r)
+runs limit (e ∷ es) m r = run_snoc (Some (opening limit)) (steps_of es) (record { party = e.party; act = e.deed.act }) r.0 m (runs limit es r.0 r.1) r.3
+
+pub among_none : (l : List Deed) → Among l []
+among_none [] = refl
+among_none (d ∷ l) = inl (among_none l)
+
+-- the parties from q on are the members from n on of this seat
+abbrev pick : (h : ℕ → ℕ × ℕ) (q seat n k : ℕ) → Dec (q ≤ k) → ℕ × ℕ
+pick h q seat n k (yes d) = (seat, n + (k - q))
+pick h q seat n k (no d) = h k
+
+abbrev renamed : (ℕ → ℕ × ℕ) → ℕ → ℕ → ℕ → ℕ → ℕ × ℕ
+renamed h q seat n k = pick h q seat n k (dec_le q k)
+
+pick_old : (h : ℕ → ℕ × ℕ) (q seat n k : ℕ) (d : Dec (q ≤ k)) → k < q → pick h q seat n k d ≡ h k
+pick_old h q seat n k (yes d) lt = absurd (omega arith)
+pick_old h q seat n k (no d) lt = refl
+
+pick_new : (h : ℕ → ℕ × ℕ) (q seat n j : ℕ) (d : Dec (q ≤ q + j)) → pick h q seat n (q + j) d ≡ (seat, n + j)
+pick_new h q seat n j (yes d) = let e : q + j - q ≡ j = omega arith in ap (λ (x : ℕ). (seat, n + x)) e
+pick_new h q seat n j (no d) = absurd (d (omega arith))
+
+-- what the seat knows after an act of its member i, in the place of u
+abbrev pub grown : View → ℕ → Act → Machine → Member → Outcome → View
+grown v i a m u o = view v.limit (set v.members i (member o.next (deed a (found_by a m.word) ∷ u.deeds)) ++ map fresh o.born)
+
+module _ (limit : ℕ) (log : List Entry) (m : Machine) (h : ℕ → ℕ × ℕ) (r : Reaches limit log m) (k seat i n : ℕ) (a : Act) (u : Member) (o : Outcome) (mine : Fared m log h seat i u k) where
+  abbrev Q : ℕ
+  Q = length m.parties
+
+  abbrev E : Entry
+  E = record { party = k; deed = deed a (found_by a m.word) }
+
+  abbrev M : Machine
+  M = next_machine m k u.at o
+
+  abbrev H : ℕ → ℕ × ℕ
+  H = renamed h Q seat n
+
+  other : (s j : ℕ) (x : Member) (l : ℕ) → l ≢ k → Fared m log h s j x l → Fared M (E ∷ log) H s j x l
+  other s j x l ne f = record {
+    seated = pick_old h Q seat n l (dec_le Q l) (inside m.parties l x.at f.at) ∙ f.seated;
+    at = at_longer (set m.parties k o.next) o.born l x.at (set_else m.parties k l o.next ne ∙ f.at);
+    did = subst (λ b. Among (noted_if b (deed a (found_by a m.word)) (deeds_of l log)) x.deeds) (sym (ne_eqb k l (λ e. ne (sym e)))) f.did;
+  }
+
+  own : Fared M (E ∷ log) H seat i (member o.next (deed a (found_by a m.word) ∷ u.deeds)) k
+  own = record {
+    seated = pick_old h Q seat n k (dec_le Q k) (inside m.parties k u.at mine.at) ∙ mine.seated;
+    at = at_longer (set m.parties k o.next) o.born k o.next (set_here m.parties k o.next (inside m.parties k u.at mine.at));
+    did = subst (λ b. Among (noted_if b (deed a (found_by a m.word)) (deeds_of k log)) (deed a (found_by a m.word) ∷ u.deeds)) (sym (eq-eqb k k refl)) (inr (u.deeds, refl, mine.did));
+  }
+
+  born : (j : ℕ) (p : Position) → get_elem? o.born j ≡ some p → Fared M (E ∷ log) H seat (n + j) (fresh p) (Q + j)
+  born j p e = record {
+    seated = pick_new h Q seat n j (dec_le Q (Q + j));
+    at = subst (λ (q : ℕ). get_elem? (set m.parties k o.next ++ o.born) (q + j) ≡ some p) (length-set m.parties k o.next) (at_second (set m.parties k o.next) o.born j p e);
+    did = subst (λ b. Among (noted_if b (deed a (found_by a m.word)) (deeds_of (Q + j) log)) []) (sym (ne_eqb k (Q + j) (λ e. let lt = inside m.parties k u.at mine.at in omega arith))) (among_none (deeds_of (Q + j) log));
+  }
+
+-- an act of one of the seat's parties that the machine allows
+pub tells : (limit : ℕ) (views : List View) (seat : ℕ) (v : View) (i : ℕ) (u : Member) (a : Act) (o : Outcome) (log : List Entry) (m : Machine) → Told limit (set views seat v) log m → seat < length views
+    → get_elem? v.members i ≡ some u → rule (scene m) a u.at ≡ Some o
+    → (k : ℕ) × (get_elem? m.parties k ≡ some u.at) × (e : Entry) × Told limit (set views seat (grown v i a m u o)) (e ∷ log) (next_machine m k u.at o)
+tells limit views seat v i u a o log m t lt is allowed = let here = set_here views seat v lt in let mine = t.each seat i v u here is in let k : ℕ = mine.0 in let n : ℕ = length v.members in
+    let w : View = grown v i a m u o in let e : Entry = record { party = k; deed = deed a (found_by a m.word) } in let M : Machine = next_machine m k u.at o in
+    let H = renamed t.holder (length m.parties) seat n in
+    let keep : (s j : ℕ) (x : Member) → ((s, j) ≢ (seat, i)) → ((l : ℕ) × Fared m log t.holder s j x l) → (l : ℕ) × Fared M (e ∷ log) H s j x l =
+    (λ s j x ne f. (f.0, other limit log m t.holder t.reaches k seat i n a u o mine.1 s j x f.0 (λ z. ne (sym f.1.seated ∙ (ap t.holder z ∙ mine.1.seated))) f.1)) in
+    let within : (j : ℕ) (x : Member) → get_elem? w.members j ≡ some x → (l : ℕ) × Fared M (e ∷ log) H seat j x l =
+    (λ j x f. ⊎_elim
+    (λ (g : get_elem? (set v.members i (member o.next (deed a (found_by a m.word) ∷ u.deeds))) j ≡ some x). ⊎_elim
+    (λ (y : (j ≡ i) × (member o.next (deed a (found_by a m.word) ∷ u.deeds) ≡ x)). (k, subst (λ (z : ℕ × Member). Fared M (e ∷ log) H seat z.0 z.1 k) (λ q. (sym y.0 q, y.1 q)) (own limit log m t.holder t.reaches k seat i n a u o mine.1)))
+    (λ (y : (j ≢ i) × (get_elem? v.members j ≡ some x)). keep seat j x (λ z. y.0 (ap (λ (p : ℕ × ℕ). p.1) z)) (t.each seat j v x here y.1))
+    (at_set v.members i j (member o.next (deed a (found_by a m.word) ∷ u.deeds)) x g))
+    (λ (g : (b : ℕ) × (j ≡ length (set v.members i (member o.next (deed a (found_by a m.word) ∷ u.deeds))) + b) × (get_elem? (map fresh o.born) b ≡ some x)).
+    let p = at_mapped fresh o.born g.0 x g.2 in
+    let is : j ≡ n + g.0 = g.1 ∙ ap (λ (q : ℕ). q + g.0) (length-set v.members i (member o.next (deed a (found_by a m.word) ∷ u.deeds))) in
+    (length m.parties + g.0, subst (λ (z : ℕ × Member). Fared M (e ∷ log) H seat z.0 z.1 (length m.parties + g.0)) (λ q. (sym is q, p.2 q)) (born limit log m t.holder t.reaches k seat i n a u o mine.1 g.0 p.0 p.1)))
+    (at_append (set v.members i (member o.next (deed a (found_by a m.word) ∷ u.deeds))) (map fresh o.born) j x f)) in (
+      k,
+      mine.1.at,
+      e,
+      record {
+        holder = H;
+        reaches = (m, t.reaches, refl, step_is m k a u.at o mine.1.at allowed);
+        limited = λ s j x y f g. ⊎_elim (λ (z : (s ≡ seat) × (w ≡ x)). sym (ap (λ (q : View). q.limit) z.1) ∙ t.limited seat i v u here is) (λ (z : (s ≢ seat) × (get_elem? views s ≡ some x)). t.limited s j x y (set_else views seat s v z.0 ∙ z.1) g) (at_set views seat s w x f);
+        each = λ s j x y f g. ⊎_elim
+            (λ (z : (s ≡ seat) × (w ≡ x)). subst (λ (q : ℕ). (l : ℕ) × Fared M (e ∷ log) H q j y l) (sym z.0) (within j y (ap (λ (q : View). get_elem? q.members j) z.1 ∙ g)))
+            (λ (z : (s ≢ seat) × (get_elem? views s ≡ some x)). keep s j y (λ q. z.0 (ap (λ (p : ℕ × ℕ). p.0) q)) (t.each s j x y (set_else views seat s v z.0 ∙ z.1) g))
+            (at_set views seat s w x f);
+      },
+    )
+
+-- parties change their seats
+pub regroups : (limit : ℕ) (views views' : List View) (log : List Entry) (m : Machine) (to : ℕ × ℕ → ℕ × ℕ) → Told limit views log m
+    → ((seat index : ℕ) (v : View) (u : Member) → get_elem? views' seat ≡ some v → get_elem? v.members index ≡ some u
+    → (s j : ℕ) × (w : View) × (get_elem? views s ≡ some w) × (get_elem? w.members j ≡ some u) × (to (s, j) ≡ (seat, index)) × (v.limit ≡ w.limit))
+    → Told limit views' log m
+regroups limit views views' log m to t from = record {
+  holder = λ k. to (t.holder k);
+  reaches = t.reaches;
+  limited = λ seat index v u f g. let x = from seat index v u f g in x.6 ∙ t.limited x.0 x.1 x.2 u x.3 x.4;
+  each = λ seat index v u f g. let x = from seat index v u f g in let k = t.each x.0 x.1 x.2 u x.3 x.4 in (k.0, record { seated = ap to k.1.seated ∙ x.5; at = k.1.at; did = k.1.did });
+}
+
+-- a seat may forget what a party did
+pub forgets : (limit : ℕ) (views views' : List View) (log : List Entry) (m : Machine) → Told limit views log m
+    → ((seat index : ℕ) (v : View) (u : Member) → get_elem? views' seat ≡ some v → get_elem? v.members index ≡ some u
+    → (w : View) × (x : Member) × (get_elem? views seat ≡ some w) × (get_elem? w.members index ≡ some x) × (v.limit ≡ w.limit) × (u.at ≡ x.at) × ((u.deeds ≡ x.deeds) ⊎ (u.deeds ≡ [])))
+    → Told limit views' log m
+forgets limit views views' log m t from = record {
+  holder = t.holder;
+  reaches = t.reaches;
+  limited = λ seat index v u f g. let x = from seat index v u f g in x.4 ∙ t.limited seat index x.0 x.1 x.2 x.3;
+  each = λ seat index v u f g. let x = from seat index v u f g in let k = t.each seat index x.0 x.1 x.2 x.3 in (
+    k.0,
+    record {
+      seated = k.1.seated;
+      at = k.1.at ∙ ap (λ p. some p) (sym x.5);
+      did = ⊎_elim (λ e. subst (λ l. Among (deeds_of k.0 log) l) (sym e) k.1.did) (λ e. subst (λ l. Among (deeds_of k.0 log) l) (sym e) (among_none (deeds_of k.0 log))) x.6;
+    },
+  );
+}

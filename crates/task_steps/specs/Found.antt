@@ -1,0 +1,28 @@
+-- What a call has found, by the word that it wrote on.
+use Rattle.std.specs.Prelude.{Bool, not, ◌&&◌, ◌||◌, nat_lt, if◌then◌else◌}
+use Rattle.task_core.specs.Word.{State, is_open}
+use Rattle.task_steps.specs.declared.words.Cancelled.{Cancelled}
+use Rattle.task_steps.specs.declared.words.Cancelled.TheVariants.{Busy, Idle}
+use Rattle.task_steps.specs.declared.words.Detached.{Detached}
+use Rattle.task_steps.specs.declared.words.Detached.TheVariants.{Unclaimed, Shared, Last, Orphaned}
+use Rattle.task_steps.specs.declared.words.Dropped.{Dropped}
+use Rattle.task_steps.specs.declared.words.Dropped.TheVariants.{Shared as DropsShared, Last as DropsLast, Orphaned as DropsOrphaned}
+use Rattle.task_steps.specs.declared.words.PendingEnd.{PendingEnd}
+use Rattle.task_steps.specs.declared.words.PendingEnd.TheVariants.{Rescheduled, Idle as EndsIdle, Orphaned as EndsOrphaned}
+use Rattle.task_steps.specs.WakerScripts.{others_left}
+
+-- what a cancel found that wrote on this word
+abbrev pub closed_by : State → Cancelled
+closed_by w = if w.scheduled || w.running then Busy w.awaiter else Idle w.awaiter
+
+-- .. and a detach
+abbrev pub given_up_by : State → Detached
+given_up_by w = if w.completed && not w.closed then Unclaimed else (if nat_lt 0 w.references then Shared else (if w.closed then Last else Orphaned))
+
+-- what a drop found that took its reference off this word
+abbrev pub dropped_by : State → Dropped
+dropped_by w = if others_left w then DropsShared else (if is_open w then DropsOrphaned else DropsLast)
+
+-- how a run ends without an output that finds this word, of an open task
+abbrev pub ending_of : State → PendingEnd
+ending_of w = if w.scheduled then Rescheduled else (if nat_lt 1 w.references || w.task then EndsIdle else EndsOrphaned)

@@ -1,0 +1,16 @@
+pub mod Rule
+pub mod Steps
+pub mod Deeds
+pub mod Standing
+pub mod Seats
+pub mod Spawns
+pub mod Scripts
+pub mod StartScripts
+pub mod RunScripts
+pub mod TaskScripts
+pub mod Knows
+pub mod PollScripts
+pub mod WakerScripts
+pub mod Beside
+pub mod Found
+pub mod Holders

@@ -1,0 +1,199 @@
+-- The rule of the table: an interleaving of the machine ends in the present word, and each party that is left did in it what its seat knows.
+use Rattle.std.specs.Prelude.{◌⊎◌, ◌≡◌, ℕ, ◌<◌, Bool, true, false, cond, eqb, List, [], ◌∷◌, ◌++◌, length, slice_index, Option, Some, None}
+use mathlib.Core.Option.{some}
+use mathlib.Core.Option as maybe
+use lib.ListN.{get_elem?}
+use Rattle.atomic_table.specs.Table.{State as Board}
+use Rattle.task_core.specs.Word.{State, number_of, opening_word}
+use Rattle.task_laws.specs.declared.positions.Rest.TheVariants.{Runnable, Task}
+use Rattle.task_laws.specs.declared.positions.Position.{Position}
+use Rattle.task_laws.specs.declared.positions.Way.TheVariants.{OfClaim}
+use Rattle.task_laws.specs.declared.positions.Position.TheVariants.{At, Starting, Polling, Pending, Ready, Unstored, Stored, Cleared, FutureInHand, FutureGone, OutputInHand, Notifier, Taker, Releaser, AwaiterInHand, Claimer, OutputCloser}
+use Rattle.task_core.specs.declared.moves.Act.{Act}
+use Rattle.task_core.specs.declared.moves.Act.TheVariants.{StartPoll, AnswerPending, AnswerReady, DropFuture, StoreOutput, DropOutput, HandOutOutput, CloneAwaiter, RefuseClone, StoreAwaiter, TakeAwaiter, WakeAwaiter, DropAwaiter, HandOver, EmptySlots, RefuseGain, EndCall}
+use Rattle.task_laws.specs.Machine.{Machine, Step, opening, step, how_many}
+use Rattle.task_laws.specs.Laws.{count, is_emptying}
+use Rattle.task_laws.specs.Theorem.{owns_awaiter}
+use Rattle.task_steps.specs.declared.table.Slot.{Slot}
+use Rattle.task_steps.specs.declared.table.Slot.TheVariants.{Empty, Future, Output, Awaiter}
+use Rattle.task_steps.specs.declared.table.Stage.{Stage}
+use Rattle.task_steps.specs.declared.table.Stage.TheVariants.{Laid, Filling, Spawned}
+use Rattle.task_steps.specs.declared.table.Deed.{Deed}
+use Rattle.task_steps.specs.declared.table.Member.{Member}
+use Rattle.task_steps.specs.declared.table.View.{View}
+
+abbrev pub deed : Act → Option State → Deed
+deed a f = record { act = a; found = f }
+
+abbrev pub member : Position → List Deed → Member
+member p l = record { at = p; deeds = l }
+
+-- a party that has done nothing yet
+abbrev pub fresh : Position → Member
+fresh p = member p []
+
+-- a seat of a task that was spawned
+abbrev pub view : ℕ → List Member → View
+view l ms = record { stage = Spawned; limit = l; members = ms }
+
+-- the seat before the spawn
+abbrev pub laid_view : ℕ → View
+laid_view l = record { stage = Laid; limit = l; members = [] }
+
+abbrev pub filling_view : ℕ → View
+filling_view l = record { stage = Filling; limit = l; members = [] }
+
+-- the opening seat: the Runnable and the Task
+abbrev pub opening_view : ℕ → View
+opening_view l = view l (fresh (At Runnable) ∷ fresh (At (Task 0)) ∷ [])
+
+-- neither a row nor a load
+abbrev pub is_private : Act → Bool
+is_private StartPoll = true
+is_private AnswerPending = true
+is_private AnswerReady = true
+is_private DropFuture = true
+is_private StoreOutput = true
+is_private DropOutput = true
+is_private HandOutOutput = true
+is_private CloneAwaiter = true
+is_private RefuseClone = true
+is_private StoreAwaiter = true
+is_private TakeAwaiter = true
+is_private WakeAwaiter = true
+is_private DropAwaiter = true
+is_private HandOver = true
+is_private EmptySlots = true
+is_private RefuseGain = true
+is_private EndCall = true
+is_private _ = false
+
+-- what a deed says of the word that it found
+abbrev pub found_by : Act → State → Option State
+found_by a w = cond (is_private a) None (Some w)
+
+-- one step of an interleaving: who made it, and what it did
+pub record Entry : Type 0 where
+  pub party : ℕ
+  pub deed : Deed
+
+-- an interleaving of the machine, the newest step first, that ends in m
+abbrev pub Reaches : ℕ → List Entry → Machine → Type 0
+Reaches limit [] m = m ≡ opening limit
+Reaches limit (e ∷ earlier) m = (n : Machine) × Reaches limit earlier n × (e.deed.found ≡ found_by e.deed.act n.word) × (step n (record { party = e.party; act = e.deed.act }) ≡ Some m)
+
+-- .. and its steps, the oldest first
+abbrev pub steps_of : List Entry → List Step
+steps_of [] = []
+steps_of (e ∷ earlier) = steps_of earlier ++ record { party = e.party; act = e.deed.act } ∷ []
+
+abbrev pub noted_if : Bool → Deed → List Deed → List Deed
+noted_if true d l = d ∷ l
+noted_if false d l = l
+
+-- what party k did in it, newest first
+abbrev pub deeds_of : ℕ → List Entry → List Deed
+deeds_of k [] = []
+deeds_of k (e ∷ earlier) = noted_if (eqb e.party k) e.deed (deeds_of k earlier)
+
+-- ys are some of xs, in their order
+abbrev pub Among : List Deed → List Deed → Type 0
+Among [] ys = ys ≡ []
+Among (x ∷ xs) ys = Among xs ys ⊎ ((zs : List Deed) × (ys ≡ x ∷ zs) × Among xs zs)
+
+-- in this interleaving party k did what is known of it, and it is this member of this seat
+pub record Fared (m : Machine) (log : List Entry) (holder : ℕ → ℕ × ℕ) (seat index : ℕ) (u : Member) (k : ℕ) : Type 0 where
+  pub seated : holder k ≡ (seat, index)
+  pub at : get_elem? m.parties k ≡ some u.at
+  pub did : Among (deeds_of k log) u.deeds
+
+-- an interleaving in which, under some numbering, each party that is left did what its seat knows
+pub record Told (limit : ℕ) (views : List View) (log : List Entry) (m : Machine) : Type 0 where
+  pub holder : ℕ → ℕ × ℕ
+  pub reaches : Reaches limit log m
+  pub limited : (seat index : ℕ) (v : View) (u : Member) → get_elem? views seat ≡ some v → get_elem? v.members index ≡ some u → v.limit ≡ limit
+  pub each : (seat index : ℕ) (v : View) (u : Member) → get_elem? views seat ≡ some v → get_elem? v.members index ≡ some u → (k : ℕ) × Fared m log holder seat index u k
+
+-- the party has the places of future and output
+abbrev pub has_work : Position → Bool
+has_work Starting = true
+has_work Polling = true
+has_work Pending = true
+has_work Ready = true
+has_work Unstored = true
+has_work Stored = true
+has_work Cleared = true
+has_work (FutureInHand closer) = true
+has_work (FutureGone closer) = true
+has_work (OutputInHand due) = true
+has_work OutputCloser = true
+has_work (Claimer n) = true
+has_work (Notifier (OfClaim n)) = true
+has_work (Taker (OfClaim n)) = true
+has_work (Releaser hand (OfClaim n)) = true
+has_work (AwaiterInHand i (OfClaim n)) = true
+has_work _ = false
+
+module _ {F T A : Type 0} where
+  abbrev pub IsFuture : Slot F T A → Type 0
+  IsFuture (Future f) = Unit {0}
+  IsFuture Empty = ⊥
+  IsFuture (Output x) = ⊥
+  IsFuture (Awaiter a) = ⊥
+
+  abbrev pub IsOutput : Slot F T A → Type 0
+  IsOutput (Output x) = Unit {0}
+  IsOutput Empty = ⊥
+  IsOutput (Future f) = ⊥
+  IsOutput (Awaiter a) = ⊥
+
+  abbrev pub IsEmpty : Slot F T A → Type 0
+  IsEmpty Empty = Unit {0}
+  IsEmpty (Future f) = ⊥
+  IsEmpty (Output x) = ⊥
+  IsEmpty (Awaiter a) = ⊥
+
+  abbrev pub IsAwaiter : Slot F T A → Type 0
+  IsAwaiter (Awaiter a) = Unit {0}
+  IsAwaiter Empty = ⊥
+  IsAwaiter (Future f) = ⊥
+  IsAwaiter (Output x) = ⊥
+
+  -- the awaiter slot holds what the machine says
+  abbrev pub Waits : Option ℕ → Slot F T A → Type 0
+  Waits None y = IsEmpty y
+  Waits (Some i) y = IsAwaiter y
+
+  -- the place k is at home, with such a value
+  abbrev pub AtHome : List (maybe.Option (Slot F T A)) → ℕ → (Slot F T A → Type 0) → Type 0
+  AtHome homes k Is = (y : Slot F T A) × (get_elem? homes k ≡ some (some y)) × Is y
+
+  -- a place that no party has is at home, with what the machine says: 0 is the future's, 1 the output's, 2 the awaiter's
+  pub record Housed (m : Machine) (homes : List (maybe.Option (Slot F T A))) : Type 0 where
+    pub future : how_many has_work m.parties ≡ 0 → AtHome homes 0 (λ y. m.slots.future ≡ true → IsFuture y)
+    pub output : how_many has_work m.parties ≡ 0 → AtHome homes 1 (λ z. m.slots.output ≡ true → IsOutput z)
+    pub awaiter : how_many owns_awaiter m.parties ≡ 0 → count is_emptying m.trace ≡ 0 → AtHome homes 2 (Waits m.slots.awaiter)
+
+  -- before the spawn: one seat, and the places are empty, or that of the future is with the seat
+  pub record Spawning (limit : ℕ) (s : Board (Slot F T A) View) : Type 0 where
+    pub words : s.words ≡ number_of opening_word ∷ []
+    pub stage : Stage
+    pub views : s.views ≡ record { stage = stage; limit = limit; members = [] } ∷ []
+    pub unspawned : (stage ≡ Laid) × AtHome s.homes 0 IsEmpty ⊎ (stage ≡ Filling)
+    pub output : AtHome s.homes 1 IsEmpty
+    pub awaiter : AtHome s.homes 2 IsEmpty
+
+  -- from then on: an interleaving of the machine
+  pub record Running (limit : ℕ) (s : Board (Slot F T A) View) : Type 0 where
+    pub log : List Entry
+    pub machine : Machine
+    pub limited : machine.limit ≡ limit
+    pub told : Told limit s.views log machine
+    pub wide : length s.words ≡ 1
+    pub word_is : slice_index s.words 0 ≡ number_of machine.word
+    pub housed : Housed machine s.homes
+    pub staged : (seat : ℕ) (v : View) → get_elem? s.views seat ≡ some v → v.stage ≡ Spawned
+
+  pub record Ruled (limit : ℕ) (s : Board (Slot F T A) View) : Type 0 where
+    pub capped : limit < 36028797018963968
+    pub phase : Spawning limit s ⊎ Running limit s

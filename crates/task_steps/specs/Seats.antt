@@ -1,0 +1,37 @@
+-- How the parties of a seat go to other seats.
+use Rattle.std.specs.Prelude.{List, [], ◌∷◌, None}
+use Rattle.task_laws.specs.declared.positions.Position.TheVariants.{At}
+use Rattle.task_laws.specs.declared.positions.Rest.TheVariants.{Runnable}
+use Rattle.task_core.specs.declared.moves.Act.TheVariants.{HandOver}
+use Rattle.task_steps.specs.declared.table.Member.{Member}
+use Rattle.task_steps.specs.declared.table.View.{View}
+use Rattle.task_steps.specs.Rule.{deed, member, view, fresh}
+use Rattle.task_steps.specs.Steps.{head_of, tail_of}
+use Rattle.task_steps.specs.Standing.{handed_over}
+
+-- the first party has handed its Runnable over
+abbrev pub handing_over : View → View
+handing_over v = view v.limit (member (handed_over (head_of v.members).at) (deed HandOver None ∷ (head_of v.members).deeds) ∷ tail_of v.members)
+
+-- .. which stands on a seat of its own
+abbrev pub runnable_of : View → View
+runnable_of v = view v.limit (fresh (At Runnable) ∷ [])
+
+-- a run lends its waker: both parties go to another seat, the waker first, and the places stay with this one
+abbrev pub lending : View → View
+lending v = view v.limit []
+
+abbrev pub turned : List Member → List Member
+turned (u ∷ w ∷ []) = w ∷ u ∷ []
+turned us = us
+
+abbrev pub lent_of : View → View
+lent_of v = view v.limit (turned v.members)
+
+-- .. and the run comes back; its waker is given up
+abbrev pub taking_back : View → View → View
+taking_back v w = view w.limit (tail_of w.members)
+
+-- no party's
+abbrev pub nobody : View
+nobody = view 0 []

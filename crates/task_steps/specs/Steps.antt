@@ -1,0 +1,138 @@
+-- What a step on the word does to the seat that makes it.
+use Rattle.std.specs.Prelude.{◌≡◌, ◌≢◌, ℕ, Bool, true, false, not, ◌||◌, List, [], ◌∷◌, ◌++◌, map, Option, Some, None}
+use Rattle.atomic_table.specs.Table.{Me, Step, rest}
+use Rattle.task_core.specs.Word.{State, state_of, is_open}
+use Rattle.task_laws.specs.declared.positions.Position.{Position}
+use Rattle.task_laws.specs.declared.positions.Position.TheVariants.{OrphanHolder, Releaser, OldAwaiterInHand, Registered, OutputCloser, Claimer, Notifier}
+use Rattle.task_laws.specs.declared.positions.Way.TheVariants.{OfClaim}
+use Rattle.task_core.specs.declared.moves.Act.{Act}
+use Rattle.task_core.specs.Rows.{written}
+use Rattle.task_laws.specs.Table.{Slots, Scene, Outcome, steps, goes}
+use Rattle.task_laws.specs.Theorem.{owns_awaiter}
+use Rattle.task_steps.specs.declared.table.Slot.{Slot}
+use Rattle.task_steps.specs.declared.table.Deed.{Deed}
+use Rattle.task_steps.specs.declared.table.Member.{Member}
+use Rattle.task_steps.specs.declared.table.View.{View}
+use Rattle.task_steps.specs.Rule.{deed, member, view, fresh, found_by, has_work, IsFuture, IsOutput, IsEmpty, IsAwaiter, Waits}
+
+-- the first party of a seat, which is the one that steps
+abbrev pub head_of : List Member → Member
+head_of [] = fresh OrphanHolder
+head_of (u ∷ us) = u
+
+abbrev pub tail_of : List Member → List Member
+tail_of [] = []
+tail_of (u ∷ us) = us
+
+-- one outcome, and then another
+abbrev pub then_leaves : Outcome → Option Outcome → Option Outcome
+then_leaves o None = None
+then_leaves o (Some x) = Some (record { word = x.word; slots = x.slots; next = x.next; born = o.born ++ x.born; told = x.told ++ o.told })
+
+abbrev pub and_then : Option Outcome → (Outcome → Option Outcome) → Option Outcome
+and_then None f = None
+and_then (Some o) f = then_leaves o (f o)
+
+-- what a party finds that is alone with its task
+abbrev pub spot : ℕ → State → Slots → Scene
+spot limit w slots = record { limit = limit; word = w; slots = slots; polling = true }
+
+-- what acts in a row leave, each by what the one before it left
+abbrev pub leaves_by : ℕ → State → Slots → List Act → Position → Option Outcome
+leaves_by limit w slots [] p = Some (steps (spot limit w slots) w p [] [])
+leaves_by limit w slots (a ∷ more) p = and_then (goes (spot limit w slots) (written a w) a p) (λ o. leaves_by limit o.word o.slots more o.next)
+
+abbrev pub next_of : Option Outcome → Position
+next_of None = OrphanHolder
+next_of (Some o) = o.next
+
+abbrev pub born_of : Option Outcome → List Position
+born_of None = []
+born_of (Some o) = o.born
+
+-- the acts in a row, noted newest first, each with the word that it found
+abbrev pub noted : State → List Act → List Deed → List Deed
+noted w [] l = l
+noted w (a ∷ more) l = noted (written a w) more (deed a (found_by a w) ∷ l)
+
+-- the seat after its first party made these acts
+abbrev pub acted : State → Slots → List Act → View → View
+acted w slots acts v =
+    let u = head_of v.members in let o = leaves_by v.limit w slots acts u.at in
+    view v.limit (member (next_of o) (noted w acts u.deeds) ∷ (tail_of v.members ++ map fresh (born_of o)))
+
+module _ {F T A : Type 0} where
+  -- the places of future and output, that of the future in front, before others
+  abbrev pub future_first : Slot F T A → Slot F T A → List (ℕ × Slot F T A) → List (ℕ × Slot F T A)
+  future_first y z l = (0, y) ∷ (1, z) ∷ l
+
+  -- .. that of the output in front
+  abbrev pub output_first : Slot F T A → Slot F T A → List (ℕ × Slot F T A) → List (ℕ × Slot F T A)
+  output_first y z l = (1, z) ∷ (0, y) ∷ l
+
+  -- both places are taken for the future
+  abbrev pub TakesFuture : List (ℕ × Slot F T A) → List (ℕ × Slot F T A) → Type 0
+  TakesFuture l l' = (y : Slot F T A) × (z : Slot F T A) × IsFuture y × (l' ≡ future_first y z l)
+
+  -- .. for the output
+  abbrev pub TakesOutput : List (ℕ × Slot F T A) → List (ℕ × Slot F T A) → Type 0
+  TakesOutput l l' = (y : Slot F T A) × (z : Slot F T A) × IsOutput z × (l' ≡ output_first y z l)
+
+  -- for which of the two a party takes them
+  abbrev pub Works : Position → List (ℕ × Slot F T A) → List (ℕ × Slot F T A) → Type 0
+  Works OutputCloser l l' = TakesOutput l l'
+  Works (Claimer n) l l' = TakesOutput l l'
+  Works (Notifier (OfClaim n)) l l' = TakesOutput l l'
+  Works _ l l' = TakesFuture l l'
+
+  -- what a party finds in the place of the awaiter that it takes
+  abbrev pub Awaits : Position → Slot F T A → Type 0
+  Awaits (Releaser hand way) y = Waits hand y
+  Awaits (OldAwaiterInHand i old) y = IsAwaiter y
+  Awaits (Registered i) y = IsEmpty y
+  Awaits _ y = (hand : Option ℕ) × Waits hand y
+
+  -- the places that a party has before and after a step: the work first, then the awaiter
+  abbrev pub Carries : Bool → Bool → Bool → Bool → Position → List (ℕ × Slot F T A) → List (ℕ × Slot F T A) → Type 0
+  Carries false true b c q l l' = Works q l l'
+  Carries true false b c q l l' = l' ≡ rest (rest l)
+  Carries false false false true q l l' = (y : Slot F T A) × Awaits q y × (l' ≡ (2, y) ∷ l)
+  Carries true true false true q l l' = (y : Slot F T A) × Awaits q y × (l' ≡ (2, y) ∷ l)
+  Carries false false true false q l l' = l' ≡ rest l
+  Carries true true true false q l l' = l' ≡ rest l
+  Carries _ _ _ _ q l l' = l' ≡ l
+
+  abbrev pub Carried : Position → Position → List (ℕ × Slot F T A) → List (ℕ × Slot F T A) → Type 0
+  Carried p q l l' = Carries (has_work p) (has_work q) (owns_awaiter p) (owns_awaiter q) q l l'
+
+  -- the seat made these acts, at this word
+  pub record Makes (acts : List Act) (w : State) (m m' : Me (Slot F T A) View) : Type 0 where
+    pub slots : Slots
+    pub viewed : m'.0 ≡ acted w slots acts m.0
+    pub carried : Carried (head_of m.0.members).at (head_of m'.0.members).at m.1 m'.1
+
+  -- what a step tells that always makes its acts, by the word that it finds
+  abbrev pub made : (State → List Act) → Step (Slot F T A) → Me (Slot F T A) View → ℕ → Me (Slot F T A) View → Type 0
+  made acts st m r m' = Makes (acts (state_of r)) (state_of r) m m'
+
+  -- .. that makes them where it finds the word that it names, and others where it does not
+  abbrev pub exchanged : (State → List Act) → (State → List Act) → Step (Slot F T A) → Me (Slot F T A) View → ℕ → Me (Slot F T A) View → Type 0
+  exchanged acts missed st m r m' = (r ≡ st.first → Makes (acts (state_of r)) (state_of r) m m') × (r ≢ st.first → Makes (missed (state_of r)) (state_of r) m m')
+
+-- an act after which a task is over, and one after which it is closed
+abbrev pub is_over_after : Act → Option State → Bool
+is_over_after a None = false
+is_over_after a (Some w) = not (is_open (written a w))
+
+abbrev pub is_closed_after : Act → Option State → Bool
+is_closed_after a None = false
+is_closed_after a (Some w) = (written a w).closed
+
+-- the party has seen the task completed or closed, or made it so
+abbrev pub saw_over : List Deed → Bool
+saw_over [] = false
+saw_over (d ∷ earlier) = is_over_after d.act d.found || saw_over earlier
+
+abbrev pub saw_closed : List Deed → Bool
+saw_closed [] = false
+saw_closed (d ∷ earlier) = is_closed_after d.act d.found || saw_closed earlier

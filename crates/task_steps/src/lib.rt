@@ -1,0 +1,17 @@
+//! The table of a cell, what its seats know, and the steps on it by name. Each step keeps the rule of the table.
+#![tactic(auto)]
+
+pub mod common;
+pub mod holder;
+pub mod lock;
+pub mod poll;
+pub mod run;
+pub mod script;
+pub mod spawn;
+pub mod start;
+pub mod table;
+pub mod task;
+pub mod waker;
+pub mod words;
+
+pub use script::{Always, Exchange};

@@ -1,0 +1,122 @@
+//! The table of a cell: its one word, its slots, and what a seat knows.
+ghost use Rattle.std.specs.Prelude.{◌≡◌, ◌<◌, ◌^◌, [], IfOk};
+ghost use Rattle.task_core.specs.Poll.{IfReady};
+ghost use Rattle.task_steps.specs.Rule.{laid_view, IsFuture};
+
+use atomic_table::{Refused, Seat, Table, TableRule};
+use std::alloc::{AllocError, Allocator};
+use std::collections::LinkedList;
+use task_core::moves::Act;
+use task_core::word::Word;
+use task_core::{Future, Poll, Yields};
+use task_laws::positions::Position;
+
+/// What lies in a slot of the table.
+#[derive(Drop)]
+pub enum Slot<F, T, A> {
+    /// Nothing.
+    Empty,
+    /// The future, until it is dropped.
+    Future(F),
+    /// The output, until it is handed out or dropped.
+    Output(T),
+    /// The awaiter of a poll of the Task.
+    Awaiter(A),
+}
+
+/// An output, and that it meets what its future's type states.
+#[derive(Drop)]
+pub struct Kept<F: Yields> {
+    /// The output.
+    pub output: F::Output,
+    ghost meets: { ∥ F.Yields.meets output ∥₁ },
+}
+
+/// An act, and the word that it found, where it is a row or a load.
+pub struct Deed {
+    /// The act.
+    pub act: Act,
+    /// The word; `None` where the act is private.
+    pub found: Option<Word>,
+}
+
+/// A party: where it stands, and what it did, newest first.
+pub struct Member {
+    /// Where it stands.
+    pub at: Position,
+    /// What it did.
+    pub deeds: LinkedList<Deed>,
+}
+
+/// How far the cell is that a seat belongs to.
+pub enum Stage {
+    /// The memory was found.
+    Laid,
+    /// The future is being put in.
+    Filling,
+    /// The task was spawned.
+    Spawned,
+}
+
+/// What a seat knows: its parties. It is seen by contracts alone, and no value of it is made.
+pub struct View {
+    /// How far the cell is.
+    pub stage: Stage,
+    /// The limit of references.
+    pub limit: u64,
+    /// The parties of the seat; the first one steps.
+    pub members: LinkedList<Member>,
+}
+
+/// The rule of the table: there is an interleaving of the machine that ends in the present word.
+pub struct Law;
+
+impl<F, T, A> TableRule<Slot<F, T, A>, View, u64> for Law {
+    ghost use Rattle.task_steps.specs.Rule.{Ruled, laid_view};
+
+    ghost holds = { Ruled };
+
+    ghost first = { laid_view };
+}
+
+/// The table of a cell: one word, and a place each for the future, the output and the awaiter.
+pub type Board<F, T, A, B> = Table<Slot<F, T, A>, View, u64, Law, B>;
+
+/// The word of a task that was just spawned: scheduled, with its Task, and one reference.
+const OPENING: u64 = 0x111;
+
+/// A table whose places are empty.
+pub fn lay<F: Drop, T: Drop, A: Drop, B: Allocator + Copy>(
+    alloc: B,
+    limit: u64,
+) -> Result<(Board<F, T, A, B>, Seat<Slot<F, T, A>, View>), AllocError>
+    requires { limit < 2 ^ 55 }
+    ensures { IfOk result (λ t. (t.0.shared.table_id.words ≡ 1) × (t.0.shared.table_id.slots ≡ 3) × (t.0.shared.key ≡ limit) × (t.1.table_id ≡ t.0.shared.table_id) × (t.1.me ≡ (laid_view limit, []))) }
+{
+    let mut slots = Vec::with_capacity(alloc, 3)?;
+    slots.push_reserved(Slot::Empty);
+    slots.push_reserved(Slot::Empty);
+    slots.push_reserved(Slot::Empty);
+    match Table::new(alloc, &[OPENING], slots, &limit) {
+        Ok(laid) => Ok(laid),
+        Err(Refused { slots: _ }) => Err(AllocError),
+    }
+}
+
+/// Polls the future where it lies.
+pub fn polled<W, F: Future<W>, A>(slot: &mut Slot<F, Kept<F>, A>, waker: &W) -> Poll<F::Output>
+    requires { IsFuture slot.old }
+    ensures future { IsFuture slot.new }
+    ensures meets { IfReady result F.Yields.meets }
+    ensures fact { (f : _) × (g : _) × F.polled f waker.now result g }
+{
+    match slot {
+        Slot::Future(future) => future.poll(waker),
+        _ => unreachable!(),
+    }
+}
+
+/// Lets a seat go that nobody will step with again.
+pub fn discard<S, V>(seat: Seat<S, V>) {
+    let Seat { .. } = seat;
+}

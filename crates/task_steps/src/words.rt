@@ -1,0 +1,195 @@
+//! The words that calls write, and what a call has found, by the word that it wrote on.
+ghost use Rattle.std.specs.Prelude.{◌≡◌, ◌<◌, not, ◌&&◌, Some, None, if◌then◌else◌};
+ghost use Rattle.task_core.specs.Word.{State, is_open};
+ghost use Rattle.task_steps.specs.WakerScripts.{woken_word};
+ghost use Rattle.task_steps.specs.TaskScripts.{cancelled, detached};
+ghost use Rattle.task_steps.specs.RunScripts.{completed_word, after_pending};
+ghost use Rattle.task_steps.specs.PollScripts.{has_output, has_ended, has_to_wait};
+ghost use Rattle.task_steps.specs.Found.{closed_by, given_up_by, ending_of, dropped_by};
+
+use task_core::word::Word;
+
+/// What a cancel found; where it closed the task, whether an awaiter is to be taken.
+pub enum Cancelled {
+    /// The task was over.
+    Over,
+    /// The task was scheduled or running.
+    Busy(bool),
+    /// The task waited for a wake, and a Runnable is to be handed over.
+    Idle(bool),
+}
+
+/// What a detach found.
+pub enum Detached {
+    /// The task was completed, and nobody had claimed the output.
+    Unclaimed,
+    /// Other handles were left.
+    Shared,
+    /// No other handle was left, and the task was closed.
+    Last,
+    /// No other handle was left, and the task was open.
+    Orphaned,
+}
+
+/// How a run ends whose poll answered Pending.
+pub enum PendingEnd {
+    /// The task is closed: its future is dropped, and the end step is still to be made.
+    Closed,
+    /// The task was woken meanwhile: the run's Runnable is to be handed over.
+    Rescheduled,
+    /// The task waits for a wake, and the call has ended.
+    Idle,
+    /// No handle is left: a closing Runnable is to be handed over.
+    Orphaned,
+}
+
+/// What a waker's drop found.
+pub enum Dropped {
+    /// Other handles were left.
+    Shared,
+    /// No other handle was left, and the task was over.
+    Last,
+    /// No other handle was left, and the task was open.
+    Orphaned,
+}
+
+/// The word that a wake writes; `None` where the task is over.
+pub fn woken(word: Word) -> Option<Word>
+    requires room { word.references < 72057594037927935 }
+    ensures { result ≡ (if is_open word then Some (woken_word word) else None) }
+{
+    let busy = word.wake_scheduled().or(word.wake_running());
+    busy.or(word.wake_idle())
+}
+
+/// Whether the task of this word was idle, if it was open.
+pub fn was_idle(word: Word) -> bool
+    ensures { result ≡ (not word.scheduled && not word.running) }
+{
+    !word.scheduled() && !word.running()
+}
+
+/// The word that a cancel writes; `None` where the task is over.
+pub fn closing(word: Word) -> Option<Word>
+    requires room { word.references < 72057594037927935 }
+    ensures { result ≡ (if is_open word then Some (cancelled word) else None) }
+{
+    word.cancel_busy().or(word.cancel_idle())
+}
+
+/// What the cancel found that wrote on this word.
+pub fn closed_as(word: Word) -> Cancelled
+    ensures { result ≡ closed_by word }
+{
+    if word.scheduled() || word.running() {
+        Cancelled::Busy(word.awaiter())
+    } else {
+        Cancelled::Idle(word.awaiter())
+    }
+}
+
+/// The word that a detach writes.
+pub fn giving_up(word: Word) -> Word
+    ensures { result ≡ detached word }
+{
+    let shared = word.give_up_output().or(word.detach());
+    shared
+        .or(word.detach_last())
+        .or(word.detach_orphan())
+        .unwrap_or(word)
+}
+
+/// What the detach found that wrote on this word.
+pub fn given_up_as(word: Word) -> Detached
+    ensures { result ≡ given_up_by word }
+{
+    if word.completed() && !word.closed() {
+        return Detached::Unclaimed;
+    }
+    if word.references() > 0 {
+        return Detached::Shared;
+    }
+    if word.closed() {
+        Detached::Last
+    } else {
+        Detached::Orphaned
+    }
+}
+
+/// The word of a run that ends with an output.
+pub fn completed(word: Word) -> Word
+    ensures { result ≡ completed_word word }
+{
+    match word.complete() {
+        Some(next) => next,
+        None => word.complete_detached().unwrap_or(word),
+    }
+}
+
+/// The word of a run that ends without an output on an open task.
+pub fn ended(word: Word) -> Word
+    ensures { result ≡ after_pending word }
+{
+    word.reschedule()
+        .or(word.end_idle())
+        .or(word.end_orphaned())
+        .unwrap_or(word)
+}
+
+/// How a run ends that finds this word, of an open task.
+pub fn pending_end(word: Word) -> PendingEnd
+    ensures { result ≡ ending_of word }
+{
+    if word.scheduled() {
+        PendingEnd::Rescheduled
+    } else if word.give_up_reference().is_some() {
+        PendingEnd::Idle
+    } else {
+        PendingEnd::Orphaned
+    }
+}
+
+/// What the drop found that took its reference off this word.
+pub fn dropped_as(word: Word) -> Dropped
+    ensures { result ≡ dropped_by word }
+{
+    if word.references() > 1 || word.task() {
+        Dropped::Shared
+    } else if word.is_open() {
+        Dropped::Orphaned
+    } else {
+        Dropped::Last
+    }
+}
+
+/// Whether somebody may claim the output of a run that finds this word.
+pub fn keeps_output(found: Word) -> bool
+    ensures { result ≡ (found.task && not found.closed) }
+{
+    found.task() && !found.closed()
+}
+
+/// The output is there, and nobody has taken it.
+pub fn has_output(word: Word) -> bool
+    ensures { result ≡ has_output word }
+{
+    word.completed() && !word.closed()
+}
+
+/// The task is closed, and no Runnable or run holds the future.
+pub fn has_ended(word: Word) -> bool
+    ensures { result ≡ has_ended word }
+{
+    word.closed() && !(word.scheduled() || word.running())
+}
+
+/// A poll that has registered waits on.
+pub fn has_to_wait(word: Word) -> bool
+    ensures { result ≡ has_to_wait word }
+{
+    if word.closed() {
+        word.scheduled() || word.running()
+    } else {
+        !word.completed()
+    }
+}
