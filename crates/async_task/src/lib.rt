@@ -14,7 +14,4 @@ pub use fallible::FallibleTask;
 pub use parked::ParkedTask;
 pub use task::{Task, TaskClosed};
 pub use task_cell::{Cell, Kept, ParkedRunnable, ParkedWaker, Party, Runnable, TaskWaker};
-pub use task_core::{
-    Future, LocalTask, Poll, Schedule, ScheduleInfo, Settled, Start, TaskPoll, Wake, WithInfo,
-    Yields,
-};
+pub use task_core::{Future, Poll, Schedule, ScheduleInfo, TaskPoll, Wake, WithInfo, Yields};

@@ -2,11 +2,12 @@
 ghost use Rattle.std.specs.Prelude.{IfOk};
 ghost use Rattle.worked_rows.specs.Agreement.{AgreesAt};
 
-use async_task::{LocalTask, Settled, Start, TaskPoll, Wake};
+use async_task::{TaskPoll, Wake};
 use fixtures::counters::Counts;
 use fixtures::fixture::{Fixture, Outcome};
 use fixtures::flag::Flag;
 use fixtures::future::{Behaviour, Output, RowFuture};
+use local_task::{LocalTask, Settled, Start};
 use std::alloc::AllocError;
 use std::sync::Wait;
 

@@ -1,0 +1,2 @@
+pub mod LocalTask
+pub mod LocalCalls
