@@ -13,10 +13,10 @@ use Rattle.task_steps.specs.declared.table.Deed.{Deed}
 use Rattle.task_cell.specs.declared.cell.Party.{Party}
 use Rattle.task_cell.specs.Calls.{position, holds, StandsWith, Stands, GoesWith, Goes, Notifies, misses, finds_none, takes_awaiter}
 use Rattle.task_steps.specs.Deeds.{row, act}
-use Rattle.task_steps.specs.Standing.{as_task, way_of, poll_number, claims_from}
+use Rattle.task_steps.specs.Standing.{as_task, way_of, poll_number}
 use Rattle.task_steps.specs.PollScripts.{has_output}
 use Rattle.task_cell.specs.PollPaths as paths
-use Rattle.task_cell.specs.PollPaths.{TakePath, TakePathIf, ClaimPath, RegisterPath, AnswerPath, PollPath, dropped_if, Looks, LooksAgain, BeginsRegister, EndsRegister, Registers}
+use Rattle.task_cell.specs.PollPaths.{TakePath, TakePathIf, ClaimPath}
 use Rattle.task_cell.proofs.Moved.{goes_on, stands, position_is, held_is}
 
 never : {P : Type 0} → false ≡ true → P

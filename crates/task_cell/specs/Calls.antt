@@ -2,15 +2,8 @@
 use Rattle.std.specs.Prelude.{◌≡◌, ℕ, List, [], ◌∷◌, Bool, true, false, Option, Some, None}
 use Rattle.task_core.specs.Word.{State}
 use Rattle.task_laws.specs.declared.positions.Position.{Position}
-use Rattle.task_core.specs.declared.moves.Act.{Act}
-use Rattle.task_laws.specs.declared.positions.Position.TheVariants.{At, Deliverer, Leaving, Answering, FutureInHand, Notifier, AwaiterInHand}
-use Rattle.task_laws.specs.declared.positions.Rest.TheVariants.{Task, Runnable, Waker, Ended}
 use Rattle.task_core.specs.declared.moves.Act.TheVariants.{MissNotify, BeginNotify, TakeAwaiter, EndNotify}
-use Rattle.task_laws.specs.Table.{goes_on, goes_after}
-use Rattle.task_laws.specs.declared.positions.Answer.TheVariants.{Nothing}
-use Rattle.task_laws.specs.declared.positions.Way.{Way}
-use Rattle.task_laws.specs.declared.positions.Way.TheVariants.{OfRun, OfDrop}
-use Rattle.task_laws.specs.declared.positions.Closer.TheVariants.{DroppedRunnable}
+use Rattle.task_laws.specs.Table.{goes_on}
 use Rattle.task_steps.specs.declared.table.Slot.{Slot}
 use Rattle.task_steps.specs.declared.table.Deed.{Deed}
 use Rattle.task_cell.specs.declared.cell.Party.{Party}

@@ -1,12 +1,9 @@
 -- The paths of a poll of the Task, part by part, and what its steps come to for the party that makes them.
-use Rattle.std.specs.Prelude.{◌≡◌, ℕ, ◌+◌, Bool, true, false, List, [], ◌∷◌, ◌++◌, Option, Some, None, Result, IfOk, ⊤}
+use Rattle.std.specs.Prelude.{◌≡◌, ℕ, Bool, true, false, List, [], ◌∷◌, ◌++◌, Option, Some, None, Result, IfOk, ⊤}
 use Rattle.task_core.specs.Word.{State}
 use Rattle.task_core.specs.declared.traits.TaskPoll.{TaskPoll}
 use Rattle.task_core.specs.declared.traits.TaskPoll.TheVariants.{Pending as Waits, Ready, NoMemory}
-use Rattle.task_laws.specs.declared.positions.Position.{Position}
-use Rattle.task_laws.specs.declared.positions.Way.TheVariants.{OfPoll, OfClaim}
-use Rattle.task_laws.specs.declared.positions.Position.TheVariants.{At, Notifier, Looking, Claiming, Claimer, Answering, Registrar, RefusedClone, Registered, OldAwaiterInHand, CloneInHand}
-use Rattle.task_laws.specs.declared.positions.Rest.TheVariants.{Task}
+use Rattle.task_laws.specs.declared.positions.Position.TheVariants.{Looking, RefusedClone}
 use Rattle.task_core.specs.declared.moves.Act.TheVariants.{Look, ClaimOutput, HandOutOutput, CloneAwaiter, RefuseClone, StoreAwaiter, TakeAwaiter, FindNotify, BeginRegister, EndRegister, EndRegisterNotified, DropAwaiter, WakeAwaiter, EndCall, BeginNotify, MissNotify, EndNotify}
 use Rattle.task_laws.specs.Table.{first_look, second_look, after_storing}
 use Rattle.task_steps.specs.declared.table.Slot.{Slot}

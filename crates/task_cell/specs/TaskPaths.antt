@@ -1,5 +1,5 @@
 -- The paths of a cancel and of a detach, each with the words that its rows found and with what the foreign calls on it did.
-use Rattle.std.specs.Prelude.{◌≡◌, ℕ, Bool, true, false, not, ◌&&◌, ◌||◌, nat_lt, if◌then◌else◌, List, [], ◌∷◌, ◌++◌, None}
+use Rattle.std.specs.Prelude.{◌≡◌, ℕ, Bool, true, false, List, [], ◌∷◌, ◌++◌, None}
 use Rattle.task_core.specs.Word.{State}
 use Rattle.task_core.specs.Rows.{found}
 use Rattle.task_laws.specs.Table.{cancels_after, notifies}

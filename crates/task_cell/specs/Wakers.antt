@@ -1,16 +1,8 @@
 -- A waker on its seat: alone, or lent beside its run.
-use Rattle.std.specs.Prelude.{◌≡◌, ℕ, Bool, true, false, List, [], ◌∷◌}
-use Rattle.atomic_table.specs.Table.{Me, Step}
-use Rattle.task_core.specs.Word.{State}
+use Rattle.std.specs.Prelude.{◌≡◌, true, List, [], ◌∷◌}
 use Rattle.task_laws.specs.declared.positions.Rest.{Rest}
 use Rattle.task_laws.specs.declared.positions.Rest.TheVariants.{Runnable, Waker, Lent}
-use Rattle.task_laws.specs.declared.positions.Position.TheVariants.{At, Polling, Deliverer}
-use Rattle.task_laws.specs.declared.positions.Position.{Position}
-use Rattle.task_laws.specs.declared.positions.After.TheVariants.{ThenEnds}
-use Rattle.task_laws.specs.declared.positions.Answer.TheVariants.{Nothing}
-use Rattle.task_core.specs.declared.moves.Act.{Act}
-use Rattle.task_laws.specs.Machine.{polls_future}
-use Rattle.task_steps.specs.declared.table.Slot.{Slot}
+use Rattle.task_laws.specs.declared.positions.Position.TheVariants.{At, Polling}
 use Rattle.task_steps.specs.declared.table.Deed.{Deed}
 use Rattle.task_steps.specs.declared.table.Member.{Member}
 use Rattle.task_steps.specs.declared.table.View.{View}
@@ -20,7 +12,6 @@ use Rattle.task_steps.specs.Beside.{may_gain_beside, may_wake_beside}
 use Rattle.task_steps.specs.Steps.{head_of, tail_of}
 use Rattle.task_cell.specs.Calls.{deeds, limit_of}
 use Rattle.task_steps.specs.Deeds.{after}
-use Rattle.task_steps.specs.Knows.{known, known_exchanged}
 use Rattle.task_cell.specs.declared.cell.waker.Hold.{Hold}
 use Rattle.task_cell.specs.declared.cell.waker.Hold.TheVariants.{Owned, Lent as Borrowed}
 

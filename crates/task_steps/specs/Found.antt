@@ -1,5 +1,5 @@
 -- What a call has found, by the word that it wrote on.
-use Rattle.std.specs.Prelude.{Bool, not, ◌&&◌, ◌||◌, nat_lt, if◌then◌else◌}
+use Rattle.std.specs.Prelude.{not, ◌&&◌, ◌||◌, nat_lt, if◌then◌else◌}
 use Rattle.task_core.specs.Word.{State, is_open}
 use Rattle.task_steps.specs.declared.words.Cancelled.{Cancelled}
 use Rattle.task_steps.specs.declared.words.Cancelled.TheVariants.{Busy, Idle}

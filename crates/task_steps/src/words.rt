@@ -1,6 +1,6 @@
 //! The words that calls write, and what a call has found, by the word that it wrote on.
 ghost use Rattle.std.specs.Prelude.{◌≡◌, ◌<◌, not, ◌&&◌, Some, None, if◌then◌else◌};
-ghost use Rattle.task_core.specs.Word.{State, is_open};
+ghost use Rattle.task_core.specs.Word.{is_open};
 ghost use Rattle.task_steps.specs.WakerScripts.{woken_word};
 ghost use Rattle.task_steps.specs.TaskScripts.{cancelled, detached};
 ghost use Rattle.task_steps.specs.RunScripts.{completed_word, after_pending};

@@ -1,14 +1,11 @@
 //! Closing a task by its Task.
-ghost use Rattle.std.specs.Prelude.{◌≡◌, ℕ, ◌<◌, if◌then◌else◌, List, [], ◌∷◌, ◌++◌, Some, None, false};
+ghost use Rattle.std.specs.Prelude.{◌≡◌, ℕ, ◌<◌, List, [], ◌∷◌, ◌++◌, Some, false};
 ghost use Rattle.std.specs.Arc.{arc_value};
-ghost use Rattle.task_core.specs.Word.{is_open};
 ghost use Rattle.task_laws.specs.Table.{notifies};
 ghost use Rattle.task_laws.specs.declared.positions.Way.TheVariants.{OfCancel};
 ghost use Rattle.task_core.specs.declared.moves.Act.TheVariants.{EndCall};
 ghost use Rattle.task_steps.specs.declared.table.Deed.{Deed};
-ghost use Rattle.task_steps.specs.TaskScripts.{cancelled};
 ghost use Rattle.task_cell.specs.TaskPaths.{Cancels, Notice, CancelPath};
-ghost use Rattle.task_steps.specs.Found.{closed_by};
 ghost use Rattle.task_cell.specs.Calls.{Stands, Goes, position, limit_of};
 ghost use Rattle.task_steps.specs.Deeds.{act};
 ghost use Rattle.task_steps.specs.Standing.{as_task};

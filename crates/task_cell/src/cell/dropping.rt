@@ -9,7 +9,6 @@ ghost use Rattle.task_cell.specs.Calls.{Stands, Goes, limit_of};
 ghost use Rattle.task_steps.specs.Deeds.{row};
 ghost use Rattle.task_steps.specs.Standing.{as_ended, as_waker, as_deliverer};
 ghost use Rattle.task_cell.specs.WakerPaths.{DropsWaker, WakerDropPath};
-ghost use Rattle.task_steps.specs.Found.{dropped_by};
 
 use super::{Cell, Party, Runnable};
 use std::alloc::Allocator;

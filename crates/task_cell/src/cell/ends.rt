@@ -9,9 +9,7 @@ ghost use Rattle.task_cell.specs.Calls.{StandsWith, Goes, GoesWith};
 ghost use Rattle.task_steps.specs.Deeds.{row, act};
 ghost use Rattle.task_steps.specs.Rule.{IsEmpty, IsFuture};
 ghost use Rattle.task_steps.specs.Steps.{future_first, output_first};
-ghost use Rattle.task_steps.specs.RunScripts.{completed_word, after_pending};
 ghost use Rattle.task_cell.specs.RunCalls.{Completes, AnswersPending, EndsPending};
-ghost use Rattle.task_steps.specs.Found.{ending_of};
 
 use super::{Cell, Party};
 use std::alloc::Allocator;

@@ -1,5 +1,5 @@
 //! The steps of a run and of a Runnable's drop.
-ghost use Rattle.std.specs.Prelude.{◌≡◌, ℕ, ◌∷◌, [], not, ◌&&◌, Bool};
+ghost use Rattle.std.specs.Prelude.{◌≡◌, ℕ, ◌∷◌, []};
 ghost use Rattle.std.specs.Arc.{arc_value};
 ghost use Rattle.task_laws.specs.declared.positions.Answer.{Answer};
 ghost use Rattle.task_laws.specs.declared.positions.After.TheVariants.{ThenEnds};

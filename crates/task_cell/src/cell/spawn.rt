@@ -2,7 +2,7 @@
 ghost use Rattle.std.specs.Prelude.{◌≡◌, ℕ, ◌+◌, ◌^◌, ◌<◌, ◌∷◌, [], List, IfOk, IfErr};
 ghost use Rattle.std.specs.Arc.{arc_value};
 ghost use Rattle.task_steps.specs.declared.table.Slot.{Slot};
-ghost use Rattle.task_steps.specs.Rule.{laid_view, opening_view};
+ghost use Rattle.task_steps.specs.Rule.{laid_view};
 ghost use Rattle.task_cell.specs.Calls.{Stands, StandsWith, deeds, limit_of};
 ghost use Rattle.task_steps.specs.Standing.{as_runnable, as_task};
 ghost use Rattle.task_laws.specs.declared.positions.Position.{Position};

@@ -1,10 +1,8 @@
 //! Waking the task.
-ghost use Rattle.std.specs.Prelude.{◌≡◌, ◌<◌, not, ◌&&◌, List, Some, None, if◌then◌else◌};
-ghost use Rattle.task_core.specs.Word.{is_open};
+ghost use Rattle.std.specs.Prelude.{◌≡◌, ◌<◌, List, Some, None};
 ghost use Rattle.task_laws.specs.declared.positions.Rest.{Rest};
 ghost use Rattle.task_steps.specs.declared.table.Member.{Member};
 ghost use Rattle.task_cell.specs.Wakers.{MayWake};
-ghost use Rattle.task_steps.specs.WakerScripts.{woken_word};
 ghost use Rattle.task_cell.specs.WakerPaths.{WakesTask, WakesBeside};
 
 use super::{Cell, Party};
