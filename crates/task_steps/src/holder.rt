@@ -16,7 +16,7 @@ pub enum SeatHolder<F, T, A> {
 }
 
 impl<F, T, A> SeatHolder<F, T, A> {
-    // A seat on a perch.
+    /// A holder with this seat on a perch. `rt` is what a thread waits by; the seat has no place of the table.
     pub fn perched<R: Wait>(rt: &R, seat: Seat<Slot<F, T, A>, View>) -> SeatHolder<F, T, A>
         requires { seat.me.1 ≡ [] }
         ensures { ((roost result).table_id ≡ seat.table_id) × ((roost result).view ≡ seat.me.0) }
@@ -26,7 +26,7 @@ impl<F, T, A> SeatHolder<F, T, A> {
         SeatHolder::Perched(perch)
     }
 
-    // A seat under a lock.
+    /// A holder with this seat under a lock. The seat has no place of the table.
     pub fn locked(seat: Seat<Slot<F, T, A>, View>) -> SeatHolder<F, T, A>
         requires { seat.me.1 ≡ [] }
         ensures { ((roost result).table_id ≡ seat.table_id) × ((roost result).view ≡ seat.me.0) }
@@ -34,7 +34,7 @@ impl<F, T, A> SeatHolder<F, T, A> {
         SeatHolder::Locked(SeatLock::new(seat))
     }
 
-    // The seat, to step with. Where another thread has it, this one waits.
+    /// The seat, to step with: it is one of that table, and knows what it knew. Where another thread has it, this one waits by `rt`.
     pub fn take<R: Wait>(&self, rt: &R) -> Seat<Slot<F, T, A>, View>
         ensures { (result.table_id ≡ (roost self.now).table_id) × (result.me ≡ ((roost self.now).view, [])) }
     {
@@ -44,7 +44,7 @@ impl<F, T, A> SeatHolder<F, T, A> {
         }
     }
 
-    // Gives the seat back.
+    /// Gives the seat back, or another one of that table that knows the same. Where another thread looks for it, this one waits by `rt`.
     pub fn put_back<R: Wait>(&self, rt: &R, seat: Seat<Slot<F, T, A>, View>)
         requires { (seat.table_id ≡ (roost self.now).table_id) × (seat.me ≡ ((roost self.now).view, [])) }
     {
@@ -54,7 +54,7 @@ impl<F, T, A> SeatHolder<F, T, A> {
         }
     }
 
-    // The seat, for good.
+    /// The seat, for good. Whoever took it has given it back by then.
     pub fn into_seat<R: Wait>(self, rt: &R) -> Seat<Slot<F, T, A>, View>
         ensures { (result.table_id ≡ (roost self).table_id) × (result.me ≡ ((roost self).view, [])) }
     {

@@ -23,7 +23,7 @@ pub struct SeatLock<F, T, A> {
 }
 
 impl<F, T, A> SeatLock<F, T, A> {
-    // A free lock.
+    /// A free lock with this seat under it, which has no place of the table.
     pub fn new(seat: Seat<Slot<F, T, A>, View>) -> SeatLock<F, T, A>
         requires { seat.me.1 ≡ [] }
         ensures { (result.seat.table_id ≡ seat.table_id) × (result.seat.view ≡ seat.me.0) }
@@ -34,7 +34,7 @@ impl<F, T, A> SeatLock<F, T, A> {
         }
     }
 
-    // The seat of a lock that nobody else has. It is there, since whoever took it has given it back: but that is known of no lock by its type, so where it were not, this would wait for ever.
+    /// The seat of a lock that nobody else has. It is there, since whoever took it has given it back: but that is known of no lock by its type, so where it were not, this would wait by `rt` for ever.
     pub fn into_seat<R: Wait>(self, rt: &R) -> Seat<Slot<F, T, A>, View>
         ensures { (result.table_id ≡ self.seat.table_id) × (result.me ≡ (self.seat.view, [])) }
     {
@@ -48,7 +48,7 @@ impl<F, T, A> SeatLock<F, T, A> {
         }
     }
 
-    // The seat. Where another thread has it, this one waits.
+    /// The seat, to step with. Where another thread has it, this one waits by `rt`.
     pub fn lock<R: Wait>(&self, rt: &R) -> Seat<Slot<F, T, A>, View>
         ensures { (result.table_id ≡ self.now.seat.table_id) × (result.me ≡ (self.now.seat.view, [])) }
     {
@@ -65,7 +65,7 @@ impl<F, T, A> SeatLock<F, T, A> {
         unreachable!()
     }
 
-    // Gives the seat back.
+    /// Gives the seat back, or another one of that table that knows the same. Where another thread looks for it, this one waits by `rt`.
     pub fn unlock<R: Wait>(&self, rt: &R, seat: Seat<Slot<F, T, A>, View>)
         requires { (seat.table_id ≡ self.now.seat.table_id) × (seat.me ≡ (self.now.seat.view, [])) }
     {

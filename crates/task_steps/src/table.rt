@@ -85,7 +85,7 @@ pub type Board<F, T, A, B> = Table<Slot<F, T, A>, View, u64, Law, B>;
 /// The word of a task that was just spawned: scheduled, with its Task, and one reference.
 const OPENING: u64 = 0x111;
 
-/// A table whose places are empty.
+/// A table with the opening word and three empty places, and its first seat. `alloc` is where the memory comes from, and `limit` the limit of references. An `Err` says that memory was refused, and nothing stays allocated then.
 pub fn lay<F: Drop, T: Drop, A: Drop, B: Allocator + Copy>(
     alloc: B,
     limit: u64,
@@ -103,7 +103,7 @@ pub fn lay<F: Drop, T: Drop, A: Drop, B: Allocator + Copy>(
     }
 }
 
-/// Polls the future where it lies.
+/// Polls the future where it lies, in a slot that has one. `waker` is what the poll is lent.
 pub fn polled<W, F: Future<W>, A>(slot: &mut Slot<F, Kept<F>, A>, waker: &W) -> Poll<F::Output>
     requires { IsFuture slot.old }
     ensures future { IsFuture slot.new }
