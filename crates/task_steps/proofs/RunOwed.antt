@@ -30,6 +30,7 @@ use Rattle.task_steps.specs.Rule.{has_work, IsFuture, IsOutput}
 use Rattle.task_steps.specs.Steps.{then_leaves, future_first, output_first}
 use Rattle.task_steps.specs.Scripts.{dropping_output}
 use Rattle.task_steps.specs.RunScripts.{giving_up, emptying, discarding, answering_ready, completing, answering_pending, ending_pending, missing_end, ending_closed, completed_word, after_pending}
+use Rattle.task_steps.proofs.Numbers.{same_word}
 use Rattle.task_steps.proofs.Facts.{queued}
 use Rattle.task_steps.proofs.Acts.{apart}
 use Rattle.task_steps.proofs.Leads.{leads_first, counted}
@@ -243,9 +244,6 @@ module _ (F T A : Type 0) (limit : ℕ) where
       gone : m.slots.future ≡ false
       gone = output_facts m.limit m.word m.slots m.trace (census m.parties) f.invariant.holds (counted (λ c. c.outputs) (λ a b. refl) m.parties f.number (OutputInHand due) f.stands)
 
-  same_word : (w v : State) → number_of w ≡ number_of v → w ≡ v
-  same_word w v e = sym (state_of_number_of w) ∙ (ap state_of e ∙ state_of_number_of v)
-
   -- the run of a Ready future
   pub completes : (w : State) (ds : List Deed) (us : List Member) (y z : Slot F T A) (l : List (ℕ × Slot F T A)) → l ≡ output_first y z (rest (rest l)) → IsOutput z
       → (m : Machine) → Finds limit Ready ds us m → number_of w ≡ number_of m.word → Steps m Ready (completing m.word) (number_of (completed_word w)) l
@@ -270,7 +268,7 @@ module _ (F T A : Type 0) (limit : ℕ) where
         outcome = record { word = written Complete m.word; slots = stored; next = if m.word.closed then OutputInHand m.word.awaiter else notifies m.word.awaiter OfRun; born = []; told = Completes ∷ RunEnded ∷ FutureDropped ∷ [] };
         leads_to = ap (λ x. then_leaves (keeps (scene m) m.word gone Unstored (FutureDropped ∷ [])) (then_leaves (keeps (apart m.limit m.word gone false) m.word stored Stored []) x))
             (leads_first (apart m.limit m.word stored false) Complete [] Stored (steps (apart m.limit m.word stored false) (written Complete m.word) (if m.word.closed then OutputInHand m.word.awaiter else notifies m.word.awaiter OfRun) [] (Completes ∷ RunEnded ∷ [])) h refl);
-        writes = ap number_of (ap completed_word (same_word w m.word e) ∙ ap (λ b. if b then written Complete m.word else written CompleteDetached m.word) h);
+        writes = ap number_of (ap completed_word (same_word w m.word _ e refl) ∙ ap (λ b. if b then written Complete m.word else written CompleteDetached m.word) h);
         idle = (refl, refl);
         placing = placed m.word.closed m.word.awaiter (written Complete m.word) (Completes ∷ RunEnded ∷ FutureDropped ∷ []) refl;
       }
@@ -278,7 +276,7 @@ module _ (F T A : Type 0) (limit : ℕ) where
         outcome = record { word = written CompleteDetached m.word; slots = stored; next = OutputInHand m.word.awaiter; born = []; told = (closing m.word (Completes ∷ RunEnded ∷ []) ++ []) ++ FutureDropped ∷ [] };
         leads_to = ap (λ x. then_leaves (keeps (scene m) m.word gone Unstored (FutureDropped ∷ [])) (then_leaves (keeps (apart m.limit m.word gone false) m.word stored Stored []) x))
             (leads_first (apart m.limit m.word stored false) CompleteDetached [] Stored (steps (apart m.limit m.word stored false) (written CompleteDetached m.word) (OutputInHand m.word.awaiter) [] (closing m.word (Completes ∷ RunEnded ∷ []))) (ap not h) refl);
-        writes = ap number_of (ap completed_word (same_word w m.word e) ∙ ap (λ b. if b then written Complete m.word else written CompleteDetached m.word) h);
+        writes = ap number_of (ap completed_word (same_word w m.word _ e refl) ∙ ap (λ b. if b then written Complete m.word else written CompleteDetached m.word) h);
         idle = (refl, refl);
         placing = stays refl refl (inl refl) (inr (refl, told_closing m.word.closed));
       }
@@ -292,7 +290,7 @@ module _ (F T A : Type 0) (limit : ℕ) where
       facts = pending_facts m.limit m.word m.slots m.trace (census m.parties) f.invariant.holds (counted (λ c. c.pending) (λ a b. refl) m.parties f.number Pending f.stands)
 
       same : w ≡ m.word
-      same = same_word w m.word e
+      same = same_word w m.word _ e refl
 
       not_closed : m.word.closed ≡ false
       not_closed = ap (λ (v : State). v.closed) (sym same) ∙ unclosed

@@ -9,7 +9,7 @@ ghost use Rattle.task_cell.specs.Calls.{Stands, Goes, IsNew, position, limit_of}
 ghost use Rattle.task_steps.specs.Deeds.{act};
 ghost use Rattle.task_steps.specs.Standing.{hands_over, handed_over, as_runnable, as_ended, as_deliverer};
 
-use super::{Cell, Party, Runnable, RunnableSeat};
+use super::{Cell, Party, Runnable};
 use std::alloc::Allocator;
 use std::sync::{Arc, Wait};
 use task_core::{Schedule, ScheduleInfo, Wake, Yields};
@@ -56,11 +56,11 @@ impl<R: Wait + Drop, F: Yields, Q: Drop, M: Drop, A: Wake, B: Allocator> Cell<R,
         ensures path { Goes (act HandOver ∷ []) (handed_over (position party.old)) party.old party.new }
         ensures fact { (n : _) × Q.scheduled (arc_value this.now).schedule n (record { woken_while_running = woken_while_running }) }
     {
-        let inner = RunnableSeat::new(Cell::share(this), this.hand_over(party));
+        let runnable = Runnable::new(Cell::share(this), this.hand_over(party), around);
         let info = ScheduleInfo {
             woken_while_running,
         };
-        this.schedule.schedule(Runnable { inner, around }, info);
+        this.schedule.schedule(runnable, info);
     }
 
     /// Hands the Runnable of a deliverer to the schedule value. It makes no step on the word but loads.
