@@ -18,6 +18,13 @@ fallible_answer (Ready (Err closed)) = Ready None
 fallible_answer Waits = Waits
 fallible_answer NoMemory = NoMemory
 
+-- the answer of a Task's poll says that no output will come
+abbrev pub is_closed : {T E : Type 0} → TaskPoll (Result T E) → Bool
+is_closed (Ready (Ok output)) = false
+is_closed (Ready (Err closed)) = true
+is_closed Waits = false
+is_closed NoMemory = false
+
 -- the fact holds of the output that such a poll handed out, if there is one
 abbrev pub IfSomeOutput : {T : Type 0} → TaskPoll (Option T) → (T → Type 0) → Type 0
 IfSomeOutput (Ready answer) P = IfSome answer P

@@ -3,12 +3,14 @@ ghost use Rattle.std.specs.Prelude.{◌≡◌, ◌<◌, [], min, IfOk, IfErr};
 ghost use Rattle.std.specs.Fn.{FnOnceReturnsAt};
 ghost use Rattle.std.specs.Arc.{arc_value};
 ghost use Rattle.task_steps.specs.Rule.{laid_view};
+ghost use Rattle.task_steps.specs.Standing.{as_task};
+ghost use Rattle.task_cell.specs.Calls.{Stands, deeds};
 
 use crate::task::{Task, TaskParty};
 use atomic_table::Seat;
 use std::alloc::Allocator;
-use std::sync::{Arc, Wait};
-use task_cell::{Cell, Runnable};
+use std::sync::Wait;
+use task_cell::{Cell, Runnable, Share};
 use task_core::word::LIMIT;
 use task_core::{Schedule, Wake, Yields};
 use task_steps::table::{Kept, Slot, View};
@@ -107,15 +109,17 @@ impl<M: Drop> Builder<M> {
         G: FnOnce(&M) -> F,
         Q: Schedule<Runnable<R, F, Q, M, A, X, B>> + Drop,
         requires { G.IsAlwaysCallable maker }
-        ensures shares { IfOk result (λ handles. arc_value handles.1.inner.cell ≡ arc_value handles.0.inner.cell) }
-        ensures given { IfOk result (λ handles. let cell = arc_value handles.0.inner.cell in (cell.metadata ≡ self.metadata) × (cell.limit ≡ self.limit) × (cell.schedule ≡ schedule)) }
+        ensures shares { IfOk result (λ handles. arc_value handles.1.inner.share.cell ≡ arc_value handles.0.inner.share.cell) }
+        ensures opening { IfOk result (λ handles. Stands (as_task 0) handles.1.inner.party × (deeds handles.1.inner.party ≡ [])) }
+        ensures around { IfOk result (λ handles. (handles.0.around ≡ around) × (handles.1.around ≡ around)) }
+        ensures given { IfOk result (λ handles. let cell = arc_value handles.0.inner.share.cell in (cell.metadata ≡ self.metadata) × (cell.limit ≡ self.limit) × (cell.schedule ≡ schedule)) }
         ensures made { IfOk result (λ _. (future : F) × FnOnceReturnsAt G.FnOnce maker self.metadata future) }
         ensures refused { IfErr result (λ e. (e.builder ≡ self) × (e.maker ≡ maker) × (e.schedule ≡ schedule)) }
     {
         let Builder { metadata, limit } = self;
         match Cell::make(rt, alloc, schedule, metadata, limit) {
             Ok((first, second, seat)) => {
-                let future = maker(first.metadata());
+                let future = maker(first.cell().metadata());
                 Ok(handles_of(first, second, seat, future, around))
             }
             Err((schedule, metadata)) => Err(SpawnError {
@@ -129,8 +133,8 @@ impl<M: Drop> Builder<M> {
 
 // The handles of a task whose memory was found: the future is put in by the seat, and each handle gets one of the shares.
 fn handles_of<R, F, Q, M, A, X, B>(
-    first: Arc<Cell<R, F, Q, M, A, B>, B>,
-    second: Arc<Cell<R, F, Q, M, A, B>, B>,
+    first: Share<R, F, Q, M, A, B>,
+    second: Share<R, F, Q, M, A, B>,
     seat: Seat<Slot<F, Kept<F>, A>, View>,
     future: F,
     around: X,
@@ -143,14 +147,16 @@ where
     X: Copy,
     B: Allocator,
     Q: Schedule<Runnable<R, F, Q, M, A, X, B>> + Drop,
-    requires shares { arc_value second ≡ arc_value first }
-    requires seat { (seat.table_id ≡ (arc_value first).table.shared.table_id) × (seat.me ≡ (laid_view (arc_value first).limit, [])) }
-    ensures cells { (result.0.inner.cell ≡ first) × (result.1.inner.cell ≡ second) }
+    requires shares { arc_value second.cell ≡ arc_value first.cell }
+    requires seat { (seat.table_id ≡ (arc_value first.cell).table.shared.table_id) × (seat.me ≡ (laid_view (arc_value first.cell).limit, [])) }
+    ensures cells { (result.0.inner.share ≡ first) × (result.1.inner.share ≡ second) }
+    ensures opening { Stands (as_task 0) result.1.inner.party × (deeds result.1.inner.party ≡ []) }
+    ensures around { (result.0.around ≡ around) × (result.1.around ≡ around) }
 {
-    let (runnable, task) = first.fill(seat, future);
+    let (runnable, task) = first.cell().fill(seat, future);
     let runnable = Runnable::new(first, runnable, around);
     let task = TaskParty {
-        cell: second,
+        share: second,
         party: task,
     };
     (
@@ -180,8 +186,10 @@ where
     X: Copy,
     B: Allocator + Copy,
     Q: Schedule<Runnable<R, F, Q, (), A, X, B>> + Drop,
-    ensures shares { IfOk result (λ handles. arc_value handles.1.inner.cell ≡ arc_value handles.0.inner.cell) }
-    ensures given { IfOk result (λ handles. let cell = arc_value handles.0.inner.cell in (cell.limit ≡ LIMIT) × (cell.schedule ≡ schedule)) }
+    ensures shares { IfOk result (λ handles. arc_value handles.1.inner.share.cell ≡ arc_value handles.0.inner.share.cell) }
+    ensures opening { IfOk result (λ handles. Stands (as_task 0) handles.1.inner.party × (deeds handles.1.inner.party ≡ [])) }
+    ensures around { IfOk result (λ handles. (handles.0.around ≡ around) × (handles.1.around ≡ around)) }
+    ensures given { IfOk result (λ handles. let cell = arc_value handles.0.inner.share.cell in (cell.limit ≡ LIMIT) × (cell.schedule ≡ schedule)) }
     ensures refused { IfErr result (λ e. (e.builder.limit ≡ LIMIT) × (e.maker ≡ future) × (e.schedule ≡ schedule)) }
 {
     match Cell::make(rt, alloc, schedule, (), LIMIT) {

@@ -1,9 +1,10 @@
 //! The Task as a handle that cancels the task, and waits until its future is gone.
-ghost use Rattle.std.specs.Prelude.{◌≡◌, List, true, false};
+ghost use Rattle.std.specs.Prelude.{◌≡◌, List, true, false, None};
 ghost use Rattle.std.specs.Arc.{arc_value};
 ghost use Rattle.task_steps.specs.declared.table.Deed.{Deed};
-ghost use Rattle.task_steps.specs.Steps.{saw_over};
+ghost use Rattle.task_steps.specs.Steps.{saw_over, saw_ended};
 ghost use Rattle.task_cell.specs.TaskPaths.{CancelPath};
+ghost use Rattle.task_cell.specs.Handed.{HandedOver};
 ghost use Rattle.async_task.specs.HandlePaths.{ClosesUnless, FindsFinished, PollsClosed, IfSomeOutput};
 ghost use Rattle.task_cell.specs.Calls.{Goes, deeds, position};
 
@@ -47,6 +48,9 @@ where
     pub fn is_finished(&mut self) -> bool
         ensures path { FindsFinished self.old.task.inner.party self.new.task.inner.party result }
         ensures seen { saw_over (deeds self.old.task.inner.party) ≡ true → result ≡ true }
+        ensures ended { saw_ended (deeds self.old.task.inner.party) ≡ true → saw_ended (deeds self.new.task.inner.party) ≡ true }
+        ensures cell { self.new.task.inner.share ≡ self.old.task.inner.share }
+        ensures around { self.new.task.around ≡ self.old.task.around }
         ensures cancelled { self.new.cancelled ≡ self.old.cancelled }
     {
         self.task.is_finished()
@@ -58,8 +62,12 @@ where
     /// The output meets what the type of the future states. After `None` each later poll answers the same.
     /// `NoMemory` says that the clone was refused: the task is cancelled all the same, nothing was registered, and an awaiter that an earlier poll registered is still woken.
     pub fn poll(&mut self, awaiter: &A) -> TaskPoll<Option<F::Output>>
-        ensures path { PollsClosed self.old.cancelled (CancelPath ((n : _) × Q.scheduled (arc_value self.old.task.inner.cell).schedule n (record { woken_while_running = false })) ((a : A) × A.woken a)) A.cloned A.woken A.woken_by_ref A.compared awaiter.now self.old.task.inner.party self.new.task.inner.party result }
+        ensures path { PollsClosed self.old.cancelled (CancelPath (HandedOver Q.scheduled (arc_value self.old.task.inner.share.cell) self.old.task.around false) ((a : A) × A.woken a)) A.cloned A.woken A.woken_by_ref A.compared awaiter.now self.old.task.inner.party self.new.task.inner.party result }
         ensures meets { IfSomeOutput result (λ output. ∥ F.Yields.meets output ∥₁) }
+        ensures ended { saw_ended (deeds self.old.task.inner.party) ≡ true → result ≡ TaskPoll.Ready None }
+        ensures closed { result ≡ TaskPoll.Ready None → saw_ended (deeds self.new.task.inner.party) ≡ true }
+        ensures cell { self.new.task.inner.share ≡ self.old.task.inner.share }
+        ensures around { self.new.task.around ≡ self.old.task.around }
         ensures cancelled { self.new.cancelled ≡ true }
     {
         self.cancel_once();
@@ -68,8 +76,11 @@ where
 
     // Cancels the task, unless an earlier poll did.
     fn cancel_once(&mut self)
-        ensures path { (path : List Deed) × ClosesUnless self.old.cancelled (CancelPath ((n : _) × Q.scheduled (arc_value self.old.task.inner.cell).schedule n (record { woken_while_running = false })) ((a : A) × A.woken a)) path × Goes path (position self.old.task.inner.party) self.old.task.inner.party self.new.task.inner.party }
+        ensures path { (path : List Deed) × ClosesUnless self.old.cancelled (CancelPath (HandedOver Q.scheduled (arc_value self.old.task.inner.share.cell) self.old.task.around false) ((a : A) × A.woken a)) path × Goes path (position self.old.task.inner.party) self.old.task.inner.party self.new.task.inner.party }
         ensures cancelled { self.new.cancelled ≡ true }
+        ensures ended { saw_ended (deeds self.old.task.inner.party) ≡ true → saw_ended (deeds self.new.task.inner.party) ≡ true }
+        ensures cell { self.new.task.inner.share ≡ self.old.task.inner.share }
+        ensures around { self.new.task.around ≡ self.old.task.around }
     {
         if self.cancelled {
             return;

@@ -21,7 +21,7 @@ where
     Q: Schedule<Runnable<R, F, Q, M, A, X, B>>,
 {
     fn fmt<W: fmt::Write>(&self, f: &mut fmt::Formatter<W>) -> fmt::Result {
-        self.inner.cell.show(f, "Task")
+        self.inner.share.cell().show(f, "Task")
     }
 }
 
@@ -39,6 +39,6 @@ where
     Q: Schedule<Runnable<R, F, Q, M, A, X, B>>,
 {
     fn fmt<W: fmt::Write>(&self, f: &mut fmt::Formatter<W>) -> fmt::Result {
-        self.task.inner.cell.show(f, "FallibleTask")
+        self.task.inner.share.cell().show(f, "FallibleTask")
     }
 }

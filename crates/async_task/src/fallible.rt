@@ -1,7 +1,7 @@
 //! The Task as a handle whose polls answer `None` for a task that is closed.
-ghost use Rattle.std.specs.Prelude.{◌≡◌, true, false};
+ghost use Rattle.std.specs.Prelude.{◌≡◌, true, false, None};
 ghost use Rattle.std.specs.Arc.{arc_value};
-ghost use Rattle.task_steps.specs.Steps.{saw_over};
+ghost use Rattle.task_steps.specs.Steps.{saw_over, saw_ended};
 ghost use Rattle.async_task.specs.HandlePaths.{FindsFinished, PollsOnce, IfSomeOutput};
 ghost use Rattle.task_cell.specs.Calls.{deeds};
 
@@ -43,7 +43,7 @@ where
 {
     /// The metadata that the builder was given.
     pub fn metadata(&self) -> &M
-        ensures { result.now ≡ (arc_value self.now.task.inner.cell).metadata }
+        ensures { result.now ≡ (arc_value self.now.task.inner.share.cell).metadata }
     {
         self.task.metadata()
     }
@@ -72,6 +72,9 @@ where
     pub fn is_finished(&mut self) -> bool
         ensures path { FindsFinished self.old.task.inner.party self.new.task.inner.party result }
         ensures seen { saw_over (deeds self.old.task.inner.party) ≡ true → result ≡ true }
+        ensures ended { saw_ended (deeds self.old.task.inner.party) ≡ true → saw_ended (deeds self.new.task.inner.party) ≡ true }
+        ensures cell { self.new.task.inner.share ≡ self.old.task.inner.share }
+        ensures around { self.new.task.around ≡ self.old.task.around }
     {
         self.task.is_finished()
     }
@@ -83,6 +86,10 @@ where
     pub fn poll(&mut self, awaiter: &A) -> TaskPoll<Option<F::Output>>
         ensures path { PollsOnce A.cloned A.woken A.woken_by_ref A.compared awaiter.now self.old.task.inner.party self.new.task.inner.party result }
         ensures meets { IfSomeOutput result (λ output. ∥ F.Yields.meets output ∥₁) }
+        ensures ended { saw_ended (deeds self.old.task.inner.party) ≡ true → result ≡ TaskPoll.Ready None }
+        ensures closed { result ≡ TaskPoll.Ready None → saw_ended (deeds self.new.task.inner.party) ≡ true }
+        ensures cell { self.new.task.inner.share ≡ self.old.task.inner.share }
+        ensures around { self.new.task.around ≡ self.old.task.around }
     {
         self.task.inner.poll(awaiter)
     }

@@ -13,5 +13,5 @@ pub use cancel::Cancel;
 pub use fallible::FallibleTask;
 pub use parked::ParkedTask;
 pub use task::{Task, TaskClosed};
-pub use task_cell::{Cell, Kept, ParkedRunnable, ParkedWaker, Party, Runnable, TaskWaker};
+pub use task_cell::{Cell, Kept, ParkedRunnable, ParkedWaker, Party, Runnable, Share, TaskWaker};
 pub use task_core::{Future, Poll, Schedule, ScheduleInfo, TaskPoll, Wake, WithInfo, Yields};

@@ -1,12 +1,13 @@
 //! The Task: the handle that awaits the output.
-ghost use Rattle.std.specs.Prelude.{◌≡◌, ℕ, List, ◌∷◌, [], true, false};
+ghost use Rattle.std.specs.Prelude.{◌≡◌, ℕ, List, ◌∷◌, [], true, false, None};
 ghost use Rattle.std.specs.Arc.{arc_value};
 ghost use Rattle.task_steps.specs.declared.table.Deed.{Deed};
 ghost use Rattle.task_steps.specs.Rule.{view, member};
-ghost use Rattle.task_steps.specs.Steps.{saw_over};
+ghost use Rattle.task_steps.specs.Steps.{saw_over, saw_ended};
 ghost use Rattle.task_cell.specs.TaskPaths.{CancelPath};
+ghost use Rattle.task_cell.specs.Handed.{HandedOver};
 ghost use Rattle.task_cell.specs.PollPaths.{IfOutput};
-ghost use Rattle.async_task.specs.HandlePaths.{FindsFinished, PollsOnce, IfSomeOutput, fallible_answer};
+ghost use Rattle.async_task.specs.HandlePaths.{FindsFinished, PollsOnce, IfSomeOutput, fallible_answer, is_closed};
 ghost use Rattle.task_cell.specs.Calls.{Goes, deeds, position, holds, limit_of, is_empty};
 ghost use Rattle.task_steps.specs.Standing.{is_task};
 
@@ -14,8 +15,8 @@ use crate::cancel::Cancel;
 use crate::fallible::FallibleTask;
 use crate::parked::ParkedTask;
 use std::alloc::{Allocator, Global};
-use std::sync::{Arc, Wait};
-use task_cell::{Cell, Kept, Party, Runnable};
+use std::sync::Wait;
+use task_cell::{Cell, Kept, Party, Runnable, Share};
 use task_core::{Schedule, TaskPoll, Wake, Yields};
 
 /// The task is closed, and no output will come.
@@ -24,10 +25,10 @@ pub struct TaskClosed;
 
 /// A share of a cell, and the party of its Task.
 pub(crate) struct TaskParty<R, F: Yields, Q, M, A, B: Allocator> {
-    pub(crate) cell: Arc<Cell<R, F, Q, M, A, B>, B>,
+    pub(crate) share: Share<R, F, Q, M, A, B>,
     pub(crate) party: Party<F, Kept<F>, A>,
-    ghost seated: { party.seat.table_id ≡ (arc_value cell).table.shared.table_id },
-    ghost limited: { limit_of party ≡ (arc_value cell).limit },
+    ghost seated: { party.seat.table_id ≡ (arc_value share.cell).table.shared.table_id },
+    ghost limited: { limit_of party ≡ (arc_value share.cell).limit },
     ghost placed: { is_task (position party) ≡ true },
     ghost alone: { party.seat.me.0 ≡ view (limit_of party) (member (position party) (deeds party) ∷ []) },
     ghost free: { is_empty (holds party) ≡ true },
@@ -45,16 +46,21 @@ impl<R: Wait + Drop, F: Yields, Q: Drop, M: Drop, A: Wake, B: Allocator> TaskPar
     pub(crate) fn is_finished(&mut self) -> bool
         ensures path { FindsFinished self.old.party self.new.party result }
         ensures seen { saw_over (deeds self.old.party) ≡ true → result ≡ true }
+        ensures ended { saw_ended (deeds self.old.party) ≡ true → saw_ended (deeds self.new.party) ≡ true }
+        ensures share { self.new.share ≡ self.old.share }
     {
-        self.cell.is_finished(&mut self.party)
+        self.share.cell().is_finished(&mut self.party)
     }
 
     // One poll of the Task. The output that it hands out meets what the type of the future states.
     pub(crate) fn poll(&mut self, awaiter: &A) -> TaskPoll<Option<F::Output>>
         ensures path { PollsOnce A.cloned A.woken A.woken_by_ref A.compared awaiter.now self.old.party self.new.party result }
         ensures meets { IfSomeOutput result (λ output. ∥ F.Yields.meets output ∥₁) }
+        ensures ended { saw_ended (deeds self.old.party) ≡ true → result ≡ TaskPoll.Ready None }
+        ensures closed { result ≡ TaskPoll.Ready None → saw_ended (deeds self.new.party) ≡ true }
+        ensures share { self.new.share ≡ self.old.share }
     {
-        match self.cell.poll(&mut self.party, awaiter) {
+        match self.share.cell().poll(&mut self.party, awaiter) {
             TaskPoll::Pending => TaskPoll::Pending,
             TaskPoll::NoMemory => TaskPoll::NoMemory,
             TaskPoll::Ready(Some(kept)) => TaskPoll::Ready(Some(kept.output)),
@@ -66,9 +72,10 @@ impl<R: Wait + Drop, F: Yields, Q: Drop, M: Drop, A: Wake, B: Allocator> TaskPar
     pub(crate) fn cancel<X: Copy>(&mut self, around: X)
     where
         Q: Schedule<Runnable<R, F, Q, M, A, X, B>>,
-        ensures path { (path : List Deed) × CancelPath ((n : _) × Q.scheduled (arc_value self.old.cell).schedule n (record { woken_while_running = false })) ((a : A) × A.woken a) path × Goes path (position self.old.party) self.old.party self.new.party }
+        ensures path { (path : List Deed) × CancelPath (HandedOver Q.scheduled (arc_value self.old.share.cell) around false) ((a : A) × A.woken a) path × Goes path (position self.old.party) self.old.party self.new.party }
+        ensures share { self.new.share ≡ self.old.share }
     {
-        Cell::cancel(&self.cell, &mut self.party, around);
+        Cell::cancel(self.share.cell(), &mut self.party, around);
     }
 }
 
@@ -96,11 +103,11 @@ where
 {
     fn drop(self) {
         let (inner, around) = self.into_parts();
-        let TaskParty { cell, mut party } = inner;
-        Cell::cancel(&cell, &mut party, around);
-        Cell::detach(&cell, &mut party, around);
+        let TaskParty { share, mut party } = inner;
+        Cell::cancel(share.cell(), &mut party, around);
+        Cell::detach(share.cell(), &mut party, around);
         party.let_go();
-        Cell::leave(cell);
+        share.leave();
     }
 }
 
@@ -126,9 +133,9 @@ where
 
     /// The metadata that the builder was given.
     pub fn metadata(&self) -> &M
-        ensures { result.now ≡ (arc_value self.now.inner.cell).metadata }
+        ensures { result.now ≡ (arc_value self.now.inner.share.cell).metadata }
     {
-        self.inner.cell.metadata()
+        self.inner.share.cell().metadata()
     }
 
     /// The surroundings that the handle carries.
@@ -172,16 +179,19 @@ where
     /// Gives the Task up and lets the task go on. An output that nobody claimed is dropped.
     pub fn detach(self) {
         let (inner, around) = self.into_parts();
-        let TaskParty { cell, mut party } = inner;
-        Cell::detach(&cell, &mut party, around);
+        let TaskParty { share, mut party } = inner;
+        Cell::detach(share.cell(), &mut party, around);
         party.let_go();
-        drop(cell);
+        share.give_up();
     }
 
     /// Whether the task is completed or closed. Once it is, each further answer is true.
     pub fn is_finished(&mut self) -> bool
         ensures path { FindsFinished self.old.inner.party self.new.inner.party result }
         ensures seen { saw_over (deeds self.old.inner.party) ≡ true → result ≡ true }
+        ensures ended { saw_ended (deeds self.old.inner.party) ≡ true → saw_ended (deeds self.new.inner.party) ≡ true }
+        ensures cell { self.new.inner.share ≡ self.old.inner.share }
+        ensures around { self.new.around ≡ self.old.around }
     {
         self.inner.is_finished()
     }
@@ -193,6 +203,10 @@ where
     pub fn poll(&mut self, awaiter: &A) -> TaskPoll<Result<F::Output, TaskClosed>>
         ensures path { PollsOnce A.cloned A.woken A.woken_by_ref A.compared awaiter.now self.old.inner.party self.new.inner.party (fallible_answer result) }
         ensures meets { IfOutput result (λ output. ∥ F.Yields.meets output ∥₁) }
+        ensures ended { saw_ended (deeds self.old.inner.party) ≡ true → is_closed result ≡ true }
+        ensures closed { is_closed result ≡ true → saw_ended (deeds self.new.inner.party) ≡ true }
+        ensures cell { self.new.inner.share ≡ self.old.inner.share }
+        ensures around { self.new.around ≡ self.old.around }
     {
         match self.inner.poll(awaiter) {
             TaskPoll::Pending => TaskPoll::Pending,

@@ -1,19 +1,18 @@
-//! Tests over heaps: a spawn that is refused, and the calls that ask for no memory.
+//! Tests over full heaps: the calls that ask for no memory.
 ghost use Rattle.std.specs.Prelude.{⊤};
 ghost use Rattle.fixtures.specs.Behaviour.{IsPolled};
 
 use async_task::{
-    Builder, Future, ParkedRunnable, Poll, Runnable, Schedule, ScheduleInfo, SpawnError, Task,
-    TaskWaker, Yields, spawn,
+    Builder, Future, ParkedRunnable, Poll, Runnable, Schedule, ScheduleInfo, Task, TaskWaker,
+    Yields,
 };
-use fixtures::counters::{Counter, Counters, Counts};
+use fixtures::counters::{Counters, Counts};
 use fixtures::flag::Flag;
 use fixtures::future::{Behaviour, Output, RowFuture};
 use fixtures::surroundings::Scheduler;
 use linked_list_allocator::LocalHeap;
 use std::alloc::{AllocError, Global};
 use std::mem;
-use std::process::Abort;
 use std::sync::{Arc, Mutex, Wait};
 use std::test::Fail;
 
@@ -138,56 +137,6 @@ impl<'x, 'heap, R: Wait + Drop> Future<TrayWaker<'x, 'heap, R>> for TrayFuture {
     fn poll(&mut self, _waker: &TrayWaker<'x, 'heap, R>) -> Poll<Output> {
         self.inner.answer_alone()
     }
-}
-
-// A spawn over a heap of that many blocks of 16 bytes, by a builder with metadata and a limit: whether it had memory. One
-// that had none must have handed them back, with the maker uncalled, and must have freed what it took.
-fn build_in_blocks<R: Wait + Abort + Drop + Copy>(
-    rt: &R,
-    alloc: Global,
-    blocks: u16,
-) -> Result<bool, Fail> {
-    let counters = Arc::new(alloc, Counters::new())?;
-    let heap = LocalHeap::new(alloc, 16 * usize::from(blocks))?;
-    let tray = Tray::new(*rt);
-    let calls = Counter::new();
-    let shared = Arc::try_clone(&counters)?;
-    let maker = |number: &u64| {
-        calls.add_one();
-        TrayFuture {
-            inner: RowFuture::new(Behaviour::Ready(*number), shared),
-        }
-    };
-    let scheduler = TrayScheduler {
-        inner: Scheduler::new(Arc::try_clone(&counters)?),
-    };
-    let builder = Builder::new().metadata(7u64).reference_limit(5);
-    let refused = match builder.spawn(*rt, &heap, maker, scheduler, &tray) {
-        Ok((runnable, task)) => {
-            drop((runnable, task));
-            assert_eq!(rt; calls.get(), 1);
-            return Ok(true);
-        }
-        Err(refused) => refused,
-    };
-    let left = (heap.used(), calls.get(), counters.counts());
-    let builder = refused.builder;
-    let shown = format!(in alloc; "{builder:?}")?;
-    assert_eq!(rt; left, (0, 0, Counts::new(0, 0, 0, 0)));
-    assert_eq!(rt; shown.as_str(), "Builder { metadata: 7, limit: 5 }");
-    Ok(false)
-}
-
-// Each heap has one block more than the one before, so each allocation of the spawn is the one that is refused in turn.
-#[test]
-fn a_refused_builder_hands_everything_back(rt: HostRuntime) -> Result<(), Fail> {
-    for blocks in 1..1000u16 {
-        if build_in_blocks(&rt, rt.alloc(), blocks)? {
-            assert!(rt; 1 < blocks, "the smallest heap has no room");
-            return Ok(());
-        }
-    }
-    panic!(rt; "no heap has room")
 }
 
 // Room for a task, and more.
@@ -322,53 +271,4 @@ fn wakers_ask_for_no_memory(rt: HostRuntime) -> Result<(), Fail> {
     assert_eq!(rt; counters.counts(), Counts::new(3, 3, 1, 1));
     assert_eq!(rt; heap.used(), 0);
     Ok(())
-}
-
-// What a spawn over a heap of that kind answers.
-type Spawned<'heap, R> = Result<
-    (
-        Runnable<R, RowFuture, Scheduler, (), Flag, (), &'heap LocalHeap>,
-        Task<R, RowFuture, Scheduler, (), Flag, (), &'heap LocalHeap>,
-    ),
-    SpawnError<(), RowFuture, Scheduler>,
->;
-
-// A spawn over a heap of that many blocks of 16 bytes: whether it had memory. One that had none must have handed back
-// the future and the schedule value, neither of them dropped, and must have freed what it took.
-fn spawn_in_blocks<R: Wait + Abort + Drop + Copy>(
-    rt: &R,
-    alloc: Global,
-    blocks: u16,
-) -> Result<bool, Fail> {
-    let counters = Arc::new(alloc, Counters::new())?;
-    let heap = LocalHeap::new(alloc, 16 * usize::from(blocks))?;
-    let future = RowFuture::new(Behaviour::Ready(4), Arc::try_clone(&counters)?);
-    let scheduler = Scheduler::new(Arc::try_clone(&counters)?);
-    let spawned: Spawned<'_, R> = spawn(*rt, &heap, future, scheduler, ());
-    let spawn_counts = counters.counts();
-    let Err(refused) = spawned else {
-        assert_eq!(rt; spawn_counts, Counts::new(0, 0, 0, 0));
-        return Ok(true);
-    };
-    let used = heap.used();
-    let behaviour = refused.maker.behaviour;
-    drop(refused);
-    assert_eq!(rt; (used, behaviour), (0, Behaviour::Ready(4)));
-    assert_eq!(rt;
-        [spawn_counts, counters.counts()],
-        [Counts::new(0, 0, 0, 0), Counts::new(0, 0, 1, 1)]
-    );
-    Ok(false)
-}
-
-// Each heap has one block more than the one before, so each allocation of the spawn is the one that is refused in turn.
-#[test]
-fn a_refused_spawn_hands_everything_back(rt: HostRuntime) -> Result<(), Fail> {
-    for blocks in 1..1000u16 {
-        if spawn_in_blocks(&rt, rt.alloc(), blocks)? {
-            assert!(rt; 1 < blocks, "the smallest heap has no room");
-            return Ok(());
-        }
-    }
-    panic!(rt; "no heap has room")
 }

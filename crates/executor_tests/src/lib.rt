@@ -6,6 +6,8 @@ mod heap_tests;
 #[cfg(test)]
 mod priority_tests;
 #[cfg(test)]
+mod refusal_tests;
+#[cfg(test)]
 mod slot_tests;
 #[cfg(test)]
 mod storm_tests;

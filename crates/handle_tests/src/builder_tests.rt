@@ -33,6 +33,22 @@ fn handles_show_the_flags_the_count_and_the_metadata(rt: HostRuntime) -> Result<
     Ok(())
 }
 
+// A completed task whose output nobody has claimed: no flag but COMPLETED and TASK, and no reference.
+#[test]
+fn a_task_shows_an_unclaimed_output(rt: HostRuntime) -> Result<(), Fail> {
+    let alloc = rt.alloc();
+    let fixture = Fixture::new(rt, alloc)?;
+    let (runnable, task) = fixture.spawn(Behaviour::Ready(1))?;
+    runnable.run();
+    let shown = format!(in alloc; "{task:?}");
+    drop(task);
+    assert_eq!(rt;
+        shown?.as_str(),
+        "Task { header: Header { scheduled: false, running: false, completed: true, closed: false, awaiter: false, task: true, ref_count: 0, metadata: () } }"
+    );
+    Ok(())
+}
+
 #[test]
 fn builders_show_the_metadata_and_the_limit(rt: HostRuntime) -> Result<(), Fail> {
     let alloc = rt.alloc();
@@ -85,19 +101,5 @@ fn the_maker_is_called_once_with_the_metadata(rt: HostRuntime) -> Result<(), Fai
     assert_eq!(rt; (calls_of_spawn, calls.get()), (1, 1));
     assert_eq!(rt; (metadata, rescheduled), ((7, 7), false));
     assert!(rt; matches!(polled, TaskPoll::Ready(Ok(Output { number: 7, .. }))));
-    Ok(())
-}
-
-// At a limit of 0 or 1 the Runnable of the spawn is all that may be: each waker is refused.
-#[test]
-fn a_limit_refuses_wakers(rt: HostRuntime) -> Result<(), Fail> {
-    let fixture = Fixture::new(rt, rt.alloc())?;
-    for references in 0..2u64 {
-        let (runnable, task) = fixture.spawn_limited(Behaviour::Pending, references)?;
-        let is_refused = runnable.waker().is_none();
-        let shown = fixture.shows(&runnable, 0x111);
-        drop((runnable, task));
-        assert_eq!(rt; (is_refused, shown), (true, Ok(true)));
-    }
     Ok(())
 }

@@ -21,9 +21,10 @@ fn a_cell_ends_with_its_last_word(rt: HostRuntime) -> Result<(), Fail> {
     let future = RowFuture::new(Behaviour::Pending, Arc::try_clone(&counters)?);
     let scheduler = Scheduler::new(Arc::try_clone(&counters)?);
     let made = TestCell::make(rt, rt.alloc(), scheduler, (), 4);
-    let Ok((cell, other, seat)) = made else {
+    let Ok((share, other, seat)) = made else {
         panic!(rt; "no memory");
     };
+    let cell = share.cell();
     let (mut runnable, mut task): (TestParty, TestParty) = cell.fill(seat, future);
     assert_eq!(rt; cell.word().bits(), 0x111);
     cell.discard_runnable(&mut runnable);
@@ -31,13 +32,16 @@ fn a_cell_ends_with_its_last_word(rt: HostRuntime) -> Result<(), Fail> {
     assert_eq!(rt; cell.word().bits(), 0x18);
     // What a detach may hand over is named, since a check reads no type that stands in a bound alone.
     let handed_over: Option<BareRunnable<HostRuntime>> = None;
-    Cell::detach(&cell, &mut task, ());
+    Cell::detach(cell, &mut task, ());
     drop(handed_over);
-    drop(other);
-    let Some(last) = Arc::into_inner(cell) else {
-        task.let_go();
-        panic!(rt; "the cell is shared");
-    };
-    assert_eq!(rt; last.into_word(task), 0x08);
+    other.give_up();
+    match share.try_unwrap() {
+        Ok(last) => assert_eq!(rt; last.into_word(task), 0x08),
+        Err(share) => {
+            task.let_go();
+            share.leave();
+            panic!(rt; "the cell is shared");
+        }
+    }
     Ok(())
 }

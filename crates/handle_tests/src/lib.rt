@@ -2,10 +2,22 @@
 #![tactic(auto)]
 
 #[cfg(test)]
+mod awaiter_tests;
+#[cfg(test)]
 mod builder_tests;
 #[cfg(test)]
 mod cell_tests;
 #[cfg(test)]
+mod limit_tests;
+#[cfg(test)]
+mod poll_tests;
+#[cfg(test)]
+mod registration_tests;
+#[cfg(test)]
 mod task_tests;
 #[cfg(test)]
+mod wake_tests;
+#[cfg(test)]
 mod waker_tests;
+#[cfg(test)]
+mod watched;

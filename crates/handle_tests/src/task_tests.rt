@@ -126,6 +126,42 @@ fn a_fallible_task_answers_each_call(rt: HostRuntime) -> Result<(), Fail> {
     Ok(())
 }
 
+// A detach makes no end of the task: the run that follows polls the future, and drops the output that nobody can claim.
+#[test]
+fn a_detached_fallible_task_runs(rt: HostRuntime) -> Result<(), Fail> {
+    let fixture = Fixture::new(rt, rt.alloc())?;
+    let (runnable, task) = fixture.spawn(Behaviour::Ready(4))?;
+    task.fallible().detach();
+    let shown = fixture.shows(&runnable, 0x101);
+    let kept = fixture.counts();
+    let rescheduled = runnable.run();
+    assert_eq!(rt; (shown, rescheduled), (Ok(true), false));
+    assert_eq!(rt; fixture.output_drops(), 1);
+    assert_eq!(rt;
+        [kept, fixture.counts()],
+        [Counts::new(0, 0, 0, 0), Counts::new(1, 0, 1, 1)]
+    );
+    Ok(())
+}
+
+// The run of a task that was cancelled polls nothing.
+#[test]
+fn a_discarded_task_cancels(rt: HostRuntime) -> Result<(), Fail> {
+    let fixture = Fixture::new(rt, rt.alloc())?;
+    let (runnable, task) = fixture.spawn(Behaviour::Ready(4))?;
+    task.discard();
+    let shown = fixture.shows(&runnable, 0x109);
+    let kept = fixture.counts();
+    let rescheduled = runnable.run();
+    assert_eq!(rt; (shown, rescheduled), (Ok(true), false));
+    assert_eq!(rt; fixture.output_drops(), 0);
+    assert_eq!(rt;
+        [kept, fixture.counts()],
+        [Counts::new(0, 0, 0, 0), Counts::new(0, 0, 1, 1)]
+    );
+    Ok(())
+}
+
 #[test]
 fn a_discarded_fallible_task_cancels(rt: HostRuntime) -> Result<(), Fail> {
     let fixture = Fixture::new(rt, rt.alloc())?;

@@ -2,9 +2,13 @@
 #![tactic(auto)]
 
 #[cfg(test)]
+mod crowd;
+#[cfg(test)]
 mod lives;
 #[cfg(test)]
 mod player;
+#[cfg(test)]
+mod refusals;
 #[cfg(test)]
 mod replay;
 #[cfg(test)]

@@ -92,7 +92,7 @@ fn a_machine_shows_how_it_stands(rt: HostRuntime) -> Result<(), Fail> {
     let slots = "slots: Slots { future: true, output: false, awaiter: None }";
     let parties = "parties: [At(Runnable), At(Task(0))]";
     let wanted = format!(in rt.alloc();
-        "Machine {{ limit: {LIMIT}, word: Word(273), {slots}, {parties} }}"
+        "Machine {{ limit: {LIMIT}, word: Word(273), {slots}, {parties}, polling: 0 }}"
     )?;
     assert_eq!(rt; text.as_str(), wanted.as_str());
     let steps = steps_of(rt.alloc(), &[(0, &[StartRun, StartPoll])])?;

@@ -1,7 +1,7 @@
 //! Runs the rows that the arguments ask for, and prints what each answers.
 ghost use Rattle.std.specs.Prelude.{◌≡◌, ◌≢◌, ◌==◌, ◌<◌, ◌≤◌, ◌↔◌, if◌then◌else◌, []};
 ghost use Rattle.std.specs.Prelude.{IsTrue, IsSome, IfSome, IfOk, IsOkAnd};
-ghost use Rattle.row_table.specs.Arguments.{AskForRows};
+ghost use Rattle.row_table.specs.Arguments.{AskForRows, AskForHelp};
 
 use crate::table::Row;
 use fixtures::fixture::Outcome;
@@ -10,9 +10,18 @@ use std::io;
 use std::sync::Wait;
 use std::thread::Threads;
 
+const USAGE: &str = "usage: taskrows [threads]";
+
+const HELP: &str = "
+Runs the worked rows, and prints a line for each. Without arguments these are the rows of one thread.
+
+    threads    the rows that need threads
+    --help     this text
+";
+
 /// Runs the rows that the arguments ask for, and prints a line for each and one at the end.
 ///
-/// The status is 0 where all rows agree, and 1 where one does not or a writer fails. Arguments that ask for no rows
+/// The status is 0 where all rows agree, and 1 where one does not or a writer fails. After the help it is 0 too. Arguments that ask for neither
 /// are answered by a line on `err` and status 2.
 pub fn rows<R, W: io::Write, E: io::Write>(
     rt: R,
@@ -25,7 +34,8 @@ where
     R: Wait + Threads + Drop + Copy + Send + Sync,
     ensures status { result ≤ 2 }
     ensures asked { AskForRows args.now → result ≤ 1 }
-    ensures refused { ¬ AskForRows args.now → 1 ≤ result }
+    ensures help { AskForHelp args.now → result ≤ 1 }
+    ensures refused { ¬ AskForRows args.now → ¬ AskForHelp args.now → 1 ≤ result }
 {
     answer(rt, alloc, args, out, err).unwrap_or(1)
 }
@@ -41,14 +51,36 @@ fn answer<R, W: io::Write, E: io::Write>(
 where
     R: Wait + Threads + Drop + Copy + Send + Sync,
     ensures asked { AskForRows args.now → IfOk result (λ status. status ≤ 1) }
-    ensures refused { ¬ AskForRows args.now → IfOk result (λ status. status ≡ 2) }
+    ensures help { AskForHelp args.now → IfOk result (λ status. status ≡ 0) }
+    ensures refused { ¬ AskForRows args.now → ¬ AskForHelp args.now → IfOk result (λ status. status ≡ 2) }
 {
+    if asks_for_help(args) {
+        return print_help(out);
+    }
     let Some(asked) = asked_rows(args) else {
-        writeln!(err, "usage: taskrows [threads]")?;
+        writeln!(err, "{USAGE}")?;
         err.flush()?;
         return Ok(2);
     };
     print_rows(rt, alloc, asked, out)
+}
+
+// Whether the arguments ask for what may be written.
+fn asks_for_help(args: &[String]) -> bool
+    ensures { IsTrue result ↔ AskForHelp args.now }
+{
+    match args {
+        [word] => word.as_str() == "--help",
+        _ => false,
+    }
+}
+
+fn print_help<W: io::Write>(out: &mut W) -> io::Result<u8>
+    ensures { IfOk result (λ status. status ≡ 0) }
+{
+    write!(out, "{USAGE}\n{HELP}")?;
+    out.flush()?;
+    Ok(0)
 }
 
 // The rows that the arguments ask for.

@@ -15,3 +15,4 @@ pub mod PollRegisters
 pub mod PollAnswers
 pub mod WakerMoves
 pub mod WakerCalls
+pub mod PollSeen

@@ -15,7 +15,7 @@ use Rattle.task_steps.specs.Steps.{head_of, future_first, output_first, acted, C
 use Rattle.task_cell.specs.Calls.{deeds, position, holds, limit_of, StandsWith, GoesWith}
 use Rattle.task_steps.specs.Deeds.{after}
 
-after-append : (a b l : List Deed) → after (a ++ b) l ≡ after b (after a l)
+pub after-append : (a b l : List Deed) → after (a ++ b) l ≡ after b (after a l)
 after-append [] b l = refl
 after-append (d ∷ a) b l = after-append a b (d ∷ l)
 

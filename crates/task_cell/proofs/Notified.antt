@@ -1,5 +1,5 @@
 -- What the steps of a notifier come to.
-use Rattle.std.proofs.Common.{◌≡◌, ℕ, Bool, true, false, ◌||◌, List, [], ◌∷◌, Option, Some, None, refl, sym, ap, ◌∙◌, subst}
+use Rattle.std.proofs.Common.{◌≡◌, ℕ, Bool, true, false, not, ◌&&◌, ◌||◌, List, [], ◌∷◌, Option, Some, None, refl, sym, ap, ◌∙◌, subst}
 use Rattle.std.specs.Prelude.{if◌then◌else◌}
 use Rattle.task_core.specs.Word.{State}
 use Rattle.task_laws.specs.declared.positions.Way.{Way}
@@ -13,29 +13,29 @@ use Rattle.task_cell.specs.declared.cell.Party.{Party}
 use Rattle.task_steps.specs.Rule.{Waits}
 use Rattle.task_steps.specs.Steps.{Makes}
 use Rattle.task_steps.specs.Scripts.{taking_awaiter, releasing_awaiter}
-use Rattle.task_cell.specs.Calls.{position, holds, StandsWith, GoesWith, Notifies, misses, finds_none, takes_awaiter}
+use Rattle.task_steps.specs.Held.{awaiter_in}
+use Rattle.task_cell.specs.Calls.{Fits, position, holds, StandsWith, GoesWith, Notifies, misses, finds_none, takes_awaiter}
 use Rattle.task_steps.specs.Deeds.{row, act}
 use Rattle.task_steps.specs.Standing.{way_of}
 use Rattle.task_cell.proofs.Moved as moved
 use Rattle.task_cell.proofs.Carried.{keeps_places, took_awaiter, gave_awaiter}
 use Rattle.task_steps.proofs.AwaiterOwed.{on_work, on_free, same_way}
 
--- what is in the place of the awaiter
-abbrev pub awaiter_of : {F T A : Type 0} → Slot F T A → Option A
-awaiter_of Empty = None
-awaiter_of (Future f) = None
-awaiter_of (Output x) = None
-awaiter_of (Awaiter a) = Some a
-
-pub none_of : {F T A : Type 0} (y : Slot F T A) → ((a : A) → y ≡ Awaiter a → ⊥) → awaiter_of y ≡ None
-none_of Empty h = refl
-none_of (Future f) h = refl
-none_of (Output x) h = refl
-none_of (Awaiter a) h = absurd (h a refl)
-
 neither : (a b : Bool) → a ≡ false → b ≡ false → (a || b) ≡ false
 neither true b e f = absurd (cc)
 neither false b e f = f
+
+-- the awaiter slot is free where nobody is at it
+free : (a b : Bool) → (a || b) ≡ false → (not a && not b) ≡ true
+free true b e = absurd (cc)
+free false true e = absurd (cc)
+free false false e = refl
+
+pub awaiter_there : {F T A : Type 0} (y : Slot F T A) (a : A) → awaiter_in y ≡ Some a → y ≡ Awaiter a
+awaiter_there Empty a e = absurd (cc)
+awaiter_there (Future f) a e = absurd (cc)
+awaiter_there (Output x) a e = absurd (cc)
+awaiter_there (Awaiter b) a e = cc
 
 module _ {F T A : Type 0} where
   -- the position and the places of a notifier, as contracts say them
@@ -47,7 +47,7 @@ module _ {F T A : Type 0} where
       → Makes (taking_awaiter w) w p.seat.me q.seat.me → (w.notifying || w.registering) ≡ true → Notifies p q None
   missed way held p q w s cell made is =
       let m = moved.moved (MissNotify ∷ []) w (Notifier way) held p q s (subst (λ b. Makes (if b then MissNotify ∷ [] else BeginNotify ∷ TakeAwaiter ∷ []) w p.seat.me q.seat.me) is made) in
-      misses w (as_said p q (row MissNotify w ∷ []) None way held s (moved.goes p q (row MissNotify w ∷ []) (goes_on None way) held cell m.viewed
+      misses w is (as_said p q (row MissNotify w ∷ []) None way held s (moved.goes p q (row MissNotify w ∷ []) (goes_on None way) held cell m.viewed
       (keeps_places (Notifier way) (goes_on None way) held q.seat.me.1 (on_work None way) (on_free None way) m.carried)))
 
   -- the awaiter slot was taken, with this value
@@ -55,6 +55,7 @@ module _ {F T A : Type 0} where
     pub hand : Option ℕ
     pub value : Slot F T A
     pub waits : Waits hand value
+    pub fits : Fits BeginNotify w
     pub goes : GoesWith (row BeginNotify w ∷ act TakeAwaiter ∷ []) (Releaser hand way) ((2, value) ∷ held) p q
 
   pub taken : (way : Way) (held : List (ℕ × Slot F T A)) (p q : Party F T A) (w : State) → StandsWith (Notifier way) held p → q.seat.table_id ≡ p.seat.table_id
@@ -63,7 +64,7 @@ module _ {F T A : Type 0} where
       let m = moved.moved (BeginNotify ∷ TakeAwaiter ∷ []) w (Notifier way) held p q s (subst (λ b. Makes (if b then MissNotify ∷ [] else BeginNotify ∷ TakeAwaiter ∷ []) w p.seat.me q.seat.me) is made) in
       let hand : Option ℕ = m.slots.awaiter in
       let y = took_awaiter (Notifier way) (Releaser hand way) held q.seat.me.1 (same_way hand way) refl refl m.carried in
-      record { hand = hand; value = y.0; waits = y.1; goes = moved.goes p q (row BeginNotify w ∷ act TakeAwaiter ∷ []) (Releaser hand way) ((2, y.0) ∷ held) cell m.viewed y.2 }
+      record { hand = hand; value = y.0; waits = y.1; fits = free w.notifying w.registering is; goes = moved.goes p q (row BeginNotify w ∷ act TakeAwaiter ∷ []) (Releaser hand way) ((2, y.0) ∷ held) cell m.viewed y.2 }
 
   -- .. as nobody else was found at it
   pub taken_free : (p q : Party F T A) (w v : State) (n r : Bool) (s : (way : Way) × (held : List (ℕ × Slot F T A)) × StandsWith (Notifier way) held p) → q.seat.table_id ≡ p.seat.table_id → Makes (taking_awaiter w) w p.seat.me q.seat.me
@@ -76,20 +77,20 @@ module _ {F T A : Type 0} where
       let m = moved.moved (EndNotify ∷ []) w (Releaser hand way) ((2, y) ∷ held) p q s made in
       moved.goes p q (row EndNotify w ∷ []) (goes_on hand way) held cell m.viewed (gave_awaiter (Releaser hand way) (goes_on hand way) ((2, y) ∷ held) q.seat.me.1 (on_work hand way ∙ sym (same_way hand way)) refl (on_free hand way) m.carried)
 
-  found_there : (w v : State) (hand : Option ℕ) (y : Slot F T A) (p q : Party F T A) → Waits hand y → GoesWith (row BeginNotify w ∷ act TakeAwaiter ∷ row EndNotify v ∷ []) (goes_on hand (way_of (position p))) (holds p) p q → Notifies p q (awaiter_of y)
-  found_there w v None Empty p q h g = finds_none w v g
-  found_there w v None (Future f) p q h g = absurd h
-  found_there w v None (Output x) p q h g = absurd h
-  found_there w v None (Awaiter a) p q h g = absurd h
-  found_there w v (Some i) Empty p q h g = absurd h
-  found_there w v (Some i) (Future f) p q h g = absurd h
-  found_there w v (Some i) (Output x) p q h g = absurd h
-  found_there w v (Some i) (Awaiter a) p q h g = takes_awaiter w v i a g
+  found_there : (w v : State) (hand : Option ℕ) (y : Slot F T A) (p q : Party F T A) → Fits BeginNotify w → Waits hand y → GoesWith (row BeginNotify w ∷ act TakeAwaiter ∷ row EndNotify v ∷ []) (goes_on hand (way_of (position p))) (holds p) p q → Notifies p q (awaiter_in y)
+  found_there w v None Empty p q b h g = finds_none w v b g
+  found_there w v None (Future f) p q b h g = absurd h
+  found_there w v None (Output x) p q b h g = absurd h
+  found_there w v None (Awaiter a) p q b h g = absurd h
+  found_there w v (Some i) Empty p q b h g = absurd h
+  found_there w v (Some i) (Future f) p q b h g = absurd h
+  found_there w v (Some i) (Output x) p q b h g = absurd h
+  found_there w v (Some i) (Awaiter a) p q b h g = takes_awaiter w v i a b g
 
-  pub notified : (way : Way) (held : List (ℕ × Slot F T A)) (w v : State) (hand : Option ℕ) (y : Slot F T A) (p q r : Party F T A) (found : Option A) → StandsWith (Notifier way) held p → Waits hand y
-      → GoesWith (row BeginNotify w ∷ act TakeAwaiter ∷ []) (Releaser hand way) ((2, Empty) ∷ held) p q → r.seat.table_id ≡ q.seat.table_id → Makes (releasing_awaiter v) v q.seat.me r.seat.me → found ≡ awaiter_of y → Notifies p r found
-  notified way held w v hand y p q r found s waits g cell made is =
+  pub notified : (way : Way) (held : List (ℕ × Slot F T A)) (w v : State) (hand : Option ℕ) (y : Slot F T A) (p q r : Party F T A) (found : Option A) → StandsWith (Notifier way) held p → Fits BeginNotify w → Waits hand y
+      → GoesWith (row BeginNotify w ∷ act TakeAwaiter ∷ []) (Releaser hand way) ((2, Empty) ∷ held) p q → r.seat.table_id ≡ q.seat.table_id → Makes (releasing_awaiter v) v q.seat.me r.seat.me → found ≡ awaiter_in y → Notifies p r found
+  notified way held w v hand y p q r found s fits waits g cell made is =
       let h = released hand way Empty held q r v (moved.stands p q (row BeginNotify w ∷ act TakeAwaiter ∷ []) (Releaser hand way) ((2, Empty) ∷ held) g) cell made in
       subst (λ (x : Option A). Notifies p r x) (sym is)
-      (found_there w v hand y p r waits (as_said p r (row BeginNotify w ∷ act TakeAwaiter ∷ row EndNotify v ∷ []) hand way held s
+      (found_there w v hand y p r fits waits (as_said p r (row BeginNotify w ∷ act TakeAwaiter ∷ row EndNotify v ∷ []) hand way held s
       (moved.goes_on p q r (row BeginNotify w ∷ act TakeAwaiter ∷ []) (row EndNotify v ∷ []) (Releaser hand way) (goes_on hand way) ((2, Empty) ∷ held) held g h)))

@@ -20,7 +20,7 @@ use Rattle.task_cell.specs.PollPaths.{TakePath, ClaimPath, RegisterPath, AnswerP
 use Rattle.task_cell.proofs.Moved.{position_is}
 use Rattle.task_cell.proofs.PollWays.{ends, then_goes}
 
-never : {P : Type 0} → false ≡ true → P
+pub never : {P : Type 0} → false ≡ true → P
 never e = absurd (cc)
 
 -- a look that has not to wait finds the task ended or its output there

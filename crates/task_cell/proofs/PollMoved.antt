@@ -21,6 +21,7 @@ use Rattle.task_steps.specs.Deeds.{after, row, act}
 use Rattle.task_steps.specs.PollScripts.{finding_notifier, beginning_register, ending_register}
 use Rattle.task_cell.specs.PollPaths.{BeginsRegister, begins, finds_one, EndsRegister, ends}
 use Rattle.task_steps.specs.Standing.{poll_number}
+use Rattle.task_steps.proofs.Seen.{not_true}
 use Rattle.task_cell.proofs.Moved.{position_is}
 
 -- whether a function of the word allowed its row
@@ -31,10 +32,6 @@ allowed_by v false next e = absurd (cc)
 refused_by : (v : State) (b : Bool) → (if b then Some v else None) ≡ None → b ≡ false
 refused_by v true e = absurd (cc)
 refused_by v false e = refl
-
-not_true : (b : Bool) → not b ≡ true → b ≡ false
-not_true true e = absurd (cc)
-not_true false e = refl
 
 not_false : (b : Bool) → not b ≡ false → b ≡ true
 not_false true e = refl

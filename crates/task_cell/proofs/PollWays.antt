@@ -11,7 +11,7 @@ use Rattle.task_laws.specs.Table.{goes_on as on_from, goes_off, may_drop, notifi
 use Rattle.task_steps.specs.declared.table.Slot.{Slot}
 use Rattle.task_steps.specs.declared.table.Deed.{Deed}
 use Rattle.task_cell.specs.declared.cell.Party.{Party}
-use Rattle.task_cell.specs.Calls.{position, holds, StandsWith, Stands, GoesWith, Goes, Notifies, misses, finds_none, takes_awaiter}
+use Rattle.task_cell.specs.Calls.{Fits, position, holds, StandsWith, Stands, GoesWith, Goes, Notifies, misses, finds_none, takes_awaiter}
 use Rattle.task_steps.specs.Deeds.{row, act}
 use Rattle.task_steps.specs.Standing.{as_task, way_of, poll_number}
 use Rattle.task_steps.specs.PollScripts.{has_output}
@@ -48,35 +48,36 @@ took w v = row BeginNotify w ∷ act TakeAwaiter ∷ row EndNotify v ∷ []
 module _ {F T A : Type 0} where
   abbrev Took : Party F T A → Party F T A → Option A → Type 0
   Took p q None = Unit {0}
-  Took p q (Some a) = (w : State) × (v : State) × (i : ℕ) × GoesWith (took w v) (on_from (Some i) (way_of (position p))) (holds p) p q
+  Took p q (Some a) = (w : State) × (v : State) × (i : ℕ) × Fits BeginNotify w × GoesWith (took w v) (on_from (Some i) (way_of (position p))) (holds p) p q
 
   took_one : (p q : Party F T A) (x : Option A) → Notifies p q x → Took p q x
-  took_one p q None (misses w g) = tt
-  took_one p q None (finds_none w v g) = tt
-  took_one p q (Some a) (takes_awaiter w v i b g) = (w, v, i, g)
+  took_one p q None (misses w f g) = tt
+  took_one p q None (finds_none w v f g) = tt
+  took_one p q (Some a) (takes_awaiter w v i b f g) = (w, v, i, f, g)
 
   -- .. and where it stands with the awaiter in hand
   abbrev pub InHand : Way → List (ℕ × Slot F T A) → Party F T A → Party F T A → Type 0
-  InHand way held p q = (w : State) × (v : State) × (i : ℕ) × GoesWith (took w v) (AwaiterInHand i way) held p q
+  InHand way held p q = (w : State) × (v : State) × (i : ℕ) × Fits BeginNotify w × GoesWith (took w v) (AwaiterInHand i way) held p q
 
   pub in_hand : (way : Way) (held : List (ℕ × Slot F T A)) (p q : Party F T A) (a : A) (x : Option A) → StandsWith (Notifier way) held p → may_drop way ≡ true → Notifies p q x → x ≡ Some a → InHand way held p q
   in_hand way held p q a x s e n is = let g = took_one p q (Some a) (subst (λ y. Notifies p q y) is n) in (
     g.0,
     g.1,
     g.2,
+    g.3,
     subst (λ (z : Position × List (ℕ × Slot F T A)). GoesWith (took g.0 g.1) z.0 z.1 p q)
-        (λ j. ((ap (λ (at : Position). on_from (Some g.2) (way_of at)) (position_is p (Notifier way) held s) ∙ some_goes_on way g.2 e) j, held_is p (Notifier way) held s j)) g.3,
+        (λ j. ((ap (λ (at : Position). on_from (Some g.2) (way_of at)) (position_is p (Notifier way) held s) ∙ some_goes_on way g.2 e) j, held_is p (Notifier way) held s j)) g.4,
   )
 
   pub hand_stands : (way : Way) (held : List (ℕ × Slot F T A)) (p q : Party F T A) → (h : InHand way held p q) → StandsWith (AwaiterInHand h.2 way) held q
-  hand_stands way held p q h = stands p q (took h.0 h.1) (AwaiterInHand h.2 way) held h.3
+  hand_stands way held p q h = stands p q (took h.0 h.1) (AwaiterInHand h.2 way) held h.4
 
   -- the awaiter is dealt with, and the poll goes on
   dealt : (way : Way) (held : List (ℕ × Slot F T A)) (b : List Deed) (p q r : Party F T A) → StandsWith (Notifier way) held p → (h : InHand way held p q) → GoesWith b (goes_off (way_of (position q))) (holds q) q r
       → GoesWith (took h.0 h.1 ++ b) (goes_off (way_of (position p))) (holds p) p r
   dealt way held b p q r s h g = let t = hand_stands way held p q h in
       let at = position_is q (AwaiterInHand h.2 way) held t in let has = held_is q (AwaiterInHand h.2 way) held t in
-      let whole = goes_on p q r (took h.0 h.1) b (AwaiterInHand h.2 way) (goes_off way) held held h.3
+      let whole = goes_on p q r (took h.0 h.1) b (AwaiterInHand h.2 way) (goes_off way) held held h.4
       (subst (λ (z : Position × List (ℕ × Slot F T A)). GoesWith b (goes_off (way_of z.0)) z.1 q r) (λ j. (at j, has j)) g) in
       subst (λ (z : Position × List (ℕ × Slot F T A)). GoesWith (took h.0 h.1 ++ b) (goes_off (way_of z.0)) z.1 p r) (λ j. (sym (position_is p (Notifier way) held s) j, sym (held_is p (Notifier way) held s) j)) whole
 
@@ -87,12 +88,12 @@ module _ {F T A : Type 0} where
     pub dropped : (way : Way) (held : List (ℕ × Slot F T A)) (p q r : Party F T A) (a : A) (x : Option A) → StandsWith (Notifier way) held p → may_drop way ≡ true → Notifies p q x → x ≡ Some a
         → compared a awaiter true → GoesWith (act DropAwaiter ∷ []) (goes_off (way_of (position q))) (holds q) q r → Takes p r
     dropped way held p q r a x s e n is same g = let h = in_hand way held p q a x s e n is in
-        (took h.0 h.1 ++ (act DropAwaiter ∷ []), paths.drops h.0 h.1 a same, dealt way held (act DropAwaiter ∷ []) p q r s h g)
+        (took h.0 h.1 ++ (act DropAwaiter ∷ []), paths.drops h.0 h.1 a h.3 same, dealt way held (act DropAwaiter ∷ []) p q r s h g)
 
     pub woke : (way : Way) (held : List (ℕ × Slot F T A)) (p q r : Party F T A) (a : A) (x : Option A) → StandsWith (Notifier way) held p → may_drop way ≡ true → Notifies p q x → x ≡ Some a
         → compared a awaiter false → woken a → GoesWith (act WakeAwaiter ∷ []) (goes_off (way_of (position q))) (holds q) q r → Takes p r
     woke way held p q r a x s e n is other made g = let h = in_hand way held p q a x s e n is in
-        (took h.0 h.1 ++ (act WakeAwaiter ∷ []), paths.wakes h.0 h.1 a other made, dealt way held (act WakeAwaiter ∷ []) p q r s h g)
+        (took h.0 h.1 ++ (act WakeAwaiter ∷ []), paths.wakes h.0 h.1 a h.3 other made, dealt way held (act WakeAwaiter ∷ []) p q r s h g)
 
     took_none : (way : Way) (held : List (ℕ × Slot F T A)) (p r : Party F T A) (path : List Deed) → StandsWith (Notifier way) held p → may_drop way ≡ true → TakePath woken compared awaiter path
         → GoesWith path (on_from None (way_of (position p))) (holds p) p r → Takes p r
@@ -104,9 +105,9 @@ module _ {F T A : Type 0} where
     )
 
     nothing_by : (way : Way) (held : List (ℕ × Slot F T A)) (p r : Party F T A) (x : Option A) → StandsWith (Notifier way) held p → may_drop way ≡ true → Notifies p r x → x ≡ None → Takes p r
-    nothing_by way held p r None s e (misses w g) is = took_none way held p r (row MissNotify w ∷ []) s e (paths.misses w) g
-    nothing_by way held p r None s e (finds_none w v g) is = took_none way held p r (took w v) s e (paths.finds_none w v) g
-    nothing_by way held p r (Some a) s e (takes_awaiter w v i b g) is = absurd (cc)
+    nothing_by way held p r None s e (misses w f g) is = took_none way held p r (row MissNotify w ∷ []) s e (paths.misses w f) g
+    nothing_by way held p r None s e (finds_none w v f g) is = took_none way held p r (took w v) s e (paths.finds_none w v f) g
+    nothing_by way held p r (Some a) s e (takes_awaiter w v i b f g) is = absurd (cc)
 
     pub nothing : (way : Way) (held : List (ℕ × Slot F T A)) (p r : Party F T A) (x : Option A) → StandsWith (Notifier way) held p → may_drop way ≡ true → Notifies p r x → x ≡ None → Takes p r
     nothing way held p r x s e n is = nothing_by way held p r x s e n is

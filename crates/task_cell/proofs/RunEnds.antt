@@ -69,13 +69,14 @@ module _ {F T A : Type 0} where
   )
 
   -- a closed task
-  pub closes_rest : (Woken : Type 0) (w : State) (held : List (ℕ × Slot F T A)) (p q r s : Party F T A) → GoesWith [] Cleared held p q → Goes (row EndClosed w ∷ []) (notifies w.awaiter OfRun) q r → Rests Woken w.awaiter r s → ClosesPending Woken p s
+  pub closes_rest : (Woken : Type 0) (w : State) (held : List (ℕ × Slot F T A)) (p q r s : Party F T A) → GoesWith [] Cleared held p q → (w.closed ≡ true) × Goes (row EndClosed w ∷ []) (notifies w.awaiter OfRun) q r → Rests Woken w.awaiter r s → ClosesPending Woken p s
   closes_rest Woken w held p q r s g h x = (
     w,
     x.0,
+    h.0,
     x.1,
     moved.goes_on p q s [] (row EndClosed w ∷ x.0) Cleared (At Ended) held [] g
-        (moved.goes_on q r s (row EndClosed w ∷ []) x.0 (notifies w.awaiter OfRun) (At Ended) [] [] h x.2),
+        (moved.goes_on q r s (row EndClosed w ∷ []) x.0 (notifies w.awaiter OfRun) (At Ended) [] [] h.1 x.2),
   )
 
   pending_clears : (held : List (ℕ × Slot F T A)) (p q : Party F T A) (b : Bool) → AnswersPending held p q b → b ≡ true → GoesWith (act AnswerPending ∷ act DropFuture ∷ []) Cleared held p q
@@ -164,7 +165,7 @@ module _ {F T A : Type 0} where
 
   module _ (Woken : Type 0) (Scheduled : Bool → Type 0) where
     pub found_closed : (held : List (ℕ × Slot F T A)) (p q r : Party F T A) → GoesWith (act AnswerPending ∷ act DropFuture ∷ []) Cleared held p q → ClosesPending Woken q r → EndsUnready Woken Scheduled false p r
-    found_closed held p q r f x = (_, closed_meanwhile x.0 x.1 x.2, moved.goes_on p q r (act AnswerPending ∷ act DropFuture ∷ []) (row EndClosed x.0 ∷ x.1) Cleared (At Ended) held [] f x.3)
+    found_closed held p q r f x = (_, closed_meanwhile x.0 x.1 x.2 x.3, moved.goes_on p q r (act AnswerPending ∷ act DropFuture ∷ []) (row EndClosed x.0 ∷ x.1) Cleared (At Ended) held [] f x.4)
 
     pub found_idle : (p q : Party F T A) → IsIdle p q → EndsUnready Woken Scheduled false p q
     found_idle p q x = (_, idle x.0 x.1 x.2 x.3, x.4)

@@ -14,7 +14,7 @@ use Rattle.task_laws.specs.declared.positions.Position.{Position}
 use Rattle.task_laws.specs.declared.positions.Position.TheVariants.{At, Deliverer, GivingUp, Emptier, FutureInHand, Polling, Pending, Ready, Cleared, OutputInHand}
 use Rattle.task_core.specs.declared.moves.Act.{Act}
 use Rattle.task_core.specs.declared.moves.Act.TheVariants.{GiveUpReference, GiveUpLastReference, EmptySlots, DiscardOpen, DiscardClosed, AnswerReady, AnswerPending, DropFuture, StoreOutput, Complete, CompleteDetached, DropOutput, EndClosed, Reschedule, EndIdle, EndCall, EndOrphaned}
-use Rattle.task_core.specs.Rows.{row as row_of, written}
+use Rattle.task_core.specs.Rows.{row as row_of, found, written}
 use Rattle.task_laws.specs.Table.{after_giving_up, notifies}
 use Rattle.task_steps.specs.declared.table.Slot.{Slot}
 use Rattle.task_steps.specs.declared.table.Deed.{Deed}
@@ -22,10 +22,11 @@ use Rattle.task_cell.specs.declared.cell.Party.{Party}
 use Rattle.task_steps.specs.declared.words.PendingEnd.{PendingEnd}
 use Rattle.task_steps.specs.declared.words.PendingEnd.TheVariants.{Rescheduled, Idle, Orphaned}
 use Rattle.task_steps.specs.Rule.{IsFuture}
-use Rattle.task_steps.specs.Steps.{future_first, output_first, Makes, Carried}
+use Rattle.task_steps.specs.Steps.{future_first, output_first, Makes, Carried, all_fit}
+use Rattle.task_steps.proofs.Seen.{left_true}
 use Rattle.task_steps.specs.Scripts.{dropping_output}
 use Rattle.task_steps.specs.RunScripts.{giving_up, emptying, discarding, answering_ready, answering_pending, completing, ending_pending, missing_end, ending_closed}
-use Rattle.task_cell.specs.Calls.{StandsWith, Stands, GoesWith, Goes}
+use Rattle.task_cell.specs.Calls.{StandsWith, Stands, GoesWith, Goes, limit_of}
 use Rattle.task_steps.specs.Deeds.{row, act}
 use Rattle.task_cell.specs.RunPaths.{leaves_others, leaves_none, DiscardStart, found_open, found_closed}
 use Rattle.task_cell.specs.RunCalls.{GivesUp, not_last, last, Releases, Completes, keeps, finds_closed, finds_detached, AnswersPending, stays_pending, clears, EndsPending, is_closed, is_rescheduled, is_idle, is_orphaned}
@@ -46,6 +47,10 @@ not_not false = refl
 pub none_left : (w : State) (o : Option State) (b : Bool) → o ≡ row_of 0 GiveUpReference w → is_some o ≡ not b → not (nat_lt 1 w.references || w.task) ≡ b
 none_left w o b e f = ap not (sym (some_if (nat_lt 1 w.references || w.task) (written GiveUpReference w)) ∙ (ap is_some (sym e) ∙ f)) ∙ not_not b
 
+-- an act that is made alone finds the word that its row asks for
+alone_fits : (a : Act) (limit : ℕ) (w : State) → all_fit limit w (a ∷ []) ≡ true → found limit a w ≡ true
+alone_fits a limit w e = left_true (found limit a w) true e
+
 module _ {F T A : Type 0} where
   pub discarded : (p q : Party F T A) (w : State) → Stands (At Runnable) p → q.seat.table_id ≡ p.seat.table_id → Makes (discarding w) w p.seat.me q.seat.me
       → (d : Deed) × (y : Slot F T A) × (z : Slot F T A) × DiscardStart d × GoesWith (d ∷ []) (FutureInHand DroppedRunnable) (future_first y z []) p q × IsFuture y
@@ -60,21 +65,21 @@ module _ {F T A : Type 0} where
 
   pub gave_up : (hand : Option ℕ) (answer : Answer) (p q : Party F T A) (w : State) → Stands (GivingUp hand answer) p → q.seat.table_id ≡ p.seat.table_id → Makes (giving_up w) w p.seat.me q.seat.me
       → GivesUp hand answer p q (not (nat_lt 1 w.references || w.task))
-  gave_up hand answer p q w s cell made = by (nat_lt 1 w.references || w.task) made
+  gave_up hand answer p q w s cell made = by (nat_lt 1 w.references || w.task) refl made
     where
-      by : (b : Bool) → Makes (if b then GiveUpReference ∷ [] else GiveUpLastReference ∷ []) w p.seat.me q.seat.me → GivesUp hand answer p q (not b)
-      by true made = let m = moved.moved (GiveUpReference ∷ []) w (GivingUp hand answer) [] p q s made in
-          not_last w (moved.goes p q (row GiveUpReference w ∷ []) (after_giving_up hand answer) [] cell m.viewed (keeps_places (GivingUp hand answer) (after_giving_up hand answer) [] q.seat.me.1 (given_work hand answer) (given_free hand answer) m.carried))
-      by false made = let m = moved.moved (GiveUpLastReference ∷ []) w (GivingUp hand answer) [] p q s made in let y = took_awaiter (GivingUp hand answer) (Emptier hand answer) [] q.seat.me.1 refl refl refl m.carried in
-          last w y.0 (moved.goes p q (row GiveUpLastReference w ∷ []) (Emptier hand answer) ((2, y.0) ∷ []) cell m.viewed y.2)
+      by : (b : Bool) → (nat_lt 1 w.references || w.task) ≡ b → Makes (if b then GiveUpReference ∷ [] else GiveUpLastReference ∷ []) w p.seat.me q.seat.me → GivesUp hand answer p q (not b)
+      by true is made = let m = moved.moved (GiveUpReference ∷ []) w (GivingUp hand answer) [] p q s made in
+          not_last w is (moved.goes p q (row GiveUpReference w ∷ []) (after_giving_up hand answer) [] cell m.viewed (keeps_places (GivingUp hand answer) (after_giving_up hand answer) [] q.seat.me.1 (given_work hand answer) (given_free hand answer) m.carried))
+      by false is made = let m = moved.moved (GiveUpLastReference ∷ []) w (GivingUp hand answer) [] p q s made in let y = took_awaiter (GivingUp hand answer) (Emptier hand answer) [] q.seat.me.1 refl refl refl m.carried in
+          last w y.0 (alone_fits GiveUpLastReference (limit_of p) w made.fits) (moved.goes p q (row GiveUpLastReference w ∷ []) (Emptier hand answer) ((2, y.0) ∷ []) cell m.viewed y.2)
 
   pub gives_cell : (hand : Option ℕ) (answer : Answer) (p q : Party F T A) (b : Bool) → GivesUp hand answer p q b → q.seat.table_id ≡ p.seat.table_id
-  gives_cell hand answer p q true (last w y g) = g.cell
-  gives_cell hand answer p q false (not_last w g) = g.cell
+  gives_cell hand answer p q true (last w y f g) = g.cell
+  gives_cell hand answer p q false (not_last w f g) = g.cell
 
   pub last_stands : (hand : Option ℕ) (answer : Answer) (p q : Party F T A) (b : Bool) → GivesUp hand answer p q b → b ≡ true → (y : Slot F T A) × StandsWith (Emptier hand answer) ((2, y) ∷ []) q
-  last_stands hand answer p q true (last w y g) e = (y, moved.stands p q (row GiveUpLastReference w ∷ []) (Emptier hand answer) ((2, y) ∷ []) g)
-  last_stands hand answer p q false (not_last w g) e = absurd (cc)
+  last_stands hand answer p q true (last w y f g) e = (y, moved.stands p q (row GiveUpLastReference w ∷ []) (Emptier hand answer) ((2, y) ∷ []) g)
+  last_stands hand answer p q false (not_last w f g) e = absurd (cc)
 
   pub emptied : (hand : Option ℕ) (answer : Answer) (y : Slot F T A) (p q : Party F T A) (w : State) → StandsWith (Emptier hand answer) ((2, y) ∷ []) p → q.seat.table_id ≡ p.seat.table_id → Makes (emptying w) w p.seat.me q.seat.me
       → Goes (act EmptySlots ∷ []) (after_giving_up hand answer) p q
@@ -83,16 +88,16 @@ module _ {F T A : Type 0} where
 
   pub releases_last : (hand : Option ℕ) (answer : Answer) (p q r : Party F T A) (b : Bool) → GivesUp hand answer p q b → b ≡ true
       → ((y : Slot F T A) → StandsWith (Emptier hand answer) ((2, y) ∷ []) q → Goes (act EmptySlots ∷ []) (after_giving_up hand answer) q r) → Releases hand answer p r
-  releases_last hand answer p q r true (last w y g) e ends = (
+  releases_last hand answer p q r true (last w y f g) e ends = (
     row GiveUpLastReference w ∷ act EmptySlots ∷ [],
-    leaves_none w,
+    leaves_none w f,
     moved.goes_on p q r (row GiveUpLastReference w ∷ []) (act EmptySlots ∷ []) (Emptier hand answer) (after_giving_up hand answer) ((2, y) ∷ []) [] g (ends y (moved.stands p q (row GiveUpLastReference w ∷ []) (Emptier hand answer) ((2, y) ∷ []) g)),
   )
-  releases_last hand answer p q r false (not_last w g) e ends = absurd (cc)
+  releases_last hand answer p q r false (not_last w f g) e ends = absurd (cc)
 
   pub releases_other : (hand : Option ℕ) (answer : Answer) (p q : Party F T A) (b : Bool) → GivesUp hand answer p q b → b ≡ false → Releases hand answer p q
-  releases_other hand answer p q false (not_last w g) e = (row GiveUpReference w ∷ [], leaves_others w, g)
-  releases_other hand answer p q true (last w y g) e = absurd (cc)
+  releases_other hand answer p q false (not_last w f g) e = (row GiveUpReference w ∷ [], leaves_others w f, g)
+  releases_other hand answer p q true (last w y f g) e = absurd (cc)
 
   pub answered_ready : (held : List (ℕ × Slot F T A)) (p q : Party F T A) (w : State) → StandsWith Polling held p → q.seat.table_id ≡ p.seat.table_id → Makes (answering_ready w) w p.seat.me q.seat.me → GoesWith (act AnswerReady ∷ []) Ready held p q
   answered_ready held p q w s cell made = let m = moved.moved (AnswerReady ∷ []) w Polling held p q s made in moved.goes p q (act AnswerReady ∷ []) Ready held cell m.viewed (keeps_places Polling Ready held q.seat.me.1 refl refl m.carried)
@@ -122,9 +127,9 @@ module _ {F T A : Type 0} where
   pub found_open_still : (held : List (ℕ × Slot F T A)) (p q : Party F T A) (w : State) → StandsWith Pending held p → q.seat.table_id ≡ p.seat.table_id → Makes (missing_end w) w p.seat.me q.seat.me → w.closed ≡ false → GoesWith [] Pending held p q
   found_open_still held p q w s cell made h = unchanged Pending held p q w s cell (subst (λ b. Makes (if b then DropFuture ∷ [] else []) w p.seat.me q.seat.me) h made)
 
-  pub ended_closed : (y z : Slot F T A) (p q : Party F T A) (w : State) → StandsWith Cleared (future_first y z []) p → q.seat.table_id ≡ p.seat.table_id → Makes (ending_closed w) w p.seat.me q.seat.me → Goes (row EndClosed w ∷ []) (notifies w.awaiter OfRun) p q
+  pub ended_closed : (y z : Slot F T A) (p q : Party F T A) (w : State) → StandsWith Cleared (future_first y z []) p → q.seat.table_id ≡ p.seat.table_id → Makes (ending_closed w) w p.seat.me q.seat.me → (w.closed ≡ true) × Goes (row EndClosed w ∷ []) (notifies w.awaiter OfRun) p q
   ended_closed y z p q w s cell made = let m = moved.moved (EndClosed ∷ []) w Cleared (future_first y z []) p q s made in
-      moved.goes p q (row EndClosed w ∷ []) (notifies w.awaiter OfRun) [] cell m.viewed (gave_work Cleared (notifies w.awaiter OfRun) (future_first y z []) q.seat.me.1 refl (due_work w.awaiter) m.carried)
+      (alone_fits EndClosed (limit_of p) w made.fits, moved.goes p q (row EndClosed w ∷ []) (notifies w.awaiter OfRun) [] cell m.viewed (gave_work Cleared (notifies w.awaiter OfRun) (future_first y z []) q.seat.me.1 refl (due_work w.awaiter) m.carried))
 
   pub dropped_output : (due : Bool) (y z : Slot F T A) (p q : Party F T A) (w : State) → StandsWith (OutputInHand due) (output_first y z []) p → q.seat.table_id ≡ p.seat.table_id → Makes (dropping_output w) w p.seat.me q.seat.me → Goes (act DropOutput ∷ []) (notifies due OfRun) p q
   dropped_output due y z p q w s cell made = let m = moved.moved (DropOutput ∷ []) w (OutputInHand due) (output_first y z []) p q s made in

@@ -32,9 +32,9 @@ module _ {F T A : Type 0} where
       (λ i. (ap way_of (moved.position_is p (Notifier way) [] s) i, moved.held_is p (Notifier way) [] s i)) g
 
   pub took_due : (way : Way) (p q : Party F T A) (r : Option A) → Stands (Notifier way) p → Notifies p q r → TakesDue way true p q r
-  took_due way p q r s (misses w g) = takes_none _ (missed w) (at_way way None _ p q s g)
-  took_due way p q r s (finds_none w v g) = takes_none _ (none_there w v) (at_way way None _ p q s g)
-  took_due way p q r s (takes_awaiter w v i a g) = takes_one i a _ (taken w v) (at_way way (Some i) _ p q s g)
+  took_due way p q r s (misses w f g) = takes_none _ (missed w f) (at_way way None _ p q s g)
+  took_due way p q r s (finds_none w v f g) = takes_none _ (none_there w v f) (at_way way None _ p q s g)
+  took_due way p q r s (takes_awaiter w v i a f g) = takes_one i a _ (taken w v f) (at_way way (Some i) _ p q s g)
 
   pub due_cell : (way : Way) (due : Bool) (p q : Party F T A) (r : Option A) → TakesDue way due p q r → q.seat.table_id ≡ p.seat.table_id
   due_cell way due p q r (takes_none path n g) = g.cell

@@ -16,12 +16,12 @@ use Rattle.task_steps.specs.declared.table.Member.{Member}
 use Rattle.task_steps.specs.declared.table.Stage.TheVariants.{Laid, Filling, Spawned}
 use Rattle.task_steps.specs.declared.table.View.{View}
 use Rattle.task_cell.specs.declared.cell.Party.{Party}
-use Rattle.task_steps.specs.Rule.{member, view, fresh, laid_view, filling_view, opening_view, IsFuture, IsEmpty, AtHome, Told, Spawning, Running, Ruled}
+use Rattle.task_steps.specs.Rule.{member, view, fresh, laid_view, filling_view, opening_view, IsFuture, IsEmpty, AtHome, Told, Spawning, Running, Ruled, DidLast}
 use Rattle.task_steps.specs.Steps.{head_of}
 use Rattle.task_cell.specs.Calls.{deeds, limit_of, StandsWith}
 use Rattle.task_cell.specs.LastWord.{IsLastWord}
 use Rattle.task_steps.specs.Spawns.{opening_runnable, opening_task}
-use Rattle.task_steps.proofs.Told.{inside, runs}
+use Rattle.task_steps.proofs.Told.{inside, runs, did_nothing}
 use Rattle.task_steps.proofs.Facts.{law}
 use Rattle.task_steps.proofs.Allowed.{spawned}
 use Rattle.task_steps.proofs.Seats.{just, leaves, retold, staged_more}
@@ -73,7 +73,7 @@ module _ (F T A : Type 0) (limit : ℕ) where
     reaches = refl;
     limited = λ seat index v u f g. ap (λ (w : View). w.limit) (sym (just (opening_view limit) seat v f).1);
     each = λ seat index v u f g. let e = just (opening_view limit) seat v f in let k = stands index u (ap (λ (w : View). get_elem? w.members index) e.1 ∙ g) in
-        (index, record { seated = λ i. (sym e.0 i, index); at = k.0; did = k.1 });
+        (index, record { seated = λ i. (sym e.0 i, index); at = k.0; did = subst (DidLast index []) (sym k.1) (did_nothing index []) });
   }
     where
       stands : (index : ℕ) (u : Member) → get_elem? (opening_view limit).members index ≡ some u → (get_elem? (opening_machine limit).parties index ≡ some u.at) × (u.deeds ≡ [])

@@ -17,10 +17,10 @@ use Rattle.task_steps.specs.declared.words.Cancelled.{Cancelled}
 use Rattle.task_steps.specs.declared.words.Cancelled.TheVariants.{Over, Busy, Idle}
 use Rattle.task_steps.specs.declared.words.Detached.TheVariants.{Unclaimed, Shared, Last, Orphaned}
 use Rattle.task_steps.specs.Steps.{output_first}
-use Rattle.task_cell.specs.Calls.{position, StandsWith, Stands, GoesWith, Goes}
+use Rattle.task_cell.specs.Calls.{Fits, position, StandsWith, Stands, GoesWith, Goes}
 use Rattle.task_steps.specs.Deeds.{row, act}
 use Rattle.task_steps.specs.Standing.{as_task, as_ended, handed_over, rest_of}
-use Rattle.task_cell.specs.TaskPaths.{Fits, Notice, CancelPath, is_over, is_busy, is_idle, DetachPath, drops_output, drops_output_last, is_shared, is_last, is_orphaned, Cancels, Detaches, GivesTaskUp}
+use Rattle.task_cell.specs.TaskPaths.{Notice, CancelPath, is_over, is_busy, is_idle, DetachPath, drops_output, drops_output_last, is_shared, is_last, is_orphaned, Cancels, Detaches, GivesTaskUp}
 use Rattle.task_cell.proofs.Moved.{goes_on, stands, position_is}
 use Rattle.task_cell.proofs.TaskMoves.{Ends, ends}
 

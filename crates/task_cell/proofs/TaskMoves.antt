@@ -33,7 +33,8 @@ use Rattle.task_steps.specs.TaskScripts.{looking_over, cancelling, detaching, gi
 use Rattle.task_cell.specs.TaskPaths.{Notice, not_due, missed, found_none, woke, Cancels, Detaches, GivesTaskUp}
 use Rattle.task_steps.specs.Found.{closed_by, given_up_by}
 use Rattle.task_cell.proofs.Moved.{moved, goes, goes_on, stands, position_is}
-use Rattle.task_steps.proofs.TaskOwed.{both, over, neither, none_left, last_orphan, closed_claimed, idle_cancel}
+use Rattle.task_steps.proofs.Acts.{both}
+use Rattle.task_steps.proofs.TaskOwed.{over, neither, none_left, last_orphan, closed_claimed, idle_cancel}
 
 -- a word that is written only where the test holds
 pub opened : (b : Bool) (v w : State) → Some v ≡ (if b then Some w else None) → (b ≡ true) × (v ≡ w)
@@ -43,9 +44,9 @@ opened false v w e = absurd (cc)
 -- what was taken and woken, of a cancel
 noticed : (Woken : Type 0) (due found : Bool) (n k : List Deed) → NotifyPath due found n → WakePath Woken found k → Notice Woken due (n ++ k)
 noticed Woken due found n k none_due nobody = not_due
-noticed Woken due found n k (miss w) nobody = missed w
-noticed Woken due found n k (none_there w v) nobody = found_none w v
-noticed Woken due found n k (taken w v) (woken fact) = woke w v fact
+noticed Woken due found n k (miss w f) nobody = missed w f
+noticed Woken due found n k (none_there w v f) nobody = found_none w v f
+noticed Woken due found n k (taken w v f) (woken fact) = woke w v f fact
 
 module _ {F T A : Type 0} where
   -- the party is where it was

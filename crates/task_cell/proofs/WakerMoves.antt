@@ -1,5 +1,5 @@
 -- What the steps of a waker come to for the party that made them.
-use Rattle.std.proofs.Common.{◌≡◌, ℕ, ◌≢◌, eqb, Bool, true, false, not, ◌&&◌, List, [], ◌∷◌, ◌++◌, Option, Some, None, refl, sym, ap, ◌∙◌, subst, append-nil}
+use Rattle.std.proofs.Common.{◌≡◌, ℕ, ◌≢◌, eqb, Bool, true, false, not, ◌&&◌, List, [], ◌∷◌, ◌++◌, Option, Some, None, is_some, refl, sym, ap, ◌∙◌, subst, append-nil}
 use Rattle.std.specs.Prelude.{nat_lt, if◌then◌else◌}
 use prog.Atomic.{either}
 use Rattle.atomic_table.specs.Table.{Me, Allows}
@@ -30,15 +30,15 @@ use Rattle.task_steps.specs.Standing.{as_waker, as_deliverer}
 use Rattle.task_steps.specs.WakerScripts.{others_left, looking_for_room, gaining, refusing_gain, finding_over, waking_task, dropping_waker, closing_orphan}
 use Rattle.task_cell.specs.Wakers.{StandsBeside, MayWake, GoesBeside}
 use Rattle.task_steps.specs.Beside.{may_wake_beside, may_gain_beside, without_newest, newest}
-use Rattle.task_cell.specs.WakerPaths.{is_gained, finds_limit, is_over, is_scheduled, is_running, is_idle, GainsBeside, WakesBeside, Gains, gains_none, gains_one, WakesTask, makes_none, makes_one, DropsWaker}
+use Rattle.task_cell.specs.WakerPaths.{GainsShare, is_refused, goes_on_to, is_gained, finds_limit, is_over, is_scheduled, is_running, is_idle, GainsBeside, WakesBeside, Gains, gains_none, gains_one, WakesTask, makes_none, makes_one, DropsWaker}
 use Rattle.task_steps.specs.Found.{dropped_by}
 use Rattle.task_steps.proofs.Allowed.{Owes}
 use Rattle.task_steps.proofs.Known.{steps_knowing, steps_or_misses_knowing}
-use Rattle.task_steps.proofs.Acts.{row_found}
+use Rattle.task_steps.proofs.Acts.{row_found, both}
 use Rattle.task_cell.proofs.Carried.{keeps_places}
 use Rattle.task_cell.proofs.Moved.{moved, goes}
 use Rattle.task_cell.proofs.TaskMoves.{Same}
-use Rattle.task_steps.proofs.TaskOwed.{both, over}
+use Rattle.task_steps.proofs.TaskOwed.{over}
 use Rattle.task_steps.proofs.WakerSeats.{others_are, newest_is}
 use Rattle.task_steps.proofs.WakerOwed.{looks_for_room, gains, third, fourth}
 
@@ -122,6 +122,18 @@ module _ {F T A : Type 0} where
       )
 
   -- .. and of a gain
+  shares_by : (r : Rest) (us : List Member) (limit : ℕ) (p q : Party F T A) (made : Option (Party F T A)) → Gains limit r us p q made → GainsShare limit r us p q (is_some made)
+  shares_by r us limit p q None (gains_none path w g) = goes_on_to false path w g
+  shares_by r us limit p q (Some d) (gains_one path y w g n) = goes_on_to true path w g
+
+  pub shares : (r : Rest) (us : List Member) (limit known : ℕ) (p q : Party F T A) (made made' : Option (Party F T A)) → limit ≡ known → made ≡ made' → Gains limit r us p q made → GainsShare known r us p q (is_some made')
+  shares r us limit known p q made made' e f g = subst (λ (z : ℕ × Option (Party F T A)). GainsShare z.0 r us p q (is_some z.1)) (λ i. (e i, f i)) (shares_by r us limit p q made g)
+
+  -- the party is back where it stood
+  pub share_goes : (r : Rest) (us : List Member) (limit : ℕ) (p q : Party F T A) (b : Bool) → GainsShare limit r us p q b → (path : List Deed) × GoesBeside path r us p q
+  share_goes r us limit p q false (is_refused g) = (_, g)
+  share_goes r us limit p q _ (goes_on_to b path w g) = (path, g)
+
   pub gain_goes : (r : Rest) (us : List Member) (limit : ℕ) (p q : Party F T A) (made : Option (Party F T A)) → Gains limit r us p q made → (path : List Deed) × GoesBeside path r us p q
   gain_goes r us limit p q None (gains_none path w g) = (path, g)
   gain_goes r us limit p q (Some d) (gains_one path x w g n) = (path, g)

@@ -1,6 +1,8 @@
 -- What a call of the cell asks of its party, and says of it.
 use Rattle.std.specs.Prelude.{◌≡◌, ℕ, List, [], ◌∷◌, Bool, true, false, Option, Some, None}
 use Rattle.task_core.specs.Word.{State}
+use Rattle.task_core.specs.Rows.{found}
+use Rattle.task_core.specs.declared.moves.Act.{Act}
 use Rattle.task_laws.specs.declared.positions.Position.{Position}
 use Rattle.task_core.specs.declared.moves.Act.TheVariants.{MissNotify, BeginNotify, TakeAwaiter, EndNotify}
 use Rattle.task_laws.specs.Table.{goes_on}
@@ -11,6 +13,10 @@ use Rattle.task_steps.specs.Rule.{member, view, fresh}
 use Rattle.task_steps.specs.Deeds.{row, act, after}
 use Rattle.task_steps.specs.Standing.{way_of}
 use Rattle.task_steps.specs.Steps.{head_of}
+
+-- the table has the row for this word; no limit is asked for
+abbrev pub Fits : Act → State → Type 0
+Fits a w = found 0 a w ≡ true
 
 module _ {F T A : Type 0} where
   -- what the party has done, the newest first
@@ -50,9 +56,9 @@ module _ {F T A : Type 0} where
 
   -- a notifier: it finds another party at the awaiter, or takes it out
   pub data Notifies (p q : Party F T A) : Option A → Type 0 where
-    misses : (w : State) → GoesWith (row MissNotify w ∷ []) (goes_on None (way_of (position p))) (holds p) p q → Notifies p q None
-    finds_none : (w v : State) → GoesWith (row BeginNotify w ∷ act TakeAwaiter ∷ row EndNotify v ∷ []) (goes_on None (way_of (position p))) (holds p) p q → Notifies p q None
-    takes_awaiter : (w v : State) (i : ℕ) (a : A) → GoesWith (row BeginNotify w ∷ act TakeAwaiter ∷ row EndNotify v ∷ []) (goes_on (Some i) (way_of (position p))) (holds p) p q → Notifies p q (Some a)
+    misses : (w : State) → Fits MissNotify w → GoesWith (row MissNotify w ∷ []) (goes_on None (way_of (position p))) (holds p) p q → Notifies p q None
+    finds_none : (w v : State) → Fits BeginNotify w → GoesWith (row BeginNotify w ∷ act TakeAwaiter ∷ row EndNotify v ∷ []) (goes_on None (way_of (position p))) (holds p) p q → Notifies p q None
+    takes_awaiter : (w v : State) (i : ℕ) (a : A) → Fits BeginNotify w → GoesWith (row BeginNotify w ∷ act TakeAwaiter ∷ row EndNotify v ∷ []) (goes_on (Some i) (way_of (position p))) (holds p) p q → Notifies p q (Some a)
 
 abbrev pub is_empty : {X : Type 0} → List X → Bool
 is_empty [] = true

@@ -6,10 +6,10 @@ use Rattle.task_core.specs.Word.{number_of}
 use Rattle.task_laws.specs.Machine.{Machine, run}
 use Rattle.task_laws.specs.Theorem.{Laws}
 use Rattle.task_cell.specs.declared.cell.Party.{Party}
-use Rattle.task_steps.specs.Rule.{Entry, Reaches, steps_of, deeds_of, Among}
+use Rattle.task_steps.specs.Rule.{Entry, Reaches, steps_of, DidLast}
 use Rattle.task_cell.specs.Calls.{deeds, position}
 
--- an interleaving of the machine ends in this word, all its laws hold of it, and in it the party did what its list says and stands where it stands
+-- an interleaving of the machine ends in this word, all its laws hold of it, and in it the party did last what its list says and stands where it stands
 pub record IsLastWord {F T A : Type 0} (limit word : ℕ) (p : Party F T A) : Type 0 where
   pub machine : Machine
   pub log : List Entry
@@ -18,5 +18,5 @@ pub record IsLastWord {F T A : Type 0} (limit word : ℕ) (p : Party F T A) : Ty
   pub laws : Laws machine
   pub word_is : word ≡ number_of machine.word
   pub number : ℕ
-  pub did : Among (deeds_of number log) (deeds p)
+  pub did : DidLast number log (deeds p)
   pub stands : get_elem? machine.parties number ≡ some (position p)

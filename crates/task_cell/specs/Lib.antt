@@ -3,6 +3,7 @@ pub mod LastWord
 pub mod Starts
 pub mod RunPaths
 pub mod RunCalls
+pub mod Handed
 pub mod TaskPaths
 pub mod PollPaths
 pub mod Wakers

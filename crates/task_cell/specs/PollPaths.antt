@@ -10,7 +10,7 @@ use Rattle.task_steps.specs.declared.table.Slot.{Slot}
 use Rattle.task_steps.specs.declared.table.Deed.{Deed}
 use Rattle.task_cell.specs.declared.cell.Party.{Party}
 use Rattle.task_steps.specs.Rule.{Waits as SlotWaits}
-use Rattle.task_cell.specs.Calls.{Goes, GoesWith, position}
+use Rattle.task_cell.specs.Calls.{Fits, Goes, GoesWith, position}
 use Rattle.task_steps.specs.Deeds.{row, act}
 use Rattle.task_steps.specs.Standing.{as_task, poll_number}
 use Rattle.task_steps.specs.PollScripts.{has_output, has_ended, has_to_wait}
@@ -23,10 +23,10 @@ dropped_if false = []
 module _ {A : Type 0} where
   -- the stored awaiter is taken: it is woken, or dropped where its wake wakes the caller
   pub data TakePath (woken : A → Type 0) (compared : A → A → Bool → Type 0) (awaiter : A) : List Deed → Type 0 where
-    misses : (w : State) → TakePath woken compared awaiter (row MissNotify w ∷ [])
-    finds_none : (w v : State) → TakePath woken compared awaiter (row BeginNotify w ∷ act TakeAwaiter ∷ row EndNotify v ∷ [])
-    wakes : (w v : State) (taken : A) → compared taken awaiter false → woken taken → TakePath woken compared awaiter (row BeginNotify w ∷ act TakeAwaiter ∷ row EndNotify v ∷ act WakeAwaiter ∷ [])
-    drops : (w v : State) (taken : A) → compared taken awaiter true → TakePath woken compared awaiter (row BeginNotify w ∷ act TakeAwaiter ∷ row EndNotify v ∷ act DropAwaiter ∷ [])
+    misses : (w : State) → Fits MissNotify w → TakePath woken compared awaiter (row MissNotify w ∷ [])
+    finds_none : (w v : State) → Fits BeginNotify w → TakePath woken compared awaiter (row BeginNotify w ∷ act TakeAwaiter ∷ row EndNotify v ∷ [])
+    wakes : (w v : State) (taken : A) → Fits BeginNotify w → compared taken awaiter false → woken taken → TakePath woken compared awaiter (row BeginNotify w ∷ act TakeAwaiter ∷ row EndNotify v ∷ act WakeAwaiter ∷ [])
+    drops : (w v : State) (taken : A) → Fits BeginNotify w → compared taken awaiter true → TakePath woken compared awaiter (row BeginNotify w ∷ act TakeAwaiter ∷ row EndNotify v ∷ act DropAwaiter ∷ [])
 
   -- .. where the word found says that there is one
   abbrev pub TakePathIf : (A → Type 0) → (A → A → Bool → Type 0) → A → Bool → List Deed → Type 0

@@ -16,15 +16,15 @@ use Rattle.task_cell.specs.declared.cell.Party.{Party}
 use Rattle.task_steps.specs.declared.words.PendingEnd.{PendingEnd}
 use Rattle.task_steps.specs.declared.words.PendingEnd.TheVariants.{Closed, Rescheduled, Idle, Orphaned}
 use Rattle.task_steps.specs.Steps.{output_first}
-use Rattle.task_cell.specs.Calls.{Stands, Goes, GoesWith}
+use Rattle.task_cell.specs.Calls.{Fits, Stands, Goes, GoesWith}
 use Rattle.task_steps.specs.Deeds.{row, act}
 use Rattle.task_cell.specs.RunPaths.{ReleasePath, NotifyPath, WakePath, RestPath, StorePath, ClosedRunPath, ReadyPath, PendingPath, DiscardPath}
 
 module _ {F T A : Type 0} where
   -- a reference was given up, and whether it was the last handle
   pub data GivesUp (hand : Option ℕ) (answer : Answer) (p q : Party F T A) : Bool → Type 0 where
-    not_last : (w : State) → Goes (row GiveUpReference w ∷ []) (after_giving_up hand answer) p q → GivesUp hand answer p q false
-    last : (w : State) (y : Slot F T A) → GoesWith (row GiveUpLastReference w ∷ []) (Emptier hand answer) ((2, y) ∷ []) p q → GivesUp hand answer p q true
+    not_last : (w : State) → Fits GiveUpReference w → Goes (row GiveUpReference w ∷ []) (after_giving_up hand answer) p q → GivesUp hand answer p q false
+    last : (w : State) (y : Slot F T A) → Fits GiveUpLastReference w → GoesWith (row GiveUpLastReference w ∷ []) (Emptier hand answer) ((2, y) ∷ []) p q → GivesUp hand answer p q true
 
   -- a reference was given up, and the places were emptied where it was the last handle
   abbrev pub Releases : Option ℕ → Answer → Party F T A → Party F T A → Type 0
@@ -71,7 +71,7 @@ module _ {F T A : Type 0} where
 
   -- the rest of a run of a closed task whose poll answered Pending
   abbrev pub ClosesPending : Type 0 → Party F T A → Party F T A → Type 0
-  ClosesPending Woken p q = (w : State) × (path : List Deed) × RestPath Woken w.awaiter path × Goes (row EndClosed w ∷ path) (At Ended) p q
+  ClosesPending Woken p q = (w : State) × (path : List Deed) × (w.closed ≡ true) × RestPath Woken w.awaiter path × Goes (row EndClosed w ∷ path) (At Ended) p q
 
   -- a whole run of a closed task, after its first step
   abbrev pub Closes : Type 0 → Party F T A → Party F T A → Type 0

@@ -4,21 +4,22 @@ use Rattle.task_core.specs.Word.{State}
 use Rattle.task_core.specs.declared.moves.Act.TheVariants.{GiveUpReference, GiveUpLastReference, EmptySlots, DiscardOpen, DiscardClosed, DropFuture, Unschedule, MissNotify, BeginNotify, TakeAwaiter, EndNotify, WakeAwaiter, EndCall, AnswerReady, StoreOutput, Complete, CompleteDetached, DropOutput, AnswerPending, EndClosed, Reschedule, HandOver, EndIdle, EndOrphaned}
 use Rattle.task_steps.specs.declared.table.Deed.{Deed}
 use Rattle.task_steps.specs.Deeds.{row, act}
+use Rattle.task_cell.specs.Calls.{Fits}
 use Rattle.task_core.specs.declared.moves.Act.TheVariants.{TakeUpClosed, StartRun, StartPoll}
 use Rattle.task_core.specs.declared.traits.Poll.{Poll}
 use Rattle.task_core.specs.declared.traits.Poll.TheVariants.{Pending, Ready}
 
 -- a reference is given up; who had the last one empties the places
 pub data ReleasePath : List Deed → Type 0 where
-  leaves_others : (w : State) → ReleasePath (row GiveUpReference w ∷ [])
-  leaves_none : (w : State) → ReleasePath (row GiveUpLastReference w ∷ act EmptySlots ∷ [])
+  leaves_others : (w : State) → Fits GiveUpReference w → ReleasePath (row GiveUpReference w ∷ [])
+  leaves_none : (w : State) → Fits GiveUpLastReference w → ReleasePath (row GiveUpLastReference w ∷ act EmptySlots ∷ [])
 
 -- the awaiter is taken where AWAITER was found, unless another party is at it: whether it was found, and whether an awaiter was taken
 pub data NotifyPath : Bool → Bool → List Deed → Type 0 where
   not_due : NotifyPath false false []
-  missed : (w : State) → NotifyPath true false (row MissNotify w ∷ [])
-  none_there : (w v : State) → NotifyPath true false (row BeginNotify w ∷ act TakeAwaiter ∷ row EndNotify v ∷ [])
-  taken : (w v : State) → NotifyPath true true (row BeginNotify w ∷ act TakeAwaiter ∷ row EndNotify v ∷ [])
+  missed : (w : State) → Fits MissNotify w → NotifyPath true false (row MissNotify w ∷ [])
+  none_there : (w v : State) → Fits BeginNotify w → NotifyPath true false (row BeginNotify w ∷ act TakeAwaiter ∷ row EndNotify v ∷ [])
+  taken : (w v : State) → Fits BeginNotify w → NotifyPath true true (row BeginNotify w ∷ act TakeAwaiter ∷ row EndNotify v ∷ [])
 
 -- an awaiter that was taken is woken, which is the fact Woken
 pub data WakePath (Woken : Type 0) : Bool → List Deed → Type 0 where
@@ -45,7 +46,7 @@ pub data ReadyPath (Woken : Type 0) : List Deed → Type 0 where
 
 -- a run after its poll answered Pending, and whether the task was woken meanwhile, which the run answers
 pub data PendingPath (Woken : Type 0) (Scheduled : Bool → Type 0) : Bool → List Deed → Type 0 where
-  closed_meanwhile : (w : State) (r : List Deed) → RestPath Woken w.awaiter r → PendingPath Woken Scheduled false (act AnswerPending ∷ act DropFuture ∷ row EndClosed w ∷ r)
+  closed_meanwhile : (w : State) (r : List Deed) → w.closed ≡ true → RestPath Woken w.awaiter r → PendingPath Woken Scheduled false (act AnswerPending ∷ act DropFuture ∷ row EndClosed w ∷ r)
   woken_meanwhile : (w : State) → w.closed ≡ false → w.scheduled ≡ true → Scheduled true → PendingPath Woken Scheduled true (act AnswerPending ∷ row Reschedule w ∷ act HandOver ∷ act EndCall ∷ [])
   idle : (w : State) → w.closed ≡ false → w.scheduled ≡ false → (nat_lt 1 w.references || w.task) ≡ true → PendingPath Woken Scheduled false (act AnswerPending ∷ row EndIdle w ∷ act EndCall ∷ [])
   orphaned : (w : State) → w.closed ≡ false → w.scheduled ≡ false → (nat_lt 1 w.references || w.task) ≡ false → Scheduled false → PendingPath Woken Scheduled false (act AnswerPending ∷ row EndOrphaned w ∷ act HandOver ∷ act EndCall ∷ [])

@@ -1,13 +1,11 @@
 -- The paths of a cancel and of a detach, each with the words that its rows found and with what the foreign calls on it did.
 use Rattle.std.specs.Prelude.{◌≡◌, ℕ, Bool, true, false, List, [], ◌∷◌, ◌++◌, None}
 use Rattle.task_core.specs.Word.{State}
-use Rattle.task_core.specs.Rows.{found}
 use Rattle.task_laws.specs.Table.{cancels_after, notifies}
 use Rattle.task_laws.specs.declared.positions.Answer.TheVariants.{Nothing}
 use Rattle.task_laws.specs.declared.positions.Way.TheVariants.{OfCancel}
 use Rattle.task_laws.specs.declared.positions.After.TheVariants.{ThenEnds}
 use Rattle.task_laws.specs.declared.positions.Position.TheVariants.{Deliverer, Emptier, OutputCloser}
-use Rattle.task_core.specs.declared.moves.Act.{Act}
 use Rattle.task_core.specs.declared.moves.Act.TheVariants.{CancelOver, CancelBusy, CancelIdle, GiveUpOutput, DropOutput, DetachOrphan, DetachLast, Detach, EmptySlots, EndCall, HandOver, BeginNotify, MissNotify, TakeAwaiter, EndNotify, WakeAwaiter}
 use Rattle.task_steps.specs.declared.table.Slot.{Slot}
 use Rattle.task_steps.specs.declared.table.Deed.{Deed}
@@ -18,20 +16,16 @@ use Rattle.task_steps.specs.declared.words.Detached.{Detached}
 use Rattle.task_steps.specs.declared.words.Detached.TheVariants.{Unclaimed, Shared, Last, Orphaned}
 use Rattle.task_steps.specs.Rule.{IsOutput}
 use Rattle.task_steps.specs.Steps.{output_first}
-use Rattle.task_cell.specs.Calls.{GoesWith, Goes}
+use Rattle.task_cell.specs.Calls.{Fits, GoesWith, Goes}
 use Rattle.task_steps.specs.Deeds.{row, act}
 use Rattle.task_steps.specs.Standing.{as_ended, as_task}
-
--- the table has the row for this word; no limit is asked for
-abbrev pub Fits : Act → State → Type 0
-Fits a w = found 0 a w ≡ true
 
 -- an awaiter is taken where one was due, and woken where there is one
 pub data Notice (Woken : Type 0) : Bool → List Deed → Type 0 where
   not_due : Notice Woken false []
-  missed : (w : State) → Notice Woken true (row MissNotify w ∷ [])
-  found_none : (w v : State) → Notice Woken true (row BeginNotify w ∷ act TakeAwaiter ∷ row EndNotify v ∷ [])
-  woke : (w v : State) → Woken → Notice Woken true (row BeginNotify w ∷ act TakeAwaiter ∷ row EndNotify v ∷ act WakeAwaiter ∷ [])
+  missed : (w : State) → Fits MissNotify w → Notice Woken true (row MissNotify w ∷ [])
+  found_none : (w v : State) → Fits BeginNotify w → Notice Woken true (row BeginNotify w ∷ act TakeAwaiter ∷ row EndNotify v ∷ [])
+  woke : (w v : State) → Fits BeginNotify w → Woken → Notice Woken true (row BeginNotify w ∷ act TakeAwaiter ∷ row EndNotify v ∷ act WakeAwaiter ∷ [])
 
 -- a cancel: the task is over; or it is closed, and its Runnable or run will see it; or it is closed, and a Runnable is handed over that will see it
 pub data CancelPath (Scheduled Woken : Type 0) : List Deed → Type 0 where

@@ -4,7 +4,7 @@ use Rattle.task_core.specs.Word.{State, is_open}
 use Rattle.task_laws.specs.declared.positions.Answer.TheVariants.{Nothing}
 use Rattle.task_laws.specs.declared.positions.Rest.{Rest}
 use Rattle.task_laws.specs.declared.positions.Position.TheVariants.{Emptier, OrphanHolder}
-use Rattle.task_core.specs.declared.moves.Act.TheVariants.{GainReference, FindLimit, DropWaker, DropLastWaker, OrphanTask, CloseOrphan, WakeOver, WakeScheduled, WakeRunning, WakeIdle, EmptySlots, HandOver, EndCall}
+use Rattle.task_core.specs.declared.moves.Act.TheVariants.{GainReference, FindLimit, RefuseGain, DropWaker, DropLastWaker, OrphanTask, CloseOrphan, WakeOver, WakeScheduled, WakeRunning, WakeIdle, EmptySlots, HandOver, EndCall}
 use Rattle.task_steps.specs.declared.table.Slot.{Slot}
 use Rattle.task_steps.specs.declared.table.Deed.{Deed}
 use Rattle.task_steps.specs.declared.table.Member.{Member}
@@ -12,10 +12,9 @@ use Rattle.task_cell.specs.declared.cell.Party.{Party}
 use Rattle.task_steps.specs.declared.words.Dropped.{Dropped}
 use Rattle.task_steps.specs.declared.words.Dropped.TheVariants.{Shared, Last, Orphaned}
 use Rattle.task_steps.specs.Rule.{fresh}
-use Rattle.task_cell.specs.Calls.{IsNew, Goes, GoesWith}
+use Rattle.task_cell.specs.Calls.{Fits, IsNew, Goes, GoesWith}
 use Rattle.task_steps.specs.Deeds.{row, act}
 use Rattle.task_steps.specs.Standing.{as_waker, as_ended, as_deliverer}
-use Rattle.task_cell.specs.TaskPaths.{Fits}
 use Rattle.task_cell.specs.Wakers.{GoesBeside}
 use Rattle.task_steps.specs.WakerScripts.{others_left}
 
@@ -42,6 +41,11 @@ module _ {F T A : Type 0} where
   pub data Gains (limit : ℕ) (r : Rest) (us : List Member) (p q : Party F T A) : Option (Party F T A) → Type 0 where
     gains_none : (path : List Deed) → GainPath limit false path → GoesBeside path r us p q → Gains limit r us p q None
     gains_one : (path : List Deed) (waker : Party F T A) → GainPath limit true path → GoesBeside path r us p q → IsNew as_waker p waker → Gains limit r us p q (Some waker)
+
+  -- a gain with a share of the cell: where the share was refused, no row was made
+  pub data GainsShare (limit : ℕ) (r : Rest) (us : List Member) (p q : Party F T A) : Bool → Type 0 where
+    is_refused : GoesBeside (act RefuseGain ∷ act EndCall ∷ []) r us p q → GainsShare limit r us p q false
+    goes_on_to : (gained : Bool) (path : List Deed) → GainPath limit gained path → GoesBeside path r us p q → GainsShare limit r us p q gained
 
   -- .. as long as the new waker is on the seat of the party that gained it
   abbrev pub GainsBeside : ℕ → Rest → List Member → Party F T A → Party F T A → Bool → Type 0

@@ -2,17 +2,17 @@
 ghost use Rattle.std.specs.Prelude.{◌≡◌, ℕ, ◌<◌, [], ◌∷◌};
 ghost use Rattle.std.specs.Arc.{arc_value};
 ghost use Rattle.task_steps.specs.Rule.{view, fresh};
-ghost use Rattle.task_cell.specs.Calls.{limit_of, position, Stands};
+ghost use Rattle.task_cell.specs.Calls.{limit_of, position, deeds, Stands};
 ghost use Rattle.task_steps.specs.Standing.{as_runnable, as_ended};
 ghost use Rattle.task_steps.specs.Holders.{roost};
 ghost use Rattle.task_cell.specs.Wakers.{runnable_view};
 
 use atomic_table::Seat;
 use std::alloc::{Allocator, Global};
-use std::sync::{Arc, Wait};
+use std::sync::Wait;
 use task_core::{Wake, Yields};
 use task_steps::holder::SeatHolder;
-use task_steps::table::{Board, Kept, Slot, View};
+use task_steps::table::{Board, Kept, Slot, View, discard};
 
 /// What the handles of one task share: the word and the places, the schedule value and the metadata.
 #[derive(Drop)]
@@ -36,16 +36,17 @@ impl<F, T, A> Party<F, T, A> {
     pub fn let_go(self)
         requires { position self ≡ as_ended }
     {
-        let Party { seat: _ } = self;
+        let Party { seat } = self;
+        discard(seat);
     }
 }
 
 /// A share of a cell, and what holds the seat of its Runnable.
 pub(crate) struct RunnableSeat<R, F: Yields, Q, M, A, B: Allocator> {
-    pub(crate) cell: Arc<Cell<R, F, Q, M, A, B>, B>,
+    pub(crate) share: Share<R, F, Q, M, A, B>,
     pub(crate) holder: SeatHolder<F, Kept<F>, A>,
-    ghost seated: { (roost holder).table_id ≡ (arc_value cell).table.shared.table_id },
-    ghost limited: { (roost holder).view.limit ≡ (arc_value cell).limit },
+    ghost seated: { (roost holder).table_id ≡ (arc_value share.cell).table.shared.table_id },
+    ghost limited: { (roost holder).view.limit ≡ (arc_value share.cell).limit },
     ghost placed: { (roost holder).view ≡ runnable_view (roost holder).view },
 }
 
@@ -59,28 +60,29 @@ impl<R: Wait + Drop, F: Yields, Q: Drop, M: Drop, A: Wake, B: Allocator> Runnabl
 > {
     // A Runnable that has done nothing yet.
     pub(crate) fn new(
-        cell: Arc<Cell<R, F, Q, M, A, B>, B>,
+        share: Share<R, F, Q, M, A, B>,
         party: Party<F, Kept<F>, A>,
     ) -> RunnableSeat<R, F, Q, M, A, B>
-        requires cell { party.seat.table_id ≡ (arc_value cell).table.shared.table_id }
-        requires party { party.seat.me ≡ (view (arc_value cell).limit (fresh as_runnable ∷ []), []) }
-        ensures { result.cell ≡ cell }
+        requires cell { party.seat.table_id ≡ (arc_value share.cell).table.shared.table_id }
+        requires party { party.seat.me ≡ (view (arc_value share.cell).limit (fresh as_runnable ∷ []), []) }
+        ensures { result.share ≡ share }
     {
         let Party { seat } = party;
         RunnableSeat {
-            cell,
+            share,
             holder: SeatHolder::locked(seat),
         }
     }
 
     // The share of the cell, and the party, which will step.
-    pub(crate) fn into_party(self) -> (Arc<Cell<R, F, Q, M, A, B>, B>, Party<F, Kept<F>, A>)
-        ensures cell { (result.1.seat.table_id ≡ (arc_value result.0).table.shared.table_id) × (limit_of result.1 ≡ (arc_value result.0).limit) }
-        ensures party { Stands as_runnable result.1 }
+    pub(crate) fn into_party(self) -> (Share<R, F, Q, M, A, B>, Party<F, Kept<F>, A>)
+        ensures share { result.0 ≡ self.share }
+        ensures cell { (result.1.seat.table_id ≡ (arc_value result.0.cell).table.shared.table_id) × (limit_of result.1 ≡ (arc_value result.0.cell).limit) }
+        ensures party { Stands as_runnable result.1 × (deeds result.1 ≡ []) }
     {
-        let RunnableSeat { cell, holder } = self;
-        let seat = holder.into_seat(&cell.rt);
-        (cell, Party { seat })
+        let RunnableSeat { share, holder } = self;
+        let seat = holder.into_seat(&share.cell().rt);
+        (share, Party { seat })
     }
 }
 
@@ -102,10 +104,10 @@ impl<R: Wait + Drop, F: Yields, Q: Drop, M: Drop, A: Wake, X: Copy, B: Allocator
     for Runnable<R, F, Q, M, A, X, B> {
     fn drop(self) {
         let (inner, _) = self.into_parts();
-        let (cell, mut party) = inner.into_party();
-        cell.discard_runnable(&mut party);
+        let (share, mut party) = inner.into_party();
+        share.cell().discard_runnable(&mut party);
         party.let_go();
-        drop(cell);
+        share.give_up();
     }
 }
 
@@ -120,16 +122,16 @@ impl<R: Wait + Drop, F: Yields, Q: Drop, M: Drop, A: Wake, X: Copy, B: Allocator
 > {
     /// The Runnable of a task that was just spawned, by a share of its cell and the party that `fill` answered with. It makes no step.
     pub fn new(
-        cell: Arc<Cell<R, F, Q, M, A, B>, B>,
+        share: Share<R, F, Q, M, A, B>,
         party: Party<F, Kept<F>, A>,
         around: X,
     ) -> Runnable<R, F, Q, M, A, X, B>
-        requires cell { party.seat.table_id ≡ (arc_value cell).table.shared.table_id }
-        requires party { party.seat.me ≡ (view (arc_value cell).limit (fresh as_runnable ∷ []), []) }
-        ensures cell { result.inner.cell ≡ cell }
+        requires cell { party.seat.table_id ≡ (arc_value share.cell).table.shared.table_id }
+        requires party { party.seat.me ≡ (view (arc_value share.cell).limit (fresh as_runnable ∷ []), []) }
+        ensures cell { result.inner.share ≡ share }
         ensures around { result.around ≡ around }
     {
-        let inner = RunnableSeat::new(cell, party);
+        let inner = RunnableSeat::new(share, party);
         Runnable { inner, around }
     }
 
@@ -143,6 +145,7 @@ impl<R: Wait + Drop, F: Yields, Q: Drop, M: Drop, A: Wake, X: Copy, B: Allocator
     }
 }
 
+pub use share::Share;
 pub use waker::TaskWaker;
 
 mod awaiter;
@@ -160,6 +163,7 @@ mod reference;
 mod register;
 mod resting;
 mod run;
+pub(crate) mod share;
 mod spawn;
 mod start;
 mod task;

@@ -4,6 +4,6 @@
 pub mod cell;
 pub mod handles;
 
-pub use cell::{Cell, Party, Runnable, TaskWaker};
+pub use cell::{Cell, Party, Runnable, Share, TaskWaker};
 pub use handles::{ParkedRunnable, ParkedWaker};
 pub use task_steps::table::Kept;

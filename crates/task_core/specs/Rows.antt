@@ -36,6 +36,7 @@ found limit StartRun w = not w.closed
 -- 6 run end
 found limit Complete w = w.task
 found limit CompleteDetached w = not w.task
+found limit EndClosed w = w.closed
 found limit Reschedule w = not w.closed && w.scheduled
 found limit EndIdle w = not w.closed && not w.scheduled && (nat_lt 1 w.references || w.task)
 found limit EndOrphaned w = not w.closed && not w.scheduled && nat_eq w.references 1 && not w.task

@@ -418,11 +418,12 @@ impl Word {
         (!self.task()).then_some(ended.with(COMPLETED | CLOSED))
     }
 
-    /// A run of a task that was closed meanwhile ends with its future dropped. It fits each word.
+    /// A run of a task that was closed meanwhile ends with its future dropped. `None` where the task is not closed.
     pub fn end_closed(self) -> Option<Word>
         ensures { result ≡ row 0 EndClosed self }
     {
-        Some(self.without(SCHEDULED | RUNNING))
+        let ended = self.without(SCHEDULED | RUNNING);
+        self.closed().then_some(ended)
     }
 
     /// A run ends pending, and was woken meanwhile: its reference goes to the Runnable that it hands over. `None` where the task is closed or not scheduled.

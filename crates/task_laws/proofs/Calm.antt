@@ -3,7 +3,7 @@ use Rattle.std.proofs.Common.{◌≡◌, ℕ, zero, suc, ◌+◌, ◌≤◌, Boo
 use Rattle.std.specs.Prelude.{nat_lt}
 use Rattle.task_core.specs.Word.{State, bit, is_open}
 use Rattle.task_laws.specs.Event.{HasOutput, Event}
-use Rattle.task_laws.specs.Position.{OfRun, OfDrop, OfCancel, OfPoll, OfClaim, ThenNotifies, Position, At, Leaving, Deliverer, Polling, Unstored, Cleared, FutureGone, OutputInHand, GivingUp, Notifier, Taker, Releaser, AwaiterInHand, Registrar, RefusedClone, Storing, Registered, TookBack, Looking, Claimer, OldAwaiterInHand, Answering, Detacher, Act}
+use Rattle.task_laws.specs.Position.{OfRun, OfDrop, OfCancel, OfPoll, OfClaim, ThenNotifies, Position, At, Leaving, Deliverer, Polling, Unstored, Stored, Cleared, FutureGone, OutputInHand, GivingUp, Notifier, Taker, Releaser, AwaiterInHand, Registrar, RefusedClone, Storing, Registered, TookBack, Looking, Claimer, OldAwaiterInHand, Answering, Detacher, Act}
 use Rattle.task_core.specs.Rows.{found, written}
 use Rattle.task_laws.specs.Table.{Slots, Scene, Outcome, where_found, rule, goes}
 use Rattle.task_laws.specs.Laws.{count, is_emptying}
@@ -55,6 +55,10 @@ abbrev pub drops_output : Position → Bool
 drops_output (OutputInHand due) = true
 drops_output _ = false
 
+abbrev pub has_stored : Position → Bool
+has_stored Stored = true
+has_stored _ = false
+
 abbrev pub is_storing : Position → Bool
 is_storing (Storing i) = true
 is_storing _ = false
@@ -63,7 +67,7 @@ abbrev pub drops_old : Position → Bool
 drops_old (OldAwaiterInHand i old) = true
 drops_old _ = false
 
--- the handshake, where the other parties stand at rest or at a cut
+-- the handshake, and the output's slot, where the other parties stand at rest or at a cut
 pub record Calm (w : State) (slots : Slots) (cut : Bool) (p : Position) : Type 0 where
   pub notifying : takes_slot p ≡ false → w.notifying ≡ true → w.registering ≡ true
   pub taking : takes_slot p ≡ true → w.registering ≡ false
@@ -77,6 +81,7 @@ pub record Calm (w : State) (slots : Slots) (cut : Bool) (p : Position) : Type 0
   pub never : is_refused p ≡ false
   pub saw : has_seen p ≡ true → w.awaiter ≡ true
   pub finished : drops_output p ≡ true → w.completed ≡ true
+  pub output : has_stored p ≡ false → slots.output ≡ true → w.completed ≡ true
 
 -- .. and what the counts of the handshake say of the party itself
 pub record Counted (w : State) (slots : Slots) (p : Position) : Type 0 where

@@ -8,6 +8,7 @@ pub mod HandshakeRows
 pub mod Runs
 pub mod Derived
 pub mod Theorem
+pub mod Owners
 pub mod Ahead
 pub mod Calm
 pub mod PartRows

@@ -79,7 +79,7 @@ pub busy_task_is_cancelled : (n : ℕ) → InEach (Tracks CancelBusy (At (Task n
 busy_task_is_cancelled n = by_flag awaiter (grind rules) (grind rules)
 
 pub idle_task_is_cancelled : (n : ℕ) → InEach (Tracks CancelIdle (At (Task n)))
-idle_task_is_cancelled n = by_flag completed (grind rules) (grind rules)
+idle_task_is_cancelled n = by_flag completed (grind rules) (by_flag awaiter (grind rules) (by_flag registering (grind rules) (grind rules)))
 
 pub poll_claims : (n : ℕ) → InEach (Tracks ClaimOutput (At (Task n)))
 poll_claims n = by_flag awaiter (grind rules) (grind rules)
@@ -100,7 +100,7 @@ pub detach_leaves_handles : (n : ℕ) → InEach (Tracks Detach (At (Task n)))
 detach_leaves_handles n = by_counts Detach (At (Task n)) (by_flag completed (by_flag scheduled (grind rules) (grind rules)) (by_flag scheduled (grind rules) (grind rules)))
 
 pub output_is_detached_last : InEach (Tracks DetachLast Detacher)
-output_is_detached_last = by_flag scheduled (grind rules) (grind rules)
+output_is_detached_last = by_flag scheduled (grind rules) (by_flag completed (grind rules) (grind rules))
 
 pub unpolled_run_ends : InEach (Tracks Unschedule (FutureGone ClosedRun))
 unpolled_run_ends = by_flag awaiter (by_flag task (grind rules) (grind rules)) (by_flag task (grind rules) (grind rules))

@@ -71,6 +71,7 @@ to_deliverer w slots r k = record {
   never = k.never;
   saw = k.saw;
   finished = k.finished;
+  output = k.output;
 }
 
 abbrev pub Queued : ℕ → Machine → ℕ → Rest → List ℕ → List Move → Option Outcome → Type 0

@@ -3,7 +3,7 @@ use Rattle.std.proofs.Common.{◌≡◌, ℕ, ◌+◌, Bool, true, false, not, �
 use Rattle.std.specs.Prelude.{nat_lt, nat_eq, if◌then◌else◌}
 use Rattle.std.proofs.lemmas.Bool.Decides.{nat_tests}
 use Rattle.task_core.specs.Word.{State, bit, is_open}
-use Rattle.task_laws.specs.Position.{Position}
+use Rattle.task_laws.specs.Position.{Ended, Position, At}
 use Rattle.task_laws.specs.Machine.{Machine, how_many}
 use Rattle.task_laws.specs.Laws.{count, is_closing, is_future_drop, is_loss_of_task, woken_since_taking_up}
 use Rattle.task_laws.specs.Theorem.{is_runner}
@@ -14,6 +14,7 @@ use Rattle.task_laws.proofs.Census.{Census, weigh, census, runs, closers}
 use Rattle.task_laws.proofs.Runs.{Invariant}
 use Rattle.task_laws.proofs.Ahead.{phase_at, holders}
 use Rattle.task_laws.proofs.Theorem.{wakers, runners}
+use Rattle.task_laws.proofs.Calm.{Calm}
 use Rattle.task_laws.proofs.WholeRuns.{AtCut, cell_of}
 use Rattle.task_laws.proofs.Agree.{whole_holds}
 
@@ -44,20 +45,22 @@ phase_is w q p again drops e1 e2 e3 e4 e5 = grind (arith, nat_tests)
 bits : (b : Bool) (n : ℕ) → n ≡ bit b → b ≡ nat_lt 0 n
 bits b n e = grind (arith, nat_tests)
 
-no_bits : (b : Bool) (n : ℕ) → n ≡ bit b → not b ≡ nat_eq n 0
-no_bits b n e = grind (arith, nat_tests)
-
 tasks : (b : Bool) (n k : ℕ) → n + k ≡ 1 → k ≡ bit b → b ≡ nat_eq n 0
 tasks b n k e f = grind (arith, nat_tests)
 
-reading_is : (m : Machine) → Invariant m → cell_of m ≡ reading m
-reading_is m h =
+-- at a cut the output of an open task is in its slot where the task is done
+output_is : (w : State) (slot : Bool) (c : Census) → (w.completed ≡ true → (w.running ≡ false) × (w.scheduled ≡ false)) → bit slot ≡ c.stored + c.outputs + c.claims + bit (w.completed && not w.closed) → (slot ≡ true → w.completed ≡ true)
+    → (is_done (phase_at w) && not w.closed) ≡ (slot && not w.closed)
+output_is w slot c e1 e2 e3 = grind (arith, nat_tests)
+
+reading_is : (m : Machine) → Invariant m → Calm m.word m.slots true (At Ended) → cell_of m ≡ reading m
+reading_is m h k =
     let c = census m.parties in
     let phase : phase_at m.word ≡ phase_of m.parties m.trace =
     phase_is m.word (how_many is_queued m.parties) (how_many is_polling m.parties) (woken_since_taking_up m.trace) (count is_future_drop m.trace) (queued_all m.parties ∙ h.holds.scheduled) (polling_all m.parties ∙ h.holds.running) h.holds.again h.holds.woken
     (gone m.word m.slots.future (census m.parties) (count is_future_drop m.trace) h.holds.dropped h.holds.scheduled h.holds.running h.holds.future) in
     let closed = bits m.word.closed (count is_closing m.trace) h.holds.closes in
-    let opened = no_bits m.word.closed (count is_closing m.trace) h.holds.closes in
+    let output = output_is m.word m.slots.output (census m.parties) h.holds.completed h.holds.output (k.output refl) in
     let task = tasks m.word.task (count is_loss_of_task m.trace) (census m.parties).tasks h.holds.task_left h.holds.task in
     let held : holders (census m.parties) ≡ how_many is_runner m.parties = sym (runners m.parties) in
     λ i. record {
@@ -67,7 +70,7 @@ reading_is m h =
         has_task = task i;
         wakers = sym (wakers m.parties) i;
         future = one_if (is_home (phase i));
-        output = one_if (is_done (phase i) && opened i);
+        output = one_if (output i);
         awaiter = awaiter_of m.word m.slots.awaiter;
       };
       held = nat_lt 0 (held i);
@@ -79,4 +82,4 @@ pub whole_runs_agree : WholeRunsAgree
 whole_runs_agree limit steps w e c =
     let h = whole_holds limit steps w e in
     let a : AtCut limit w.machine w.stack w.moves = rw c at h.state in
-    a.agreed ∙ ap (λ (x : Cell). Some (record { cell = x; frames = frames w.machine.parties w.stack; told = seen w.machine.trace })) (reading_is w.machine h.invariant)
+    a.agreed ∙ ap (λ (x : Cell). Some (record { cell = x; frames = frames w.machine.parties w.stack; told = seen w.machine.trace })) (reading_is w.machine h.invariant a.calm)

@@ -16,7 +16,7 @@ use Rattle.task_laws.proofs.Handshake.{HandshakeHolds}
 use Rattle.task_laws.proofs.Invariant.{Holds}
 use Rattle.task_laws.proofs.Runs.{Invariant, Stays, others, split, put_born, split_awaiting, polling, moves_stays}
 use Rattle.task_laws.proofs.Ahead.{Same, before, ahead, prepend, lands, Landed, cell_at, phase_at, holders, queues, landed}
-use Rattle.task_laws.proofs.Calm.{Calm, Counted, Placed, placed, tracked, kept_calm, StaysCalm, stands, goes_one_way, registers, is_registered, takes_slot, has_emptied, is_storing, is_notifier, drops_old, is_refused, has_seen, drops_output}
+use Rattle.task_laws.proofs.Calm.{Calm, Counted, Placed, placed, tracked, kept_calm, StaysCalm, stands, goes_one_way, registers, is_registered, takes_slot, has_emptied, is_storing, is_notifier, drops_old, is_refused, has_seen, drops_output, has_stored}
 use Rattle.task_laws.proofs.CallRows.{every_call}
 use Rattle.task_laws.proofs.CalmRows.{every_calm}
 use Rattle.task_laws.specs.Laws.{count, is_completion}
@@ -92,8 +92,8 @@ Goes limit m i act q stack moves =
     (cond (is_foreign act || asks_foreign q) (AtCut limit m (i ∷ stack) moves) (Within limit m i q stack moves))
 
 -- calm at a cut, whoever stands where
-cut_calm : (w : State) (slots : Slots) (q : Position) → takes_slot q ≡ false → has_emptied q ≡ false → Calm w slots true q → Calm w slots true (At Ended)
-cut_calm w slots q e f k = record {
+cut_calm : (w : State) (slots : Slots) (q : Position) → takes_slot q ≡ false → has_emptied q ≡ false → has_stored q ≡ false → Calm w slots true q → Calm w slots true (At Ended)
+cut_calm w slots q e f g k = record {
   notifying = λ a. k.notifying e;
   taking = λ a. cc;
   registering = k.registering;
@@ -106,15 +106,16 @@ cut_calm w slots q e f k = record {
   never = refl;
   saw = λ a. cc;
   finished = λ a. cc;
+  output = λ a. k.output g;
 }
   where
     only_left : (a b : Bool) → (a || false) ≡ true → (a || b) ≡ true
     only_left a b e = grind arith
 
-rest_flags : (q : Position) → is_at_rest q ≡ true → (takes_slot q ≡ false) × (has_emptied q ≡ false)
+rest_flags : (q : Position) → is_at_rest q ≡ true → (takes_slot q ≡ false) × (has_emptied q ≡ false) × (has_stored q ≡ false)
 rest_flags q e = grind arith
 
-mark_flags : (done : Bool) (q : Position) → stands done (Some q) ≡ true → (takes_slot q ≡ false) × (has_emptied q ≡ false)
+mark_flags : (done : Bool) (q : Position) → stands done (Some q) ≡ true → (takes_slot q ≡ false) × (has_emptied q ≡ false) × (has_stored q ≡ false)
 mark_flags done q e = grind arith
 
 -- the segment has ended, at rest or at a cut, or goes on
@@ -127,10 +128,10 @@ GoesAt r w limit m i q stack moves = cond r (AtCut limit m stack moves) (cond w 
 finish : (limit : ℕ) (m : Machine) (i : ℕ) (q : Position) (stack : List ℕ) (moves : List Move) (r u w : Bool) → u ≡ false → is_at_rest q ≡ r → slice_get m.parties i ≡ Some q → IsAnother i stack → OpenCallsStand m.word.completed m.parties stack
     → Calm m.word m.slots (r || w) q → (r || cond w (stands m.word.completed (Some q)) (goes_one_way q)) ≡ true
     → all_moved limit moves ≡ Some (follow (LandsAt r u w (cell_of m) m.slots q) (frames m.parties stack) (seen m.trace)) → GoesAt r w limit m i q stack moves
-finish limit m i q stack moves true u w e f g fresh good k l a = record { good = good; calm = (let x = rest_flags q f in cut_calm m.word m.slots q x.0 x.1 k); agreed = a }
+finish limit m i q stack moves true u w e f g fresh good k l a = record { good = good; calm = (let x = rest_flags q f in cut_calm m.word m.slots q x.0 x.1 x.2 k); agreed = a }
 finish limit m i q stack moves false false true e f g fresh good k l a = record {
   good = (rw g l, fresh, good);
-  calm = (let x = mark_flags m.word.completed q l in cut_calm m.word m.slots q x.0 x.1 k);
+  calm = (let x = mark_flags m.word.completed q l in cut_calm m.word m.slots q x.0 x.1 x.2 k);
   agreed = rw g a;
 }
 finish limit m i q stack moves false false false e f g fresh good k l a = record { stands_at = g; one_way = l; fresh = fresh; good = good; calm = k; agreed = a }
@@ -222,6 +223,7 @@ calm_at w slots p f k c = record {
   never = f.refused;
   saw = λ a. absurd_flag (has_seen p) f.seen a;
   finished = λ a. absurd_flag (drops_output p) f.drops a;
+  output = λ a. k.output refl;
 }
   where
     absurd_flag : {A : Type 0} (b : Bool) → b ≡ false → b ≡ true → A

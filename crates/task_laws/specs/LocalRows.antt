@@ -1,6 +1,8 @@
 -- The task of one thread as the abstract task of a cell: each of its rows is a call that is made alone.
 use Rattle.std.specs.Prelude.{◌≡◌, ℕ, Bool, true, false, not, ◌&&◌, if◌then◌else◌, List, [], ◌∷◌, ◌++◌, Option, Some, None}
 use Rattle.task_core.specs.declared.traits.Poll.TheVariants.{Pending, Ready}
+use Rattle.task_core.specs.declared.traits.TaskPoll.{TaskPoll}
+use Rattle.task_core.specs.declared.traits.TaskPoll.TheVariants as answer
 use Rattle.task_laws.specs.Event.{IsPending, IsReady, HasOutput, IsRefused, PollAnswer, Ran, Gained, Finished, Event, FutureDropped, OutputDropped, HandedOver, Empties, CallEnds}
 use Rattle.task_core.specs.Local.{Queued, holds_reference, is_done, finished}
 use Rattle.task_core.specs.Local
@@ -8,6 +10,10 @@ use Rattle.task_laws.specs.Abstract.{PlainTask, PlainEffect, Cell, Call, InPoll,
 use Rattle.task_laws.specs.Abstract
 use Rattle.task_laws.specs.Whole.{one_if}
 use Rattle.task_laws.specs.WholeCalls.{alone}
+
+-- a poll of the Task, as its row answers it
+abbrev pub PlainAnswered : Type 0
+PlainAnswered = Local.Answered (Unit {0}) (Unit {0}) ℕ
 
 -- the task, as a cell at which no call is open
 abbrev pub cell_of : PlainTask → Cell
@@ -62,16 +68,20 @@ abbrev pub leaves : PlainTask → List Event → Left
 leaves t told = record { cell = cell_of t; told = told; frame = None }
 
 -- the poll of number i: where the task is done the caller's awaiter may be compared, else it is cloned or refused
-abbrev pub polled : Bool → ℕ → PlainTask → PlainEffect
-polled wanted i t = if is_done t.phase then (Local.claims (not wanted) t).effect else (Local.registers (if wanted then Some i else None) t).effect
+abbrev pub polled : Bool → ℕ → PlainTask → PlainAnswered
+polled wanted i t = if is_done t.phase then Local.claims (not wanted) t else Local.registers (if wanted then Some i else None) t
 
-abbrev pub poll_answer : Bool → PlainTask → PollAnswer
-poll_answer wanted t = if is_done t.phase then (if t.closed then IsReady else HasOutput) else (if wanted then IsPending else IsRefused)
+-- what a row answers, as the trace tells it
+abbrev pub told_answer : TaskPoll (Option (Unit {0})) → PollAnswer
+told_answer (answer.Ready (Some output)) = HasOutput
+told_answer (answer.Ready None) = IsReady
+told_answer answer.Pending = IsPending
+told_answer answer.NoMemory = IsRefused
 
-abbrev pub tells_poll : Bool → ℕ → PlainTask → List Event
-tells_poll wanted i t = answer_events i (poll_answer wanted t) ++ tells (polled wanted i t)
+abbrev pub tells_poll : ℕ → PlainAnswered → List Event
+tells_poll i r = answer_events i (told_answer r.answer) ++ tells r.effect
 
--- where it is done and open it has its output
+-- the output is there exactly where the task is done and open
 abbrev pub HasItsOutput : PlainTask → Type 0
 HasItsOutput t = t.output ≡ one_if (is_done t.phase && not t.closed)
 
@@ -96,8 +106,8 @@ pub record RowsAgree (limit : ℕ) (t : PlainTask) (a : Answers) : Type 0 where
   pub detach : HasItsOutput t → let e = Local.detaches t in made_alone limit t Abstract.Detach a ≡ leaves e.task (tells e)
   pub drop_task : HasItsOutput t → let e = Local.cancels t in let d = Local.detaches e.task in after_another limit (made_alone limit t Abstract.Cancel a) Abstract.Detach a ≡ leaves d.task (tells d ++ tells e)
   pub is_finished : made_alone limit t Abstract.IsFinished a ≡ leaves t (CallEnds (Finished (finished t)) ∷ [])
-  pub poll : (i : ℕ) → made_alone limit t (Abstract.Poll i) a ≡ leaves (polled a.first i t).task (tells_poll a.first i t)
-  pub cancel_and_poll : (i : ℕ) → let e = Local.cancels t in after_another limit (made_alone limit t Abstract.Cancel a) (Abstract.Poll i) a ≡ leaves (polled a.first i e.task).task (tells_poll a.first i e.task ++ tells e)
+  pub poll : (i : ℕ) → HasItsOutput t → let r = polled a.first i t in made_alone limit t (Abstract.Poll i) a ≡ leaves r.effect.task (tells_poll i r)
+  pub cancel_and_poll : (i : ℕ) → HasItsOutput t → let e = Local.cancels t in let r = polled a.first i e.task in after_another limit (made_alone limit t Abstract.Cancel a) (Abstract.Poll i) a ≡ leaves r.effect.task (tells_poll i r ++ tells e)
 
 -- for every limit, task and answers
 abbrev pub EachRowAgrees : Type 0

@@ -37,7 +37,7 @@ steps s w next born told = record { word = w; slots = s.slots; next = next; born
 abbrev pub keeps : Scene → State → Slots → Position → List Event → Outcome
 keeps s w slots next told = record { word = w; slots = slots; next = next; born = []; told = told }
 
--- a reference may be gained by a waker, a Runnable, or a lent waker while it is lent
+-- a reference may be gained by a waker, a Runnable, or a lent waker while the future is polled
 abbrev pub may_gain : Scene → Rest → Bool
 may_gain s Runnable = true
 may_gain s Waker = true

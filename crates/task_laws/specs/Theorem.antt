@@ -1,6 +1,7 @@
 -- What holds of the machine after every list of steps that it allows.
-use Rattle.std.specs.Prelude.{◌≡◌, ℕ, ◌+◌, ◌≤◌, Bool, true, false, List, Some, None}
-use Rattle.task_laws.specs.Position.{Runnable, Waker, OfClaim, Position, At, Leaving, Deliverer, Starting, Polling, Pending, Ready, Unstored, Stored, Cleared, FutureInHand, FutureGone, OutputInHand, GivingUp, Emptier, Notifier, Taker, Releaser, AwaiterInHand, Storing, Registered, TookBack, Claimer, OldAwaiterInHand, OutputCloser, OfRun, OfDrop}
+use Rattle.std.specs.Prelude.{◌≡◌, ◌≢◌, ℕ, ◌+◌, ◌≤◌, Bool, true, false, List, Some, None}
+use Rattle.task_laws.specs.Position.{Runnable, Waker, OfClaim, Position, At, Leaving, Deliverer, Starting, Polling, Pending, Ready, Unstored, Stored, Cleared, FutureInHand, FutureGone, OutputInHand, GivingUp, Emptier, Notifier, Taker, Releaser, AwaiterInHand, Storing, Registered, TookBack, Claimer, OldAwaiterInHand, OutputCloser, OfRun, OfDrop, Act}
+use Rattle.task_laws.specs.Table.{Scene, Outcome, rule}
 use Rattle.task_laws.specs.Machine.{Machine, Step, run, how_many}
 use Rattle.task_laws.specs.Laws.{OnePoller, EachEndsOnce, IsOver, AllEnded, NoWakeLost, NoAwaiterLost, MakingsCounted}
 
@@ -86,3 +87,13 @@ pub record Laws (m : Machine) : Type 0 where
 -- for every limit and every list of steps that is allowed
 abbrev pub LawsHold : Type 0
 LawsHold = (limit : ℕ) (steps : List Step) (m : Machine) → run limit steps ≡ Some m → Laws m
+
+-- an act that changes a slot is made by the slot's owner
+pub record ChangesItsOwn (s : Scene) (p : Position) (o : Outcome) : Type 0 where
+  pub future : o.slots.future ≢ s.slots.future → owns_future p ≡ true
+  pub output : o.slots.output ≢ s.slots.output → owns_output p ≡ true
+  pub awaiter : o.slots.awaiter ≢ s.slots.awaiter → owns_awaiter p ≡ true
+
+-- for every scene, and every act that a party may make in it
+abbrev pub OwnersAct : Type 0
+OwnersAct = (s : Scene) (act : Act) (p : Position) (o : Outcome) → rule s act p ≡ Some o → ChangesItsOwn s p o

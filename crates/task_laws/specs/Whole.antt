@@ -6,7 +6,7 @@ use Rattle.task_laws.specs.Position.{Rest, Runnable, Task, ClosedRun, DroppedRun
 use Rattle.task_laws.specs.Machine.{Machine, Step, opening, step, how_many}
 use Rattle.task_laws.specs.Laws.{count, is_closing, is_future_drop, is_loss_of_task, woken_since_taking_up}
 use Rattle.task_laws.specs.Theorem.{is_waker, is_runner}
-use Rattle.task_core.specs.Local.{Phase, Idle, Queued, Polled, PolledAndWoken, Done, Awaiter, NoAwaiter, Due, Forgotten, is_done}
+use Rattle.task_core.specs.Local.{Phase, Idle, Queued, Polled, PolledAndWoken, Done, Awaiter, NoAwaiter, Due, Forgotten}
 use Rattle.task_laws.specs.Abstract.{Call, Cell, Frame, InPoll, RunDropped, DropDropped, ReadyDropped, PendingDropped, Takes, Detaches, GivesUp, TakesOfCancel, Ends, Clones, Stores, Looks, Asks, Answers, Move, Begin, Go, Abstract, all_moved}
 use Rattle.task_laws.specs.Abstract
 
@@ -134,7 +134,7 @@ whole limit steps = whole_from (Some (record { machine = opening limit; stack = 
 
 -- THE READING of a machine at a cut
 
--- a Runnable exists, or was without_due up without a poll, and its end step is to come
+-- a Runnable exists, or was taken up without a poll, and its end step is to come
 abbrev pub is_queued : Position → Bool
 is_queued (At Runnable) = true
 is_queued (Leaving answer Runnable) = true
@@ -175,6 +175,7 @@ abbrev pub awaiter_of : State → Option ℕ → Awaiter ℕ
 awaiter_of w None = NoAwaiter
 awaiter_of w (Some i) = if w.awaiter || w.registering then Due i else Forgotten i
 
+-- The output is the one in its slot, unless the task is closed: then it is about to be handed out or dropped. The future goes by the phase, not by its slot: a poll leaves it there, and where it is dropped unpolled the slot is empty while the abstract row is still to come.
 abbrev pub reading : Machine → Cell
 reading m = record {
   task = record {
@@ -183,7 +184,7 @@ reading m = record {
     has_task = nat_eq (count is_loss_of_task m.trace) 0;
     wakers = how_many is_waker m.parties;
     future = one_if (is_home (phase_of m.parties m.trace));
-    output = one_if (is_done (phase_of m.parties m.trace) && nat_eq (count is_closing m.trace) 0);
+    output = one_if (m.slots.output && not m.word.closed);
     awaiter = awaiter_of m.word m.slots.awaiter;
   };
   held = nat_lt 0 (how_many is_runner m.parties);

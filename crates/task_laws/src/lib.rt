@@ -3,14 +3,16 @@
 
 pub mod positions;
 
-ghost use Rattle.task_laws.specs.Theorem.{LawsHold};
+ghost use Rattle.task_laws.specs.Theorem.{LawsHold, OwnersAct};
 ghost use Rattle.task_laws.specs.Whole.{WholeRunsAgree};
 ghost use Rattle.task_laws.specs.WholeCalls.{WholeCallsAgree};
 ghost use Rattle.task_laws.specs.LocalRows.{EachRowAgrees};
 
-/// For every limit and every list of steps that the machine allows from the opening state, the laws hold of the state reached.
+/// For every limit and every list of steps that the machine allows from the opening state, the laws hold of the state reached. An act that changes a slot
+/// is made by the slot's owner.
 pub fn laws()
     ensures interleavings { LawsHold }
+    ensures owners { OwnersAct }
     ensures whole_runs { WholeRunsAgree }
     ensures whole_calls { WholeCallsAgree }
     ensures local_rows { EachRowAgrees }

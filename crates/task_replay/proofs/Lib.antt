@@ -1,4 +1,5 @@
 pub mod Modest
 pub mod Replayed
+pub mod Polls
 pub mod Playing
 pub mod Refused

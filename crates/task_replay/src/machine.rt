@@ -5,7 +5,7 @@
 ghost use Rattle.std.specs.Prelude.{◌≡◌, ◌<◌, ◌-◌, ◌^◌, Some, None, false, IfOk, IfErr, OnOk, OnErr, min, ◌++◌, length, slice_get, if◌then◌else◌};
 ghost use Rattle.task_laws.specs.Machine as machine;
 ghost use Rattle.task_laws.specs.declared.positions.Position.{Position};
-ghost use Rattle.task_laws.specs.Machine.{run, how_many, polls_future, opening};
+ghost use Rattle.task_laws.specs.Machine.{run, polls_future, opening};
 ghost use Rattle.task_replay.specs.Replay.{standing, stands, slots_of, scene_of, scene_at, begun, listed, StepsTo, IsRight};
 
 use crate::player::Player;
@@ -75,14 +75,20 @@ pub struct Machine<A: Allocator = Global> {
     word: Word,
     slots: Slots,
     parties: Vec<Position, A>,
+    // How many parties are between the start of a poll and its answer. It is kept so that no step has to go over all parties.
+    polling: usize,
 }
 
 impl<A: Allocator> Model for Machine<A> {
+    ghost use Rattle.std.specs.Prelude.{◌≡◌};
+    ghost use Rattle.task_laws.specs.Machine.{how_many, polls_future};
     ghost use Rattle.task_replay.specs.Replay.{Standing, slots_of};
 
     ghost Value = { Standing };
 
     ghost view = { λ m. record { limit = m.limit; word = m.word; slots = slots_of m.slots; parties = m.parties.items } };
+
+    ghost invariant = { λ m. m.polling ≡ how_many polls_future m.parties.items };
 }
 
 /// What can be seen of a machine.
@@ -114,16 +120,6 @@ impl<A: Allocator> Machine<A> {
     {
         self.parties.get(party as usize).copied()
     }
-
-    // How many polls of the future are between their start and their answer.
-    fn polling(&self) -> usize
-        ensures { result ≡ how_many polls_future self.now.parties }
-    {
-        self.parties
-            .iter()
-            .filter(|party| is_polling(**party))
-            .count()
-    }
 }
 
 // It is a run between the start and the answer of its poll.
@@ -152,6 +148,7 @@ impl<A: Allocator> Machine<A> {
             word: Word::from_bits(SCHEDULED | TASK | REFERENCE),
             slots,
             parties,
+            polling: 0,
         })
     }
 
@@ -163,7 +160,7 @@ impl<A: Allocator> Machine<A> {
             limit: self.limit,
             word: self.word,
             slots: self.slots,
-            polling: self.polling() > 0,
+            polling: self.polling > 0,
         }
     }
 
@@ -174,6 +171,7 @@ impl<A: Allocator> Machine<A> {
     {
         if let Some(added) = added {
             self.parties.push(added)?;
+            self.polling += usize::from(is_polling(added));
         }
         Ok(())
     }
@@ -194,6 +192,8 @@ impl<A: Allocator> Machine<A> {
         };
         self.add(effect.added)?;
         self.parties[next.party as usize] = effect.next;
+        self.polling -= usize::from(is_polling(position));
+        self.polling += usize::from(is_polling(effect.next));
         self.word = effect.word;
         self.slots = effect.slots;
         Ok(true)

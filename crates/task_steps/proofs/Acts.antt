@@ -18,7 +18,7 @@ use Rattle.task_steps.specs.declared.table.Deed.{Deed}
 use Rattle.task_steps.specs.declared.table.Member.{Member}
 use Rattle.task_steps.specs.declared.table.View.{View}
 use Rattle.task_steps.specs.Rule.{deed, member, view, fresh, found_by, Entry, Told}
-use Rattle.task_steps.specs.Steps.{then_leaves, and_then, spot, leaves_by, noted}
+use Rattle.task_steps.specs.Steps.{then_leaves, and_then, spot, leaves_by, all_fit, noted}
 use Rattle.task_steps.proofs.Told.{tells, next_machine}
 use Rattle.task_steps.proofs.Facts.{many_next}
 
@@ -285,7 +285,7 @@ goes_spot limit w slots true v a p o e = e
 goes_spot limit w slots false v a p o e = goes_weaker limit w slots true v a p o e
 
 -- what the rule allows is what the table says
-found_is : (g : Bool) (x : Option Outcome) (o : Outcome) → where_found g x ≡ Some o → (g ≡ true) × (x ≡ Some o)
+pub found_is : (g : Bool) (x : Option Outcome) (o : Outcome) → where_found g x ≡ Some o → (g ≡ true) × (x ≡ Some o)
 found_is g None o e = absurd (cc)
 found_is true (Some x) o e = (refl, e)
 found_is false (Some x) o e = absurd (cc)
@@ -348,6 +348,17 @@ leads_leave limit w slots b (a ∷ more) p o e = let s : Scene = apart limit w s
     joins (goes (spot limit w slots) (written a w) a p) (λ o. leaves_by limit o.word o.slots more o.next) j.first j.second o
     (goes_spot limit w slots b (written a w) a p j.first (found_is (found limit a w) (goes s (written a w) a p) j.first j.one).1)
     (leads_leave limit j.first.word j.first.slots false more j.first.next j.second j.two) j.is
+
+pub both : (a b : Bool) → a ≡ true → b ≡ true → (a && b) ≡ true
+both true b e f = f
+both false b e f = e
+
+-- acts that the machine allows find the words that their rows ask for
+pub leads_fit : (s : Scene) (acts : List Act) (p : Position) (o : Outcome) → leads s acts p ≡ Some o → all_fit s.limit s.word acts ≡ true
+leads_fit s [] p o e = refl
+leads_fit s (a ∷ more) p o e = let j = joined (rule s a p) (λ o. leads (apart s.limit o.word o.slots false) more o.next) o e in
+    both (found s.limit a s.word) (all_fit s.limit (written a s.word) more) (found_is (found s.limit a s.word) (goes s (written a s.word) a p) j.first j.one).0
+    (subst (λ (w : State). all_fit s.limit w more ≡ true) (rule_word s a p j.first j.one) (leads_fit (apart s.limit j.first.word j.first.slots false) more j.first.next j.second j.two))
 
 pub count_append : (f : Event → Bool) (s t : List Event) → count f (s ++ t) ≡ count f s + count f t
 count_append f [] t = omega arith

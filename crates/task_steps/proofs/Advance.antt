@@ -17,8 +17,9 @@ use Rattle.task_steps.specs.declared.table.Slot.{Slot}
 use Rattle.task_steps.specs.declared.table.Deed.{Deed}
 use Rattle.task_steps.specs.declared.table.Member.{Member}
 use Rattle.task_steps.specs.declared.table.View.{View}
+use Rattle.task_steps.specs.PollScripts.{has_ended}
 use Rattle.task_steps.specs.Rule.{has_work, IsFuture, IsOutput, Waits, AtHome, Housed, Ruled}
-use Rattle.task_steps.specs.Steps.{future_first, output_first, TakesFuture, TakesOutput, Works, Awaits, Carries, Carried, saw_over, saw_closed}
+use Rattle.task_steps.specs.Steps.{future_first, output_first, TakesFuture, TakesOutput, Works, Awaits, Carries, Carried, saw_over, saw_closed, saw_ended}
 use Rattle.task_steps.proofs.Acts.{leads}
 
 -- the machine's slots of future and output are as they were
@@ -59,6 +60,7 @@ pub record Finds (limit : ℕ) (p : Position) (ds : List Deed) (us : List Member
   pub stands : get_elem? m.parties number ≡ some p
   pub over : saw_over ds ≡ true → is_open m.word ≡ false
   pub closed : saw_closed ds ≡ true → m.word.closed ≡ true
+  pub ended : saw_ended ds ≡ true → has_ended m.word ≡ true
   pub beside : (j : ℕ) (u : Member) → get_elem? us j ≡ some u → (k : ℕ) × (get_elem? m.parties k ≡ some u.at)
 
 module _ (F T A : Type 0) (limit : ℕ) where

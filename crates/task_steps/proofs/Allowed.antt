@@ -1,5 +1,5 @@
 -- The steps of the table that a party may make: what each owes is one obligation on the machine that it finds.
-use Rattle.std.proofs.Common.{◌≡◌, ℕ, zero, suc, ◌<◌, ◌≢◌, eqb, Some, List, [], ◌∷◌, ◌++◌, length, map, get_or, set, sym, ap, ◌∙◌, subst, inr, ⊎_elim, arith, length-set, get_or-set_same}
+use Rattle.std.proofs.Common.{◌≡◌, ℕ, zero, suc, ◌<◌, ◌≢◌, eqb, true, Some, List, [], ◌∷◌, ◌++◌, length, map, get_or, set, sym, ap, ◌∙◌, subst, inr, ⊎_elim, arith, length-set, get_or-set_same}
 use mathlib.Core.Option.{some, some-injective, some-ne-none}
 use lib.ListN.{get_elem?}
 use prog.Atomic.{either}
@@ -19,11 +19,11 @@ use Rattle.task_steps.specs.declared.table.Member.{Member}
 use Rattle.task_steps.specs.declared.table.Stage.TheVariants.{Laid, Filling, Spawned}
 use Rattle.task_steps.specs.declared.table.View.{View}
 use Rattle.task_steps.specs.Rule.{member, view, fresh, Told, has_work, AtHome, IsEmpty, Spawning, Running, Ruled}
-use Rattle.task_steps.specs.Steps.{head_of, leaves_by, noted, acted, next_of, born_of, Carried, Makes}
+use Rattle.task_steps.specs.Steps.{head_of, leaves_by, all_fit, noted, acted, next_of, born_of, Carried, Makes}
 use Rattle.task_steps.proofs.Told.{inside}
 use Rattle.task_steps.proofs.Facts.{law, many_at, one_work}
-use Rattle.task_steps.proofs.Acts.{leads_leave, follows}
-use Rattle.task_steps.proofs.Seen.{over_stays, closed_stays}
+use Rattle.task_steps.proofs.Acts.{leads_leave, leads_fit, follows}
+use Rattle.task_steps.proofs.Seen.{over_stays, closed_stays, ended_stays}
 use Rattle.task_steps.proofs.Advance.{Steps, Finds, Result, After, places}
 
 module _ (F T A : Type 0) (limit : ℕ) where
@@ -61,6 +61,7 @@ module _ (F T A : Type 0) (limit : ℕ) where
     stands = k.1.at;
     over = λ e. over_stays limit k.0 r.log r.machine ds r.told.reaches k.1.did e;
     closed = λ e. closed_stays limit k.0 r.log r.machine ds r.told.reaches k.1.did e;
+    ended = λ e. ended_stays limit k.0 r.log r.machine ds r.told.reaches k.1.did e;
     beside = λ j u e. let x = r.told.each id (suc j) v u at (ap (λ (w : View). get_elem? w.members (suc j)) is ∙ e) in (x.0, x.1.at);
   }
 
@@ -105,6 +106,7 @@ module _ (F T A : Type 0) (limit : ℕ) where
         },
         record {
           slots = m.slots;
+          fits = subst (λ (n : ℕ). all_fit n m.word acts ≡ true) (r.limited ∙ sym limited) (leads_fit (scene m) acts p o x.leads_to);
           viewed = ap (λ y. view l (member (next_of y) (noted m.word acts ds) ∷ (us ++ map fresh (born_of y)))) (sym left) ∙ ap (acted m.word m.slots acts) (sym is);
           carried = subst (λ (y : Position). Carried y o.next me.1 (carried_after me.1 z.move)) (sym (ap (λ (y : View). (head_of y.members).at) is)) z.carried;
         },

@@ -17,7 +17,7 @@ use Rattle.task_steps.specs.Rule.{member, view, Running, Ruled}
 use Rattle.task_steps.specs.Steps.{head_of, Makes}
 use Rattle.task_steps.specs.Knows.{Knows}
 use Rattle.task_steps.proofs.Facts.{law, low}
-use Rattle.task_steps.proofs.Seen.{over_stays, closed_stays}
+use Rattle.task_steps.proofs.Seen.{over_stays, closed_stays, ended_stays}
 use Rattle.task_steps.proofs.Advance.{Finds, Steps}
 use Rattle.task_steps.proofs.Allowed.{Owes, spawned, steps_always, steps_or_misses}
 
@@ -34,6 +34,7 @@ module _ (F T A : Type 0) (limit : ℕ) where
   knows s r id v l p ds us capped at is = let k = r.told.each id 0 v (member p ds) at (ap (λ (w : View). get_elem? w.members 0) is) in record {
     over = λ e. over_stays limit k.0 r.log r.machine ds r.told.reaches k.1.did e;
     closed = λ e. closed_stays limit k.0 r.log r.machine ds r.told.reaches k.1.did e;
+    ended = λ e. ended_stays limit k.0 r.log r.machine ds r.told.reaches k.1.did e;
     room = (let h = low r.machine (law limit r.log r.machine r.told.reaches) in let e = r.limited in omega arith);
   }
 

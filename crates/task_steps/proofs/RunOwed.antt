@@ -13,7 +13,7 @@ use Rattle.task_laws.specs.declared.positions.Way.TheVariants.{OfRun}
 use Rattle.task_laws.specs.declared.positions.After.TheVariants.{ThenEnds}
 use Rattle.task_laws.specs.declared.positions.Closer.TheVariants.{DroppedRunnable}
 use Rattle.task_laws.specs.declared.positions.Position.TheVariants.{At, Leaving, Deliverer, GivingUp, Emptier, FutureInHand, Polling, Pending, Ready, Unstored, Stored, Cleared, OutputInHand}
-use Rattle.task_core.specs.declared.moves.Act.TheVariants.{GiveUpReference, GiveUpLastReference, DiscardOpen, DiscardClosed, DropFuture, StoreOutput, Complete, CompleteDetached, AnswerPending, Reschedule, EndIdle, EndOrphaned, EndCall}
+use Rattle.task_core.specs.declared.moves.Act.TheVariants.{GiveUpReference, GiveUpLastReference, DiscardOpen, DiscardClosed, DropFuture, StoreOutput, Complete, CompleteDetached, AnswerPending, Reschedule, EndIdle, EndOrphaned, EndClosed, EndCall}
 use Rattle.task_core.specs.Rows.{written}
 use Rattle.task_laws.specs.Table.{Slots, steps, keeps, notifies, after_giving_up, ended_clone, closing}
 use Rattle.task_laws.specs.Machine.{Machine, scene}
@@ -74,8 +74,8 @@ closed_already w e = λ i. record w { closed = sym e i }
 pending_facts : (limit : ℕ) (w : State) (slots : Slots) (t : List Event) (c : Census) → Holds limit w slots t c → 1 ≤ c.pending → (1 ≤ w.references) × (slots.output ≡ false)
 pending_facts limit w slots t c h e = (grind arith, grind arith)
 
-cleared_facts : (limit : ℕ) (w : State) (slots : Slots) (t : List Event) (c : Census) → Holds limit w slots t c → 1 ≤ c.cleared → (slots.future ≡ false) × (slots.output ≡ false)
-cleared_facts limit w slots t c h e = (grind arith, grind arith)
+cleared_facts : (limit : ℕ) (w : State) (slots : Slots) (t : List Event) (c : Census) → Holds limit w slots t c → 1 ≤ c.cleared → (slots.future ≡ false) × (slots.output ≡ false) × (w.closed ≡ true)
+cleared_facts limit w slots t c h e = (grind arith, grind arith, grind arith)
 
 output_facts : (limit : ℕ) (w : State) (slots : Slots) (t : List Event) (c : Census) → Holds limit w slots t c → 1 ≤ c.outputs → slots.future ≡ false
 output_facts limit w slots t c h e = grind arith
@@ -223,13 +223,13 @@ module _ (F T A : Type 0) (limit : ℕ) where
   pub ends_closed : (ds : List Deed) (us : List Member) (y z : Slot F T A) (l : List (ℕ × Slot F T A)) → l ≡ future_first y z (rest (rest l)) → Owes F T A limit ending_closed (λ n. bit_and n 18446744073709551612) Cleared ds us l
   ends_closed ds us y z l has m f x e lt = record {
     outcome = steps (scene m) (record (m.word) { running = false; scheduled = false }) (notifies m.word.awaiter OfRun) [] (RunEnded ∷ []);
-    leads_to = refl;
+    leads_to = leads_first (scene m) EndClosed [] Cleared _ gone.2 refl;
     writes = fetch_and-scheduled_running x lt ∙ ap (λ (w : State). number_of (record w { scheduled = false; running = false })) (ap state_of e ∙ state_of_number_of m.word);
     idle = (refl, refl);
     placing = gives_work y z refl (due_work m.word.awaiter) (due_free m.word.awaiter) (inr (refl, refl)) (inl has) (λ e. never (sym gone.0 ∙ e)) (λ e. never (sym gone.1 ∙ e));
   }
     where
-      gone : (m.slots.future ≡ false) × (m.slots.output ≡ false)
+      gone : (m.slots.future ≡ false) × (m.slots.output ≡ false) × (m.word.closed ≡ true)
       gone = cleared_facts m.limit m.word m.slots m.trace (census m.parties) f.invariant.holds (counted (λ c. c.cleared) (λ a b. refl) m.parties f.number Cleared f.stands)
 
   pub drops_output : (due : Bool) (ds : List Deed) (us : List Member) (y z : Slot F T A) (l : List (ℕ × Slot F T A)) → l ≡ output_first y z (rest (rest l)) → Owes F T A limit dropping_output (λ n. n) (OutputInHand due) ds us l

@@ -1,18 +1,68 @@
 -- What a party has seen of the task's end is so from then on.
-use Rattle.std.proofs.Common.{◌≡◌, ℕ, eqb, Bool, true, false, not, ◌&&◌, ◌||◌, Option, Some, None, List, [], ◌∷◌, sym, refl, ap, ◌∙◌, subst, ⊎_elim, ◌⊎◌, inl, inr, cond}
-use Rattle.std.specs.Prelude.{slice_get}
+use Rattle.std.proofs.Common.{◌≡◌, ℕ, zero, suc, ◌≤◌, eqb, Bool, true, false, not, ◌&&◌, ◌||◌, Option, Some, None, List, [], ◌∷◌, ◌++◌, sym, refl, ap, ◌∙◌, ⊎_elim, ◌⊎◌, inl, inr, cond, arith}
+use Rattle.std.specs.Prelude.{slice_get, nat_eq}
+use mathlib.Core.Option.{some}
+use lib.ListN.{get_elem?}
 use Rattle.task_core.specs.Word.{State, is_open}
 use Rattle.task_laws.specs.declared.positions.Position.{Position}
+use Rattle.task_laws.specs.declared.positions.Position.TheVariants.{OrphanHolder}
 use Rattle.task_core.specs.declared.moves.Act.{Act}
-use Rattle.task_core.specs.declared.moves.Act.TheVariants.{DiscardOpen, CancelBusy, CancelIdle, ClaimOutput, GiveUpOutput, DetachOrphan, CloseOrphan, Complete, CompleteDetached, EndOrphaned}
-use Rattle.task_core.specs.Rows.{written}
-use Rattle.task_laws.specs.Table.{Outcome, rule}
+use Rattle.task_core.specs.declared.moves.Act.TheVariants.{WakeRunning, WakeIdle, DiscardOpen, CancelBusy, CancelIdle, ClaimOutput, GiveUpOutput, DetachOrphan, CloseOrphan, StartRun, Unschedule, Complete, CompleteDetached, EndClosed, Reschedule, EndIdle, EndOrphaned}
+use Rattle.task_core.specs.Rows.{found, written}
+use Rattle.task_laws.specs.Table.{Slots, Scene, Outcome, goes, rule}
+use Rattle.task_laws.specs.Event.{Event}
 use Rattle.task_laws.specs.Machine.{Machine, Step, scene, moves, after, step}
+use Rattle.task_laws.proofs.Census.{Census, census}
+use Rattle.task_laws.proofs.Invariant.{Holds}
+use Rattle.task_laws.proofs.Runs.{Invariant}
 use Rattle.task_steps.specs.declared.table.Deed.{Deed}
-use Rattle.task_steps.specs.Rule.{Entry, Reaches, is_private, noted_if, deeds_of, Among}
-use Rattle.task_steps.specs.Steps.{is_over_after, is_closed_after, saw_over, saw_closed}
-use Rattle.task_steps.proofs.Acts.{rule_word}
+use Rattle.task_steps.specs.PollScripts.{has_ended}
+use Rattle.task_steps.specs.Rule.{Entry, Reaches, is_private, noted_if, deeds_of, DidLast}
+use Rattle.task_steps.specs.Steps.{leaves_such, saw, saw_over, saw_closed, saw_ended}
+use Rattle.task_steps.proofs.Acts.{rule_word, found_is}
+use Rattle.task_steps.proofs.Facts.{law}
+use Rattle.task_steps.proofs.Leads.{counted}
 use Rattle.task_steps.proofs.Told.{next_machine}
+
+-- a step of the machine, taken apart: where its party stood, and what the table says
+record Stepped (n m : Machine) (s : Step) : Type 0 where
+  at : Position
+  outcome : Outcome
+  here : slice_get n.parties s.party ≡ Some at
+  fits : found n.limit s.act n.word ≡ true
+  table : goes (scene n) (written s.act n.word) s.act at ≡ Some outcome
+  word : m.word ≡ written s.act n.word
+
+after_step : (n m : Machine) (k : ℕ) (a : Act) (p : Position) (x : Option Outcome) → slice_get n.parties k ≡ Some p → rule (scene n) a p ≡ x → after n k p x ≡ Some m → Stepped n m (record { party = k; act = a })
+after_step n m k a p None h r e = absurd (cc)
+after_step n m k a p (Some o) h r e = let is : next_machine n k p o ≡ m = cc in let f = found_is (found n.limit a n.word) (goes (scene n) (written a n.word) a p) o r in
+    record { at = p; outcome = o; here = h; fits = f.0; table = f.1; word = sym (ap (λ (y : Machine). y.word) is) ∙ rule_word (scene n) a p o r }
+
+moves_step : (n m : Machine) (k : ℕ) (a : Act) (x : Option Position) → slice_get n.parties k ≡ x → moves n k a x ≡ Some m → Stepped n m (record { party = k; act = a })
+moves_step n m k a None h e = absurd (cc)
+moves_step n m k a (Some p) h e = after_step n m k a p (rule (scene n) a p) h refl e
+
+stepped : (n m : Machine) (s : Step) → step n s ≡ Some m → Stepped n m s
+stepped n m s e = moves_step n m s.party s.act (slice_get n.parties s.party) refl e
+
+-- whoever closes the task that nobody has finds it open
+only_orphan : (s : Scene) (v : State) (p : Position) (o : Outcome) → goes s v CloseOrphan p ≡ Some o → p ≡ OrphanHolder
+only_orphan s v OrphanHolder o e = refl
+only_orphan s v _ o e = absurd (cc)
+
+at_index : {X : Type 0} (l : List X) (k : ℕ) (x : X) → slice_get l k ≡ Some x → get_elem? l k ≡ some x
+at_index [] k x e = absurd (cc)
+at_index (y ∷ l) zero x e = let is : y ≡ x = cc in ap (λ z. some z) is
+at_index (y ∷ l) (suc k) x e = at_index l k x e
+
+orphan_open : (limit : ℕ) (w : State) (slots : Slots) (t : List Event) (c : Census) → Holds limit w slots t c → 1 ≤ c.orphans → is_open w ≡ true
+orphan_open limit w slots t c h q = ⊎_elim (λ (e : c.orphans ≡ 0). absurd (omega arith)) (λ x. x.2) h.orphan
+
+-- the task is open where its last waker closes it
+closes_open : (n m : Machine) (s : Step) → Invariant n → Stepped n m s → s.act ≡ CloseOrphan → is_open n.word ≡ true
+closes_open n m s i x e = let at : x.at ≡ OrphanHolder = only_orphan (scene n) (written s.act n.word) x.at x.outcome (ap (λ a. goes (scene n) (written s.act n.word) a x.at) (sym e) ∙ x.table) in
+    orphan_open n.limit n.word n.slots n.trace (census n.parties) i.holds
+    (counted (λ c. c.orphans) (λ a b. refl) n.parties s.party OrphanHolder (at_index n.parties s.party OrphanHolder (x.here ∙ ap (λ p. Some p) at)))
 
 closed_over : (c : Bool) → not c && false ≡ false
 closed_over true = refl
@@ -44,89 +94,114 @@ stays_closed EndOrphaned w e = refl
 stays_closed CompleteDetached w e = refl
 stays_closed _ w e = e
 
-after_word : (n m : Machine) (k : ℕ) (a : Act) (p : Position) (x : Option Outcome) → rule (scene n) a p ≡ x → after n k p x ≡ Some m → m.word ≡ written a n.word
-after_word n m k a p None r e = absurd (cc)
-after_word n m k a p (Some o) r e = let is : next_machine n k p o ≡ m = cc in sym (ap (λ (y : Machine). y.word) is) ∙ rule_word (scene n) a p o r
+pub left_true : (a b : Bool) → (a && b) ≡ true → a ≡ true
+left_true true b e = refl
+left_true false b e = e
 
-moves_word : (n m : Machine) (k : ℕ) (a : Act) (x : Option Position) → moves n k a x ≡ Some m → m.word ≡ written a n.word
-moves_word n m k a None e = absurd (cc)
-moves_word n m k a (Some p) e = after_word n m k a p (rule (scene n) a p) refl e
+right_true : (a b : Bool) → (a && b) ≡ true → b ≡ true
+right_true true b e = e
+right_true false b e = absurd (cc)
 
--- the word after a step is the one that its act writes
-pub step_word : (n m : Machine) (s : Step) → step n s ≡ Some m → m.word ≡ written s.act n.word
-step_word n m s e = moves_word n m s.party s.act (slice_get n.parties s.party) e
+-- a word that is closed is not open
+open_and_closed : {P : Type 0} (k c x : Bool) → (not k && not c) ≡ true → (c && x) ≡ true → P
+open_and_closed true c x e f = absurd (cc)
+open_and_closed false true x e f = absurd (cc)
+open_and_closed false false x e f = absurd (cc)
+
+unclosed_and_closed : {P : Type 0} (c x : Bool) → not c ≡ true → (c && x) ≡ true → P
+unclosed_and_closed true x e f = absurd (cc)
+unclosed_and_closed false x e f = absurd (cc)
+
+-- without a run, or without a Runnable, it has ended all the same
+neither : (c s r : Bool) → (c && not (s || r)) ≡ true → (c ≡ true) × (s ≡ false) × (r ≡ false)
+neither true true r e = absurd (cc)
+neither true false true e = absurd (cc)
+neither true false false e = (refl, refl, refl)
+neither false s r e = absurd (cc)
+
+has_neither : (c s r : Bool) → c ≡ true → s ≡ false → r ≡ false → (c && not (s || r)) ≡ true
+has_neither c s r e f g = (λ i. e i && not (f i || g i)) ∙ refl
+
+-- what is closed, and has neither Runnable nor run, stays so
+stays_ended : (l : ℕ) (a : Act) (w : State) → found l a w ≡ true → (a ≡ CloseOrphan → is_open w ≡ true) → has_ended w ≡ true → has_ended (written a w) ≡ true
+stays_ended l WakeRunning w f o e = open_and_closed w.completed w.closed (not (w.scheduled || w.running)) (left_true (is_open w) (not w.scheduled) (left_true (is_open w && not w.scheduled) w.running f)) e
+stays_ended l WakeIdle w f o e = open_and_closed w.completed w.closed (not (w.scheduled || w.running)) (left_true (is_open w) (not w.scheduled) (left_true (is_open w && not w.scheduled) (not w.running) f)) e
+stays_ended l DiscardOpen w f o e = unclosed_and_closed w.closed (not (w.scheduled || w.running)) f e
+stays_ended l CancelBusy w f o e = open_and_closed w.completed w.closed (not (w.scheduled || w.running)) (left_true (is_open w) (w.scheduled || w.running) f) e
+stays_ended l CancelIdle w f o e = open_and_closed w.completed w.closed (not (w.scheduled || w.running)) (left_true (is_open w) (not w.scheduled) (left_true (is_open w && not w.scheduled) (not w.running) f)) e
+stays_ended l ClaimOutput w f o e = right_true w.closed (not (w.scheduled || w.running)) e
+stays_ended l GiveUpOutput w f o e = right_true w.closed (not (w.scheduled || w.running)) e
+stays_ended l DetachOrphan w f o e = open_and_closed w.completed w.closed (not (w.scheduled || w.running)) (right_true (nat_eq w.references 0) (is_open w) f) e
+stays_ended l CloseOrphan w f o e = open_and_closed w.completed w.closed (not (w.scheduled || w.running)) (o refl) e
+stays_ended l StartRun w f o e = unclosed_and_closed w.closed (not (w.scheduled || w.running)) f e
+stays_ended l Unschedule w f o e = let n = neither w.closed w.scheduled w.running e in has_neither w.closed false w.running n.0 refl n.2
+stays_ended l Complete w f o e = let n = neither w.closed w.scheduled w.running e in has_neither w.closed false false n.0 refl refl
+stays_ended l CompleteDetached w f o e = refl
+stays_ended l EndClosed w f o e = has_neither w.closed false false f refl refl
+stays_ended l Reschedule w f o e = unclosed_and_closed w.closed (not (w.scheduled || w.running)) (left_true (not w.closed) w.scheduled f) e
+stays_ended l EndIdle w f o e = let n = neither w.closed w.scheduled w.running e in has_neither w.closed w.scheduled false n.0 n.1 refl
+stays_ended l EndOrphaned w f o e = unclosed_and_closed w.closed (not (w.scheduled || w.running))
+    (left_true (not w.closed) (not w.scheduled) (left_true (not w.closed && not w.scheduled) (nat_eq w.references 1) (left_true (not w.closed && not w.scheduled && nat_eq w.references 1) (not w.task) f))) e
+stays_ended l _ w f o e = e
 
 either_true : (a b : Bool) → (a || b) ≡ true → (a ≡ true) ⊎ (b ≡ true)
 either_true true b e = inl refl
 either_true false b e = inr e
 
-true_left : (a b : Bool) → a ≡ true → (a || b) ≡ true
+pub true_left : (a b : Bool) → a ≡ true → (a || b) ≡ true
 true_left true b e = refl
 true_left false b e = absurd (cc)
 
-true_right : (a b : Bool) → b ≡ true → (a || b) ≡ true
+pub true_right : (a b : Bool) → b ≡ true → (a || b) ≡ true
 true_right true b e = refl
 true_right false b e = e
 
-not_true : (b : Bool) → not b ≡ true → b ≡ false
+pub not_true : (b : Bool) → not b ≡ true → b ≡ false
 not_true true e = absurd (cc)
 not_true false e = refl
 
-found_over : (a : Act) (w : State) (p : Bool) → is_over_after a (cond p None (Some w)) ≡ true → is_open (written a w) ≡ false
-found_over a w true e = absurd (cc)
-found_over a w false e = not_true (is_open (written a w)) e
+-- what is true of the word once a party has seen it, where each step of the machine keeps it so
+module _ (test : State → Bool) (stays : (n m : Machine) (s : Step) → Invariant n → Stepped n m s → test n.word ≡ true → test m.word ≡ true) (limit k : ℕ) where
+  left_so : (a : Act) (w : State) (is_load : Bool) → leaves_such test a (cond is_load None (Some w)) ≡ true → test (written a w) ≡ true
+  left_so a w true e = absurd (cc)
+  left_so a w false e = e
 
-found_closed : (a : Act) (w : State) (p : Bool) → is_closed_after a (cond p None (Some w)) ≡ true → (written a w).closed ≡ true
-found_closed a w true e = absurd (cc)
-found_closed a w false e = e
-
-module _ (limit k : ℕ) where
-  log_over : (log : List Entry) (m : Machine) → Reaches limit log m → saw_over (deeds_of k log) ≡ true → is_open m.word ≡ false
-  log_over [] m r e = absurd (cc)
-  log_over (x ∷ log) m r e = let word = step_word r.0 m (record { party = x.party; act = x.deed.act }) r.3 in
-      subst (λ (w : State). is_open w ≡ false) (sym word) (noted (log_over log r.0 r.1) (eqb x.party k) e)
+  log_saw : (log : List Entry) (m : Machine) → Reaches limit log m → saw test (deeds_of k log) ≡ true → test m.word ≡ true
+  log_saw [] m r e = absurd (cc)
+  log_saw (x ∷ log) m r e = let s = stepped r.0 m (record { party = x.party; act = x.deed.act }) r.3 in
+      let kept = stays r.0 m (record { party = x.party; act = x.deed.act }) (law limit log r.0 r.1) s in noted s.word (λ seen. kept (log_saw log r.0 r.1 seen)) (eqb x.party k) e
     where
-      noted : (saw_over (deeds_of k log) ≡ true → is_open (r.0).word ≡ false) → (b : Bool) → saw_over (noted_if b x.deed (deeds_of k log)) ≡ true → is_open (written x.deed.act (r.0).word) ≡ false
-      noted rec true e = ⊎_elim
-          (λ (here : is_over_after x.deed.act x.deed.found ≡ true). found_over x.deed.act (r.0).word (is_private x.deed.act) (ap (is_over_after x.deed.act) (sym r.2) ∙ here))
-          (λ (before : saw_over (deeds_of k log) ≡ true). stays_over x.deed.act (r.0).word (rec before))
-          (either_true (is_over_after x.deed.act x.deed.found) (saw_over (deeds_of k log)) e)
-      noted rec false e = stays_over x.deed.act (r.0).word (rec e)
+      noted : m.word ≡ written x.deed.act (r.0).word → (saw test (deeds_of k log) ≡ true → test m.word ≡ true) → (b : Bool) → saw test (noted_if b x.deed (deeds_of k log)) ≡ true → test m.word ≡ true
+      noted word before true e = ⊎_elim
+          (λ (here : leaves_such test x.deed.act x.deed.found ≡ true). ap test word ∙ left_so x.deed.act (r.0).word (is_private x.deed.act) (ap (leaves_such test x.deed.act) (sym r.2) ∙ here))
+          before
+          (either_true (leaves_such test x.deed.act x.deed.found) (saw test (deeds_of k log)) e)
+      noted word before false e = before e
 
-  log_closed : (log : List Entry) (m : Machine) → Reaches limit log m → saw_closed (deeds_of k log) ≡ true → m.word.closed ≡ true
-  log_closed [] m r e = absurd (cc)
-  log_closed (x ∷ log) m r e = let word = step_word r.0 m (record { party = x.party; act = x.deed.act }) r.3 in
-      subst (λ (w : State). w.closed ≡ true) (sym word) (noted (log_closed log r.0 r.1) (eqb x.party k) e)
-    where
-      noted : (saw_closed (deeds_of k log) ≡ true → (r.0).word.closed ≡ true) → (b : Bool) → saw_closed (noted_if b x.deed (deeds_of k log)) ≡ true → (written x.deed.act (r.0).word).closed ≡ true
-      noted rec true e = ⊎_elim
-          (λ (here : is_closed_after x.deed.act x.deed.found ≡ true). found_closed x.deed.act (r.0).word (is_private x.deed.act) (ap (is_closed_after x.deed.act) (sym r.2) ∙ here))
-          (λ (before : saw_closed (deeds_of k log) ≡ true). stays_closed x.deed.act (r.0).word (rec before))
-          (either_true (is_closed_after x.deed.act x.deed.found) (saw_closed (deeds_of k log)) e)
-      noted rec false e = stays_closed x.deed.act (r.0).word (rec e)
+  saw_more : (ds older : List Deed) → saw test ds ≡ true → saw test (ds ++ older) ≡ true
+  saw_more [] older e = absurd (cc)
+  saw_more (d ∷ ds) older e = ⊎_elim
+      (λ (h : leaves_such test d.act d.found ≡ true). true_left (leaves_such test d.act d.found) (saw test (ds ++ older)) h)
+      (λ (h : saw test ds ≡ true). true_right (leaves_such test d.act d.found) (saw test (ds ++ older)) (saw_more ds older h))
+      (either_true (leaves_such test d.act d.found) (saw test ds) e)
 
-among_over : (xs ys : List Deed) → Among xs ys → saw_over ys ≡ true → saw_over xs ≡ true
-among_over [] ys a e = ap saw_over (sym a) ∙ e
-among_over (x ∷ xs) ys a e = ⊎_elim
-    (λ (b : Among xs ys). true_right (is_over_after x.act x.found) (saw_over xs) (among_over xs ys b e))
-    (λ (b : (zs : List Deed) × (ys ≡ x ∷ zs) × Among xs zs). ⊎_elim
-    (λ (h : is_over_after x.act x.found ≡ true). true_left (is_over_after x.act x.found) (saw_over xs) h)
-    (λ (h : saw_over (b.0) ≡ true). true_right (is_over_after x.act x.found) (saw_over xs) (among_over xs b.0 b.2 h))
-    (either_true (is_over_after x.act x.found) (saw_over (b.0)) (ap saw_over (sym b.1) ∙ e)))
-    a
+  stays_seen : (log : List Entry) (m : Machine) (ds : List Deed) → Reaches limit log m → DidLast k log ds → saw test ds ≡ true → test m.word ≡ true
+  stays_seen log m ds r d e = log_saw log m r (ap (saw test) d.1 ∙ saw_more ds d.0 e)
 
-among_closed : (xs ys : List Deed) → Among xs ys → saw_closed ys ≡ true → saw_closed xs ≡ true
-among_closed [] ys a e = ap saw_closed (sym a) ∙ e
-among_closed (x ∷ xs) ys a e = ⊎_elim
-    (λ (b : Among xs ys). true_right (is_closed_after x.act x.found) (saw_closed xs) (among_closed xs ys b e))
-    (λ (b : (zs : List Deed) × (ys ≡ x ∷ zs) × Among xs zs). ⊎_elim
-    (λ (h : is_closed_after x.act x.found ≡ true). true_left (is_closed_after x.act x.found) (saw_closed xs) h)
-    (λ (h : saw_closed (b.0) ≡ true). true_right (is_closed_after x.act x.found) (saw_closed xs) (among_closed xs b.0 b.2 h))
-    (either_true (is_closed_after x.act x.found) (saw_closed (b.0)) (ap saw_closed (sym b.1) ∙ e)))
-    a
+over_by_step : (n m : Machine) (s : Step) → Invariant n → Stepped n m s → not (is_open n.word) ≡ true → not (is_open m.word) ≡ true
+over_by_step n m s i x e = ap (λ b. not b) (ap is_open x.word ∙ stays_over s.act n.word (not_true (is_open n.word) e))
 
-pub over_stays : (limit k : ℕ) (log : List Entry) (m : Machine) (ds : List Deed) → Reaches limit log m → Among (deeds_of k log) ds → saw_over ds ≡ true → is_open m.word ≡ false
-over_stays limit k log m ds r a e = log_over limit k log m r (among_over (deeds_of k log) ds a e)
+closed_by_step : (n m : Machine) (s : Step) → Invariant n → Stepped n m s → n.word.closed ≡ true → m.word.closed ≡ true
+closed_by_step n m s i x e = ap (λ (w : State). w.closed) x.word ∙ stays_closed s.act n.word e
 
-pub closed_stays : (limit k : ℕ) (log : List Entry) (m : Machine) (ds : List Deed) → Reaches limit log m → Among (deeds_of k log) ds → saw_closed ds ≡ true → m.word.closed ≡ true
-closed_stays limit k log m ds r a e = log_closed limit k log m r (among_closed (deeds_of k log) ds a e)
+ended_by_step : (n m : Machine) (s : Step) → Invariant n → Stepped n m s → has_ended n.word ≡ true → has_ended m.word ≡ true
+ended_by_step n m s i x e = ap has_ended x.word ∙ stays_ended n.limit s.act n.word x.fits (closes_open n m s i x) e
+
+pub over_stays : (limit k : ℕ) (log : List Entry) (m : Machine) (ds : List Deed) → Reaches limit log m → DidLast k log ds → saw_over ds ≡ true → is_open m.word ≡ false
+over_stays limit k log m ds r d e = not_true (is_open m.word) (stays_seen (λ w. not (is_open w)) over_by_step limit k log m ds r d e)
+
+pub closed_stays : (limit k : ℕ) (log : List Entry) (m : Machine) (ds : List Deed) → Reaches limit log m → DidLast k log ds → saw_closed ds ≡ true → m.word.closed ≡ true
+closed_stays limit k log m ds r d e = stays_seen (λ w. w.closed) closed_by_step limit k log m ds r d e
+
+pub ended_stays : (limit k : ℕ) (log : List Entry) (m : Machine) (ds : List Deed) → Reaches limit log m → DidLast k log ds → saw_ended ds ≡ true → has_ended m.word ≡ true
+ended_stays limit k log m ds r d e = stays_seen has_ended ended_by_step limit k log m ds r d e

@@ -29,7 +29,7 @@ use Rattle.task_steps.specs.Steps.{saw_closed, output_first}
 use Rattle.task_steps.specs.Scripts.{dropping_output}
 use Rattle.task_steps.specs.TaskScripts.{looking_over, cancelling, cancelled, detaching, detached, giving_task_up}
 use Rattle.task_steps.specs.Steps.{and_then}
-use Rattle.task_steps.proofs.Acts.{apart, leads}
+use Rattle.task_steps.proofs.Acts.{apart, leads, both}
 use Rattle.task_steps.proofs.Advance.{Finds, stays, gives_work, takes_output, takes_awaiter, Steps}
 use Rattle.task_steps.proofs.Allowed.{Owes}
 use Rattle.task_steps.proofs.Owed.{counted_at, does_nothing}
@@ -43,9 +43,6 @@ leads_if m p a more b = and_then (where_found b (goes (scene m) (written a m.wor
 
 finds_it : (m : Machine) (p : Position) (a : Act) (more : List Act) → found m.limit a m.word ≡ true → leads (scene m) (a ∷ more) p ≡ leads_if m p a more true
 finds_it m p a more e = ap (leads_if m p a more) e
-
-pub both : (a b : Bool) → a ≡ true → b ≡ true → (a && b) ≡ true
-both a b e f = cc
 
 pub over : (b : Bool) → b ≡ false → not b ≡ true
 over b e = cc

@@ -12,7 +12,7 @@ use Rattle.task_laws.specs.Machine.{Machine, Step, opening, step, scene, begins,
 use Rattle.task_steps.specs.declared.table.Deed.{Deed}
 use Rattle.task_steps.specs.declared.table.Member.{Member}
 use Rattle.task_steps.specs.declared.table.View.{View}
-use Rattle.task_steps.specs.Rule.{deed, member, view, fresh, found_by, Entry, Reaches, steps_of, noted_if, deeds_of, Among, Fared, Told}
+use Rattle.task_steps.specs.Rule.{deed, member, view, fresh, found_by, Entry, Reaches, steps_of, noted_if, deeds_of, DidLast, Fared, Told}
 
 module _ {A : Type 0} where
   pub inside : (l : List A) (i : ℕ) (a : A) → get_elem? l i ≡ some a → i < length l
@@ -85,9 +85,13 @@ pub runs : (limit : ℕ) (log : List Entry) (m : Machine) → Reaches limit log 
 runs limit [] m r = ap (λ x. Some x) (sym r)
 runs limit (e ∷ es) m r = run_snoc (Some (opening limit)) (steps_of es) (record { party = e.party; act = e.deed.act }) r.0 m (runs limit es r.0 r.1) r.3
 
-pub among_none : (l : List Deed) → Among l []
-among_none [] = refl
-among_none (d ∷ l) = inl (among_none l)
+-- nothing was done last, whatever was done
+pub did_nothing : (k : ℕ) (log : List Entry) → DidLast k log []
+did_nothing k log = (deeds_of k log, refl)
+
+-- the newest part of a list, with the next deed before it or not
+abbrev Newest : List Deed → List Deed → Type 0
+Newest all ds = (older : List Deed) × (all ≡ ds ++ older)
 
 -- the parties from q on are the members from n on of this seat
 abbrev pick : (h : ℕ → ℕ × ℕ) (q seat n k : ℕ) → Dec (q ≤ k) → ℕ × ℕ
@@ -126,21 +130,21 @@ module _ (limit : ℕ) (log : List Entry) (m : Machine) (h : ℕ → ℕ × ℕ)
   other s j x l ne f = record {
     seated = pick_old h Q seat n l (dec_le Q l) (inside m.parties l x.at f.at) ∙ f.seated;
     at = at_longer (set m.parties k o.next) o.born l x.at (set_else m.parties k l o.next ne ∙ f.at);
-    did = subst (λ b. Among (noted_if b (deed a (found_by a m.word)) (deeds_of l log)) x.deeds) (sym (ne_eqb k l (λ e. ne (sym e)))) f.did;
+    did = subst (λ b. Newest (noted_if b (deed a (found_by a m.word)) (deeds_of l log)) x.deeds) (sym (ne_eqb k l (λ e. ne (sym e)))) f.did;
   }
 
   own : Fared M (E ∷ log) H seat i (member o.next (deed a (found_by a m.word) ∷ u.deeds)) k
   own = record {
     seated = pick_old h Q seat n k (dec_le Q k) (inside m.parties k u.at mine.at) ∙ mine.seated;
     at = at_longer (set m.parties k o.next) o.born k o.next (set_here m.parties k o.next (inside m.parties k u.at mine.at));
-    did = subst (λ b. Among (noted_if b (deed a (found_by a m.word)) (deeds_of k log)) (deed a (found_by a m.word) ∷ u.deeds)) (sym (eq-eqb k k refl)) (inr (u.deeds, refl, mine.did));
+    did = subst (λ b. Newest (noted_if b (deed a (found_by a m.word)) (deeds_of k log)) (deed a (found_by a m.word) ∷ u.deeds)) (sym (eq-eqb k k refl)) (mine.did.0, ap (λ l. deed a (found_by a m.word) ∷ l) mine.did.1);
   }
 
   born : (j : ℕ) (p : Position) → get_elem? o.born j ≡ some p → Fared M (E ∷ log) H seat (n + j) (fresh p) (Q + j)
   born j p e = record {
     seated = pick_new h Q seat n j (dec_le Q (Q + j));
     at = subst (λ (q : ℕ). get_elem? (set m.parties k o.next ++ o.born) (q + j) ≡ some p) (length-set m.parties k o.next) (at_second (set m.parties k o.next) o.born j p e);
-    did = subst (λ b. Among (noted_if b (deed a (found_by a m.word)) (deeds_of (Q + j) log)) []) (sym (ne_eqb k (Q + j) (λ e. let lt = inside m.parties k u.at mine.at in omega arith))) (among_none (deeds_of (Q + j) log));
+    did = did_nothing (Q + j) (E ∷ log);
   }
 
 -- an act of one of the seat's parties that the machine allows
@@ -203,7 +207,7 @@ forgets limit views views' log m t from = record {
     record {
       seated = k.1.seated;
       at = k.1.at ∙ ap (λ p. some p) (sym x.5);
-      did = ⊎_elim (λ e. subst (λ l. Among (deeds_of k.0 log) l) (sym e) k.1.did) (λ e. subst (λ l. Among (deeds_of k.0 log) l) (sym e) (among_none (deeds_of k.0 log))) x.6;
+      did = ⊎_elim (λ e. subst (DidLast k.0 log) (sym e) k.1.did) (λ e. subst (DidLast k.0 log) (sym e) (did_nothing k.0 log)) x.6;
     },
   );
 }

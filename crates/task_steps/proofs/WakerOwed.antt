@@ -24,12 +24,12 @@ use Rattle.task_steps.specs.declared.table.Member.{Member}
 use Rattle.task_steps.specs.Beside.{polls_first, may_wake_beside, may_gain_beside}
 use Rattle.task_steps.specs.WakerScripts.{looking_for_room, gaining, refusing_gain, finding_over, waking_task, woken_word, dropping_waker, closing_orphan}
 use Rattle.task_steps.proofs.Facts.{many_at}
-use Rattle.task_steps.proofs.Acts.{row_found}
+use Rattle.task_steps.proofs.Acts.{row_found, both}
 use Rattle.task_steps.proofs.Leads.{leads_first, counted}
 use Rattle.task_steps.proofs.Numbers.{same_word}
 use Rattle.task_steps.proofs.Advance.{Finds, stays, takes_awaiter, Steps}
 use Rattle.task_steps.proofs.Allowed.{Owes}
-use Rattle.task_steps.proofs.TaskOwed.{both, over}
+use Rattle.task_steps.proofs.TaskOwed.{over}
 
 never : {P : Type 0} → false ≡ true → P
 never e = absurd (cc)

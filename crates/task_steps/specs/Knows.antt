@@ -6,12 +6,14 @@ use Rattle.task_core.specs.declared.moves.Act.{Act}
 use Rattle.task_steps.specs.declared.table.Slot.{Slot}
 use Rattle.task_steps.specs.declared.table.Deed.{Deed}
 use Rattle.task_steps.specs.declared.table.View.{View}
-use Rattle.task_steps.specs.Steps.{head_of, Makes, exchanged, saw_over, saw_closed}
+use Rattle.task_steps.specs.PollScripts.{has_ended}
+use Rattle.task_steps.specs.Steps.{head_of, Makes, exchanged, saw_over, saw_closed, saw_ended}
 
 -- what it has seen of the task's end is still so, and the count has room for one more
 pub record Knows (ds : List Deed) (w : State) : Type 0 where
   pub over : saw_over ds ≡ true → is_open w ≡ false
   pub closed : saw_closed ds ≡ true → w.closed ≡ true
+  pub ended : saw_ended ds ≡ true → has_ended w ≡ true
   pub room : w.references < 72057594037927935
 
 module _ {F T A : Type 0} where

@@ -14,3 +14,4 @@ pub mod WakerScripts
 pub mod Beside
 pub mod Found
 pub mod Holders
+pub mod Held

@@ -96,16 +96,15 @@ abbrev pub deeds_of : ℕ → List Entry → List Deed
 deeds_of k [] = []
 deeds_of k (e ∷ earlier) = noted_if (eqb e.party k) e.deed (deeds_of k earlier)
 
--- ys are some of xs, in their order
-abbrev pub Among : List Deed → List Deed → Type 0
-Among [] ys = ys ≡ []
-Among (x ∷ xs) ys = Among xs ys ⊎ ((zs : List Deed) × (ys ≡ x ∷ zs) × Among xs zs)
+-- what party k did last in it, newest first: these deeds, and no other since the first of them
+abbrev pub DidLast : ℕ → List Entry → List Deed → Type 0
+DidLast k log ds = (older : List Deed) × (deeds_of k log ≡ ds ++ older)
 
--- in this interleaving party k did what is known of it, and it is this member of this seat
+-- in this interleaving party k did last what is known of it, and it is this member of this seat
 pub record Fared (m : Machine) (log : List Entry) (holder : ℕ → ℕ × ℕ) (seat index : ℕ) (u : Member) (k : ℕ) : Type 0 where
   pub seated : holder k ≡ (seat, index)
   pub at : get_elem? m.parties k ≡ some u.at
-  pub did : Among (deeds_of k log) u.deeds
+  pub did : DidLast k log u.deeds
 
 -- an interleaving in which, under some numbering, each party that is left did what its seat knows
 pub record Told (limit : ℕ) (views : List View) (log : List Entry) (m : Machine) : Type 0 where

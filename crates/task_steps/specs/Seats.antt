@@ -1,7 +1,8 @@
 -- How the parties of a seat go to other seats.
-use Rattle.std.specs.Prelude.{List, [], ◌∷◌, None}
+use Rattle.std.specs.Prelude.{Bool, true, false, List, [], ◌∷◌, None}
+use Rattle.task_laws.specs.declared.positions.Position.{Position}
 use Rattle.task_laws.specs.declared.positions.Position.TheVariants.{At}
-use Rattle.task_laws.specs.declared.positions.Rest.TheVariants.{Runnable}
+use Rattle.task_laws.specs.declared.positions.Rest.TheVariants.{Runnable, Ended, Lent}
 use Rattle.task_core.specs.declared.moves.Act.TheVariants.{HandOver}
 use Rattle.task_steps.specs.declared.table.Member.{Member}
 use Rattle.task_steps.specs.declared.table.View.{View}
@@ -35,3 +36,17 @@ taking_back v w = view w.limit (tail_of w.members)
 -- no party's
 abbrev pub nobody : View
 nobody = view 0 []
+
+-- nobody needs the party any more: it has ended, or was lent, and holds nothing
+abbrev pub needs_nobody : Position → Bool
+needs_nobody (At Ended) = true
+needs_nobody (At Lent) = true
+needs_nobody _ = false
+
+-- nobody will step with the seat again: no task was spawned by it, or its first party may be let go
+abbrev pub is_spent : View → Bool
+is_spent v = none_left v.members
+  where
+    none_left : List Member → Bool
+    none_left [] = true
+    none_left (u ∷ us) = needs_nobody u.at

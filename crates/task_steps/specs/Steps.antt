@@ -1,18 +1,19 @@
 -- What a step on the word does to the seat that makes it.
-use Rattle.std.specs.Prelude.{◌≡◌, ◌≢◌, ℕ, Bool, true, false, not, ◌||◌, List, [], ◌∷◌, ◌++◌, map, Option, Some, None}
+use Rattle.std.specs.Prelude.{◌≡◌, ◌≢◌, ℕ, Bool, true, false, not, ◌&&◌, ◌||◌, List, [], ◌∷◌, ◌++◌, map, Option, Some, None}
 use Rattle.atomic_table.specs.Table.{Me, Step, rest}
 use Rattle.task_core.specs.Word.{State, state_of, is_open}
 use Rattle.task_laws.specs.declared.positions.Position.{Position}
 use Rattle.task_laws.specs.declared.positions.Position.TheVariants.{OrphanHolder, Releaser, OldAwaiterInHand, Registered, OutputCloser, Claimer, Notifier}
 use Rattle.task_laws.specs.declared.positions.Way.TheVariants.{OfClaim}
 use Rattle.task_core.specs.declared.moves.Act.{Act}
-use Rattle.task_core.specs.Rows.{written}
+use Rattle.task_core.specs.Rows.{found, written}
 use Rattle.task_laws.specs.Table.{Slots, Scene, Outcome, steps, goes}
 use Rattle.task_laws.specs.Theorem.{owns_awaiter}
 use Rattle.task_steps.specs.declared.table.Slot.{Slot}
 use Rattle.task_steps.specs.declared.table.Deed.{Deed}
 use Rattle.task_steps.specs.declared.table.Member.{Member}
 use Rattle.task_steps.specs.declared.table.View.{View}
+use Rattle.task_steps.specs.PollScripts.{has_ended}
 use Rattle.task_steps.specs.Rule.{deed, member, view, fresh, found_by, has_work, IsFuture, IsOutput, IsEmpty, IsAwaiter, Waits}
 
 -- the first party of a seat, which is the one that steps
@@ -49,6 +50,11 @@ next_of (Some o) = o.next
 abbrev pub born_of : Option Outcome → List Position
 born_of None = []
 born_of (Some o) = o.born
+
+-- the acts in a row find the words that their rows ask for
+abbrev pub all_fit : ℕ → State → List Act → Bool
+all_fit limit w [] = true
+all_fit limit w (a ∷ more) = found limit a w && all_fit limit (written a w) more
 
 -- the acts in a row, noted newest first, each with the word that it found
 abbrev pub noted : State → List Act → List Deed → List Deed
@@ -105,9 +111,10 @@ module _ {F T A : Type 0} where
   abbrev pub Carried : Position → Position → List (ℕ × Slot F T A) → List (ℕ × Slot F T A) → Type 0
   Carried p q l l' = Carries (has_work p) (has_work q) (owns_awaiter p) (owns_awaiter q) q l l'
 
-  -- the seat made these acts, at this word
+  -- the seat made these acts, at this word, which fits them
   pub record Makes (acts : List Act) (w : State) (m m' : Me (Slot F T A) View) : Type 0 where
     pub slots : Slots
+    pub fits : all_fit m.0.limit w acts ≡ true
     pub viewed : m'.0 ≡ acted w slots acts m.0
     pub carried : Carried (head_of m.0.members).at (head_of m'.0.members).at m.1 m'.1
 
@@ -119,20 +126,23 @@ module _ {F T A : Type 0} where
   abbrev pub exchanged : (State → List Act) → (State → List Act) → Step (Slot F T A) → Me (Slot F T A) View → ℕ → Me (Slot F T A) View → Type 0
   exchanged acts missed st m r m' = (r ≡ st.first → Makes (acts (state_of r)) (state_of r) m m') × (r ≢ st.first → Makes (missed (state_of r)) (state_of r) m m')
 
--- an act after which a task is over, and one after which it is closed
-abbrev pub is_over_after : Act → Option State → Bool
-is_over_after a None = false
-is_over_after a (Some w) = not (is_open (written a w))
+-- the word that an act left, where it found one, is such a one
+abbrev pub leaves_such : (State → Bool) → Act → Option State → Bool
+leaves_such test a None = false
+leaves_such test a (Some w) = test (written a w)
 
-abbrev pub is_closed_after : Act → Option State → Bool
-is_closed_after a None = false
-is_closed_after a (Some w) = (written a w).closed
+-- .. that of one of these deeds
+abbrev pub saw : (State → Bool) → List Deed → Bool
+saw test [] = false
+saw test (d ∷ earlier) = leaves_such test d.act d.found || saw test earlier
 
 -- the party has seen the task completed or closed, or made it so
 abbrev pub saw_over : List Deed → Bool
-saw_over [] = false
-saw_over (d ∷ earlier) = is_over_after d.act d.found || saw_over earlier
+saw_over ds = saw (λ w. not (is_open w)) ds
 
 abbrev pub saw_closed : List Deed → Bool
-saw_closed [] = false
-saw_closed (d ∷ earlier) = is_closed_after d.act d.found || saw_closed earlier
+saw_closed ds = saw (λ w. w.closed) ds
+
+-- .. closed, and without a Runnable or run that has the future
+abbrev pub saw_ended : List Deed → Bool
+saw_ended ds = saw has_ended ds

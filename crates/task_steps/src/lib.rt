@@ -4,6 +4,7 @@
 pub mod common;
 pub mod holder;
 pub mod lock;
+pub mod places;
 pub mod poll;
 pub mod run;
 pub mod script;

@@ -1,7 +1,7 @@
 //! A lock with a seat under it, of which it is known what table it is of and what it knows.
 ghost use Rattle.std.specs.Prelude.{◌≡◌, [], ◌∷◌};
 
-use crate::table::{Slot, View, discard};
+use crate::table::{Slot, View};
 use atomic_table::{Perch, Seat};
 use counted_slot::{Counted, FREE, Fits, MARKED, TAKEN};
 use std::sync::Wait;
@@ -72,7 +72,7 @@ impl<F, T, A> SeatLock<F, T, A> {
         for _ in rt.forever() {
             let (found, claim) = self.seat.turn(MARKED, TAKEN);
             if found == MARKED {
-                return let_go(claim.put(Some(Locked { seat }), FREE));
+                return none_left(rt, claim.put(Some(Locked { seat }), FREE));
             }
             claim.done();
         }
@@ -80,10 +80,13 @@ impl<F, T, A> SeatLock<F, T, A> {
     }
 }
 
-// What was under a lock from which the seat had been taken.
-fn let_go<F, T, A>(left: Option<Locked<F, T, A>>) {
-    if let Some(locked) = left {
-        let Locked { seat } = locked;
-        discard(seat);
+// What was under a lock from which the seat had been taken: nothing. But that is known of no lock by its type, so where there were a seat, this would wait by `rt` for ever, and not lose it.
+fn none_left<F, T, A, R: Wait>(rt: &R, left: Option<Locked<F, T, A>>) {
+    match left {
+        None => {}
+        Some(Locked { seat: _ }) => {
+            for _ in rt.forever() {}
+            unreachable!()
+        }
     }
 }

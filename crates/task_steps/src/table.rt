@@ -1,7 +1,8 @@
 //! The table of a cell: its one word, its slots, and what a seat knows.
-ghost use Rattle.std.specs.Prelude.{◌≡◌, ◌<◌, ◌^◌, [], IfOk};
+ghost use Rattle.std.specs.Prelude.{◌≡◌, ◌<◌, ◌^◌, [], IfOk, true};
 ghost use Rattle.task_core.specs.Poll.{IfReady};
 ghost use Rattle.task_steps.specs.Rule.{laid_view, IsFuture};
+ghost use Rattle.task_steps.specs.Seats.{is_spent};
 
 use atomic_table::{Refused, Seat, Table, TableRule};
 use std::alloc::{AllocError, Allocator};
@@ -103,12 +104,11 @@ pub fn lay<F: Drop, T: Drop, A: Drop, B: Allocator + Copy>(
     }
 }
 
-/// Polls the future where it lies, in a slot that has one. `waker` is what the poll is lent.
+/// Polls the future once, where it lies, in a slot that has one. `waker` is what the poll is lent.
 pub fn polled<W, F: Future<W>, A>(slot: &mut Slot<F, Kept<F>, A>, waker: &W) -> Poll<F::Output>
     requires { IsFuture slot.old }
-    ensures future { IsFuture slot.new }
     ensures meets { IfReady result F.Yields.meets }
-    ensures fact { (f : _) × (g : _) × F.polled f waker.now result g }
+    ensures once { (f : F) × (g : F) × (slot.old ≡ Slot.Future f) × (slot.new ≡ Slot.Future g) × F.polled f waker.now result g }
 {
     match slot {
         Slot::Future(future) => future.poll(waker),
@@ -116,7 +116,9 @@ pub fn polled<W, F: Future<W>, A>(slot: &mut Slot<F, Kept<F>, A>, waker: &W) -> 
     }
 }
 
-/// Lets a seat go that nobody will step with again.
-pub fn discard<S, V>(seat: Seat<S, V>) {
+/// Lets a seat go that nobody will step with again: it was laid only, or its first party has ended, or was lent and is given up.
+pub fn discard<F, T, A>(seat: Seat<Slot<F, T, A>, View>)
+    requires { is_spent seat.me.0 ≡ true }
+{
     let Seat { .. } = seat;
 }

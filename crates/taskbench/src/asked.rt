@@ -14,6 +14,8 @@ const QUICK_REPETITIONS: u32 = 5;
 pub enum Request {
     /// Nothing: there are none.
     DoNothing,
+    /// What may be written.
+    Help,
     /// The times of all benchmarks, each measured so often.
     Measure(u32),
     /// So many operations of one benchmark, and no time.
@@ -27,6 +29,7 @@ pub fn asked(args: &[String]) -> Option<Request>
 {
     match args {
         [] => Some(Request::DoNothing),
+        [word] if word.as_str() == "--help" => Some(Request::Help),
         [word] if word.as_str() == "run" => Some(Request::Measure(REPETITIONS)),
         [word] if word.as_str() == "quick" => Some(Request::Measure(QUICK_REPETITIONS)),
         [word, name, count] if word.as_str() == "perform" => {

@@ -13,6 +13,20 @@ use std::rt::Clock;
 use std::sync::Wait;
 use std::thread::Threads;
 
+const USAGE: &str = "usage: taskbench [run | quick | perform NAME COUNT]";
+
+const HELP: &str = "
+Measures the operations of the library, and prints a line for each. Without arguments it does nothing.
+
+    run                   each benchmark, by 15 repetitions
+    quick                 .. by 5
+    perform NAME COUNT    so many operations of one benchmark, of which nothing is printed
+    --help                this text
+
+The names:
+
+";
+
 /// Does what the arguments ask for, and answers the status.
 ///
 /// Without arguments it does nothing. Times are printed on `out`, a line for each benchmark, and its name on `err` before it is measured.
@@ -31,11 +45,15 @@ where
     ensures nothing { args.now ≡ [] → result ≡ 0 }
 {
     let Some(request) = asked(args) else {
-        let _ = writeln!(err, "usage: taskbench [run | quick | perform NAME COUNT]");
+        let _ = writeln!(err, "{USAGE}");
         return 2;
     };
     match request {
         Request::DoNothing => 0,
+        Request::Help => {
+            let printed = print_help(out);
+            status_of(printed, err)
+        }
         Request::Measure(repetitions) => {
             let printed = print_all(rt, alloc, repetitions, out, err);
             status_of(printed, err)
@@ -59,6 +77,17 @@ fn status_of<T: Drop, E: io::Write>(outcome: Result<T, Failure>, err: &mut E) ->
             1
         }
     }
+}
+
+// What may be written: the arguments, and the names of the benchmarks that can be performed.
+fn print_help<W: io::Write>(out: &mut W) -> Result<(), Failure> {
+    write!(out, "{USAGE}\n{HELP}")?;
+    for benchmark in Benchmark::ALL {
+        let name = benchmark.name();
+        writeln!(out, "    {name}")?;
+    }
+    out.flush()?;
+    Ok(())
 }
 
 // Measures all benchmarks, and counts what those of one thread ask of the allocator.

@@ -137,6 +137,35 @@ fn unknown_words_are_told_the_usage(rt: HostRuntime) -> Result<(), Fail> {
     Ok(())
 }
 
+// The help begins with the usage, tells each argument, and ends with a line for each benchmark.
+#[test]
+fn the_help_lists_what_may_be_written(rt: HostRuntime) -> Result<(), Fail> {
+    let alloc = rt.alloc();
+    let mut out = Vec::new(alloc);
+    let mut err = Vec::new(alloc);
+    let args = [String::from_str(alloc, "--help")?];
+    let status = answer(rt, alloc, &args, &mut out, &mut err);
+    let mut names = String::new(alloc);
+    for benchmark in Benchmark::ALL {
+        let name = benchmark.name();
+        let line = format!(in alloc; "    {name}\n")?;
+        names.push_str(line.as_str())?;
+    }
+    assert_eq!(rt; (status, err.len()), (0, 0));
+    assert!(rt; out.as_slice().starts_with(USAGE.as_bytes()));
+    assert!(rt; out.as_slice().ends_with(names.as_str().as_bytes()));
+    let text = String::from_utf8(out)?;
+    for word in [
+        "    run ",
+        "    quick ",
+        "    perform NAME COUNT ",
+        "    --help ",
+    ] {
+        assert!(rt; text.as_str().contains(word), "{word}");
+    }
+    Ok(())
+}
+
 #[test]
 fn operations_are_asked_for_by_name(rt: HostRuntime) -> Result<(), Fail> {
     let alloc = rt.alloc();

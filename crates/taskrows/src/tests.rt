@@ -73,6 +73,22 @@ fn other_arguments_are_refused(rt: HostRuntime) -> Result<(), Fail> {
 }
 
 #[test]
+fn the_help_lists_the_arguments(rt: HostRuntime) -> Result<(), Fail> {
+    let alloc = rt.alloc();
+    let args = [String::from_str(alloc, "--help")?];
+    let mut out = Vec::new(alloc);
+    let mut err = Vec::new(alloc);
+    let status = rows(rt, alloc, &args, &mut out, &mut err);
+    assert_eq!(rt; (status, err.len()), (0, 0));
+    let text = String::from_utf8(out)?;
+    assert!(rt; text.as_str().starts_with("usage: taskrows [threads]\n"));
+    for word in ["    threads ", "    --help "] {
+        assert!(rt; text.as_str().contains(word), "{word}");
+    }
+    Ok(())
+}
+
+#[test]
 fn a_writer_that_fails_gives_status_one(rt: HostRuntime) -> Result<(), Fail> {
     let alloc = rt.alloc();
     let mut out = Vec::new(alloc);
@@ -100,12 +116,14 @@ fn other_writers_that_fail_give_status_one(rt: HostRuntime) -> Result<(), Fail> 
     let alloc = rt.alloc();
     let unknown = [String::from_str(alloc, "thread")?];
     let threads = [String::from_str(alloc, "threads")?];
+    let help = [String::from_str(alloc, "--help")?];
     let mut full = Limited {
         left: 0,
         flushes: true,
     };
     let mut other = Vec::new(alloc);
     assert_eq!(rt; rows(rt, alloc, &threads, &mut full, &mut other), 1);
+    assert_eq!(rt; rows(rt, alloc, &help, &mut full, &mut other), 1);
     assert_eq!(rt; rows(rt, alloc, &unknown, &mut other, &mut full), 1);
     assert_eq!(rt; other.len(), 0);
     Ok(())

@@ -5,6 +5,7 @@ use task_core::moves::Act;
 use task_replay::machine::Step;
 use trace_table::line::{Expected, content, is_blank, read_limit, read_step};
 use trace_table::names::{ACTS, name};
+use trace_table::nearest::nearest;
 
 #[test]
 fn each_act_is_read_by_its_name(rt: HostRuntime) -> Result<(), Fail> {
@@ -81,4 +82,27 @@ fn a_comment_ends_a_line(rt: HostRuntime) {
     }
     assert!(rt; is_blank("  \t "));
     assert!(rt; !is_blank(" x "));
+}
+
+// One edit is a letter that is put in, left out or replaced. Of two names as near, the first one in the order of the table of moves is told.
+#[test]
+fn the_act_of_the_nearest_name_is_meant(rt: HostRuntime) -> Result<(), Fail> {
+    let cases = [
+        ("look", Some(Act::Look)),
+        ("Look", Some(Act::Look)),
+        ("wakeidle", Some(Act::WakeIdle)),
+        ("drop_future", Some(Act::DropFuture)),
+        ("end-cal", Some(Act::EndCall)),
+        ("complete-dettached", Some(Act::CompleteDetached)),
+        ("detach-lost", Some(Act::DetachLast)),
+        ("handover", Some(Act::HandOver)),
+        ("deta", Some(Act::Detach)),
+        ("x", None),
+        ("run", None),
+        ("", None),
+    ];
+    for (word, act) in cases {
+        assert_eq!(rt; nearest(rt.alloc(), word)?, act, "{word}");
+    }
+    Ok(())
 }

@@ -2,6 +2,7 @@
 
 use std::io;
 use std::test::Fail;
+use trace_table::row::Shown;
 use trace_table::trace::trace;
 
 // A writer that takes so many bytes and then fails, and may fail to flush.
@@ -116,11 +117,41 @@ fn a_row_is_printed_for_each_step(rt: HostRuntime) -> Result<(), Fail> {
     ] {
         let mut out = Vec::new(alloc);
         let mut err = Vec::new(alloc);
-        assert_eq!(rt; trace(alloc, input.as_bytes(), &mut out, &mut err), 0);
+        assert_eq!(rt;
+            trace(alloc, Shown::All, input.as_bytes(), &mut out, &mut err),
+            0
+        );
         let wanted = format!(in alloc; "{HEAD}{rows}")?;
         assert_eq!(rt; out.as_slice(), wanted.as_bytes());
         assert_eq!(rt; err.len(), 0);
     }
+    Ok(())
+}
+
+// The same life of a task, with the parties that a step has changed or added. One that ends is shown once more.
+const IDLE_CHANGES: &str = "\
+| 1 | 0 start-run | 0x112 | RUNNING TASK | 1 | party 0 | empty | empty | 0 Starting |
+| 2 | 0 start-poll | 0x112 | RUNNING TASK | 1 | party 0 | empty | empty | 0 Polling, 2 At(Lent) |
+| 3 | 2 gain-reference | 0x212 | RUNNING TASK | 2 | party 0 | empty | empty | 2 Leaving(Gained(true), Lent), 3 At(Waker) |
+| 4 | 2 end-call | 0x212 | RUNNING TASK | 2 | party 0 | empty | empty | 2 At(Lent) |
+| 5 | 0 answer-pending | 0x212 | RUNNING TASK | 2 | party 0 | empty | empty | 0 Pending |
+| 6 | 0 end-idle | 0x110 | TASK | 1 | cell | empty | empty | 0 Leaving(Ran(false), Ended) |
+| 7 | 0 end-call | 0x110 | TASK | 1 | cell | empty | empty | 0 At(Ended) |
+| 8 | 3 wake-idle | 0x211 | SCHEDULED TASK | 2 | cell | empty | empty | 3 Leaving(Nothing, Waker), 4 Deliverer(false, ThenEnds(Nothing)) |
+| 9 | 3 end-call | 0x211 | SCHEDULED TASK | 2 | cell | empty | empty | 3 At(Waker) |
+| 10 | 4 hand-over | 0x211 | SCHEDULED TASK | 2 | cell | empty | empty | 4 Leaving(Nothing, Ended), 5 At(Runnable) |
+| 11 | 4 end-call | 0x211 | SCHEDULED TASK | 2 | cell | empty | empty | 4 At(Ended) |
+";
+
+#[test]
+fn a_row_shows_what_its_step_changed(rt: HostRuntime) -> Result<(), Fail> {
+    let alloc = rt.alloc();
+    let mut out = Vec::new(alloc);
+    let mut err = Vec::new(alloc);
+    let status = trace(alloc, Shown::Changed, IDLE.as_bytes(), &mut out, &mut err);
+    let wanted = format!(in alloc; "{HEAD}{IDLE_CHANGES}")?;
+    assert_eq!(rt; (status, err.len()), (0, 0));
+    assert_eq!(rt; out.as_slice(), wanted.as_bytes());
     Ok(())
 }
 
@@ -162,7 +193,13 @@ fn a_refused_step_is_told_with_its_reason(rt: HostRuntime) -> Result<(), Fail> {
         let input = format!(in alloc; "limit {limit}\n{step}\n1 look\n")?;
         let mut out = Vec::new(alloc);
         let mut err = Vec::new(alloc);
-        let status = trace(alloc, input.as_str().as_bytes(), &mut out, &mut err);
+        let status = trace(
+            alloc,
+            Shown::All,
+            input.as_str().as_bytes(),
+            &mut out,
+            &mut err,
+        );
         let wanted = format!(in alloc; "{HEAD}\nStep 1, `{step}`, is not allowed: {reason}\n")?;
         assert_eq!(rt; (status, err.len()), (1, 0), "{step}");
         assert_eq!(rt; out.as_slice(), wanted.as_bytes(), "{step}");
@@ -176,7 +213,10 @@ fn a_lent_waker_is_refused_after_its_poll(rt: HostRuntime) -> Result<(), Fail> {
     let input = "limit 4\n0 start-run\n0 start-poll\n0 answer-pending\n2 wake-running\n";
     let mut out = Vec::new(alloc);
     let mut err = Vec::new(alloc);
-    assert_eq!(rt; trace(alloc, input.as_bytes(), &mut out, &mut err), 1);
+    assert_eq!(rt;
+        trace(alloc, Shown::All, input.as_bytes(), &mut out, &mut err),
+        1
+    );
     let reason =
         "\nStep 4, `2 wake-running`, is not allowed: the waker is lent, and no poll is under way.\n";
     assert!(rt; out.as_slice().ends_with(reason.as_bytes()));
@@ -186,7 +226,7 @@ fn a_lent_waker_is_refused_after_its_poll(rt: HostRuntime) -> Result<(), Fail> {
 #[test]
 fn a_line_that_cannot_be_read_is_named(rt: HostRuntime) -> Result<(), Fail> {
     let alloc = rt.alloc();
-    let cases: [(&[u8], &str); 7] = [
+    let cases: [(&[u8], &str); 10] = [
         (b"", "line 1: expected `limit` and a number below 2^64\n"),
         (
             b"# nothing\n\n",
@@ -200,9 +240,18 @@ fn a_line_that_cannot_be_read_is_named(rt: HostRuntime) -> Result<(), Fail> {
             b"limit 4\n\nlook\n",
             "line 3: expected the number of a party, below 2^64\n",
         ),
+        (b"limit 4\n1\n", "line 2: expected the name of an act\n"),
         (
             b"limit 4\n1 loom\n",
-            "line 2: expected the name of an act\n",
+            "line 2: expected the name of an act in place of \"loom\": `look` is the nearest\n",
+        ),
+        (
+            b"limit 4\n0 start_run # once\n",
+            "line 2: expected the name of an act in place of \"start_run\": `start-run` is the nearest\n",
+        ),
+        (
+            b"limit 4\n1 spin\n",
+            "line 2: expected the name of an act in place of \"spin\": `tasktrace --help` lists them\n",
         ),
         (
             b"limit 4\n1 look now\n",
@@ -213,7 +262,11 @@ fn a_line_that_cannot_be_read_is_named(rt: HostRuntime) -> Result<(), Fail> {
     for (input, told) in cases {
         let mut out = Vec::new(alloc);
         let mut err = Vec::new(alloc);
-        assert_eq!(rt; trace(alloc, input, &mut out, &mut err), 2, "{told}");
+        assert_eq!(rt;
+            trace(alloc, Shown::All, input, &mut out, &mut err),
+            2,
+            "{told}"
+        );
         assert_eq!(rt; err.as_slice(), told.as_bytes());
         let begun = input.starts_with(b"limit");
         let rows = if begun { HEAD } else { "" };
@@ -235,7 +288,7 @@ fn a_writer_that_fails_gives_status_one(rt: HostRuntime) -> Result<(), Fail> {
         (whole, false),
     ] {
         let mut limited = Limited { left, flushes };
-        let status = trace(alloc, READY.as_bytes(), &mut limited, &mut err);
+        let status = trace(alloc, Shown::All, READY.as_bytes(), &mut limited, &mut err);
         assert_eq!(rt; status, 1, "after {left} bytes");
     }
     let mut full = Limited {
@@ -244,7 +297,13 @@ fn a_writer_that_fails_gives_status_one(rt: HostRuntime) -> Result<(), Fail> {
     };
     let mut out = Vec::new(alloc);
     assert_eq!(rt;
-        trace(alloc, b"0 look\n".as_slice(), &mut out, &mut full),
+        trace(
+            alloc,
+            Shown::All,
+            b"0 look\n".as_slice(),
+            &mut out,
+            &mut full
+        ),
         1
     );
     Ok(())
@@ -259,7 +318,13 @@ fn a_trace_that_ends_early_is_flushed(rt: HostRuntime) {
             flushes: false,
         };
         let mut err = Vec::new(rt.alloc());
-        let status = trace(rt.alloc(), input.as_bytes(), &mut unflushed, &mut err);
+        let status = trace(
+            rt.alloc(),
+            Shown::All,
+            input.as_bytes(),
+            &mut unflushed,
+            &mut err,
+        );
         assert_eq!(rt; status, 1, "{input}");
         assert!(rt; err.len() > 0, "{input}");
     }

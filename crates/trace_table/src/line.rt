@@ -2,7 +2,9 @@
 ghost use Rattle.std.specs.Prelude.{◌≡◌, IfOk};
 ghost use Rattle.trace_table.specs.Names.{name_of};
 
-use crate::names::named;
+use crate::names::{name, named};
+use crate::nearest::nearest;
+use std::alloc::{AllocError, Global};
 use std::fmt;
 use task_replay::machine::Step;
 
@@ -79,4 +81,21 @@ fn step_of(party: &str, act: &str) -> Result<Step, Expected>
     let party = party.parse::<u64>().or(Err(Expected::Party))?;
     let act = named(act).ok_or(Expected::Act)?;
     Ok(Step { party, act })
+}
+
+/// What was expected in that line, in words. A word that names no act is told too, with the act that is nearest, or where all acts are listed.
+pub fn expectation(alloc: Global, expected: Expected, content: &str) -> Result<String, AllocError> {
+    let mut words = content.split_ascii_whitespace().skip(1);
+    match (expected, words.next()) {
+        (Expected::Act, Some(word)) => match nearest(alloc, word)? {
+            Some(act) => {
+                let act = name(act);
+                format!(in alloc; "{expected} in place of {word:?}: `{act}` is the nearest")
+            }
+            None => {
+                format!(in alloc; "{expected} in place of {word:?}: `tasktrace --help` lists them")
+            }
+        },
+        _ => format!(in alloc; "{expected}"),
+    }
 }

@@ -23,6 +23,15 @@ pub const FLAGS: [(u64, &str); 8] = [
     (NOTIFYING, "NOTIFYING"),
 ];
 
+/// Which parties a row shows.
+#[derive(Clone, Copy, Debug, PartialEq, Eq)]
+pub enum Shown {
+    /// Those that stand otherwise than before its step, and those that it adds.
+    Changed,
+    /// All that have not ended.
+    All,
+}
+
 /// Prints the names of the columns.
 pub fn print_head<W: io::Write>(out: &mut W) -> io::Result<()> {
     writeln!(
@@ -32,24 +41,34 @@ pub fn print_head<W: io::Write>(out: &mut W) -> io::Result<()> {
     writeln!(out, "|---|---|---|---|---|---|---|---|---|")
 }
 
-/// Prints how the machine stands: after that step, or after the spawn.
+/// Prints how the machine stands after the spawn.
+pub fn print_spawn<W: io::Write>(player: &Player<Global>, out: &mut W) -> io::Result<()> {
+    let machine = player.machine();
+    write!(out, "| 0 | spawn | ")?;
+    print_word(machine.word(), out)?;
+    print_slots(machine, out)?;
+    print_all(machine, out)?;
+    writeln!(out, " |")
+}
+
+/// Prints how the machine stands after that step. There were so many parties before it.
 pub fn print_row<W: io::Write>(
     player: &Player<Global>,
-    step: Option<Step>,
+    step: Step,
+    before: usize,
+    shown: Shown,
     out: &mut W,
 ) -> io::Result<()> {
     let machine = player.machine();
     let number = player.steps();
-    match step {
-        Some(step) => {
-            let shown = ShownStep(step);
-            write!(out, "| {number} | {shown} | ")?;
-        }
-        None => write!(out, "| {number} | spawn | ")?,
-    }
+    let act = ShownStep(step);
+    write!(out, "| {number} | {act} | ")?;
     print_word(machine.word(), out)?;
     print_slots(machine, out)?;
-    print_parties(machine, out)?;
+    match shown {
+        Shown::Changed => print_changed(machine, step.party, before, out)?,
+        Shown::All => print_all(machine, out)?,
+    }
     writeln!(out, " |")
 }
 
@@ -88,8 +107,26 @@ fn print_slots<W: io::Write>(machine: &Machine<Global>, out: &mut W) -> io::Resu
     }
 }
 
+// Where the party of a step stands, and each party from that number on, which the step has added.
+fn print_changed<W: io::Write>(
+    machine: &Machine<Global>,
+    party: u64,
+    before: usize,
+    out: &mut W,
+) -> io::Result<()> {
+    if let Some(position) = machine.position(party) {
+        write!(out, " {party} {position:?}")?;
+    }
+    for added in before as u64..machine.parties() as u64 {
+        if let Some(position) = machine.position(added) {
+            write!(out, ", {added} {position:?}")?;
+        }
+    }
+    Ok(())
+}
+
 // Where each party stands that has not ended.
-fn print_parties<W: io::Write>(machine: &Machine<Global>, out: &mut W) -> io::Result<()> {
+fn print_all<W: io::Write>(machine: &Machine<Global>, out: &mut W) -> io::Result<()> {
     let mut mark = "";
     for party in 0..machine.parties() as u64 {
         match machine.position(party) {

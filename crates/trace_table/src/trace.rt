@@ -1,38 +1,39 @@
 //! The trace: the lines that are read, and what is printed of each.
 ghost use Rattle.std.specs.Prelude.{◌≡◌, ◌≤◌, IfOk};
 
-use crate::line::{Expected, content, is_blank, read_limit, read_step};
+use crate::line::{Expected, content, expectation, is_blank, read_limit, read_step};
 use crate::reason::print_refusal;
-use crate::row::{print_head, print_row};
+use crate::row::{Shown, print_head, print_row, print_spawn};
 use std::alloc::{AllocError, Global};
 use std::io;
 use task_replay::machine::Step;
 use task_replay::player::{PlayError, Player};
 
 // What comes after a line.
-#[derive(Clone, Copy, Debug, PartialEq, Eq)]
+#[derive(Drop)]
 enum Next {
     // The next line.
     Line,
     // The end: its step is not allowed.
     Refused,
     // The end: this was expected in place of what stands there.
-    Unread(Expected),
+    Unread(String),
 }
 
-/// Plays the steps that are read from `input`, and prints a row for each on `out`.
+/// Plays the steps that are read from `input`, and prints a row for each on `out`, with these parties.
 ///
 /// The status is 0 where each step is allowed. It is 1 where one is not, which is told on `out` after the rows before it, and where memory, the reader or
 /// a writer fails. It is 2 where a line cannot be read, which is told on `err`, by its number and what was expected there.
 pub fn trace<R: io::BufRead + Drop, W: io::Write, E: io::Write>(
     alloc: Global,
+    shown: Shown,
     input: R,
     out: &mut W,
     err: &mut E,
 ) -> u8
     ensures { result ≤ 2 }
 {
-    match play_lines(alloc, input, out, err) {
+    match play_lines(alloc, shown, input, out, err) {
         Ok(status) => status,
         Err(error) => {
             let _ = out.flush();
@@ -46,6 +47,7 @@ pub fn trace<R: io::BufRead + Drop, W: io::Write, E: io::Write>(
 // The status, or what failed.
 fn play_lines<R: io::BufRead + Drop, W: io::Write, E: io::Write>(
     alloc: Global,
+    shown: Shown,
     input: R,
     out: &mut W,
     err: &mut E,
@@ -56,14 +58,15 @@ fn play_lines<R: io::BufRead + Drop, W: io::Write, E: io::Write>(
     let mut number = 0u64;
     for line in input.lines(alloc) {
         number = number.saturating_add(1);
-        match next_of(alloc, &mut player, line, out)? {
+        match next_of(alloc, shown, &mut player, line, out)? {
             Next::Line => {}
             Next::Refused => return refused(out),
-            Next::Unread(expected) => return unread(number, expected, out, err),
+            Next::Unread(expected) => return unread(number, expected.as_str(), out, err),
         }
     }
     if player.is_none() {
-        return unread(number.saturating_add(1), Expected::Limit, out, err);
+        let expected = expectation(alloc, Expected::Limit, "")?;
+        return unread(number.saturating_add(1), expected.as_str(), out, err);
     }
     out.flush()?;
     Ok(0)
@@ -78,7 +81,7 @@ fn refused<W: io::Write>(out: &mut W) -> io::Result<u8>
 
 fn unread<W: io::Write, E: io::Write>(
     number: u64,
-    expected: Expected,
+    expected: &str,
     out: &mut W,
     err: &mut E,
 ) -> io::Result<u8>
@@ -93,6 +96,7 @@ fn unread<W: io::Write, E: io::Write>(
 // What a line says is done, and printed.
 fn next_of<W: io::Write>(
     alloc: Global,
+    shown: Shown,
     player: &mut Option<Player<Global>>,
     line: io::Result<String<Global>>,
     out: &mut W,
@@ -100,7 +104,7 @@ fn next_of<W: io::Write>(
     let text = match line {
         Ok(text) => text,
         Err(error) if error.kind() == io::ErrorKind::InvalidData => {
-            return Ok(Next::Unread(Expected::Text));
+            return Ok(Next::Unread(expectation(alloc, Expected::Text, "")?));
         }
         Err(error) => return Err(error),
     };
@@ -110,7 +114,7 @@ fn next_of<W: io::Write>(
     }
     match player {
         None => begin(alloc, player, content, out),
-        Some(player) => go_on(player, content, out),
+        Some(player) => go_on(alloc, shown, player, content, out),
     }
 }
 
@@ -125,34 +129,38 @@ fn begin<W: io::Write>(
         Ok(limit) => {
             let opened = Player::new(alloc, limit)?;
             print_head(out)?;
-            print_row(&opened, None, out)?;
+            print_spawn(&opened, out)?;
             *player = Some(opened);
             Ok(Next::Line)
         }
-        Err(expected) => Ok(Next::Unread(expected)),
+        Err(expected) => Ok(Next::Unread(expectation(alloc, expected, content)?)),
     }
 }
 
 // Each other line gives a step.
 fn go_on<W: io::Write>(
+    alloc: Global,
+    shown: Shown,
     player: &mut Player<Global>,
     content: &str,
     out: &mut W,
 ) -> io::Result<Next> {
     match read_step(content) {
-        Ok(step) => play_step(player, step, out),
-        Err(expected) => Ok(Next::Unread(expected)),
+        Ok(step) => play_step(shown, player, step, out),
+        Err(expected) => Ok(Next::Unread(expectation(alloc, expected, content)?)),
     }
 }
 
 fn play_step<W: io::Write>(
+    shown: Shown,
     player: &mut Player<Global>,
     step: Step,
     out: &mut W,
 ) -> io::Result<Next> {
+    let before = player.machine().parties();
     match player.play(step) {
         Ok(()) => {
-            print_row(player, Some(step), out)?;
+            print_row(player, step, before, shown, out)?;
             Ok(Next::Line)
         }
         Err(PlayError::NoMemory) => Err(io::Error::from(AllocError)),

@@ -10,6 +10,7 @@ ghost use Rattle.task_steps.specs.declared.table.Slot.{Slot};
 ghost use Rattle.task_cell.specs.RunCalls.{TakesDue, HasTaken, Wakes};
 ghost use Rattle.task_cell.specs.Calls.{Stands, StandsWith, Goes, GoesWith, Notifies, position, holds};
 ghost use Rattle.task_steps.specs.Deeds.{act};
+ghost use Rattle.task_steps.specs.Held.{held};
 ghost use Rattle.task_steps.specs.Standing.{way_of, rest_of};
 
 use super::{Cell, Party};
@@ -18,14 +19,15 @@ use task_core::word::{AWAITER, NOTIFYING, Word};
 use task_core::{Wake, Yields};
 use task_steps::Always;
 use task_steps::common::{Dropping, Ending, ReleasingAwaiter, TakingAwaiter, Waking};
-use task_steps::table::{Kept, Slot};
+use task_steps::places::{Held, take_out};
+use task_steps::table::Kept;
 
 impl<R: Drop, F: Yields, Q: Drop, M: Drop, A: Drop, B: Allocator> Cell<R, F, Q, M, A, B> {
     // Takes the stored awaiter, unless another party is at it. Both steps are single fetches, never tried again.
-    pub(crate) fn notify(&self, party: &mut Party<F, Kept<F>, A>) -> Option<A>
+    pub(crate) fn notify(&self, party: &mut Party<F, Kept<F>, A>) -> Option<Held<A>>
         requires cell { party.old.seat.table_id ≡ self.now.table.shared.table_id }
         requires party { (way : Way) × (held : List (ℕ × Slot F _ A)) × StandsWith (Notifier way) held party.old }
-        ensures { Notifies party.old party.new result }
+        ensures { Notifies party.old party.new (held result) }
     {
         let shared = &self.table.shared;
         let found = shared.fetch_or::<Always<TakingAwaiter>>(&mut party.seat, 0, NOTIFYING);
@@ -33,19 +35,16 @@ impl<R: Drop, F: Yields, Q: Drop, M: Drop, A: Drop, B: Allocator> Cell<R, F, Q, 
         if found.notifying() || found.registering() {
             return None;
         }
-        let awaiter = match shared.exchange(&mut party.seat, 2, Slot::Empty) {
-            Slot::Awaiter(awaiter) => Some(awaiter),
-            _ => None,
-        };
+        let awaiter = take_out(shared, &mut party.seat, 2).into_awaiter();
         shared.fetch_and::<Always<ReleasingAwaiter>>(&mut party.seat, 0, !(NOTIFYING | AWAITER));
         awaiter
     }
 
     // Takes the stored awaiter where AWAITER was found.
-    pub(crate) fn take_due(&self, party: &mut Party<F, Kept<F>, A>, due: bool) -> Option<A>
+    pub(crate) fn take_due(&self, party: &mut Party<F, Kept<F>, A>, due: bool) -> Option<Held<A>>
         requires cell { party.old.seat.table_id ≡ self.now.table.shared.table_id }
         requires party { (way : Way) × Stands (notifies due way) party.old }
-        ensures { (way : Way) → Stands (notifies due way) party.old → TakesDue way due party.old party.new result }
+        ensures { (way : Way) → Stands (notifies due way) party.old → TakesDue way due party.old party.new (held result) }
     {
         if due { self.notify(party) } else { None }
     }
@@ -82,10 +81,10 @@ impl<R: Drop, F: Yields, Q: Drop, M: Drop, A: Drop, B: Allocator> Cell<R, F, Q, 
 
 impl<R: Drop, F: Yields, Q: Drop, M: Drop, A: Wake, B: Allocator> Cell<R, F, Q, M, A, B> {
     // Wakes the awaiter that was taken.
-    pub(crate) fn wake_taken(&self, party: &mut Party<F, Kept<F>, A>, awaiter: Option<A>)
+    pub(crate) fn wake_taken(&self, party: &mut Party<F, Kept<F>, A>, awaiter: Option<Held<A>>)
         requires cell { party.old.seat.table_id ≡ self.now.table.shared.table_id }
-        requires party { (way : Way) × HasTaken way party.old awaiter }
-        ensures { (way : Way) → HasTaken way party.old awaiter → Wakes ((a : A) × A.woken a) way awaiter party.old party.new }
+        requires party { (way : Way) × HasTaken way party.old (held awaiter) }
+        ensures { (way : Way) → HasTaken way party.old (held awaiter) → Wakes ((a : A) × A.woken a) way (held awaiter) party.old party.new }
     {
         if let Some(awaiter) = awaiter {
             awaiter.wake();

@@ -6,6 +6,7 @@ ghost use Rattle.task_laws.specs.declared.positions.Way.TheVariants.{OfCancel};
 ghost use Rattle.task_core.specs.declared.moves.Act.TheVariants.{EndCall};
 ghost use Rattle.task_steps.specs.declared.table.Deed.{Deed};
 ghost use Rattle.task_cell.specs.TaskPaths.{Cancels, Notice, CancelPath};
+ghost use Rattle.task_cell.specs.Handed.{HandedOver};
 ghost use Rattle.task_cell.specs.Calls.{Stands, Goes, position, limit_of};
 ghost use Rattle.task_steps.specs.Deeds.{act};
 ghost use Rattle.task_steps.specs.Standing.{as_task};
@@ -26,7 +27,7 @@ impl<R: Wait + Drop, F: Yields, Q: Drop, M: Drop, A: Wake, B: Allocator> Cell<R,
         Q: Schedule<Runnable<R, F, Q, M, A, X, B>>,
         requires cell { (party.old.seat.table_id ≡ (arc_value this.now).table.shared.table_id) × (limit_of party.old ≡ (arc_value this.now).limit) }
         requires party { (n : ℕ) × Stands (as_task n) party.old }
-        ensures path { (path : List Deed) × CancelPath ((n : _) × Q.scheduled (arc_value this.now).schedule n (record { woken_while_running = false })) ((a : A) × A.woken a) path × Goes path (position party.old) party.old party.new }
+        ensures path { (path : List Deed) × CancelPath (HandedOver Q.scheduled (arc_value this.now) around false) ((a : A) × A.woken a) path × Goes path (position party.old) party.old party.new }
     {
         match this.close_task(party) {
             Cancelled::Over => {}

@@ -20,21 +20,20 @@ use std::alloc::Allocator;
 use std::sync::Wait;
 use task_core::word::Word;
 use task_core::{Wake, Yields};
+use task_steps::places::{Held, take_out};
 use task_steps::poll::{Claiming, HandingOut};
-use task_steps::table::{Kept, Slot};
+use task_steps::table::Kept;
 use task_steps::{Always, Exchange};
 
 impl<R: Drop, F: Yields, Q: Drop, M: Drop, A: Drop, B: Allocator> Cell<R, F, Q, M, A, B> {
     // Hands the output out, and ends the poll. One load.
-    fn hand_out(&self, party: &mut Party<F, Kept<F>, A>) -> Kept<F>
+    fn hand_out(&self, party: &mut Party<F, Kept<F>, A>) -> Held<Kept<F>>
         requires cell { party.old.seat.table_id ≡ self.now.table.shared.table_id }
         requires party { (i : ℕ) × (y : Slot F _ A) × (z : Slot F _ A) × StandsWith (Claimer i) (output_first y z []) party.old × IsOutput z }
         ensures { Goes (act HandOutOutput ∷ act EndCall ∷ []) (as_task (poll_number (position party.old))) party.old party.new }
     {
         let shared = &self.table.shared;
-        let Slot::Output(output) = shared.exchange(&mut party.seat, 1, Slot::Empty) else {
-            unreachable!()
-        };
+        let output = take_out(shared, &mut party.seat, 1).into_output();
         shared.load::<Always<HandingOut>>(&mut party.seat, 0);
         output
     }
@@ -49,7 +48,7 @@ impl<R: Wait + Drop, F: Yields, Q: Drop, M: Drop, A: Wake, B: Allocator> Cell<R,
     {
         if let Some(taken) = self.notify(party) {
             if taken.will_wake(awaiter) {
-                drop(taken);
+                taken.discard();
                 self.note_dropped(party);
             } else {
                 taken.wake();
@@ -96,7 +95,7 @@ impl<R: Wait + Drop, F: Yields, Q: Drop, M: Drop, A: Wake, B: Allocator> Cell<R,
     }
 
     // Claims the output, takes the stored awaiter where there is one, and hands the output out.
-    pub(crate) fn take_output(&self, party: &mut Party<F, Kept<F>, A>, awaiter: &A) -> Kept<F>
+    pub(crate) fn take_output(&self, party: &mut Party<F, Kept<F>, A>, awaiter: &A) -> Held<Kept<F>>
         requires cell { party.old.seat.table_id ≡ self.now.table.shared.table_id }
         requires party { (looked : Bool) × (n : ℕ) × Stands (claims_from looked n) party.old }
         ensures { (path : List Deed) × ClaimPath A.woken A.compared awaiter.now path × Goes path (as_task (poll_number (position party.old))) party.old party.new }

@@ -5,6 +5,7 @@ ghost use Rattle.task_laws.specs.declared.positions.Position.{Position};
 ghost use Rattle.task_laws.specs.declared.positions.Position.TheVariants.{Deliverer};
 ghost use Rattle.task_laws.specs.declared.positions.After.{After};
 ghost use Rattle.task_core.specs.declared.moves.Act.TheVariants.{HandOver, EndCall};
+ghost use Rattle.task_cell.specs.Handed.{HandedOver};
 ghost use Rattle.task_cell.specs.Calls.{Stands, Goes, IsNew, position, limit_of};
 ghost use Rattle.task_steps.specs.Deeds.{act};
 ghost use Rattle.task_steps.specs.Standing.{hands_over, handed_over, as_runnable, as_ended, as_deliverer};
@@ -30,18 +31,6 @@ impl<R: Drop, F: Yields, Q: Drop, M: Drop, A: Drop, B: Allocator> Cell<R, F, Q, 
 }
 
 impl<R: Wait + Drop, F: Yields, Q: Drop, M: Drop, A: Wake, B: Allocator> Cell<R, F, Q, M, A, B> {
-    // One more share of the cell. It asks for no memory; where it is refused all the same, it is tried again.
-    pub(crate) fn share(this: &Arc<Self, B>) -> Arc<Self, B>
-        ensures { arc_value result ≡ arc_value this.now }
-    {
-        for _ in this.rt.forever() {
-            if let Ok(share) = Arc::try_clone(this) {
-                return share;
-            }
-        }
-        unreachable!()
-    }
-
     // Hands a Runnable to the schedule value. The act stands in the list before the schedule value is called.
     fn hand_to_schedule<X: Copy>(
         this: &Arc<Self, B>,
@@ -54,7 +43,7 @@ impl<R: Wait + Drop, F: Yields, Q: Drop, M: Drop, A: Wake, B: Allocator> Cell<R,
         requires cell { (party.old.seat.table_id ≡ (arc_value this.now).table.shared.table_id) × (limit_of party.old ≡ (arc_value this.now).limit) }
         requires party { (at : Position) × (hands_over at ≡ true) × Stands at party.old }
         ensures path { Goes (act HandOver ∷ []) (handed_over (position party.old)) party.old party.new }
-        ensures fact { (n : _) × Q.scheduled (arc_value this.now).schedule n (record { woken_while_running = woken_while_running }) }
+        ensures fact { HandedOver Q.scheduled (arc_value this.now) around woken_while_running }
     {
         let runnable = Runnable::new(Cell::share(this), this.hand_over(party), around);
         let info = ScheduleInfo {
@@ -63,11 +52,8 @@ impl<R: Wait + Drop, F: Yields, Q: Drop, M: Drop, A: Wake, B: Allocator> Cell<R,
         this.schedule.schedule(runnable, info);
     }
 
-    /// Hands the Runnable of a deliverer to the schedule value. It makes no step on the word but loads.
-    ///
-    /// The Runnable gets a share of the cell and carries `around`; `party` is the deliverer, and `woken_while_running` what the schedule value is told,
-    /// as the deliverer has it. After it the party goes on as its `After` says: it ends its call, or notifies.
-    pub fn deliver<X: Copy>(
+    // Hands the Runnable of a deliverer to the schedule value. It makes no step on the word but loads. After it the party goes on as its `After` says: it ends its call, or notifies.
+    pub(crate) fn deliver<X: Copy>(
         this: &Arc<Self, B>,
         party: &mut Party<F, Kept<F>, A>,
         around: X,
@@ -78,7 +64,7 @@ impl<R: Wait + Drop, F: Yields, Q: Drop, M: Drop, A: Wake, B: Allocator> Cell<R,
         requires cell { (party.old.seat.table_id ≡ (arc_value this.now).table.shared.table_id) × (limit_of party.old ≡ (arc_value this.now).limit) }
         requires party { (next : After) × Stands (Deliverer woken_while_running next) party.old }
         ensures path { Goes (act HandOver ∷ []) (handed_over (position party.old)) party.old party.new }
-        ensures fact { (n : _) × Q.scheduled (arc_value this.now).schedule n (record { woken_while_running = woken_while_running }) }
+        ensures fact { HandedOver Q.scheduled (arc_value this.now) around woken_while_running }
     {
         Cell::hand_to_schedule(this, party, around, woken_while_running);
     }
@@ -90,19 +76,23 @@ impl<R: Wait + Drop, F: Yields, Q: Drop, M: Drop, A: Wake, B: Allocator> Cell<R,
         requires cell { (party.old.seat.table_id ≡ (arc_value this.now).table.shared.table_id) × (limit_of party.old ≡ (arc_value this.now).limit) }
         requires party { Stands as_runnable party.old }
         ensures path { Goes (act HandOver ∷ act EndCall ∷ []) as_ended party.old party.new }
-        ensures fact { (n : _) × Q.scheduled (arc_value this.now).schedule n (record { woken_while_running = false }) }
+        ensures fact { HandedOver Q.scheduled (arc_value this.now) around false }
     {
         Cell::hand_to_schedule(this, party, around, false);
         this.end(party);
     }
 
-    /// The rest of a wake of an idle task: its deliverer hands the Runnable to the schedule value, with `woken_while_running` false, and has ended.
-    pub fn finish_wake<X: Copy>(this: &Arc<Self, B>, mut deliverer: Party<F, Kept<F>, A>, around: X)
+    // The rest of a wake of an idle task: its deliverer hands the Runnable to the schedule value, with `woken_while_running` false, and has ended.
+    pub(crate) fn finish_wake<X: Copy>(
+        this: &Arc<Self, B>,
+        mut deliverer: Party<F, Kept<F>, A>,
+        around: X,
+    )
     where
         Q: Schedule<Runnable<R, F, Q, M, A, X, B>>,
         requires cell { (deliverer.seat.table_id ≡ (arc_value this.now).table.shared.table_id) × (limit_of deliverer ≡ (arc_value this.now).limit) }
         requires deliverer { Stands as_deliverer deliverer }
-        ensures fact { (n : _) × Q.scheduled (arc_value this.now).schedule n (record { woken_while_running = false }) }
+        ensures fact { HandedOver Q.scheduled (arc_value this.now) around false }
     {
         Cell::hand_on(this, &mut deliverer, around, false);
         deliverer.let_go();

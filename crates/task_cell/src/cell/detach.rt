@@ -8,6 +8,7 @@ ghost use Rattle.task_steps.specs.declared.table.Slot.{Slot};
 ghost use Rattle.task_steps.specs.Rule.{IsEmpty};
 ghost use Rattle.task_steps.specs.Steps.{saw_closed, output_first};
 ghost use Rattle.task_cell.specs.TaskPaths.{Detaches, GivesTaskUp, DetachPath};
+ghost use Rattle.task_cell.specs.Handed.{HandedOver};
 ghost use Rattle.task_cell.specs.Calls.{Stands, StandsWith, Goes, deeds, limit_of};
 ghost use Rattle.task_steps.specs.Deeds.{act};
 ghost use Rattle.task_steps.specs.Standing.{as_task, as_ended};
@@ -58,7 +59,7 @@ impl<R: Wait + Drop, F: Yields, Q: Drop, M: Drop, A: Wake, B: Allocator> Cell<R,
         Q: Schedule<Runnable<R, F, Q, M, A, X, B>>,
         requires cell { (party.old.seat.table_id ≡ (arc_value this.now).table.shared.table_id) × (limit_of party.old ≡ (arc_value this.now).limit) }
         requires party { (n : ℕ) × Stands (as_task n) party.old }
-        ensures path { (path : List Deed) × DetachPath ((n : _) × Q.scheduled (arc_value this.now).schedule n (record { woken_while_running = false })) path × Goes path as_ended party.old party.new }
+        ensures path { (path : List Deed) × DetachPath (HandedOver Q.scheduled (arc_value this.now) around false) path × Goes path as_ended party.old party.new }
     {
         match this.give_task_up(party) {
             Detached::Unclaimed => {

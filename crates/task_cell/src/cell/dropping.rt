@@ -5,6 +5,7 @@ ghost use Rattle.task_core.specs.Word.{State};
 ghost use Rattle.task_laws.specs.declared.positions.Position.TheVariants.{OrphanHolder};
 ghost use Rattle.task_core.specs.declared.moves.Act.TheVariants.{CloseOrphan};
 ghost use Rattle.task_steps.specs.declared.table.Deed.{Deed};
+ghost use Rattle.task_cell.specs.Handed.{HandedOver};
 ghost use Rattle.task_cell.specs.Calls.{Stands, Goes, limit_of};
 ghost use Rattle.task_steps.specs.Deeds.{row};
 ghost use Rattle.task_steps.specs.Standing.{as_ended, as_waker, as_deliverer};
@@ -54,7 +55,7 @@ impl<R: Wait + Drop, F: Yields, Q: Drop, M: Drop, A: Wake, B: Allocator> Cell<R,
         Q: Schedule<Runnable<R, F, Q, M, A, X, B>>,
         requires cell { (party.old.seat.table_id ≡ (arc_value this.now).table.shared.table_id) × (limit_of party.old ≡ (arc_value this.now).limit) }
         requires party { Stands as_waker party.old }
-        ensures path { (path : List Deed) × WakerDropPath ((n : _) × Q.scheduled (arc_value this.now).schedule n (record { woken_while_running = false })) path × Goes path as_ended party.old party.new }
+        ensures path { (path : List Deed) × WakerDropPath (HandedOver Q.scheduled (arc_value this.now) around false) path × Goes path as_ended party.old party.new }
     {
         match this.drop_reference(party) {
             Dropped::Shared => {}

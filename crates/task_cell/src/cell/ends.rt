@@ -1,5 +1,5 @@
 //! The ends of a run whose poll has answered.
-ghost use Rattle.std.specs.Prelude.{◌≡◌, ℕ, ◌∷◌, [], List, Bool, false};
+ghost use Rattle.std.specs.Prelude.{◌≡◌, ℕ, ◌∷◌, [], List, Bool, true, false};
 ghost use Rattle.task_laws.specs.declared.positions.Position.TheVariants.{Polling, Ready, Pending, Cleared, OutputInHand};
 ghost use Rattle.task_laws.specs.declared.positions.Way.TheVariants.{OfRun};
 ghost use Rattle.task_core.specs.declared.moves.Act.TheVariants.{AnswerReady, DropOutput, EndClosed};
@@ -17,8 +17,9 @@ use std::sync::Wait;
 use task_core::Yields;
 use task_core::word::{RUNNING, SCHEDULED, Word};
 use task_steps::common::DroppingOutput;
+use task_steps::places::{Held, put_output};
 use task_steps::run::{AnsweringPending, AnsweringReady, Completing, EndingClosed, EndingPending};
-use task_steps::table::{Kept, Slot};
+use task_steps::table::Kept;
 use task_steps::words::{PendingEnd, completed, ended, pending_end};
 use task_steps::{Always, Exchange};
 
@@ -61,7 +62,7 @@ impl<R: Drop, F: Yields, Q: Drop, M: Drop, A: Drop, B: Allocator> Cell<R, F, Q, 
     pub(crate) fn end_closed(&self, party: &mut Party<F, Kept<F>, A>) -> Word
         requires cell { party.old.seat.table_id ≡ self.now.table.shared.table_id }
         requires party { (y : Slot F _ A) × (z : Slot F _ A) × StandsWith Cleared (future_first y z []) party.old }
-        ensures { (y z : Slot F _ A) → StandsWith Cleared (future_first y z []) party.old → Goes (row EndClosed result ∷ []) (notifies result.awaiter OfRun) party.old party.new }
+        ensures { (y z : Slot F _ A) → StandsWith Cleared (future_first y z []) party.old → (result.closed ≡ true) × Goes (row EndClosed result ∷ []) (notifies result.awaiter OfRun) party.old party.new }
     {
         let shared = &self.table.shared;
         let found = shared.fetch_and::<Always<EndingClosed>>(
@@ -75,14 +76,14 @@ impl<R: Drop, F: Yields, Q: Drop, M: Drop, A: Drop, B: Allocator> Cell<R, F, Q, 
 
 impl<R: Wait + Drop, F: Yields, Q: Drop, M: Drop, A: Drop, B: Allocator> Cell<R, F, Q, M, A, B> {
     // The end step of a run with its output, after its future was dropped. It is tried again where the word has changed. The seat turns, since only the place in front can be written.
-    pub(crate) fn complete(&self, party: &mut Party<F, Kept<F>, A>, output: Kept<F>) -> Word
+    pub(crate) fn complete(&self, party: &mut Party<F, Kept<F>, A>, output: Held<Kept<F>>) -> Word
         requires cell { party.old.seat.table_id ≡ self.now.table.shared.table_id }
         requires party { (y : Slot F _ A) × (z : Slot F _ A) × StandsWith Ready (future_first y z []) party.old × IsEmpty y }
         ensures { (y z : Slot F _ A) → StandsWith Ready (future_first y z []) party.old → Completes party.old party.new result }
     {
         let shared = &self.table.shared;
         party.seat.turn();
-        drop(shared.exchange(&mut party.seat, 1, Slot::Output(output)));
+        put_output(shared, &mut party.seat, output).discard();
         let mut word = Word::from_bits(shared.peek(0));
         for _ in self.rt.forever() {
             let old = word.bits();

@@ -18,8 +18,8 @@ use task_steps::table::Kept;
 use task_steps::waker::{Gaining, LookingForRoom, Parting, RefusingGain};
 
 impl<R: Drop, F: Yields, Q: Drop, M: Drop, A: Drop, B: Allocator> Cell<R, F, Q, M, A, B> {
-    /// Ends a gain whose memory was refused: it made no row. One load.
-    pub fn refuse_gain(&self, party: &mut Party<F, Kept<F>, A>)
+    // Ends a gain whose memory was refused: it made no row. One load.
+    pub(crate) fn refuse_gain(&self, party: &mut Party<F, Kept<F>, A>)
         requires cell { party.old.seat.table_id ≡ self.now.table.shared.table_id }
         requires party { (r : Rest) × (us : List Member) × MayGain r us party.old }
         ensures path { (r : Rest) (us : List Member) → MayGain r us party.old → GoesBeside (act RefuseGain ∷ act EndCall ∷ []) r us party.old party.new }

@@ -1,5 +1,5 @@
 //! Polls of the Task.
-ghost use Rattle.std.specs.Prelude.{◌≡◌, ℕ, ◌∷◌, ◌++◌, [], List};
+ghost use Rattle.std.specs.Prelude.{◌≡◌, ℕ, ◌∷◌, ◌++◌, [], List, None, true};
 ghost use Rattle.task_laws.specs.declared.positions.PollAnswer.{PollAnswer};
 ghost use Rattle.task_laws.specs.declared.positions.Position.TheVariants.{Answering, Notifier, Looking as LookingAt};
 ghost use Rattle.task_laws.specs.declared.positions.Way.TheVariants.{OfPoll};
@@ -7,8 +7,9 @@ ghost use Rattle.task_core.specs.declared.moves.Act.TheVariants.{EndCall};
 ghost use Rattle.task_steps.specs.declared.table.Deed.{Deed};
 ghost use Rattle.task_cell.specs.PollPaths.{PollPath, AnswerPath, TakePath, Looks, LooksAgain};
 ghost use Rattle.task_steps.specs.Standing.{poll_number, as_task};
-ghost use Rattle.task_steps.specs.PollScripts.{has_output, has_ended, has_to_wait};
-ghost use Rattle.task_cell.specs.Calls.{Stands, Goes, position};
+ghost use Rattle.task_steps.specs.PollScripts.{has_output, has_ended as has_ended_word, has_to_wait};
+ghost use Rattle.task_steps.specs.Steps.{saw_ended};
+ghost use Rattle.task_cell.specs.Calls.{Stands, Goes, position, deeds};
 ghost use Rattle.task_steps.specs.Deeds.{act};
 
 use super::{Cell, Party};
@@ -20,6 +21,7 @@ use task_steps::Always;
 use task_steps::common::Ending;
 use task_steps::poll::{Looking, LookingAgain};
 use task_steps::table::Kept;
+use task_steps::task::Knowing;
 use task_steps::words::{has_ended, has_output, has_to_wait};
 
 impl<R: Drop, F: Yields, Q: Drop, M: Drop, A: Drop, B: Allocator> Cell<R, F, Q, M, A, B> {
@@ -27,10 +29,11 @@ impl<R: Drop, F: Yields, Q: Drop, M: Drop, A: Drop, B: Allocator> Cell<R, F, Q, 
     fn look(&self, party: &mut Party<F, Kept<F>, A>) -> Word
         requires cell { party.old.seat.table_id ≡ self.now.table.shared.table_id }
         requires party { (n : ℕ) × Stands (as_task n) party.old }
-        ensures { Looks party.old party.new result }
+        ensures path { Looks party.old party.new result }
+        ensures ended { saw_ended (deeds party.old) ≡ true → has_ended_word result ≡ true }
     {
         let shared = &self.table.shared;
-        Word::from_bits(shared.load::<Always<Looking>>(&mut party.seat, 0))
+        Word::from_bits(shared.load::<Knowing<Looking>>(&mut party.seat, 0))
     }
 
     // The look of a poll that has registered, which ends there where it has to wait.
@@ -78,7 +81,7 @@ impl<R: Wait + Drop, F: Yields, Q: Drop, M: Drop, A: Wake, B: Allocator> Cell<R,
             self.answer_closed(party, awaiter);
             return TaskPoll::Ready(None);
         }
-        TaskPoll::Ready(Some(self.take_output(party, awaiter)))
+        TaskPoll::Ready(Some(self.take_output(party, awaiter).hand_out()))
     }
 
     /// Answers with the output, once there is one, or without one, where the task was closed and its future is gone.
@@ -86,14 +89,17 @@ impl<R: Wait + Drop, F: Yields, Q: Drop, M: Drop, A: Wake, B: Allocator> Cell<R,
     /// Where there is no answer yet, a clone of the awaiter is registered in the place of the one before, and is woken once there is one.
     /// The output comes with the fact that it meets what the future's type states.
     /// A poll registers at most once. It waits for nobody, but tries a step anew where another party changed the word meanwhile.
+    /// Once it has answered ready without output, each later poll answers the same.
     pub fn poll(&self, party: &mut Party<F, Kept<F>, A>, awaiter: &A) -> TaskPoll<Option<Kept<F>>>
         requires cell { party.old.seat.table_id ≡ self.now.table.shared.table_id }
         requires party { (n : ℕ) × Stands (as_task n) party.old }
         ensures path { (path : List Deed) × PollPath A.cloned A.woken A.woken_by_ref A.compared awaiter.now path result × Goes path (as_task (poll_number (position party.old))) party.old party.new }
+        ensures ended { saw_ended (deeds party.old) ≡ true → result ≡ TaskPoll.Ready None }
+        ensures closed { result ≡ TaskPoll.Ready None → saw_ended (deeds party.new) ≡ true }
     {
         let found = self.look(party);
         if has_output(found) {
-            return TaskPoll::Ready(Some(self.take_output(party, awaiter)));
+            return TaskPoll::Ready(Some(self.take_output(party, awaiter).hand_out()));
         }
         if has_ended(found) {
             self.answer_closed(party, awaiter);

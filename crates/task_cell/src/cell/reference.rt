@@ -17,8 +17,9 @@ use std::alloc::Allocator;
 use task_core::word::{REFERENCE, Word};
 use task_core::{Wake, Yields};
 use task_steps::Always;
+use task_steps::places::take_out;
 use task_steps::run::{Emptying, GivingReferenceUp};
-use task_steps::table::{Kept, Slot};
+use task_steps::table::Kept;
 
 impl<R: Drop, F: Yields, Q: Drop, M: Drop, A: Drop, B: Allocator> Cell<R, F, Q, M, A, B> {
     // Drops what is in the place of the table that the party has in front, and leaves nothing there.
@@ -28,7 +29,7 @@ impl<R: Drop, F: Yields, Q: Drop, M: Drop, A: Drop, B: Allocator> Cell<R, F, Q, 
         ensures { (at : Position) (y : Slot F _ A) (held : List (ℕ × Slot F _ A)) → StandsWith at ((place, y) ∷ held) party.old → GoesWith [] at ((place, Empty) ∷ held) party.old party.new }
     {
         let shared = &self.table.shared;
-        drop(shared.exchange(&mut party.seat, place, Slot::Empty));
+        take_out(shared, &mut party.seat, place).discard();
     }
 
     // The reference is given up: a single fetch, never tried again. Whether it was the last handle.
@@ -42,10 +43,8 @@ impl<R: Drop, F: Yields, Q: Drop, M: Drop, A: Drop, B: Allocator> Cell<R, F, Q, 
         Word::from_bits(found).give_up_reference().is_none()
     }
 
-    /// The last party empties the place of the awaiter, and gives it back. It makes no step on the word but a load.
-    ///
-    /// `party` is who gave the last handle up. After it the party goes on in its call: to the awaiter in hand, or to the end.
-    pub fn empty(&self, party: &mut Party<F, Kept<F>, A>)
+    // The last party empties the place of the awaiter, and gives it back. It makes no step on the word but a load. After it the party goes on in its call: to the awaiter in hand, or to the end.
+    pub(crate) fn empty(&self, party: &mut Party<F, Kept<F>, A>)
         requires cell { party.old.seat.table_id ≡ self.now.table.shared.table_id }
         requires party { (hand : Option ℕ) × (answer : Answer) × (y : Slot F _ A) × StandsWith (Emptier hand answer) ((2, y) ∷ []) party.old }
         ensures { (hand : Option ℕ) (answer : Answer) (y : Slot F _ A) → StandsWith (Emptier hand answer) ((2, y) ∷ []) party.old → Goes (act EmptySlots ∷ []) (after_giving_up hand answer) party.old party.new }

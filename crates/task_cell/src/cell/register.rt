@@ -19,10 +19,11 @@ use std::sync::Wait;
 use task_core::word::Word;
 use task_core::{Wake, Yields};
 use task_steps::common::{Dropping, Waking};
+use task_steps::places::{Held, put_awaiter, take_out};
 use task_steps::poll::{
     BeginningRegister, EndingNotified, EndingRegister, FindingNotifier, Refusing,
 };
-use task_steps::table::{Kept, Slot};
+use task_steps::table::Kept;
 use task_steps::{Always, Exchange};
 
 impl<R: Drop, F: Yields, Q: Drop, M: Drop, A: Drop, B: Allocator> Cell<R, F, Q, M, A, B> {
@@ -58,15 +59,15 @@ impl<R: Drop, F: Yields, Q: Drop, M: Drop, A: Drop, B: Allocator> Cell<R, F, Q, 
     }
 
     // Puts the clone into the awaiter slot, and drops what stood there.
-    fn store(&self, party: &mut Party<F, Kept<F>, A>, clone: A)
+    fn store(&self, party: &mut Party<F, Kept<F>, A>, clone: Held<A>)
         requires cell { party.old.seat.table_id ≡ self.now.table.shared.table_id }
         requires party { (i : ℕ) × (hand : Option ℕ) × (y : Slot F _ A) × StandsWith (after_storing i hand) ((2, y) ∷ []) party.old × Waits hand y }
-        ensures { (stood : Bool) × GoesWith (dropped_if stood) (Registered (poll_number (position party.old))) ((2, Awaiter clone) ∷ []) party.old party.new }
+        ensures { (stood : Bool) × GoesWith (dropped_if stood) (Registered (poll_number (position party.old))) ((2, Awaiter clone.value) ∷ []) party.old party.new }
     {
         let shared = &self.table.shared;
-        let old = shared.exchange(&mut party.seat, 2, Slot::Awaiter(clone));
-        if let Slot::Awaiter(old) = old {
-            drop(old);
+        let old = put_awaiter(shared, &mut party.seat, clone).into_awaiter();
+        if let Some(old) = old {
+            old.discard();
             shared.load::<Always<Dropping>>(&mut party.seat, 0);
         }
     }
@@ -124,14 +125,14 @@ impl<R: Wait + Drop, F: Yields, Q: Drop, M: Drop, A: Wake, B: Allocator> Cell<R,
     }
 
     // Takes the clone out again, since a notifier came, and gives the awaiter slot back. A notifier stays while the slot is the Task's.
-    fn take_back(&self, party: &mut Party<F, Kept<F>, A>) -> A
+    fn take_back(&self, party: &mut Party<F, Kept<F>, A>) -> Held<A>
         requires cell { party.old.seat.table_id ≡ self.now.table.shared.table_id }
         requires party { (i : ℕ) × (clone : A) × StandsWith (Registered i) ((2, Awaiter clone) ∷ []) party.old }
-        ensures same { holds party.old ≡ (2, Awaiter result) ∷ [] }
+        ensures same { holds party.old ≡ (2, Awaiter result.value) ∷ [] }
         ensures path { (v : State) × (v.notifying ≡ true) × Goes (act TakeAwaiter ∷ row EndRegisterNotified v ∷ []) (CloneInHand (poll_number (position party.old))) party.old party.new }
     {
         let shared = &self.table.shared;
-        let Slot::Awaiter(clone) = shared.exchange(&mut party.seat, 2, Slot::Empty) else {
+        let Some(clone) = take_out(shared, &mut party.seat, 2).into_awaiter() else {
             unreachable!()
         };
         for _ in self.rt.forever() {
@@ -153,15 +154,15 @@ impl<R: Wait + Drop, F: Yields, Q: Drop, M: Drop, A: Wake, B: Allocator> Cell<R,
     }
 
     // Registers a clone of the caller's awaiter, or wakes one where a notifier came before or meanwhile.
-    fn register_clone(&self, party: &mut Party<F, Kept<F>, A>, awaiter: &A, clone: A)
+    fn register_clone(&self, party: &mut Party<F, Kept<F>, A>, awaiter: &A, clone: Held<A>)
         requires cell { party.old.seat.table_id ≡ self.now.table.shared.table_id }
         requires party { (i : ℕ) × Stands (Registrar i) party.old }
-        requires cloned { A.cloned awaiter.now (Some clone) }
+        requires cloned { A.cloned awaiter.now (Some clone.value) }
         ensures { (path : List Deed) × RegisterPath A.cloned A.woken A.woken_by_ref awaiter.now path × Goes path (Looking (poll_number (position party.old))) party.old party.new }
     {
         if !self.begin_register(party) {
             awaiter.wake_by_ref();
-            drop(clone);
+            clone.discard();
             return self.note_clone_dropped(party);
         }
         self.store(party, clone);
@@ -181,7 +182,7 @@ impl<R: Wait + Drop, F: Yields, Q: Drop, M: Drop, A: Wake, B: Allocator> Cell<R,
             self.note_refused(party);
             return false;
         };
-        self.register_clone(party, awaiter, clone);
+        self.register_clone(party, awaiter, Held::new(clone));
         true
     }
 }

@@ -9,6 +9,7 @@ ghost use Rattle.task_laws.specs.declared.positions.Position.TheVariants.{Future
 ghost use Rattle.task_core.specs.declared.moves.Act.TheVariants.{DropFuture, Unschedule, HandOver, EndCall};
 ghost use Rattle.task_laws.specs.Table.{notifies};
 ghost use Rattle.task_steps.specs.declared.table.Slot.{Slot};
+ghost use Rattle.task_cell.specs.Handed.{HandedOver};
 ghost use Rattle.task_cell.specs.Calls.{StandsWith, Stands, Goes, position, limit_of};
 ghost use Rattle.task_steps.specs.Deeds.{row, act};
 ghost use Rattle.task_steps.specs.Standing.{closing_way, as_ended};
@@ -22,6 +23,7 @@ use std::sync::{Arc, Wait};
 use task_core::word::Word;
 use task_core::{Schedule, Wake, Yields};
 use task_steps::Always;
+use task_steps::places::Held;
 use task_steps::run::Unscheduling;
 use task_steps::table::Kept;
 use task_steps::words::{PendingEnd, keeps_output};
@@ -43,7 +45,11 @@ impl<R: Drop, F: Yields, Q: Drop, M: Drop, A: Drop, B: Allocator> Cell<R, F, Q, 
 
 impl<R: Wait + Drop, F: Yields, Q: Drop, M: Drop, A: Drop, B: Allocator> Cell<R, F, Q, M, A, B> {
     // The end step of a run with its output, which is dropped where nobody will claim it.
-    pub(crate) fn store_output(&self, party: &mut Party<F, Kept<F>, A>, output: Kept<F>) -> Word
+    pub(crate) fn store_output(
+        &self,
+        party: &mut Party<F, Kept<F>, A>,
+        output: Held<Kept<F>>,
+    ) -> Word
         requires cell { party.old.seat.table_id ≡ self.now.table.shared.table_id }
         requires party { (y : Slot F _ A) × (z : Slot F _ A) × StandsWith Ready (future_first y z []) party.old × IsEmpty y }
         ensures { (y z : Slot F _ A) → StandsWith Ready (future_first y z []) party.old → Stores result party.old party.new }
@@ -83,7 +89,7 @@ impl<R: Drop, F: Yields, Q: Drop, M: Drop, A: Wake, B: Allocator> Cell<R, F, Q, 
 
 impl<R: Wait + Drop, F: Yields, Q: Drop, M: Drop, A: Wake, B: Allocator> Cell<R, F, Q, M, A, B> {
     // A run, from where its poll answered Ready.
-    pub(crate) fn finish_ready(&self, party: &mut Party<F, Kept<F>, A>, output: Kept<F>)
+    pub(crate) fn finish_ready(&self, party: &mut Party<F, Kept<F>, A>, output: Held<Kept<F>>)
         requires cell { party.old.seat.table_id ≡ self.now.table.shared.table_id }
         requires party { (y : Slot F _ A) × (z : Slot F _ A) × StandsWith Polling (future_first y z []) party.old }
         ensures { EndsReady ((a : A) × A.woken a) party.old party.new }
@@ -106,7 +112,7 @@ impl<R: Wait + Drop, F: Yields, Q: Drop, M: Drop, A: Wake, B: Allocator> Cell<R,
         requires cell { (party.old.seat.table_id ≡ (arc_value this.now).table.shared.table_id) × (limit_of party.old ≡ (arc_value this.now).limit) }
         requires party { (answer : Answer) × Stands (Deliverer woken (ThenEnds answer)) party.old }
         ensures path { (answer : Answer) → Stands (Deliverer woken (ThenEnds answer)) party.old → Goes (act HandOver ∷ act EndCall ∷ []) as_ended party.old party.new }
-        ensures fact { (n : _) × Q.scheduled (arc_value this.now).schedule n (record { woken_while_running = woken }) }
+        ensures fact { HandedOver Q.scheduled (arc_value this.now) around woken }
     {
         Cell::deliver(this, party, around, woken);
         this.end(party);
@@ -122,7 +128,7 @@ impl<R: Wait + Drop, F: Yields, Q: Drop, M: Drop, A: Wake, B: Allocator> Cell<R,
         Q: Schedule<Runnable<R, F, Q, M, A, X, B>>,
         requires cell { (party.old.seat.table_id ≡ (arc_value this.now).table.shared.table_id) × (limit_of party.old ≡ (arc_value this.now).limit) }
         requires party { (y : Slot F _ A) × (z : Slot F _ A) × StandsWith Polling (future_first y z []) party.old × IsFuture y }
-        ensures { EndsUnready ((a : A) × A.woken a) (λ b. (n : _) × Q.scheduled (arc_value this.now).schedule n (record { woken_while_running = b })) result party.old party.new }
+        ensures { EndsUnready ((a : A) × A.woken a) (HandedOver Q.scheduled (arc_value this.now) around) result party.old party.new }
     {
         let found = this.answer_pending(party);
         if found.closed() {

@@ -8,11 +8,12 @@ ghost use Rattle.task_steps.specs.Standing.{as_runnable, as_task};
 ghost use Rattle.task_laws.specs.declared.positions.Position.{Position};
 ghost use Rattle.task_cell.specs.LastWord.{IsLastWord};
 
-use super::{Cell, Party};
+use super::{Cell, Party, Share};
 use atomic_table::Seat;
 use std::alloc::Allocator;
 use std::sync::{Arc, Wait};
 use task_core::{Wake, Yields};
+use task_steps::places::{Held, put_future};
 use task_steps::spawn::{Filling, Opening, Spawning};
 use task_steps::table::{Kept, Slot, View, discard, lay};
 
@@ -32,14 +33,6 @@ impl<R: Drop, F: Yields, Q: Drop, M: Drop, A: Drop, B: Allocator> Cell<R, F, Q, 
         drop(table);
         drop(rt);
         (schedule, metadata)
-    }
-
-    /// Gives up a share that may be the last. The last one is taken apart after a load, and makes no atomic step.
-    pub fn leave(this: Arc<Self, B>) {
-        match Arc::try_unwrap(this) {
-            Ok(cell) => drop(cell),
-            Err(share) => drop(share),
-        }
     }
 
     /// What the builder was given as metadata. It waits for nobody.
@@ -64,7 +57,7 @@ impl<R: Drop, F: Yields, Q: Drop, M: Drop, A: Drop, B: Allocator> Cell<R, F, Q, 
     {
         let shared = &self.table.shared;
         shared.load::<Filling>(&mut seat, 0);
-        drop(shared.exchange(&mut seat, 0, Slot::Future(future)));
+        put_future(shared, &mut seat, Held::new(future)).discard();
         shared.load::<Spawning>(&mut seat, 0);
         let task = shared.split_seat::<Opening>(&mut seat);
         (Party { seat }, Party { seat: task })
@@ -109,11 +102,18 @@ impl<R: Wait + Drop, F: Yields, Q: Drop, M: Drop, A: Wake, B: Allocator + Copy> 
         schedule: Q,
         metadata: M,
         limit: u64,
-    ) -> Result<(Arc<Self, B>, Arc<Self, B>, Seat<Slot<F, Kept<F>, A>, View>), (Q, M)>
+    ) -> Result<
+        (
+            Share<R, F, Q, M, A, B>,
+            Share<R, F, Q, M, A, B>,
+            Seat<Slot<F, Kept<F>, A>, View>,
+        ),
+        (Q, M),
+    >
         requires { limit < 2 ^ 55 }
-        ensures shares { IfOk result (λ made. arc_value made.1 ≡ arc_value made.0) }
-        ensures given { IfOk result (λ made. ((arc_value made.0).metadata ≡ metadata) × ((arc_value made.0).schedule ≡ schedule) × ((arc_value made.0).limit ≡ limit)) }
-        ensures seat { IfOk result (λ made. (made.2.table_id ≡ (arc_value made.0).table.shared.table_id) × (made.2.me ≡ (laid_view limit, []))) }
+        ensures shares { IfOk result (λ made. arc_value made.1.cell ≡ arc_value made.0.cell) }
+        ensures given { IfOk result (λ made. ((arc_value made.0.cell).metadata ≡ metadata) × ((arc_value made.0.cell).schedule ≡ schedule) × ((arc_value made.0.cell).limit ≡ limit)) }
+        ensures seat { IfOk result (λ made. (made.2.table_id ≡ (arc_value made.0.cell).table.shared.table_id) × (made.2.me ≡ (laid_view limit, []))) }
         ensures refused { IfErr result (λ back. (back.0 ≡ schedule) × (back.1 ≡ metadata)) }
     {
         let Ok((table, seat)) = lay(alloc, limit) else {
@@ -129,7 +129,7 @@ impl<R: Wait + Drop, F: Yields, Q: Drop, M: Drop, A: Wake, B: Allocator + Copy> 
         match Arc::new(alloc, cell) {
             Ok(first) => {
                 let second = Cell::share(&first);
-                Ok((first, second, seat))
+                Ok((Share::of(first), second, seat))
             }
             Err(refused) => {
                 discard(seat);

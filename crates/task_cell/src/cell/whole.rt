@@ -7,16 +7,18 @@ ghost use Rattle.task_steps.specs.declared.table.Deed.{Deed};
 ghost use Rattle.task_steps.specs.declared.table.Slot.{Slot};
 ghost use Rattle.task_steps.specs.Rule.{IsFuture};
 ghost use Rattle.task_steps.specs.Steps.{future_first};
+ghost use Rattle.task_cell.specs.Handed.{HandedOver, PolledOnce};
 ghost use Rattle.task_cell.specs.Calls.{Stands, StandsWith, Goes, limit_of};
 ghost use Rattle.task_steps.specs.Standing.{as_runnable, as_ended};
 ghost use Rattle.task_cell.specs.Starts.{TakesUp};
 ghost use Rattle.task_cell.specs.RunPaths.{RunPath};
 ghost use Rattle.task_cell.specs.RunCalls.{Closes, EndsReady, EndsUnready};
 
-use super::{Cell, Party, Runnable, TaskWaker};
+use super::{Cell, Party, Runnable, Share, TaskWaker};
 use std::alloc::Allocator;
 use std::sync::{Arc, Wait};
 use task_core::{Future, Poll, Schedule, Wake, Yields};
+use task_steps::places::Held;
 use task_steps::table::Kept;
 
 impl<R: Wait + Drop, F: Yields, Q: Drop, M: Drop, A: Wake, B: Allocator> Cell<R, F, Q, M, A, B> {
@@ -24,32 +26,34 @@ impl<R: Wait + Drop, F: Yields, Q: Drop, M: Drop, A: Wake, B: Allocator> Cell<R,
     ///
     /// True where the task was woken meanwhile, and its Runnable was handed to the schedule value.
     pub fn run<X: Copy>(
-        this: Arc<Self, B>,
+        share: Share<R, F, Q, M, A, B>,
         party: Party<F, Kept<F>, A>,
         around: X,
-    ) -> (Arc<Self, B>, Party<F, Kept<F>, A>, bool)
+    ) -> (Share<R, F, Q, M, A, B>, Party<F, Kept<F>, A>, bool)
     where
         F: Future<TaskWaker<R, F, Q, M, A, X, B>>,
         Q: Schedule<Runnable<R, F, Q, M, A, X, B>>,
-        requires cell { (party.seat.table_id ≡ (arc_value this).table.shared.table_id) × (limit_of party ≡ (arc_value this).limit) }
+        requires cell { (party.seat.table_id ≡ (arc_value share.cell).table.shared.table_id) × (limit_of party ≡ (arc_value share.cell).limit) }
         requires party { Stands as_runnable party }
-        ensures cell { result.0 ≡ this }
-        ensures path { (path : List Deed) × RunPath (λ answer. (f : _) × (w : _) × (g : _) × F.polled f w answer g) ((a : A) × A.woken a) (λ woken. (n : _) × Q.scheduled (arc_value this).schedule n (record { woken_while_running = woken })) result.2 path × Goes path as_ended party result.1 }
+        ensures share { result.0 ≡ share }
+        ensures path { (path : List Deed) × RunPath (PolledOnce F.polled (arc_value share.cell) around) ((a : A) × A.woken a) (HandedOver Q.scheduled (arc_value share.cell) around) result.2 path × Goes path as_ended party result.1 }
     {
-        let (party, started) = this.begin_run(party);
+        let (party, started) = share.cell().begin_run(party);
         if !started {
-            let ended = this.end_closed_run(party);
-            return (this, ended, false);
+            let ended = share.cell().end_closed_run(party);
+            return (share, ended, false);
         }
-        let (this, party, answer) = Cell::poll_future(this, party, around);
+        let (share, party, answer) = Cell::poll_future(share, party, around);
         match answer {
             Poll::Ready(output) => {
-                let ended = this.end_ready_run(party, Kept { output });
-                (this, ended, false)
+                let ended = share
+                    .cell()
+                    .end_ready_run(party, Held::new(Kept { output }));
+                (share, ended, false)
             }
             Poll::Pending => {
-                let (ended, woken) = Cell::end_pending_run(&this, party, around);
-                (this, ended, woken)
+                let (ended, woken) = Cell::end_pending_run(share.cell(), party, around);
+                (share, ended, woken)
             }
         }
     }
@@ -78,7 +82,7 @@ impl<R: Wait + Drop, F: Yields, Q: Drop, M: Drop, A: Wake, B: Allocator> Cell<R,
     fn end_ready_run(
         &self,
         mut party: Party<F, Kept<F>, A>,
-        output: Kept<F>,
+        output: Held<Kept<F>>,
     ) -> Party<F, Kept<F>, A>
         requires cell { party.seat.table_id ≡ self.now.table.shared.table_id }
         requires party { (y : Slot F _ A) × (z : Slot F _ A) × StandsWith Polling (future_first y z []) party }
@@ -97,7 +101,7 @@ impl<R: Wait + Drop, F: Yields, Q: Drop, M: Drop, A: Wake, B: Allocator> Cell<R,
         Q: Schedule<Runnable<R, F, Q, M, A, X, B>>,
         requires cell { (party.seat.table_id ≡ (arc_value this.now).table.shared.table_id) × (limit_of party ≡ (arc_value this.now).limit) }
         requires party { (y : Slot F _ A) × (z : Slot F _ A) × StandsWith Polling (future_first y z []) party × IsFuture y }
-        ensures { EndsUnready ((a : A) × A.woken a) (λ woken. (n : _) × Q.scheduled (arc_value this.now).schedule n (record { woken_while_running = woken })) result.1 party result.0 }
+        ensures { EndsUnready ((a : A) × A.woken a) (HandedOver Q.scheduled (arc_value this.now) around) result.1 party result.0 }
     {
         let woken = Cell::finish_pending(this, &mut party, around);
         (party, woken)

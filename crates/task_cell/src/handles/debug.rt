@@ -57,6 +57,6 @@ impl<
     B: Allocator,
 > fmt::Debug for Runnable<R, F, Q, M, A, X, B> {
     fn fmt<W: fmt::Write>(&self, f: &mut fmt::Formatter<W>) -> fmt::Result {
-        self.inner.cell.show(f, "Runnable")
+        self.inner.share.cell().show(f, "Runnable")
     }
 }

@@ -25,9 +25,9 @@ impl<R: Wait + Drop, F: Yields, Q: Drop, M: Drop, A: Wake, B: Allocator> ParkedR
 > {
     /// The metadata that the builder was given.
     pub fn metadata(&self) -> &M
-        ensures { result.now ≡ (arc_value self.now.inner.cell).metadata }
+        ensures { result.now ≡ (arc_value self.now.inner.share.cell).metadata }
     {
-        self.inner.cell.metadata()
+        self.inner.share.cell().metadata()
     }
 
     /// The Runnable again, with these surroundings. It makes no step.

@@ -1,6 +1,9 @@
 //! The calls of a Runnable.
-ghost use Rattle.std.specs.Prelude.{◌≡◌};
+ghost use Rattle.std.specs.Prelude.{◌≡◌, IfSome, List, false};
 ghost use Rattle.std.specs.Arc.{arc_value};
+ghost use Rattle.task_steps.specs.declared.table.Deed.{Deed};
+ghost use Rattle.task_cell.specs.Handed.{HandedOver, PolledOnce};
+ghost use Rattle.task_cell.specs.RunPaths.{RunPath};
 
 use super::parked::ParkedRunnable;
 use crate::cell::waker::WakerSeat;
@@ -20,9 +23,9 @@ impl<R: Wait + Drop, F: Yields, Q: Drop, M: Drop, A: Wake, X: Copy, B: Allocator
 > {
     /// The metadata that the builder was given.
     pub fn metadata(&self) -> &M
-        ensures { result.now ≡ (arc_value self.now.inner.cell).metadata }
+        ensures { result.now ≡ (arc_value self.now.inner.share.cell).metadata }
     {
-        self.inner.cell.metadata()
+        self.inner.share.cell().metadata()
     }
 
     /// The surroundings that the handle carries.
@@ -36,10 +39,12 @@ impl<R: Wait + Drop, F: Yields, Q: Drop, M: Drop, A: Wake, X: Copy, B: Allocator
     pub fn waker(&self) -> Option<TaskWaker<R, F, Q, M, A, X, B>>
     where
         Q: Schedule<Runnable<R, F, Q, M, A, X, B>>,
+        ensures cell { IfSome result (λ waker. arc_value waker.inner.share.cell ≡ arc_value self.now.inner.share.cell) }
+        ensures around { IfSome result (λ waker. waker.around ≡ self.now.around) }
     {
-        let (cell, party) = Cell::gain_at(&self.inner.cell, &self.inner.holder)?;
+        let (share, party) = Cell::gain_at(self.inner.share.cell(), &self.inner.holder)?;
         Some(TaskWaker {
-            inner: WakerSeat::kept(cell, party),
+            inner: WakerSeat::kept(share, party),
             around: self.around,
         })
     }
@@ -61,12 +66,13 @@ impl<R: Wait + Drop, F: Yields, Q: Drop, M: Drop, A: Wake, X: Copy, B: Allocator
     pub fn schedule(self)
     where
         Q: Schedule<Runnable<R, F, Q, M, A, X, B>>,
+        ensures fact { HandedOver Q.scheduled (arc_value self.inner.share.cell) self.around false }
     {
         let (inner, around) = self.into_parts();
-        let (cell, mut party) = inner.into_party();
-        Cell::schedule(&cell, &mut party, around);
+        let (share, mut party) = inner.into_party();
+        Cell::schedule(share.cell(), &mut party, around);
         party.let_go();
-        drop(cell);
+        share.give_up();
     }
 
     /// Runs the task once: polls its future, unless the task was closed. True where the task was woken meanwhile and its Runnable was handed to the schedule value.
@@ -74,16 +80,17 @@ impl<R: Wait + Drop, F: Yields, Q: Drop, M: Drop, A: Wake, X: Copy, B: Allocator
     where
         F: Future<TaskWaker<R, F, Q, M, A, X, B>>,
         Q: Schedule<Runnable<R, F, Q, M, A, X, B>>,
+        ensures path { (path : List Deed) × RunPath (PolledOnce F.polled (arc_value self.inner.share.cell) self.around) ((a : A) × A.woken a) (HandedOver Q.scheduled (arc_value self.inner.share.cell) self.around) result path }
     {
         let (inner, around) = self.into_parts();
-        let (cell, party) = inner.into_party();
-        let (cell, ended, woken) = Cell::run(cell, party, around);
+        let (share, party) = inner.into_party();
+        let (share, ended, woken) = Cell::run(share, party, around);
         ended.let_go();
         // A run that was woken has handed a Runnable over, which has a share of its own.
         if woken {
-            drop(cell);
+            share.give_up();
         } else {
-            Cell::leave(cell);
+            share.leave();
         }
         woken
     }

@@ -1,5 +1,6 @@
 //! The calls of a waker.
-ghost use Rattle.std.specs.Prelude.{◌≡◌, ⊤, false};
+ghost use Rattle.std.specs.Prelude.{◌≡◌, ⊤, false, IfSome};
+ghost use Rattle.std.specs.Arc.{arc_value};
 
 use super::parked::ParkedWaker;
 use crate::cell::{Cell, Runnable, TaskWaker};
@@ -23,13 +24,13 @@ where
     pub fn wake(self) {
         let (inner, around) = self.into_parts();
         match inner.into_owned() {
-            Ok((cell, mut party)) => {
-                if let Some(deliverer) = cell.wake_by_ref(&mut party) {
-                    Cell::finish_wake(&cell, deliverer, around);
+            Ok((share, mut party)) => {
+                if let Some(deliverer) = share.cell().wake_by_ref(&mut party) {
+                    Cell::finish_wake(share.cell(), deliverer, around);
                 }
-                Cell::drop_waker(&cell, &mut party, around);
+                Cell::drop_waker(share.cell(), &mut party, around);
                 party.let_go();
-                drop(cell);
+                share.give_up();
             }
             Err(inner) => TaskWaker { inner, around }.wake_by_ref(),
         }
@@ -38,12 +39,15 @@ where
     /// Wakes the task. A task that is over stays as it is; one that is scheduled will be polled after this call; one that runs is scheduled once more by its run; and of one that is idle, a Runnable is handed to the schedule value, with `woken_while_running` false.
     pub fn wake_by_ref(&self) {
         if let Some(deliverer) = self.inner.wake() {
-            Cell::finish_wake(&self.inner.cell, deliverer, self.around);
+            Cell::finish_wake(self.inner.share.cell(), deliverer, self.around);
         }
     }
 
     /// One more waker of the same task, which holds a reference. `None` where the count of references is at the limit, or where memory was refused; nothing has changed then.
-    pub fn clone(&self) -> Option<Self> {
+    pub fn clone(&self) -> Option<Self>
+        ensures cell { IfSome result (λ waker. arc_value waker.inner.share.cell ≡ arc_value self.now.inner.share.cell) }
+        ensures around { IfSome result (λ waker. waker.around ≡ self.now.around) }
+    {
         let inner = self.inner.gain()?;
         Some(TaskWaker {
             inner,
@@ -90,7 +94,7 @@ where
 
     ghost woken_by_ref = { λ _. ⊤ };
 
-    ghost cloned = { λ _ _. ⊤ };
+    ghost cloned = { λ waker clone. IfSome clone (λ c. (arc_value c.inner.share.cell ≡ arc_value waker.inner.share.cell) × (c.around ≡ waker.around)) };
 
     ghost compared = { λ _ _ answer. answer ≡ false };
 

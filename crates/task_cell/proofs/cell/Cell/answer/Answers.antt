@@ -33,5 +33,5 @@ take_output-requires-clause-party g c = let w = c.look_again-found.result in let
 pub returns : goal.returns
 returns g c = let w = c.look_again-found.result in let e = sym c.has_to_wait.ensures ∙ c.if-has_to_wait.false in let f = sym c.closed.ensures ∙ c.if-closed.false in
     let t = c.take_output.ensures in
-    answers_output g.A.Wake.cloned g.A.Wake.woken g.A.Wake.woken_by_ref g.A.Wake.compared c.args.awaiter.now w (poll_number (position c.args.party.now)) c.take_output.result t.0 c.args.party.now c.look_again-found.new.party c.take_output.new.party (is_there w e f) t.1
+    answers_output g.A.Wake.cloned g.A.Wake.woken g.A.Wake.woken_by_ref g.A.Wake.compared c.args.awaiter.now w (poll_number (position c.args.party.now)) c.hand_out.result t.0 c.args.party.now c.look_again-found.new.party c.take_output.new.party (is_there w e f) t.1
     (went_on w c.args.party.now c.look_again-found.new.party false c.look_again-found.ensures e f) t.2

@@ -6,4 +6,4 @@ use Rattle.task_cell.specs.Calls.{GoesWith}
 use Rattle.task_cell.proofs.cell.Cell.complete.Given as goal
 
 abbrev pub invariant-loop : goal.invariant-loop
-invariant-loop g l = (y : _) × GoesWith [] Ready (output_first y (Output l.fn.output) []) l.fn.party l.party
+invariant-loop g l = (y : _) × GoesWith [] Ready (output_first y (Output l.fn.output.value) []) l.fn.party l.party

@@ -1,4 +1,4 @@
-use Rattle.std.proofs.Common.{rules, ap, sym, subst, ◌∷◌, []}
+use Rattle.std.proofs.Common.{◌≡◌, true, rules, ap, sym, subst, ◌∷◌, []}
 use Rattle.task_core.specs.Word.{state_of}
 use Rattle.task_steps.proofs.Allowed.{steps_always}
 use Rattle.task_laws.specs.declared.positions.Position.TheVariants.{Cleared}
@@ -18,5 +18,5 @@ fetch_and-found-requires g c = let s = c.requires.party in
 
 pub returns : goal.returns
 returns g c = λ y z s. let l = c.fetch_and-found.ensures in
-    subst (λ w. Goes (row EndClosed w ∷ []) (notifies w.awaiter OfRun) c.args.party.now (record { seat = c.fetch_and-found.new.seat })) (sym c.from_bits.ensures)
+    subst (λ w. (w.closed ≡ true) × Goes (row EndClosed w ∷ []) (notifies w.awaiter OfRun) c.args.party.now (record { seat = c.fetch_and-found.new.seat })) (sym c.from_bits.ensures)
     (ended_closed y z c.args.party.now (record { seat = c.fetch_and-found.new.seat }) (state_of c.fetch_and-found.result) s l.0 l.2)

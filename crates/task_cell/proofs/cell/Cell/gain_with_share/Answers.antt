@@ -1,9 +1,16 @@
-use Rattle.std.proofs.Common.{Some}
-use Rattle.task_cell.proofs.WakerMoves.{gain_goes, gain_new}
+use Rattle.std.proofs.Common.{ap, Some, None}
+use Rattle.task_cell.specs.WakerPaths.{is_refused}
+use Rattle.task_cell.proofs.WakerMoves.{shares, gain_new}
 use Rattle.task_cell.proofs.cell.Cell.gain_with_share.Goals as goal
 
-pub returns-clause-party : goal.returns-clause-party
-returns-clause-party g c = λ r us s. gain_goes r us _ c.args.party.now c.gain.new.party (Some c.in_ok-waker.waker) (c.in_ok-waker.ensures.path r us s)
+pub returns-in_default-clause-path : goal.returns-in_default-clause-path
+returns-in_default-clause-path g c = λ r us s. is_refused (c.refuse_gain.ensures.path r us s)
 
-pub returns-clause-waker : goal.returns-clause-waker
-returns-clause-waker g c = let s = c.requires.party in gain_new s.0 s.1 _ c.args.party.now c.gain.new.party c.in_ok-waker.waker (c.in_ok-waker.ensures.path s.0 s.1 s.2)
+pub returns-in-Some-clause-path : goal.returns-in-Some-clause-path
+returns-in-Some-clause-path g c = λ r us s. shares r us _ _ c.args.party.now c.gain.new.party c.gain.result (Some c.in-Some.waker) (ap (λ z. z.limit) c.deref-2.ensures) c.in-Some.is (c.gain.ensures.path r us s)
+
+pub returns-in-None-clause-path : goal.returns-in-None-clause-path
+returns-in-None-clause-path g c = λ r us s. shares r us _ _ c.args.party.now c.gain.new.party c.gain.result None (ap (λ z. z.limit) c.deref-2.ensures) c.in-None.is (c.gain.ensures.path r us s)
+
+pub returns-in-Some-clause-waker : goal.returns-in-Some-clause-waker
+returns-in-Some-clause-waker g c = let s = c.requires.party in gain_new s.0 s.1 _ c.args.party.now c.gain.new.party c.in-Some.waker (c.in-Some.ensures.path s.0 s.1 s.2)

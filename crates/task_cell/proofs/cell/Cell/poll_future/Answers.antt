@@ -1,4 +1,9 @@
-use Rattle.std.proofs.Common.{rules, ap, ◌∙◌}
+use Rattle.std.proofs.Common.{rules, ap, ◌∙◌, subst, refl, []}
+use Rattle.task_laws.specs.declared.positions.Position.TheVariants.{Polling}
+use Rattle.task_steps.specs.Steps.{future_first}
+use Rattle.task_cell.specs.Calls.{StandsWith}
+use Rattle.task_cell.specs.Starts.{IsLending}
+use Rattle.task_steps.proofs.PollOwed.{same_first}
 use Rattle.task_steps.specs.Seats.{lent_of}
 use Rattle.task_steps.specs.Holders.{roost}
 use Rattle.task_steps.proofs.Seats.{lends, takes_back}
@@ -17,10 +22,15 @@ join_seat-requires g c = let s = c.requires.party in let e = c.split_seat-other.
   takes_back _ _ _ _ _ _ _ _ _ _ _ (ap (λ m. m.0.members) e.2) (ap (λ m. m.0) c.into_seat-other.ensures.1 ∙ (ap (λ s. (roost s.holder).view) c.into_parts-inner.ensures.inner ∙ (c.locked.ensures.1 ∙ (ap (λ m. m.0) e.4 ∙ ap lent_of (ap (λ m. m.0) s.2))))),
 )
 
-pub returns-clause-fact : goal.returns-clause-fact
-returns-clause-fact g c = let e = c.polled-answer.ensures.fact in (e.0, _, e.1, e.2)
-
-pub returns-clause-party : goal.returns-clause-party
-returns-clause-party g c = let s = c.requires.party in let e = c.split_seat-other.ensures in let slot = c.polled-answer.new.slot in
+pub returns-clause-once : goal.returns-clause-once
+returns-clause-once g c = let s = c.requires.party in let e = c.split_seat-other.ensures in let p = c.polled-answer.ensures.once in
     let lent = ap (λ m. m.0) c.into_seat-other.ensures.1 ∙ (ap (λ s. (roost s.holder).view) c.into_parts-inner.ensures.inner ∙ (c.locked.ensures.1 ∙ ap (λ m. m.0) e.4)) in
-    (slot, s.1, came_back c.args.party (record { seat = c.join_seat.new.seat }) c.split_seat-other.new.seat.me.0 _ s.0 s.1 slot _ s.2 (ap (λ m. m.1) e.2) lent c.join_seat.ensures.2, c.polled-answer.ensures.future)
+    let there = same_first _ _ _ 0 s.0 c.slot_mut.result.now (ap (λ m. m.1) e.2 ∙ ap (λ m. m.1) s.2) c.slot_mut.ensures.value ∙ p.2 in (
+      p.0,
+      p.1,
+      s.1,
+      subst (λ y. IsLending y s.1 c.args.party) there s.2,
+      subst (λ y. StandsWith Polling (future_first y s.1 []) (record { seat = c.join_seat.new.seat })) p.3
+          (came_back c.args.party (record { seat = c.join_seat.new.seat }) c.split_seat-other.new.seat.me.0 _ s.0 s.1 c.polled-answer.new.slot _ s.2 (ap (λ m. m.1) e.2) lent c.join_seat.ensures.2),
+      (_, refl, refl, p.4),
+    )

@@ -2,6 +2,7 @@ use Rattle.std.proofs.Common.{◌∙◌, sym, ap, subst, []}
 use Rattle.std.specs.Arc.{arc_value}
 use Rattle.task_cell.specs.declared.cell.Cell.{Cell}
 use Rattle.task_cell.specs.RunCalls.{EndsUnready}
+use Rattle.task_cell.specs.Handed.{HandedOver}
 use Rattle.task_steps.specs.Steps.{future_first}
 use Rattle.task_cell.proofs.Moved.{stands}
 use Rattle.task_cell.proofs.Running.{shut, started, lending, limit_started, run_closed, run_ready, run_pending}
@@ -9,7 +10,7 @@ use Rattle.task_cell.proofs.cell.Cell.run.Goals as goal
 
 pub end_closed_run-ended-requires-clause-cell : goal.end_closed_run-ended-requires-clause-cell
 end_closed_run-ended-requires-clause-cell g c = let s = shut c.args.party c.begin_run-party.result.0 c.begin_run-party.result.1 c.begin_run-party.ensures c.if-not-started.true in
-    s.goes.cell ∙ (c.requires.cell.0 ∙ ap (λ z. z.table.shared.table_id) (sym c.deref-then-not-started.ensures))
+    s.goes.cell ∙ (c.requires.cell.0 ∙ ap (λ z. z.table.shared.table_id) (sym (c.deref-then-not-started.ensures ∙ ap (λ z. arc_value z) c.cell-then-not-started.ensures)))
 
 pub end_closed_run-ended-requires-clause-party : goal.end_closed_run-ended-requires-clause-party
 end_closed_run-ended-requires-clause-party g c = let s = shut c.args.party c.begin_run-party.result.0 c.begin_run-party.result.1 c.begin_run-party.ensures c.if-not-started.true in
@@ -19,37 +20,37 @@ pub returns-then-not-started-clause-path : goal.returns-then-not-started-clause-
 returns-then-not-started-clause-path g c = let s = shut c.args.party c.begin_run-party.result.0 c.begin_run-party.result.1 c.begin_run-party.ensures c.if-not-started.true in
     run_closed _ _ _ c.args.party c.begin_run-party.result.0 c.end_closed_run-ended.result s c.end_closed_run-ended.ensures
 
-pub poll_future-this-requires-clause-cell : goal.poll_future-this-requires-clause-cell
-poll_future-this-requires-clause-cell g c = let s = started c.args.party c.begin_run-party.result.0 c.begin_run-party.result.1 c.begin_run-party.ensures c.if-not-started.false in
+pub poll_future-share-requires-clause-cell : goal.poll_future-share-requires-clause-cell
+poll_future-share-requires-clause-cell g c = let s = started c.args.party c.begin_run-party.result.0 c.begin_run-party.result.1 c.begin_run-party.ensures c.if-not-started.false in
     s.cell ∙ c.requires.cell.0
 
-pub poll_future-this-requires-clause-limit : goal.poll_future-this-requires-clause-limit
-poll_future-this-requires-clause-limit g c = let s = started c.args.party c.begin_run-party.result.0 c.begin_run-party.result.1 c.begin_run-party.ensures c.if-not-started.false in
+pub poll_future-share-requires-clause-limit : goal.poll_future-share-requires-clause-limit
+poll_future-share-requires-clause-limit g c = let s = started c.args.party c.begin_run-party.result.0 c.begin_run-party.result.1 c.begin_run-party.ensures c.if-not-started.false in
     limit_started c.args.party c.begin_run-party.result.0 s ∙ c.requires.cell.1
 
-pub poll_future-this-requires-clause-party : goal.poll_future-this-requires-clause-party
-poll_future-this-requires-clause-party g c = let s = started c.args.party c.begin_run-party.result.0 c.begin_run-party.result.1 c.begin_run-party.ensures c.if-not-started.false in
+pub poll_future-share-requires-clause-party : goal.poll_future-share-requires-clause-party
+poll_future-share-requires-clause-party g c = let s = started c.args.party c.begin_run-party.result.0 c.begin_run-party.result.1 c.begin_run-party.ensures c.if-not-started.false in
     (s.place, s.other, lending c.args.party c.begin_run-party.result.0 s, s.future)
 
 pub end_ready_run-ended-requires-clause-cell : goal.end_ready_run-ended-requires-clause-cell
-end_ready_run-ended-requires-clause-cell g c = let s = started c.args.party c.begin_run-party.result.0 c.begin_run-party.result.1 c.begin_run-party.ensures c.if-not-started.false in let p = c.poll_future-this.ensures in
-    p.seat ∙ (s.cell ∙ (c.requires.cell.0 ∙ ap (λ z. z.table.shared.table_id) (sym (c.deref-in-Ready.ensures ∙ ap (λ z. arc_value z) p.cell))))
+end_ready_run-ended-requires-clause-cell g c = let s = started c.args.party c.begin_run-party.result.0 c.begin_run-party.result.1 c.begin_run-party.ensures c.if-not-started.false in let p = c.poll_future-share.ensures in
+    p.seat ∙ (s.cell ∙ (c.requires.cell.0 ∙ ap (λ z. z.table.shared.table_id) (sym (c.deref-in-Ready.ensures ∙ ap (λ z. arc_value z) (c.cell-in-Ready.ensures ∙ ap (λ z. z.cell) p.share)))))
 
 pub end_ready_run-ended-requires-clause-party : goal.end_ready_run-ended-requires-clause-party
-end_ready_run-ended-requires-clause-party g c = let p = c.poll_future-this.ensures in (p.party.0, p.party.1, p.party.2)
+end_ready_run-ended-requires-clause-party g c = let p = c.poll_future-share.ensures in (_, p.once.2, p.once.4)
 
 pub returns-in-Ready-clause-path : goal.returns-in-Ready-clause-path
-returns-in-Ready-clause-path g c = let s = started c.args.party c.begin_run-party.result.0 c.begin_run-party.result.1 c.begin_run-party.ensures c.if-not-started.false in let p = c.poll_future-this.ensures in
-    run_ready _ _ _ c.args.party c.begin_run-party.result.0 c.poll_future-this.result.1 c.end_ready_run-ended.result s c.poll_future-this.result.2 c.in-Ready.output c.in-Ready.is (future_first p.party.0 p.party.1 []) p.seat p.limit p.deeds p.party.2 p.fact c.end_ready_run-ended.ensures
+returns-in-Ready-clause-path g c = let s = started c.args.party c.begin_run-party.result.0 c.begin_run-party.result.1 c.begin_run-party.ensures c.if-not-started.false in let p = c.poll_future-share.ensures in
+    run_ready _ _ _ c.args.party c.begin_run-party.result.0 c.poll_future-share.result.1 c.end_ready_run-ended.result s c.poll_future-share.result.2 c.in-Ready.output c.in-Ready.is (future_first _ p.once.2 []) p.seat p.limit p.deeds p.once.4 (p.once.0, p.once.1, p.once.5) c.end_ready_run-ended.ensures
 
 pub end_pending_run-ended-requires-clause-cell : goal.end_pending_run-ended-requires-clause-cell
-end_pending_run-ended-requires-clause-cell g c = let s = started c.args.party c.begin_run-party.result.0 c.begin_run-party.result.1 c.begin_run-party.ensures c.if-not-started.false in let p = c.poll_future-this.ensures in
-    (p.seat ∙ (s.cell ∙ (c.requires.cell.0 ∙ ap (λ (z : Cell g.row.R.Denot g.row.F.Denot g.row.Q.Denot g.row.M.Denot g.row.A.Denot g.row.B.Denot g.row.F-Output.Denot g.F.Yields). z.table.shared.table_id) (sym (ap (λ z. arc_value z) p.cell)))), p.limit ∙ (limit_started c.args.party c.begin_run-party.result.0 s ∙ (c.requires.cell.1 ∙ ap (λ (z : Cell g.row.R.Denot g.row.F.Denot g.row.Q.Denot g.row.M.Denot g.row.A.Denot g.row.B.Denot g.row.F-Output.Denot g.F.Yields). z.limit) (sym (ap (λ z. arc_value z) p.cell)))))
+end_pending_run-ended-requires-clause-cell g c = let s = started c.args.party c.begin_run-party.result.0 c.begin_run-party.result.1 c.begin_run-party.ensures c.if-not-started.false in let p = c.poll_future-share.ensures in
+    (p.seat ∙ (s.cell ∙ (c.requires.cell.0 ∙ ap (λ (z : Cell g.row.R.Denot g.row.F.Denot g.row.Q.Denot g.row.M.Denot g.row.A.Denot g.row.B.Denot g.row.F-Output.Denot g.F.Yields). z.table.shared.table_id) (sym (ap (λ z. arc_value z) (c.cell-in-Pending.ensures ∙ ap (λ z. z.cell) p.share))))), p.limit ∙ (limit_started c.args.party c.begin_run-party.result.0 s ∙ (c.requires.cell.1 ∙ ap (λ (z : Cell g.row.R.Denot g.row.F.Denot g.row.Q.Denot g.row.M.Denot g.row.A.Denot g.row.B.Denot g.row.F-Output.Denot g.F.Yields). z.limit) (sym (ap (λ z. arc_value z) (c.cell-in-Pending.ensures ∙ ap (λ z. z.cell) p.share))))))
 
 pub end_pending_run-ended-requires-clause-party : goal.end_pending_run-ended-requires-clause-party
-end_pending_run-ended-requires-clause-party g c = c.poll_future-this.ensures.party
+end_pending_run-ended-requires-clause-party g c = let p = c.poll_future-share.ensures in (_, p.once.2, p.once.4, tt)
 
 pub returns-in-Pending-clause-path : goal.returns-in-Pending-clause-path
-returns-in-Pending-clause-path g c = let s = started c.args.party c.begin_run-party.result.0 c.begin_run-party.result.1 c.begin_run-party.ensures c.if-not-started.false in let p = c.poll_future-this.ensures in
-    run_pending _ _ _ c.args.party c.begin_run-party.result.0 c.poll_future-this.result.1 c.end_pending_run-ended.result.0 s c.poll_future-this.result.2 c.in-Pending.is c.end_pending_run-ended.result.1 (future_first p.party.0 p.party.1 []) p.seat p.limit p.deeds p.party.2 p.fact
-    (subst (λ (z : Cell g.row.R.Denot g.row.F.Denot g.row.Q.Denot g.row.M.Denot g.row.A.Denot g.row.B.Denot g.row.F-Output.Denot g.F.Yields). EndsUnready ((a : g.row.A.Denot) × g.A.Wake.woken a) (λ woken. (n : _) × g.Q.Schedule.scheduled z.schedule n (record { woken_while_running = woken })) c.end_pending_run-ended.result.1 c.poll_future-this.result.1 c.end_pending_run-ended.result.0) (ap (λ z. arc_value z) p.cell) c.end_pending_run-ended.ensures)
+returns-in-Pending-clause-path g c = let s = started c.args.party c.begin_run-party.result.0 c.begin_run-party.result.1 c.begin_run-party.ensures c.if-not-started.false in let p = c.poll_future-share.ensures in
+    run_pending _ _ _ c.args.party c.begin_run-party.result.0 c.poll_future-share.result.1 c.end_pending_run-ended.result.0 s c.poll_future-share.result.2 c.in-Pending.is c.end_pending_run-ended.result.1 (future_first _ p.once.2 []) p.seat p.limit p.deeds p.once.4 (p.once.0, p.once.1, p.once.5)
+    (subst (λ (z : Cell g.row.R.Denot g.row.F.Denot g.row.Q.Denot g.row.M.Denot g.row.A.Denot g.row.B.Denot g.row.F-Output.Denot g.F.Yields). EndsUnready ((a : g.row.A.Denot) × g.A.Wake.woken a) (HandedOver g.Q.Schedule.scheduled z c.args.around) c.end_pending_run-ended.result.1 c.poll_future-share.result.1 c.end_pending_run-ended.result.0) (ap (λ z. arc_value z) (c.cell-in-Pending.ensures ∙ ap (λ z. z.cell) p.share)) c.end_pending_run-ended.ensures)

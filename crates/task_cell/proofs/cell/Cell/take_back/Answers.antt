@@ -18,5 +18,5 @@ compare_exchange-found-requires g c = let s = c.requires.party in let e = c.loop
       (does_nothing _ _ _ _ _ _ _ _),
 )
 
-pub exchange-requires : goal.exchange-requires
-exchange-requires g c = let s = c.requires.party in (search rules, (Awaiter s.1, first_held c.args.party.now _ 2 (Awaiter s.1) _ s.2))
+pub take_out-requires : goal.take_out-requires
+take_out-requires g c = let s = c.requires.party in (search rules, (Awaiter s.1, first_held c.args.party.now _ 2 (Awaiter s.1) _ s.2))

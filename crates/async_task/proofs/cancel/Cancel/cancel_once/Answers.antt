@@ -1,0 +1,8 @@
+use Rattle.std.proofs.Common.{◌≡◌, true, sym, subst}
+use Rattle.task_steps.specs.PollScripts.{has_ended}
+use Rattle.task_steps.specs.Steps.{saw_ended}
+use Rattle.task_cell.proofs.PollSeen.{deeds_after, saw_after}
+use Rattle.async_task.proofs.cancel.Cancel.cancel_once.Goals as goal
+
+pub returns-clause-ended : goal.returns-clause-ended
+returns-clause-ended g c = λ e. let f = c.cancel.ensures.path in subst (λ l. saw_ended l ≡ true) (sym (deeds_after _ _ f.0 _ f.2)) (saw_after has_ended f.0 _ e)

@@ -1,0 +1,118 @@
+//! Tests of what is done while a Task registers: the drop of the older awaiter is the one place for it.
+
+use crate::watched::{Ends, Watched, WatchedRunnable, WatchedTask, spawn_watched};
+use async_task::{TaskClosed, TaskPoll};
+use fixtures::answers::is_ready_with;
+use fixtures::counters::{Counters, Counts};
+use fixtures::fixture::Fixture;
+use fixtures::future::{Behaviour, Output};
+use std::alloc::{AllocError, Global};
+use std::process::Abort;
+use std::string::String;
+use std::sync::{Arc, Wait};
+use std::test::Fail;
+use std::thread;
+use std::thread::Threads;
+
+// What a handle shows while a Task registers once more: AWAITER stays set, and REGISTERING is not shown.
+const REGISTERING: &str =
+    "Runnable { header: Header { scheduled: true, running: false, completed: false, closed: false, awaiter: true, task: true, ref_count: 1, metadata: () } }";
+
+// A second poll of a Task, and what a second thread did meanwhile.
+#[derive(Drop)]
+struct Beside<R: Wait + Drop> {
+    task: WatchedTask<R>,
+    polled: TaskPoll<Result<Output, TaskClosed>>,
+    came: bool,
+    text: Result<String, AllocError>,
+}
+
+// Polls a Task with a newer awaiter. While the older one is dropped, a second thread runs the Runnable, or drops it.
+fn poll_beside<R>(
+    rt: &R,
+    alloc: Global,
+    handles: (WatchedRunnable<R>, WatchedTask<R>),
+    older: &Watched,
+    newer: &Watched,
+    runs: bool,
+) -> Option<Beside<R>>
+where
+    R: Wait + Threads + Drop + Copy + Send + Sync,
+{
+    let (runnable, mut task) = handles;
+    let rendezvous = older.rendezvous();
+    rendezvous.arm();
+    thread::scope(thread::scope_env(), rt, |scope| {
+        let second = scope.spawn(move || {
+            let came = rendezvous.await_poll();
+            let text: Result<String, AllocError> = format!(in alloc; "{runnable:?}");
+            if runs {
+                runnable.run();
+            } else {
+                drop(runnable);
+            }
+            rendezvous.release();
+            (came, text)
+        });
+        let Ok(second) = second else {
+            return None;
+        };
+        let polled = task.poll(newer);
+        let (came, text) = second.join(rt);
+        Some(Beside {
+            task,
+            polled,
+            came,
+            text,
+        })
+    })
+}
+
+// A task ends, by a run or by the drop of its Runnable, while the second poll of its Task registers.
+fn end_while_registering<R>(rt: &R, alloc: Global, runs: bool, word: u64) -> Result<(), Fail>
+where
+    R: Wait + Threads + Abort + Drop + Copy + Send + Sync,
+{
+    let fixture = Fixture::new(*rt, alloc)?;
+    let older = Watched::new(alloc)?;
+    let newer = Watched::new(alloc)?;
+    let counters = Arc::new(alloc, Counters::new())?;
+    let (runnable, mut task) = spawn_watched(*rt, alloc, Behaviour::Ready(6), &counters)?;
+    let waits = matches!(task.poll(&older), TaskPoll::Pending);
+    let Some(beside) = poll_beside(rt, alloc, (runnable, task), &older, &newer, runs) else {
+        panic!(rt; "no thread");
+    };
+    let Beside {
+        task,
+        polled,
+        came,
+        text,
+    } = beside;
+    let completed = is_ready_with(&polled, 6);
+    let closed = matches!(&polled, TaskPoll::Ready(Err(TaskClosed)));
+    let shown = fixture.shows(&task, word);
+    drop((task, polled));
+    assert_eq!(rt;
+        (waits, came, older.rendezvous().met(), shown),
+        (true, true, true, Ok(true))
+    );
+    assert_eq!(rt; (completed, closed), (runs, !runs));
+    assert_eq!(rt;
+        [older.ends(), newer.ends()],
+        [Ends::new(1, 0, 0, 1), Ends::new(1, 1, 0, 0)]
+    );
+    assert_eq!(rt; counters.counts(), Counts::new(u64::from(runs), 0, 1, 1));
+    assert_eq!(rt; text?.as_str(), REGISTERING);
+    Ok(())
+}
+
+// The poll is ready by its second look, and wakes its own awaiter, which the other thread could not take.
+#[test]
+fn a_run_while_a_task_registers_is_seen_by_its_poll(rt: HostRuntime) -> Result<(), Fail> {
+    end_while_registering(&rt, rt.alloc(), true, 0x01C)
+}
+
+#[test]
+fn a_drop_while_a_task_registers_is_seen_by_its_poll(rt: HostRuntime) -> Result<(), Fail> {
+    end_while_registering(&rt, rt.alloc(), false, 0x018)
+}

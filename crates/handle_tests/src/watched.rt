@@ -1,0 +1,138 @@
+//! An awaiter that counts each kind of end apart, and whose drop may wait for a second thread.
+ghost use Rattle.std.specs.Prelude.{⊤};
+
+use async_task::{Runnable, Task, Wake, spawn};
+use fixtures::counters::{Counter, Counters};
+use fixtures::future::{Behaviour, RowFuture};
+use fixtures::rendezvous::Rendezvous;
+use fixtures::surroundings::Scheduler;
+use std::alloc::{AllocError, Global};
+use std::sync::{Arc, Wait};
+
+/// How often an awaiter was cloned, and how the clones ended.
+#[derive(Clone, Copy, Debug, PartialEq, Eq)]
+pub struct Ends {
+    /// Clones.
+    pub clones: u64,
+    /// Wakes by value.
+    pub wakes: u64,
+    /// Wakes by reference, which end nothing.
+    pub wakes_by_ref: u64,
+    /// Drops of what was not woken by value.
+    pub drops: u64,
+}
+
+impl Ends {
+    /// The numbers, in the order in which they stand above.
+    pub fn new(clones: u64, wakes: u64, wakes_by_ref: u64, drops: u64) -> Ends {
+        Ends {
+            clones,
+            wakes,
+            wakes_by_ref,
+            drops,
+        }
+    }
+}
+
+// What an awaiter and its clones share.
+#[derive(Drop)]
+struct Tally {
+    clones: Counter,
+    wakes: Counter,
+    wakes_by_ref: Counter,
+    drops: Counter,
+    rendezvous: Rendezvous,
+}
+
+/// An awaiter that counts each kind of end apart, all clones together. A drop comes to the meeting where that is armed.
+pub struct Watched {
+    tally: Arc<Tally>,
+}
+
+impl Watched {
+    /// An awaiter with counters at zero.
+    pub fn new(alloc: Global) -> Result<Watched, AllocError> {
+        let tally = Tally {
+            clones: Counter::new(),
+            wakes: Counter::new(),
+            wakes_by_ref: Counter::new(),
+            drops: Counter::new(),
+            rendezvous: Rendezvous::new(),
+        };
+        Ok(Watched {
+            tally: Arc::new(alloc, tally)?,
+        })
+    }
+
+    /// The counters so far.
+    pub fn ends(&self) -> Ends {
+        Ends {
+            clones: self.tally.clones.get(),
+            wakes: self.tally.wakes.get(),
+            wakes_by_ref: self.tally.wakes_by_ref.get(),
+            drops: self.tally.drops.get(),
+        }
+    }
+
+    /// Where a drop meets a second thread.
+    pub fn rendezvous(&self) -> &Rendezvous {
+        &self.tally.rendezvous
+    }
+}
+
+impl Drop for Watched {
+    fn drop(self) {
+        let Watched { tally } = self;
+        tally.drops.add_one();
+        tally.rendezvous.meet();
+        drop(tally);
+    }
+}
+
+impl Wake for Watched {
+    ghost woken = { λ _. ⊤ };
+
+    ghost woken_by_ref = { λ _. ⊤ };
+
+    ghost cloned = { λ _ _. ⊤ };
+
+    ghost compared = { λ _ _ _. ⊤ };
+
+    fn wake(self) {
+        let Watched { tally } = self;
+        tally.wakes.add_one();
+        drop(tally);
+    }
+
+    fn wake_by_ref(&self) {
+        self.tally.wakes_by_ref.add_one();
+    }
+
+    fn try_clone(&self) -> Option<Watched> {
+        let tally = Arc::try_clone(&self.tally).ok()?;
+        tally.clones.add_one();
+        Some(Watched { tally })
+    }
+
+    fn will_wake(&self, _other: &Watched) -> bool {
+        false
+    }
+}
+
+/// A Runnable without surroundings, of a task that is awaited by such awaiters.
+pub type WatchedRunnable<R> = Runnable<R, RowFuture, Scheduler, (), Watched, ()>;
+
+/// A Task without surroundings that is awaited by such awaiters.
+pub type WatchedTask<R> = Task<R, RowFuture, Scheduler, (), Watched, ()>;
+
+/// Spawns such a task, which counts here. Its schedule value drops each Runnable.
+pub fn spawn_watched<R: Wait + Drop + Copy>(
+    rt: R,
+    alloc: Global,
+    behaviour: Behaviour,
+    counters: &Arc<Counters>,
+) -> Result<(WatchedRunnable<R>, WatchedTask<R>), AllocError> {
+    let future = RowFuture::new(behaviour, Arc::try_clone(counters)?);
+    let scheduler = Scheduler::new(Arc::try_clone(counters)?);
+    spawn(rt, alloc, future, scheduler, ()).map_err(|_| AllocError)
+}

@@ -1,0 +1,119 @@
+//! The awaiter of a race.
+ghost use Rattle.std.specs.Prelude.{⊤};
+
+use async_task::Wake;
+use fixtures::counters::Counter;
+use fixtures::rendezvous::Rendezvous;
+use std::alloc::{AllocError, Global};
+use std::hint::spin_loop;
+use std::sync::Arc;
+
+// How many turns a clone takes.
+const CLONE: u32 = 4;
+
+// What an awaiter and its clones share.
+#[derive(Drop)]
+struct Shared {
+    clones: Counter,
+    wakes: Counter,
+    reference_wakes: Counter,
+    drops: Counter,
+    rendezvous: Rendezvous,
+}
+
+/// An awaiter that counts what becomes of it and its clones. Its drop comes to a meeting with a second thread, if one is armed.
+pub struct RaceAwaiter {
+    shared: Arc<Shared>,
+}
+
+impl RaceAwaiter {
+    /// An awaiter that has counted nothing.
+    pub fn new(alloc: Global) -> Result<RaceAwaiter, AllocError> {
+        let shared = Shared {
+            clones: Counter::new(),
+            wakes: Counter::new(),
+            reference_wakes: Counter::new(),
+            drops: Counter::new(),
+            rendezvous: Rendezvous::new(),
+        };
+        let shared = Arc::new(alloc, shared)?;
+        Ok(RaceAwaiter { shared })
+    }
+
+    /// How many clones were made.
+    pub fn clones(&self) -> u64 {
+        self.shared.clones.get()
+    }
+
+    /// How many clones have ended: were woken by value, or dropped.
+    pub fn ends(&self) -> u64 {
+        self.shared
+            .wakes
+            .get()
+            .wrapping_add(self.shared.drops.get())
+    }
+
+    /// How many clones were woken by value.
+    pub fn wakes(&self) -> u64 {
+        self.shared.wakes.get()
+    }
+
+    /// How many wakes were by reference: only a poll does so, which finds a notifier where it begins to register.
+    pub fn reference_wakes(&self) -> u64 {
+        self.shared.reference_wakes.get()
+    }
+
+    /// Whether it was woken, by value or by reference.
+    pub fn is_woken(&self) -> bool {
+        self.wakes() != 0 || self.reference_wakes() != 0
+    }
+
+    /// Where a drop meets a second thread.
+    pub fn rendezvous(&self) -> &Rendezvous {
+        &self.shared.rendezvous
+    }
+}
+
+impl Drop for RaceAwaiter {
+    fn drop(self) {
+        let RaceAwaiter { shared } = self;
+        shared.rendezvous.meet();
+        shared.drops.add_one();
+        drop(shared);
+    }
+}
+
+impl Wake for RaceAwaiter {
+    ghost woken = { λ _. ⊤ };
+
+    ghost woken_by_ref = { λ _. ⊤ };
+
+    ghost cloned = { λ _ _. ⊤ };
+
+    ghost compared = { λ _ _ _. ⊤ };
+
+    fn wake(self) {
+        let RaceAwaiter { shared } = self;
+        shared.wakes.add_one();
+        drop(shared);
+    }
+
+    fn wake_by_ref(&self) {
+        self.shared.reference_wakes.add_one();
+    }
+
+    // It takes some turns, so that a notifier may come between the first look of a poll and its registration.
+    fn try_clone(&self) -> Option<RaceAwaiter> {
+        for _ in 0..CLONE {
+            spin_loop();
+        }
+        let shared = Arc::try_clone(&self.shared).ok()?;
+        shared.clones.add_one();
+        Some(RaceAwaiter { shared })
+    }
+
+    // Each is woken, so that the count of wakes tells who awaits.
+    fn will_wake(&self, _other: &RaceAwaiter) -> bool {
+        false
+    }
+}

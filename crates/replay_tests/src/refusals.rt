@@ -1,0 +1,521 @@
+//! Each row of the table of moves, refused: a word at which one thing of what the row asks for does not fit, and the word that is told in its place.
+//!
+//! A case says how that word is reached. The word that is told is the one found, with that one thing as the row asks for it; where two flags would do,
+//! the word of the lower number.
+//!
+//! What no run reaches has no case: COMPLETED beside SCHEDULED or RUNNING, and a word that does not fit EndClosed or EndRegisterNotified where a party is
+//! to make them. CloseOrphan, Unschedule and EndNotify ask for nothing. These five are refused by the position alone.
+
+use crate::turns::steps_of;
+use std::alloc::Global;
+use std::process::Abort;
+use std::test::Fail;
+use task_core::moves::Act;
+use task_core::moves::Act::*;
+use task_core::word::Word;
+use task_laws::positions::{Closer, Position, Rest, Way};
+use task_replay::player::{PlayError, Player};
+use task_replay::refusal::Refusal;
+use task_replay::{ReplayError, Step, replay};
+
+// The turns that lead there, the word found, the party and the act that is refused, and the word at which it would be allowed.
+type Unfit = (&'static [(u64, &'static [Act])], u64, u64, Act, u64);
+
+// Parts of a life. Party 0 is the Runnable, party 1 the Task, party 2 the first that is added.
+
+const GAINS: &[Act] = &[GainReference, EndCall];
+
+const GAINS_TWICE: &[Act] = &[GainReference, EndCall, GainReference, EndCall];
+
+const GAINS_AND_STARTS: &[Act] = &[GainReference, EndCall, StartRun, StartPoll];
+
+const STARTS: &[Act] = &[StartRun, StartPoll];
+
+const PENDS: &[Act] = &[StartRun, StartPoll, AnswerPending];
+
+const IDLES: &[Act] = &[StartRun, StartPoll, AnswerPending, EndIdle, EndCall];
+
+const STORES: &[Act] = &[StartRun, StartPoll, AnswerReady, DropFuture, StoreOutput];
+
+const COMPLETES: &[Act] = &[
+    StartRun,
+    StartPoll,
+    AnswerReady,
+    DropFuture,
+    StoreOutput,
+    Complete,
+];
+
+const GIVES_UP: &[Act] = &[GiveUpReference, EndCall];
+
+const UNSCHEDULES: &[Act] = &[DiscardOpen, DropFuture, Unschedule];
+
+const DISCARDS: &[Act] = &[
+    DiscardOpen,
+    DropFuture,
+    Unschedule,
+    GiveUpReference,
+    EndCall,
+];
+
+const WAKES_RUNNING: &[Act] = &[WakeRunning, EndCall];
+
+const CANCELS_BUSY: &[Act] = &[CancelBusy, EndCall];
+
+const CANCELS_AND_DETACHES: &[Act] = &[CancelBusy, EndCall, Detach, EndCall];
+
+const CLAIMS: &[Act] = &[ClaimOutput, HandOutOutput, EndCall];
+
+const DROPS_OUTPUT: &[Act] = &[GiveUpOutput, DropOutput];
+
+const DETACHES: &[Act] = &[Detach, EndCall];
+
+const POLLS: &[Act] = &[
+    Look,
+    CloneAwaiter,
+    BeginRegister,
+    StoreAwaiter,
+    EndRegister,
+    Look,
+    EndCall,
+];
+
+const CLONES: &[Act] = &[Look, CloneAwaiter];
+
+const REGISTERS: &[Act] = &[Look, CloneAwaiter, BeginRegister];
+
+const REGISTERS_AND_STORES: &[Act] = &[Look, CloneAwaiter, BeginRegister, StoreAwaiter];
+
+// References that are given up.
+const REFERENCES: [Unfit; 10] = [
+    // DropWaker: `n` above 1, or TASK.
+    (
+        &[(0, GAINS), (1, DETACHES), (0, IDLES)],
+        0x100,
+        2,
+        DropWaker,
+        0x110,
+    ),
+    // DropLastWaker: `n` is 1, no TASK, over.
+    (
+        &[(0, GAINS_TWICE), (1, DETACHES), (0, DISCARDS)],
+        0x208,
+        2,
+        DropLastWaker,
+        0x108,
+    ),
+    (&[(0, GAINS), (0, DISCARDS)], 0x118, 2, DropLastWaker, 0x108),
+    (
+        &[(0, GAINS), (1, DETACHES), (0, IDLES)],
+        0x100,
+        2,
+        DropLastWaker,
+        0x104,
+    ),
+    // OrphanTask: `n` is 1, no TASK, open.
+    (
+        &[(0, GAINS_TWICE), (1, DETACHES), (0, IDLES)],
+        0x200,
+        2,
+        OrphanTask,
+        0x100,
+    ),
+    (&[(0, GAINS), (0, IDLES)], 0x110, 2, OrphanTask, 0x100),
+    (
+        &[(0, GAINS), (1, DETACHES), (0, DISCARDS)],
+        0x108,
+        2,
+        OrphanTask,
+        0x100,
+    ),
+    // GiveUpReference: `n` above 1, or TASK.
+    (
+        &[(1, DETACHES), (0, UNSCHEDULES)],
+        0x108,
+        0,
+        GiveUpReference,
+        0x118,
+    ),
+    // GiveUpLastReference: `n` is 1, no TASK.
+    (
+        &[(0, GAINS), (1, DETACHES), (0, UNSCHEDULES)],
+        0x208,
+        0,
+        GiveUpLastReference,
+        0x108,
+    ),
+    (&[(0, UNSCHEDULES)], 0x118, 0, GiveUpLastReference, 0x108),
+];
+
+// Wakes, by a waker.
+const WAKES: [Unfit; 11] = [
+    // WakeOver: over.
+    (&[(0, GAINS)], 0x211, 2, WakeOver, 0x215),
+    // WakeScheduled: open, SCHEDULED.
+    (&[(0, GAINS), (0, IDLES)], 0x110, 2, WakeScheduled, 0x111),
+    (&[(0, GAINS_AND_STARTS)], 0x212, 2, WakeScheduled, 0x213),
+    (
+        &[(0, GAINS), (1, CANCELS_BUSY)],
+        0x219,
+        2,
+        WakeScheduled,
+        0x211,
+    ),
+    // WakeRunning: open, not SCHEDULED, RUNNING.
+    (
+        &[(0, GAINS_AND_STARTS), (2, WAKES_RUNNING)],
+        0x213,
+        2,
+        WakeRunning,
+        0x212,
+    ),
+    (&[(0, GAINS), (0, IDLES)], 0x110, 2, WakeRunning, 0x112),
+    (
+        &[(0, GAINS_AND_STARTS), (1, CANCELS_BUSY)],
+        0x21A,
+        2,
+        WakeRunning,
+        0x212,
+    ),
+    // WakeIdle: open, neither SCHEDULED nor RUNNING.
+    (&[(0, GAINS)], 0x211, 2, WakeIdle, 0x210),
+    (&[(0, GAINS_AND_STARTS)], 0x212, 2, WakeIdle, 0x210),
+    (&[(0, GAINS), (0, DISCARDS)], 0x118, 2, WakeIdle, 0x110),
+    (&[(0, GAINS), (0, COMPLETES)], 0x214, 2, WakeIdle, 0x210),
+];
+
+// The task is closed, or its Task given up.
+const CLOSINGS: [Unfit; 19] = [
+    // DiscardOpen: not CLOSED. DiscardClosed: CLOSED.
+    (&[(1, CANCELS_BUSY)], 0x119, 0, DiscardOpen, 0x111),
+    (&[], 0x111, 0, DiscardClosed, 0x119),
+    // CancelOver: over.
+    (&[], 0x111, 1, CancelOver, 0x115),
+    // CancelBusy: open, SCHEDULED or RUNNING.
+    (&[(0, GAINS), (0, IDLES)], 0x110, 1, CancelBusy, 0x111),
+    (&[(1, CANCELS_BUSY)], 0x119, 1, CancelBusy, 0x111),
+    (
+        &[(0, STARTS), (1, CANCELS_BUSY)],
+        0x11A,
+        1,
+        CancelBusy,
+        0x112,
+    ),
+    // CancelIdle: open, neither SCHEDULED nor RUNNING.
+    (&[], 0x111, 1, CancelIdle, 0x110),
+    (&[(0, STARTS)], 0x112, 1, CancelIdle, 0x110),
+    (&[(0, DISCARDS)], 0x018, 1, CancelIdle, 0x010),
+    (
+        &[(0, COMPLETES), (0, GIVES_UP)],
+        0x014,
+        1,
+        CancelIdle,
+        0x010,
+    ),
+    // ClaimOutput and GiveUpOutput: COMPLETED, not CLOSED.
+    (
+        &[(0, COMPLETES), (0, GIVES_UP), (1, CLAIMS)],
+        0x01C,
+        1,
+        ClaimOutput,
+        0x014,
+    ),
+    (&[], 0x111, 1, GiveUpOutput, 0x115),
+    (
+        &[(0, COMPLETES), (0, GIVES_UP), (1, CLAIMS)],
+        0x01C,
+        1,
+        GiveUpOutput,
+        0x014,
+    ),
+    // DetachOrphan: `n` is 0, open.
+    (&[(0, DISCARDS)], 0x018, 1, DetachOrphan, 0x010),
+    (
+        &[(0, COMPLETES), (0, GIVES_UP)],
+        0x014,
+        1,
+        DetachOrphan,
+        0x010,
+    ),
+    // DetachLast: `n` is 0, CLOSED.
+    (&[(1, CANCELS_BUSY)], 0x119, 1, DetachLast, 0x019),
+    (
+        &[(0, COMPLETES), (0, GIVES_UP)],
+        0x014,
+        1,
+        DetachLast,
+        0x01C,
+    ),
+    // Detach: `n` above 0, not (COMPLETED without CLOSED).
+    (&[(0, DISCARDS)], 0x018, 1, Detach, 0x118),
+    (&[(0, COMPLETES)], 0x114, 1, Detach, 0x110),
+];
+
+// The same two by a detach that has dropped the output.
+const DETACHERS: [Unfit; 2] = [
+    (
+        &[(0, COMPLETES), (1, DROPS_OUTPUT)],
+        0x11C,
+        1,
+        DetachLast,
+        0x01C,
+    ),
+    (
+        &[(0, COMPLETES), (0, GIVES_UP), (1, DROPS_OUTPUT)],
+        0x01C,
+        1,
+        Detach,
+        0x11C,
+    ),
+];
+
+// A run starts and ends.
+const RUNS: [Unfit; 13] = [
+    // TakeUpClosed: CLOSED. StartRun: not CLOSED.
+    (&[], 0x111, 0, TakeUpClosed, 0x119),
+    (&[(1, CANCELS_BUSY)], 0x119, 0, StartRun, 0x111),
+    // Complete: TASK. CompleteDetached: no TASK.
+    (&[(0, STORES), (1, DETACHES)], 0x102, 0, Complete, 0x112),
+    (&[(0, STORES)], 0x112, 0, CompleteDetached, 0x102),
+    // Reschedule: not CLOSED, SCHEDULED.
+    (&[(0, PENDS)], 0x112, 0, Reschedule, 0x113),
+    (
+        &[
+            (0, STARTS),
+            (2, WAKES_RUNNING),
+            (0, &[AnswerPending]),
+            (1, CANCELS_BUSY),
+        ],
+        0x11B,
+        0,
+        Reschedule,
+        0x113,
+    ),
+    // EndIdle: not CLOSED, not SCHEDULED, (`n` above 1, or TASK).
+    (
+        &[(0, STARTS), (2, WAKES_RUNNING), (0, &[AnswerPending])],
+        0x113,
+        0,
+        EndIdle,
+        0x112,
+    ),
+    (&[(0, PENDS), (1, CANCELS_BUSY)], 0x11A, 0, EndIdle, 0x112),
+    (&[(0, PENDS), (1, DETACHES)], 0x102, 0, EndIdle, 0x112),
+    // EndOrphaned: not CLOSED, not SCHEDULED, `n` is 1, no TASK.
+    (
+        &[
+            (1, DETACHES),
+            (0, STARTS),
+            (2, WAKES_RUNNING),
+            (0, &[AnswerPending]),
+        ],
+        0x103,
+        0,
+        EndOrphaned,
+        0x102,
+    ),
+    (
+        &[(0, PENDS), (1, CANCELS_AND_DETACHES)],
+        0x10A,
+        0,
+        EndOrphaned,
+        0x102,
+    ),
+    (
+        &[(0, GAINS), (1, DETACHES), (0, PENDS)],
+        0x202,
+        0,
+        EndOrphaned,
+        0x102,
+    ),
+    (&[(0, PENDS)], 0x112, 0, EndOrphaned, 0x102),
+];
+
+// The handshake on the awaiter, and what else asks for a word: a look, and an awaiter that is taken back.
+const HANDSHAKES: [Unfit; 8] = [
+    // BeginNotify: neither NOTIFYING nor REGISTERING.
+    (
+        &[(1, POLLS), (1, REGISTERS), (0, UNSCHEDULES)],
+        0x178,
+        0,
+        BeginNotify,
+        0x138,
+    ),
+    (
+        &[
+            (1, POLLS),
+            (0, UNSCHEDULES),
+            (0, &[BeginNotify]),
+            (1, &[Look]),
+        ],
+        0x1B8,
+        1,
+        BeginNotify,
+        0x138,
+    ),
+    // MissNotify: NOTIFYING or REGISTERING.
+    (&[(1, POLLS), (0, UNSCHEDULES)], 0x138, 0, MissNotify, 0x178),
+    // FindNotify: NOTIFYING. BeginRegister: not NOTIFYING.
+    (&[(1, CLONES)], 0x111, 1, FindNotify, 0x191),
+    (
+        &[
+            (1, POLLS),
+            (1, CLONES),
+            (0, UNSCHEDULES),
+            (0, &[BeginNotify]),
+        ],
+        0x1B8,
+        1,
+        BeginRegister,
+        0x138,
+    ),
+    // EndRegister: not NOTIFYING.
+    (
+        &[
+            (1, POLLS),
+            (1, REGISTERS_AND_STORES),
+            (1, &[DropAwaiter]),
+            (0, UNSCHEDULES),
+            (0, &[MissNotify]),
+        ],
+        0x1F8,
+        1,
+        EndRegister,
+        0x178,
+    ),
+    // TakeAwaiter, by a poll that has registered: NOTIFYING.
+    (&[(1, REGISTERS_AND_STORES)], 0x151, 1, TakeAwaiter, 0x1D1),
+    // Look, by the Task: not (COMPLETED without CLOSED).
+    (&[(0, COMPLETES)], 0x114, 1, Look, 0x110),
+];
+
+// References at a limit, the first number.
+const LIMITS: [(u64, Unfit); 5] = [
+    // GainReference: `n` below the limit. FindLimit: `n` at or above it.
+    (2, (&[(0, GAINS)], 0x211, 2, GainReference, 0x111)),
+    (1, (&[(0, STARTS)], 0x112, 2, GainReference, 0x012)),
+    (2, (&[], 0x111, 0, FindLimit, 0x211)),
+    (4, (&[], 0x111, 0, FindLimit, 0x411)),
+    (3, (&[(0, GAINS)], 0x211, 2, FindLimit, 0x311)),
+];
+
+// Acts that are never made where that party stands.
+const NEVER: [(&[(u64, &[Act])], u64, Act, Position); 7] = [
+    (&[], 1, GainReference, Position::At(Rest::Task(0))),
+    (&[], 0, WakeScheduled, Position::At(Rest::Runnable)),
+    (&[(0, GAINS)], 2, CloseOrphan, Position::At(Rest::Waker)),
+    (
+        &[(0, &[DiscardOpen])],
+        0,
+        Unschedule,
+        Position::FutureInHand(Closer::DroppedRunnable),
+    ),
+    (&[(0, PENDS)], 0, EndClosed, Position::Pending),
+    (
+        &[(1, POLLS), (0, UNSCHEDULES), (0, &[BeginNotify])],
+        0,
+        EndNotify,
+        Position::Taker(Way::OfDrop),
+    ),
+    (
+        &[(1, REGISTERS_AND_STORES)],
+        1,
+        EndRegisterNotified,
+        Position::Registered(1),
+    ),
+];
+
+// What a lent waker does only while its poll is under way.
+const LENT: [Act; 6] = [
+    FindLimit,
+    RefuseGain,
+    WakeOver,
+    WakeScheduled,
+    WakeRunning,
+    WakeIdle,
+];
+
+// A player after these turns.
+fn player_after(alloc: Global, limit: u64, turns: &[(u64, &[Act])]) -> Result<Player, Fail> {
+    let mut player = Player::new(alloc, limit)?;
+    for step in steps_of(alloc, turns)?.iter() {
+        player.play(*step)?;
+    }
+    Ok(player)
+}
+
+// What is told of this act after these turns: the word found, the reason, and that neither a player nor a replay makes it.
+fn told(
+    alloc: Global,
+    limit: u64,
+    turns: &[(u64, &[Act])],
+    step: Step,
+) -> Result<(u64, Option<Refusal>, bool), Fail> {
+    let mut player = player_after(alloc, limit, turns)?;
+    let word = player.machine().word().bits();
+    let reason = player.refusal(step);
+    let is_refused = player.play(step) == Err(PlayError::NotAllowed);
+    let mut steps = steps_of(alloc, turns)?;
+    let number = steps.len();
+    steps.push(step)?;
+    let answer = replay(alloc, limit, steps.as_slice()).err();
+    let is_named = answer == Some(ReplayError::NotAllowed(number));
+    Ok((word, reason, is_refused && is_named))
+}
+
+// Each case is refused for its word, at that limit.
+fn are_unfit(rt: &impl Abort, alloc: Global, limit: u64, cases: &[Unfit]) -> Result<(), Fail> {
+    for (turns, word, party, act, fitting) in cases {
+        let step = Step {
+            party: *party,
+            act: *act,
+        };
+        let seen = told(alloc, limit, turns, step)?;
+        let reason = Refusal::UnfitWord(Some(Word::from_bits(*fitting)));
+        assert_eq!(rt; seen, (*word, Some(reason), true), "{act:?}");
+    }
+    Ok(())
+}
+
+#[test]
+fn each_row_is_refused_where_its_word_does_not_fit(rt: HostRuntime) -> Result<(), Fail> {
+    are_unfit(&rt, rt.alloc(), 4, &REFERENCES)?;
+    are_unfit(&rt, rt.alloc(), 4, &WAKES)?;
+    are_unfit(&rt, rt.alloc(), 4, &CLOSINGS)?;
+    are_unfit(&rt, rt.alloc(), 4, &DETACHERS)?;
+    are_unfit(&rt, rt.alloc(), 4, &RUNS)?;
+    are_unfit(&rt, rt.alloc(), 4, &HANDSHAKES)
+}
+
+#[test]
+fn a_reference_is_refused_by_the_limit(rt: HostRuntime) -> Result<(), Fail> {
+    for (limit, case) in LIMITS {
+        are_unfit(&rt, rt.alloc(), limit, &[case])?;
+    }
+    let gain = Step {
+        party: 2,
+        act: GainReference,
+    };
+    let seen = told(rt.alloc(), 0, &[(0, STARTS)], gain)?;
+    assert_eq!(rt; seen, (0x112, Some(Refusal::UnfitWord(None)), true));
+    Ok(())
+}
+
+#[test]
+fn each_act_is_refused_at_other_positions(rt: HostRuntime) -> Result<(), Fail> {
+    for (turns, party, act, position) in NEVER {
+        let (_, reason, is_refused) = told(rt.alloc(), 4, turns, Step { party, act })?;
+        let expected = Some(Refusal::NeverThere(position));
+        assert_eq!(rt; (reason, is_refused), (expected, true), "{act:?}");
+    }
+    Ok(())
+}
+
+#[test]
+fn a_lent_waker_is_refused_each_act_after_its_poll(rt: HostRuntime) -> Result<(), Fail> {
+    for act in LENT {
+        let seen = told(rt.alloc(), 4, &[(0, PENDS)], Step { party: 2, act })?;
+        assert_eq!(rt; seen, (0x112, Some(Refusal::NoPoll), true), "{act:?}");
+    }
+    Ok(())
+}

@@ -1,0 +1,59 @@
+-- What a poll has seen of the task's end, and what an earlier poll has seen.
+use Rattle.std.proofs.Common.{◌≡◌, Bool, true, false, not, ◌&&◌, ◌||◌, List, [], ◌∷◌, ◌++◌, Option, None, sym, ap, subst}
+use Rattle.atomic_table.specs.Table.{Me}
+use Rattle.task_core.specs.Word.{State}
+use Rattle.task_core.specs.declared.traits.TaskPoll.{TaskPoll}
+use Rattle.task_core.specs.declared.traits.TaskPoll.TheVariants.{Ready}
+use Rattle.task_laws.specs.declared.positions.Position.{Position}
+use Rattle.task_core.specs.declared.moves.Act.TheVariants.{Look, EndCall}
+use Rattle.task_steps.specs.declared.table.Slot.{Slot}
+use Rattle.task_steps.specs.declared.table.Deed.{Deed}
+use Rattle.task_steps.specs.declared.table.View.{View}
+use Rattle.task_cell.specs.declared.cell.Party.{Party}
+use Rattle.task_steps.specs.Deeds.{row, act, after}
+use Rattle.task_steps.specs.Steps.{head_of, leaves_such, saw, saw_ended}
+use Rattle.task_steps.specs.PollScripts.{has_output, has_ended}
+use Rattle.task_cell.specs.Calls.{deeds, GoesWith}
+use Rattle.task_cell.specs.PollPaths.{AnswerPath, waits, has_ended_since, has_output_since, PollPath, finds_output, finds_ended, is_refused, looks_again}
+use Rattle.task_steps.proofs.Seen.{true_left, true_right}
+use Rattle.task_cell.proofs.Moved.{after-append}
+
+-- what was seen before a path has been seen after it
+pub saw_after : (test : State → Bool) (path earlier : List Deed) → saw test earlier ≡ true → saw test (after path earlier) ≡ true
+saw_after test [] earlier e = e
+saw_after test (d ∷ path) earlier e = saw_after test path (d ∷ earlier) (true_right (leaves_such test d.act d.found) (saw test earlier) e)
+
+-- a look that finds the task ended
+looked : (w : State) (path earlier : List Deed) → has_ended w ≡ true → saw_ended (after (row Look w ∷ path) earlier) ≡ true
+looked w path earlier e = saw_after has_ended path (row Look w ∷ earlier) (true_left (has_ended w) (saw has_ended earlier) e)
+
+-- the deeds of a party after a path
+pub deeds_after : {F V A : Type 0} (p q : Party F V A) (path : List Deed) (at : Position) → GoesWith path at [] p q → deeds q ≡ after path (deeds p)
+deeds_after {F} {V} {A} p q path at g = ap (λ (m : Me (Slot F V A) View). (head_of m.0.members).deeds) g.is
+
+module _ {A T : Type 0} (cloned : A → Option A → Type 0) (woken woken_by_ref : A → Type 0) (compared : A → A → Bool → Type 0) (awaiter : A) where
+  answer_saw : (path : List Deed) (answer : TaskPoll (Option T)) (earlier : List Deed) → AnswerPath woken compared awaiter path answer → answer ≡ Ready None → saw_ended (after path earlier) ≡ true
+  answer_saw _ _ earlier (waits w e) is = absurd (cc)
+  answer_saw _ _ earlier (has_ended_since w taken e t) is = looked w (taken ++ act EndCall ∷ []) earlier e
+  answer_saw _ _ earlier (has_output_since w path x e c) is = absurd (cc)
+
+  -- a poll that answers ready without output has seen the task ended
+  path_saw : (path : List Deed) (answer : TaskPoll (Option T)) (earlier : List Deed) → PollPath cloned woken woken_by_ref compared awaiter path answer → answer ≡ Ready None → saw_ended (after path earlier) ≡ true
+  path_saw _ _ earlier (finds_output path x c) is = absurd (cc)
+  path_saw _ _ earlier (finds_ended w taken e t) is = looked w (taken ++ act EndCall ∷ []) earlier e
+  path_saw _ _ earlier (is_refused w e e' c) is = absurd (cc)
+  path_saw _ _ earlier (looks_again w registered path answer e e' r a) is =
+      subst (λ l. saw_ended l ≡ true) (sym (after-append (row Look w ∷ registered) path earlier)) (answer_saw path answer (after (row Look w ∷ registered) earlier) a is)
+
+  module _ {F V : Type 0} where
+    pub poll_saw : (p q : Party F V A) (path : List Deed) (at : Position) (answer : TaskPoll (Option T)) → PollPath cloned woken woken_by_ref compared awaiter path answer → GoesWith path at [] p q → answer ≡ Ready None → saw_ended (deeds q) ≡ true
+    poll_saw p q path at answer h g is = subst (λ l. saw_ended l ≡ true) (sym (deeds_after p q path at g)) (path_saw path answer (deeds p) h is)
+
+-- a word cannot be of a task that has ended and that has its output
+pub not_both : {P : Type 0} (w : State) → has_ended w ≡ true → has_output w ≡ true → P
+not_both w e f = by w.closed w.completed (w.scheduled || w.running) e f
+  where
+    by : {P : Type 0} (c d b : Bool) → (c && not b) ≡ true → (d && not c) ≡ true → P
+    by true true b e f = absurd (cc)
+    by true false b e f = absurd (cc)
+    by false d b e f = absurd (cc)

@@ -1,0 +1,12 @@
+use Rattle.std.proofs.Common.{ap, ◌∙◌, subst, false}
+use Rattle.std.specs.Arc.{arc_value}
+use Rattle.task_cell.specs.declared.cell.Cell.{Cell}
+use Rattle.task_cell.specs.Handed.{HandedOver}
+use Rattle.task_cell.proofs.cell.Runnable.schedule.Goals as goal
+
+pub returns : goal.returns
+returns g c = let share = c.into_party-share.ensures.share ∙ ap (λ z. z.share) c.into_parts-inner.ensures.inner in
+    record {
+      fact = subst (λ (z : Cell g.row.R.Denot g.row.F.Denot g.row.Q.Denot g.row.M.Denot g.row.A.Denot g.row.B.Denot g.row.F-Output.Denot g.F.Yields × g.row.X.Denot). HandedOver g.Q.Schedule.scheduled z.0 z.1 false)
+          (λ i. (arc_value ((c.cell.ensures ∙ ap (λ z. z.cell) share) i), c.into_parts-inner.ensures.around i)) c.schedule.ensures.fact;
+    }

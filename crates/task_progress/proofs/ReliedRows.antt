@@ -1,0 +1,119 @@
+-- Each row keeps what a party in a call relies on: a clause for a row, in the table's order.
+use Rattle.std.proofs.Common.{Some, None, refl}
+use Rattle.task_laws.specs.declared.positions.Rest.TheVariants.{Runnable, Waker, Lent, Task}
+use Rattle.task_laws.specs.declared.positions.Closer.TheVariants.{ClosedRun, DroppedRunnable}
+use Rattle.task_laws.specs.declared.positions.Way.TheVariants.{OfRun}
+use Rattle.task_laws.specs.declared.positions.After.TheVariants.{ThenEnds}
+use Rattle.task_laws.specs.declared.positions.Position.{Position}
+use Rattle.task_laws.specs.declared.positions.Position.TheVariants.{At, Leaving, Deliverer, Starting, Polling, Pending, Ready, Unstored, Stored, Cleared, FutureInHand, FutureGone, OutputInHand, GivingUp, Emptier, Notifier, Taker, Releaser, AwaiterInHand, OrphanHolder, Registrar, HasClone, RefusedClone, Storing, Registered, TookBack, CloneInHand, Looking, Claiming, Claimer, OldAwaiterInHand, Answering, OutputCloser, Detacher}
+use Rattle.task_core.specs.declared.moves.Act.{Act}
+use Rattle.task_core.specs.declared.moves.Act.TheVariants.{GainReference, FindLimit, DropWaker, DropLastWaker, OrphanTask, CloseOrphan, GiveUpReference, GiveUpLastReference, WakeOver, WakeScheduled, WakeRunning, WakeIdle, DiscardOpen, DiscardClosed, CancelOver, CancelBusy, CancelIdle, ClaimOutput, GiveUpOutput, DetachOrphan, DetachLast, Detach, TakeUpClosed, StartRun, Unschedule, Complete, CompleteDetached, EndClosed, Reschedule, EndIdle, EndOrphaned, BeginNotify, MissNotify, FindNotify, BeginRegister, EndNotify, EndRegister, EndRegisterNotified, Look, LookFinished, StartPoll, AnswerPending, AnswerReady, DropFuture, StoreOutput, DropOutput, HandOutOutput, CloneAwaiter, RefuseClone, StoreAwaiter, TakeAwaiter, WakeAwaiter, DropAwaiter, HandOver, EmptySlots, RefuseGain, EndCall}
+use Rattle.task_laws.proofs.Scenes.{rules, InEach, scheduled, running, completed, closed, awaiter, notifying, by_flag, by_slot}
+use Rattle.task_progress.proofs.Relied.{KeepsRelied, no_relied_row}
+
+pub every_relied_row : (act : Act) (p : Position) → InEach (KeepsRelied act p)
+-- gain and give up references
+every_relied_row GainReference (At Runnable) = grind rules
+every_relied_row GainReference (At Waker) = grind rules
+every_relied_row GainReference (At Lent) = grind rules
+every_relied_row FindLimit (At Runnable) = grind rules
+every_relied_row FindLimit (At Waker) = grind rules
+every_relied_row FindLimit (At Lent) = grind rules
+every_relied_row RefuseGain (At Runnable) = grind rules
+every_relied_row RefuseGain (At Waker) = grind rules
+every_relied_row RefuseGain (At Lent) = grind rules
+every_relied_row DropWaker (At Waker) = grind rules
+every_relied_row DropLastWaker (At Waker) = grind rules
+every_relied_row OrphanTask (At Waker) = grind rules
+every_relied_row CloseOrphan OrphanHolder = grind rules
+every_relied_row GiveUpReference (GivingUp None answer) = grind rules
+every_relied_row GiveUpReference (GivingUp (Some i) answer) = grind rules
+every_relied_row GiveUpLastReference (GivingUp hand answer) = grind rules
+-- wakes
+every_relied_row WakeOver (At Waker) = grind rules
+every_relied_row WakeOver (At Lent) = grind rules
+every_relied_row WakeScheduled (At Waker) = grind rules
+every_relied_row WakeScheduled (At Lent) = grind rules
+every_relied_row WakeRunning (At Waker) = by_flag closed (grind rules) (by_flag completed (grind rules) (grind rules))
+every_relied_row WakeRunning (At Lent) = by_flag closed (grind rules) (by_flag completed (grind rules) (grind rules))
+every_relied_row WakeIdle (At Waker) = by_flag closed (grind rules) (grind rules)
+every_relied_row WakeIdle (At Lent) = grind rules
+-- closes
+every_relied_row DiscardOpen (At Runnable) = grind rules
+every_relied_row DiscardClosed (At Runnable) = grind rules
+every_relied_row CancelOver (At (Task n)) = grind rules
+every_relied_row CancelBusy (At (Task n)) = by_flag awaiter (grind rules) (grind rules)
+every_relied_row CancelIdle (At (Task n)) = by_flag closed (grind rules) (by_flag awaiter (grind rules) (grind rules))
+every_relied_row ClaimOutput (At (Task n)) = by_flag awaiter (grind rules) (grind rules)
+every_relied_row ClaimOutput (Claiming n) = by_flag awaiter (grind rules) (grind rules)
+every_relied_row GiveUpOutput (At (Task n)) = grind rules
+every_relied_row DetachOrphan (At (Task n)) = grind rules
+every_relied_row DetachLast (At (Task n)) = grind rules
+every_relied_row Detach (At (Task n)) = grind rules
+every_relied_row DetachLast Detacher = grind rules
+every_relied_row Detach Detacher = grind rules
+-- a run starts and ends
+every_relied_row TakeUpClosed (At Runnable) = grind rules
+every_relied_row StartRun (At Runnable) = grind rules
+every_relied_row Unschedule (FutureGone ClosedRun) = by_flag awaiter (grind rules) (grind rules)
+every_relied_row Unschedule (FutureGone DroppedRunnable) = by_flag awaiter (grind rules) (grind rules)
+every_relied_row Complete Stored = by_flag awaiter (grind rules) (grind rules)
+every_relied_row CompleteDetached Stored = by_flag closed (grind rules) (grind rules)
+every_relied_row EndClosed Cleared = by_flag awaiter (grind rules) (grind rules)
+every_relied_row Reschedule Pending = grind rules
+every_relied_row EndIdle Pending = grind rules
+every_relied_row EndOrphaned Pending = grind rules
+-- the handshake begins and ends
+every_relied_row BeginNotify (Notifier OfRun) = grind rules
+every_relied_row BeginNotify (Notifier way) = grind rules
+every_relied_row MissNotify (Notifier OfRun) = grind rules
+every_relied_row MissNotify (Notifier way) = grind rules
+every_relied_row FindNotify (HasClone i) = grind rules
+every_relied_row BeginRegister (HasClone i) = grind rules
+every_relied_row EndNotify (Releaser None OfRun) = grind rules
+every_relied_row EndNotify (Releaser (Some i) OfRun) = grind rules
+every_relied_row EndNotify (Releaser hand way) = grind rules
+every_relied_row EndRegister (Registered i) = grind rules
+every_relied_row EndRegisterNotified (TookBack i) = grind rules
+-- loads
+every_relied_row Look (At (Task n)) =
+    by_flag closed (by_flag scheduled (grind rules) (by_flag running (grind rules) (grind rules)))
+    (by_flag completed (grind rules) (grind rules))
+every_relied_row Look (Looking i) =
+    by_flag closed (by_flag scheduled (grind rules) (by_flag running (grind rules) (grind rules)))
+    (by_flag completed (grind rules) (grind rules))
+every_relied_row LookFinished (At (Task n)) = grind rules
+-- private acts
+every_relied_row StartPoll Starting = grind rules
+every_relied_row AnswerPending Polling = grind rules
+every_relied_row AnswerReady Polling = grind rules
+every_relied_row DropFuture Ready = grind rules
+every_relied_row DropFuture Pending = by_flag closed (grind rules) (grind rules)
+every_relied_row DropFuture (FutureInHand ClosedRun) = grind rules
+every_relied_row DropFuture (FutureInHand closer) = grind rules
+every_relied_row StoreOutput Unstored = grind rules
+every_relied_row DropOutput (OutputInHand due) = grind rules
+every_relied_row DropOutput OutputCloser = grind rules
+every_relied_row HandOutOutput (Claimer i) = grind rules
+every_relied_row CloneAwaiter (Registrar i) = grind rules
+every_relied_row RefuseClone (Registrar i) = grind rules
+every_relied_row StoreAwaiter (Storing i) = by_slot (grind rules) (λ old. grind rules)
+every_relied_row TakeAwaiter (Registered i) = by_flag notifying (grind rules) (grind rules)
+every_relied_row TakeAwaiter (Taker OfRun) = grind rules
+every_relied_row TakeAwaiter (Taker way) = grind rules
+every_relied_row WakeAwaiter (CloneInHand i) = grind rules
+every_relied_row WakeAwaiter (AwaiterInHand i OfRun) = grind rules
+every_relied_row WakeAwaiter (AwaiterInHand i way) = grind rules
+every_relied_row DropAwaiter (OldAwaiterInHand i old) = grind rules
+every_relied_row DropAwaiter (RefusedClone i) = grind rules
+every_relied_row DropAwaiter (AwaiterInHand i OfRun) = grind rules
+every_relied_row DropAwaiter (AwaiterInHand i way) = grind rules
+every_relied_row HandOver (At Runnable) = grind rules
+every_relied_row HandOver (Deliverer woken (ThenEnds answer)) = grind rules
+every_relied_row HandOver (Deliverer woken next) = grind rules
+every_relied_row EmptySlots (Emptier None answer) = by_slot (grind rules) (λ old. grind rules)
+every_relied_row EmptySlots (Emptier (Some i) answer) = by_slot (grind rules) (λ old. grind rules)
+every_relied_row EndCall (Leaving answer Runnable) = grind rules
+every_relied_row EndCall (Leaving answer rest) = grind rules
+every_relied_row EndCall (Answering i answer) = grind rules
+every_relied_row act p = no_relied_row act p (λ scene word. refl)

@@ -1,0 +1,6 @@
+pub mod StepsLeft
+pub mod OwnSteps
+pub mod Attempts
+pub mod Waiting
+pub mod Ending
+pub mod AtRest

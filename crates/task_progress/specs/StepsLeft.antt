@@ -1,0 +1,189 @@
+-- How many steps are left to each call, and how many of them write the word.
+use Rattle.std.specs.Prelude.{◌≡◌, ℕ, ◌+◌, ◌*◌, ◌≤◌, Bool, true, false, List, [], ◌∷◌, length, Option, Some, None}
+use Rattle.task_core.specs.Word.{bit}
+use Rattle.task_laws.specs.declared.positions.Way.{Way}
+use Rattle.task_laws.specs.declared.positions.Way.TheVariants.{OfRun, OfDrop, OfCancel, OfPoll, OfClaim}
+use Rattle.task_laws.specs.declared.positions.After.TheVariants.{ThenEnds, ThenTask, ThenNotifies}
+use Rattle.task_laws.specs.declared.positions.Position.{Position}
+use Rattle.task_laws.specs.declared.positions.Position.TheVariants.{At, Leaving, Deliverer, Starting, Polling, Pending, Ready, Unstored, Stored, Cleared, FutureInHand, FutureGone, OutputInHand, GivingUp, Emptier, Notifier, Taker, Releaser, AwaiterInHand, OrphanHolder, Registrar, HasClone, RefusedClone, Storing, Registered, TookBack, CloneInHand, Looking, Claiming, Claimer, OldAwaiterInHand, Answering, OutputCloser, Detacher}
+use Rattle.task_core.specs.declared.moves.Act.{Act}
+use Rattle.task_core.specs.declared.moves.Act.TheVariants.{GainReference, DropWaker, DropLastWaker, OrphanTask, CloseOrphan, GiveUpReference, GiveUpLastReference, WakeRunning, WakeIdle, DiscardOpen, CancelBusy, CancelIdle, ClaimOutput, GiveUpOutput, DetachOrphan, DetachLast, Detach, StartRun, Unschedule, Complete, CompleteDetached, EndClosed, Reschedule, EndIdle, EndOrphaned, BeginNotify, MissNotify, BeginRegister, EndNotify, EndRegister, EndRegisterNotified}
+use Rattle.task_laws.specs.Machine.{Machine, Step, run_from}
+use Rattle.task_laws.specs.Laws.{count, is_call, is_call_end}
+
+-- a number of each party, summed
+abbrev pub total : (Position → ℕ) → List Position → ℕ
+total f [] = 0
+total f (p ∷ ps) = f p + total f ps
+
+-- 1 in a call, 0 between two calls
+abbrev pub in_call : Position → ℕ
+in_call (At r) = 0
+in_call _ = 1
+
+-- 1 where an awaiter is in hand
+abbrev pub awaiters_in_hand : Option ℕ → ℕ
+awaiters_in_hand None = 0
+awaiters_in_hand (Some i) = 1
+
+-- steps left on a way once no awaiter is in hand
+abbrev pub steps_on : Way → ℕ
+steps_on OfRun = 3
+steps_on OfDrop = 3
+steps_on (OfCancel n) = 1
+steps_on (OfPoll n) = 1
+steps_on (OfClaim n) = 2
+
+-- .. and once the awaiter in hand was woken or dropped
+abbrev pub steps_off : Way → ℕ
+steps_off OfRun = 1
+steps_off OfDrop = 3
+steps_off (OfCancel n) = 1
+steps_off (OfPoll n) = 1
+steps_off (OfClaim n) = 2
+
+-- how many steps a party makes at most until its call ends
+abbrev pub steps_left : Position → ℕ
+steps_left (At r) = 0
+steps_left (Leaving answer r) = 1
+steps_left (Deliverer woken (ThenEnds answer)) = 2
+steps_left (Deliverer woken (ThenTask n)) = 2
+steps_left (Deliverer woken (ThenNotifies n)) = 6
+steps_left Starting = 13
+steps_left Polling = 12
+steps_left Pending = 9
+steps_left Ready = 11
+steps_left Unstored = 10
+steps_left Stored = 9
+steps_left Cleared = 8
+steps_left (FutureInHand closer) = 9
+steps_left (FutureGone closer) = 8
+steps_left (OutputInHand due) = 8
+steps_left (GivingUp hand answer) = 3 + awaiters_in_hand hand
+steps_left (Emptier hand answer) = 2 + awaiters_in_hand hand
+steps_left (Notifier way) = 4 + steps_on way
+steps_left (Taker way) = 3 + steps_on way
+steps_left (Releaser hand way) = 1 + awaiters_in_hand hand + steps_on way
+steps_left (AwaiterInHand i way) = 1 + steps_off way
+steps_left OrphanHolder = 3
+steps_left (Registrar i) = 15
+steps_left (HasClone i) = 14
+steps_left (RefusedClone i) = 9
+steps_left (Storing i) = 13
+steps_left (OldAwaiterInHand i old) = 12
+steps_left (Registered i) = 11
+steps_left (TookBack i) = 10
+steps_left (CloneInHand i) = 9
+steps_left (Looking i) = 8
+steps_left (Claiming i) = 7
+steps_left (Claimer i) = 2
+steps_left (Answering i answer) = 1
+steps_left OutputCloser = 4
+steps_left Detacher = 3
+
+-- the rows that write the word
+abbrev pub writes_word : Act → Bool
+writes_word GainReference = true
+writes_word DropWaker = true
+writes_word DropLastWaker = true
+writes_word OrphanTask = true
+writes_word CloseOrphan = true
+writes_word GiveUpReference = true
+writes_word GiveUpLastReference = true
+writes_word WakeRunning = true
+writes_word WakeIdle = true
+writes_word DiscardOpen = true
+writes_word CancelBusy = true
+writes_word CancelIdle = true
+writes_word ClaimOutput = true
+writes_word GiveUpOutput = true
+writes_word DetachOrphan = true
+writes_word DetachLast = true
+writes_word Detach = true
+writes_word StartRun = true
+writes_word Unschedule = true
+writes_word Complete = true
+writes_word CompleteDetached = true
+writes_word EndClosed = true
+writes_word Reschedule = true
+writes_word EndIdle = true
+writes_word EndOrphaned = true
+writes_word BeginNotify = true
+writes_word MissNotify = true
+writes_word BeginRegister = true
+writes_word EndNotify = true
+writes_word EndRegister = true
+writes_word EndRegisterNotified = true
+writes_word _ = false
+
+-- writes left on a way once no awaiter is in hand: a run or a drop has still its reference to give up
+abbrev pub writes_on : Way → ℕ
+writes_on OfRun = 1
+writes_on OfDrop = 1
+writes_on (OfCancel n) = 0
+writes_on (OfPoll n) = 0
+writes_on (OfClaim n) = 0
+
+-- .. and once the awaiter in hand was woken or dropped
+abbrev pub writes_off : Way → ℕ
+writes_off OfDrop = 1
+writes_off _ = 0
+
+-- how often a party writes the word at most until its call ends
+abbrev pub writes_left : Position → ℕ
+writes_left (Deliverer woken (ThenNotifies n)) = 2
+writes_left Starting = 4
+writes_left Polling = 4
+writes_left Pending = 4
+writes_left Ready = 4
+writes_left Unstored = 4
+writes_left Stored = 4
+writes_left Cleared = 4
+writes_left (FutureInHand closer) = 4
+writes_left (FutureGone closer) = 4
+writes_left (OutputInHand due) = 3
+writes_left (GivingUp hand answer) = 1
+writes_left (Notifier way) = 2 + writes_on way
+writes_left (Taker way) = 1 + writes_on way
+writes_left (Releaser hand way) = 1 + writes_on way
+writes_left (AwaiterInHand i way) = writes_off way
+writes_left OrphanHolder = 1
+writes_left (Registrar i) = 5
+writes_left (HasClone i) = 5
+writes_left (RefusedClone i) = 3
+writes_left (Storing i) = 4
+writes_left (OldAwaiterInHand i old) = 4
+writes_left (Registered i) = 4
+writes_left (TookBack i) = 4
+writes_left (CloneInHand i) = 3
+writes_left (Looking i) = 3
+writes_left (Claiming i) = 3
+writes_left OutputCloser = 1
+writes_left Detacher = 1
+writes_left _ = 0
+
+-- how many of these steps write the word
+abbrev pub writes_in : List Step → ℕ
+writes_in [] = 0
+writes_in (s ∷ steps) = bit (writes_word s.act) + writes_in steps
+
+-- Steps from m to now, with those left at its end, are at most those left at its start and 16 for each call begun; five of them are writes.
+pub record BoundedByCalls (m : Machine) (made : List Step) (now : Machine) : Type 0 where
+  pub steps : length made + total steps_left now.parties + 16 * count is_call m.trace ≤ total steps_left m.parties + 16 * count is_call now.trace
+  pub writes : writes_in made + total writes_left now.parties + 5 * count is_call m.trace ≤ total writes_left m.parties + 5 * count is_call now.trace
+  -- a call that has begun is open until it ends
+  pub calls : total in_call now.parties + count is_call_end now.trace + count is_call m.trace
+      ≡ total in_call m.parties + count is_call_end m.trace + count is_call now.trace
+
+-- from every machine, reachable or not, for every list of steps that it allows
+abbrev pub StepsAreBounded : Type 0
+StepsAreBounded = (m : Machine) (steps : List Step) (now : Machine) → run_from (Some m) steps ≡ Some now → BoundedByCalls m steps now
+
+-- Steps from m to now are at most 16 for each call that ended between them or is open at the end; writes are at most five for each.
+pub record BoundedByOpenCalls (m : Machine) (made : List Step) (now : Machine) : Type 0 where
+  pub steps : length made + 16 * count is_call_end m.trace ≤ 16 * (total in_call now.parties + count is_call_end now.trace)
+  pub writes : writes_in made + 5 * count is_call_end m.trace ≤ 5 * (total in_call now.parties + count is_call_end now.trace)
+
+-- so where no call ends between the two, the calls that are open at the end bound all steps
+abbrev pub OpenCallsBoundSteps : Type 0
+OpenCallsBoundSteps = (m : Machine) (steps : List Step) (now : Machine) → run_from (Some m) steps ≡ Some now → BoundedByOpenCalls m steps now

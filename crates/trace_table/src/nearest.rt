@@ -1,0 +1,24 @@
+//! Which act is meant by a word that names none.
+
+use crate::names::{ACTS, name};
+use std::alloc::{AllocError, Global};
+use strsim::levenshtein;
+use task_core::moves::Act;
+
+// A name that is more edits away is not meant.
+const EDITS: usize = 3;
+
+/// The act whose name is the fewest edits away, the first one in the order of the table where there are several. `None` where each is more than three
+/// away.
+pub fn nearest(alloc: Global, word: &str) -> Result<Option<Act>, AllocError> {
+    let mut nearest = None;
+    let mut fewest = EDITS + 1;
+    for act in ACTS {
+        let edits = levenshtein(alloc, word, name(act))?;
+        if edits < fewest {
+            nearest = Some(act);
+            fewest = edits;
+        }
+    }
+    Ok(nearest)
+}
