@@ -72,6 +72,7 @@ every_call EndNotify (Releaser hand way) = grind rules
 every_call EndRegister (Registered i) = poll_ends_its_registration i
 every_call EndRegisterNotified (TookBack i) = grind rules
 -- loads
+every_call Look (At Lent) = grind rules
 every_call Look (At (Task n)) = grind rules
 every_call Look (Looking i) = poll_looks_again i
 every_call LookFinished (At (Task n)) = grind rules

@@ -101,7 +101,6 @@ pub record Placed (scene : Scene) (all : Census) (p : Position) : Type 0 where
   pub one : holders all ≤ 1
   pub idle : is_open scene.word ≡ true → scene.word.scheduled ≡ false → scene.word.running ≡ false → holders all ≡ 0
   pub busy : (scene.word.scheduled || scene.word.running) ≡ true → 1 ≤ holders all
-  pub polled : scene.polling ≡ true → 1 ≤ holders all
   pub completed : scene.word.completed ≡ true → (scene.word.running ≡ false) × (scene.word.scheduled ≡ false)
   pub running : Where (runs (weigh p)) (scene.word.running ≡ true)
   pub queued : Where ((weigh p).queued + closers (weigh p)) ((scene.word.running ≡ false) × (scene.word.scheduled ≡ true))
@@ -220,9 +219,6 @@ free w c runs_are queued_are spent opened idle still = grind rules
 engaged : (w : State) (c : Census) → runs c ≡ bit w.running → c.queued + closers c ≡ cond w.running 0 (bit w.scheduled) → (w.scheduled || w.running) ≡ true → 1 ≤ holders c
 engaged w c runs_are queued_are busy = grind rules
 
-in_poll : (polling : Bool) (w : State) (c : Census) → polling ≡ nat_lt 0 c.polling → polling ≡ true → 1 ≤ holders c
-in_poll polling w c polling_is polled = grind rules
-
 runs_now : (w : State) (c : Census) → runs c ≡ bit w.running → 1 ≤ runs c → w.running ≡ true
 runs_now w c runs_are here = grind rules
 
@@ -247,8 +243,8 @@ where_here : (n : ℕ) (Claim : Type 0) → (1 ≤ n → Claim) → Where n Clai
 where_here zero Claim shown = tt
 where_here (suc n) Claim shown = shown (omega arith)
 
-pub placed : (scene : Scene) (trace : List Event) (rest : Census) (p : Position) → scene.polling ≡ nat_lt 0 ((weigh p).polling + rest.polling) → Holds scene.limit scene.word scene.slots trace (plus (weigh p) rest) → Placed scene (plus (weigh p) rest) p
-placed scene trace rest p is_polling h =
+pub placed : (scene : Scene) (trace : List Event) (rest : Census) (p : Position) → Holds scene.limit scene.word scene.slots trace (plus (weigh p) rest) → Placed scene (plus (weigh p) rest) p
+placed scene trace rest p h =
     let c = plus (weigh p) rest in
     let w = scene.word in
     record {
@@ -256,7 +252,6 @@ placed scene trace rest p is_polling h =
       one = omega (arith, h.one);
       idle = free w c h.running h.scheduled h.spent_closed;
       busy = engaged w c h.running h.scheduled;
-      polled = in_poll scene.polling w c is_polling;
       completed = h.completed;
       running = where_here (runs (weigh p)) _ (λ here. runs_now w c h.running (omega (arith, here)));
       queued = where_here ((weigh p).queued + closers (weigh p)) _ (λ here. queued_now w c (omega (arith, h.one)) h.running h.scheduled (omega (arith, here)));

@@ -69,6 +69,7 @@ every_calm EndNotify (Releaser hand way) = grind rules
 every_calm EndRegister (Registered i) = grind rules
 every_calm EndRegisterNotified (TookBack i) = grind rules
 -- loads
+every_calm Look (At Lent) = grind rules
 every_calm Look (At (Task n)) = grind rules
 every_calm Look (Looking i) = grind rules
 every_calm LookFinished (At (Task n)) = grind rules

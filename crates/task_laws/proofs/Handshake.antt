@@ -4,7 +4,7 @@ use Rattle.std.specs.Prelude.{if◌then◌else◌}
 use Rattle.task_core.specs.Word.{State, bit}
 use Rattle.task_laws.specs.Event.{Event}
 use Rattle.task_laws.specs.Position.{Position, Act}
-use Rattle.task_laws.specs.Table.{Slots, Scene, Outcome, where_found, rule, goes}
+use Rattle.task_laws.specs.Table.{Slots, Scene, Outcome, when, where_found, rule, goes}
 use Rattle.task_core.specs.Rows.{found, written}
 use Rattle.task_laws.specs.Machine.{begins}
 use Rattle.task_laws.specs.Laws.{count}
@@ -52,6 +52,22 @@ HandshakeKeeps act p scene = (i : ℕ) (trace : List Event) (rest : Census) (oth
 -- where the table has no row there is nothing to show
 pub no_handshake_row : (act : Act) (p : Position) → ((scene : Scene) (word : State) → goes scene word act p ≡ None) → InEach (HandshakeKeeps act p)
 no_handshake_row act p none = record { at = λ scene i trace rest others fit holds shakes is_found. subst (HandshakeKept i trace others p) (sym (none scene (written act scene.word))) tt }
+
+-- the same of what the party leaves, where the table asks for a condition that the handshake does not need
+abbrev pub HandshakeLeaves : Act → Position → (Scene → State → Outcome) → Scene → Type 0
+HandshakeLeaves act p leaves scene = (i : ℕ) (trace : List Event) (rest : Census) (others : Awaiting) → Fits rest others → Holds scene.limit scene.word scene.slots trace (plus (weigh p) rest)
+    → HandshakeHolds i scene.word scene.slots trace (join (await i p) others) → found scene.limit act scene.word ≡ true → HandshakeKept i trace others p (Some (leaves scene (written act scene.word)))
+
+pub under_condition : (act : Act) (p : Position) (condition : Scene → Bool) (leaves : Scene → State → Outcome) → ((scene : Scene) (word : State) → goes scene word act p ≡ when (condition scene) (leaves scene word))
+    → InEach (HandshakeLeaves act p leaves) → InEach (HandshakeKeeps act p)
+under_condition act p condition leaves is row = record {
+  at = λ scene i trace rest others fit holds shakes is_found.
+    subst (HandshakeKept i trace others p) (sym (is scene (written act scene.word))) (either (condition scene) i trace others (leaves scene (written act scene.word)) (row.at scene i trace rest others fit holds shakes is_found));
+}
+  where
+    either : (b : Bool) (i : ℕ) (trace : List Event) (others : Awaiting) (o : Outcome) → HandshakeKept i trace others p (Some o) → HandshakeKept i trace others p (when b o)
+    either true i trace others o kept = kept
+    either false i trace others o kept = tt
 
 if_found : (i : ℕ) (trace : List Event) (others : Awaiting) (p : Position) (is_found : Bool) (left : Option Outcome) → (is_found ≡ true → HandshakeKept i trace others p left) → HandshakeKept i trace others p (where_found is_found left)
 if_found i trace others p is_found None kept = tt

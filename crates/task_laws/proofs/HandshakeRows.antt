@@ -1,20 +1,22 @@
 -- Each row of the table keeps what holds of the handshake: a clause for a row, in the table's order. A clause that stands below another of its act is checked in each case that it is left.
-use Rattle.std.proofs.Common.{Some, None, refl}
+use Rattle.std.proofs.Common.{Some, None, true, false, [], ◌∷◌, refl}
 use Rattle.task_laws.specs.Position.{Runnable, Waker, Lent, Task, ClosedRun, DroppedRunnable, OfRun, ThenEnds, At, Leaving, Deliverer, Starting, Polling, Pending, Ready, Unstored, Stored, Cleared, FutureInHand, FutureGone, OutputInHand, GivingUp, Emptier, Notifier, Taker, Releaser, AwaiterInHand, OrphanHolder, Registrar, HasClone, RefusedClone, Storing, Registered, TookBack, CloneInHand, Looking, Claiming, Claimer, OldAwaiterInHand, Answering, OutputCloser, Detacher, GainReference, FindLimit, DropWaker, DropLastWaker, OrphanTask, CloseOrphan, GiveUpReference, GiveUpLastReference, WakeOver, WakeScheduled, WakeRunning, WakeIdle, DiscardOpen, DiscardClosed, CancelOver, CancelBusy, CancelIdle, ClaimOutput, GiveUpOutput, DetachOrphan, DetachLast, Detach, TakeUpClosed, StartRun, Unschedule, Complete, CompleteDetached, EndClosed, Reschedule, EndIdle, EndOrphaned, BeginNotify, MissNotify, FindNotify, BeginRegister, EndNotify, EndRegister, EndRegisterNotified, Look, LookFinished, StartPoll, AnswerPending, AnswerReady, DropFuture, StoreOutput, DropOutput, HandOutOutput, CloneAwaiter, RefuseClone, StoreAwaiter, TakeAwaiter, WakeAwaiter, DropAwaiter, HandOver, EmptySlots, RefuseGain, EndCall, Position, Act}
-use Rattle.task_laws.proofs.Scenes.{rules, InEach, scheduled, running, completed, closed, awaiter, notifying, polling, by_flag, by_slot}
-use Rattle.task_laws.proofs.Handshake.{HandshakeKeeps, no_handshake_row}
+use Rattle.task_laws.proofs.Scenes.{rules, InEach, scheduled, running, completed, closed, awaiter, notifying, by_flag, by_slot}
+use Rattle.task_laws.specs.Event.{Nothing, Gained, ByWake, CallBegins, Made, Wakes, WakerGained}
+use Rattle.task_laws.specs.Table.{steps, may_gain, may_wake}
+use Rattle.task_laws.proofs.Handshake.{HandshakeKeeps, under_condition, no_handshake_row}
 
 pub every_handshake_row : (act : Act) (p : Position) → InEach (HandshakeKeeps act p)
 -- gain and give up references
 every_handshake_row GainReference (At Runnable) = grind rules
 every_handshake_row GainReference (At Waker) = grind rules
-every_handshake_row GainReference (At Lent) = by_flag polling (grind rules) (grind rules)
+every_handshake_row GainReference (At Lent) = under_condition GainReference (At Lent) (λ s. may_gain s Lent) (λ s v. steps s v (Leaving (Gained true) Lent) (At Waker ∷ []) (WakerGained ∷ [])) (λ s v. refl) (grind rules)
 every_handshake_row FindLimit (At Runnable) = grind rules
 every_handshake_row FindLimit (At Waker) = grind rules
-every_handshake_row FindLimit (At Lent) = by_flag polling (grind rules) (grind rules)
+every_handshake_row FindLimit (At Lent) = grind rules
 every_handshake_row RefuseGain (At Runnable) = grind rules
 every_handshake_row RefuseGain (At Waker) = grind rules
-every_handshake_row RefuseGain (At Lent) = by_flag polling (grind rules) (grind rules)
+every_handshake_row RefuseGain (At Lent) = grind rules
 every_handshake_row DropWaker (At Waker) = grind rules
 every_handshake_row DropLastWaker (At Waker) = grind rules
 every_handshake_row OrphanTask (At Waker) = grind rules
@@ -24,13 +26,13 @@ every_handshake_row GiveUpReference (GivingUp (Some i) answer) = grind rules
 every_handshake_row GiveUpLastReference (GivingUp hand answer) = grind rules
 -- wakes
 every_handshake_row WakeOver (At Waker) = grind rules
-every_handshake_row WakeOver (At Lent) = by_flag polling (grind rules) (grind rules)
+every_handshake_row WakeOver (At Lent) = under_condition WakeOver (At Lent) (λ s. may_wake s Lent) (λ s v. steps s v (Leaving Nothing Lent) [] (Wakes ∷ [])) (λ s v. refl) (grind rules)
 every_handshake_row WakeScheduled (At Waker) = grind rules
-every_handshake_row WakeScheduled (At Lent) = by_flag polling (grind rules) (grind rules)
+every_handshake_row WakeScheduled (At Lent) = under_condition WakeScheduled (At Lent) (λ s. may_wake s Lent) (λ s v. steps s v (Leaving Nothing Lent) [] (Wakes ∷ [])) (λ s v. refl) (grind rules)
 every_handshake_row WakeRunning (At Waker) = grind rules
-every_handshake_row WakeRunning (At Lent) = by_flag polling (grind rules) (grind rules)
+every_handshake_row WakeRunning (At Lent) = under_condition WakeRunning (At Lent) (λ s. may_wake s Lent) (λ s v. steps s v (Leaving Nothing Lent) [] (Wakes ∷ [])) (λ s v. refl) (grind rules)
 every_handshake_row WakeIdle (At Waker) = grind rules
-every_handshake_row WakeIdle (At Lent) = by_flag polling (grind rules) (grind rules)
+every_handshake_row WakeIdle (At Lent) = under_condition WakeIdle (At Lent) (λ s. may_wake s Lent) (λ s v. steps s v (Leaving Nothing Lent) (Deliverer false (ThenEnds Nothing) ∷ []) (CallBegins ∷ Made ByWake ∷ Wakes ∷ [])) (λ s v. refl) (grind rules)
 -- closes
 every_handshake_row DiscardOpen (At Runnable) = grind rules
 every_handshake_row DiscardClosed (At Runnable) = grind rules
@@ -69,6 +71,7 @@ every_handshake_row EndNotify (Releaser hand way) = grind rules
 every_handshake_row EndRegister (Registered i) = grind rules
 every_handshake_row EndRegisterNotified (TookBack i) = grind rules
 -- loads
+every_handshake_row Look (At Lent) = grind rules
 every_handshake_row Look (At (Task n)) =
     by_flag completed (by_flag closed (by_flag scheduled (grind rules) (by_flag running (grind rules) (grind rules))) (grind rules))
     (by_flag closed (by_flag scheduled (grind rules) (by_flag running (grind rules) (grind rules))) (grind rules))

@@ -59,12 +59,12 @@ Kept limit trace rest p (Some left) = Holds limit left.word left.slots (left.tol
 
 -- what a row has to show: its act keeps the invariant in a scene where the row is found
 abbrev pub Keeps : Act → Position → Scene → Type 0
-Keeps act p scene = (trace : List Event) (rest : Census) → scene.polling ≡ nat_lt 0 ((weigh p).polling + rest.polling) → Holds scene.limit scene.word scene.slots trace (plus (weigh p) rest) → found scene.limit act scene.word ≡ true
+Keeps act p scene = (trace : List Event) (rest : Census) → Holds scene.limit scene.word scene.slots trace (plus (weigh p) rest) → found scene.limit act scene.word ≡ true
     → Kept scene.limit trace rest p (goes scene (written act scene.word) act p)
 
 -- where the table has no row there is nothing to show
 pub no_row : (act : Act) (p : Position) → ((scene : Scene) (word : State) → goes scene word act p ≡ None) → InEach (Keeps act p)
-no_row act p none = record { at = λ scene trace rest is_polling holds is_found. subst (Kept scene.limit trace rest p) (sym (none scene (written act scene.word))) tt }
+no_row act p none = record { at = λ scene trace rest holds is_found. subst (Kept scene.limit trace rest p) (sym (none scene (written act scene.word))) tt }
 
 if_found : (limit : ℕ) (trace : List Event) (rest : Census) (p : Position) (is_found : Bool) (left : Option Outcome) → (is_found ≡ true → Kept limit trace rest p left) → Kept limit trace rest p (where_found is_found left)
 if_found limit trace rest p is_found None kept = tt
@@ -72,7 +72,7 @@ if_found limit trace rest p true (Some left) kept = kept refl
 if_found limit trace rest p false (Some left) kept = tt
 
 -- so the rule keeps it
-pub kept_by_rule : (act : Act) (p : Position) → InEach (Keeps act p) → (scene : Scene) (trace : List Event) (rest : Census) → scene.polling ≡ nat_lt 0 ((weigh p).polling + rest.polling)
+pub kept_by_rule : (act : Act) (p : Position) → InEach (Keeps act p) → (scene : Scene) (trace : List Event) (rest : Census)
     → Holds scene.limit scene.word scene.slots trace (plus (weigh p) rest) → Kept scene.limit trace rest p (rule scene act p)
-kept_by_rule act p row scene trace rest is_polling holds =
-    if_found scene.limit trace rest p (found scene.limit act scene.word) (goes scene (written act scene.word) act p) (row.at scene trace rest is_polling holds)
+kept_by_rule act p row scene trace rest holds =
+    if_found scene.limit trace rest p (found scene.limit act scene.word) (goes scene (written act scene.word) act p) (row.at scene trace rest holds)

@@ -1,14 +1,14 @@
 -- Each row of the table keeps the invariant: a clause for a row, in the table's order. A clause that stands below another of its act is checked in each case that it is left.
 use Rattle.std.proofs.Common.{Some, None, refl}
 use Rattle.task_laws.specs.Position.{Runnable, Waker, Lent, Task, ClosedRun, DroppedRunnable, OfRun, ThenEnds, At, Leaving, Deliverer, Starting, Polling, Pending, Ready, Unstored, Stored, Cleared, FutureInHand, FutureGone, OutputInHand, GivingUp, Emptier, Notifier, Taker, Releaser, AwaiterInHand, OrphanHolder, Registrar, HasClone, RefusedClone, Storing, Registered, TookBack, CloneInHand, Looking, Claiming, Claimer, OldAwaiterInHand, Answering, OutputCloser, Detacher, GainReference, FindLimit, DropWaker, DropLastWaker, OrphanTask, CloseOrphan, GiveUpReference, GiveUpLastReference, WakeOver, WakeScheduled, WakeRunning, WakeIdle, DiscardOpen, DiscardClosed, CancelOver, CancelBusy, CancelIdle, ClaimOutput, GiveUpOutput, DetachOrphan, DetachLast, Detach, TakeUpClosed, StartRun, Unschedule, Complete, CompleteDetached, EndClosed, Reschedule, EndIdle, EndOrphaned, BeginNotify, MissNotify, FindNotify, BeginRegister, EndNotify, EndRegister, EndRegisterNotified, Look, LookFinished, StartPoll, AnswerPending, AnswerReady, DropFuture, StoreOutput, DropOutput, HandOutOutput, CloneAwaiter, RefuseClone, StoreAwaiter, TakeAwaiter, WakeAwaiter, DropAwaiter, HandOver, EmptySlots, RefuseGain, EndCall, Position, Act}
-use Rattle.task_laws.proofs.Scenes.{rules, InEach, scheduled, running, completed, closed, awaiter, notifying, by_flag, by_slot}
+use Rattle.task_laws.proofs.Scenes.{rules, InEach, scheduled, running, completed, closed, task, awaiter, notifying, by_flag, by_references, by_slot}
 use Rattle.task_laws.proofs.Invariant.{Keeps, no_row}
 
 pub every_row : (act : Act) (p : Position) → InEach (Keeps act p)
 -- gain and give up references
 every_row GainReference (At Runnable) = grind rules
 every_row GainReference (At Waker) = grind rules
-every_row GainReference (At Lent) = grind rules
+every_row GainReference (At Lent) = by_flag task (grind rules) (by_references (grind rules) (λ n. grind rules))
 every_row FindLimit (At Runnable) = grind rules
 every_row FindLimit (At Waker) = grind rules
 every_row FindLimit (At Lent) = grind rules
@@ -24,13 +24,13 @@ every_row GiveUpReference (GivingUp (Some i) answer) = grind rules
 every_row GiveUpLastReference (GivingUp hand answer) = grind rules
 -- wakes
 every_row WakeOver (At Waker) = grind rules
-every_row WakeOver (At Lent) = grind rules
+every_row WakeOver (At Lent) = by_flag task (grind rules) (by_references (grind rules) (λ n. grind rules))
 every_row WakeScheduled (At Waker) = grind rules
 every_row WakeScheduled (At Lent) = grind rules
 every_row WakeRunning (At Waker) = by_flag closed (grind rules) (by_flag completed (grind rules) (grind rules))
-every_row WakeRunning (At Lent) = by_flag closed (grind rules) (by_flag completed (grind rules) (grind rules))
+every_row WakeRunning (At Lent) = by_flag task (by_flag closed (grind rules) (by_flag completed (grind rules) (grind rules))) (by_references (by_flag closed (grind rules) (by_flag completed (grind rules) (grind rules))) (λ n. by_flag closed (grind rules) (by_flag completed (grind rules) (grind rules))))
 every_row WakeIdle (At Waker) = by_flag closed (grind rules) (grind rules)
-every_row WakeIdle (At Lent) = grind rules
+every_row WakeIdle (At Lent) = by_flag task (by_flag closed (grind rules) (by_flag completed (grind rules) (grind rules))) (by_references (by_flag closed (grind rules) (by_flag completed (grind rules) (grind rules))) (λ n. by_flag closed (grind rules) (by_flag completed (grind rules) (grind rules))))
 -- closes
 every_row DiscardOpen (At Runnable) = grind rules
 every_row DiscardClosed (At Runnable) = grind rules
@@ -69,6 +69,7 @@ every_row EndNotify (Releaser hand way) = grind rules
 every_row EndRegister (Registered i) = grind rules
 every_row EndRegisterNotified (TookBack i) = grind rules
 -- loads
+every_row Look (At Lent) = grind rules
 every_row Look (At (Task n)) =
     by_flag closed (by_flag scheduled (grind rules) (by_flag running (grind rules) (grind rules)))
     (by_flag completed (grind rules) (grind rules))

@@ -1,13 +1,13 @@
 -- A wake that queues the task begins.
-use Rattle.std.proofs.Common.{◌≡◌, ℕ, zero, suc, ◌<◌, Bool, true, false, cond, List, [], ◌∷◌, ◌++◌, length, Option, Some, None, refl, sym, ap, ◌∙◌, subst, arith}
+use Rattle.std.proofs.Common.{◌≡◌, ℕ, zero, suc, ◌<◌, Bool, true, false, not, ◌||◌, cond, List, [], ◌∷◌, ◌++◌, length, Option, Some, None, refl, sym, ap, ◌∙◌, subst, arith}
 use Rattle.std.specs.Prelude.{slice_get, slice_set, nat_eq}
 use Rattle.std.proofs.lemmas.Bool.Decides.{nat_tests}
 use Rattle.std.proofs.lemmas.Option.{slice_get_within}
-use Rattle.task_core.specs.Word.{State}
+use Rattle.task_core.specs.Word.{State, is_open}
 use Rattle.task_laws.specs.Event.{Nothing, CallBegins, Made, ByWake, Wakes}
 use Rattle.task_laws.specs.Position.{Rest, Runnable, Waker, Lent, Ended, Task, Position, At, Leaving, Deliverer, ThenEnds, WakeIdle}
 use Rattle.task_core.specs.Rows.{found, written}
-use Rattle.task_laws.specs.Table.{Slots, Scene, Outcome, where_found, rule}
+use Rattle.task_laws.specs.Table.{Slots, Scene, Outcome, where_found, is_held, rule}
 use Rattle.task_laws.specs.Machine.{Machine, scene, begins}
 use Rattle.task_laws.specs.Abstract.{Cell, Frame, Abstract, Move, Begin, begin, follow, then_moved, all_moved}
 use Rattle.task_laws.specs.Whole.{call_of, frames, seen}
@@ -30,7 +30,7 @@ queues_or_refused s Waker P a b = at (found s.limit WakeIdle s.word)
     at : (g : Bool) → P (cond g (Some (queued_by s Waker)) None)
     at true = b
     at false = a
-queues_or_refused s Lent P a b = at (found s.limit WakeIdle s.word) s.polling
+queues_or_refused s Lent P a b = at (found s.limit WakeIdle s.word) (is_held s.word || not (is_open s.word))
   where
     at : (g l : Bool) → P (where_found g (cond l (Some (queued_by s Lent)) None))
     at true true = b

@@ -4,7 +4,7 @@ use Rattle.std.specs.Prelude.{slice_get, slice_set, nat_lt}
 use Rattle.std.proofs.lemmas.Bool.Decides.{nat_tests}
 use Rattle.task_laws.specs.Position.{Position, Act}
 use Rattle.task_laws.specs.Table.{Outcome, rule}
-use Rattle.task_laws.specs.Machine.{Machine, Step, opening, scene, begins, after, moves, step, run_from, run, how_many, polls_future}
+use Rattle.task_laws.specs.Machine.{Machine, Step, opening, scene, begins, after, moves, step, run_from, run}
 use Rattle.task_laws.proofs.Census.{Census, plus, weigh, census, nobody}
 use Rattle.task_laws.proofs.Invariant.{Holds, Kept, kept_by_rule}
 use Rattle.task_laws.proofs.Awaiting.{Awaiting, join, none, await, awaiting, fits}
@@ -84,13 +84,6 @@ pub record Invariant (m : Machine) : Type 0 where
   pub holds : Holds m.limit m.word m.slots m.trace (census m.parties)
   pub shakes : (i : ℕ) → HandshakeHolds i m.word m.slots m.trace (awaiting i m.parties)
 
-polling_one : (p : Position) → bit (polls_future p) ≡ (weigh p).polling
-polling_one p = grind arith
-
-pub polling : (ps : List Position) → how_many polls_future ps ≡ (census ps).polling
-polling [] = refl
-polling (p ∷ ps) = omega (arith, polling_one p, polling ps)
-
 abbrev pub Stays : Option Machine → Type 0
 Stays None = Unit {0}
 Stays (Some m) = Invariant m
@@ -117,7 +110,7 @@ moves_stays m i act None e h = tt
 moves_stays m i act (Some p) e h =
     let holds = subst (Holds m.limit m.word m.slots m.trace) (split m.parties i p e) h.holds in
     after_stays m i p (rule (scene m) act p) e
-    (kept_by_rule act p (every_row act p) (scene m) m.trace (census (others m.parties i)) (ap (nat_lt 0) (polling m.parties ∙ ap (λ (c : Census). c.polling) (split m.parties i p e))) holds)
+    (kept_by_rule act p (every_row act p) (scene m) m.trace (census (others m.parties i)) holds)
     (λ k. handshake_kept_by_rule act p (every_handshake_row act p) k (scene m) m.trace (census (others m.parties i)) (awaiting k (others m.parties i)) (fits k (others m.parties i)) holds
     (subst (HandshakeHolds k m.word m.slots m.trace) (split_awaiting k m.parties i p e) (h.shakes k)))
 

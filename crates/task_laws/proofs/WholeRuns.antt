@@ -14,7 +14,7 @@ use Rattle.task_laws.proofs.Census.{Census, weigh, census, plus}
 use Rattle.task_laws.proofs.Awaiting.{Awaiting, await, awaiting, fits}
 use Rattle.task_laws.proofs.Handshake.{HandshakeHolds}
 use Rattle.task_laws.proofs.Invariant.{Holds}
-use Rattle.task_laws.proofs.Runs.{Invariant, Stays, others, split, put_born, split_awaiting, polling, moves_stays}
+use Rattle.task_laws.proofs.Runs.{Invariant, Stays, others, split, put_born, split_awaiting, moves_stays}
 use Rattle.task_laws.proofs.Ahead.{Same, before, ahead, prepend, lands, Landed, cell_at, phase_at, holders, queues, landed}
 use Rattle.task_laws.proofs.Calm.{Calm, Counted, Placed, placed, tracked, kept_calm, StaysCalm, stands, goes_one_way, registers, is_registered, takes_slot, has_emptied, is_storing, is_notifier, drops_old, is_refused, has_seen, drops_output, has_stored}
 use Rattle.task_laws.proofs.CallRows.{every_call}
@@ -264,7 +264,7 @@ stays_completed m i p o was is = completes_on m.word.completed o.word.completed 
 
 -- what the counting invariant says of the acting party
 placed_here : (m : Machine) (i : ℕ) (p : Position) → slice_get m.parties i ≡ Some p → Invariant m → Placed (scene m) (plus (weigh p) (census (others m.parties i))) p
-placed_here m i p e h = placed (scene m) m.trace (census (others m.parties i)) p (ap (nat_lt 0) (polling m.parties ∙ ap (λ (c : Census). c.polling) (split m.parties i p e))) (subst (Holds m.limit m.word m.slots m.trace) (split m.parties i p e) h.holds)
+placed_here m i p e h = placed (scene m) m.trace (census (others m.parties i)) p (subst (Holds m.limit m.word m.slots m.trace) (split m.parties i p e) h.holds)
 
 pub tracked_here : (m : Machine) (i : ℕ) (p : Position) (act : Act) (cut : Bool) → slice_get m.parties i ≡ Some p → Invariant m → Calm m.word m.slots cut p → Landed (scene m) (census (others m.parties i)) p act (rule (scene m) act p)
 tracked_here m i p act cut e h k = tracked act p (every_call act p) (scene m) (census (others m.parties i)) cut (placed_here m i p e h) k (counted m i p e h)

@@ -113,15 +113,15 @@ poll_complete_and_claim : words ((1, polls) ∷ (0, completes_and_wakes) ∷ (1,
     ≡ 0x151 ∷ 0x131 ∷ 0x132 ∷ 0x134 ∷ 0x1B4 ∷ 0x114 ∷ 0x014 ∷ 0x01C ∷ 0x00C ∷ []
 poll_complete_and_claim = refl
 
-wake_twice : words ((0, gains) ∷ (0, starts) ∷ (0, ends_pending) ∷ (2, wakes) ∷ (4, delivers) ∷ (5, starts) ∷ (5, ends_pending) ∷ (2, wakes) ∷ (7, delivers) ∷ (2, drops_waker) ∷ [])
+wake_twice : words ((0, gains) ∷ (0, starts) ∷ (0, ends_pending) ∷ (3, wakes) ∷ (4, delivers) ∷ (5, starts) ∷ (5, ends_pending) ∷ (3, wakes) ∷ (6, delivers) ∷ (3, drops_waker) ∷ [])
     ≡ 0x211 ∷ 0x212 ∷ 0x110 ∷ 0x211 ∷ 0x212 ∷ 0x110 ∷ 0x211 ∷ 0x111 ∷ []
 wake_twice = refl
 
-clone_wakers : words ((1, detaches) ∷ (0, starts) ∷ (2, gains) ∷ (0, ends_pending) ∷ (3, gains) ∷ (3, drops_waker) ∷ (4, gains) ∷ (4, gains) ∷ (6, wakes) ∷ (7, delivers) ∷ (6, drops_waker) ∷ (8, starts) ∷ (9, gains) ∷ (8, ends_detached) ∷ (5, wakes_none) ∷ (5, drops_waker) ∷ (4, drops_waker) ∷ (10, drops_last_waker) ∷ [])
+clone_wakers : words ((1, detaches) ∷ (0, starts) ∷ (2, gains) ∷ (0, ends_pending) ∷ (3, gains) ∷ (3, drops_waker) ∷ (4, gains) ∷ (4, gains) ∷ (6, wakes) ∷ (7, delivers) ∷ (6, drops_waker) ∷ (8, starts) ∷ (2, gains) ∷ (8, ends_detached) ∷ (5, wakes_none) ∷ (5, drops_waker) ∷ (4, drops_waker) ∷ (9, drops_last_waker) ∷ [])
     ≡ 0x101 ∷ 0x102 ∷ 0x202 ∷ 0x100 ∷ 0x200 ∷ 0x100 ∷ 0x200 ∷ 0x300 ∷ 0x401 ∷ 0x301 ∷ 0x302 ∷ 0x402 ∷ 0x40C ∷ 0x30C ∷ 0x20C ∷ 0x10C ∷ 0x00C ∷ []
 clone_wakers = refl
 
-detach_wake_and_complete : words ((1, detaches) ∷ (0, starts) ∷ (2, gains) ∷ (0, ends_pending) ∷ (3, wakes) ∷ (4, delivers) ∷ (3, drops_waker) ∷ (5, starts) ∷ (6, gains) ∷ (5, ends_detached) ∷ (7, wakes_none) ∷ (7, drops_last_waker) ∷ [])
+detach_wake_and_complete : words ((1, detaches) ∷ (0, starts) ∷ (2, gains) ∷ (0, ends_pending) ∷ (3, wakes) ∷ (4, delivers) ∷ (3, drops_waker) ∷ (5, starts) ∷ (2, gains) ∷ (5, ends_detached) ∷ (6, wakes_none) ∷ (6, drops_last_waker) ∷ [])
     ≡ 0x101 ∷ 0x102 ∷ 0x202 ∷ 0x100 ∷ 0x201 ∷ 0x101 ∷ 0x102 ∷ 0x202 ∷ 0x20C ∷ 0x10C ∷ 0x00C ∷ []
 detach_wake_and_complete = refl
 
@@ -133,7 +133,7 @@ last_waker_closes : words ((0, starts) ∷ (2, gains) ∷ (0, ends_pending) ∷ 
     ≡ 0x112 ∷ 0x212 ∷ 0x110 ∷ 0x100 ∷ 0x000 ∷ 0x109 ∷ 0x108 ∷ 0x008 ∷ []
 last_waker_closes = refl
 
-wake_by_reference : words ((0, gains) ∷ (0, starts) ∷ (0, ends_pending) ∷ (2, wakes) ∷ (4, delivers) ∷ []) ≡ 0x211 ∷ 0x212 ∷ 0x110 ∷ 0x211 ∷ []
+wake_by_reference : words ((0, gains) ∷ (0, starts) ∷ (0, ends_pending) ∷ (2, Look ∷ []) ∷ (4, wakes) ∷ (5, delivers) ∷ []) ≡ 0x211 ∷ 0x212 ∷ 0x110 ∷ 0x211 ∷ []
 wake_by_reference = refl
 
 last_run_closes : words ((1, detaches) ∷ (0, starts) ∷ (0, ends_orphaned) ∷ (3, runs_closed) ∷ []) ≡ 0x101 ∷ 0x102 ∷ 0x109 ∷ 0x108 ∷ 0x008 ∷ []
@@ -146,7 +146,7 @@ poll_drop_and_poll = refl
 refused_poll : words ((1, polls) ∷ (1, Look ∷ RefuseClone ∷ EndCall ∷ []) ∷ (0, completes_and_wakes) ∷ []) ≡ 0x151 ∷ 0x131 ∷ 0x132 ∷ 0x134 ∷ 0x1B4 ∷ 0x114 ∷ 0x014 ∷ []
 refused_poll = refl
 
-wake_while_running : words ((0, gains) ∷ (0, starts) ∷ (2, WakeRunning ∷ EndCall ∷ []) ∷ (0, AnswerPending ∷ Reschedule ∷ HandOver ∷ EndCall ∷ []) ∷ [])
+wake_while_running : words ((0, gains) ∷ (0, starts) ∷ (3, WakeRunning ∷ EndCall ∷ []) ∷ (0, AnswerPending ∷ Reschedule ∷ HandOver ∷ EndCall ∷ []) ∷ [])
     ≡ 0x211 ∷ 0x212 ∷ 0x213 ∷ 0x211 ∷ []
 wake_while_running = refl
 
@@ -171,6 +171,6 @@ complete_and_cancel = refl
 drop_and_poll : words ((0, drops) ∷ (1, polls_closed) ∷ []) ≡ 0x119 ∷ 0x118 ∷ 0x018 ∷ 0x098 ∷ 0x018 ∷ []
 drop_and_poll = refl
 
-drop_task_while_running : words ((0, starts) ∷ (2, gains) ∷ (0, ends_pending) ∷ (3, wakes) ∷ (4, delivers) ∷ (3, drops_waker) ∷ (5, starts) ∷ (6, gains) ∷ (1, CancelBusy ∷ EndCall ∷ Detach ∷ EndCall ∷ []) ∷ (5, AnswerPending ∷ DropFuture ∷ EndClosed ∷ GiveUpReference ∷ EndCall ∷ []) ∷ (7, drops_last_waker) ∷ [])
+drop_task_while_running : words ((0, starts) ∷ (2, gains) ∷ (0, ends_pending) ∷ (3, wakes) ∷ (4, delivers) ∷ (3, drops_waker) ∷ (5, starts) ∷ (2, gains) ∷ (1, CancelBusy ∷ EndCall ∷ Detach ∷ EndCall ∷ []) ∷ (5, AnswerPending ∷ DropFuture ∷ EndClosed ∷ GiveUpReference ∷ EndCall ∷ []) ∷ (6, drops_last_waker) ∷ [])
     ≡ 0x112 ∷ 0x212 ∷ 0x110 ∷ 0x211 ∷ 0x111 ∷ 0x112 ∷ 0x212 ∷ 0x21A ∷ 0x20A ∷ 0x208 ∷ 0x108 ∷ 0x008 ∷ []
 drop_task_while_running = refl

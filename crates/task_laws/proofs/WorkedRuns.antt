@@ -52,5 +52,5 @@ owed_wake_is_made = refl
 
 -- a wake of an idle task, then a cancel within a poll
 wake_queues : Tried (does 0 (StartRun ∷ StartPoll ∷ []) (does 2 (GainReference ∷ EndCall ∷ []) (does 0 (AnswerPending ∷ EndIdle ∷ EndCall ∷ []) (does 3 (WakeIdle ∷ EndCall ∷ []) (does 4 (HandOver ∷ EndCall ∷ []) (does 3 (DropWaker ∷ EndCall ∷ [])
-    (does 5 (StartRun ∷ StartPoll ∷ []) (does 6 (GainReference ∷ EndCall ∷ []) (does 1 (CancelBusy ∷ EndCall ∷ Detach ∷ EndCall ∷ []) (does 5 (AnswerPending ∷ DropFuture ∷ EndClosed ∷ GiveUpReference ∷ EndCall ∷ []) (does 7 (DropLastWaker ∷ EmptySlots ∷ EndCall ∷ []) [])))))))))))
+    (does 5 (StartRun ∷ StartPoll ∷ []) (does 2 (GainReference ∷ EndCall ∷ []) (does 1 (CancelBusy ∷ EndCall ∷ Detach ∷ EndCall ∷ []) (does 5 (AnswerPending ∷ DropFuture ∷ EndClosed ∷ GiveUpReference ∷ EndCall ∷ []) (does 6 (DropLastWaker ∷ EmptySlots ∷ EndCall ∷ []) [])))))))))))
 wake_queues = refl

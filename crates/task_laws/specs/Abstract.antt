@@ -21,6 +21,7 @@ pub record Cell : Type 0 where
 -- the calls of the handles
 pub data Call : Type 0 where
   Run DropRunnable Schedule Wake DropWaker Cancel Detach IsFinished : Call
+  Lend : Call  -- a waker is lent to a call by reference
   Gain : Bool → Call  -- whether memory was refused
   Poll : ℕ → Call  -- the number of the poll
 
@@ -166,6 +167,7 @@ begin limit c Run = if c.task.closed then stops c (FutureDropped ∷ []) RunDrop
 begin limit c DropRunnable = stops (with_task c (record (c.task) { closed = true })) (FutureDropped ∷ []) DropDropped
 begin limit c Schedule = stops c (HandedOver false ∷ []) (Ends Nothing)
 begin limit c Wake = let r = wakes c.task in hands_over c r r.queue [] (Ends Nothing) (ends (with_task c r.task) [] Nothing)
+begin limit c Lend = ends c [] Nothing
 begin limit c (Gain refused) =
     if not refused && nat_lt (c.task.wakers + bit c.held) limit then ends (with_task c (record (c.task) { wakers = c.task.wakers + 1 })) [] (Gained true) else ends c [] (Gained false)
 begin limit c DropWaker = let r = loses_waker c.task in hands_over c r r.queue [] (Ends Nothing) (empties (with_task c r.task) [] Nothing)

@@ -1,18 +1,14 @@
 -- The machine: any number of parties, of which one at a time makes a step.
-use Rattle.std.specs.Prelude.{ℕ, ◌+◌, Bool, true, false, nat_lt, List, [], ◌∷◌, ◌++◌, Option, Some, None, slice_get, slice_set}
+use Rattle.std.specs.Prelude.{ℕ, ◌+◌, Bool, true, false, List, [], ◌∷◌, ◌++◌, Option, Some, None, slice_get, slice_set}
 use Rattle.task_core.specs.Word.{State, bit, opening_word}
 use Rattle.task_laws.specs.Event.{Event, Made, BySpawn, CallBegins}
-use Rattle.task_laws.specs.Position.{Position, At, Runnable, Task, Polling, Act}
+use Rattle.task_laws.specs.Position.{Position, At, Runnable, Task, Lent, Act}
 use Rattle.task_laws.specs.Table.{Slots, Scene, Outcome, rule}
 
 -- how many parties stand at such a position
 abbrev pub how_many : (Position → Bool) → List Position → ℕ
 how_many p [] = 0
 how_many p (x ∷ xs) = bit (p x) + how_many p xs
-
-abbrev pub polls_future : Position → Bool
-polls_future Polling = true
-polls_future _ = false
 
 pub record Machine : Type 0 where
   pub limit : ℕ
@@ -21,13 +17,13 @@ pub record Machine : Type 0 where
   pub parties : List Position
   pub trace : List Event
 
--- after a spawn: party 0 is the Runnable, party 1 the Task
+-- after a spawn: party 0 is the Runnable, party 1 the Task, and party 2 the waker that is lent to each call by reference
 abbrev pub opening : ℕ → Machine
 opening limit = record {
   limit = limit;
   word = opening_word;
   slots = record { future = true; output = false; awaiter = None };
-  parties = At Runnable ∷ At (Task 0) ∷ [];
+  parties = At Runnable ∷ At (Task 0) ∷ At Lent ∷ [];
   trace = Made BySpawn ∷ [];
 }
 
@@ -41,7 +37,7 @@ begins (At r) = CallBegins ∷ []
 begins _ = []
 
 abbrev pub scene : Machine → Scene
-scene m = record { limit = m.limit; word = m.word; slots = m.slots; polling = nat_lt 0 (how_many polls_future m.parties) }
+scene m = record { limit = m.limit; word = m.word; slots = m.slots }
 
 -- the machine after what the party leaves
 abbrev pub after : Machine → ℕ → Position → Option Outcome → Option Machine

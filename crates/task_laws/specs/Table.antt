@@ -1,5 +1,5 @@
 -- The table of moves: from where a party steps, and where it goes.
-use Rattle.std.specs.Prelude.{ℕ, ◌+◌, Bool, true, false, not, ◌&&◌, ◌||◌, if◌then◌else◌, List, [], ◌∷◌, Option, Some, None}
+use Rattle.std.specs.Prelude.{ℕ, zero, suc, ◌+◌, Bool, true, false, not, ◌&&◌, ◌||◌, if◌then◌else◌, List, [], ◌∷◌, Option, Some, None}
 use Rattle.task_core.specs.Word.{State, is_open}
 use Rattle.task_core.specs.Rows.{found, written}
 use Rattle.task_laws.specs.Event.{ByWake, ByClosing, IsPending, IsReady, HasOutput, IsRefused, Answer, Nothing, Ran, Gained, Finished, Event, Started, AnsweredPending, AnsweredReady, FutureDropped, OutputTaken, OutputDropped, Made, TakenUp, RunEnded, HandedOver, Wakes, Completes, Closes, Empties, Polls, PollEnds, Cloned, Woken, CloneEnded, WakerGained, WakerGivenUp, TaskGivenUp, CallBegins, CallEnds}
@@ -11,12 +11,11 @@ pub record Slots : Type 0 where
   pub output : Bool
   pub awaiter : Option ℕ
 
--- what a party finds: the limit, the word, the slots, and whether a poll of the future is between its start and its answer
+-- what a party finds: the limit, the word and the slots
 pub record Scene : Type 0 where
   pub limit : ℕ
   pub word : State
   pub slots : Slots
-  pub polling : Bool
 
 -- what a party leaves: the word, the slots, its own next position, the parties that it adds, and what is told of it, newest first
 pub record Outcome : Type 0 where
@@ -37,18 +36,32 @@ steps s w next born told = record { word = w; slots = s.slots; next = next; born
 abbrev pub keeps : Scene → State → Slots → Position → List Event → Outcome
 keeps s w slots next told = record { word = w; slots = slots; next = next; born = []; told = told }
 
--- a reference may be gained by a waker, a Runnable, or a lent waker while the future is polled
-abbrev pub may_gain : Scene → Rest → Bool
-may_gain s Runnable = true
-may_gain s Waker = true
-may_gain s Lent = s.polling
-may_gain s Ended = false
-may_gain s (Task i) = false
+-- the task has a handle: the Task, or one that holds a reference
+abbrev pub is_held : State → Bool
+is_held w = w.task || is_some w.references
+  where
+    is_some : ℕ → Bool
+    is_some zero = false
+    is_some (suc n) = true
 
+-- a reference may be asked for by a waker, a Runnable, or a lent waker
+abbrev pub may_ask : Rest → Bool
+may_ask Runnable = true
+may_ask Waker = true
+may_ask Lent = true
+may_ask Ended = false
+may_ask (Task i) = false
+
+-- .. and is gained by a lent waker of a task that has a handle
+abbrev pub may_gain : Scene → Rest → Bool
+may_gain s Lent = is_held s.word
+may_gain s r = may_ask r
+
+-- a waker may wake, and a lent one where the task has a handle or is over
 abbrev pub may_wake : Scene → Rest → Bool
 may_wake s Runnable = false
 may_wake s Waker = true
-may_wake s Lent = s.polling
+may_wake s Lent = is_held s.word || not (is_open s.word)
 may_wake s Ended = false
 may_wake s (Task i) = false
 
@@ -125,8 +138,8 @@ ended_clone None = []
 abbrev pub goes : Scene → State → Act → Position → Option Outcome
 -- 1 reference gained
 goes s v GainReference (At r) = when (may_gain s r) (steps s v (Leaving (Gained true) r) (At Waker ∷ []) (WakerGained ∷ []))
-goes s v FindLimit (At r) = when (may_gain s r) (steps s v (Leaving (Gained false) r) [] [])
-goes s v RefuseGain (At r) = when (may_gain s r) (steps s v (Leaving (Gained false) r) [] [])
+goes s v FindLimit (At r) = when (may_ask r) (steps s v (Leaving (Gained false) r) [] [])
+goes s v RefuseGain (At r) = when (may_ask r) (steps s v (Leaving (Gained false) r) [] [])
 -- 2 reference given up
 goes s v DropWaker (At Waker) = Some (steps s v (Leaving Nothing Ended) [] (WakerGivenUp ∷ []))
 goes s v DropLastWaker (At Waker) = Some (steps s v (Emptier None Nothing) [] (WakerGivenUp ∷ []))
@@ -175,11 +188,12 @@ goes s v EndNotify (Releaser hand way) = Some (steps s v (goes_on hand way) [] [
 goes s v EndRegister (Registered i) = Some (steps s v (Looking i) [] [])
 goes s v EndRegisterNotified (TookBack i) = Some (steps s v (CloneInHand i) [] [])
 -- loads
+goes s v Look (At Lent) = Some (steps s v (At Lent) (At Lent ∷ []) (CallEnds Nothing ∷ []))
 goes s v Look (At (Task n)) = let w = s.word in when (not (w.completed && not w.closed)) (steps s v (first_look w (n + 1)) [] (Polls (n + 1) ∷ []))
 goes s v Look (Looking i) = let w = s.word in Some (steps s v (second_look w i) [] [])
 goes s v LookFinished (At (Task n)) = Some (steps s v (Leaving (Finished (not (is_open s.word))) (Task n)) [] [])
 -- private acts
-goes s v StartPoll Starting = Some (steps s v Polling (At Lent ∷ []) (Started ∷ []))
+goes s v StartPoll Starting = Some (steps s v Polling [] (Started ∷ []))
 goes s v AnswerPending Polling = Some (steps s v Pending [] (AnsweredPending ∷ []))
 goes s v AnswerReady Polling = Some (steps s v Ready [] (AnsweredReady ∷ []))
 goes s v DropFuture Ready = Some (keeps s v (record (s.slots) { future = false }) Unstored (FutureDropped ∷ []))

@@ -2,7 +2,7 @@
 use Rattle.std.specs.Prelude.{◌≡◌, ℕ, ◌+◌, Bool, true, false, not, ◌&&◌, ◌||◌, nat_eq, nat_lt, if◌then◌else◌, List, [], ◌∷◌, Option, Some, None, slice_get, length}
 use Rattle.task_core.specs.Word.{State}
 use Rattle.task_laws.specs.Event.{IsReady, HasOutput, Nothing, Event, FutureDropped, OutputTaken, OutputDropped, HandedOver, Empties, PollEnds, Woken, CloneEnded, CallEnds}
-use Rattle.task_laws.specs.Position.{Rest, Runnable, Task, ClosedRun, DroppedRunnable, OfCancel, OfPoll, OfClaim, Position, At, Leaving, Deliverer, Starting, Polling, Pending, Ready, Unstored, Stored, Cleared, FutureInHand, FutureGone, GivingUp, Notifier, AwaiterInHand, Registrar, Registered, Looking, Claimer, Answering, Detacher, Act, GainReference, FindLimit, DropWaker, DropLastWaker, OrphanTask, WakeOver, WakeScheduled, WakeRunning, WakeIdle, DiscardOpen, DiscardClosed, CancelOver, CancelBusy, CancelIdle, GiveUpOutput, DetachOrphan, DetachLast, Detach, TakeUpClosed, StartRun, LookFinished, StartPoll, AnswerReady, DropFuture, DropOutput, CloneAwaiter, WakeAwaiter, DropAwaiter, HandOver, RefuseGain}
+use Rattle.task_laws.specs.Position.{Rest, Runnable, Lent, Task, ClosedRun, DroppedRunnable, OfCancel, OfPoll, OfClaim, Position, At, Leaving, Deliverer, Starting, Polling, Pending, Ready, Unstored, Stored, Cleared, FutureInHand, FutureGone, GivingUp, Notifier, AwaiterInHand, Registrar, Registered, Looking, Claimer, Answering, Detacher, Act, GainReference, FindLimit, DropWaker, DropLastWaker, OrphanTask, WakeOver, WakeScheduled, WakeRunning, WakeIdle, DiscardOpen, DiscardClosed, CancelOver, CancelBusy, CancelIdle, GiveUpOutput, DetachOrphan, DetachLast, Detach, TakeUpClosed, StartRun, LookFinished, StartPoll, AnswerReady, DropFuture, DropOutput, CloneAwaiter, WakeAwaiter, DropAwaiter, HandOver, RefuseGain}
 use Rattle.task_laws.specs.Machine.{Machine, Step, opening, step, how_many}
 use Rattle.task_laws.specs.Laws.{count, is_closing, is_future_drop, is_loss_of_task, woken_since_taking_up}
 use Rattle.task_laws.specs.Theorem.{is_waker, is_runner}
@@ -53,6 +53,7 @@ call_of r DetachLast = Abstract.Detach
 call_of r Detach = Abstract.Detach
 call_of r LookFinished = Abstract.IsFinished
 call_of (Task n) act = Abstract.Poll (n + 1)
+call_of Lent act = Abstract.Lend
 call_of r act = Abstract.IsFinished
 
 -- what foreign code answered: Ready, a clone, or that the wake is wanted

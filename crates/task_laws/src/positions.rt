@@ -33,7 +33,7 @@ pub enum Rest {
     Runnable,
     /// A waker, which holds a reference.
     Waker,
-    /// The waker that a poll of the future is lent, which holds none.
+    /// A waker that a call has by reference, which holds none.
     Lent,
     /// A party that has given up all that it had.
     Ended,
