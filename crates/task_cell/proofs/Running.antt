@@ -2,8 +2,7 @@
 use Rattle.std.proofs.Common.{◌≡◌, ℕ, Bool, true, false, List, [], ◌∷◌, sym, ap, ◌∙◌, subst}
 use Rattle.atomic_table.specs.Table.{Me, rest}
 use Rattle.task_core.specs.Word.{State}
-use Rattle.task_laws.specs.declared.positions.Position.TheVariants.{At, FutureInHand, Polling}
-use Rattle.task_laws.specs.declared.positions.Rest.TheVariants.{Lent}
+use Rattle.task_laws.specs.declared.positions.Position.TheVariants.{FutureInHand, Polling}
 use Rattle.task_laws.specs.declared.positions.Closer.TheVariants.{ClosedRun}
 use Rattle.task_core.specs.declared.moves.Act.TheVariants.{TakeUpClosed, StartRun, StartPoll}
 use Rattle.task_core.specs.declared.traits.Poll.{Poll}
@@ -12,13 +11,12 @@ use Rattle.task_steps.specs.declared.table.Slot.{Slot}
 use Rattle.task_steps.specs.declared.table.Deed.{Deed}
 use Rattle.task_steps.specs.declared.table.View.{View}
 use Rattle.task_cell.specs.declared.cell.Party.{Party}
-use Rattle.task_steps.specs.Rule.{member, view, fresh, IsFuture}
+use Rattle.task_steps.specs.Rule.{member, view, IsFuture}
 use Rattle.task_steps.specs.Steps.{head_of, future_first}
 use Rattle.task_cell.specs.Calls.{deeds, limit_of, StandsWith, GoesWith, Goes}
 use Rattle.task_steps.specs.Deeds.{row, act}
 use Rattle.task_steps.specs.Standing.{as_ended}
-use Rattle.task_steps.specs.Seats.{lent_of, taking_back}
-use Rattle.task_cell.specs.Starts.{polling_view, TakesUp, finds_closed, starts, IsLending}
+use Rattle.task_cell.specs.Starts.{TakesUp, finds_closed, starts}
 use Rattle.task_cell.specs.RunPaths.{RunPath, finds_closed as closed_path, answers_ready, answers_pending}
 use Rattle.task_cell.specs.RunCalls.{Closes, EndsReady, EndsUnready}
 use Rattle.task_cell.proofs.Moved as moved
@@ -39,40 +37,30 @@ module _ {F T A : Type 0} where
     pub other : Slot F T A
     pub unclosed : word.closed ≡ false
     pub future : IsFuture place
-    pub cell : q.seat.table_id ≡ p.seat.table_id
-    pub is : q.seat.me ≡ (polling_view word p, future_first place other [])
+    pub goes : GoesWith (row StartRun word ∷ act StartPoll ∷ []) Polling (future_first place other []) p q
 
   pub shut : (p q : Party F T A) (b : Bool) → TakesUp p q b → b ≡ false → Shut p q
   shut p q b (finds_closed w y z e f g) is = record { word = w; place = y; other = z; closed = e; goes = g }
-  shut p q b (starts w y z e f cell me) is = absurd (cc)
+  shut p q b (starts w y z e f g) is = absurd (cc)
 
   pub started : (p q : Party F T A) (b : Bool) → TakesUp p q b → b ≡ true → Started p q
   started p q b (finds_closed w y z e f g) is = absurd (cc)
-  started p q b (starts w y z e f cell me) is = record { word = w; place = y; other = z; unclosed = e; future = f; cell = cell; is = me }
+  started p q b (starts w y z e f g) is = record { word = w; place = y; other = z; unclosed = e; future = f; goes = g }
 
-  pub lending : (p q : Party F T A) (s : Started p q) → IsLending s.place s.other q
-  lending p q s = s.is ∙ ap (λ (z : ℕ × List Deed). (view z.0 (member Polling z.1 ∷ fresh (At Lent) ∷ []), future_first s.place s.other []))
-      (λ i. (sym (ap (λ (m : Me (Slot F T A) View). m.0.limit) s.is) i, sym (ap (λ (m : Me (Slot F T A) View). (head_of m.0.members).deeds) s.is) i))
-
-  -- the run is alone on its seat again, and the poll left this in the place of the future
-  pub came_back : (p q : Party F T A) (v w : View) (y z left : Slot F T A) (held : List (ℕ × Slot F T A)) → IsLending y z p → held ≡ p.seat.me.1 → w ≡ lent_of p.seat.me.0
-      → q.seat.me ≡ (taking_back v w, (0, left) ∷ rest held) → StandsWith Polling (future_first left z []) q
-  came_back p q v w y z left held s has is back =
-      let same : q.seat.me ≡ (view (limit_of p) (member Polling (deeds p) ∷ []), future_first left z []) =
-      back ∙ (λ i. (taking_back v ((is ∙ ap (λ (m : Me (Slot F T A) View). lent_of m.0) s) i), (0, left) ∷ rest ((has ∙ ap (λ (m : Me (Slot F T A) View). m.1) s) i))) in
-      same ∙ ap (λ (x : ℕ × List Deed). (view x.0 (member Polling x.1 ∷ []), future_first left z []))
-      (λ i. (sym (ap (λ (m : Me (Slot F T A) View). m.0.limit) same) i, sym (ap (λ (m : Me (Slot F T A) View). (head_of m.0.members).deeds) same) i))
+  pub polls_there : (p q : Party F T A) (s : Started p q) → StandsWith Polling (future_first s.place s.other []) q
+  polls_there p q s = s.goes.is ∙ ap (λ (z : ℕ × List Deed). (view z.0 (member Polling z.1 ∷ []), future_first s.place s.other []))
+      (λ i. (sym (ap (λ (m : Me (Slot F T A) View). m.0.limit) s.goes.is) i, sym (ap (λ (m : Me (Slot F T A) View). (head_of m.0.members).deeds) s.goes.is) i))
 
   pub limit_started : (p q : Party F T A) → Started p q → limit_of q ≡ limit_of p
-  limit_started p q s = ap (λ (m : Me (Slot F T A) View). m.0.limit) s.is
+  limit_started p q s = ap (λ (m : Me (Slot F T A) View). m.0.limit) s.goes.is
 
   -- after its poll
   polled : (p q r : Party F T A) (s : Started p q) (held : List (ℕ × Slot F T A)) → r.seat.table_id ≡ q.seat.table_id → limit_of r ≡ limit_of q → deeds r ≡ deeds q → StandsWith Polling held r
       → GoesWith (row StartRun s.word ∷ act StartPoll ∷ []) Polling held p r
   polled p q r s held cell limit did stands = record {
-    cell = cell ∙ s.cell;
+    cell = cell ∙ s.goes.cell;
     is = stands ∙ ap (λ (z : ℕ × List Deed). (view z.0 (member Polling z.1 ∷ []), held))
-        (λ i. ((limit ∙ limit_started p q s) i, (did ∙ ap (λ (m : Me (Slot F T A) View). (head_of m.0.members).deeds) s.is) i));
+        (λ i. ((limit ∙ limit_started p q s) i, (did ∙ ap (λ (m : Me (Slot F T A) View). (head_of m.0.members).deeds) s.goes.is) i));
   }
 
   module _ {O : Type 0} (Polled : Poll O → Type 0) (Woken : Type 0) (Scheduled : Bool → Type 0) where

@@ -4,7 +4,7 @@ use Rattle.atomic_table.specs.Table.{Me}
 use Rattle.task_core.specs.Word.{State, state_of, number_of}
 use Rattle.task_laws.specs.Event.{TakenUp, Started}
 use Rattle.task_laws.specs.declared.positions.Position.TheVariants.{At, FutureInHand, Starting, Polling}
-use Rattle.task_laws.specs.declared.positions.Rest.TheVariants.{Runnable, Lent}
+use Rattle.task_laws.specs.declared.positions.Rest.TheVariants.{Runnable}
 use Rattle.task_laws.specs.declared.positions.Closer.TheVariants.{ClosedRun}
 use Rattle.task_core.specs.declared.moves.Act.TheVariants.{TakeUpClosed, StartRun, StartPoll}
 use Rattle.task_core.specs.Rows.{written, row}
@@ -51,8 +51,8 @@ module _ (F T A : Type 0) (limit : ℕ) where
       → (m : Machine) → Finds limit (At Runnable) ds [] m → old ≡ number_of m.word → Steps m (At Runnable) (starting_run m.word) new l
   starts_run ds l w v old new fits is to m f here = let same = same_word m.word w old is here in let r = row_found 0 StartRun w v fits in
       let o : Outcome = steps (scene m) (written StartRun m.word) Starting [] (TakenUp ∷ []) in
-      let x : Outcome = steps (scene m) (written StartRun m.word) Polling (At Lent ∷ []) (Started ∷ []) in record {
-        outcome = steps (scene m) (written StartRun m.word) Polling (At Lent ∷ []) (Started ∷ TakenUp ∷ []);
+      let x : Outcome = steps (scene m) (written StartRun m.word) Polling [] (Started ∷ []) in record {
+        outcome = steps (scene m) (written StartRun m.word) Polling [] (Started ∷ TakenUp ∷ []);
         leads_to = leads_found (scene m) StartRun (At Runnable) (StartPoll ∷ []) o x (ap (λ (z : State). not z.closed) same ∙ r.0) refl refl;
         writes = to ∙ ap number_of (r.1 ∙ ap (written StartRun) (sym same));
         idle = (refl, refl);
@@ -85,7 +85,7 @@ module _ {F T A : Type 0} where
 
   pub started : (w v : State) (p q : Party F T A) → Stands (At Runnable) p → q.seat.table_id ≡ p.seat.table_id → Some v ≡ row 0 StartRun w → Makes (starting_run w) w p.seat.me q.seat.me → TakesUp p q true
   started w v p q s cell fits m = let x = moved (StartRun ∷ StartPoll ∷ []) w (At Runnable) [] p q s m in
-      starts w x.carried.0 x.carried.1 (open_word w v fits) x.carried.2 cell (λ i. (x.viewed i, x.carried.3 i))
+      starts w x.carried.0 x.carried.1 (open_word w v fits) x.carried.2 (record { cell = cell; is = λ i. (x.viewed i, x.carried.3 i) })
 
   -- .. by the number that the exchange found
   pub started_at : (w v : State) (n : ℕ) (p q r : Party F T A) → Stands (At Runnable) p → r.seat.table_id ≡ p.seat.table_id → Some v ≡ row 0 StartRun w → n ≡ number_of w → Makes (taking_up_closed w) w p.seat.me q.seat.me

@@ -1,5 +1,5 @@
 -- What the steps of a waker come to for the party that made them.
-use Rattle.std.proofs.Common.{◌≡◌, ℕ, ◌≢◌, eqb, Bool, true, false, not, ◌&&◌, List, [], ◌∷◌, ◌++◌, Option, Some, None, is_some, refl, sym, ap, ◌∙◌, subst, append-nil}
+use Rattle.std.proofs.Common.{◌≡◌, ℕ, ◌≢◌, eqb, Bool, true, false, not, ◌&&◌, List, [], ◌∷◌, ◌++◌, Option, Some, None, IfSome, is_some, refl, sym, ap, ◌∙◌, subst, append-nil}
 use Rattle.std.specs.Prelude.{nat_lt, if◌then◌else◌}
 use prog.Atomic.{either}
 use Rattle.atomic_table.specs.Table.{Me, Allows}
@@ -29,7 +29,8 @@ use Rattle.task_steps.specs.Deeds.{row, act, after}
 use Rattle.task_steps.specs.Standing.{as_waker, as_deliverer}
 use Rattle.task_steps.specs.WakerScripts.{others_left, looking_for_room, gaining, refusing_gain, finding_over, waking_task, dropping_waker, closing_orphan}
 use Rattle.task_cell.specs.Wakers.{StandsBeside, MayWake, GoesBeside}
-use Rattle.task_steps.specs.Beside.{may_wake_beside, may_gain_beside, without_newest, newest}
+use Rattle.task_laws.specs.Table.{is_held, may_ask}
+use Rattle.task_steps.specs.Beside.{may_call, may_change, without_newest, newest}
 use Rattle.task_cell.specs.WakerPaths.{GainsShare, is_refused, goes_on_to, is_gained, finds_limit, is_over, is_scheduled, is_running, is_idle, GainsBeside, WakesBeside, Gains, gains_none, gains_one, WakesTask, makes_none, makes_one, DropsWaker}
 use Rattle.task_steps.specs.Found.{dropped_by}
 use Rattle.task_steps.proofs.Allowed.{Owes}
@@ -39,6 +40,8 @@ use Rattle.task_cell.proofs.Carried.{keeps_places}
 use Rattle.task_cell.proofs.Moved.{moved, goes}
 use Rattle.task_cell.proofs.TaskMoves.{Same}
 use Rattle.task_steps.proofs.TaskOwed.{over}
+use Rattle.task_steps.specs.Seats.{is_spent}
+use Rattle.atomic_table.specs.Seated.{TableId}
 use Rattle.task_steps.proofs.WakerSeats.{others_are, newest_is}
 use Rattle.task_steps.proofs.WakerOwed.{looks_for_room, gains, third, fourth}
 
@@ -49,14 +52,14 @@ never e = absurd (cc)
 abbrev Leads : Rest → List Member → State → List Act → List Deed → List Member → Type 0
 Leads r us w acts path more = (slots : Slots) (l : ℕ) (ds : List Deed) → acted w slots acts (view l (member (At r) ds ∷ us)) ≡ view l (member (At r) (after path ds) ∷ more)
 
-by_gainer : (r : Rest) (us : List Member) (w : State) (acts : List Act) (path : List Deed) (more : List Member) → may_gain_beside r us ≡ true → Leads Runnable us w acts path more → Leads Waker us w acts path more → Leads Lent us w acts path more → Leads r us w acts path more
+by_gainer : (r : Rest) (us : List Member) (w : State) (acts : List Act) (path : List Deed) (more : List Member) → may_ask r ≡ true → Leads Runnable us w acts path more → Leads Waker us w acts path more → Leads Lent us w acts path more → Leads r us w acts path more
 by_gainer Runnable us w acts path more may a b c = a
 by_gainer Waker us w acts path more may a b c = b
 by_gainer Lent us w acts path more may a b c = c
 by_gainer Ended us w acts path more may a b c = never may
 by_gainer (Task n) us w acts path more may a b c = never may
 
-by_waker : (r : Rest) (us : List Member) (w : State) (acts : List Act) (path : List Deed) (more : List Member) → may_wake_beside r us ≡ true → Leads Waker us w acts path more → Leads Lent us w acts path more → Leads r us w acts path more
+by_waker : (r : Rest) (us : List Member) (w : State) (acts : List Act) (path : List Deed) (more : List Member) → may_call r ≡ true → Leads Waker us w acts path more → Leads Lent us w acts path more → Leads r us w acts path more
 by_waker Runnable us w acts path more may b c = never may
 by_waker Waker us w acts path more may b c = b
 by_waker Lent us w acts path more may b c = c
@@ -81,30 +84,30 @@ module _ {F T A : Type 0} where
   pub stands_same : (r : Rest) (us : List Member) (p q : Party F T A) → StandsBeside r us p → Same p q → StandsBeside r us q
   stands_same r us p q s e = e.me ∙ (s ∙ ap (λ (x : Me (Slot F T A) View). (view x.0.limit (member (At r) (head_of x.0.members).deeds ∷ us), [])) (sym e.me))
 
-  -- a party whose seat has rested
-  pub at_rest : (r : Rest) (us : List Member) (v : View) (p : Party F T A) → p.seat.me ≡ (v, []) → v ≡ view v.limit (fresh (At r) ∷ us) → StandsBeside r us p
-  at_rest r us v p s e = let is : p.seat.me ≡ (view v.limit (fresh (At r) ∷ us), []) = s ∙ (λ i. (e i, [])) in
-      is ∙ ap (λ (z : ℕ × List Deed). (view z.0 (member (At r) z.1 ∷ us), [])) (λ i. (sym (ap (λ (x : Me (Slot F T A) View). x.0.limit) is) i, sym (ap (λ (x : Me (Slot F T A) View). (head_of x.0.members).deeds) is) i))
+  -- a party that has done nothing, alone on its seat
+  pub fresh_stands : (r : Rest) (l : ℕ) (p : Party F T A) → p.seat.me ≡ (view l (fresh (At r) ∷ []), []) → StandsBeside r [] p
+  fresh_stands r l p is = is ∙ ap (λ (z : ℕ × List Deed). (view z.0 (member (At r) z.1 ∷ []), []))
+      (λ i. (sym (ap (λ (x : Me (Slot F T A) View). x.0.limit) is) i, sym (ap (λ (x : Me (Slot F T A) View). (head_of x.0.members).deeds) is) i))
+
+  -- the party of a call by reference may be let go after it
+  pub is_spent_after : (path : List Deed) (us : List Member) (p q : Party F T A) → GoesBeside path Lent us p q → is_spent q.seat.me.0 ≡ true
+  is_spent_after path us p q g = ap (λ (x : Me (Slot F T A) View). is_spent x.0) g.is
 
   -- it stands where it came back
   pub stands_back : (r : Rest) (us : List Member) (path : List Deed) (p q : Party F T A) → GoesBeside path r us p q → StandsBeside r us q
   stands_back r us path p q g = g.is ∙ ap (λ (z : ℕ × List Deed). (view z.0 (member (At r) z.1 ∷ us), []))
       (λ i. (sym (ap (λ (x : Me (Slot F T A) View). x.0.limit) g.is) i, sym (ap (λ (x : Me (Slot F T A) View). (head_of x.0.members).deeds) g.is) i))
 
-  -- .. so it may rest again where it rested before
-  pub may_rest : (r : Rest) (us : List Member) (v : View) (path : List Deed) (p q : Party F T A) → p.seat.me ≡ (v, []) → v ≡ view v.limit (fresh (At r) ∷ us) → GoesBeside path r us p q → StandsBeside r us q × (v ≡ view (limit_of q) (fresh (At r) ∷ us))
-  may_rest r us v path p q s e g = let limit : limit_of q ≡ v.limit = ap (λ (x : Me (Slot F T A) View). x.0.limit) g.is ∙ ap (λ (x : Me (Slot F T A) View). x.0.limit) s in
-      (stands_back r us path p q g, e ∙ ap (λ l. view l (fresh (At r) ∷ us)) (sym limit))
-
   -- the path of a wake, whatever it made
   pub wake_goes : (r : Rest) (us : List Member) (p q : Party F T A) (made : Option (Party F T A)) → WakesTask r us p q made → (path : List Deed) × GoesBeside path r us p q
   wake_goes r us p q None (makes_none path w g) = (path, g)
   wake_goes r us p q (Some d) (makes_one path x w g n) = (path, g)
 
-  -- whoever took the seat off its perch stands so that it may wake, and is back there after the wake
-  pub woke_at_rest : (r : Rest) (us : List Member) (v : View) (p q : Party F T A) (made : Option (Party F T A)) → may_wake_beside r us ≡ true → p.seat.me ≡ (v, []) → v ≡ view v.limit (fresh (At r) ∷ us)
-      → ((r : Rest) (us : List Member) → MayWake r us p → WakesTask r us p q made) → (path : List Deed) × GoesBeside path r us p q
-  woke_at_rest r us v p q made may s e told = wake_goes r us p q made (told r us (may, at_rest r us v p s e))
+  -- what a wake by reference makes
+  pub wake_gives : (r : Rest) (us : List Member) (limit : ℕ) (table : TableId) (p q : Party F T A) (made : Option (Party F T A)) → p.seat.table_id ≡ table → limit_of p ≡ limit → WakesTask r us p q made
+      → IfSome made (λ d. (d.seat.table_id ≡ table) × (d.seat.me ≡ (view limit (fresh as_deliverer ∷ []), [])))
+  wake_gives r us limit table p q None cell is (makes_none path w g) = tt
+  wake_gives r us limit table p q (Some d) cell is (makes_one path x w g n) = (n.cell ∙ cell, n.is ∙ ap (λ l. (view l (fresh as_deliverer ∷ []), [])) is)
 
   -- an owned waker after a wake
   pub owned_after : (p q : Party F T A) (made : Option (Party F T A)) → Stands as_waker p → ((r : Rest) (us : List Member) → MayWake r us p → WakesTask r us p q made) → (q.seat.table_id ≡ p.seat.table_id) × (limit_of q ≡ limit_of p) × Stands as_waker q
@@ -150,7 +153,7 @@ module _ {F T A : Type 0} where
   stays r us w p q s cell m = let g = alone [] r us p q (back r us (us ++ []) w [] [] p q s cell (λ slots l ds. refl) m) in record { cell = cell; me = g.is ∙ sym s }
 
   -- the memory was refused
-  pub refuses : (r : Rest) (us : List Member) (w : State) (p q : Party F T A) → may_gain_beside r us ≡ true → StandsBeside r us p → q.seat.table_id ≡ p.seat.table_id → Makes (refusing_gain w) w p.seat.me q.seat.me → GoesBeside (act RefuseGain ∷ act EndCall ∷ []) r us p q
+  pub refuses : (r : Rest) (us : List Member) (w : State) (p q : Party F T A) → may_ask r ≡ true → StandsBeside r us p → q.seat.table_id ≡ p.seat.table_id → Makes (refusing_gain w) w p.seat.me q.seat.me → GoesBeside (act RefuseGain ∷ act EndCall ∷ []) r us p q
   refuses r us w p q may s cell m = let path : List Deed = act RefuseGain ∷ act EndCall ∷ [] in alone path r us p q
       (back r us (us ++ []) w (refusing_gain w) path p q s cell (by_gainer r us w (refusing_gain w) path (us ++ []) may (λ slots l ds. refl) (λ slots l ds. refl) (λ slots l ds. refl)) m)
 
@@ -158,7 +161,7 @@ module _ {F T A : Type 0} where
   pub finds_room : (r : Rest) (us : List Member) (limit k : ℕ) (w : State) (p q : Party F T A) → StandsBeside r us p → q.seat.table_id ≡ p.seat.table_id → k ≡ limit → nat_lt w.references limit ≡ true → Makes (looking_for_room k w) w p.seat.me q.seat.me → Same p q
   finds_room r us limit k w p q s cell is room m = stays r us w p q s cell (subst (λ b. Makes (if b then [] else FindLimit ∷ EndCall ∷ []) w p.seat.me q.seat.me) (ap (nat_lt w.references) is ∙ room) m)
 
-  pub finds_none : (r : Rest) (us : List Member) (limit k : ℕ) (w : State) (p q : Party F T A) → may_gain_beside r us ≡ true → StandsBeside r us p → q.seat.table_id ≡ p.seat.table_id → k ≡ limit → nat_lt w.references limit ≡ false
+  pub finds_none : (r : Rest) (us : List Member) (limit k : ℕ) (w : State) (p q : Party F T A) → may_ask r ≡ true → StandsBeside r us p → q.seat.table_id ≡ p.seat.table_id → k ≡ limit → nat_lt w.references limit ≡ false
       → Makes (looking_for_room k w) w p.seat.me q.seat.me → GainsBeside limit r us p q false
   finds_none r us limit k w p q may s cell is full m = let path : List Deed = row FindLimit w ∷ act EndCall ∷ [] in let acts : List Act = FindLimit ∷ EndCall ∷ [] in (
     path,
@@ -168,7 +171,7 @@ module _ {F T A : Type 0} where
   )
 
   -- the row of a gain
-  pub gained : (r : Rest) (us : List Member) (limit n : ℕ) (w : State) (p q t : Party F T A) → may_gain_beside r us ≡ true → StandsBeside r us p → Same p q → t.seat.table_id ≡ q.seat.table_id → nat_lt w.references limit ≡ true → n ≡ number_of w
+  pub gained : (r : Rest) (us : List Member) (limit n : ℕ) (w : State) (p q t : Party F T A) → may_ask r ≡ true → StandsBeside r us p → Same p q → t.seat.table_id ≡ q.seat.table_id → nat_lt w.references limit ≡ true → n ≡ number_of w
       → Makes (gaining (state_of n)) (state_of n) q.seat.me t.seat.me → GainsBeside limit r us p t true
   gained r us limit n w p q t may s e cell room is m = let path : List Deed = row GainReference w ∷ act EndCall ∷ [] in let more : List Member = us ++ fresh (At Waker) ∷ [] in (
     path,
@@ -196,7 +199,7 @@ module _ {F T A : Type 0} where
   pub finds_open : (r : Rest) (us : List Member) (w : State) (p q : Party F T A) → StandsBeside r us p → q.seat.table_id ≡ p.seat.table_id → is_open w ≡ true → Makes (finding_over w) w p.seat.me q.seat.me → Same p q
   finds_open r us w p q s cell now m = stays r us w p q s cell (subst (λ b. Makes (if b then [] else WakeOver ∷ EndCall ∷ []) w p.seat.me q.seat.me) now m)
 
-  pub finds_over : (r : Rest) (us : List Member) (w : State) (p q : Party F T A) → may_wake_beside r us ≡ true → StandsBeside r us p → q.seat.table_id ≡ p.seat.table_id → is_open w ≡ false → Makes (finding_over w) w p.seat.me q.seat.me → WakesBeside r us p q false
+  pub finds_over : (r : Rest) (us : List Member) (w : State) (p q : Party F T A) → may_call r ≡ true → StandsBeside r us p → q.seat.table_id ≡ p.seat.table_id → is_open w ≡ false → Makes (finding_over w) w p.seat.me q.seat.me → WakesBeside r us p q false
   finds_over r us w p q may s cell now m = let path : List Deed = row WakeOver w ∷ act EndCall ∷ [] in let acts : List Act = WakeOver ∷ EndCall ∷ [] in (
     path,
     is_over w (over (is_open w) now),
@@ -205,7 +208,7 @@ module _ {F T A : Type 0} where
   )
 
   -- the row of a wake
-  pub woke : (r : Rest) (us : List Member) (n : ℕ) (w : State) (p q t : Party F T A) → may_wake_beside r us ≡ true → StandsBeside r us p → Same p q → t.seat.table_id ≡ q.seat.table_id → is_open w ≡ true → n ≡ number_of w
+  pub woke : (r : Rest) (us : List Member) (n : ℕ) (w : State) (p q t : Party F T A) → may_call r ≡ true → StandsBeside r us p → Same p q → t.seat.table_id ≡ q.seat.table_id → is_open w ≡ true → n ≡ number_of w
       → Makes (waking_task (state_of n)) (state_of n) q.seat.me t.seat.me → WakesBeside r us p t (not w.scheduled && not w.running)
   woke r us n w p q t may s e cell now is m = by w.scheduled w.running refl refl (subst (λ (v : State). Makes (waking_task v) v q.seat.me t.seat.me) (ap state_of is ∙ state_of_number_of w) m)
     where
@@ -265,18 +268,23 @@ was_over true w e = absurd (cc)
 was_over false w e = refl
 
 -- what a gain owes that looks by the limit which its seat knows
-owes_look : (F T A : Type 0) (limit : ℕ) (me : Me (Slot F T A) View) (r : Rest) (ds : List Deed) (us : List Member) → me.0 ≡ view limit (member (At r) ds ∷ us) → may_gain_beside r us ≡ true → Owes F T A limit (looking_for_room me.0.limit) (λ n. n) (At r) ds us me.1
+owes_look : (F T A : Type 0) (limit : ℕ) (me : Me (Slot F T A) View) (r : Rest) (ds : List Deed) (us : List Member) → me.0 ≡ view limit (member (At r) ds ∷ us) → may_ask r ≡ true → Owes F T A limit (looking_for_room me.0.limit) (λ n. n) (At r) ds us me.1
 owes_look F T A limit me r ds us is may = subst (λ (l : ℕ). Owes F T A limit (looking_for_room l) (λ n. n) (At r) ds us me.1) (sym (ap (λ (v : View). v.limit) is)) (looks_for_room F T A limit r ds us me.1 may)
 
 -- the look of a gain
-pub may_look : (F T A : Type 0) (limit slots id : ℕ) (me : Me (Slot F T A) View) (r : Rest) (ds : List Deed) (us : List Member) → slots ≡ 3 → me.0 ≡ view limit (member (At r) ds ∷ us) → may_gain_beside r us ≡ true
+pub may_look : (F T A : Type 0) (limit slots id : ℕ) (me : Me (Slot F T A) View) (r : Rest) (ds : List Deed) (us : List Member) → slots ≡ 3 → me.0 ≡ view limit (member (At r) ds ∷ us) → may_ask r ≡ true
     → Allows (Ruled {F = F} {T = T} {A = A} limit) slots id me 0 (λ n. n) (λ r m. Makes (looking_for_room me.0.limit (state_of r)) (state_of r) me m × Knows (head_of me.0.members).deeds (state_of r))
 may_look F T A limit slots id me r ds us three is may = steps_knowing F T A limit slots id me limit (At r) ds us (looking_for_room me.0.limit) (λ n. n) three is (owes_look F T A limit me r ds us is may)
 
 -- .. and its exchange
-pub may_gain : (F T A : Type 0) (limit slots id : ℕ) (me : Me (Slot F T A) View) (r : Rest) (ds : List Deed) (us : List Member) (w v : State) (old new : ℕ) → slots ≡ 3 → me.0 ≡ view limit (member (At r) ds ∷ us) → may_gain_beside r us ≡ true
+pub may_gain : (F T A : Type 0) (limit slots id : ℕ) (me : Me (Slot F T A) View) (r : Rest) (ds : List Deed) (us : List Member) (w v : State) (old new : ℕ) → slots ≡ 3 → me.0 ≡ view limit (member (At r) ds ∷ us) → may_ask r ≡ true → may_change r w ≡ true
     → Some v ≡ row_of limit GainReference w → old ≡ number_of w → new ≡ number_of v
     → Allows (Ruled {F = F} {T = T} {A = A} limit) slots id me 0 (λ n. either (eqb n old) new n)
     (λ r m. ((r ≡ old → Makes (gaining (state_of r)) (state_of r) me m) × (r ≢ old → Makes (looking_for_room me.0.limit (state_of r)) (state_of r) me m)) × Knows (head_of me.0.members).deeds (state_of r))
-may_gain F T A limit slots id me r ds us w v old new three is may fits from to = steps_or_misses_knowing F T A limit slots id me limit (At r) ds us gaining (looking_for_room me.0.limit) old new three is
-    (gains F T A limit r ds us me.1 w v old new may fits from to) (owes_look F T A limit me r ds us is may)
+may_gain F T A limit slots id me r ds us w v old new three is may held fits from to = steps_or_misses_knowing F T A limit slots id me limit (At r) ds us gaining (looking_for_room me.0.limit) old new three is
+    (gains F T A limit r ds us me.1 w v old new may held fits from to) (owes_look F T A limit me r ds us is may)
+
+-- whoever may ask may change the word of a task that has a handle
+pub may_change_held : (r : Rest) (w : State) → is_held w ≡ true → may_change r w ≡ true
+may_change_held Lent w e = e
+may_change_held _ w e = refl

@@ -4,14 +4,12 @@ ghost use Rattle.std.specs.Arc.{arc_value};
 ghost use Rattle.task_steps.specs.Rule.{view, fresh};
 ghost use Rattle.task_cell.specs.Calls.{limit_of, position, deeds, Stands};
 ghost use Rattle.task_steps.specs.Standing.{as_runnable, as_ended};
-ghost use Rattle.task_steps.specs.Holders.{roost};
-ghost use Rattle.task_cell.specs.Wakers.{runnable_view};
 
 use atomic_table::Seat;
 use std::alloc::{Allocator, Global};
 use std::sync::Wait;
 use task_core::{Wake, Yields};
-use task_steps::holder::SeatHolder;
+use task_steps::resting::RestingSeat;
 use task_steps::table::{Board, Kept, Slot, View, discard};
 
 /// What the handles of one task share: the word and the places, the schedule value and the metadata.
@@ -41,13 +39,12 @@ impl<F, T, A> Party<F, T, A> {
     }
 }
 
-/// A share of a cell, and what holds the seat of its Runnable.
+/// A share of a cell, and the seat of its Runnable.
 pub(crate) struct RunnableSeat<R, F: Yields, Q, M, A, B: Allocator> {
     pub(crate) share: Share<R, F, Q, M, A, B>,
-    pub(crate) holder: SeatHolder<F, Kept<F>, A>,
-    ghost seated: { (roost holder).table_id ≡ (arc_value share.cell).table.shared.table_id },
-    ghost limited: { (roost holder).view.limit ≡ (arc_value share.cell).limit },
-    ghost placed: { (roost holder).view ≡ runnable_view (roost holder).view },
+    pub(crate) resting: RestingSeat<F, Kept<F>, A>,
+    ghost seated: { resting.seat.table_id ≡ (arc_value share.cell).table.shared.table_id },
+    ghost placed: { resting.seat.view ≡ view (arc_value share.cell).limit (fresh as_runnable ∷ []) },
 }
 
 impl<R: Wait + Drop, F: Yields, Q: Drop, M: Drop, A: Wake, B: Allocator> RunnableSeat<
@@ -70,7 +67,7 @@ impl<R: Wait + Drop, F: Yields, Q: Drop, M: Drop, A: Wake, B: Allocator> Runnabl
         let Party { seat } = party;
         RunnableSeat {
             share,
-            holder: SeatHolder::locked(seat),
+            resting: RestingSeat::new(seat),
         }
     }
 
@@ -80,8 +77,8 @@ impl<R: Wait + Drop, F: Yields, Q: Drop, M: Drop, A: Wake, B: Allocator> Runnabl
         ensures cell { (result.1.seat.table_id ≡ (arc_value result.0.cell).table.shared.table_id) × (limit_of result.1 ≡ (arc_value result.0.cell).limit) }
         ensures party { Stands as_runnable result.1 × (deeds result.1 ≡ []) }
     {
-        let RunnableSeat { share, holder } = self;
-        let seat = holder.into_seat(&share.cell().rt);
+        let RunnableSeat { share, resting } = self;
+        let seat = resting.into_seat();
         (share, Party { seat })
     }
 }
@@ -149,6 +146,7 @@ pub use share::Share;
 pub use waker::TaskWaker;
 
 mod awaiter;
+mod borrowed;
 mod cancel;
 mod claim;
 mod deliver;
@@ -161,7 +159,6 @@ mod lent;
 mod poll;
 mod reference;
 mod register;
-mod resting;
 mod run;
 pub(crate) mod share;
 mod spawn;

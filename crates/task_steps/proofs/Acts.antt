@@ -1,6 +1,6 @@
 -- Acts of one party in a row, with nothing of another party between.
-use Rattle.std.proofs.Common.{◌≡◌, ℕ, ◌+◌, ◌<◌, Bool, true, false, not, ◌&&◌, cond, Option, Some, None, List, [], ◌∷◌, ◌++◌, length, map, set, sym, refl, ap, ◌∙◌, subst, arith, append-nil, append_assoc}
-use Rattle.task_core.specs.Word.{State, bit}
+use Rattle.std.proofs.Common.{◌≡◌, ℕ, ◌+◌, ◌<◌, Bool, true, false, not, ◌&&◌, ◌||◌, cond, Option, Some, None, List, [], ◌∷◌, ◌++◌, length, map, set, sym, refl, ap, ◌∙◌, subst, arith, append-nil, append_assoc}
+use Rattle.task_core.specs.Word.{State, bit, is_open}
 use Rattle.task_laws.specs.Event.{Event}
 use Rattle.task_laws.specs.declared.positions.Position.{Position}
 use Rattle.task_core.specs.declared.moves.Act.{Act}
@@ -11,43 +11,43 @@ use Rattle.task_laws.specs.declared.positions.Rest.TheVariants.{Ended, Lent, Run
 use Rattle.task_laws.specs.declared.positions.Way.TheVariants.{OfCancel, OfClaim, OfDrop, OfPoll, OfRun}
 use Rattle.task_laws.specs.declared.positions.After.TheVariants.{ThenEnds, ThenNotifies, ThenTask}
 use Rattle.task_core.specs.Rows.{found, written, row}
-use Rattle.task_laws.specs.Table.{Slots, Scene, Outcome, when, where_found, steps, goes, rule}
+use Rattle.task_laws.specs.Table.{Slots, Scene, Outcome, when, where_found, is_held, steps, goes, rule}
 use Rattle.task_laws.specs.Machine.{Machine, begins, scene, how_many}
 use Rattle.task_laws.specs.Laws.{count, is_emptying}
 use Rattle.task_steps.specs.declared.table.Deed.{Deed}
 use Rattle.task_steps.specs.declared.table.Member.{Member}
 use Rattle.task_steps.specs.declared.table.View.{View}
 use Rattle.task_steps.specs.Rule.{deed, member, view, fresh, found_by, Entry, Told}
-use Rattle.task_steps.specs.Steps.{then_leaves, and_then, spot, leaves_by, all_fit, noted}
+use Rattle.task_steps.specs.Steps.{then_leaves, and_then, spot, is_lent, held_word, leaves_by, all_fit, noted}
 use Rattle.task_steps.proofs.Told.{tells, next_machine}
 use Rattle.task_steps.proofs.Facts.{many_next}
-
--- a scene in which nobody polls is the least
-abbrev pub apart : ℕ → State → Slots → Bool → Scene
-apart limit w slots b = record { limit = limit; word = w; slots = slots; polling = b }
 
 -- what acts in a row leave where each row finds its word
 abbrev pub leads : Scene → List Act → Position → Option Outcome
 leads s [] p = Some (steps s s.word p [] [])
-leads s (a ∷ more) p = and_then (rule s a p) (λ o. leads (apart s.limit o.word o.slots false) more o.next)
+leads s (a ∷ more) p = and_then (rule s a p) (λ o. leads (spot s.limit o.word o.slots) more o.next)
 
 -- the word that an act writes is the row's
 abbrev word_or : State → Option Outcome → State
 word_or v None = v
 word_or v (Some o) = o.word
 
+when_so : (b : Bool) (x o : Outcome) → when b x ≡ Some o → Some x ≡ Some o
+when_so true x o e = e
+when_so false x o e = absurd (cc)
+
 word_when : (v : State) (b : Bool) (o : Outcome) → o.word ≡ v → word_or v (when b o) ≡ v
 word_when v true o e = e
 word_when v false o e = refl
 
 goes_word : (s : Scene) (v : State) (a : Act) (p : Position) → word_or v (goes s v a p) ≡ v
-goes_word s v GainReference (At Lent) = word_when v s.polling _ refl
-goes_word s v FindLimit (At Lent) = word_when v s.polling _ refl
-goes_word s v RefuseGain (At Lent) = word_when v s.polling _ refl
-goes_word s v WakeOver (At Lent) = word_when v s.polling _ refl
-goes_word s v WakeScheduled (At Lent) = word_when v s.polling _ refl
-goes_word s v WakeRunning (At Lent) = word_when v s.polling _ refl
-goes_word s v WakeIdle (At Lent) = word_when v s.polling _ refl
+goes_word s v GainReference (At Lent) = word_when v (is_held s.word) _ refl
+goes_word s v FindLimit (At Lent) = refl
+goes_word s v RefuseGain (At Lent) = refl
+goes_word s v WakeOver (At Lent) = word_when v (is_held s.word || not (is_open s.word)) _ refl
+goes_word s v WakeScheduled (At Lent) = word_when v (is_held s.word || not (is_open s.word)) _ refl
+goes_word s v WakeRunning (At Lent) = word_when v (is_held s.word || not (is_open s.word)) _ refl
+goes_word s v WakeIdle (At Lent) = word_when v (is_held s.word || not (is_open s.word)) _ refl
 goes_word s v Look (At (Task n)) = word_when v (not (s.word.completed && not s.word.closed)) _ refl
 goes_word s v DropFuture Pending = word_when v s.word.closed _ refl
 goes_word s v TakeAwaiter (Registered i) = word_when v s.word.notifying _ refl
@@ -128,6 +128,7 @@ goes_word s v FindNotify (HasClone i) = refl
 goes_word s v BeginRegister (HasClone i) = refl
 goes_word s v EndRegister (Registered i) = refl
 goes_word s v EndRegisterNotified (TookBack i) = refl
+goes_word s v Look (At Lent) = refl
 goes_word s v Look (Looking i) = refl
 goes_word s v LookFinished (At (Task n)) = refl
 goes_word s v StartPoll Starting = refl
@@ -159,130 +160,25 @@ goes_word s v EmptySlots (Emptier (Some i) answer) = refl
 goes_word s v EmptySlots (Emptier None answer) = refl
 goes_word s v _ _ = refl
 
--- what may be done while nobody polls may be done while somebody does
-goes_weaker : (limit : ℕ) (w : State) (slots : Slots) (b : Bool) (v : State) (a : Act) (p : Position) (o : Outcome) → goes (apart limit w slots false) v a p ≡ Some o → goes (apart limit w slots b) v a p ≡ Some o
-goes_weaker limit w slots b v GainReference (At Lent) o e = absurd (cc)
-goes_weaker limit w slots b v FindLimit (At Lent) o e = absurd (cc)
-goes_weaker limit w slots b v RefuseGain (At Lent) o e = absurd (cc)
-goes_weaker limit w slots b v WakeOver (At Lent) o e = absurd (cc)
-goes_weaker limit w slots b v WakeScheduled (At Lent) o e = absurd (cc)
-goes_weaker limit w slots b v WakeRunning (At Lent) o e = absurd (cc)
-goes_weaker limit w slots b v WakeIdle (At Lent) o e = absurd (cc)
-goes_weaker limit w slots b v GainReference (At Runnable) o e = e
-goes_weaker limit w slots b v FindLimit (At Runnable) o e = e
-goes_weaker limit w slots b v RefuseGain (At Runnable) o e = e
-goes_weaker limit w slots b v GainReference (At Waker) o e = e
-goes_weaker limit w slots b v FindLimit (At Waker) o e = e
-goes_weaker limit w slots b v RefuseGain (At Waker) o e = e
-goes_weaker limit w slots b v DropWaker (At Waker) o e = e
-goes_weaker limit w slots b v DropLastWaker (At Waker) o e = e
-goes_weaker limit w slots b v OrphanTask (At Waker) o e = e
-goes_weaker limit w slots b v CloseOrphan OrphanHolder o e = e
-goes_weaker limit w slots b v GiveUpReference (GivingUp (Some i) answer) o e = e
-goes_weaker limit w slots b v GiveUpReference (GivingUp None answer) o e = e
-goes_weaker limit w slots b v GiveUpLastReference (GivingUp hand answer) o e = e
-goes_weaker limit w slots b v WakeOver (At Waker) o e = e
-goes_weaker limit w slots b v WakeScheduled (At Waker) o e = e
-goes_weaker limit w slots b v WakeRunning (At Waker) o e = e
-goes_weaker limit w slots b v WakeIdle (At Waker) o e = e
-goes_weaker limit w slots b v DiscardOpen (At Runnable) o e = e
-goes_weaker limit w slots b v DiscardClosed (At Runnable) o e = e
-goes_weaker limit w slots b v TakeUpClosed (At Runnable) o e = e
-goes_weaker limit w slots b v StartRun (At Runnable) o e = e
-goes_weaker limit w slots b v CancelOver (At (Task n)) o e = e
-goes_weaker limit w slots b v CancelBusy (At (Task n)) o e = e
-goes_weaker limit w slots b v CancelIdle (At (Task n)) o e = e
-goes_weaker limit w slots b v ClaimOutput (At (Task n)) o e = e
-goes_weaker limit w slots b v GiveUpOutput (At (Task n)) o e = e
-goes_weaker limit w slots b v DetachOrphan (At (Task n)) o e = e
-goes_weaker limit w slots b v DetachLast (At (Task n)) o e = e
-goes_weaker limit w slots b v Detach (At (Task n)) o e = e
-goes_weaker limit w slots b v ClaimOutput (Claiming n) o e = e
-goes_weaker limit w slots b v DetachLast Detacher o e = e
-goes_weaker limit w slots b v Detach Detacher o e = e
-goes_weaker limit w slots b v Unschedule (FutureGone ClosedRun) o e = e
-goes_weaker limit w slots b v Unschedule (FutureGone DroppedRunnable) o e = e
-goes_weaker limit w slots b v Complete Stored o e = e
-goes_weaker limit w slots b v CompleteDetached Stored o e = e
-goes_weaker limit w slots b v EndClosed Cleared o e = e
-goes_weaker limit w slots b v Reschedule Pending o e = e
-goes_weaker limit w slots b v EndIdle Pending o e = e
-goes_weaker limit w slots b v EndOrphaned Pending o e = e
-goes_weaker limit w slots b v BeginNotify (Notifier OfRun) o e = e
-goes_weaker limit w slots b v MissNotify (Notifier OfRun) o e = e
-goes_weaker limit w slots b v EndNotify (Releaser None OfRun) o e = e
-goes_weaker limit w slots b v EndNotify (Releaser (Some i) OfRun) o e = e
-goes_weaker limit w slots b v TakeAwaiter (Taker OfRun) o e = e
-goes_weaker limit w slots b v WakeAwaiter (AwaiterInHand i OfRun) o e = e
-goes_weaker limit w slots b v BeginNotify (Notifier OfDrop) o e = e
-goes_weaker limit w slots b v MissNotify (Notifier OfDrop) o e = e
-goes_weaker limit w slots b v EndNotify (Releaser None OfDrop) o e = e
-goes_weaker limit w slots b v EndNotify (Releaser (Some i) OfDrop) o e = e
-goes_weaker limit w slots b v TakeAwaiter (Taker OfDrop) o e = e
-goes_weaker limit w slots b v WakeAwaiter (AwaiterInHand i OfDrop) o e = e
-goes_weaker limit w slots b v BeginNotify (Notifier (OfCancel n)) o e = e
-goes_weaker limit w slots b v MissNotify (Notifier (OfCancel n)) o e = e
-goes_weaker limit w slots b v EndNotify (Releaser None (OfCancel n)) o e = e
-goes_weaker limit w slots b v EndNotify (Releaser (Some i) (OfCancel n)) o e = e
-goes_weaker limit w slots b v TakeAwaiter (Taker (OfCancel n)) o e = e
-goes_weaker limit w slots b v WakeAwaiter (AwaiterInHand i (OfCancel n)) o e = e
-goes_weaker limit w slots b v BeginNotify (Notifier (OfPoll n)) o e = e
-goes_weaker limit w slots b v MissNotify (Notifier (OfPoll n)) o e = e
-goes_weaker limit w slots b v EndNotify (Releaser None (OfPoll n)) o e = e
-goes_weaker limit w slots b v EndNotify (Releaser (Some i) (OfPoll n)) o e = e
-goes_weaker limit w slots b v TakeAwaiter (Taker (OfPoll n)) o e = e
-goes_weaker limit w slots b v WakeAwaiter (AwaiterInHand i (OfPoll n)) o e = e
-goes_weaker limit w slots b v DropAwaiter (AwaiterInHand i (OfPoll n)) o e = e
-goes_weaker limit w slots b v BeginNotify (Notifier (OfClaim n)) o e = e
-goes_weaker limit w slots b v MissNotify (Notifier (OfClaim n)) o e = e
-goes_weaker limit w slots b v EndNotify (Releaser None (OfClaim n)) o e = e
-goes_weaker limit w slots b v EndNotify (Releaser (Some i) (OfClaim n)) o e = e
-goes_weaker limit w slots b v TakeAwaiter (Taker (OfClaim n)) o e = e
-goes_weaker limit w slots b v WakeAwaiter (AwaiterInHand i (OfClaim n)) o e = e
-goes_weaker limit w slots b v DropAwaiter (AwaiterInHand i (OfClaim n)) o e = e
-goes_weaker limit w slots b v WakeAwaiter (CloneInHand i) o e = e
-goes_weaker limit w slots b v FindNotify (HasClone i) o e = e
-goes_weaker limit w slots b v BeginRegister (HasClone i) o e = e
-goes_weaker limit w slots b v EndRegister (Registered i) o e = e
-goes_weaker limit w slots b v EndRegisterNotified (TookBack i) o e = e
-goes_weaker limit w slots b v Look (At (Task n)) o e = e
-goes_weaker limit w slots b v Look (Looking i) o e = e
-goes_weaker limit w slots b v LookFinished (At (Task n)) o e = e
-goes_weaker limit w slots b v StartPoll Starting o e = e
-goes_weaker limit w slots b v AnswerPending Polling o e = e
-goes_weaker limit w slots b v AnswerReady Polling o e = e
-goes_weaker limit w slots b v DropFuture Ready o e = e
-goes_weaker limit w slots b v DropFuture Pending o e = e
-goes_weaker limit w slots b v DropFuture (FutureInHand ClosedRun) o e = e
-goes_weaker limit w slots b v DropFuture (FutureInHand DroppedRunnable) o e = e
-goes_weaker limit w slots b v StoreOutput Unstored o e = e
-goes_weaker limit w slots b v DropOutput (OutputInHand notifies) o e = e
-goes_weaker limit w slots b v DropOutput OutputCloser o e = e
-goes_weaker limit w slots b v HandOutOutput (Claimer i) o e = e
-goes_weaker limit w slots b v CloneAwaiter (Registrar i) o e = e
-goes_weaker limit w slots b v RefuseClone (Registrar i) o e = e
-goes_weaker limit w slots b v StoreAwaiter (Storing i) o e = e
-goes_weaker limit w slots b v DropAwaiter (OldAwaiterInHand i old) o e = e
-goes_weaker limit w slots b v DropAwaiter (RefusedClone i) o e = e
-goes_weaker limit w slots b v TakeAwaiter (Registered i) o e = e
-goes_weaker limit w slots b v HandOver (At Runnable) o e = e
-goes_weaker limit w slots b v EndCall (Leaving answer Runnable) o e = e
-goes_weaker limit w slots b v EndCall (Leaving answer Waker) o e = e
-goes_weaker limit w slots b v EndCall (Leaving answer Lent) o e = e
-goes_weaker limit w slots b v EndCall (Leaving answer Ended) o e = e
-goes_weaker limit w slots b v EndCall (Leaving answer (Task n)) o e = e
-goes_weaker limit w slots b v EndCall (Answering i answer) o e = e
-goes_weaker limit w slots b v HandOver (Deliverer woken (ThenEnds answer)) o e = e
-goes_weaker limit w slots b v HandOver (Deliverer woken (ThenTask n)) o e = e
-goes_weaker limit w slots b v HandOver (Deliverer woken (ThenNotifies n)) o e = e
-goes_weaker limit w slots b v EmptySlots (Emptier (Some i) answer) o e = e
-goes_weaker limit w slots b v EmptySlots (Emptier None answer) o e = e
-goes_weaker limit w slots b v _ _ o e = e
+lent_is : (p : Position) → is_lent p ≡ true → p ≡ At Lent
+lent_is (At Lent) e = refl
+lent_is _ e = absurd (cc)
 
--- what is done where it is lent may be done by whoever polls
-goes_spot : (limit : ℕ) (w : State) (slots : Slots) (b : Bool) (v : State) (a : Act) (p : Position) (o : Outcome) → goes (apart limit w slots b) v a p ≡ Some o → goes (spot limit w slots) v a p ≡ Some o
-goes_spot limit w slots true v a p o e = e
-goes_spot limit w slots false v a p o e = goes_weaker limit w slots true v a p o e
+-- a lent waker leaves the same of a task that is known to have a handle
+goes_held : (limit : ℕ) (w : State) (slots : Slots) (v : State) (a : Act) (o : Outcome) → goes (spot limit w slots) v a (At Lent) ≡ Some o → goes (spot limit (held_word (At Lent) w) slots) v a (At Lent) ≡ Some o
+goes_held limit w slots v GainReference o e = when_so (is_held w) _ o e
+goes_held limit w slots v WakeOver o e = when_so (is_held w || not (is_open w)) _ o e
+goes_held limit w slots v WakeScheduled o e = when_so (is_held w || not (is_open w)) _ o e
+goes_held limit w slots v WakeRunning o e = when_so (is_held w || not (is_open w)) _ o e
+goes_held limit w slots v WakeIdle o e = when_so (is_held w || not (is_open w)) _ o e
+goes_held limit w slots v a o e = e
+
+goes_spot : (limit : ℕ) (w : State) (slots : Slots) (v : State) (a : Act) (p : Position) (o : Outcome) → goes (spot limit w slots) v a p ≡ Some o → goes (spot limit (held_word p w) slots) v a p ≡ Some o
+goes_spot limit w slots v a p o e = by (is_lent p) refl
+  where
+    by : (b : Bool) → is_lent p ≡ b → goes (spot limit (held_word p w) slots) v a p ≡ Some o
+    by true is = let at = lent_is p is in subst (λ (q : Position). goes (spot limit (held_word q w) slots) v a q ≡ Some o) (sym at) (goes_held limit w slots v a o (subst (λ (q : Position). goes (spot limit w slots) v a q ≡ Some o) at e))
+    by false is = subst (λ (b : Bool). goes (spot limit (record w { task = b || w.task }) slots) v a p ≡ Some o) (sym is) e
 
 -- what the rule allows is what the table says
 pub found_is : (g : Bool) (x : Option Outcome) (o : Outcome) → where_found g x ≡ Some o → (g ≡ true) × (x ≡ Some o)
@@ -294,10 +190,6 @@ found_so : (g : Bool) (x : Option Outcome) (o : Outcome) → g ≡ true → x �
 found_so g None o f e = absurd (cc)
 found_so true (Some x) o f e = e
 found_so false (Some x) o f e = absurd (cc)
-
-rule_weaker : (limit : ℕ) (w : State) (slots : Slots) (b : Bool) (a : Act) (p : Position) (o : Outcome) → rule (apart limit w slots false) a p ≡ Some o → rule (apart limit w slots b) a p ≡ Some o
-rule_weaker limit w slots b a p o e = let f = found_is (found limit a w) (goes (apart limit w slots false) (written a w) a p) o e in
-    found_so (found limit a w) (goes (apart limit w slots b) (written a w) a p) o f.0 (goes_weaker limit w slots b (written a w) a p o f.1)
 
 pub rule_word : (s : Scene) (a : Act) (p : Position) (o : Outcome) → rule s a p ≡ Some o → o.word ≡ written a s.word
 rule_word s a p o e = let f = found_is (found s.limit a s.word) (goes s (written a s.word) a p) o e in
@@ -323,9 +215,9 @@ joins : (x : Option Outcome) (f : Outcome → Option Outcome) (a b o : Outcome) 
 joins x f a b o e g h = ap (λ z. and_then z f) e ∙ (ap (then_leaves a) g ∙ h)
 
 -- a row that finds its word, and then the acts after it
-pub leads_found : (s : Scene) (a : Act) (p : Position) (more : List Act) (o x : Outcome) → found s.limit a s.word ≡ true → goes s (written a s.word) a p ≡ Some o → leads (apart s.limit o.word o.slots false) more o.next ≡ Some x
+pub leads_found : (s : Scene) (a : Act) (p : Position) (more : List Act) (o x : Outcome) → found s.limit a s.word ≡ true → goes s (written a s.word) a p ≡ Some o → leads (spot s.limit o.word o.slots) more o.next ≡ Some x
     → leads s (a ∷ more) p ≡ Some (record { word = x.word; slots = x.slots; next = x.next; born = o.born ++ x.born; told = x.told ++ o.told })
-leads_found s a p more o x f g h = joins (rule s a p) (λ o. leads (apart s.limit o.word o.slots false) more o.next) o x (record { word = x.word; slots = x.slots; next = x.next; born = o.born ++ x.born; told = x.told ++ o.told })
+leads_found s a p more o x f g h = joins (rule s a p) (λ o. leads (spot s.limit o.word o.slots) more o.next) o x (record { word = x.word; slots = x.slots; next = x.next; born = o.born ++ x.born; told = x.told ++ o.told })
     (found_so (found s.limit a s.word) (goes s (written a s.word) a p) o f g) h refl
 
 -- what a function of the word says that fits
@@ -336,18 +228,13 @@ row_if false v u e = absurd (cc)
 pub row_found : (limit : ℕ) (a : Act) (w v : State) → Some v ≡ row limit a w → (found limit a w ≡ true) × (v ≡ written a w)
 row_found limit a w v e = row_if (found limit a w) v (written a w) e
 
-leads_weaker : (limit : ℕ) (w : State) (slots : Slots) (b : Bool) (acts : List Act) (p : Position) (o : Outcome) → leads (apart limit w slots false) acts p ≡ Some o → leads (apart limit w slots b) acts p ≡ Some o
-leads_weaker limit w slots b [] p o e = e
-leads_weaker limit w slots b (a ∷ more) p o e = let j = joined (rule (apart limit w slots false) a p) (λ o. leads (apart limit o.word o.slots false) more o.next) o e in
-    joins (rule (apart limit w slots b) a p) (λ o. leads (apart limit o.word o.slots false) more o.next) j.first j.second o (rule_weaker limit w slots b a p j.first j.one) j.two j.is
-
 -- what the seat is told is what the machine does
-pub leads_leave : (limit : ℕ) (w : State) (slots : Slots) (b : Bool) (acts : List Act) (p : Position) (o : Outcome) → leads (apart limit w slots b) acts p ≡ Some o → leaves_by limit w slots acts p ≡ Some o
-leads_leave limit w slots b [] p o e = e
-leads_leave limit w slots b (a ∷ more) p o e = let s : Scene = apart limit w slots b in let j = joined (rule s a p) (λ o. leads (apart limit o.word o.slots false) more o.next) o e in
-    joins (goes (spot limit w slots) (written a w) a p) (λ o. leaves_by limit o.word o.slots more o.next) j.first j.second o
-    (goes_spot limit w slots b (written a w) a p j.first (found_is (found limit a w) (goes s (written a w) a p) j.first j.one).1)
-    (leads_leave limit j.first.word j.first.slots false more j.first.next j.second j.two) j.is
+pub leads_leave : (limit : ℕ) (w : State) (slots : Slots) (acts : List Act) (p : Position) (o : Outcome) → leads (spot limit w slots) acts p ≡ Some o → leaves_by limit w slots acts p ≡ Some o
+leads_leave limit w slots [] p o e = e
+leads_leave limit w slots (a ∷ more) p o e = let s : Scene = spot limit w slots in let j = joined (rule s a p) (λ o. leads (spot limit o.word o.slots) more o.next) o e in
+    joins (goes (spot limit (held_word p w) slots) (written a w) a p) (λ o. leaves_by limit o.word o.slots more o.next) j.first j.second o
+    (goes_spot limit w slots (written a w) a p j.first (found_is (found limit a w) (goes s (written a w) a p) j.first j.one).1)
+    (leads_leave limit j.first.word j.first.slots more j.first.next j.second j.two) j.is
 
 pub both : (a b : Bool) → a ≡ true → b ≡ true → (a && b) ≡ true
 both true b e f = f
@@ -356,9 +243,9 @@ both false b e f = e
 -- acts that the machine allows find the words that their rows ask for
 pub leads_fit : (s : Scene) (acts : List Act) (p : Position) (o : Outcome) → leads s acts p ≡ Some o → all_fit s.limit s.word acts ≡ true
 leads_fit s [] p o e = refl
-leads_fit s (a ∷ more) p o e = let j = joined (rule s a p) (λ o. leads (apart s.limit o.word o.slots false) more o.next) o e in
+leads_fit s (a ∷ more) p o e = let j = joined (rule s a p) (λ o. leads (spot s.limit o.word o.slots) more o.next) o e in
     both (found s.limit a s.word) (all_fit s.limit (written a s.word) more) (found_is (found s.limit a s.word) (goes s (written a s.word) a p) j.first j.one).0
-    (subst (λ (w : State). all_fit s.limit w more ≡ true) (rule_word s a p j.first j.one) (leads_fit (apart s.limit j.first.word j.first.slots false) more j.first.next j.second j.two))
+    (subst (λ (w : State). all_fit s.limit w more ≡ true) (rule_word s a p j.first j.one) (leads_fit (spot s.limit j.first.word j.first.slots) more j.first.next j.second j.two))
 
 pub count_append : (f : Event → Bool) (s t : List Event) → count f (s ++ t) ≡ count f s + count f t
 count_append f [] t = omega arith
@@ -403,11 +290,11 @@ follows limit views seat l [] p ds us log m o t lt e = subst (λ (x : Option Out
   counts = λ f. omega arith;
   emptied = omega arith;
 })
-follows limit views seat l (a ∷ more) p ds us log m o t lt e = let j = joined (rule (scene m) a p) (λ o. leads (apart m.limit o.word o.slots false) more o.next) o e in
+follows limit views seat l (a ∷ more) p ds us log m o t lt e = let j = joined (rule (scene m) a p) (λ o. leads (spot m.limit o.word o.slots) more o.next) o e in
     let o1 : Outcome = j.first in let o2 : Outcome = j.second in
     let x = tells limit views seat (view l (member p ds ∷ us)) 0 (member p ds) a o1 log m t lt refl j.one in
     let m1 : Machine = next_machine m x.0 p o1 in
-    let rec = follows limit views seat l more o1.next (deed a (found_by a m.word) ∷ ds) (us ++ map fresh o1.born) (x.2 ∷ log) m1 o2 x.3 lt (leads_weaker m.limit o1.word o1.slots (scene m1).polling more o1.next o2 j.two) in
+    let rec = follows limit views seat l more o1.next (deed a (found_by a m.word) ∷ ds) (us ++ map fresh o1.born) (x.2 ∷ log) m1 o2 x.3 lt j.two in
     subst (λ (y : Option Outcome). FollowedBy limit views seat l p ds us (a ∷ more) m y) j.is (record {
       machine = rec.machine;
       log = rec.log;

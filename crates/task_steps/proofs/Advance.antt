@@ -79,11 +79,12 @@ module _ (F T A : Type 0) (limit : ℕ) where
   abbrev pub Result : B → ℕ → M → ℕ → (M → Type 0) → Type 0
   Result s id me x then = (w : View) × (move : Move (Slot F T A)) × Valid s.homes me.1 move × Rule (stepped s 0 x id me.1 w move) × then (w, carried_after me.1 move)
 
-  -- the places after a step: what the machine says of them
-  pub record Places (m : Machine) (p : Position) (o : Outcome) (s : B) (l : List (ℕ × Slot F T A)) (q : Machine) : Type 0 where
+  -- the places after a step: what the machine says of them, whether the future was put in or not
+  pub record Places (b : Bool) (m : Machine) (p : Position) (o : Outcome) (s : B) (l : List (ℕ × Slot F T A)) (q : Machine) : Type 0 where
     pub move : Move (Slot F T A)
     pub valid : Valid s.homes l move
-    pub housed : Housed q (homes_after s.homes l move)
+    pub housed : Housed b q (homes_after s.homes l move)
+    pub still : has_work o.next ≡ has_work p → get_elem? (homes_after s.homes l move) 0 ≡ get_elem? s.homes 0
     pub carried : Carried p o.next l (carried_after l move)
 
   -- the machine that follows, as far as the places are concerned
@@ -97,6 +98,9 @@ module _ (F T A : Type 0) (limit : ℕ) where
     pub one_worker : how_many has_work q.parties ≤ 1
     pub one_owner : how_many owns_awaiter q.parties ≤ 1
 
+  never : true ≡ false → ⊥
+  never e = cc
+
   bit_is : (a b : Bool) → a ≡ b → bit a ≡ bit b
   bit_is a b e = ap bit e
 
@@ -105,20 +109,20 @@ module _ (F T A : Type 0) (limit : ℕ) where
   SameHomes homes homes' = (get_elem? homes' 0 ≡ get_elem? homes 0) × (get_elem? homes' 1 ≡ get_elem? homes 1)
 
   -- the work stays where it is
-  pub same_work : (m : Machine) (p : Position) (o : Outcome) (q : Machine) (homes homes' : List (maybe.Option (Slot F T A))) → After m p o q → Housed m homes → has_work o.next ≡ has_work p → (has_work p ≡ true) ⊎ SameWork m o
-      → SameHomes homes homes' → how_many has_work q.parties ≡ 0 → AtHome homes' 0 (λ y. q.slots.future ≡ true → IsFuture y) × AtHome homes' 1 (λ z. q.slots.output ≡ true → IsOutput z)
-  same_work m p o q homes homes' a h e kept at nobody = ⊎_elim
+  pub same_work : (b : Bool) (m : Machine) (p : Position) (o : Outcome) (q : Machine) (homes homes' : List (maybe.Option (Slot F T A))) → After m p o q → Housed b m homes → has_work o.next ≡ has_work p → (has_work p ≡ true) ⊎ SameWork m o
+      → SameHomes homes homes' → how_many has_work q.parties ≡ 0 → (b ≡ true → AtHome homes' 0 (λ y. q.slots.future ≡ true → IsFuture y)) × AtHome homes' 1 (λ z. q.slots.output ≡ true → IsOutput z)
+  same_work b m p o q homes homes' a h e kept at nobody = ⊎_elim
       (λ (z : has_work p ≡ true). absurd (let x = a.works in let y = a.here in let b = bit_is (has_work o.next) (has_work p) e in let c : bit (has_work p) ≡ 1 = ap bit z in omega arith))
       (λ (z : SameWork m o). let before : how_many has_work m.parties ≡ 0 = (let x = a.works in let b = bit_is (has_work o.next) (has_work p) e in omega arith) in
-      let y = h.future before in let x = h.output before in (
-        (y.0, at.0 ∙ y.1, λ f. y.2 (sym z.0 ∙ (ap (λ x. x.future) (sym a.slots_is) ∙ f))),
+      let x = h.output before in (
+        (λ ready. let y = h.future ready before in (y.0, at.0 ∙ y.1, λ f. y.2 (sym z.0 ∙ (ap (λ x. x.future) (sym a.slots_is) ∙ f)))),
         (x.0, at.1 ∙ x.1, λ f. x.2 (sym z.1 ∙ (ap (λ x. x.output) (sym a.slots_is) ∙ f))),
       ))
       kept
 
-  pub same_awaiter : (m : Machine) (p : Position) (o : Outcome) (q : Machine) (homes homes' : List (maybe.Option (Slot F T A))) → After m p o q → Housed m homes → owns_awaiter o.next ≡ owns_awaiter p → (owns_awaiter p ≡ true) ⊎ SameAwaiter m o
+  pub same_awaiter : (b : Bool) (m : Machine) (p : Position) (o : Outcome) (q : Machine) (homes homes' : List (maybe.Option (Slot F T A))) → After m p o q → Housed b m homes → owns_awaiter o.next ≡ owns_awaiter p → (owns_awaiter p ≡ true) ⊎ SameAwaiter m o
       → get_elem? homes' 2 ≡ get_elem? homes 2 → how_many owns_awaiter q.parties ≡ 0 → count is_emptying q.trace ≡ 0 → AtHome homes' 2 (Waits q.slots.awaiter)
-  same_awaiter m p o q homes homes' a h e kept at nobody left = ⊎_elim
+  same_awaiter b m p o q homes homes' a h e kept at nobody left = ⊎_elim
       (λ (z : owns_awaiter p ≡ true). absurd (let x = a.owners in let y = a.here_too in let b = bit_is (owns_awaiter o.next) (owns_awaiter p) e in let c : bit (owns_awaiter p) ≡ 1 = ap bit z in omega arith))
       (λ (z : SameAwaiter m o). let before : how_many owns_awaiter m.parties ≡ 0 = (let x = a.owners in let b = bit_is (owns_awaiter o.next) (owns_awaiter p) e in omega arith) in
       let g = h.awaiter before (let x = a.emptied in omega arith) in
@@ -179,64 +183,71 @@ module _ (F T A : Type 0) (limit : ℕ) where
       ))
       has
 
-  pub places : (m : Machine) (p : Position) (o : Outcome) (s : B) (l : List (ℕ × Slot F T A)) (q : Machine) → After m p o q → Housed m s.homes → length s.homes ≡ 3 → Placing m p o l → Places m p o s l q
-  places m p o s l q a h three (stays e f w z) = record {
+  pub places : (b : Bool) (m : Machine) (p : Position) (o : Outcome) (s : B) (l : List (ℕ × Slot F T A)) (q : Machine) → After m p o q → Housed b m s.homes → (has_work p ≡ false → has_work o.next ≡ true → b ≡ true) → length s.homes ≡ 3
+      → Placing m p o l → Places b m p o s l q
+  places b m p o s l q a h ready three (stays e f w z) = record {
     move = keeps;
     valid = tt;
-    housed = record { future = λ n. (same_work m p o q s.homes s.homes a h e w (refl, refl) n).0; output = λ n. (same_work m p o q s.homes s.homes a h e w (refl, refl) n).1; awaiter = λ n. same_awaiter m p o q s.homes s.homes a h f z refl n };
+    housed = record { future = λ f n. (same_work b m p o q s.homes s.homes a h e w (refl, refl) n).0 f; output = λ n. (same_work b m p o q s.homes s.homes a h e w (refl, refl) n).1; awaiter = λ n. same_awaiter b m p o q s.homes s.homes a h f z refl n };
+    still = λ _. refl;
     carried = carried_as p o.next l l (has_work p) (has_work p) (owns_awaiter p) (owns_awaiter p) refl e refl f (carries_same (has_work p) (owns_awaiter p) o.next l);
   }
-  places m p o s l q a h three (takes_future e f g w there is) = let busy = busy_work m p o q a e f in let free : how_many has_work m.parties ≡ 0 = (let n = a.one_worker in omega arith) in
-      let y = h.future free in let z = h.output free in record {
+  places b m p o s l q a h ready three (takes_future e f g w there is) = let busy = busy_work m p o q a e f in let free : how_many has_work m.parties ≡ 0 = (let n = a.one_worker in omega arith) in
+      let y = h.future (ready e f) free in let z = h.output free in record {
         move = chain (takes 1 z.0) (takes 0 y.0);
         valid = (z.1, lists.set_else s.homes 1 0 none (λ z. omega arith) ∙ y.1);
         housed = record {
-          future = λ n. absurd (omega arith);
+          future = λ g n. absurd (omega arith);
           output = λ n. absurd (omega arith);
-          awaiter = λ n. same_awaiter m p o q s.homes (set (set s.homes 1 none) 0 none) a h g w (set_both_else s.homes 1 0 2 none none (λ z. omega arith) (λ z. omega arith)) n;
+          awaiter = λ n. same_awaiter b m p o q s.homes (set (set s.homes 1 none) 0 none) a h g w (set_both_else s.homes 1 0 2 none none (λ z. omega arith) (λ z. omega arith)) n;
         };
+        still = λ z. absurd (never (sym f ∙ z ∙ e));
         carried = carried_as p o.next l (future_first y.0 z.0 l) false true (owns_awaiter p) (owns_awaiter p) e f refl g (is (future_first y.0 z.0 l) (y.0, z.0, y.2 there, refl));
       }
-  places m p o s l q a h three (takes_output e f g w there is) = let busy = busy_work m p o q a e f in let free : how_many has_work m.parties ≡ 0 = (let n = a.one_worker in omega arith) in
-      let y = h.future free in let z = h.output free in record {
+  places b m p o s l q a h ready three (takes_output e f g w there is) = let busy = busy_work m p o q a e f in let free : how_many has_work m.parties ≡ 0 = (let n = a.one_worker in omega arith) in
+      let y = h.future (ready e f) free in let z = h.output free in record {
         move = chain (takes 0 y.0) (takes 1 z.0);
         valid = (y.1, lists.set_else s.homes 0 1 none (λ z. omega arith) ∙ z.1);
         housed = record {
-          future = λ n. absurd (omega arith);
+          future = λ g n. absurd (omega arith);
           output = λ n. absurd (omega arith);
-          awaiter = λ n. same_awaiter m p o q s.homes (set (set s.homes 0 none) 1 none) a h g w (set_both_else s.homes 0 1 2 none none (λ z. omega arith) (λ z. omega arith)) n;
+          awaiter = λ n. same_awaiter b m p o q s.homes (set (set s.homes 0 none) 1 none) a h g w (set_both_else s.homes 0 1 2 none none (λ z. omega arith) (λ z. omega arith)) n;
         };
+        still = λ z. absurd (never (sym f ∙ z ∙ e));
         carried = carried_as p o.next l (output_first y.0 z.0 l) false true (owns_awaiter p) (owns_awaiter p) e f refl g (is (output_first y.0 z.0 l) (y.0, z.0, z.2 there, refl));
       }
-  places m p o s l q a h three (gives_work y z e f g w has future output) = let home = gives_both s y z l three has in record {
+  places b m p o s l q a h ready three (gives_work y z e f g w has future output) = let home = gives_both s y z l three has in record {
     move = chain gives gives;
     valid = (tt, tt);
     housed = record {
-      future = λ n. (y, home.0, λ b. future (ap (λ x. x.future) (sym a.slots_is) ∙ b));
+      future = λ f n. (y, home.0, λ b. future (ap (λ x. x.future) (sym a.slots_is) ∙ b));
       output = λ n. (z, home.1, λ b. output (ap (λ x. x.output) (sym a.slots_is) ∙ b));
-      awaiter = λ n. same_awaiter m p o q s.homes (homes_after s.homes l (chain gives gives)) a h g w home.2 n;
+      awaiter = λ n. same_awaiter b m p o q s.homes (homes_after s.homes l (chain gives gives)) a h g w home.2 n;
     };
+    still = λ z. absurd (never (sym e ∙ sym z ∙ f));
     carried = carried_as p o.next l (rest (rest l)) true false (owns_awaiter p) (owns_awaiter p) e f refl g refl;
   }
-  places m p o s l q a h three (takes_awaiter e f g w left is) = let busy = busy_awaiter m p o q a e f in let y = h.awaiter (let n = a.one_owner in omega arith) left in
+  places b m p o s l q a h ready three (takes_awaiter e f g w left is) = let busy = busy_awaiter m p o q a e f in let y = h.awaiter (let n = a.one_owner in omega arith) left in
       let same : SameHomes s.homes (set s.homes 2 none) = (lists.set_else s.homes 2 0 none (λ z. omega arith), lists.set_else s.homes 2 1 none (λ z. omega arith)) in record {
         move = takes 2 y.0;
         valid = y.1;
         housed = record {
-          future = λ n. (same_work m p o q s.homes (set s.homes 2 none) a h g w same n).0;
-          output = λ n. (same_work m p o q s.homes (set s.homes 2 none) a h g w same n).1;
+          future = λ f n. (same_work b m p o q s.homes (set s.homes 2 none) a h g w same n).0 f;
+          output = λ n. (same_work b m p o q s.homes (set s.homes 2 none) a h g w same n).1;
           awaiter = λ n. absurd (omega arith);
         };
+        still = λ _. lists.set_else s.homes 2 0 none (λ z. omega arith);
         carried = carried_as p o.next l ((2, y.0) ∷ l) (has_work p) (has_work p) false true refl g e f (carries_awaiter (has_work p) o.next y.0 l (is y.0 y.2));
       }
-  places m p o s l q a h three (gives_awaiter y e f g w has waits) =
+  places b m p o s l q a h ready three (gives_awaiter y e f g w has waits) =
       let same : SameHomes s.homes (homes_after s.homes l gives) = (put_else s l 2 0 y has (λ z. omega arith), put_else s l 2 1 y has (λ z. omega arith)) in record {
         move = gives;
         valid = tt;
         housed = record {
-          future = λ n. (same_work m p o q s.homes (homes_after s.homes l gives) a h g w same n).0;
-          output = λ n. (same_work m p o q s.homes (homes_after s.homes l gives) a h g w same n).1;
+          future = λ f n. (same_work b m p o q s.homes (homes_after s.homes l gives) a h g w same n).0 f;
+          output = λ n. (same_work b m p o q s.homes (homes_after s.homes l gives) a h g w same n).1;
           awaiter = λ n left. (y, put_at s l 2 y has (omega arith), subst (λ x. Waits x y) (ap (λ x. x.awaiter) (sym a.slots_is)) (waits (let x = a.emptied in omega arith)));
         };
+        still = λ _. put_else s l 2 0 y has (λ z. omega arith);
         carried = carried_as p o.next l (rest l) (has_work p) (has_work p) true false refl g e f (carries_back (has_work p) o.next l);
       }

@@ -1,27 +1,31 @@
 -- The steps of the table that a party may make: what each owes is one obligation on the machine that it finds.
-use Rattle.std.proofs.Common.{◌≡◌, ℕ, zero, suc, ◌<◌, ◌≢◌, eqb, true, Some, List, [], ◌∷◌, ◌++◌, length, map, get_or, set, sym, ap, ◌∙◌, subst, inr, ⊎_elim, arith, length-set, get_or-set_same}
-use mathlib.Core.Option.{some, some-injective, some-ne-none}
+use Rattle.std.proofs.Common.{◌≡◌, ℕ, suc, ◌<◌, ◌≢◌, Bool, eqb, true, false, Some, List, [], ◌∷◌, ◌++◌, length, map, get_or, set, sym, ap, ◌∙◌, subst, inl, inr, refl, ⊎_elim, arith, length-set, get_or-set_same}
+use mathlib.Core.Option.{some, some-injective}
+use mathlib.Core.Option as maybe
 use lib.ListN.{get_elem?}
 use prog.Atomic.{either}
-use Rattle.atomic_table.specs.Table.{State as Board, Me, carried_after, Allows}
+use Rattle.atomic_table.specs.Table.{State as Board, Me, homes_after, carried_after, Allows}
 use Rattle.atomic_table.proofs.Lists as lists
 use Rattle.task_core.specs.Word.{State, state_of, number_of}
 use Rattle.task_laws.specs.declared.positions.Position.{Position}
+use Rattle.task_laws.specs.declared.positions.Position.TheVariants.{At}
+use Rattle.task_laws.specs.declared.positions.Rest.TheVariants.{Runnable}
 use Rattle.task_core.specs.declared.moves.Act.{Act}
 use Rattle.task_laws.specs.Table.{Outcome}
-use Rattle.task_laws.specs.Machine.{Machine, scene}
+use Rattle.task_laws.specs.Machine.{Machine, scene, how_many}
 use Rattle.task_laws.specs.Theorem.{owns_awaiter}
 use Rattle.task_core.proofs.Bits.{state_of_number_of}
 use Rattle.task_laws.proofs.Theorem.{laws_of}
 use Rattle.task_steps.specs.declared.table.Slot.{Slot}
 use Rattle.task_steps.specs.declared.table.Deed.{Deed}
 use Rattle.task_steps.specs.declared.table.Member.{Member}
+use Rattle.task_steps.specs.declared.table.Stage.{Stage}
 use Rattle.task_steps.specs.declared.table.Stage.TheVariants.{Laid, Filling, Spawned}
 use Rattle.task_steps.specs.declared.table.View.{View}
-use Rattle.task_steps.specs.Rule.{member, view, fresh, Told, has_work, AtHome, IsEmpty, Spawning, Running, Ruled}
+use Rattle.task_steps.specs.Rule.{member, view, fresh, opening_at, Entry, Told, has_work, AtHome, IsEmpty, Unfilled, Running, Ruled}
 use Rattle.task_steps.specs.Steps.{head_of, leaves_by, all_fit, noted, acted, next_of, born_of, Carried, Makes}
 use Rattle.task_steps.proofs.Told.{inside}
-use Rattle.task_steps.proofs.Facts.{law, many_at, one_work}
+use Rattle.task_steps.proofs.Facts.{law, is_clear, many_at, queued, one_work}
 use Rattle.task_steps.proofs.Acts.{leads_leave, leads_fit, follows}
 use Rattle.task_steps.proofs.Seen.{over_stays, closed_stays, ended_stays}
 use Rattle.task_steps.proofs.Advance.{Steps, Finds, Result, After, places}
@@ -39,17 +43,27 @@ module _ (F T A : Type 0) (limit : ℕ) where
   abbrev now : B → ℕ
   now s = get_or s.words 0 0
 
-  -- a seat with a party is there only when the task was spawned
-  pub spawned : (s : B) (id : ℕ) (v : View) (l : ℕ) (ms : List Member) → Rule s → get_elem? s.views id ≡ some v → v ≡ view l ms → Running {F = F} {T = T} {A = A} limit s
-  spawned s id v l ms r at is = ⊎_elim (λ (z : Spawning limit s). absurd (unspawned z (one (record { stage = z.stage; limit = limit; members = [] }) v id (ap (λ vs. get_elem? vs id) (sym z.views) ∙ at)))) (λ z. z) r.phase
-    where
-      one : (w v : View) (n : ℕ) → get_elem? (w ∷ []) n ≡ some v → w ≡ v
-      one w v zero e = some-injective w v e
-      one w v (suc n) e = absurd (some-ne-none v (sym e))
+  -- the seat of a task that was spawned is not the opening seat of one that was not
+  pub not_first : (s : B) (r : Running {F = F} {T = T} {A = A} limit s) (id : ℕ) (v : View) (l : ℕ) (ms : List Member) → get_elem? s.views id ≡ some v → v ≡ view l ms → r.filled ≡ false → id ≢ 0
+  not_first s r id v l ms at is early z = let u = r.unfilled early in
+      let stage : u.stage ≡ Spawned = ap (λ (w : View). w.stage) (some-injective (opening_at u.stage limit) v (sym u.first ∙ (ap (λ (k : ℕ). get_elem? s.views k) (sym z) ∙ at)) ∙ is) in
+      ⊎_elim (λ (x : (u.stage ≡ Laid) × AtHome s.homes 0 IsEmpty). let y = x.0 in cc) (λ (x : u.stage ≡ Filling). cc) u.place
 
-      unspawned : (z : Spawning {F = F} {T = T} {A = A} limit s) → record { stage = z.stage; limit = limit; members = [] } ≡ v → ⊥
-      unspawned z e = let stage : z.stage ≡ Spawned = ap (λ (w : View). w.stage) (e ∙ is) in
-          ⊎_elim (λ (x : (z.stage ≡ Laid) × AtHome s.homes 0 IsEmpty). let y = x.0 in cc) (λ (x : z.stage ≡ Filling). cc) z.unspawned
+  -- .. so the opening seat stays as it was, and no place of it is touched
+  pub still_unfilled : (s : B) (r : Running {F = F} {T = T} {A = A} limit s) (words : List ℕ) (homes : List (maybe.Option (Slot F T A))) (views : List View) → (r.filled ≡ false → get_elem? views 0 ≡ get_elem? s.views 0)
+      → (r.filled ≡ false → get_elem? homes 0 ≡ get_elem? s.homes 0) → r.filled ≡ false → Unfilled {F = F} {T = T} {A = A} limit record { words = words; homes = homes; views = views }
+  still_unfilled s r words homes views same here early = let u = r.unfilled early in record {
+    stage = u.stage;
+    first = same early ∙ u.first;
+    place = ⊎_elim (λ (x : (u.stage ≡ Laid) × AtHome s.homes 0 IsEmpty). inl (x.0, (x.1.0, here early ∙ x.1.1, x.1.2))) (λ (x : u.stage ≡ Filling). inr x) u.place;
+  }
+
+  pub set_apart : (views : List View) (id : ℕ) (w : View) → id ≢ 0 → get_elem? (set views id w) 0 ≡ get_elem? views 0
+  set_apart views id w ne = lists.set_else views id 0 w (λ z. ne (sym z))
+
+  -- until then its Runnable waits, so nobody has the places of future and output
+  pub no_work : (views : List View) (log : List Entry) (m : Machine) (stage : Stage) → Told limit views log m → get_elem? views 0 ≡ some (opening_at stage limit) → how_many has_work m.parties ≡ 0
+  no_work views log m stage t first = let k = t.each 0 0 (opening_at stage limit) (fresh (At Runnable)) first refl in (queued m k.0 (law limit log m t.reaches) k.1.at).home
 
   -- what the first party of a seat finds
   pub finds : (s : B) (c : limit < 36028797018963968) (r : Running limit s) (id : ℕ) (v : View) (l : ℕ) (p : Position) (ds : List Deed) (us : List Member) → get_elem? s.views id ≡ some v → v ≡ view l (member p ds ∷ us) → Finds limit p ds us r.machine
@@ -83,26 +97,32 @@ module _ (F T A : Type 0) (limit : ℕ) where
         one_worker = one_work q i;
         one_owner = (laws_of q i).awaiter;
       } in
-      let z = places F T A limit m p o s me.1 q a r.housed three x.placing in
       let w : View = view l (member o.next (noted m.word acts ds) ∷ (us ++ map fresh o.born)) in
+      let first : r.filled ≡ false → get_elem? (set s.views id w) 0 ≡ get_elem? s.views 0 = (λ early. set_apart s.views id w (not_first s r id me.0 l (member p ds ∷ us) at is early)) in
+      let idle : r.filled ≡ false → (has_work p ≡ false) × (has_work o.next ≡ false) = (λ early. let u = r.unfilled early in
+      let before = no_work s.views r.log m u.stage r.told u.first in let after = no_work (set s.views id w) f.log q u.stage f.told (first early ∙ u.first) in
+      (is_clear (has_work p) (let h = a.here in omega arith), is_clear (has_work o.next) (let h = a.works in omega arith))) in
+      let z = places F T A limit r.filled m p o s me.1 q a r.housed (ready r.filled (has_work o.next) (λ early. (idle early).1)) three x.placing in
       let limited = r.told.limited id 0 me.0 (member p ds) at (ap (λ (y : View). get_elem? y.members 0) is) in
       let same : l ≡ m.limit = sym (ap (λ (y : View). y.limit) is) ∙ (limited ∙ sym r.limited) in
-      let left : leaves_by l m.word m.slots acts p ≡ Some o = subst (λ (n : ℕ). leaves_by n m.word m.slots acts p ≡ Some o) (sym same) (leads_leave m.limit m.word m.slots (scene m).polling acts p o x.leads_to) in (
+      let left : leaves_by l m.word m.slots acts p ≡ Some o = subst (λ (n : ℕ). leaves_by n m.word m.slots acts p ≡ Some o) (sym same) (leads_leave m.limit m.word m.slots acts p o x.leads_to) in (
         w,
         z.move,
         z.valid,
         record {
           capped = c;
-          phase = inr (record {
+          running = record {
             log = f.log;
             machine = q;
+            filled = r.filled;
             limited = f.limit_is ∙ r.limited;
             told = f.told;
             wide = length-set s.words 0 new ∙ r.wide;
             word_is = get_or-set_same s.words 0 new 0 (let h = r.wide in omega arith) ∙ (x.writes ∙ ap number_of (sym f.word_is));
             housed = z.housed;
-            staged = λ j y e. ⊎_elim (λ (h : (j ≡ id) × (w ≡ y)). ap (λ (u : View). u.stage) (sym h.1)) (λ (h : (j ≢ id) × (get_elem? s.views j ≡ some y)). r.staged j y h.1) (lists.at_set s.views id j w y e);
-          });
+            unfilled = still_unfilled s r (set s.words 0 new) (homes_after s.homes me.1 z.move) (set s.views id w) first (λ early. z.still ((idle early).1 ∙ sym (idle early).0));
+            staged = λ j y ne e. ⊎_elim (λ (h : (j ≡ id) × (w ≡ y)). ap (λ (u : View). u.stage) (sym h.1)) (λ (h : (j ≢ id) × (get_elem? s.views j ≡ some y)). r.staged j y ne h.1) (lists.at_set s.views id j w y e);
+          };
         },
         record {
           slots = m.slots;
@@ -112,6 +132,11 @@ module _ (F T A : Type 0) (limit : ℕ) where
         },
       )
 
+    where
+      ready : (b w : Bool) → (b ≡ false → w ≡ false) → has_work p ≡ false → w ≡ true → b ≡ true
+      ready true w clear e f = refl
+      ready false w clear e f = absurd (let g = clear refl in cc)
+
   -- what the party at p owes that makes these acts by the word that it finds, and writes this number
   abbrev pub Owes : (State → List Act) → (ℕ → ℕ) → Position → List Deed → List Member → List (ℕ × Slot F T A) → Type 0
   Owes acts write p ds us held = (m : Machine) → Finds limit p ds us m → (n : ℕ) → n ≡ number_of m.word → n < 18446744073709551616 → Steps m p (acts m.word) (write n) held
@@ -120,7 +145,7 @@ module _ (F T A : Type 0) (limit : ℕ) where
       → get_elem? s.views id ≡ some me.0 → me.0 ≡ view l (member p ds ∷ us) → length s.homes ≡ 3 → now s < 18446744073709551616
       → ((m : Machine) → Finds limit p ds us m → now s ≡ number_of m.word → Steps m p (acts m.word) (write (now s)) me.1)
       → Result F T A limit s id me (write (now s)) (Makes (acts (state_of (now s))) (state_of (now s)) me)
-  result s id me l p ds us acts write r at is three fits owes = let run = spawned s id me.0 l (member p ds ∷ us) r at is in let m : Machine = run.machine in
+  result s id me l p ds us acts write r at is three fits owes = let run = r.running in let m : Machine = run.machine in
       let same : m.word ≡ state_of (now s) = sym (ap state_of run.word_is ∙ state_of_number_of m.word) in
       subst (λ (w : State). Result F T A limit s id me (write (now s)) (Makes (acts w) w me)) same
       (advance s r.capped run id me l p ds us (acts m.word) (write (now s)) at is three (owes m (finds s r.capped run id me.0 l p ds us at is) run.word_is))

@@ -6,11 +6,11 @@ use mathlib.Core.Option.{some, some-injective, some-ne-none}
 use lib.ListN.{get_elem?}
 use Rattle.task_core.specs.Word.{State, bit, number_of}
 use Rattle.task_laws.specs.declared.positions.Position.{Position}
-use Rattle.task_laws.specs.declared.positions.Position.TheVariants.{At, Polling}
+use Rattle.task_laws.specs.declared.positions.Position.TheVariants.{At}
 use Rattle.task_laws.specs.declared.positions.Rest.TheVariants.{Runnable}
 use Rattle.task_laws.specs.Table.{Slots, Outcome, where_found, when}
 use Rattle.task_laws.specs.Event.{Event}
-use Rattle.task_laws.specs.Machine.{Machine, how_many, polls_future, scene}
+use Rattle.task_laws.specs.Machine.{Machine, how_many}
 use Rattle.task_laws.proofs.Census.{Census, weigh, census, runs, closers}
 use Rattle.task_laws.proofs.Invariant.{Holds}
 use Rattle.task_laws.proofs.Runs.{Invariant, Stays, always}
@@ -81,17 +81,6 @@ queued_at [] k e = absurd (some-ne-none (At Runnable) (sym e))
 queued_at (x ∷ xs) zero e = let is : (weigh x).queued ≡ 1 = ap (λ y. (weigh y).queued) (some-injective x (At Runnable) e) in omega arith
 queued_at (x ∷ xs) (suc k) e = let h = queued_at xs k e in omega arith
 
-pub polling_at : (ps : List Position) (k : ℕ) → get_elem? ps k ≡ some Polling → 1 ≤ (census ps).polling
-polling_at [] k e = absurd (some-ne-none Polling (sym e))
-polling_at (x ∷ xs) zero e = let is : (weigh x).polling ≡ 1 = ap (λ y. (weigh y).polling) (some-injective x Polling e) in omega arith
-polling_at (x ∷ xs) (suc k) e = let h = polling_at xs k e in omega arith
-
-pub is_polling : (m : Machine) (k : ℕ) → get_elem? m.parties k ≡ some Polling → (scene m).polling ≡ true
-is_polling m k at = positive (how_many polls_future m.parties) (many_at polls_future m.parties k Polling at)
-  where
-    positive : (n : ℕ) → 1 ≤ n → nat_lt 0 n ≡ true
-    positive n h = grind (arith, nat_tests)
-
 pub low : (m : Machine) → Invariant m → m.word.references ≤ m.limit + 1
 low m i = let h = i.holds in let a = h.references in let b = h.one in let c = h.few in omega arith
 
@@ -109,12 +98,6 @@ queued_facts limit w slots t c h q = (grind arith, grind arith, grind arith, gri
 pub queued : (m : Machine) (k : ℕ) → Invariant m → get_elem? m.parties k ≡ some (At Runnable) → Queued m
 queued m k i at = let f = queued_facts m.limit m.word m.slots m.trace (census m.parties) i.holds (queued_at m.parties k at) in
     record { scheduled = f.0; running = f.1; future = f.2; home = omega (arith, works m.parties, f.3) }
-
-polling_facts : (limit : ℕ) (w : State) (slots : Slots) (t : List Event) (c : Census) → Holds limit w slots t c → 1 ≤ c.polling → (w.running ≡ true) × (1 ≤ w.references) × (slots.output ≡ false) × (slots.future ≡ true)
-polling_facts limit w slots t c h q = (grind arith, grind arith, grind arith, grind arith)
-
-pub polling : (m : Machine) (k : ℕ) → Invariant m → get_elem? m.parties k ≡ some Polling → (m.word.running ≡ true) × (1 ≤ m.word.references) × (m.slots.output ≡ false) × (m.slots.future ≡ true)
-polling m k i at = polling_facts m.limit m.word m.slots m.trace (census m.parties) i.holds (polling_at m.parties k at)
 
 -- what a row finds
 pub allowed : (g h : Bool) (o : Outcome) → g ≡ true → h ≡ true → where_found g (when h o) ≡ Some o

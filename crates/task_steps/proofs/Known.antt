@@ -19,7 +19,7 @@ use Rattle.task_steps.specs.Knows.{Knows}
 use Rattle.task_steps.proofs.Facts.{law, low}
 use Rattle.task_steps.proofs.Seen.{over_stays, closed_stays, ended_stays}
 use Rattle.task_steps.proofs.Advance.{Finds, Steps}
-use Rattle.task_steps.proofs.Allowed.{Owes, spawned, steps_always, steps_or_misses}
+use Rattle.task_steps.proofs.Allowed.{Owes, steps_always, steps_or_misses}
 
 module _ (F T A : Type 0) (limit : ℕ) where
   abbrev M : Type 0
@@ -40,7 +40,7 @@ module _ (F T A : Type 0) (limit : ℕ) where
 
   knows_now : (s : B) (id : ℕ) (me : M) (l : ℕ) (p : Position) (ds : List Deed) (us : List Member) → me.0 ≡ view l (member p ds ∷ us) → Ruled {F = F} {T = T} {A = A} limit s → get_elem? s.views id ≡ some me.0
       → Knows (head_of me.0.members).deeds (state_of (get_or s.words 0 0))
-  knows_now s id me l p ds us is r at = let run = spawned F T A limit s id me.0 l (member p ds ∷ us) r at is in
+  knows_now s id me l p ds us is r at = let run = r.running in
       let same : run.machine.word ≡ state_of (get_or s.words 0 0) = sym (ap state_of run.word_is ∙ state_of_number_of run.machine.word) in
       subst (λ (z : State × List Deed). Knows z.1 z.0) (λ i. (same i, sym (ap (λ (w : View). (head_of w.members).deeds) is) i)) (knows s run id me.0 l p ds us r.capped at is)
 

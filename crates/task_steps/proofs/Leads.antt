@@ -8,14 +8,14 @@ use Rattle.task_core.specs.Rows.{found, written}
 use Rattle.task_laws.specs.Table.{Scene, Outcome, goes, where_found}
 use Rattle.task_laws.proofs.Census.{Census, census, weigh, plus}
 use Rattle.task_laws.proofs.Awaiting.{await, awaiting}
-use Rattle.task_steps.specs.Steps.{then_leaves, and_then}
+use Rattle.task_steps.specs.Steps.{then_leaves, and_then, spot}
 use Rattle.task_steps.proofs.Facts.{allowed_row}
-use Rattle.task_steps.proofs.Acts.{leads, apart}
+use Rattle.task_steps.proofs.Acts.{leads}
 
 pub leads_first : (s : Scene) (a : Act) (more : List Act) (p : Position) (o : Outcome) → found s.limit a s.word ≡ true → goes s (written a s.word) a p ≡ Some o
-    → leads s (a ∷ more) p ≡ then_leaves o (leads (apart s.limit o.word o.slots false) more o.next)
-leads_first s a more p o f g = ap (λ x. and_then (where_found (found s.limit a s.word) x) (λ o. leads (apart s.limit o.word o.slots false) more o.next)) g
-    ∙ ap (λ x. and_then x (λ o. leads (apart s.limit o.word o.slots false) more o.next)) (allowed_row (found s.limit a s.word) o f)
+    → leads s (a ∷ more) p ≡ then_leaves o (leads (spot s.limit o.word o.slots) more o.next)
+leads_first s a more p o f g = ap (λ x. and_then (where_found (found s.limit a s.word) x) (λ o. leads (spot s.limit o.word o.slots) more o.next)) g
+    ∙ ap (λ x. and_then x (λ o. leads (spot s.limit o.word o.slots) more o.next)) (allowed_row (found s.limit a s.word) o f)
 
 -- a count of the census that a party at p is part of
 pub counted : (count : Census → ℕ) → ((a b : Census) → count (plus a b) ≡ count a + count b) → (ps : List Position) (k : ℕ) (p : Position) → get_elem? ps k ≡ some p → count (weigh p) ≤ count (census ps)

@@ -7,6 +7,8 @@ pub mod Advance
 pub mod Allowed
 pub mod Owed
 pub mod Seats
+pub mod Lending
+pub mod Laid
 pub mod Leads
 pub mod AwaiterOwed
 pub mod RunOwed

@@ -29,11 +29,11 @@ use Rattle.task_steps.specs.declared.table.Slot.TheVariants.{Awaiter}
 use Rattle.task_steps.specs.declared.table.Deed.{Deed}
 use Rattle.task_steps.specs.declared.table.Member.{Member}
 use Rattle.task_steps.specs.Rule.{has_work, IsEmpty, IsAwaiter, Waits}
-use Rattle.task_steps.specs.Steps.{and_then, output_first, TakesOutput, Works, Awaits}
+use Rattle.task_steps.specs.Steps.{and_then, spot, output_first, TakesOutput, Works, Awaits}
 use Rattle.task_steps.specs.Scripts.{ending, waking, dropping}
 use Rattle.task_steps.specs.PollScripts.{has_output, has_ended, has_to_wait, looking, looking_again, handing_out, refusing, finding_notifier}
 use Rattle.task_steps.specs.Standing.{claims_from}
-use Rattle.task_steps.proofs.Acts.{leads, apart}
+use Rattle.task_steps.proofs.Acts.{leads}
 use Rattle.task_steps.proofs.Advance.{Finds, stays, takes_output, gives_work, takes_awaiter, gives_awaiter, Steps}
 use Rattle.task_steps.proofs.Allowed.{Owes}
 use Rattle.task_steps.proofs.Owed.{counted_at}
@@ -133,7 +133,7 @@ module _ (F T A : Type 0) (limit : ℕ) where
   }
   looks_by m n number l false e x = let f = first_free m.word (n + 1) in record {
     outcome = steps (scene m) m.word (first_look m.word (n + 1)) [] (Polls (n + 1) ∷ []);
-    leads_to = ap (λ (b : Bool). and_then (where_found true (when (not b) (steps (scene m) m.word (first_look m.word (n + 1)) [] (Polls (n + 1) ∷ [])))) (λ o. leads (apart m.limit o.word o.slots false) [] o.next)) e;
+    leads_to = ap (λ (b : Bool). and_then (where_found true (when (not b) (steps (scene m) m.word (first_look m.word (n + 1)) [] (Polls (n + 1) ∷ [])))) (λ o. leads (spot m.limit o.word o.slots) [] o.next)) e;
     writes = x;
     idle = (refl, refl);
     placing = stays f.0 f.1 (inr (refl, refl)) (inr (refl, refl));
@@ -145,7 +145,7 @@ module _ (F T A : Type 0) (limit : ℕ) where
   looks_again_by : (m : Machine) (i number : ℕ) (l : List (ℕ × Slot F T A)) (b : Bool) → has_to_wait m.word ≡ b → number ≡ number_of m.word → Steps m (Looking i) (if b then Look ∷ EndCall ∷ [] else Look ∷ []) number l
   looks_again_by m i number l true e x = record {
     outcome = steps (scene m) m.word (At (Task i)) [] (PollEnds i IsPending ∷ []);
-    leads_to = ap (λ (p : Position). and_then (Some (steps (scene m) m.word p [] [])) (λ o. leads (apart m.limit o.word o.slots false) (EndCall ∷ []) o.next)) (has_waited m.word i e);
+    leads_to = ap (λ (p : Position). and_then (Some (steps (scene m) m.word p [] [])) (λ o. leads (spot m.limit o.word o.slots) (EndCall ∷ []) o.next)) (has_waited m.word i e);
     writes = x;
     idle = (refl, refl);
     placing = stays refl refl (inr (refl, refl)) (inr (refl, refl));
@@ -180,11 +180,11 @@ module _ (F T A : Type 0) (limit : ℕ) where
   }
 
   claims_by : (m : Machine) (p : Position) (i : ℕ) (told : List Event) (new : ℕ) (l : List (ℕ × Slot F T A)) → Free p → count is_emptying told ≡ 0 → Fits ClaimOutput m.word new
-      → leads (scene m) (ClaimOutput ∷ []) p ≡ and_then (when (found 0 ClaimOutput m.word) (steps (scene m) (written ClaimOutput m.word) (notifies m.word.awaiter (OfClaim i)) [] told)) (λ o. leads (apart m.limit o.word o.slots false) [] o.next)
+      → leads (scene m) (ClaimOutput ∷ []) p ≡ and_then (when (found 0 ClaimOutput m.word) (steps (scene m) (written ClaimOutput m.word) (notifies m.word.awaiter (OfClaim i)) [] told)) (λ o. leads (spot m.limit o.word o.slots) [] o.next)
       → m.slots.output ≡ true → Steps m p (ClaimOutput ∷ []) new l
   claims_by m p i told new l free told_none fit is there = let f = claim_works m.word.awaiter i in record {
     outcome = steps (scene m) (written ClaimOutput m.word) (notifies m.word.awaiter (OfClaim i)) [] told;
-    leads_to = is ∙ ap (λ (b : Bool). and_then (when b (steps (scene m) (written ClaimOutput m.word) (notifies m.word.awaiter (OfClaim i)) [] told)) (λ o. leads (apart m.limit o.word o.slots false) [] o.next)) fit.finds;
+    leads_to = is ∙ ap (λ (b : Bool). and_then (when b (steps (scene m) (written ClaimOutput m.word) (notifies m.word.awaiter (OfClaim i)) [] told)) (λ o. leads (spot m.limit o.word o.slots) [] o.next)) fit.finds;
     writes = fit.writes;
     idle = (refl, refl);
     placing = takes_output free.0 f.0 (f.1 ∙ sym free.1) (inr (refl, told_none)) there (works m.word.awaiter);
@@ -206,7 +206,7 @@ module _ (F T A : Type 0) (limit : ℕ) where
   finds_by : (m : Machine) (i number : ℕ) (l : List (ℕ × Slot F T A)) (b : Bool) → m.word.notifying ≡ b → number ≡ number_of m.word → Steps m (Registrar i) (if b then CloneAwaiter ∷ FindNotify ∷ [] else []) number l
   finds_by m i number l true e x = record {
     outcome = steps (scene m) m.word (RefusedClone i) [] (Woken i ∷ Cloned i ∷ []);
-    leads_to = ap (λ (b : Bool). and_then (Some (steps (scene m) m.word (HasClone i) [] (Cloned i ∷ []))) (λ o. and_then (when b (steps (apart m.limit o.word o.slots false) o.word (RefusedClone i) [] (Woken i ∷ []))) (λ o. leads (apart m.limit o.word o.slots false) [] o.next))) e;
+    leads_to = ap (λ (b : Bool). and_then (Some (steps (scene m) m.word (HasClone i) [] (Cloned i ∷ []))) (λ o. and_then (when b (steps (spot m.limit o.word o.slots) o.word (RefusedClone i) [] (Woken i ∷ []))) (λ o. leads (spot m.limit o.word o.slots) [] o.next))) e;
     writes = x;
     idle = (refl, refl);
     placing = stays refl refl (inr (refl, refl)) (inr (refl, refl));
@@ -269,7 +269,7 @@ module _ (F T A : Type 0) (limit : ℕ) where
       let none = not_emptied m.limit m.word m.slots m.trace (census m.parties) f.invariant.holds (counted_at (λ c. c.tasks) (λ a b. tasks_sum a b) m.parties f.number (Registrar i) f.stands) in record {
         outcome = record { word = written BeginRegister m.word; slots = record (m.slots) { awaiter = Some i }; next = after_storing i m.slots.awaiter; born = []; told = Cloned i ∷ [] };
         leads_to = ap (λ (b : Bool). and_then (Some (steps (scene m) m.word (HasClone i) [] (Cloned i ∷ [])))
-            (λ o. and_then (when b (steps (apart m.limit o.word o.slots false) (written BeginRegister o.word) (Storing i) [] [])) (λ o. leads (apart m.limit o.word o.slots false) (StoreAwaiter ∷ []) o.next))) fit.finds;
+            (λ o. and_then (when b (steps (spot m.limit o.word o.slots) (written BeginRegister o.word) (Storing i) [] [])) (λ o. leads (spot m.limit o.word o.slots) (StoreAwaiter ∷ []) o.next))) fit.finds;
         writes = fit.writes;
         idle = (refl, refl);
         placing = takes_awaiter refl s.1 s.0 (inr (refl, refl)) none (stored_awaits i m.slots.awaiter);
@@ -279,7 +279,7 @@ module _ (F T A : Type 0) (limit : ℕ) where
       → Steps m (Registered i) (EndRegister ∷ []) new l
   ends_register i ds us y l m new f has is fit = let stored = clone_stored i m.word m.slots m.trace (awaiting i m.parties) (f.invariant.shakes i) (registered_at i m.parties f.number (Registered i) f.stands) in record {
     outcome = steps (scene m) (written EndRegister m.word) (Looking i) [] [];
-    leads_to = ap (λ (b : Bool). and_then (when b (steps (scene m) (written EndRegister m.word) (Looking i) [] [])) (λ o. leads (apart m.limit o.word o.slots false) [] o.next)) fit.finds;
+    leads_to = ap (λ (b : Bool). and_then (when b (steps (scene m) (written EndRegister m.word) (Looking i) [] [])) (λ o. leads (spot m.limit o.word o.slots) [] o.next)) fit.finds;
     writes = fit.writes;
     idle = (refl, refl);
     placing = gives_awaiter y refl refl refl (inr (refl, refl)) has (λ _. subst (λ (hand : Option ℕ). Waits hand y) (sym stored) is);
@@ -289,9 +289,9 @@ module _ (F T A : Type 0) (limit : ℕ) where
       → Steps m (Registered i) (TakeAwaiter ∷ EndRegisterNotified ∷ []) new l
   ends_notified i ds us y l m new f has is fit = record {
     outcome = record { word = written EndRegisterNotified m.word; slots = record (m.slots) { awaiter = None }; next = CloneInHand i; born = []; told = [] };
-    leads_to = ap (λ (b : Bool). and_then (where_found true (when b (keeps (scene m) m.word (record (m.slots) { awaiter = None }) (TookBack i) []))) (λ o. leads (apart m.limit o.word o.slots false) (EndRegisterNotified ∷ []) o.next)) fit.finds
+    leads_to = ap (λ (b : Bool). and_then (where_found true (when b (keeps (scene m) m.word (record (m.slots) { awaiter = None }) (TookBack i) []))) (λ o. leads (spot m.limit o.word o.slots) (EndRegisterNotified ∷ []) o.next)) fit.finds
         ∙ ap (λ (b : Bool). and_then (Some (keeps (scene m) m.word (record (m.slots) { awaiter = None }) (TookBack i) []))
-        (λ o. and_then (when b (steps (apart m.limit o.word o.slots false) (written EndRegisterNotified o.word) (CloneInHand i) [] [])) (λ o. leads (apart m.limit o.word o.slots false) [] o.next))) fit.finds;
+        (λ o. and_then (when b (steps (spot m.limit o.word o.slots) (written EndRegisterNotified o.word) (CloneInHand i) [] [])) (λ o. leads (spot m.limit o.word o.slots) [] o.next))) fit.finds;
     writes = fit.writes;
     idle = (refl, refl);
     placing = gives_awaiter y refl refl refl (inr (refl, refl)) has (λ _. is);

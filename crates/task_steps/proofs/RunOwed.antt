@@ -27,12 +27,11 @@ use Rattle.task_steps.specs.declared.table.Slot.TheVariants.{Empty}
 use Rattle.task_steps.specs.declared.table.Deed.{Deed}
 use Rattle.task_steps.specs.declared.table.Member.{Member}
 use Rattle.task_steps.specs.Rule.{has_work, IsFuture, IsOutput}
-use Rattle.task_steps.specs.Steps.{then_leaves, future_first, output_first}
+use Rattle.task_steps.specs.Steps.{then_leaves, spot, future_first, output_first}
 use Rattle.task_steps.specs.Scripts.{dropping_output}
 use Rattle.task_steps.specs.RunScripts.{giving_up, emptying, discarding, answering_ready, completing, answering_pending, ending_pending, missing_end, ending_closed, completed_word, after_pending}
 use Rattle.task_steps.proofs.Numbers.{same_word}
 use Rattle.task_steps.proofs.Facts.{queued}
-use Rattle.task_steps.proofs.Acts.{apart}
 use Rattle.task_steps.proofs.Leads.{leads_first, counted}
 use Rattle.task_steps.proofs.AwaiterOwed.{not_emptied}
 use Rattle.task_steps.proofs.Advance.{Finds, Placing, stays, takes_future, gives_work, takes_awaiter, gives_awaiter, Steps}
@@ -185,7 +184,7 @@ module _ (F T A : Type 0) (limit : ℕ) where
       by true h = record {
         outcome = keeps (scene m) m.word (record (m.slots) { future = false }) Cleared (FutureDropped ∷ AnsweredPending ∷ []);
         leads_to = ap (then_leaves (steps (scene m) m.word Pending [] (AnsweredPending ∷ [])))
-            (leads_first (apart m.limit m.word m.slots false) DropFuture [] Pending (keeps (scene m) m.word (record (m.slots) { future = false }) Cleared (FutureDropped ∷ [])) refl
+            (leads_first (spot m.limit m.word m.slots) DropFuture [] Pending (keeps (scene m) m.word (record (m.slots) { future = false }) Cleared (FutureDropped ∷ [])) refl
             (ap (λ b. if b then Some (keeps (scene m) m.word (record (m.slots) { future = false }) Cleared (FutureDropped ∷ [])) else None) h));
         writes = e;
         idle = (refl, refl);
@@ -266,16 +265,16 @@ module _ (F T A : Type 0) (limit : ℕ) where
       by : (b : Bool) → m.word.task ≡ b → Steps m Ready (if b then DropFuture ∷ StoreOutput ∷ Complete ∷ [] else DropFuture ∷ StoreOutput ∷ CompleteDetached ∷ []) (number_of (completed_word w)) l
       by true h = record {
         outcome = record { word = written Complete m.word; slots = stored; next = if m.word.closed then OutputInHand m.word.awaiter else notifies m.word.awaiter OfRun; born = []; told = Completes ∷ RunEnded ∷ FutureDropped ∷ [] };
-        leads_to = ap (λ x. then_leaves (keeps (scene m) m.word gone Unstored (FutureDropped ∷ [])) (then_leaves (keeps (apart m.limit m.word gone false) m.word stored Stored []) x))
-            (leads_first (apart m.limit m.word stored false) Complete [] Stored (steps (apart m.limit m.word stored false) (written Complete m.word) (if m.word.closed then OutputInHand m.word.awaiter else notifies m.word.awaiter OfRun) [] (Completes ∷ RunEnded ∷ [])) h refl);
+        leads_to = ap (λ x. then_leaves (keeps (scene m) m.word gone Unstored (FutureDropped ∷ [])) (then_leaves (keeps (spot m.limit m.word gone) m.word stored Stored []) x))
+            (leads_first (spot m.limit m.word stored) Complete [] Stored (steps (spot m.limit m.word stored) (written Complete m.word) (if m.word.closed then OutputInHand m.word.awaiter else notifies m.word.awaiter OfRun) [] (Completes ∷ RunEnded ∷ [])) h refl);
         writes = ap number_of (ap completed_word (same_word w m.word _ e refl) ∙ ap (λ b. if b then written Complete m.word else written CompleteDetached m.word) h);
         idle = (refl, refl);
         placing = placed m.word.closed m.word.awaiter (written Complete m.word) (Completes ∷ RunEnded ∷ FutureDropped ∷ []) refl;
       }
       by false h = record {
         outcome = record { word = written CompleteDetached m.word; slots = stored; next = OutputInHand m.word.awaiter; born = []; told = (closing m.word (Completes ∷ RunEnded ∷ []) ++ []) ++ FutureDropped ∷ [] };
-        leads_to = ap (λ x. then_leaves (keeps (scene m) m.word gone Unstored (FutureDropped ∷ [])) (then_leaves (keeps (apart m.limit m.word gone false) m.word stored Stored []) x))
-            (leads_first (apart m.limit m.word stored false) CompleteDetached [] Stored (steps (apart m.limit m.word stored false) (written CompleteDetached m.word) (OutputInHand m.word.awaiter) [] (closing m.word (Completes ∷ RunEnded ∷ []))) (ap not h) refl);
+        leads_to = ap (λ x. then_leaves (keeps (scene m) m.word gone Unstored (FutureDropped ∷ [])) (then_leaves (keeps (spot m.limit m.word gone) m.word stored Stored []) x))
+            (leads_first (spot m.limit m.word stored) CompleteDetached [] Stored (steps (spot m.limit m.word stored) (written CompleteDetached m.word) (OutputInHand m.word.awaiter) [] (closing m.word (Completes ∷ RunEnded ∷ []))) (ap not h) refl);
         writes = ap number_of (ap completed_word (same_word w m.word _ e refl) ∙ ap (λ b. if b then written Complete m.word else written CompleteDetached m.word) h);
         idle = (refl, refl);
         placing = stays refl refl (inl refl) (inr (refl, told_closing m.word.closed));

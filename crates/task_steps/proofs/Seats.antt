@@ -3,8 +3,8 @@ use Rattle.std.proofs.Common.{◌≡◌, ℕ, zero, suc, ◌+◌, ◌<◌, ◌�
 use mathlib.Core.Option.{some, some-injective, some-ne-none}
 use native.Mathlib.Decide.{ℕ_discrete}
 use lib.ListN.{get_elem?}
-use Rattle.atomic_table.specs.Table.{State as Board, Splits, Joins}
-use Rattle.atomic_table.proofs.Lists.{at_set, set_here, set_else, set_again}
+use Rattle.atomic_table.specs.Table.{State as Board, Splits}
+use Rattle.atomic_table.proofs.Lists.{at_set, set_here, set_else, set_again, at_longer}
 use Rattle.task_core.specs.Word.{number_of}
 use Rattle.task_laws.specs.Event.{Event, HandedOver}
 use Rattle.task_laws.specs.Laws.{count, is_emptying}
@@ -24,14 +24,14 @@ use Rattle.task_steps.specs.declared.table.Deed.{Deed}
 use Rattle.task_steps.specs.declared.table.Member.{Member}
 use Rattle.task_steps.specs.declared.table.Stage.TheVariants.{Spawned}
 use Rattle.task_steps.specs.declared.table.View.{View}
-use Rattle.task_steps.specs.Rule.{deed, member, view, fresh, Entry, Told, has_work, Housed, Running, Ruled}
+use Rattle.task_steps.specs.Rule.{deed, member, view, fresh, opening_at, Entry, Told, has_work, Housed, Running, Ruled}
 use Rattle.task_steps.specs.Standing.{hands_over, handed_over}
-use Rattle.task_steps.specs.Seats.{handing_over, runnable_of, lending, lent_of, taking_back, nobody}
+use Rattle.task_steps.specs.Seats.{handing_over, runnable_of}
 use Rattle.task_steps.proofs.Told.{inside, at_append, regroups}
 use Rattle.task_steps.proofs.Facts.{law, many_at, one_work}
 use Rattle.task_steps.proofs.Acts.{follows, leads}
 use Rattle.task_steps.proofs.Advance.{After as Afterwards, same_work, same_awaiter}
-use Rattle.task_steps.proofs.Allowed.{spawned, finds}
+use Rattle.task_steps.proofs.Allowed.{finds, not_first, set_apart, still_unfilled}
 
 -- a party gets a seat of its own
 abbrev moved : (id q new s j : ℕ) → Dec (s ≡ id) → Dec (j ≡ q) → ℕ × ℕ
@@ -82,26 +82,6 @@ pub just : {X : Type 0} (v : X) (n : ℕ) (w : X) → get_elem? (v ∷ []) n ≡
 just v zero w e = (refl, some-injective v w e)
 just v (suc n) w e = absurd (some-ne-none w (sym e))
 
-abbrev sent : (id new s j : ℕ) → (ℕ → ℕ) → Dec (s ≡ id) → ℕ × ℕ
-sent id new s j σ (yes d) = (new, σ j)
-sent id new s j σ (no d) = (s, j)
-
-sent_here : (id new s j : ℕ) (σ : ℕ → ℕ) (d : Dec (s ≡ id)) → s ≡ id → sent id new s j σ d ≡ (new, σ j)
-sent_here id new s j σ (yes d) e = refl
-sent_here id new s j σ (no d) e = absurd (d e)
-
-sent_else : (id new s j : ℕ) (σ : ℕ → ℕ) (d : Dec (s ≡ id)) → s ≢ id → sent id new s j σ d ≡ (s, j)
-sent_else id new s j σ (yes d) e = absurd (e d)
-sent_else id new s j σ (no d) e = refl
-
-abbrev crossed : ℕ → ℕ
-crossed zero = 1
-crossed (suc n) = 0
-
-abbrev before : ℕ → ℕ
-before zero = 0
-before (suc n) = n
-
 module _ (F T A : Type 0) (limit : ℕ) where
   abbrev B : Type 0
   B = Board (Slot F T A) View
@@ -109,29 +89,36 @@ module _ (F T A : Type 0) (limit : ℕ) where
   abbrev Rule : B → Type 0
   Rule = Ruled {F = F} {T = T} {A = A} limit
 
-  -- the rule once the views tell of this machine
-  pub retold : (s : B) (c : limit < 36028797018963968) (r : Running {F = F} {T = T} {A = A} limit s) (views : List View) (log : List Entry) (m : Machine) → Told limit views log m → m.word ≡ r.machine.word → m.limit ≡ limit → Housed m s.homes
-      → ((j : ℕ) (v : View) → get_elem? views j ≡ some v → v.stage ≡ Spawned) → Rule record { words = s.words; homes = s.homes; views = views }
-  retold s c r views log m t is limited housed staged = record {
+  -- the rule once the views tell of this machine, where the opening seat of a task that was not spawned stays
+  pub retold : (s : B) (c : limit < 36028797018963968) (r : Running {F = F} {T = T} {A = A} limit s) (views : List View) (log : List Entry) (m : Machine) → Told limit views log m → m.word ≡ r.machine.word → m.limit ≡ limit → Housed r.filled m s.homes
+      → (r.filled ≡ false → get_elem? views 0 ≡ get_elem? s.views 0) → ((j : ℕ) (v : View) → (r.filled ≡ false → j ≢ 0) → get_elem? views j ≡ some v → v.stage ≡ Spawned) → Rule record { words = s.words; homes = s.homes; views = views }
+  retold s c r views log m t is limited housed first staged = record {
     capped = c;
-    phase = inr (record {
+    running = record {
       log = log;
       machine = m;
+      filled = r.filled;
       limited = limited;
       told = t;
       wide = r.wide;
       word_is = r.word_is ∙ ap number_of (sym is);
       housed = housed;
+      unfilled = still_unfilled F T A limit s r s.words s.homes views first (λ _. refl);
       staged = staged;
-    });
+    };
   }
 
   -- a seat that is changed and one that is added
-  pub staged_more : (s : B) (r : Running {F = F} {T = T} {A = A} limit s) (id : ℕ) (v w : View) → v.stage ≡ Spawned → w.stage ≡ Spawned → (j : ℕ) (x : View) → get_elem? (set s.views id v ++ w ∷ []) j ≡ some x → x.stage ≡ Spawned
-  staged_more s r id v w a b j x e = ⊎_elim
-      (λ (h : get_elem? (set s.views id v) j ≡ some x). ⊎_elim (λ (z : (j ≡ id) × (v ≡ x)). ap (λ (u : View). u.stage) (sym z.1) ∙ a) (λ (z : (j ≢ id) × (get_elem? s.views j ≡ some x)). r.staged j x z.1) (at_set s.views id j v x h))
+  pub staged_more : (s : B) (r : Running {F = F} {T = T} {A = A} limit s) (id : ℕ) (v w : View) → v.stage ≡ Spawned → w.stage ≡ Spawned → (j : ℕ) (x : View) → (r.filled ≡ false → j ≢ 0) → get_elem? (set s.views id v ++ w ∷ []) j ≡ some x → x.stage ≡ Spawned
+  staged_more s r id v w a b j x ne e = ⊎_elim
+      (λ (h : get_elem? (set s.views id v) j ≡ some x). ⊎_elim (λ (z : (j ≡ id) × (v ≡ x)). ap (λ (u : View). u.stage) (sym z.1) ∙ a) (λ (z : (j ≢ id) × (get_elem? s.views j ≡ some x)). r.staged j x ne z.1) (at_set s.views id j v x h))
       (λ (h : (n : ℕ) × (j ≡ length (set s.views id v) + n) × (get_elem? (w ∷ []) n ≡ some x)). ap (λ (u : View). u.stage) (sym (just w h.0 x h.2).1) ∙ b)
       (at_append (set s.views id v) (w ∷ []) j x e)
+
+  -- .. and the opening seat is the same as before
+  pub first_more : (s : B) (r : Running {F = F} {T = T} {A = A} limit s) (id : ℕ) (u v w : View) (l : ℕ) (ms : List Member) → get_elem? s.views id ≡ some u → u ≡ view l ms → r.filled ≡ false → get_elem? (set s.views id v ++ w ∷ []) 0 ≡ get_elem? s.views 0
+  first_more s r id u v w l ms at is early = let first = (r.unfilled early).first in let ne = not_first F T A limit s r id u l ms at is early in
+      at_longer (set s.views id v) (w ∷ []) 0 (opening_at (r.unfilled early).stage limit) (set_apart F T A limit s.views id v ne ∙ first) ∙ sym first
 
   no_work_after : (next : After) → has_work (goes_after next) ≡ false
   no_work_after (ThenEnds answer) = refl
@@ -149,7 +136,7 @@ module _ (F T A : Type 0) (limit : ℕ) where
       → has_work p ≡ false → has_work q ≡ false → owns_awaiter p ≡ false → owns_awaiter q ≡ false → count is_emptying told ≡ 0
       → Splits Rule id v (handing_over v) (runnable_of v)
   hands_over_at id v l ds p q told is allows there w0 w1 a0 a1 quiet s r at =
-      let run = spawned F T A limit s id v l (member p ds ∷ []) r at is in let m : Machine = run.machine in let lt = inside s.views id v at in
+      let run = r.running in let m : Machine = run.machine in let lt = inside s.views id v at in
       let t0 = subst (λ vs. Told limit vs run.log m) (sym (ap (λ z. set s.views id z) (sym is) ∙ set_again s.views id v at)) run.told in
       let o : Outcome = steps (scene m) m.word q (At Runnable ∷ []) told in
       let f = follows limit s.views id l (HandOver ∷ []) p ds [] run.log m o t0 lt (allows m) in
@@ -167,15 +154,15 @@ module _ (F T A : Type 0) (limit : ℕ) where
       } in
       let u : Member = member q (deed HandOver None ∷ ds) in let n : Member = fresh (At Runnable) in
       let t1 = leaves limit s.views id l f.log f.machine (u ∷ n ∷ []) (u ∷ []) n 1 f.told lt refl (only u n) in
-      let housed : Housed f.machine s.homes = record {
-        future = λ z. (same_work F T A limit m p o f.machine s.homes s.homes a run.housed (w1 ∙ sym w0) (inr (refl, refl)) (refl, refl) z).0;
-        output = λ z. (same_work F T A limit m p o f.machine s.homes s.homes a run.housed (w1 ∙ sym w0) (inr (refl, refl)) (refl, refl) z).1;
-        awaiter = λ z. same_awaiter F T A limit m p o f.machine s.homes s.homes a run.housed (a1 ∙ sym a0) (inr (refl, quiet)) refl z;
+      let housed : Housed run.filled f.machine s.homes = record {
+        future = λ b z. (same_work F T A limit run.filled m p o f.machine s.homes s.homes a run.housed (w1 ∙ sym w0) (inr (refl, refl)) (refl, refl) z).0 b;
+        output = λ z. (same_work F T A limit run.filled m p o f.machine s.homes s.homes a run.housed (w1 ∙ sym w0) (inr (refl, refl)) (refl, refl) z).1;
+        awaiter = λ z. same_awaiter F T A limit run.filled m p o f.machine s.homes s.homes a run.housed (a1 ∙ sym a0) (inr (refl, quiet)) refl z;
       } in
       let views : set s.views id (view l (u ∷ [])) ++ view l (n ∷ []) ∷ [] ≡ set s.views id (handing_over v) ++ runnable_of v ∷ [] =
       (λ j. set s.views id ((ap (λ z. view l (member z (deed HandOver None ∷ ds) ∷ [])) (sym there) ∙ ap handing_over (sym is)) j) ++ (ap runnable_of (sym is)) j ∷ []) in
       subst (λ vs. Rule record { words = s.words; homes = s.homes; views = vs }) views
-      (retold s r.capped run (set s.views id (view l (u ∷ [])) ++ view l (n ∷ []) ∷ []) f.log f.machine t1 f.word_is (f.limit_is ∙ run.limited) housed (staged_more s run id (view l (u ∷ [])) (view l (n ∷ [])) refl refl))
+      (retold s r.capped run (set s.views id (view l (u ∷ [])) ++ view l (n ∷ []) ∷ []) f.log f.machine t1 f.word_is (f.limit_is ∙ run.limited) housed (first_more s run id v (view l (u ∷ [])) (view l (n ∷ [])) l (member p ds ∷ []) at is) (staged_more s run id (view l (u ∷ [])) (view l (n ∷ [])) refl refl))
     where
       only : (u n : Member) (j : ℕ) (x : Member) → get_elem? (u ∷ []) j ≡ some x → (get_elem? (u ∷ n ∷ []) j ≡ some x) × (j ≢ 1)
       only u n zero x e = (e, λ z. omega arith)
@@ -185,53 +172,3 @@ module _ (F T A : Type 0) (limit : ℕ) where
   splits id v l ds (Deliverer woken next) e is = hands_over_at id v l ds (Deliverer woken next) (goes_after next) (HandedOver woken ∷ []) is (λ m. refl) refl refl (no_work_after next) refl (no_awaiter_after next) refl
   splits id v l ds (At Runnable) e is = hands_over_at id v l ds (At Runnable) (Leaving Nothing Ended) (HandedOver false ∷ []) is (λ m. refl) refl refl refl refl refl refl
   splits id v l ds _ e is = absurd (cc)
-
-  -- a run lends its waker: both parties of its seat go to a new one
-  pub lends : (id : ℕ) (v : View) (l : ℕ) (u w : Member) → v ≡ view l (u ∷ w ∷ []) → Splits Rule id v (lending v) (lent_of v)
-  lends id v l u w is s r at = let run = spawned F T A limit s id v l (u ∷ w ∷ []) r at is in let new : ℕ = length s.views in
-      let views : set s.views id (view l []) ++ view l (w ∷ u ∷ []) ∷ [] ≡ set s.views id (lending v) ++ lent_of v ∷ [] = (λ j. set s.views id (ap lending (sym is) j) ++ (ap lent_of (sym is)) j ∷ []) in
-      let at' : get_elem? s.views id ≡ some (view l (u ∷ w ∷ [])) = at ∙ ap (λ z. some z) is in
-      subst (λ vs. Rule record { words = s.words; homes = s.homes; views = vs }) views
-      (retold s r.capped run (set s.views id (view l []) ++ view l (w ∷ u ∷ []) ∷ []) run.log run.machine
-      (regroups limit s.views (set s.views id (view l []) ++ view l (w ∷ u ∷ []) ∷ []) run.log run.machine (λ p. sent id new p.0 p.1 crossed (ℕ_discrete p.0 id)) run.told
-      (λ seat index y x f g. ⊎_elim
-      (λ (h : get_elem? (set s.views id (view l [])) seat ≡ some y). ⊎_elim
-      (λ (z : (seat ≡ id) × (view l [] ≡ y)). absurd (some-ne-none x (sym (ap (λ (q : View). get_elem? q.members index) z.1 ∙ g))))
-      (λ (z : (seat ≢ id) × (get_elem? s.views seat ≡ some y)). (seat, index, y, z.1, g, sent_else id new seat index crossed (ℕ_discrete seat id) z.0, refl))
-      (at_set s.views id seat (view l []) y h))
-      (λ (h : (n : ℕ) × (seat ≡ length (set s.views id (view l [])) + n) × (get_elem? (view l (w ∷ u ∷ []) ∷ []) n ≡ some y)). let e = just (view l (w ∷ u ∷ [])) h.0 y h.2 in
-      let there : new ≡ seat = (let a = h.1 in let b = e.0 in let d = length-set s.views id (view l []) in omega arith) in
-      let k = from index x (ap (λ (q : View). get_elem? q.members index) e.1 ∙ g) in
-      (id, k.0, view l (u ∷ w ∷ []), at', k.1, sent_here id new id k.0 crossed (ℕ_discrete id id) refl ∙ (λ i. (there i, k.2 i)), ap (λ (q : View). q.limit) (sym e.1)))
-      (at_append (set s.views id (view l [])) (view l (w ∷ u ∷ []) ∷ []) seat y f)))
-      refl run.limited run.housed (staged_more s run id (view l []) (view l (w ∷ u ∷ [])) refl refl))
-    where
-      from : (index : ℕ) (x : Member) → get_elem? (w ∷ u ∷ []) index ≡ some x → (k : ℕ) × (get_elem? (u ∷ w ∷ []) k ≡ some x) × (crossed k ≡ index)
-      from zero x e = (1, e, refl)
-      from (suc zero) x e = (0, e, refl)
-      from (suc (suc n)) x e = absurd (some-ne-none x (sym e))
-
-  -- .. and the run comes back
-  pub takes_back : (id : ℕ) (v : View) (other : ℕ) (w : View) (l : ℕ) (lent u : Member) → v.members ≡ [] → w ≡ view l (lent ∷ u ∷ []) → Joins Rule id v other w (taking_back v w) nobody
-  takes_back id v other w l lent u none_there is s r at apart there = let at' : get_elem? s.views other ≡ some w = sym (set_else s.views id other (taking_back v w) apart) ∙ there in
-      let run = spawned F T A limit s other w l (lent ∷ u ∷ []) r at' is in
-      let back : taking_back v w ≡ view l (u ∷ []) = ap (taking_back v) is in
-      let V : List View = set (set s.views id (taking_back v w)) other nobody in
-      retold s r.capped run V run.log run.machine
-      (regroups limit s.views V run.log run.machine (λ p. sent other id p.0 p.1 before (ℕ_discrete p.0 other)) run.told
-      (λ seat index y x f g. ⊎_elim
-      (λ (z : (seat ≡ other) × (nobody ≡ y)). absurd (some-ne-none x (sym (ap (λ (q : View). get_elem? q.members index) z.1 ∙ g))))
-      (λ (z : (seat ≢ other) × (get_elem? (set s.views id (taking_back v w)) seat ≡ some y)). ⊎_elim
-      (λ (h : (seat ≡ id) × (taking_back v w ≡ y)). let k = from index x (ap (λ (q : View). get_elem? q.members index) (sym back ∙ h.1) ∙ g) in
-      (other, k.0, view l (lent ∷ u ∷ []), at' ∙ ap (λ z. some z) is, k.1, sent_here other id other k.0 before (ℕ_discrete other other) refl ∙ (λ i. (sym h.0 i, k.2 i)), ap (λ (q : View). q.limit) (sym (sym back ∙ h.1))))
-      (λ (h : (seat ≢ id) × (get_elem? s.views seat ≡ some y)). (seat, index, y, h.1, g, sent_else other id seat index before (ℕ_discrete seat other) z.0, refl))
-      (at_set s.views id seat (taking_back v w) y z.1))
-      (at_set (set s.views id (taking_back v w)) other seat nobody y f)))
-      refl run.limited run.housed
-      (λ j y e. ⊎_elim (λ (z : (j ≡ other) × (nobody ≡ y)). ap (λ (q : View). q.stage) (sym z.1))
-      (λ (z : (j ≢ other) × (get_elem? (set s.views id (taking_back v w)) j ≡ some y)). ⊎_elim (λ (h : (j ≡ id) × (taking_back v w ≡ y)). ap (λ (q : View). q.stage) (sym h.1)) (λ (h : (j ≢ id) × (get_elem? s.views j ≡ some y)). run.staged j y h.1) (at_set s.views id j (taking_back v w) y z.1))
-      (at_set (set s.views id (taking_back v w)) other j nobody y e))
-    where
-      from : (index : ℕ) (x : Member) → get_elem? (u ∷ []) index ≡ some x → (k : ℕ) × (get_elem? (lent ∷ u ∷ []) k ≡ some x) × (before k ≡ index)
-      from zero x e = (1, e, refl)
-      from (suc n) x e = absurd (some-ne-none x (sym e))

@@ -28,8 +28,8 @@ use Rattle.task_steps.specs.Rule.{has_work}
 use Rattle.task_steps.specs.Steps.{saw_closed, output_first}
 use Rattle.task_steps.specs.Scripts.{dropping_output}
 use Rattle.task_steps.specs.TaskScripts.{looking_over, cancelling, cancelled, detaching, detached, giving_task_up}
-use Rattle.task_steps.specs.Steps.{and_then}
-use Rattle.task_steps.proofs.Acts.{apart, leads, both}
+use Rattle.task_steps.specs.Steps.{and_then, spot}
+use Rattle.task_steps.proofs.Acts.{leads, both}
 use Rattle.task_steps.proofs.Advance.{Finds, stays, gives_work, takes_output, takes_awaiter, Steps}
 use Rattle.task_steps.proofs.Allowed.{Owes}
 use Rattle.task_steps.proofs.Owed.{counted_at, does_nothing}
@@ -39,7 +39,7 @@ never e = absurd (cc)
 
 -- acts in a row, by whether the first finds its word
 abbrev leads_if : Machine → Position → Act → List Act → Bool → Option Outcome
-leads_if m p a more b = and_then (where_found b (goes (scene m) (written a m.word) a p)) (λ o. leads (apart m.limit o.word o.slots false) more o.next)
+leads_if m p a more b = and_then (where_found b (goes (scene m) (written a m.word) a p)) (λ o. leads (spot m.limit o.word o.slots) more o.next)
 
 finds_it : (m : Machine) (p : Position) (a : Act) (more : List Act) → found m.limit a m.word ≡ true → leads (scene m) (a ∷ more) p ≡ leads_if m p a more true
 finds_it m p a more e = ap (leads_if m p a more) e

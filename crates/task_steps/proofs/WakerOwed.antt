@@ -2,7 +2,6 @@
 use Rattle.std.proofs.Common.{◌≡◌, ℕ, ◌+◌, ◌-◌, ◌%◌, ◌^◌, ◌≤◌, Bool, true, false, not, ◌&&◌, ◌||◌, Some, None, List, [], ◌∷◌, refl, sym, ap, ◌∙◌, subst, inr, arith}
 use Rattle.std.specs.Prelude.{nat_lt, nat_le, nat_eq, if◌then◌else◌}
 use Rattle.std.proofs.lemmas.Bool.Decides.{nat_tests}
-use lib.ListN.{get_elem?}
 use Rattle.task_core.specs.Word.{State, bit, state_of, number_of, is_open, orphan_word}
 use Rattle.task_laws.specs.Event.{Event, WakerGained, WakerGivenUp, Wakes, Made, ByWake, ByClosing, Closes, CallBegins, CallEnds}
 use Rattle.task_laws.specs.declared.positions.Answer.TheVariants.{Nothing, Gained}
@@ -12,8 +11,8 @@ use Rattle.task_laws.specs.declared.positions.After.TheVariants.{ThenEnds}
 use Rattle.task_laws.specs.declared.positions.Position.TheVariants.{At, Leaving, Deliverer, Emptier, OrphanHolder}
 use Rattle.task_core.specs.declared.moves.Act.TheVariants.{GainReference, FindLimit, RefuseGain, DropWaker, DropLastWaker, OrphanTask, WakeOver, WakeScheduled, WakeRunning, WakeIdle, EndCall}
 use Rattle.task_core.specs.Rows.{written, row}
-use Rattle.task_laws.specs.Table.{Slots, Outcome, when, steps, may_gain, may_wake}
-use Rattle.task_laws.specs.Machine.{Machine, scene, how_many, polls_future}
+use Rattle.task_laws.specs.Table.{Slots, Outcome, when, is_held, may_ask, steps, may_gain, may_wake}
+use Rattle.task_laws.specs.Machine.{Machine, scene}
 use Rattle.task_laws.specs.Laws.{count, is_emptying}
 use Rattle.task_laws.proofs.Census.{Census, census}
 use Rattle.task_laws.proofs.Invariant.{Holds}
@@ -21,9 +20,8 @@ use Rattle.task_core.proofs.Bits.{state_of_number_of, fetch_sub-reference}
 use Rattle.task_steps.specs.declared.table.Slot.{Slot}
 use Rattle.task_steps.specs.declared.table.Deed.{Deed}
 use Rattle.task_steps.specs.declared.table.Member.{Member}
-use Rattle.task_steps.specs.Beside.{polls_first, may_wake_beside, may_gain_beside}
+use Rattle.task_steps.specs.Beside.{may_call, may_change}
 use Rattle.task_steps.specs.WakerScripts.{looking_for_room, gaining, refusing_gain, finding_over, waking_task, woken_word, dropping_waker, closing_orphan}
-use Rattle.task_steps.proofs.Facts.{many_at}
 use Rattle.task_steps.proofs.Acts.{row_found, both}
 use Rattle.task_steps.proofs.Leads.{leads_first, counted}
 use Rattle.task_steps.proofs.Numbers.{same_word}
@@ -41,9 +39,6 @@ passes b o e = ap (λ x. when x o) e
 at_limit : (n l k : ℕ) → nat_lt n l ≡ false → k ≡ l → nat_le k n ≡ true
 at_limit n l k e f = grind (arith, nat_tests)
 
-positive : (n : ℕ) (b : Bool) → bit b ≤ n → b ≡ true → nat_lt 0 n ≡ true
-positive n b h e = let one : bit b ≡ 1 = ap bit e in grind (arith, nat_tests)
-
 pub third : (o s r : Bool) → o ≡ true → s ≡ false → r ≡ true → (o && not s && r) ≡ true
 third o s r e f g = grind arith
 
@@ -60,42 +55,46 @@ holds_one limit w slots t c h e = grind arith
 not_emptied : (limit : ℕ) (w : State) (slots : Slots) (t : List Event) (c : Census) → Holds limit w slots t c → 1 ≤ c.wakers → count is_emptying t ≡ 0
 not_emptied limit w slots t c h e = grind (arith, nat_tests)
 
-module _ (limit : ℕ) (r : Rest) (ds : List Deed) (us : List Member) (m : Machine) (f : Finds limit (At r) ds us m) where
-  -- a poll of the future is under way beside this party
-  polls : polls_first us ≡ true → (scene m).polling ≡ true
-  polls e = beside us refl e
-    where
-      beside : (vs : List Member) → us ≡ vs → polls_first vs ≡ true → (scene m).polling ≡ true
-      beside [] is e = never e
-      beside (v ∷ vs) is e = let k = f.beside 0 v (ap (λ (l : List Member). get_elem? l 0) is) in positive (how_many polls_future m.parties) (polls_future v.at) (many_at polls_future m.parties k.0 v.at k.1) e
+so_or : (a b : Bool) → b ≡ true → (a || b) ≡ true
+so_or true b e = refl
+so_or false b e = e
 
-may_wake_now : (limit : ℕ) (r : Rest) (ds : List Deed) (us : List Member) (m : Machine) → Finds limit (At r) ds us m → may_wake_beside r us ≡ true → may_wake (scene m) r ≡ true
-may_wake_now limit Waker ds us m f e = refl
-may_wake_now limit Lent ds us m f e = polls limit Lent ds us m f e
-may_wake_now limit Runnable ds us m f e = never e
-may_wake_now limit Ended ds us m f e = never e
-may_wake_now limit (Task n) ds us m f e = never e
+-- a wake that finds the task over
+finds_it_over : (r : Rest) (m : Machine) → may_call r ≡ true → is_open m.word ≡ false → may_wake (scene m) r ≡ true
+finds_it_over Waker m call e = refl
+finds_it_over Lent m call e = so_or (is_held m.word) (not (is_open m.word)) (over (is_open m.word) e)
+finds_it_over Runnable m call e = never call
+finds_it_over Ended m call e = never call
+finds_it_over (Task n) m call e = never call
 
-may_gain_now : (limit : ℕ) (r : Rest) (ds : List Deed) (us : List Member) (m : Machine) → Finds limit (At r) ds us m → may_gain_beside r us ≡ true → may_gain (scene m) r ≡ true
-may_gain_now limit Runnable ds us m f e = refl
-may_gain_now limit Waker ds us m f e = refl
-may_gain_now limit Lent ds us m f e = polls limit Lent ds us m f e
-may_gain_now limit Ended ds us m f e = never e
-may_gain_now limit (Task n) ds us m f e = never e
+-- .. and one that changes the word
+wakes_it : (r : Rest) (m : Machine) → may_call r ≡ true → may_change r m.word ≡ true → may_wake (scene m) r ≡ true
+wakes_it Waker m call held = refl
+wakes_it Lent m call held = ap (λ b. b || not (is_open m.word)) held
+wakes_it Runnable m call held = never call
+wakes_it Ended m call held = never call
+wakes_it (Task n) m call held = never call
+
+gains_it : (r : Rest) (m : Machine) → may_ask r ≡ true → may_change r m.word ≡ true → may_gain (scene m) r ≡ true
+gains_it Runnable m ask held = refl
+gains_it Waker m ask held = refl
+gains_it Lent m ask held = held
+gains_it Ended m ask held = never ask
+gains_it (Task n) m ask held = never ask
 
 module _ (F T A : Type 0) (limit : ℕ) where
   -- the memory was refused
-  pub refuses_gain : (r : Rest) (ds : List Deed) (us : List Member) (l : List (ℕ × Slot F T A)) → may_gain_beside r us ≡ true → Owes F T A limit refusing_gain (λ n. n) (At r) ds us l
+  pub refuses_gain : (r : Rest) (ds : List Deed) (us : List Member) (l : List (ℕ × Slot F T A)) → may_ask r ≡ true → Owes F T A limit refusing_gain (λ n. n) (At r) ds us l
   refuses_gain r ds us l may m f x e lt = let o : Outcome = steps (scene m) m.word (Leaving (Gained false) r) [] [] in record {
     outcome = steps (scene m) m.word (At r) [] (CallEnds (Gained false) ∷ []);
-    leads_to = leads_first (scene m) RefuseGain (EndCall ∷ []) (At r) o refl (passes (may_gain (scene m) r) o (may_gain_now limit r ds us m f may));
+    leads_to = leads_first (scene m) RefuseGain (EndCall ∷ []) (At r) o refl (passes (may_ask r) o may);
     writes = e;
     idle = (refl, refl);
     placing = stays refl refl (inr (refl, refl)) (inr (refl, refl));
   }
 
   -- a look at the count
-  pub looks_for_room : (r : Rest) (ds : List Deed) (us : List Member) (l : List (ℕ × Slot F T A)) → may_gain_beside r us ≡ true → Owes F T A limit (looking_for_room limit) (λ n. n) (At r) ds us l
+  pub looks_for_room : (r : Rest) (ds : List Deed) (us : List Member) (l : List (ℕ × Slot F T A)) → may_ask r ≡ true → Owes F T A limit (looking_for_room limit) (λ n. n) (At r) ds us l
   looks_for_room r ds us l may m f x e lt = looks (nat_lt m.word.references limit) refl
     where
       looks : (b : Bool) → nat_lt m.word.references limit ≡ b → Steps m (At r) (if b then [] else FindLimit ∷ EndCall ∷ []) x l
@@ -108,26 +107,26 @@ module _ (F T A : Type 0) (limit : ℕ) where
       }
       looks false is = let o : Outcome = steps (scene m) m.word (Leaving (Gained false) r) [] [] in record {
         outcome = steps (scene m) m.word (At r) [] (CallEnds (Gained false) ∷ []);
-        leads_to = leads_first (scene m) FindLimit (EndCall ∷ []) (At r) o (at_limit m.word.references limit m.limit is f.limited) (passes (may_gain (scene m) r) o (may_gain_now limit r ds us m f may));
+        leads_to = leads_first (scene m) FindLimit (EndCall ∷ []) (At r) o (at_limit m.word.references limit m.limit is f.limited) (passes (may_ask r) o may);
         writes = e;
         idle = (refl, refl);
         placing = stays refl refl (inr (refl, refl)) (inr (refl, refl));
       }
 
   -- a reference is gained
-  pub gains : (r : Rest) (ds : List Deed) (us : List Member) (l : List (ℕ × Slot F T A)) (w v : State) (old new : ℕ) → may_gain_beside r us ≡ true → Some v ≡ row limit GainReference w → old ≡ number_of w → new ≡ number_of v
+  pub gains : (r : Rest) (ds : List Deed) (us : List Member) (l : List (ℕ × Slot F T A)) (w v : State) (old new : ℕ) → may_ask r ≡ true → may_change r w ≡ true → Some v ≡ row limit GainReference w → old ≡ number_of w → new ≡ number_of v
       → (m : Machine) → Finds limit (At r) ds us m → old ≡ number_of m.word → Steps m (At r) (gaining m.word) new l
-  gains r ds us l w v old new may fits is to m f here = let same = same_word m.word w old is here in let x = row_found limit GainReference w v fits in
+  gains r ds us l w v old new may held fits is to m f here = let same = same_word m.word w old is here in let x = row_found limit GainReference w v fits in
       let o : Outcome = steps (scene m) (written GainReference m.word) (Leaving (Gained true) r) (At Waker ∷ []) (WakerGained ∷ []) in record {
         outcome = steps (scene m) (written GainReference m.word) (At r) (At Waker ∷ []) (CallEnds (Gained true) ∷ WakerGained ∷ []);
-        leads_to = leads_first (scene m) GainReference (EndCall ∷ []) (At r) o (ap (λ (z : ℕ × State). nat_lt z.1.references z.0) (λ i. (f.limited i, same i)) ∙ x.0) (passes (may_gain (scene m) r) o (may_gain_now limit r ds us m f may));
+        leads_to = leads_first (scene m) GainReference (EndCall ∷ []) (At r) o (ap (λ (z : ℕ × State). nat_lt z.1.references z.0) (λ i. (f.limited i, same i)) ∙ x.0) (passes (may_gain (scene m) r) o (gains_it r m may (ap (may_change r) same ∙ held)));
         writes = to ∙ ap number_of (x.1 ∙ ap (written GainReference) (sym same));
         idle = (refl, refl);
         placing = stays refl refl (inr (refl, refl)) (inr (refl, refl));
       }
 
   -- a look before a wake
-  pub finds_over : (r : Rest) (ds : List Deed) (us : List Member) (l : List (ℕ × Slot F T A)) → may_wake_beside r us ≡ true → Owes F T A limit finding_over (λ n. n) (At r) ds us l
+  pub finds_over : (r : Rest) (ds : List Deed) (us : List Member) (l : List (ℕ × Slot F T A)) → may_call r ≡ true → Owes F T A limit finding_over (λ n. n) (At r) ds us l
   finds_over r ds us l may m f x e lt = looks (is_open m.word) refl
     where
       looks : (b : Bool) → is_open m.word ≡ b → Steps m (At r) (if b then [] else WakeOver ∷ EndCall ∷ []) x l
@@ -140,16 +139,16 @@ module _ (F T A : Type 0) (limit : ℕ) where
       }
       looks false is = let o : Outcome = steps (scene m) m.word (Leaving Nothing r) [] (Wakes ∷ []) in record {
         outcome = steps (scene m) m.word (At r) [] (CallEnds Nothing ∷ Wakes ∷ []);
-        leads_to = leads_first (scene m) WakeOver (EndCall ∷ []) (At r) o (over (is_open m.word) is) (passes (may_wake (scene m) r) o (may_wake_now limit r ds us m f may));
+        leads_to = leads_first (scene m) WakeOver (EndCall ∷ []) (At r) o (over (is_open m.word) is) (passes (may_wake (scene m) r) o (finds_it_over r m may is));
         writes = e;
         idle = (refl, refl);
         placing = stays refl refl (inr (refl, refl)) (inr (refl, refl));
       }
 
   -- a wake of an open task
-  pub wakes : (r : Rest) (ds : List Deed) (us : List Member) (l : List (ℕ × Slot F T A)) (w : State) (old new : ℕ) → may_wake_beside r us ≡ true → is_open w ≡ true → old ≡ number_of w → new ≡ number_of (woken_word w)
+  pub wakes : (r : Rest) (ds : List Deed) (us : List Member) (l : List (ℕ × Slot F T A)) (w : State) (old new : ℕ) → may_call r ≡ true → may_change r w ≡ true → is_open w ≡ true → old ≡ number_of w → new ≡ number_of (woken_word w)
       → (m : Machine) → Finds limit (At r) ds us m → old ≡ number_of m.word → Steps m (At r) (waking_task m.word) new l
-  wakes r ds us l w old new may before is wrote m f here = subst (λ (k : ℕ). Steps m (At r) (waking_task m.word) k l) (ap (λ (v : State). number_of (woken_word v)) same ∙ sym wrote) (by m.word.scheduled m.word.running refl refl)
+  wakes r ds us l w old new may held before is wrote m f here = subst (λ (k : ℕ). Steps m (At r) (waking_task m.word) k l) (ap (λ (v : State). number_of (woken_word v)) same ∙ sym wrote) (by m.word.scheduled m.word.running refl refl)
     where
       same : m.word ≡ w
       same = same_word m.word w old is here
@@ -158,7 +157,7 @@ module _ (F T A : Type 0) (limit : ℕ) where
       now = ap is_open same ∙ before
 
       lets : may_wake (scene m) r ≡ true
-      lets = may_wake_now limit r ds us m f may
+      lets = wakes_it r m may (ap (may_change r) same ∙ held)
 
       by : (s b : Bool) → m.word.scheduled ≡ s → m.word.running ≡ b → Steps m (At r) (if s then WakeScheduled ∷ EndCall ∷ [] else (if b then WakeRunning ∷ EndCall ∷ [] else WakeIdle ∷ EndCall ∷ []))
           (number_of (if s then m.word else (if b then written WakeRunning m.word else written WakeIdle m.word))) l

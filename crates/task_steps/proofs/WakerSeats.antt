@@ -13,8 +13,8 @@ use Rattle.task_steps.specs.Rule.{member, view, fresh, Told, Ruled}
 use Rattle.task_steps.specs.Steps.{head_of, tail_of}
 use Rattle.task_steps.specs.Beside.{others, newest_of, without_newest, newest}
 use Rattle.task_steps.proofs.Told.{inside, at_second, forgets}
-use Rattle.task_steps.proofs.Allowed.{spawned}
-use Rattle.task_steps.proofs.Seats.{leaves, retold, staged_more}
+use Rattle.task_steps.proofs.Allowed.{not_first, set_apart, still_unfilled}
+use Rattle.task_steps.proofs.Seats.{leaves, retold, staged_more, first_more}
 
 pub others_are : (u n : Member) (us : List Member) → others (u ∷ (us ++ n ∷ [])) ≡ u ∷ us
 others_are u n [] = refl
@@ -33,13 +33,13 @@ module _ (F T A : Type 0) (limit : ℕ) where
 
   -- the newest party gets a seat of its own
   pub parts_newest : (id : ℕ) (v : View) (l : ℕ) (u n : Member) (us : List Member) → v ≡ view l (u ∷ (us ++ n ∷ [])) → Splits Rule id v (without_newest v) (newest v)
-  parts_newest id v l u n us is s r at = let ms : List Member = u ∷ (us ++ n ∷ []) in let run = spawned F T A limit s id v l ms r at is in
+  parts_newest id v l u n us is s r at = let ms : List Member = u ∷ (us ++ n ∷ []) in let run = r.running in
       let t0 = subst (λ vs. Told limit vs run.log run.machine) (sym (ap (λ z. set s.views id z) (sym is) ∙ set_again s.views id v at)) run.told in
       let t1 = leaves limit s.views id l run.log run.machine ms (u ∷ us) n (length (u ∷ us)) t0 (inside s.views id v at) last kept in
       let left : view l (u ∷ us) ≡ without_newest v = ap (view l) (sym (others_are u n us)) ∙ ap without_newest (sym is) in
       let right : view l (n ∷ []) ≡ newest v = ap (view l) (sym (newest_is u n us)) ∙ ap newest (sym is) in
       subst (λ vs. Rule record { words = s.words; homes = s.homes; views = vs }) (λ j. set s.views id (left j) ++ right j ∷ [])
-      (retold F T A limit s r.capped run (set s.views id (view l (u ∷ us)) ++ view l (n ∷ []) ∷ []) run.log run.machine t1 refl run.limited run.housed (staged_more F T A limit s run id (view l (u ∷ us)) (view l (n ∷ [])) refl refl))
+      (retold F T A limit s r.capped run (set s.views id (view l (u ∷ us)) ++ view l (n ∷ []) ∷ []) run.log run.machine t1 refl run.limited run.housed (first_more F T A limit s run id v (view l (u ∷ us)) (view l (n ∷ [])) l ms at is) (staged_more F T A limit s run id (view l (u ∷ us)) (view l (n ∷ [])) refl refl))
     where
       last : get_elem? (u ∷ (us ++ n ∷ [])) (length (u ∷ us)) ≡ some n
       last = let e : length (u ∷ us) + 0 ≡ length (u ∷ us) = omega arith in subst (λ (k : ℕ). get_elem? (u ∷ (us ++ n ∷ [])) k ≡ some n) e (at_second (u ∷ us) (n ∷ []) 0 n refl)
@@ -50,16 +50,17 @@ module _ (F T A : Type 0) (limit : ℕ) where
   -- the seat forgets what its first party did
   pub may_forget : (slots id : ℕ) (me : Me (Slot F T A) View) (l : ℕ) (p : Position) (ds : List Deed) (us : List Member) → me.0 ≡ view l (member p ds ∷ us)
       → Allows Rule slots id me 0 (λ n. n) (λ r m. m ≡ (view me.0.limit (fresh (head_of me.0.members).at ∷ tail_of me.0.members), me.1))
-  may_forget slots id me l p ds us is s r deep at fits = let run = spawned F T A limit s id me.0 l (member p ds ∷ us) r at is in let w : View = view me.0.limit (fresh (head_of me.0.members).at ∷ tail_of me.0.members) in
+  may_forget slots id me l p ds us is s r deep at fits = let run = r.running in let w : View = view me.0.limit (fresh (head_of me.0.members).at ∷ tail_of me.0.members) in
       let forgot : w ≡ view l (fresh p ∷ us) = ap (λ (v : View). view v.limit (fresh (head_of v.members).at ∷ tail_of v.members)) is in (
         w,
         keeps,
         tt,
         record {
           capped = r.capped;
-          phase = inr (record {
+          running = record {
             log = run.log;
             machine = run.machine;
+            filled = run.filled;
             limited = run.limited;
             told = forgets limit s.views (set s.views id w) run.log run.machine run.told
                 (λ seat index v u f g. ⊎_elim
@@ -70,8 +71,9 @@ module _ (F T A : Type 0) (limit : ℕ) where
             wide = length-set s.words 0 (get_or s.words 0 0) ∙ run.wide;
             word_is = get_or-set_same s.words 0 (get_or s.words 0 0) 0 (let h = run.wide in omega arith) ∙ run.word_is;
             housed = run.housed;
-            staged = λ j y e. ⊎_elim (λ (h : (j ≡ id) × (w ≡ y)). ap (λ (u : View). u.stage) (sym h.1)) (λ (h : (j ≢ id) × (get_elem? s.views j ≡ some y)). run.staged j y h.1) (at_set s.views id j w y e);
-          });
+            unfilled = still_unfilled F T A limit s run (set s.words 0 (get_or s.words 0 0)) s.homes (set s.views id w) (λ early. set_apart F T A limit s.views id w (not_first F T A limit s run id me.0 l (member p ds ∷ us) at is early)) (λ _. refl);
+            staged = λ j y ne e. ⊎_elim (λ (h : (j ≡ id) × (w ≡ y)). ap (λ (u : View). u.stage) (sym h.1)) (λ (h : (j ≢ id) × (get_elem? s.views j ≡ some y)). run.staged j y ne h.1) (at_set s.views id j w y e);
+          };
         },
         refl,
       )

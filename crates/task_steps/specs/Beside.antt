@@ -1,11 +1,12 @@
--- What a waker may do by the parties beside it on its seat, and what its seat knows after it.
+-- What a waker may do, and what its seat knows after it.
 use Rattle.std.specs.Prelude.{ℕ, Bool, true, false, List, [], ◌∷◌, ◌≡◌}
 use Rattle.atomic_table.specs.Table.{Me, Step}
 use Rattle.task_core.specs.Word.{State}
+use Rattle.task_laws.specs.declared.positions.Position.TheVariants.{At}
 use Rattle.task_laws.specs.declared.positions.Rest.{Rest}
-use Rattle.task_laws.specs.declared.positions.Rest.TheVariants.{Runnable, Waker, Lent}
+use Rattle.task_laws.specs.declared.positions.Rest.TheVariants.{Waker, Lent}
 use Rattle.task_core.specs.declared.moves.Act.{Act}
-use Rattle.task_laws.specs.Machine.{polls_future}
+use Rattle.task_laws.specs.Table.{is_held}
 use Rattle.task_steps.specs.declared.table.Slot.{Slot}
 use Rattle.task_steps.specs.declared.table.Member.{Member}
 use Rattle.task_steps.specs.declared.table.View.{View}
@@ -13,23 +14,22 @@ use Rattle.task_steps.specs.Rule.{view, fresh}
 use Rattle.task_steps.specs.Steps.{head_of, tail_of}
 use Rattle.task_steps.specs.Knows.{known, known_exchanged}
 
--- the first of these parties polls the future
-abbrev pub polls_first : List Member → Bool
-polls_first [] = false
-polls_first (u ∷ us) = polls_future u.at
+-- who may ask for a wake: a waker, and a lent one
+abbrev pub may_call : Rest → Bool
+may_call Waker = true
+may_call Lent = true
+may_call _ = false
 
--- who may wake: a waker, and one that is lent while its run polls beside it
-abbrev pub may_wake_beside : Rest → List Member → Bool
-may_wake_beside Waker us = true
-may_wake_beside Lent us = polls_first us
-may_wake_beside _ us = false
-
--- who may gain a reference: a Runnable too
-abbrev pub may_gain_beside : Rest → List Member → Bool
-may_gain_beside Runnable us = true
-may_gain_beside r us = may_wake_beside r us
+-- who may change the word that was found, by a wake or a gain: a lent waker of a task that has a handle
+abbrev pub may_change : Rest → State → Bool
+may_change Lent w = is_held w
+may_change _ w = true
 
 module _ {F T A : Type 0} where
+  -- who has a waker by reference gets a party of its own
+  abbrev pub borrowing : Step (Slot F T A) → Me (Slot F T A) View → ℕ → Me (Slot F T A) View → Type 0
+  borrowing st m r m' = m' ≡ (view m.0.limit (fresh (At Lent) ∷ []), [])
+
   -- what a step tells whose acts depend on the limit that the seat knows
   abbrev pub limited : (ℕ → State → List Act) → Step (Slot F T A) → Me (Slot F T A) View → ℕ → Me (Slot F T A) View → Type 0
   limited acts st m r m' = known (acts m.0.limit) st m r m'

@@ -13,5 +13,4 @@ pub mod PollScripts
 pub mod WakerScripts
 pub mod Beside
 pub mod Found
-pub mod Holders
 pub mod Held

@@ -1,11 +1,11 @@
--- The rule of the table: an interleaving of the machine ends in the present word, and each party that is left did in it what its seat knows.
-use Rattle.std.specs.Prelude.{◌⊎◌, ◌≡◌, ℕ, ◌<◌, Bool, true, false, cond, eqb, List, [], ◌∷◌, ◌++◌, length, slice_index, Option, Some, None}
+-- The rule of the table: an interleaving of the machine ends in the present word, and each party of a seat did in it what the seat knows.
+use Rattle.std.specs.Prelude.{◌⊎◌, ◌≡◌, ◌≢◌, ℕ, ◌<◌, Bool, true, false, cond, eqb, List, [], ◌∷◌, ◌++◌, length, slice_index, Option, Some, None}
 use mathlib.Core.Option.{some}
 use mathlib.Core.Option as maybe
 use lib.ListN.{get_elem?}
 use Rattle.atomic_table.specs.Table.{State as Board}
-use Rattle.task_core.specs.Word.{State, number_of, opening_word}
-use Rattle.task_laws.specs.declared.positions.Rest.TheVariants.{Runnable, Task}
+use Rattle.task_core.specs.Word.{State, number_of}
+use Rattle.task_laws.specs.declared.positions.Rest.TheVariants.{Runnable, Task, Lent}
 use Rattle.task_laws.specs.declared.positions.Position.{Position}
 use Rattle.task_laws.specs.declared.positions.Way.TheVariants.{OfClaim}
 use Rattle.task_laws.specs.declared.positions.Position.TheVariants.{At, Starting, Polling, Pending, Ready, Unstored, Stored, Cleared, FutureInHand, FutureGone, OutputInHand, Notifier, Taker, Releaser, AwaiterInHand, Claimer, OutputCloser}
@@ -36,16 +36,22 @@ fresh p = member p []
 abbrev pub view : ℕ → List Member → View
 view l ms = record { stage = Spawned; limit = l; members = ms }
 
--- the seat before the spawn
+-- the opening seat: the Runnable and the Task, before the spawn and after it
+abbrev pub opening_at : Stage → ℕ → View
+opening_at stage l = record { stage = stage; limit = l; members = fresh (At Runnable) ∷ fresh (At (Task 0)) ∷ [] }
+
 abbrev pub laid_view : ℕ → View
-laid_view l = record { stage = Laid; limit = l; members = [] }
+laid_view l = opening_at Laid l
 
 abbrev pub filling_view : ℕ → View
-filling_view l = record { stage = Filling; limit = l; members = [] }
+filling_view l = opening_at Filling l
 
--- the opening seat: the Runnable and the Task
 abbrev pub opening_view : ℕ → View
-opening_view l = view l (fresh (At Runnable) ∷ fresh (At (Task 0)) ∷ [])
+opening_view l = opening_at Spawned l
+
+-- the party that is no seat's: it lends its waker to each call by reference
+abbrev pub lender : ℕ
+lender = 2
 
 -- neither a row nor a load
 abbrev pub is_private : Act → Bool
@@ -103,13 +109,15 @@ DidLast k log ds = (older : List Deed) × (deeds_of k log ≡ ds ++ older)
 -- in this interleaving party k did last what is known of it, and it is this member of this seat
 pub record Fared (m : Machine) (log : List Entry) (holder : ℕ → ℕ × ℕ) (seat index : ℕ) (u : Member) (k : ℕ) : Type 0 where
   pub seated : holder k ≡ (seat, index)
+  pub apart : k ≢ lender
   pub at : get_elem? m.parties k ≡ some u.at
   pub did : DidLast k log u.deeds
 
--- an interleaving in which, under some numbering, each party that is left did what its seat knows
+-- an interleaving in which, under some numbering, each party of a seat did what the seat knows, and the lender is at rest
 pub record Told (limit : ℕ) (views : List View) (log : List Entry) (m : Machine) : Type 0 where
   pub holder : ℕ → ℕ × ℕ
   pub reaches : Reaches limit log m
+  pub lends : get_elem? m.parties lender ≡ some (At Lent)
   pub limited : (seat index : ℕ) (v : View) (u : Member) → get_elem? views seat ≡ some v → get_elem? v.members index ≡ some u → v.limit ≡ limit
   pub each : (seat index : ℕ) (v : View) (u : Member) → get_elem? views seat ≡ some v → get_elem? v.members index ≡ some u → (k : ℕ) × Fared m log holder seat index u k
 
@@ -167,32 +175,31 @@ module _ {F T A : Type 0} where
   abbrev pub AtHome : List (maybe.Option (Slot F T A)) → ℕ → (Slot F T A → Type 0) → Type 0
   AtHome homes k Is = (y : Slot F T A) × (get_elem? homes k ≡ some (some y)) × Is y
 
-  -- a place that no party has is at home, with what the machine says: 0 is the future's, 1 the output's, 2 the awaiter's
-  pub record Housed (m : Machine) (homes : List (maybe.Option (Slot F T A))) : Type 0 where
-    pub future : how_many has_work m.parties ≡ 0 → AtHome homes 0 (λ y. m.slots.future ≡ true → IsFuture y)
+  -- a place that no party has is at home, with what the machine says: 0 is the future's, once it was put in, 1 the output's, 2 the awaiter's
+  pub record Housed (filled : Bool) (m : Machine) (homes : List (maybe.Option (Slot F T A))) : Type 0 where
+    pub future : filled ≡ true → how_many has_work m.parties ≡ 0 → AtHome homes 0 (λ y. m.slots.future ≡ true → IsFuture y)
     pub output : how_many has_work m.parties ≡ 0 → AtHome homes 1 (λ z. m.slots.output ≡ true → IsOutput z)
     pub awaiter : how_many owns_awaiter m.parties ≡ 0 → count is_emptying m.trace ≡ 0 → AtHome homes 2 (Waits m.slots.awaiter)
 
-  -- before the spawn: one seat, and the places are empty, or that of the future is with the seat
-  pub record Spawning (limit : ℕ) (s : Board (Slot F T A) View) : Type 0 where
-    pub words : s.words ≡ number_of opening_word ∷ []
+  -- until the future was put in, its place is empty, or with the opening seat
+  pub record Unfilled (limit : ℕ) (s : Board (Slot F T A) View) : Type 0 where
     pub stage : Stage
-    pub views : s.views ≡ record { stage = stage; limit = limit; members = [] } ∷ []
-    pub unspawned : (stage ≡ Laid) × AtHome s.homes 0 IsEmpty ⊎ (stage ≡ Filling)
-    pub output : AtHome s.homes 1 IsEmpty
-    pub awaiter : AtHome s.homes 2 IsEmpty
+    pub first : get_elem? s.views 0 ≡ some (opening_at stage limit)
+    pub place : (stage ≡ Laid) × AtHome s.homes 0 IsEmpty ⊎ (stage ≡ Filling)
 
-  -- from then on: an interleaving of the machine
+  -- an interleaving of the machine, from the moment in which there is memory for the task
   pub record Running (limit : ℕ) (s : Board (Slot F T A) View) : Type 0 where
     pub log : List Entry
     pub machine : Machine
+    pub filled : Bool
     pub limited : machine.limit ≡ limit
     pub told : Told limit s.views log machine
     pub wide : length s.words ≡ 1
     pub word_is : slice_index s.words 0 ≡ number_of machine.word
-    pub housed : Housed machine s.homes
-    pub staged : (seat : ℕ) (v : View) → get_elem? s.views seat ≡ some v → v.stage ≡ Spawned
+    pub housed : Housed filled machine s.homes
+    pub unfilled : filled ≡ false → Unfilled limit s
+    pub staged : (seat : ℕ) (v : View) → (filled ≡ false → seat ≢ 0) → get_elem? s.views seat ≡ some v → v.stage ≡ Spawned
 
   pub record Ruled (limit : ℕ) (s : Board (Slot F T A) View) : Type 0 where
     pub capped : limit < 36028797018963968
-    pub phase : Spawning limit s ⊎ Running limit s
+    pub running : Running limit s

@@ -1,10 +1,12 @@
 -- How the parties of a seat go to other seats.
-use Rattle.std.specs.Prelude.{Bool, true, false, List, [], ◌∷◌, None}
+use Rattle.std.specs.Prelude.{Bool, true, false, ◌||◌, List, [], ◌∷◌, None}
 use Rattle.task_laws.specs.declared.positions.Position.{Position}
 use Rattle.task_laws.specs.declared.positions.Position.TheVariants.{At}
 use Rattle.task_laws.specs.declared.positions.Rest.TheVariants.{Runnable, Ended, Lent}
 use Rattle.task_core.specs.declared.moves.Act.TheVariants.{HandOver}
 use Rattle.task_steps.specs.declared.table.Member.{Member}
+use Rattle.task_steps.specs.declared.table.Stage.{Stage}
+use Rattle.task_steps.specs.declared.table.Stage.TheVariants.{Laid}
 use Rattle.task_steps.specs.declared.table.View.{View}
 use Rattle.task_steps.specs.Rule.{deed, member, view, fresh}
 use Rattle.task_steps.specs.Steps.{head_of, tail_of}
@@ -18,25 +20,6 @@ handing_over v = view v.limit (member (handed_over (head_of v.members).at) (deed
 abbrev pub runnable_of : View → View
 runnable_of v = view v.limit (fresh (At Runnable) ∷ [])
 
--- a run lends its waker: both parties go to another seat, the waker first, and the places stay with this one
-abbrev pub lending : View → View
-lending v = view v.limit []
-
-abbrev pub turned : List Member → List Member
-turned (u ∷ w ∷ []) = w ∷ u ∷ []
-turned us = us
-
-abbrev pub lent_of : View → View
-lent_of v = view v.limit (turned v.members)
-
--- .. and the run comes back; its waker is given up
-abbrev pub taking_back : View → View → View
-taking_back v w = view w.limit (tail_of w.members)
-
--- no party's
-abbrev pub nobody : View
-nobody = view 0 []
-
 -- nobody needs the party any more: it has ended, or was lent, and holds nothing
 abbrev pub needs_nobody : Position → Bool
 needs_nobody (At Ended) = true
@@ -45,8 +28,12 @@ needs_nobody _ = false
 
 -- nobody will step with the seat again: no task was spawned by it, or its first party may be let go
 abbrev pub is_spent : View → Bool
-is_spent v = none_left v.members
+is_spent v = is_laid v.stage || none_left v.members
   where
+    is_laid : Stage → Bool
+    is_laid Laid = true
+    is_laid _ = false
+
     none_left : List Member → Bool
     none_left [] = true
     none_left (u ∷ us) = needs_nobody u.at

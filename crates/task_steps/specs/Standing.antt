@@ -2,7 +2,7 @@
 use Rattle.std.specs.Prelude.{ℕ, ◌+◌, Bool, true, false}
 use Rattle.task_laws.specs.declared.positions.Position.{Position}
 use Rattle.task_laws.specs.declared.positions.Position.TheVariants.{At, Deliverer, Leaving, Answering, FutureInHand, Notifier, AwaiterInHand, Looking, Claiming, Claimer, Registrar, RefusedClone, Registered, OldAwaiterInHand, CloneInHand}
-use Rattle.task_laws.specs.declared.positions.Rest.TheVariants.{Task, Runnable, Waker, Ended}
+use Rattle.task_laws.specs.declared.positions.Rest.TheVariants.{Task, Runnable, Waker, Lent, Ended}
 use Rattle.task_laws.specs.Table.{goes_after}
 use Rattle.task_laws.specs.declared.positions.Answer.TheVariants.{Nothing}
 use Rattle.task_laws.specs.declared.positions.After.TheVariants.{ThenEnds}
@@ -16,6 +16,9 @@ as_runnable = At Runnable
 
 abbrev pub as_waker : Position
 as_waker = At Waker
+
+abbrev pub as_lent : Position
+as_lent = At Lent
 
 abbrev pub as_task : ℕ → Position
 as_task n = At (Task n)

@@ -3,7 +3,8 @@ use Rattle.std.specs.Prelude.{◌≡◌, ◌≢◌, ℕ, Bool, true, false, not,
 use Rattle.atomic_table.specs.Table.{Me, Step, rest}
 use Rattle.task_core.specs.Word.{State, state_of, is_open}
 use Rattle.task_laws.specs.declared.positions.Position.{Position}
-use Rattle.task_laws.specs.declared.positions.Position.TheVariants.{OrphanHolder, Releaser, OldAwaiterInHand, Registered, OutputCloser, Claimer, Notifier}
+use Rattle.task_laws.specs.declared.positions.Position.TheVariants.{At, OrphanHolder, Releaser, OldAwaiterInHand, Registered, OutputCloser, Claimer, Notifier}
+use Rattle.task_laws.specs.declared.positions.Rest.TheVariants.{Lent}
 use Rattle.task_laws.specs.declared.positions.Way.TheVariants.{OfClaim}
 use Rattle.task_core.specs.declared.moves.Act.{Act}
 use Rattle.task_core.specs.Rows.{found, written}
@@ -34,14 +35,22 @@ abbrev pub and_then : Option Outcome → (Outcome → Option Outcome) → Option
 and_then None f = None
 and_then (Some o) f = then_leaves o (f o)
 
--- what a party finds that is alone with its task
+-- what a party finds
 abbrev pub spot : ℕ → State → Slots → Scene
-spot limit w slots = record { limit = limit; word = w; slots = slots; polling = true }
+spot limit w slots = record { limit = limit; word = w; slots = slots }
+
+-- a lent waker has found a task that has a handle, where that was asked for
+abbrev pub is_lent : Position → Bool
+is_lent (At Lent) = true
+is_lent _ = false
+
+abbrev pub held_word : Position → State → State
+held_word p w = record w { task = is_lent p || w.task }
 
 -- what acts in a row leave, each by what the one before it left
 abbrev pub leaves_by : ℕ → State → Slots → List Act → Position → Option Outcome
 leaves_by limit w slots [] p = Some (steps (spot limit w slots) w p [] [])
-leaves_by limit w slots (a ∷ more) p = and_then (goes (spot limit w slots) (written a w) a p) (λ o. leaves_by limit o.word o.slots more o.next)
+leaves_by limit w slots (a ∷ more) p = and_then (goes (spot limit (held_word p w) slots) (written a w) a p) (λ o. leaves_by limit o.word o.slots more o.next)
 
 abbrev pub next_of : Option Outcome → Position
 next_of None = OrphanHolder

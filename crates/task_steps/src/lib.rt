@@ -2,10 +2,9 @@
 #![tactic(auto)]
 
 pub mod common;
-pub mod holder;
-pub mod lock;
 pub mod places;
 pub mod poll;
+pub mod resting;
 pub mod run;
 pub mod script;
 pub mod spawn;

@@ -1,10 +1,17 @@
 //! Steps by which a waker is gained, wakes and is dropped.
 ghost use Rattle.task_steps.specs.WakerScripts.{looking_for_room, gaining, refusing_gain, finding_over, waking_task, dropping_waker, closing_orphan};
-ghost use Rattle.task_steps.specs.Beside.{limited, limited_exchanged, forgetting, without_newest, newest};
+ghost use Rattle.task_steps.specs.Beside.{borrowing, limited, limited_exchanged, forgetting, without_newest, newest};
 
 use crate::script::Script;
 use crate::table::{Slot, View};
 use atomic_table::{Play, Split};
+
+/// Who has a waker by reference gets a party of its own, by a seat of its own.
+pub struct Borrowing;
+
+impl<F, T, A> Play<Slot<F, T, A>, View> for Borrowing {
+    ghost then = { borrowing };
+}
 
 /// A look at the count of references, by the limit that the seat knows.
 pub struct LookingForRoom;

@@ -1,6 +1,7 @@
 //! The words that calls write, and what a call has found, by the word that it wrote on.
 ghost use Rattle.std.specs.Prelude.{◌≡◌, ◌<◌, not, ◌&&◌, Some, None, if◌then◌else◌};
 ghost use Rattle.task_core.specs.Word.{is_open};
+ghost use Rattle.task_laws.specs.Table.{is_held as has_handle};
 ghost use Rattle.task_steps.specs.WakerScripts.{woken_word};
 ghost use Rattle.task_steps.specs.TaskScripts.{cancelled, detached};
 ghost use Rattle.task_steps.specs.RunScripts.{completed_word, after_pending};
@@ -51,6 +52,13 @@ pub enum Dropped {
     Last,
     /// No other handle was left, and the task was open.
     Orphaned,
+}
+
+/// Whether the task has a handle: its Task, or one that holds a reference.
+pub fn is_held(word: Word) -> bool
+    ensures { result ≡ has_handle word }
+{
+    word.task() || word.references() > 0
 }
 
 /// The word that a wake writes; `None` where the task is over.

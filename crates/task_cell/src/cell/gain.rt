@@ -16,6 +16,7 @@ use task_core::word::Word;
 use task_steps::Always;
 use task_steps::table::Kept;
 use task_steps::waker::{Gaining, LookingForRoom, Parting, RefusingGain};
+use task_steps::words::is_held;
 
 impl<R: Drop, F: Yields, Q: Drop, M: Drop, A: Drop, B: Allocator> Cell<R, F, Q, M, A, B> {
     // Ends a gain whose memory was refused: it made no row. One load.
@@ -59,6 +60,11 @@ impl<R: Wait + Drop, F: Yields, Q: Drop, M: Drop, A: Drop, B: Allocator> Cell<R,
             let Some(next) = word.gain_reference(self.limit) else {
                 return false;
             };
+            if !is_held(word) {
+                // No call finds this that has a handle: it looks again.
+                word = Word::from_bits(shared.load::<LookingForRoom>(&mut party.seat, 0));
+                continue;
+            }
             let found = shared.compare_exchange::<Gaining>(
                 &mut party.seat,
                 0,

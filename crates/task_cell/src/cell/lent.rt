@@ -8,16 +8,13 @@ ghost use Rattle.task_steps.specs.declared.table.Slot.TheVariants.{Future as Lie
 ghost use Rattle.task_steps.specs.Rule.{IsFuture};
 ghost use Rattle.task_steps.specs.Steps.{future_first};
 ghost use Rattle.task_cell.specs.Calls.{StandsWith, deeds, limit_of};
-ghost use Rattle.task_cell.specs.Starts.{IsLending};
 ghost use Rattle.task_cell.specs.Handed.{LentTo};
 
-use super::waker::{Hold, WakerSeat};
+use super::waker::WakerSeat;
 use super::{Cell, Party, Runnable, Share, TaskWaker};
 use std::alloc::Allocator;
 use std::sync::{Arc, Wait};
 use task_core::{Future, Poll, Schedule, Wake, Yields};
-use task_steps::holder::SeatHolder;
-use task_steps::start::{Lending, TakingBack};
 use task_steps::table::{Kept, polled};
 
 impl<R: Wait + Drop, F: Yields, Q: Drop, M: Drop, A: Wake, B: Allocator> Cell<R, F, Q, M, A, B> {
@@ -36,38 +33,24 @@ impl<R: Wait + Drop, F: Yields, Q: Drop, M: Drop, A: Wake, B: Allocator> Cell<R,
         Q: Schedule<Runnable<R, F, Q, M, A, X, B>>,
         requires cell { party.seat.table_id ≡ (arc_value share.cell).table.shared.table_id }
         requires limit { limit_of party ≡ (arc_value share.cell).limit }
-        requires party { (y : Slot F _ A) × (z : Slot F _ A) × IsLending y z party × IsFuture y }
+        requires party { (y : Slot F _ A) × (z : Slot F _ A) × StandsWith Polling (future_first y z []) party × IsFuture y }
         ensures share { result.0 ≡ share }
         ensures seat { result.1.seat.table_id ≡ party.seat.table_id }
         ensures limit { limit_of result.1 ≡ limit_of party }
         ensures deeds { deeds result.1 ≡ deeds party }
-        ensures once { (f : F) × (g : F) × (z : Slot F _ A) × IsLending (Lies f) z party × StandsWith Polling (future_first (Lies g) z []) result.1 × LentTo F.polled (arc_value share.cell) around f result.2 g }
+        ensures once { (f : F) × (g : F) × (z : Slot F _ A) × StandsWith Polling (future_first (Lies f) z []) party × StandsWith Polling (future_first (Lies g) z []) result.1 × LentTo F.polled (arc_value share.cell) around f result.2 g }
         ensures meets { IfReady result.2 F.Yields.meets }
     {
         let Party { mut seat } = party;
-        let other = share.cell().table.shared.split_seat::<Lending>(&mut seat);
-        let inner = WakerSeat {
-            share,
-            holder: SeatHolder::locked(other),
-            hold: Hold::Lent,
+        let waker = TaskWaker {
+            inner: WakerSeat::lent(share),
+            around,
         };
-        let waker = TaskWaker { inner, around };
         let answer = polled(
             seat.slot_mut(&waker.inner.share.cell().table.shared, 0),
             &waker,
         );
         let (inner, _) = waker.into_parts();
-        let WakerSeat {
-            share,
-            holder,
-            hold: _,
-        } = inner;
-        let other = holder.into_seat(&share.cell().rt);
-        share
-            .cell()
-            .table
-            .shared
-            .join_seat::<TakingBack>(&mut seat, other);
-        (share, Party { seat }, answer)
+        (inner.into_share(), Party { seat }, answer)
     }
 }

@@ -13,7 +13,7 @@ use task_core::word::Word;
 use task_steps::table::Kept;
 use task_steps::task::{Knowing, KnowingExchange};
 use task_steps::waker::{FindingOver, Parting, WakingTask};
-use task_steps::words::{was_idle, woken};
+use task_steps::words::{is_held, was_idle, woken};
 
 impl<R: Wait + Drop, F: Yields, Q: Drop, M: Drop, A: Drop, B: Allocator> Cell<R, F, Q, M, A, B> {
     /// Wakes the task, unless it is over. Where it was idle, the answer is a deliverer, which is to hand a Runnable over by `deliver`.
@@ -44,6 +44,11 @@ impl<R: Wait + Drop, F: Yields, Q: Drop, M: Drop, A: Drop, B: Allocator> Cell<R,
             let Some(next) = woken(word) else {
                 return false;
             };
+            if !is_held(word) {
+                // No call finds this that has a waker: it looks again.
+                word = Word::from_bits(shared.load::<Knowing<FindingOver>>(&mut party.seat, 0));
+                continue;
+            }
             let found = shared.compare_exchange::<KnowingExchange<WakingTask>>(
                 &mut party.seat,
                 0,

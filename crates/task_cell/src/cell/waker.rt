@@ -4,38 +4,34 @@ ghost use Rattle.std.specs.Arc.{arc_value};
 ghost use Rattle.task_steps.specs.Rule.{view, fresh};
 ghost use Rattle.task_cell.specs.Calls.{Stands, limit_of};
 ghost use Rattle.task_steps.specs.Standing.{as_waker, as_deliverer};
-ghost use Rattle.task_steps.specs.Holders.{roost};
-ghost use Rattle.task_cell.specs.Wakers.{waker_view};
+ghost use Rattle.task_cell.specs.Wakers.{table_of, view_of, waker_view};
 
 use super::{Cell, Party, Runnable, Share};
 use std::alloc::{Allocator, Global};
 use std::sync::Wait;
 use task_core::{Schedule, Wake, Yields};
-use task_steps::holder::SeatHolder;
-use task_steps::table::{Kept, discard};
+use task_steps::resting::RestingSeat;
+use task_steps::table::Kept;
 
-/// Whether a waker holds a reference.
-#[derive(Drop)]
-pub(crate) enum Hold {
-    /// It does, and gives it up when it is dropped.
-    Owned,
-    /// It does not: it was lent to a poll.
+/// What a waker holds.
+pub(crate) enum Hold<F, T, A> {
+    /// A reference, which it gives up when it is dropped, by this seat.
+    Owned(RestingSeat<F, T, A>),
+    /// Nothing: it was lent to a poll.
     Lent,
 }
 
-/// A share of a cell, and what holds the seat of a waker.
+/// A share of a cell, and what a waker holds.
 pub(crate) struct WakerSeat<R, F: Yields, Q, M, A, B: Allocator> {
     pub(crate) share: Share<R, F, Q, M, A, B>,
-    pub(crate) holder: SeatHolder<F, Kept<F>, A>,
-    pub(crate) hold: Hold,
-    ghost seated: { (roost holder).table_id ≡ (arc_value share.cell).table.shared.table_id },
-    ghost limited: { (roost holder).view.limit ≡ (arc_value share.cell).limit },
-    ghost placed: { (roost holder).view ≡ waker_view hold (roost holder).view },
+    pub(crate) hold: Hold<F, Kept<F>, A>,
+    ghost seated: { table_of hold (arc_value share.cell).table.shared.table_id ≡ (arc_value share.cell).table.shared.table_id },
+    ghost placed: { view_of hold (waker_view (arc_value share.cell).limit) ≡ waker_view (arc_value share.cell).limit },
 }
 
 impl<R, F: Yields, Q, M, A, B: Allocator> WakerSeat<R, F, Q, M, A, B> {
-    // A waker that was gained, for one who mostly gives it up: woken by value, or dropped.
-    pub(crate) fn passing(
+    // A waker that was gained.
+    pub(crate) fn owned(
         share: Share<R, F, Q, M, A, B>,
         party: Party<F, Kept<F>, A>,
     ) -> WakerSeat<R, F, Q, M, A, B>
@@ -46,8 +42,55 @@ impl<R, F: Yields, Q, M, A, B: Allocator> WakerSeat<R, F, Q, M, A, B> {
         let Party { seat } = party;
         WakerSeat {
             share,
-            holder: SeatHolder::locked(seat),
-            hold: Hold::Owned,
+            hold: Hold::Owned(RestingSeat::new(seat)),
+        }
+    }
+
+    // The waker of a poll.
+    pub(crate) fn lent(share: Share<R, F, Q, M, A, B>) -> WakerSeat<R, F, Q, M, A, B>
+        ensures share { result.share ≡ share }
+        ensures lent { result.hold ≡ Hold.Lent }
+    {
+        WakerSeat {
+            share,
+            hold: Hold::Lent,
+        }
+    }
+
+    // The share of a waker that was lent, once the poll has answered.
+    pub(crate) fn into_share(self) -> Share<R, F, Q, M, A, B>
+        requires { self.hold ≡ Hold.Lent }
+        ensures { result ≡ self.share }
+    {
+        let WakerSeat { share, hold } = self;
+        match hold {
+            Hold::Lent => share,
+            Hold::Owned(resting) => {
+                drop(resting.into_seat());
+                unreachable!()
+            }
+        }
+    }
+
+    // The share and the party of an owned waker; a lent one stays as it is.
+    pub(crate) fn into_owned(
+        self,
+    ) -> Result<(Share<R, F, Q, M, A, B>, Party<F, Kept<F>, A>), WakerSeat<R, F, Q, M, A, B>>
+        ensures share { IfOk result (λ owned. owned.0 ≡ self.share) }
+        ensures cell { IfOk result (λ owned. (owned.1.seat.table_id ≡ (arc_value owned.0.cell).table.shared.table_id) × (limit_of owned.1 ≡ (arc_value owned.0.cell).limit)) }
+        ensures party { IfOk result (λ owned. Stands as_waker owned.1) }
+        ensures lent { IfErr result (λ lent. (lent.share ≡ self.share) × (lent.hold ≡ Hold.Lent)) }
+    {
+        let WakerSeat { share, hold } = self;
+        match hold {
+            Hold::Lent => Err(WakerSeat {
+                share,
+                hold: Hold::Lent,
+            }),
+            Hold::Owned(resting) => {
+                let seat = resting.into_seat();
+                Ok((share, Party { seat }))
+            }
         }
     }
 }
@@ -60,61 +103,17 @@ impl<R: Wait + Drop, F: Yields, Q: Drop, M: Drop, A: Wake, B: Allocator> WakerSe
     A,
     B,
 > {
-    // A waker that was gained, for one who keeps it and wakes by it.
-    pub(crate) fn kept(
-        share: Share<R, F, Q, M, A, B>,
-        party: Party<F, Kept<F>, A>,
-    ) -> WakerSeat<R, F, Q, M, A, B>
-        requires cell { party.seat.table_id ≡ (arc_value share.cell).table.shared.table_id }
-        requires party { party.seat.me ≡ (view (arc_value share.cell).limit (fresh as_waker ∷ []), []) }
-        ensures { result.share ≡ share }
-    {
-        let Party { seat } = party;
-        let holder = SeatHolder::perched(&share.cell().rt, seat);
-        WakerSeat {
-            share,
-            holder,
-            hold: Hold::Owned,
-        }
-    }
-
-    // One more waker, which is owned. The clone of the lent one is that which a future keeps; the clone of an owned one is mostly woken by value or dropped, and then a lock costs nothing.
+    // One more waker, which is owned.
     pub(crate) fn gain(&self) -> Option<WakerSeat<R, F, Q, M, A, B>>
         ensures { IfSome result (λ gained. arc_value gained.share.cell ≡ arc_value self.now.share.cell) }
     {
-        let (share, party) = Cell::gain_at(self.share.cell(), &self.holder)?;
-        Some(match self.hold {
-            Hold::Lent => WakerSeat::kept(share, party),
-            Hold::Owned => WakerSeat::passing(share, party),
-        })
-    }
-
-    // The share and the party of an owned waker, whose seat is not put back; a lent one stays as it is.
-    pub(crate) fn into_owned(
-        self,
-    ) -> Result<(Share<R, F, Q, M, A, B>, Party<F, Kept<F>, A>), WakerSeat<R, F, Q, M, A, B>>
-        ensures share { IfOk result (λ owned. owned.0 ≡ self.share) }
-        ensures cell { IfOk result (λ owned. (owned.1.seat.table_id ≡ (arc_value owned.0.cell).table.shared.table_id) × (limit_of owned.1 ≡ (arc_value owned.0.cell).limit)) }
-        ensures party { IfOk result (λ owned. Stands as_waker owned.1) }
-        ensures lent { IfErr result (λ lent. (lent ≡ self) × (lent.hold ≡ Hold.Lent)) }
-    {
-        match self.hold {
-            Hold::Lent => Err(self),
-            Hold::Owned => {
-                let WakerSeat {
-                    share,
-                    holder,
-                    hold: _,
-                } = self;
-                let seat = holder.into_seat(&share.cell().rt);
-                Ok((share, Party { seat }))
-            }
-        }
+        let (share, party) = Cell::gain_by_reference(self.share.cell())?;
+        Some(WakerSeat::owned(share, party))
     }
 
     // Wakes the task: the deliverer, where it was idle.
     //
-    // A look is enough where it finds the task over: the flags of a task that is completed or closed never go out, so the wake would find it over too, and such a wake changes nothing. The seat stays where it is then.
+    // A look is enough where it finds the task over: the flags of a task that is completed or closed never go out, so the wake would find it over too, and such a wake changes nothing.
     pub(crate) fn wake(&self) -> Option<Party<F, Kept<F>, A>>
         ensures cell { IfSome result (λ d. (d.seat.table_id ≡ (arc_value self.now.share.cell).table.shared.table_id) × (limit_of d ≡ (arc_value self.now.share.cell).limit)) }
         ensures deliverer { IfSome result (λ d. Stands as_deliverer d) }
@@ -122,13 +121,13 @@ impl<R: Wait + Drop, F: Yields, Q: Drop, M: Drop, A: Wake, B: Allocator> WakerSe
         if !self.share.cell().word().is_open() {
             return None;
         }
-        self.share.cell().wake_at(&self.holder)
+        self.share.cell().wake_by_reference()
     }
 }
 
 /// What wakes a task: a future keeps one, a clone of that which its poll is lent, and wakes it once a further poll can help. It holds a reference.
 ///
-/// The waker that a poll is lent holds none, and is taken back when the poll has answered. Threads that use one waker at the same time take turns.
+/// The waker that a poll is lent holds none, and is taken back when the poll has answered. Threads may use one waker at the same time, and none waits for another.
 pub struct TaskWaker<
     R: Wait + Drop,
     F: Yields,
@@ -158,15 +157,7 @@ where
                 party.let_go();
                 share.give_up();
             }
-            Err(lent) => {
-                let WakerSeat {
-                    share,
-                    holder,
-                    hold: _,
-                } = lent;
-                discard(holder.into_seat(&share.cell().rt));
-                share.give_up();
-            }
+            Err(lent) => lent.into_share().give_up(),
         }
     }
 }

@@ -42,9 +42,9 @@ impl<R: Wait + Drop, F: Yields, Q: Drop, M: Drop, A: Wake, X: Copy, B: Allocator
         ensures cell { IfSome result (λ waker. arc_value waker.inner.share.cell ≡ arc_value self.now.inner.share.cell) }
         ensures around { IfSome result (λ waker. waker.around ≡ self.now.around) }
     {
-        let (share, party) = Cell::gain_at(self.inner.share.cell(), &self.inner.holder)?;
+        let (share, party) = Cell::gain_by_reference(self.inner.share.cell())?;
         Some(TaskWaker {
-            inner: WakerSeat::kept(share, party),
+            inner: WakerSeat::owned(share, party),
             around: self.around,
         })
     }

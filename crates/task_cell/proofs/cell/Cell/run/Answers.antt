@@ -5,7 +5,7 @@ use Rattle.task_cell.specs.RunCalls.{EndsUnready}
 use Rattle.task_cell.specs.Handed.{HandedOver}
 use Rattle.task_steps.specs.Steps.{future_first}
 use Rattle.task_cell.proofs.Moved.{stands}
-use Rattle.task_cell.proofs.Running.{shut, started, lending, limit_started, run_closed, run_ready, run_pending}
+use Rattle.task_cell.proofs.Running.{shut, started, polls_there, limit_started, run_closed, run_ready, run_pending}
 use Rattle.task_cell.proofs.cell.Cell.run.Goals as goal
 
 pub end_closed_run-ended-requires-clause-cell : goal.end_closed_run-ended-requires-clause-cell
@@ -22,7 +22,7 @@ returns-then-not-started-clause-path g c = let s = shut c.args.party c.begin_run
 
 pub poll_future-share-requires-clause-cell : goal.poll_future-share-requires-clause-cell
 poll_future-share-requires-clause-cell g c = let s = started c.args.party c.begin_run-party.result.0 c.begin_run-party.result.1 c.begin_run-party.ensures c.if-not-started.false in
-    s.cell ∙ c.requires.cell.0
+    s.goes.cell ∙ c.requires.cell.0
 
 pub poll_future-share-requires-clause-limit : goal.poll_future-share-requires-clause-limit
 poll_future-share-requires-clause-limit g c = let s = started c.args.party c.begin_run-party.result.0 c.begin_run-party.result.1 c.begin_run-party.ensures c.if-not-started.false in
@@ -30,11 +30,11 @@ poll_future-share-requires-clause-limit g c = let s = started c.args.party c.beg
 
 pub poll_future-share-requires-clause-party : goal.poll_future-share-requires-clause-party
 poll_future-share-requires-clause-party g c = let s = started c.args.party c.begin_run-party.result.0 c.begin_run-party.result.1 c.begin_run-party.ensures c.if-not-started.false in
-    (s.place, s.other, lending c.args.party c.begin_run-party.result.0 s, s.future)
+    (s.place, s.other, polls_there c.args.party c.begin_run-party.result.0 s, s.future)
 
 pub end_ready_run-ended-requires-clause-cell : goal.end_ready_run-ended-requires-clause-cell
 end_ready_run-ended-requires-clause-cell g c = let s = started c.args.party c.begin_run-party.result.0 c.begin_run-party.result.1 c.begin_run-party.ensures c.if-not-started.false in let p = c.poll_future-share.ensures in
-    p.seat ∙ (s.cell ∙ (c.requires.cell.0 ∙ ap (λ z. z.table.shared.table_id) (sym (c.deref-in-Ready.ensures ∙ ap (λ z. arc_value z) (c.cell-in-Ready.ensures ∙ ap (λ z. z.cell) p.share)))))
+    p.seat ∙ (s.goes.cell ∙ (c.requires.cell.0 ∙ ap (λ z. z.table.shared.table_id) (sym (c.deref-in-Ready.ensures ∙ ap (λ z. arc_value z) (c.cell-in-Ready.ensures ∙ ap (λ z. z.cell) p.share)))))
 
 pub end_ready_run-ended-requires-clause-party : goal.end_ready_run-ended-requires-clause-party
 end_ready_run-ended-requires-clause-party g c = let p = c.poll_future-share.ensures in (_, p.once.2, p.once.4)
@@ -45,7 +45,7 @@ returns-in-Ready-clause-path g c = let s = started c.args.party c.begin_run-part
 
 pub end_pending_run-ended-requires-clause-cell : goal.end_pending_run-ended-requires-clause-cell
 end_pending_run-ended-requires-clause-cell g c = let s = started c.args.party c.begin_run-party.result.0 c.begin_run-party.result.1 c.begin_run-party.ensures c.if-not-started.false in let p = c.poll_future-share.ensures in
-    (p.seat ∙ (s.cell ∙ (c.requires.cell.0 ∙ ap (λ (z : Cell g.row.R.Denot g.row.F.Denot g.row.Q.Denot g.row.M.Denot g.row.A.Denot g.row.B.Denot g.row.F-Output.Denot g.F.Yields). z.table.shared.table_id) (sym (ap (λ z. arc_value z) (c.cell-in-Pending.ensures ∙ ap (λ z. z.cell) p.share))))), p.limit ∙ (limit_started c.args.party c.begin_run-party.result.0 s ∙ (c.requires.cell.1 ∙ ap (λ (z : Cell g.row.R.Denot g.row.F.Denot g.row.Q.Denot g.row.M.Denot g.row.A.Denot g.row.B.Denot g.row.F-Output.Denot g.F.Yields). z.limit) (sym (ap (λ z. arc_value z) (c.cell-in-Pending.ensures ∙ ap (λ z. z.cell) p.share))))))
+    (p.seat ∙ (s.goes.cell ∙ (c.requires.cell.0 ∙ ap (λ (z : Cell g.row.R.Denot g.row.F.Denot g.row.Q.Denot g.row.M.Denot g.row.A.Denot g.row.B.Denot g.row.F-Output.Denot g.F.Yields). z.table.shared.table_id) (sym (ap (λ z. arc_value z) (c.cell-in-Pending.ensures ∙ ap (λ z. z.cell) p.share))))), p.limit ∙ (limit_started c.args.party c.begin_run-party.result.0 s ∙ (c.requires.cell.1 ∙ ap (λ (z : Cell g.row.R.Denot g.row.F.Denot g.row.Q.Denot g.row.M.Denot g.row.A.Denot g.row.B.Denot g.row.F-Output.Denot g.F.Yields). z.limit) (sym (ap (λ z. arc_value z) (c.cell-in-Pending.ensures ∙ ap (λ z. z.cell) p.share))))))
 
 pub end_pending_run-ended-requires-clause-party : goal.end_pending_run-ended-requires-clause-party
 end_pending_run-ended-requires-clause-party g c = let p = c.poll_future-share.ensures in (_, p.once.2, p.once.4, tt)

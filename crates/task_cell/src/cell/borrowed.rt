@@ -1,0 +1,78 @@
+//! Calls by a reference to a handle: each gets a party of its own, by a load of the word.
+ghost use Rattle.std.specs.Prelude.{◌≡◌, ℕ, [], ◌∷◌, List, IfSome, is_some};
+ghost use Rattle.std.specs.Arc.{arc_value};
+ghost use Rattle.task_laws.specs.declared.positions.Rest.{Rest};
+ghost use Rattle.task_steps.specs.declared.table.Member.{Member};
+ghost use Rattle.task_steps.specs.Rule.{view, fresh};
+ghost use Rattle.task_cell.specs.Calls.{IsNew, limit_of};
+ghost use Rattle.task_steps.specs.Standing.{as_waker, as_deliverer, as_lent};
+ghost use Rattle.task_cell.specs.Wakers.{MayGain};
+ghost use Rattle.task_cell.specs.WakerPaths.{GainsShare};
+
+use super::{Cell, Party, Share};
+use std::alloc::Allocator;
+use std::sync::{Arc, Wait};
+use task_core::Yields;
+use task_steps::table::{Kept, discard};
+use task_steps::waker::Borrowing;
+
+impl<R: Wait + Drop, F: Yields, Q: Drop, M: Drop, A: Drop, B: Allocator> Cell<R, F, Q, M, A, B> {
+    // The party of one call by reference.
+    fn borrow(&self) -> Party<F, Kept<F>, A>
+        ensures cell { result.seat.table_id ≡ self.now.table.shared.table_id }
+        ensures party { result.seat.me ≡ (view self.now.limit (fresh as_lent ∷ []), []) }
+    {
+        let (_, seat) = self.table.shared.load_new_seat::<Borrowing>(0);
+        Party { seat }
+    }
+
+    // A gain, and a share of the cell for the new waker.
+    fn gain_with_share(
+        this: &Arc<Self, B>,
+        party: &mut Party<F, Kept<F>, A>,
+    ) -> Option<(Share<R, F, Q, M, A, B>, Party<F, Kept<F>, A>)>
+        requires cell { (party.old.seat.table_id ≡ (arc_value this.now).table.shared.table_id) × (limit_of party.old ≡ (arc_value this.now).limit) }
+        requires party { (r : Rest) × (us : List Member) × MayGain r us party.old }
+        ensures path { (r : Rest) (us : List Member) → MayGain r us party.old → GainsShare (arc_value this.now).limit r us party.old party.new (is_some result) }
+        ensures cell { IfSome result (λ gained. arc_value gained.0.cell ≡ arc_value this.now) }
+        ensures waker { IfSome result (λ gained. IsNew as_waker party.old gained.1) }
+    {
+        let Ok(share) = Arc::try_clone(this) else {
+            this.refuse_gain(party);
+            return None;
+        };
+        let share = Share::of(share);
+        match this.gain(party) {
+            Some(waker) => Some((share, waker)),
+            None => {
+                share.give_up();
+                None
+            }
+        }
+    }
+
+    // A gain by whoever has a handle by reference: a share for the new waker, and its party.
+    pub(crate) fn gain_by_reference(
+        this: &Arc<Self, B>,
+    ) -> Option<(Share<R, F, Q, M, A, B>, Party<F, Kept<F>, A>)>
+        ensures cell { IfSome result (λ gained. arc_value gained.0.cell ≡ arc_value this.now) }
+        ensures waker { IfSome result (λ gained. (gained.1.seat.table_id ≡ (arc_value this.now).table.shared.table_id) × (gained.1.seat.me ≡ (view (arc_value this.now).limit (fresh as_waker ∷ []), []))) }
+    {
+        let mut party = this.borrow();
+        let gained = Cell::gain_with_share(this, &mut party);
+        let Party { seat } = party;
+        discard(seat);
+        gained
+    }
+
+    // A wake by whoever has a waker by reference: the deliverer, where the task was idle.
+    pub(crate) fn wake_by_reference(&self) -> Option<Party<F, Kept<F>, A>>
+        ensures deliverer { IfSome result (λ d. (d.seat.table_id ≡ self.now.table.shared.table_id) × (d.seat.me ≡ (view self.now.limit (fresh as_deliverer ∷ []), []))) }
+    {
+        let mut party = self.borrow();
+        let deliverer = self.wake_by_ref(&mut party);
+        let Party { seat } = party;
+        discard(seat);
+        deliverer
+    }
+}

@@ -1,0 +1,51 @@
+-- The rule of a table that was just made: the machine stands at its opening, and the future is still to be put in.
+use Rattle.std.proofs.Common.{◌≡◌, ℕ, zero, suc, ◌<◌, ◌≢◌, true, false, List, [], ◌∷◌, map, sym, refl, ap, ◌∙◌, subst, inl, arith}
+use mathlib.Core.Option.{some, some-injective, some-ne-none}
+use lib.ListN.{get_elem?}
+use Rattle.atomic_table.specs.Table.{opening}
+use Rattle.task_laws.specs.declared.positions.Position.TheVariants.{At}
+use Rattle.task_laws.specs.declared.positions.Rest.TheVariants.{Runnable, Task}
+use Rattle.task_laws.specs.Machine.{opening as opening_machine}
+use Rattle.task_steps.specs.declared.table.Slot.{Slot}
+use Rattle.task_steps.specs.declared.table.Slot.TheVariants.{Empty}
+use Rattle.task_steps.specs.declared.table.Member.{Member}
+use Rattle.task_steps.specs.declared.table.Stage.TheVariants.{Laid}
+use Rattle.task_steps.specs.declared.table.View.{View}
+use Rattle.task_steps.specs.Rule.{fresh, laid_view, lender, DidLast, Told, Ruled}
+use Rattle.task_steps.proofs.Told.{did_nothing}
+use Rattle.task_steps.proofs.Seats.{just}
+
+-- the Runnable and the Task of the opening seat have done nothing
+laid_told : (limit : ℕ) → Told limit (laid_view limit ∷ []) [] (opening_machine limit)
+laid_told limit = record {
+  holder = λ k. (0, k);
+  reaches = refl;
+  lends = refl;
+  limited = λ seat index v u f g. ap (λ (w : View). w.limit) (sym (just (laid_view limit) seat v f).1);
+  each = λ seat index v u f g. let e = just (laid_view limit) seat v f in let k = stands index u (ap (λ (w : View). get_elem? w.members index) e.1 ∙ g) in
+      (index, record { seated = λ i. (sym e.0 i, index); apart = k.0; at = k.1; did = subst (DidLast index []) (sym k.2) (did_nothing index []) });
+}
+  where
+    stands : (index : ℕ) (u : Member) → get_elem? (laid_view limit).members index ≡ some u → (index ≢ lender) × (get_elem? (opening_machine limit).parties index ≡ some u.at) × (u.deeds ≡ [])
+    stands zero u e = let x = some-injective (fresh (At Runnable)) u e in ((λ z. omega arith), ap (λ (w : Member). some w.at) x, sym (ap (λ (w : Member). w.deeds) x))
+    stands (suc zero) u e = let x = some-injective (fresh (At (Task 0))) u e in ((λ z. omega arith), ap (λ (w : Member). some w.at) x, sym (ap (λ (w : Member). w.deeds) x))
+    stands (suc (suc n)) u e = absurd (some-ne-none u (sym e))
+
+module _ (F T A : Type 0) (limit : ℕ) where
+  -- three empty places, and the opening word
+  pub laid : (xs : List (Slot F T A)) → limit < 36028797018963968 → xs ≡ Empty ∷ Empty ∷ Empty ∷ [] → Ruled {F = F} {T = T} {A = A} limit (opening (273 ∷ []) xs (laid_view limit))
+  laid xs capped are = subst (λ (l : List (Slot F T A)). Ruled {F = F} {T = T} {A = A} limit (opening (273 ∷ []) l (laid_view limit))) (sym are) (record {
+    capped = capped;
+    running = record {
+      log = [];
+      machine = opening_machine limit;
+      filled = false;
+      limited = refl;
+      told = laid_told limit;
+      wide = refl;
+      word_is = refl;
+      housed = record { future = λ e. absurd (cc); output = λ n. (Empty, refl, λ e. absurd (cc)); awaiter = λ n e. (Empty, refl, tt) };
+      unfilled = λ e. record { stage = Laid; first = refl; place = inl (refl, (Empty, refl, tt)) };
+      staged = λ seat v apart f. absurd (apart refl (just (laid_view limit) seat v f).0);
+    };
+  })
