@@ -23,6 +23,7 @@ PRIMITIVES = {
     "&&": operator.and_,
     "not": operator.not_,
     "cond": lambda condition, positive, negative: positive if condition else negative,
+    "suc": lambda number: number + 1,
     "+": operator.add,
     "-": lambda left, right: max(0, left - right),
     "*": operator.mul,
@@ -129,8 +130,8 @@ class Parser:
             self.take(")")
         elif token == "record":
             result = ("record", None if self.at("{") else self.atom(), self.fields())
-        elif token[0].isdigit():
-            result = ("constant", int(token, 0))
+        elif token[0].isdigit() or token == "zero":
+            result = ("constant", 0 if token == "zero" else int(token, 0))
         elif token in ("true", "false"):
             result = ("constant", token == "true")
         else:
@@ -156,9 +157,11 @@ class Definitions:
         """Keeps the equations of each name, in their order."""
         self.equations = {}
         for text in texts:
+            # what stands below a `where` are items of their own
+            text = re.sub(r"\n  where((?:\n    .*)*)", lambda local: local[1].replace("\n    ", "\n"), re.sub(r"--.*", "", text))
             # an item goes on until a line begins with a letter; types and imports are no equations
-            for item in re.findall(r"^\w.*(?:\n(?!\w).*)*", re.sub(r"--.*", "", text), re.MULTILINE):
-                if not re.match(r"(use|pub|abbrev) ", item):
+            for item in re.findall(r"^\w.*(?:\n(?!\w).*)*", text, re.MULTILINE):
+                if not re.match(r"(use|pub|abbrev) |\w+ : ", item):
                     name, patterns, body = Parser(item).equation()
                     self.equations.setdefault(name, []).append((patterns, body))
 
@@ -184,6 +187,9 @@ class Definitions:
         """Whether the value fits the pattern; the scope gets the values of the pattern's variables."""
         if pattern[0] == "constant":
             return pattern[1] == value
+        if pattern[0] == "apply":
+            # of functions only the successor stands in a pattern
+            return value > 0 and self.fits(pattern[2][0], value - 1, scope)
         if pattern[0] == "constructor":
             inner = zip(pattern[2], value[1:])
             return pattern[1] == value[0] and all(self.fits(part, of_value, scope) for part, of_value in inner)
@@ -236,21 +242,21 @@ class Exploration:
         while front:
             front = [after for before in front for after in self.follow(before)]
 
-    def scene(self, word, slots, parties):
+    def scene(self, word, slots):
         """What a party finds in this state."""
-        chain = functools.reduce(lambda others, party: ("∷", party, others), parties, ("[]",))
-        return self.definitions("scene", (("limit", LIMIT), ("word", word), ("slots", slots), ("parties", chain)))
+        return self.definitions("scene", (("limit", LIMIT), ("word", word), ("slots", slots)))
 
     def settled(self, word, slots, parties):
         """The state without what makes no difference to any other party, so that there are few of them.
 
-        The end of a call neither finds nor leaves anything: it is made at once. An ended party makes no step, nor does a
-        lent waker between two polls of the future, and the next poll lends a new one. The order of parties is of no use.
+        The end of a call neither finds nor leaves anything: it is made at once. So a lent waker is between two calls again
+        after each of its steps, and of several one can do what all can. An ended party makes no step. The order of parties
+        is of no use.
         """
-        scene = self.scene(word, slots, parties)
+        scene, ended, lent = self.scene(word, slots), ("At", ("Ended",)), ("At", ("Lent",))
         rested = [dict(self.outcome(scene, "EndCall", party) or {"next": party})["next"] for party in parties]
-        gone = [("At", ("Ended",))] + ([] if dict(scene)["polling"] else [("At", ("Lent",))])
-        return word, slots, tuple(sorted(party for party in rested if party not in gone))
+        others = [party for party in rested if party not in (ended, lent)]
+        return word, slots, tuple(sorted(others + [lent] * (lent in rested)))
 
     @functools.lru_cache(maxsize=None)
     def outcome(self, scene, act, position):
@@ -261,7 +267,7 @@ class Exploration:
     def follow(self, state):
         """The new states after one step of one party."""
         word, slots, parties = state
-        scene, new = self.scene(word, slots, parties), []
+        scene, new = self.scene(word, slots), []
         for party, act in ((party, act) for party in sorted(set(parties)) for act in self.acts):
             left = self.outcome(scene, act, party)
             if left is None or ("Polls", POLLS + 1) in items_of(left["told"]):

@@ -26,11 +26,23 @@ fn gain_all(player: &mut Player, party: u64) -> Result<(), PlayError> {
     Ok(())
 }
 
-// Every second waker from that number on wakes the scheduled task, and the others are dropped.
-fn wake_or_drop_all(player: &mut Player, first: u64) -> Result<(), PlayError> {
+// That lent waker gets a party of its own for so many calls by reference, the first of that number, and each of them gains a waker.
+fn gain_all_by_reference(player: &mut Player, lent: u64, first: u64) -> Result<(), PlayError> {
+    for i in 0..WAKERS {
+        play_acts(player, lent, &[Look])?;
+        let call = first.saturating_add(i).saturating_add(i);
+        play_acts(player, call, &[GainReference, EndCall])?;
+    }
+    Ok(())
+}
+
+// Every second waker wakes the scheduled task, and the others are dropped. The first has that number, and the others follow at that distance.
+fn wake_or_drop_all(player: &mut Player, first: u64, distance: u64) -> Result<(), PlayError> {
+    let mut waker = first;
     for i in 0..WAKERS {
         let act = if i % 2 == 0 { WakeScheduled } else { DropWaker };
-        play_acts(player, first.saturating_add(i), &[act, EndCall])?;
+        play_acts(player, waker, &[act, EndCall])?;
+        waker = waker.saturating_add(distance);
     }
     Ok(())
 }
@@ -40,31 +52,30 @@ fn shown(player: &Player) -> (u64, usize) {
     (player.machine().word().bits(), player.machine().parties())
 }
 
-// After the spawn the word is 0x111, and a reference is 0x100. The wakers that the Runnable gains are the parties from 2 on, and 50,000 of them are not
-// dropped. The start of a run turns SCHEDULED, 0x01, into RUNNING, 0x02; that of its poll adds the lent waker, whose wake sets SCHEDULED again. Those that
-// it gains follow it.
+// After the spawn the word is 0x111, and a reference is 0x100. The wakers that the Runnable gains are the parties from 3 on, and 50,000 of them are not
+// dropped. The start of a run turns SCHEDULED, 0x01, into RUNNING, 0x02; the wake of the lent waker, party 2, sets SCHEDULED again. Each call by reference
+// adds two parties: its own, and the waker that it gains.
 #[test]
 fn a_hundred_thousand_wakers_are_gained_twice(rt: HostRuntime) -> Result<(), Fail> {
     let mut player = Player::new(rt.alloc(), LIMIT)?;
     gain_all(&mut player, 0)?;
     let gained = shown(&player);
-    wake_or_drop_all(&mut player, 2)?;
+    wake_or_drop_all(&mut player, 3, 1)?;
     let acted = shown(&player);
     play_acts(&mut player, 0, &[StartRun, StartPoll])?;
-    let lent = 100_002;
-    play_acts(&mut player, lent, &[WakeRunning, EndCall])?;
-    gain_all(&mut player, lent)?;
+    play_acts(&mut player, 2, &[WakeRunning, EndCall])?;
+    gain_all_by_reference(&mut player, 2, 100_003)?;
     let lent_gained = shown(&player);
-    wake_or_drop_all(&mut player, 100_003)?;
+    wake_or_drop_all(&mut player, 100_004, 2)?;
     let lent_acted = shown(&player);
     let seen = [gained, acted, lent_gained, lent_acted];
     let expected = [
-        (0x100 * 100_001 + 0x11, 100_002),
-        (0x100 * 50_001 + 0x11, 100_002),
-        (0x100 * 150_001 + 0x13, 200_003),
-        (0x100 * 100_001 + 0x13, 200_003),
+        (0x100 * 100_001 + 0x11, 100_003),
+        (0x100 * 50_001 + 0x11, 100_003),
+        (0x100 * 150_001 + 0x13, 300_003),
+        (0x100 * 100_001 + 0x13, 300_003),
     ];
     assert_eq!(rt; seen, expected);
-    assert_eq!(rt; player.steps(), 800_004);
+    assert_eq!(rt; player.steps(), 900_004);
     Ok(())
 }

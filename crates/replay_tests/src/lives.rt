@@ -1,7 +1,7 @@
 //! Worked lives of a task: who does what, and each new word after 0x111.
 //!
-//! Party 0 is the first Runnable, party 1 the Task. Those that are added follow: a waker, the waker that a poll of the future is lent, a deliverer, a
-//! Runnable that is handed over.
+//! Party 0 is the first Runnable, party 1 the Task, and party 2 the waker that is lent to each call by reference: a poll of the future gains by it. Those
+//! that are added follow: a waker, a waker that is lent to one call alone, a deliverer, a Runnable that is handed over.
 
 use task_core::moves::Act;
 use task_core::moves::Act::*;
@@ -49,6 +49,8 @@ const DETACHES_ORPHAN: &[Act] = &[DetachOrphan, HandOver, EndCall];
 const LEAVES: &[Act] = &[DetachLast, EmptySlots, EndCall];
 
 const GIVES_OUTPUT_UP: &[Act] = &[GiveUpOutput, DropOutput, DetachLast, EmptySlots, EndCall];
+
+const GIVES_OUTPUT_UP_AND_DETACHES: &[Act] = &[GiveUpOutput, DropOutput, Detach, EndCall];
 
 // Parts of a run, and drops of a Runnable.
 
@@ -193,7 +195,11 @@ const DROPS_AND_WAKES: &[Act] = &[
     EndCall,
 ];
 
-// Calls of a waker, and of a deliverer.
+// Calls of a waker, also of one that is lent, and of a deliverer.
+
+const LOOKS: &[Act] = &[Look];
+
+const LOOKS_TWICE: &[Act] = &[Look, Look];
 
 const GAINS: &[Act] = &[GainReference, EndCall];
 
@@ -202,6 +208,8 @@ const WAKES: &[Act] = &[WakeIdle, EndCall];
 const WAKES_RUNNING: &[Act] = &[WakeRunning, EndCall];
 
 const WAKES_NOTHING: &[Act] = &[WakeOver, EndCall];
+
+const GAINS_NOTHING: &[Act] = &[RefuseGain, EndCall];
 
 const DROPS_WAKER: &[Act] = &[DropWaker, EndCall];
 
@@ -299,13 +307,13 @@ const WOKEN: &[Life] = &[
             (0, GAINS),
             (0, STARTS),
             (0, ENDS_PENDING),
-            (2, WAKES),
+            (3, WAKES),
             (4, DELIVERS),
             (5, STARTS),
             (5, ENDS_PENDING),
-            (2, WAKES),
-            (7, DELIVERS),
-            (2, DROPS_WAKER),
+            (3, WAKES),
+            (6, DELIVERS),
+            (3, DROPS_WAKER),
         ],
         words: &[0x211, 0x212, 0x110, 0x211, 0x212, 0x110, 0x211, 0x111],
     },
@@ -315,8 +323,9 @@ const WOKEN: &[Life] = &[
             (0, GAINS),
             (0, STARTS),
             (0, ENDS_PENDING),
-            (2, WAKES),
-            (4, DELIVERS),
+            (2, LOOKS),
+            (4, WAKES),
+            (5, DELIVERS),
         ],
         words: &[0x211, 0x212, 0x110, 0x211],
     },
@@ -325,7 +334,7 @@ const WOKEN: &[Life] = &[
         turns: &[
             (0, GAINS),
             (0, STARTS),
-            (2, WAKES_RUNNING),
+            (3, WAKES_RUNNING),
             (0, RESCHEDULES),
         ],
         words: &[0x211, 0x212, 0x213, 0x211],
@@ -336,17 +345,88 @@ const WOKEN: &[Life] = &[
             (0, GAINS),
             (0, STARTS),
             (0, ENDS_PENDING),
-            (2, WAKES),
+            (3, WAKES),
             (4, DELIVERS),
             (5, DROPS),
             (1, IS_FINISHED),
-            (2, WAKES_NOTHING),
-            (2, DROPS_WAKER),
+            (3, WAKES_NOTHING),
+            (3, DROPS_WAKER),
             (1, LEAVES),
         ],
         words: &[
             0x211, 0x212, 0x110, 0x211, 0x219, 0x218, 0x118, 0x018, 0x008,
         ],
+    },
+];
+
+/// Of wakers that are lent to calls by reference.
+pub fn lent() -> &'static [Life] {
+    LENT
+}
+
+const LENT: &[Life] = &[
+    Life {
+        name: "call_by_reference_gains_and_wakes",
+        turns: &[
+            (0, STARTS),
+            (0, ENDS_PENDING),
+            (2, LOOKS),
+            (3, GAINS),
+            (3, WAKES),
+            (5, DELIVERS),
+            (6, STARTS),
+            (3, WAKES_RUNNING),
+            (6, RESCHEDULES),
+            (7, DROPS),
+            (3, WAKES_NOTHING),
+            (4, DROPS_WAKER),
+            (1, LEAVES),
+        ],
+        words: &[
+            0x112, 0x010, 0x110, 0x211, 0x212, 0x213, 0x211, 0x219, 0x218, 0x118, 0x018, 0x008,
+        ],
+    },
+    Life {
+        name: "two_calls_by_reference_at_once",
+        turns: &[
+            (0, STARTS),
+            (2, LOOKS_TWICE),
+            (3, &[GainReference]),
+            (4, &[WakeRunning]),
+            (3, &[EndCall]),
+            (0, RESCHEDULES),
+            (4, &[EndCall]),
+            (6, STARTS),
+            (6, ENDS_READY),
+            (5, DROPS_WAKER),
+            (1, CLAIMS),
+            (1, LEAVES),
+        ],
+        words: &[
+            0x112, 0x212, 0x213, 0x211, 0x212, 0x214, 0x114, 0x014, 0x01C, 0x00C,
+        ],
+    },
+    Life {
+        name: "gain_beside_the_task_alone",
+        turns: &[
+            (0, STARTS),
+            (0, ENDS_READY),
+            (2, GAINS),
+            (1, GIVES_OUTPUT_UP_AND_DETACHES),
+            (3, DROPS_LAST_WAKER),
+        ],
+        words: &[0x112, 0x114, 0x014, 0x114, 0x11C, 0x10C, 0x00C],
+    },
+    Life {
+        name: "call_by_reference_after_the_end",
+        turns: &[
+            (1, DETACHES),
+            (0, DROPS_LAST),
+            (2, LOOKS),
+            (3, WAKES_NOTHING),
+            (3, GAINS_NOTHING),
+        ],
+        words: &[0x101, 0x109, 0x108, 0x008],
     },
 ];
 
@@ -371,12 +451,12 @@ const DETACHED: &[Life] = &[
             (7, DELIVERS),
             (6, DROPS_WAKER),
             (8, STARTS),
-            (9, GAINS),
+            (2, GAINS),
             (8, ENDS_DETACHED),
             (5, WAKES_NOTHING),
             (5, DROPS_WAKER),
             (4, DROPS_WAKER),
-            (10, DROPS_LAST_WAKER),
+            (9, DROPS_LAST_WAKER),
         ],
         words: &[
             0x101, 0x102, 0x202, 0x100, 0x200, 0x100, 0x200, 0x300, 0x401, 0x301, 0x302, 0x402,
@@ -394,10 +474,10 @@ const DETACHED: &[Life] = &[
             (4, DELIVERS),
             (3, DROPS_WAKER),
             (5, STARTS),
-            (6, GAINS),
+            (2, GAINS),
             (5, ENDS_DETACHED),
-            (7, WAKES_NOTHING),
-            (7, DROPS_LAST_WAKER),
+            (6, WAKES_NOTHING),
+            (6, DROPS_LAST_WAKER),
         ],
         words: &[
             0x101, 0x102, 0x202, 0x100, 0x201, 0x101, 0x102, 0x202, 0x20C, 0x10C, 0x00C,
@@ -580,11 +660,11 @@ const OVERLAPPING: &[Life] = &[
             (4, DELIVERS),
             (3, DROPS_WAKER),
             (5, STARTS),
-            (6, GAINS),
+            (2, GAINS),
             (1, CANCELS),
             (1, DETACHES),
             (5, ENDS_CLOSED),
-            (7, DROPS_LAST_WAKER),
+            (6, DROPS_LAST_WAKER),
         ],
         words: &[
             0x112, 0x212, 0x110, 0x211, 0x111, 0x112, 0x212, 0x21A, 0x20A, 0x208, 0x108, 0x008,
@@ -599,13 +679,13 @@ const OVERLAPPING: &[Life] = &[
             (3, WAKES),
             (4, DELIVERS),
             (5, STARTS),
-            (6, GAINS),
+            (2, GAINS),
             (3, WAKES_RUNNING),
             (3, DROPS_WAKER),
             (1, CANCELS),
             (1, DETACHES),
             (5, ENDS_CLOSED),
-            (7, DROPS_LAST_WAKER),
+            (6, DROPS_LAST_WAKER),
         ],
         words: &[
             0x112, 0x212, 0x110, 0x211, 0x212, 0x312, 0x313, 0x213, 0x21B, 0x20B, 0x208, 0x108,
@@ -621,13 +701,13 @@ const OVERLAPPING: &[Life] = &[
             (3, WAKES),
             (4, DELIVERS),
             (5, STARTS),
-            (6, GAINS),
+            (2, GAINS),
             (1, CANCELS),
             (1, DETACHES),
             (3, WAKES_NOTHING),
             (3, DROPS_WAKER),
             (5, ENDS_CLOSED),
-            (7, DROPS_LAST_WAKER),
+            (6, DROPS_LAST_WAKER),
         ],
         words: &[
             0x112, 0x212, 0x110, 0x211, 0x212, 0x312, 0x31A, 0x30A, 0x20A, 0x208, 0x108, 0x008,

@@ -52,7 +52,8 @@ fn each_refusal_has_its_reason(rt: HostRuntime) -> Result<(), Fail> {
         (4, 0, 0, StartRun, None),
         (4, 0, 7, StartRun, Some(Refusal::NoParty)),
         (4, 0, 0, Complete, Some(Refusal::NeverThere(runnable))),
-        (4, 3, 2, GainReference, Some(Refusal::NoPoll)),
+        (4, 3, 2, GainReference, None),
+        (4, 3, 2, WakeIdle, unfit(0x110)),
         (4, 0, 1, ClaimOutput, unfit(0x115)),
         (4, 3, 0, DropFuture, unfit(0x11A)),
         (4, 0, 1, DetachOrphan, unfit(0x011)),
@@ -84,7 +85,10 @@ fn acts_are_made_where_the_table_has_a_line(rt: HostRuntime) -> Result<(), Fail>
         (0, Complete, false),
         (1, Look, true),
         (1, StartRun, false),
-        (2, Look, false),
+        (2, Look, true),
+        (2, GainReference, true),
+        (2, DropWaker, false),
+        (3, Look, false),
     ];
     for (party, act, made) in cases {
         assert_eq!(rt; player.is_made_there(Step { party, act }), made, "{act:?}");

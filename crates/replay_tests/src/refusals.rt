@@ -21,7 +21,7 @@ use task_replay::{ReplayError, Step, replay};
 // The turns that lead there, the word found, the party and the act that is refused, and the word at which it would be allowed.
 type Unfit = (&'static [(u64, &'static [Act])], u64, u64, Act, u64);
 
-// Parts of a life. Party 0 is the Runnable, party 1 the Task, party 2 the first that is added.
+// Parts of a life. Party 0 is the Runnable, party 1 the Task, party 2 the waker that is lent, party 3 the first that is added.
 
 const GAINS: &[Act] = &[GainReference, EndCall];
 
@@ -58,6 +58,15 @@ const DISCARDS: &[Act] = &[
     EndCall,
 ];
 
+const DISCARDS_LAST: &[Act] = &[
+    DiscardOpen,
+    DropFuture,
+    Unschedule,
+    GiveUpLastReference,
+    EmptySlots,
+    EndCall,
+];
+
 const WAKES_RUNNING: &[Act] = &[WakeRunning, EndCall];
 
 const CANCELS_BUSY: &[Act] = &[CancelBusy, EndCall];
@@ -86,13 +95,21 @@ const REGISTERS: &[Act] = &[Look, CloneAwaiter, BeginRegister];
 
 const REGISTERS_AND_STORES: &[Act] = &[Look, CloneAwaiter, BeginRegister, StoreAwaiter];
 
+// Lives to the end of all handles: of an open task, whose last waker is about to close it, and of one that is over.
+
+const ORPHANS: &[(u64, &[Act])] = &[(0, GAINS), (0, IDLES), (1, DETACHES), (3, &[OrphanTask])];
+
+const ENDS: &[(u64, &[Act])] = &[(1, DETACHES), (0, DISCARDS_LAST)];
+
+const ENDS_BY_REFERENCE: &[(u64, &[Act])] = &[(2, &[Look]), (1, DETACHES), (0, DISCARDS_LAST)];
+
 // References that are given up.
 const REFERENCES: [Unfit; 10] = [
     // DropWaker: `n` above 1, or TASK.
     (
         &[(0, GAINS), (1, DETACHES), (0, IDLES)],
         0x100,
-        2,
+        3,
         DropWaker,
         0x110,
     ),
@@ -100,15 +117,15 @@ const REFERENCES: [Unfit; 10] = [
     (
         &[(0, GAINS_TWICE), (1, DETACHES), (0, DISCARDS)],
         0x208,
-        2,
+        3,
         DropLastWaker,
         0x108,
     ),
-    (&[(0, GAINS), (0, DISCARDS)], 0x118, 2, DropLastWaker, 0x108),
+    (&[(0, GAINS), (0, DISCARDS)], 0x118, 3, DropLastWaker, 0x108),
     (
         &[(0, GAINS), (1, DETACHES), (0, IDLES)],
         0x100,
-        2,
+        3,
         DropLastWaker,
         0x104,
     ),
@@ -116,15 +133,15 @@ const REFERENCES: [Unfit; 10] = [
     (
         &[(0, GAINS_TWICE), (1, DETACHES), (0, IDLES)],
         0x200,
-        2,
+        3,
         OrphanTask,
         0x100,
     ),
-    (&[(0, GAINS), (0, IDLES)], 0x110, 2, OrphanTask, 0x100),
+    (&[(0, GAINS), (0, IDLES)], 0x110, 3, OrphanTask, 0x100),
     (
         &[(0, GAINS), (1, DETACHES), (0, DISCARDS)],
         0x108,
-        2,
+        3,
         OrphanTask,
         0x100,
     ),
@@ -150,38 +167,38 @@ const REFERENCES: [Unfit; 10] = [
 // Wakes, by a waker.
 const WAKES: [Unfit; 11] = [
     // WakeOver: over.
-    (&[(0, GAINS)], 0x211, 2, WakeOver, 0x215),
+    (&[(0, GAINS)], 0x211, 3, WakeOver, 0x215),
     // WakeScheduled: open, SCHEDULED.
-    (&[(0, GAINS), (0, IDLES)], 0x110, 2, WakeScheduled, 0x111),
-    (&[(0, GAINS_AND_STARTS)], 0x212, 2, WakeScheduled, 0x213),
+    (&[(0, GAINS), (0, IDLES)], 0x110, 3, WakeScheduled, 0x111),
+    (&[(0, GAINS_AND_STARTS)], 0x212, 3, WakeScheduled, 0x213),
     (
         &[(0, GAINS), (1, CANCELS_BUSY)],
         0x219,
-        2,
+        3,
         WakeScheduled,
         0x211,
     ),
     // WakeRunning: open, not SCHEDULED, RUNNING.
     (
-        &[(0, GAINS_AND_STARTS), (2, WAKES_RUNNING)],
+        &[(0, GAINS_AND_STARTS), (3, WAKES_RUNNING)],
         0x213,
-        2,
+        3,
         WakeRunning,
         0x212,
     ),
-    (&[(0, GAINS), (0, IDLES)], 0x110, 2, WakeRunning, 0x112),
+    (&[(0, GAINS), (0, IDLES)], 0x110, 3, WakeRunning, 0x112),
     (
         &[(0, GAINS_AND_STARTS), (1, CANCELS_BUSY)],
         0x21A,
-        2,
+        3,
         WakeRunning,
         0x212,
     ),
     // WakeIdle: open, neither SCHEDULED nor RUNNING.
-    (&[(0, GAINS)], 0x211, 2, WakeIdle, 0x210),
-    (&[(0, GAINS_AND_STARTS)], 0x212, 2, WakeIdle, 0x210),
-    (&[(0, GAINS), (0, DISCARDS)], 0x118, 2, WakeIdle, 0x110),
-    (&[(0, GAINS), (0, COMPLETES)], 0x214, 2, WakeIdle, 0x210),
+    (&[(0, GAINS)], 0x211, 3, WakeIdle, 0x210),
+    (&[(0, GAINS_AND_STARTS)], 0x212, 3, WakeIdle, 0x210),
+    (&[(0, GAINS), (0, DISCARDS)], 0x118, 3, WakeIdle, 0x110),
+    (&[(0, GAINS), (0, COMPLETES)], 0x214, 3, WakeIdle, 0x210),
 ];
 
 // The task is closed, or its Task given up.
@@ -392,18 +409,21 @@ const HANDSHAKES: [Unfit; 8] = [
 // References at a limit, the first number.
 const LIMITS: [(u64, Unfit); 5] = [
     // GainReference: `n` below the limit. FindLimit: `n` at or above it.
-    (2, (&[(0, GAINS)], 0x211, 2, GainReference, 0x111)),
+    (2, (&[(0, GAINS)], 0x211, 3, GainReference, 0x111)),
     (1, (&[(0, STARTS)], 0x112, 2, GainReference, 0x012)),
     (2, (&[], 0x111, 0, FindLimit, 0x211)),
     (4, (&[], 0x111, 0, FindLimit, 0x411)),
-    (3, (&[(0, GAINS)], 0x211, 2, FindLimit, 0x311)),
+    (3, (&[(0, GAINS)], 0x211, 3, FindLimit, 0x311)),
 ];
 
 // Acts that are never made where that party stands.
-const NEVER: [(&[(u64, &[Act])], u64, Act, Position); 7] = [
+const NEVER: [(&[(u64, &[Act])], u64, Act, Position); 10] = [
     (&[], 1, GainReference, Position::At(Rest::Task(0))),
     (&[], 0, WakeScheduled, Position::At(Rest::Runnable)),
-    (&[(0, GAINS)], 2, CloseOrphan, Position::At(Rest::Waker)),
+    (&[(0, GAINS)], 3, CloseOrphan, Position::At(Rest::Waker)),
+    (&[(0, GAINS)], 3, Look, Position::At(Rest::Waker)),
+    (&[], 0, Look, Position::At(Rest::Runnable)),
+    (&[], 2, DropWaker, Position::At(Rest::Lent)),
     (
         &[(0, &[DiscardOpen])],
         0,
@@ -425,14 +445,32 @@ const NEVER: [(&[(u64, &[Act])], u64, Act, Position); 7] = [
     ),
 ];
 
-// What a lent waker does only while its poll is under way.
-const LENT: [Act; 6] = [
-    FindLimit,
-    RefuseGain,
-    WakeOver,
-    WakeScheduled,
-    WakeRunning,
-    WakeIdle,
+// A lent waker where the task has no handle left. In the first four a waker has given up the last reference of an open task, and is about to close it. The
+// word that is told has the Task: the count stays as it was found.
+const UNHELD: [Unfit; 7] = [
+    (ORPHANS, 0x000, 2, GainReference, 0x010),
+    (ORPHANS, 0x000, 2, WakeScheduled, 0x011),
+    (ORPHANS, 0x000, 2, WakeRunning, 0x012),
+    (ORPHANS, 0x000, 2, WakeIdle, 0x010),
+    (ENDS, 0x008, 2, GainReference, 0x018),
+    (ENDS, 0x008, 2, WakeIdle, 0x010),
+    (ENDS_BY_REFERENCE, 0x008, 3, GainReference, 0x018),
+];
+
+// .. and where the row alone refuses it, whether the task has a handle or none.
+const ROW_ALONE: [Unfit; 4] = [
+    (&[], 0x111, 2, WakeOver, 0x115),
+    (&[(0, STARTS)], 0x112, 2, WakeIdle, 0x110),
+    (ORPHANS, 0x000, 2, WakeOver, 0x004),
+    (ORPHANS, 0x000, 2, FindLimit, 0x400),
+];
+
+// What a lent waker does where no handle is left: it looks, it is refused a waker for want of memory, and it finds that the task is over.
+const ALLOWED: [(&[(u64, &[Act])], u64, Act); 4] = [
+    (ORPHANS, 2, Look),
+    (ORPHANS, 2, RefuseGain),
+    (ENDS, 2, WakeOver),
+    (ENDS_BY_REFERENCE, 3, RefuseGain),
 ];
 
 // A player after these turns.
@@ -512,10 +550,14 @@ fn each_act_is_refused_at_other_positions(rt: HostRuntime) -> Result<(), Fail> {
 }
 
 #[test]
-fn a_lent_waker_is_refused_each_act_after_its_poll(rt: HostRuntime) -> Result<(), Fail> {
-    for act in LENT {
-        let seen = told(rt.alloc(), 4, &[(0, PENDS)], Step { party: 2, act })?;
-        assert_eq!(rt; seen, (0x112, Some(Refusal::NoPoll), true), "{act:?}");
+fn a_lent_waker_is_refused_where_no_handle_is_left(rt: HostRuntime) -> Result<(), Fail> {
+    are_unfit(&rt, rt.alloc(), 4, &UNHELD)?;
+    are_unfit(&rt, rt.alloc(), 4, &ROW_ALONE)?;
+    for (turns, party, act) in ALLOWED {
+        let mut player = player_after(rt.alloc(), 4, turns)?;
+        let step = Step { party, act };
+        let seen = (player.refusal(step), player.play(step).is_ok());
+        assert_eq!(rt; seen, (None, true), "{act:?}");
     }
     Ok(())
 }

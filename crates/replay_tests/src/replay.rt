@@ -17,6 +17,7 @@ fn each_front_of_a_life_has_the_word_of_the_tables(rt: HostRuntime) -> Result<()
     fronts_have_their_words(&rt, rt.alloc(), lives::closed())?;
     fronts_have_their_words(&rt, rt.alloc(), lives::completed())?;
     fronts_have_their_words(&rt, rt.alloc(), lives::woken())?;
+    fronts_have_their_words(&rt, rt.alloc(), lives::lent())?;
     fronts_have_their_words(&rt, rt.alloc(), lives::detached())?;
     fronts_have_their_words(&rt, rt.alloc(), lives::orphaned())?;
     fronts_have_their_words(&rt, rt.alloc(), lives::polled())?;
@@ -90,9 +91,9 @@ fn a_machine_shows_how_it_stands(rt: HostRuntime) -> Result<(), Fail> {
     assert_eq!(rt; opened.word().bits(), 0x111);
     let text = format!(in rt.alloc(); "{opened:?}")?;
     let slots = "slots: Slots { future: true, output: false, awaiter: None }";
-    let parties = "parties: [At(Runnable), At(Task(0))]";
+    let parties = "parties: [At(Runnable), At(Task(0)), At(Lent)]";
     let wanted = format!(in rt.alloc();
-        "Machine {{ limit: {LIMIT}, word: Word(273), {slots}, {parties}, polling: 0 }}"
+        "Machine {{ limit: {LIMIT}, word: Word(273), {slots}, {parties} }}"
     )?;
     assert_eq!(rt; text.as_str(), wanted.as_str());
     let steps = steps_of(rt.alloc(), &[(0, &[StartRun, StartPoll])])?;

@@ -4,7 +4,7 @@ use Rattle.std.specs.Prelude.{slice_get, slice_set}
 use Rattle.std.proofs.lemmas.Bool.Decides.{nat_tests}
 use Rattle.task_core.specs.Word.{State, bit, is_open}
 use Rattle.task_laws.specs.Event.{Started, TakenUp, CallBegins}
-use Rattle.task_laws.specs.declared.positions.Rest.TheVariants.{Runnable, Lent}
+use Rattle.task_laws.specs.declared.positions.Rest.TheVariants.{Runnable}
 use Rattle.task_laws.specs.declared.positions.Position.{Position}
 use Rattle.task_laws.specs.declared.positions.Position.TheVariants.{At, Starting, Polling}
 use Rattle.task_core.specs.declared.moves.Act.TheVariants.{StartRun, StartPoll}
@@ -147,7 +147,7 @@ polls_next m i e opened =
     let m1 : Machine = record { limit = m.limit; word = o.word; slots = m.slots; parties = slice_set m.parties i Starting ++ []; trace = TakenUp ∷ CallBegins ∷ m.trace } in
     let one : step m (record { party = i; act = StartRun }) ≡ Some m1 = ap (moves m i StartRun) e ∙ ap (λ b. after m i (At Runnable) (when (not b) o)) opened in
     let there : slice_get m1.parties i ≡ Some Starting = get_put m.parties i (At Runnable) Starting [] e in
-    let m2 : Machine = record { limit = m.limit; word = m1.word; slots = m1.slots; parties = slice_set m1.parties i Polling ++ (At Lent ∷ []); trace = Started ∷ TakenUp ∷ CallBegins ∷ m.trace } in
+    let m2 : Machine = record { limit = m.limit; word = m1.word; slots = m1.slots; parties = slice_set m1.parties i Polling ++ []; trace = Started ∷ TakenUp ∷ CallBegins ∷ m.trace } in
     let two : step m1 (record { party = i; act = StartPoll }) ≡ Some m2 = ap (moves m1 i StartPoll) there in
     record {
       party = i;

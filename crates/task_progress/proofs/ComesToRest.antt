@@ -3,7 +3,7 @@ use Rattle.std.proofs.Common.{◌≡◌, ℕ, ◌+◌, ◌≤◌, ◌⊎◌, inl
 use Rattle.std.specs.Prelude.{slice_get, slice_set}
 use Rattle.task_core.specs.Word.{State, bit, is_open}
 use Rattle.task_laws.specs.Event.{Event, Started, TakenUp, CallBegins}
-use Rattle.task_laws.specs.declared.positions.Rest.TheVariants.{Runnable, Lent}
+use Rattle.task_laws.specs.declared.positions.Rest.TheVariants.{Runnable}
 use Rattle.task_laws.specs.declared.positions.Closer.TheVariants.{ClosedRun}
 use Rattle.task_laws.specs.declared.positions.Position.{Position}
 use Rattle.task_laws.specs.declared.positions.Position.TheVariants.{At, Starting, Polling, FutureInHand}
@@ -257,7 +257,7 @@ open_run m h none_in_progress opened i e =
     let m1 : Machine = record { limit = m.limit; word = o.word; slots = m.slots; parties = slice_set m.parties i Starting ++ []; trace = TakenUp ∷ CallBegins ∷ m.trace } in
     let one : step m (record { party = i; act = StartRun }) ≡ Some m1 = ap (moves m i StartRun) e ∙ ap (λ b. after m i (At Runnable) (when (not b) o)) opened in
     let there : slice_get m1.parties i ≡ Some Starting = get_put m.parties i (At Runnable) Starting [] e in
-    let m2 : Machine = record { limit = m.limit; word = m1.word; slots = m1.slots; parties = slice_set m1.parties i Polling ++ (At Lent ∷ []); trace = Started ∷ TakenUp ∷ CallBegins ∷ m.trace } in
+    let m2 : Machine = record { limit = m.limit; word = m1.word; slots = m1.slots; parties = slice_set m1.parties i Polling ++ []; trace = Started ∷ TakenUp ∷ CallBegins ∷ m.trace } in
     let two : step m1 (record { party = i; act = StartPoll }) ≡ Some m2 = ap (moves m1 i StartPoll) there in
     let both : List Step = record { party = i; act = StartRun } ∷ record { party = i; act = StartPoll } ∷ [] in
     let leads : run_from (Some m) both ≡ Some m2 = ap (λ x. run_from x (record { party = i; act = StartPoll } ∷ [])) one ∙ two in
@@ -266,7 +266,7 @@ open_run m h none_in_progress opened i e =
     let on = onward m2 s.steps s.now h2 s.leads in
     let h3 : InOrder s.now = in_order m2 s.steps s.now h2 s.leads in
     let left1 : total steps_left m1.parties ≤ 13 = omega (arith, total_put steps_left m.parties i (At Runnable) Starting [] e, none_left m none_in_progress) in
-    let left2 : total steps_left m2.parties ≤ 12 = omega (arith, total_put steps_left m1.parties i Starting Polling (At Lent ∷ []) there, left1) in
+    let left2 : total steps_left m2.parties ≤ 12 = omega (arith, total_put steps_left m1.parties i Starting Polling [] there, left1) in
     let short : length s.steps ≤ 12 = omega (arith, s.short, left2) in
     let same : count is_call s.now.trace ≤ count is_call m2.trace + 0 = omega (arith, s.begun) in
     record {

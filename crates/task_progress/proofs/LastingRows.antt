@@ -76,6 +76,7 @@ every_lasting_row EndNotify (Releaser hand way) = grind rules
 every_lasting_row EndRegister (Registered i) = grind rules
 every_lasting_row EndRegisterNotified (TookBack i) = grind rules
 -- loads
+every_lasting_row Look (At Lent) = grind rules
 every_lasting_row Look (At (Task n)) =
     by_flag closed (by_flag scheduled (grind rules) (by_flag running (grind rules) (grind rules)))
     (by_flag completed (grind rules) (grind rules))

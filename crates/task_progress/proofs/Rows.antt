@@ -5,7 +5,7 @@ use Rattle.task_core.specs.Word.{State, bit}
 use Rattle.task_core.specs.Rows.{found, written}
 use Rattle.task_laws.specs.Event.{ByClosing, Made, Closes, Completes, RunEnded, Polls, Empties}
 use Rattle.task_laws.specs.declared.positions.PollAnswer.TheVariants.{IsPending}
-use Rattle.task_laws.specs.declared.positions.Rest.TheVariants.{Runnable, Waker, Task}
+use Rattle.task_laws.specs.declared.positions.Rest.TheVariants.{Runnable, Waker, Lent, Task}
 use Rattle.task_laws.specs.declared.positions.Closer.TheVariants.{ClosedRun, DroppedRunnable}
 use Rattle.task_laws.specs.declared.positions.Way.TheVariants.{OfRun, OfDrop, OfCancel, OfPoll, OfClaim}
 use Rattle.task_laws.specs.declared.positions.After.TheVariants.{ThenEnds, ThenTask, ThenNotifies}
@@ -147,6 +147,7 @@ near_row EndNotify (Releaser None (OfClaim n)) s v = record { is = record { step
 near_row EndNotify (Releaser (Some i) (OfClaim n)) s v = record { is = record { steps = lit≤ tt; writes = lit≤ tt; calls = refl; inner = refl; own_steps = lit≤ tt; own_writes = lit≤ tt } }
 near_row EndRegister (Registered i) s v = record { is = record { steps = lit≤ tt; writes = lit≤ tt; calls = refl; inner = refl; own_steps = lit≤ tt; own_writes = lit≤ tt } }
 near_row EndRegisterNotified (TookBack i) s v = record { is = record { steps = lit≤ tt; writes = lit≤ tt; calls = refl; inner = refl; own_steps = lit≤ tt; own_writes = lit≤ tt } }
+near_row Look (At Lent) s v = record { is = record { steps = lit≤ tt; writes = lit≤ tt; calls = refl; inner = refl; own_steps = lit≤ tt; own_writes = lit≤ tt } }
 near_row Look (At (Task n)) s v = near_when _ _ _ _ (at (s.word.closed && not (s.word.scheduled || s.word.running)))
   where
     at : (b : Bool) → Near Look (At (Task n)) (Some (steps s v (if b then Notifier (OfPoll (n + 1)) else Registrar (n + 1)) [] (Polls (n + 1) ∷ [])))

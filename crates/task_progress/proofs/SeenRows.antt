@@ -76,6 +76,7 @@ every_other EndNotify (Releaser hand way) = grind rules
 every_other EndRegister (Registered i) = grind rules
 every_other EndRegisterNotified (TookBack i) = grind rules
 -- loads
+every_other Look (At Lent) = grind rules
 every_other Look (At (Task n)) =
     by_flag closed (by_flag scheduled (grind rules) (by_flag running (grind rules) (grind rules)))
     (by_flag completed (grind rules) (grind rules))

@@ -2,7 +2,7 @@
 use Rattle.std.proofs.Common.{◌≡◌, Bool, true, false, Option, Some, None, refl}
 use Rattle.task_core.specs.Word.{State}
 use Rattle.task_core.specs.Rows.{found, written}
-use Rattle.task_laws.specs.declared.positions.Rest.TheVariants.{Runnable, Waker, Task}
+use Rattle.task_laws.specs.declared.positions.Rest.TheVariants.{Runnable, Waker, Lent, Task}
 use Rattle.task_laws.specs.declared.positions.Closer.TheVariants.{ClosedRun, DroppedRunnable}
 use Rattle.task_laws.specs.declared.positions.Way.TheVariants.{OfRun, OfDrop, OfCancel, OfPoll, OfClaim}
 use Rattle.task_laws.specs.declared.positions.After.TheVariants.{ThenEnds, ThenTask, ThenNotifies}
@@ -88,6 +88,7 @@ word_row EndNotify (Releaser None (OfClaim n)) s v = record { is = refl }
 word_row EndNotify (Releaser (Some i) (OfClaim n)) s v = record { is = refl }
 word_row EndRegister (Registered i) s v = record { is = refl }
 word_row EndRegisterNotified (TookBack i) s v = record { is = refl }
+word_row Look (At Lent) s v = record { is = refl }
 word_row Look (At (Task n)) s v = word_when _ _ _ (record { is = refl })
 word_row Look (Looking i) s v = record { is = refl }
 word_row LookFinished (At (Task n)) s v = record { is = refl }

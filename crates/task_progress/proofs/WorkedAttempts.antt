@@ -35,7 +35,7 @@ abbrev drops : ℕ → List Attempt
 drops i = Makes (record { party = i; act = DropWaker }) ∷ Makes (record { party = i; act = EndCall }) ∷ []
 
 abbrev starved : List Attempt
-starved = gains 0 ++ (Looks 0 ∷ gains 2 ++ (Misses 0 ∷ drops 3 ++ (Misses 0 ∷ gains 2 ++ (Misses 0 ∷ drops 4 ++ (Misses 0 ∷ [])))))
+starved = gains 0 ++ (Looks 0 ∷ gains 3 ++ (Misses 0 ∷ drops 4 ++ (Misses 0 ∷ gains 3 ++ (Misses 0 ∷ drops 5 ++ (Misses 0 ∷ [])))))
 
 is_starved : is_some (attempts_from (Some (nothing_seen 4)) starved) ≡ true
 is_starved = refl

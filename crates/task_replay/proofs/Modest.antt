@@ -3,7 +3,7 @@ use Rattle.std.proofs.Common.{◌≡◌, ℕ, ◌≤◌, Bool, true, false, List
 use Rattle.std.specs.Prelude.{if◌then◌else◌}
 use Rattle.task_core.specs.Word.{State}
 use Rattle.task_laws.specs.Event.{Event, Closes}
-use Rattle.task_laws.specs.declared.positions.Rest.TheVariants.{Runnable, Waker, Task}
+use Rattle.task_laws.specs.declared.positions.Rest.TheVariants.{Runnable, Waker, Lent, Task}
 use Rattle.task_laws.specs.declared.positions.Closer.TheVariants.{ClosedRun, DroppedRunnable}
 use Rattle.task_laws.specs.declared.positions.Position.{Position}
 use Rattle.task_laws.specs.declared.positions.Position.TheVariants.{At, Leaving, Deliverer, Starting, Polling, Pending, Ready, Unstored, Stored, Cleared, FutureInHand, FutureGone, OutputInHand, GivingUp, Emptier, Notifier, Taker, Releaser, AwaiterInHand, OrphanHolder, Registrar, HasClone, RefusedClone, Storing, Registered, TookBack, CloneInHand, Looking, Claiming, Claimer, OldAwaiterInHand, Answering, OutputCloser, Detacher}
@@ -92,6 +92,7 @@ modest_row BeginRegister (HasClone i) s v = record { polls = lit≤ tt; parties 
 modest_row EndNotify (Releaser hand way) s v = record { polls = lit≤ tt; parties = refl }
 modest_row EndRegister (Registered i) s v = record { polls = lit≤ tt; parties = refl }
 modest_row EndRegisterNotified (TookBack i) s v = record { polls = lit≤ tt; parties = refl }
+modest_row Look (At Lent) s v = record { polls = lit≤ tt; parties = refl }
 modest_row Look (At (Task n)) s v = modest_when _ _ (record { polls = lit≤ tt; parties = refl })
 modest_row Look (Looking i) s v = record { polls = lit≤ tt; parties = refl }
 modest_row LookFinished (At (Task n)) s v = record { polls = lit≤ tt; parties = refl }

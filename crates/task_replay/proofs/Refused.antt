@@ -16,12 +16,12 @@ use Rattle.task_replay.specs.Replay.{Standing, stands, scene_at, StepsTo, effect
 use Rattle.task_replay.specs.Refusal.{IsNeverMade}
 use Rattle.task_replay.proofs.Replayed.{steps_at, left_at}
 
--- the word at which each condition beside the rows holds, while a poll of the future is under way
+-- the word at which each condition beside the rows holds
 abbrev pub favourable : State
-favourable = record { scheduled = false; running = false; completed = false; closed = true; task = false; awaiter = false; registering = false; notifying = true; references = 0 }
+favourable = record { scheduled = false; running = false; completed = false; closed = true; task = true; awaiter = false; registering = false; notifying = true; references = 0 }
 
 abbrev pub scene_with : ℕ → Slots → State → Scene
-scene_with limit slots word = record { limit = limit; word = word; slots = slots; polling = true }
+scene_with limit slots word = record { limit = limit; word = word; slots = slots }
 
 never_goes : (act : Act) (p : Position) (s : Scene) (v : State) (limit : ℕ) (slots : Slots) (u : State) → effect_of (goes (scene_with limit slots favourable) u act p) ≡ None → goes s v act p ≡ None
 never_goes GainReference (At Runnable) s v limit slots u h = absurd (cc)
@@ -77,6 +77,7 @@ never_goes BeginRegister (HasClone i) s v limit slots u h = absurd (cc)
 never_goes EndNotify (Releaser hand way) s v limit slots u h = absurd (cc)
 never_goes EndRegister (Registered i) s v limit slots u h = absurd (cc)
 never_goes EndRegisterNotified (TookBack i) s v limit slots u h = absurd (cc)
+never_goes Look (At Lent) s v limit slots u h = absurd (cc)
 never_goes Look (At (Task n)) s v limit slots u h = absurd (cc)
 never_goes Look (Looking i) s v limit slots u h = absurd (cc)
 never_goes LookFinished (At (Task n)) s v limit slots u h = absurd (cc)

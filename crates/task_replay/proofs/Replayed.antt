@@ -1,17 +1,15 @@
 -- What a replay rests on: the steps of the machine without its trace, and bounds on its word and its polls.
 use Rattle.std.proofs.Common.{◌≡◌, ℕ, ◌+◌, ◌<◌, ◌≤◌, ◌∙◌, ◌⊎◌, Bool, true, false, zero, suc, List, [], ◌∷◌, ◌++◌, Option, Some, None, refl, sym, ap, subst, inl, inr, arith, length, take, add-one, slice_index_or}
 use Rattle.std.proofs.lemmas.List.{set-append_left}
-use Rattle.std.proofs.lemmas.List.Sums.{sum_by-cons}
-use Rattle.std.specs.Prelude.{count_by, if◌then◌else◌, slice_get, slice_set, IsSome}
-use Rattle.task_core.specs.Word.{State, bit}
-use Rattle.task_laws.specs.Event.{Event}
+use Rattle.std.specs.Prelude.{if◌then◌else◌, slice_get, slice_set, IsSome}
+use Rattle.task_core.specs.Word.{State}
 use Rattle.task_laws.specs.declared.positions.Position.{Position}
 use Rattle.task_core.specs.declared.moves.Act.{Act}
 use Rattle.task_laws.specs.declared.positions.Position.TheVariants.{At}
 use Rattle.task_laws.specs.declared.positions.Rest.TheVariants.{Task}
 use Rattle.task_core.specs.Rows.{found, written, row}
 use Rattle.task_laws.specs.Table.{Scene, Outcome, where_found, goes, rule}
-use Rattle.task_laws.specs.Machine.{Machine, Step, how_many, opening, scene, begins, after, moves, step, run_from, run}
+use Rattle.task_laws.specs.Machine.{Machine, Step, opening, scene, begins, after, moves, step, run_from, run}
 use Rattle.task_laws.specs.Laws.{count, is_poll}
 use Rattle.task_replay.specs.Replay.{Standing, standing, stands, scene_at, listed, begun, slots_of, effect_of}
 use Rattle.task_replay.specs.declared.machine.Slots.{Slots as SlotsHeld}
@@ -21,10 +19,6 @@ use Rattle.task_laws.proofs.Runs.{Invariant, Stays, always, others, split_awaiti
 use Rattle.task_laws.proofs.Theorem.{laws_hold}
 use Rattle.task_laws.proofs.WholeRuns.{count-append}
 use Rattle.task_replay.proofs.Modest.{Modest, modest}
-
-pub counted : (p : Position → Bool) (ps : List Position) → how_many p ps ≡ count_by p ps
-counted p [] = refl
-counted p (x ∷ ps) = ap (λ n. bit (p x) + n) (counted p ps) ∙ sym (sum_by-cons _ x ps)
 
 -- a row that is found, and one that is not
 found_there : (left : Option Outcome) → where_found true left ≡ left

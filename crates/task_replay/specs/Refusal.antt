@@ -1,13 +1,11 @@
 -- Why a machine does not allow a step.
-use Rattle.std.specs.Prelude.{◌≡◌, true, false, Option, Some, None, IsSome, IfSome}
+use Rattle.std.specs.Prelude.{◌≡◌, Option, Some, None, IsSome, IfSome}
 use Rattle.task_core.specs.Word.{State}
 use Rattle.task_laws.specs.declared.positions.Position.{Position}
-use Rattle.task_laws.specs.declared.positions.Position.TheVariants.{At}
-use Rattle.task_laws.specs.declared.positions.Rest.TheVariants.{Lent}
 use Rattle.task_core.specs.declared.moves.Act.{Act}
 use Rattle.task_laws.specs.Table.{Scene, goes, rule}
 use Rattle.task_replay.specs.declared.refusal.Refusal.{Refusal}
-use Rattle.task_replay.specs.declared.refusal.Refusal.TheVariants.{NoParty, NeverThere, NoPoll, UnfitWord}
+use Rattle.task_replay.specs.declared.refusal.Refusal.TheVariants.{NoParty, NeverThere, UnfitWord}
 
 -- the table has a line for the act at this position, for some scene and word written
 abbrev pub IsMade : Act → Position → Type 0
@@ -21,13 +19,12 @@ IsNeverMade act p = (s : Scene) → rule s act p ≡ None
 abbrev pub FitsAt : Scene → Act → Option Position → State → Type 0
 FitsAt s act at word = (p : Position) × ((at ≡ Some p) × IsSome (rule (record s { word = word }) act p))
 
--- the act is made where the party stands, and a poll is under way where that is a lent waker
-abbrev pub IsMadeHere : Scene → Act → Option Position → Type 0
-IsMadeHere s act at = (p : Position) × ((at ≡ Some p) × (IsMade act p × ((p ≡ At Lent) → s.polling ≡ true)))
+-- the act is made where the party stands
+abbrev pub IsMadeHere : Act → Option Position → Type 0
+IsMadeHere act at = (p : Position) × ((at ≡ Some p) × IsMade act p)
 
--- what a reason says of an act that is refused to a party there: no party, never there, no poll under way, or a word that does not fit where another does
+-- what a reason says of an act that is refused to a party there: no party, never there, or a word that does not fit where another does
 abbrev pub IsReason : Scene → Act → Option Position → Refusal → Type 0
 IsReason s act at NoParty = at ≡ None
 IsReason s act at (NeverThere p) = (at ≡ Some p) × IsNeverMade act p
-IsReason s act at NoPoll = (at ≡ Some (At Lent)) × (IsMade act (At Lent) × (s.polling ≡ false))
-IsReason s act at (UnfitWord fitting) = IsMadeHere s act at × IfSome fitting (FitsAt s act at)
+IsReason s act at (UnfitWord fitting) = IsMadeHere act at × IfSome fitting (FitsAt s act at)

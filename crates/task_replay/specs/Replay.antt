@@ -1,5 +1,5 @@
 -- A machine that is replayed: how it stands, and what a replay may answer.
-use Rattle.std.specs.Prelude.{◌≡◌, ℕ, ◌+◌, ◌<◌, nat_lt, List, [], ◌∷◌, length, take, Option, Some, None, IsSome}
+use Rattle.std.specs.Prelude.{◌≡◌, ℕ, ◌+◌, ◌<◌, List, [], ◌∷◌, length, take, Option, Some, None, IsSome}
 use Rattle.task_core.specs.Word.{State}
 use Rattle.task_laws.specs.declared.positions.Rest.TheVariants.{Task}
 use Rattle.task_laws.specs.declared.positions.Position.{Position}
@@ -7,7 +7,7 @@ use Rattle.task_laws.specs.declared.positions.Position.TheVariants.{At}
 use Rattle.task_core.specs.declared.moves.Act.{Act}
 use Rattle.task_core.specs.declared.moves.Act.TheVariants.{GainReference, FindLimit, DropWaker, DropLastWaker, OrphanTask, CloseOrphan, GiveUpReference, GiveUpLastReference, WakeOver, WakeScheduled, WakeRunning, WakeIdle, DiscardOpen, DiscardClosed, CancelOver, CancelBusy, CancelIdle, ClaimOutput, GiveUpOutput, DetachOrphan, DetachLast, Detach, TakeUpClosed, StartRun, Unschedule, Complete, CompleteDetached, EndClosed, Reschedule, EndIdle, EndOrphaned, BeginNotify, MissNotify, FindNotify, BeginRegister, EndNotify, EndRegister, EndRegisterNotified, Look, LookFinished, StartPoll, AnswerPending, AnswerReady, DropFuture, StoreOutput, DropOutput, HandOutOutput, CloneAwaiter, RefuseClone, StoreAwaiter, TakeAwaiter, WakeAwaiter, DropAwaiter, HandOver, EmptySlots, RefuseGain, EndCall}
 use Rattle.task_laws.specs.Table.{Slots, Scene, Outcome}
-use Rattle.task_laws.specs.Machine.{Machine, Step, how_many, polls_future, step, run}
+use Rattle.task_laws.specs.Machine.{Machine, Step, step, run}
 use Rattle.task_replay.specs.declared.kind.Kind.{Kind}
 use Rattle.task_replay.specs.declared.kind.Kind.TheVariants.{Gain, GiveUp, Wake, Close, RunStart, RunEnd, HandshakeBegin, HandshakeEnd, Load, Value, Awaiter, Ending}
 use Rattle.task_replay.specs.declared.machine.Slots.{Slots as SlotsHeld}
@@ -99,7 +99,7 @@ abbrev pub held_of : Slots → SlotsHeld
 held_of s = record { future = s.future; output = s.output; awaiter = s.awaiter }
 
 abbrev pub scene_of : SceneFound → Scene
-scene_of s = record { limit = s.limit; word = s.word; slots = slots_of s.slots; polling = s.polling }
+scene_of s = record { limit = s.limit; word = s.word; slots = slots_of s.slots }
 
 -- what a party leaves, without what is told of it
 abbrev pub effect_of : Option Outcome → Option Effect
@@ -122,7 +122,7 @@ stands (Some m) = Some (standing m)
 
 -- what a party finds at a machine that stands so
 abbrev pub scene_at : Standing → Scene
-scene_at now = record { limit = now.limit; word = now.word; slots = now.slots; polling = nat_lt 0 (how_many polls_future now.parties) }
+scene_at now = record { limit = now.limit; word = now.word; slots = now.slots }
 
 -- a step at a machine that stands so leaves it so, or is not allowed, whatever its trace
 abbrev pub StepsTo : Standing → Step → Option Standing → Type 0

@@ -5,7 +5,7 @@
 ghost use Rattle.std.specs.Prelude.{◌≡◌, ◌<◌, ◌-◌, ◌^◌, Some, None, false, IfOk, IfErr, OnOk, OnErr, min, ◌++◌, length, slice_get, if◌then◌else◌};
 ghost use Rattle.task_laws.specs.Machine as machine;
 ghost use Rattle.task_laws.specs.declared.positions.Position.{Position};
-ghost use Rattle.task_laws.specs.Machine.{run, polls_future, opening};
+ghost use Rattle.task_laws.specs.Machine.{run, opening};
 ghost use Rattle.task_replay.specs.Replay.{standing, stands, slots_of, scene_of, scene_at, begun, listed, StepsTo, IsRight};
 
 use crate::player::Player;
@@ -19,7 +19,8 @@ use task_laws::positions::{Position, Rest};
 /// One step of the machine. Contracts see it as the step that the laws speak of.
 #[derive(Clone, Copy, Debug, PartialEq, Eq)]
 pub struct Step {
-    /// The Runnable of the spawn is party 0, the Task party 1. Each party that a step adds takes the next number.
+    /// The Runnable of the spawn is party 0, the Task party 1, and party 2 the waker that is lent to each call by reference. Each party that a step adds
+    /// takes the next number.
     pub party: u64,
     /// What that party does.
     pub act: Act,
@@ -75,20 +76,14 @@ pub struct Machine<A: Allocator = Global> {
     word: Word,
     slots: Slots,
     parties: Vec<Position, A>,
-    // How many parties are between the start of a poll and its answer. It is kept so that no step has to go over all parties.
-    polling: usize,
 }
 
 impl<A: Allocator> Model for Machine<A> {
-    ghost use Rattle.std.specs.Prelude.{◌≡◌};
-    ghost use Rattle.task_laws.specs.Machine.{how_many, polls_future};
     ghost use Rattle.task_replay.specs.Replay.{Standing, slots_of};
 
     ghost Value = { Standing };
 
     ghost view = { λ m. record { limit = m.limit; word = m.word; slots = slots_of m.slots; parties = m.parties.items } };
-
-    ghost invariant = { λ m. m.polling ≡ how_many polls_future m.parties.items };
 }
 
 /// What can be seen of a machine.
@@ -122,22 +117,16 @@ impl<A: Allocator> Machine<A> {
     }
 }
 
-// It is a run between the start and the answer of its poll.
-fn is_polling(position: Position) -> bool
-    ensures { result ≡ polls_future position }
-{
-    matches!(position, Position::Polling)
-}
-
 /// How a machine is played.
 impl<A: Allocator> Machine<A> {
-    // After a spawn: party 0 is the Runnable, party 1 the Task.
+    // After a spawn: party 0 is the Runnable, party 1 the Task, and party 2 the waker that is lent to each call by reference.
     pub(crate) fn opened(alloc: A, limit: u64) -> Result<Machine<A>, AllocError>
         ensures { IfOk result (λ now. now ≡ standing (opening limit)) }
     {
         let mut parties = Vec::new(alloc);
         parties.push(Position::At(Rest::Runnable))?;
         parties.push(Position::At(Rest::Task(0)))?;
+        parties.push(Position::At(Rest::Lent))?;
         let slots = Slots {
             future: true,
             output: false,
@@ -148,7 +137,6 @@ impl<A: Allocator> Machine<A> {
             word: Word::from_bits(SCHEDULED | TASK | REFERENCE),
             slots,
             parties,
-            polling: 0,
         })
     }
 
@@ -160,7 +148,6 @@ impl<A: Allocator> Machine<A> {
             limit: self.limit,
             word: self.word,
             slots: self.slots,
-            polling: self.polling > 0,
         }
     }
 
@@ -171,7 +158,6 @@ impl<A: Allocator> Machine<A> {
     {
         if let Some(added) = added {
             self.parties.push(added)?;
-            self.polling += usize::from(is_polling(added));
         }
         Ok(())
     }
@@ -192,8 +178,6 @@ impl<A: Allocator> Machine<A> {
         };
         self.add(effect.added)?;
         self.parties[next.party as usize] = effect.next;
-        self.polling -= usize::from(is_polling(position));
-        self.polling += usize::from(is_polling(effect.next));
         self.word = effect.word;
         self.slots = effect.slots;
         Ok(true)

@@ -45,8 +45,8 @@ pub struct Player<A: Allocator = Global> {
 }
 
 impl<A: Allocator> Player<A> {
-    /// The machine after a spawn: party 0 is the Runnable, party 1 the Task. The list of parties takes its memory from `alloc`. Up to `limit`
-    /// references wakers are gained; a limit above `LIMIT` is taken as `LIMIT`.
+    /// The machine after a spawn: party 0 is the Runnable, party 1 the Task, and party 2 the waker that is lent to each call by reference. The list of
+    /// parties takes its memory from `alloc`. Up to `limit` references wakers are gained; a limit above `LIMIT` is taken as `LIMIT`.
     pub fn new(alloc: A, limit: u64) -> Result<Player<A>, AllocError>
         ensures opened { IfOk result (λ player. player.machine ≡ standing (opening (min limit LIMIT))) }
         ensures unplayed { IfOk result (λ player. player.steps ≡ 0) }

@@ -3,8 +3,6 @@ ghost use Rattle.std.specs.Prelude.{◌≡◌, ◌<◌, ◌≤◌, ◌+◌, ◌-
 ghost use Rattle.task_laws.specs.Table as table;
 ghost use Rattle.task_laws.specs.Table.{rule};
 ghost use Rattle.task_laws.specs.declared.positions.Position.{Position};
-ghost use Rattle.task_laws.specs.declared.positions.Position.TheVariants.{At};
-ghost use Rattle.task_laws.specs.declared.positions.Rest.TheVariants.{Lent};
 ghost use Rattle.task_replay.specs.Replay.{Standing, StepsTo, begun, scene_of, scene_at};
 ghost use Rattle.task_replay.specs.Refusal.{IsMade, IsNeverMade, FitsAt, IsReason};
 ghost use Rattle.task_core.specs.declared.word.TheConstants.{LIMIT};
@@ -14,20 +12,18 @@ use crate::player::Player;
 use crate::table::{Scene, moves_of_act, rule_of_act};
 use std::alloc::Allocator;
 use task_core::moves::Act;
-use task_core::word::{CLOSED, LIMIT, NOTIFYING, REFERENCE, Word};
-use task_laws::positions::{Position, Rest};
+use task_core::word::{CLOSED, LIMIT, NOTIFYING, REFERENCE, TASK, Word};
+use task_laws::positions::Position;
 
 /// Why a machine does not allow a step.
 #[derive(Clone, Copy, Debug, PartialEq, Eq)]
 pub enum Refusal {
     /// There is no party of this number.
     NoParty,
-    /// The act is never made from this position, whatever the limit, the word, the slots and the other parties.
+    /// The act is never made from this position, whatever the limit, the word and the slots.
     NeverThere(Position),
-    /// The waker is lent to a poll of the future, and none is under way.
-    NoPoll,
-    /// The word does not fit, and nothing else. At the word told here, with all else as it is, the machine allows the step. None is told where no word
-    /// that was tried fits, as for a gain below a limit of 0.
+    /// The word does not fit, and nothing else: the row asks for another one, or a lent waker for one by which the task has a handle. At the word told here,
+    /// with all else as it is, the machine allows the step. None is told where no word that was tried fits, as for a gain below a limit of 0.
     UnfitWord(Option<Word>),
 }
 
@@ -71,21 +67,7 @@ fn refusal_at(scene: Scene, act: Act, position: Position) -> Option<Refusal>
     if fits(scene, act, position) {
         return None;
     }
-    if is_alone(&scene, position) {
-        return Some(Refusal::NoPoll);
-    }
     Some(Refusal::UnfitWord(nearest_word(&scene, act, position)))
-}
-
-// It is a lent waker, between two calls, and no poll of the future is under way.
-fn is_alone(scene: &Scene, position: Position) -> bool
-    ensures alone { result ≡ true → (position ≡ At Lent) × (scene.now.polling ≡ false) }
-    ensures polled { result ≡ false → position ≡ At Lent → scene.now.polling ≡ true }
-{
-    match position {
-        Position::At(Rest::Lent) => !scene.polling,
-        _ => false,
-    }
 }
 
 // Whether the act may be made at this position, in this scene.
@@ -99,13 +81,13 @@ fn fits(scene: Scene, act: Act, position: Position) -> bool
 }
 
 // Whether the table has a line for the act at this position. The scene is one in which each condition beside the rows holds: a task that is closed, with
-// a notifier at work and a poll of the future under way.
+// its Task there and a notifier at work.
 fn is_made(act: Act, position: Position) -> bool
     requires { begun position < 2 ^ 64 - 1 }
     ensures made { result ≡ true → IsMade act position }
     ensures never { result ≡ false → IsNeverMade act position }
 {
-    let word = Word::from_bits(CLOSED | NOTIFYING);
+    let word = Word::from_bits(CLOSED | TASK | NOTIFYING);
     let slots = Slots {
         future: true,
         output: true,
@@ -115,7 +97,6 @@ fn is_made(act: Act, position: Position) -> bool
         limit: LIMIT,
         word,
         slots,
-        polling: true,
     };
     moves_of_act(scene, word, act, position).is_some()
 }
@@ -163,7 +144,6 @@ fn fits_nearer(scene: &Scene, act: Act, position: Position, word: Word, fewest: 
         limit: scene.limit,
         word,
         slots: scene.slots,
-        polling: scene.polling,
     };
     fits(at_word, act, position) && flags_turned(scene, word) < fewest
 }

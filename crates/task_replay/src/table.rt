@@ -9,7 +9,7 @@ use crate::machine::Slots;
 use crate::rows::row_of_act;
 use crate::ways::{
     after_giving_up, after_storing, cancels_after, first_look, goes_after, goes_off, goes_on,
-    may_drop, may_gain, may_wake, notifies, second_look,
+    may_ask, may_drop, may_gain, may_wake, notifies, second_look,
 };
 use task_core::moves::Act;
 use task_core::moves::Act::*;
@@ -32,8 +32,6 @@ pub(crate) struct Scene {
     pub word: Word,
     /// The slots.
     pub slots: Slots,
-    /// Whether a poll of the future is between its start and its answer.
-    pub polling: bool,
 }
 
 /// What a party leaves.
@@ -126,8 +124,7 @@ fn gains(scene: Scene, written: Word, act: Act, position: Position) -> Option<Ef
             may.then_some(adds(scene, written, Leaving(Gained(true), rest), At(Waker)))
         }
         (FindLimit | RefuseGain, At(rest)) => {
-            let may = may_gain(&scene, rest);
-            may.then_some(steps(scene, written, Leaving(Gained(false), rest)))
+            may_ask(rest).then_some(steps(scene, written, Leaving(Gained(false), rest)))
         }
         _ => None,
     }
@@ -254,6 +251,7 @@ fn loads(scene: Scene, written: Word, act: Act, position: Position) -> Option<Ef
 {
     let word = scene.word;
     match (act, position) {
+        (Look, At(Lent)) => Some(adds(scene, written, At(Lent), At(Lent))),
         (Look, At(Task(n))) => {
             let has_output = word.completed() && !word.closed();
             let looks = steps(scene, written, first_look(word, n + 1));
@@ -285,7 +283,7 @@ fn values(scene: Scene, written: Word, act: Act, position: Position) -> Option<E
         ..scene.slots
     };
     match (act, position) {
-        (StartPoll, Starting) => Some(adds(scene, written, Polling, At(Lent))),
+        (StartPoll, Starting) => Some(steps(scene, written, Polling)),
         (AnswerPending, Polling) => Some(steps(scene, written, Pending)),
         (AnswerReady, Polling) => Some(steps(scene, written, Ready)),
         (DropFuture, Ready) => Some(keeps(written, dropped, Unstored)),

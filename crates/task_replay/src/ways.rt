@@ -7,14 +7,30 @@ use crate::table::Scene;
 use task_core::word::Word;
 use task_laws::positions::{After, Answer, PollAnswer, Position, Rest, Way};
 
-/// Whether a party that rests there may gain a reference.
+/// Whether the task has a handle: the Task, or one that holds a reference.
+pub(crate) fn is_held(word: Word) -> bool
+    ensures { result ≡ table.is_held word }
+{
+    word.task() || word.references() > 0
+}
+
+/// Whether a party that rests there may ask for a reference.
+pub(crate) fn may_ask(rest: Rest) -> bool
+    ensures { result ≡ table.may_ask rest }
+{
+    match rest {
+        Rest::Runnable | Rest::Waker | Rest::Lent => true,
+        Rest::Ended | Rest::Task(_) => false,
+    }
+}
+
+/// .. and gain it.
 pub(crate) fn may_gain(scene: &Scene, rest: Rest) -> bool
     ensures { result ≡ table.may_gain (scene_of scene.now) rest }
 {
     match rest {
-        Rest::Runnable | Rest::Waker => true,
-        Rest::Lent => scene.polling,
-        Rest::Ended | Rest::Task(_) => false,
+        Rest::Lent => is_held(scene.word),
+        _ => may_ask(rest),
     }
 }
 
@@ -24,7 +40,7 @@ pub(crate) fn may_wake(scene: &Scene, rest: Rest) -> bool
 {
     match rest {
         Rest::Waker => true,
-        Rest::Lent => scene.polling,
+        Rest::Lent => is_held(scene.word) || scene.word.is_over(),
         Rest::Runnable | Rest::Ended | Rest::Task(_) => false,
     }
 }

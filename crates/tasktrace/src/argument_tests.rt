@@ -26,14 +26,14 @@ const INPUT: &str = "limit 4\n0 start-run\n";
 
 const HEAD: &str = "| Step | Act | Word | Flags | Count | Future | Output | Awaiter | Parties |
 |---|---|---|---|---|---|---|---|---|
-| 0 | spawn | 0x111 | SCHEDULED TASK | 1 | cell | empty | empty | 0 At(Runnable), 1 At(Task(0)) |
+| 0 | spawn | 0x111 | SCHEDULED TASK | 1 | cell | empty | empty | 0 At(Runnable), 1 At(Task(0)), 2 At(Lent) |
 ";
 
 const CHANGED: &str =
     "| 1 | 0 start-run | 0x112 | RUNNING TASK | 1 | party 0 | empty | empty | 0 Starting |\n";
 
 const ALL: &str =
-    "| 1 | 0 start-run | 0x112 | RUNNING TASK | 1 | party 0 | empty | empty | 0 Starting, 1 At(Task(0)) |\n";
+    "| 1 | 0 start-run | 0x112 | RUNNING TASK | 1 | party 0 | empty | empty | 0 Starting, 1 At(Task(0)), 2 At(Lent) |\n";
 
 const USAGE: &str = "usage: tasktrace [--all | --help]\n";
 

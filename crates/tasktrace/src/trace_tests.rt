@@ -31,7 +31,7 @@ impl io::Write for Limited {
 
 const HEAD: &str = "| Step | Act | Word | Flags | Count | Future | Output | Awaiter | Parties |
 |---|---|---|---|---|---|---|---|---|
-| 0 | spawn | 0x111 | SCHEDULED TASK | 1 | cell | empty | empty | 0 At(Runnable), 1 At(Task(0)) |
+| 0 | spawn | 0x111 | SCHEDULED TASK | 1 | cell | empty | empty | 0 At(Runnable), 1 At(Task(0)), 2 At(Lent) |
 ";
 
 // A run whose poll answers Ready, and the Task that drops afterwards.
@@ -48,7 +48,7 @@ const READY: &str = "limit 4
 ";
 
 const READY_ROWS: &str = "\
-| 1 | 0 start-run | 0x112 | RUNNING TASK | 1 | party 0 | empty | empty | 0 Starting, 1 At(Task(0)) |
+| 1 | 0 start-run | 0x112 | RUNNING TASK | 1 | party 0 | empty | empty | 0 Starting, 1 At(Task(0)), 2 At(Lent) |
 | 2 | 0 start-poll | 0x112 | RUNNING TASK | 1 | party 0 | empty | empty | 0 Polling, 1 At(Task(0)), 2 At(Lent) |
 | 3 | 0 answer-ready | 0x112 | RUNNING TASK | 1 | party 0 | empty | empty | 0 Ready, 1 At(Task(0)), 2 At(Lent) |
 | 4 | 0 drop-future | 0x112 | RUNNING TASK | 1 | empty | empty | empty | 0 Unstored, 1 At(Task(0)), 2 At(Lent) |
@@ -77,7 +77,7 @@ limit 4
 ";
 
 const IDLE_ROWS: &str = "\
-| 1 | 0 start-run | 0x112 | RUNNING TASK | 1 | party 0 | empty | empty | 0 Starting, 1 At(Task(0)) |
+| 1 | 0 start-run | 0x112 | RUNNING TASK | 1 | party 0 | empty | empty | 0 Starting, 1 At(Task(0)), 2 At(Lent) |
 | 2 | 0 start-poll | 0x112 | RUNNING TASK | 1 | party 0 | empty | empty | 0 Polling, 1 At(Task(0)), 2 At(Lent) |
 | 3 | 2 gain-reference | 0x212 | RUNNING TASK | 2 | party 0 | empty | empty | 0 Polling, 1 At(Task(0)), 2 Leaving(Gained(true), Lent), 3 At(Waker) |
 | 4 | 2 end-call | 0x212 | RUNNING TASK | 2 | party 0 | empty | empty | 0 Polling, 1 At(Task(0)), 2 At(Lent), 3 At(Waker) |
@@ -100,11 +100,11 @@ const REGISTER: &str = "limit 4
 ";
 
 const REGISTER_ROWS: &str = "\
-| 1 | 1 look | 0x111 | SCHEDULED TASK | 1 | cell | empty | empty | 0 At(Runnable), 1 Registrar(1) |
-| 2 | 1 clone-awaiter | 0x111 | SCHEDULED TASK | 1 | cell | empty | empty | 0 At(Runnable), 1 HasClone(1) |
-| 3 | 1 begin-register | 0x151 | SCHEDULED TASK REGISTERING | 1 | cell | empty | empty | 0 At(Runnable), 1 Storing(1) |
-| 4 | 1 store-awaiter | 0x151 | SCHEDULED TASK REGISTERING | 1 | cell | empty | party 1, of poll 1 | 0 At(Runnable), 1 Registered(1) |
-| 5 | 1 end-register | 0x131 | SCHEDULED TASK AWAITER | 1 | cell | empty | cell, of poll 1 | 0 At(Runnable), 1 Looking(1) |
+| 1 | 1 look | 0x111 | SCHEDULED TASK | 1 | cell | empty | empty | 0 At(Runnable), 1 Registrar(1), 2 At(Lent) |
+| 2 | 1 clone-awaiter | 0x111 | SCHEDULED TASK | 1 | cell | empty | empty | 0 At(Runnable), 1 HasClone(1), 2 At(Lent) |
+| 3 | 1 begin-register | 0x151 | SCHEDULED TASK REGISTERING | 1 | cell | empty | empty | 0 At(Runnable), 1 Storing(1), 2 At(Lent) |
+| 4 | 1 store-awaiter | 0x151 | SCHEDULED TASK REGISTERING | 1 | cell | empty | party 1, of poll 1 | 0 At(Runnable), 1 Registered(1), 2 At(Lent) |
+| 5 | 1 end-register | 0x131 | SCHEDULED TASK AWAITER | 1 | cell | empty | cell, of poll 1 | 0 At(Runnable), 1 Looking(1), 2 At(Lent) |
 ";
 
 #[test]
@@ -131,7 +131,7 @@ fn a_row_is_printed_for_each_step(rt: HostRuntime) -> Result<(), Fail> {
 // The same life of a task, with the parties that a step has changed or added. One that ends is shown once more.
 const IDLE_CHANGES: &str = "\
 | 1 | 0 start-run | 0x112 | RUNNING TASK | 1 | party 0 | empty | empty | 0 Starting |
-| 2 | 0 start-poll | 0x112 | RUNNING TASK | 1 | party 0 | empty | empty | 0 Polling, 2 At(Lent) |
+| 2 | 0 start-poll | 0x112 | RUNNING TASK | 1 | party 0 | empty | empty | 0 Polling |
 | 3 | 2 gain-reference | 0x212 | RUNNING TASK | 2 | party 0 | empty | empty | 2 Leaving(Gained(true), Lent), 3 At(Waker) |
 | 4 | 2 end-call | 0x212 | RUNNING TASK | 2 | party 0 | empty | empty | 2 At(Lent) |
 | 5 | 0 answer-pending | 0x212 | RUNNING TASK | 2 | party 0 | empty | empty | 0 Pending |
@@ -143,21 +143,40 @@ const IDLE_CHANGES: &str = "\
 | 11 | 4 end-call | 0x211 | SCHEDULED TASK | 2 | cell | empty | empty | 4 At(Ended) |
 ";
 
+// A call by reference: it gets a party of its own by a load, gains a waker and wakes.
+const BY_REFERENCE: &str = "limit 4
+2 look
+3 gain-reference
+3 end-call
+3 wake-scheduled
+3 end-call
+";
+
+const BY_REFERENCE_CHANGES: &str = "\
+| 1 | 2 look | 0x111 | SCHEDULED TASK | 1 | cell | empty | empty | 2 At(Lent), 3 At(Lent) |
+| 2 | 3 gain-reference | 0x211 | SCHEDULED TASK | 2 | cell | empty | empty | 3 Leaving(Gained(true), Lent), 4 At(Waker) |
+| 3 | 3 end-call | 0x211 | SCHEDULED TASK | 2 | cell | empty | empty | 3 At(Lent) |
+| 4 | 3 wake-scheduled | 0x211 | SCHEDULED TASK | 2 | cell | empty | empty | 3 Leaving(Nothing, Lent) |
+| 5 | 3 end-call | 0x211 | SCHEDULED TASK | 2 | cell | empty | empty | 3 At(Lent) |
+";
+
 #[test]
 fn a_row_shows_what_its_step_changed(rt: HostRuntime) -> Result<(), Fail> {
     let alloc = rt.alloc();
-    let mut out = Vec::new(alloc);
-    let mut err = Vec::new(alloc);
-    let status = trace(alloc, Shown::Changed, IDLE.as_bytes(), &mut out, &mut err);
-    let wanted = format!(in alloc; "{HEAD}{IDLE_CHANGES}")?;
-    assert_eq!(rt; (status, err.len()), (0, 0));
-    assert_eq!(rt; out.as_slice(), wanted.as_bytes());
+    for (input, changes) in [(IDLE, IDLE_CHANGES), (BY_REFERENCE, BY_REFERENCE_CHANGES)] {
+        let mut out = Vec::new(alloc);
+        let mut err = Vec::new(alloc);
+        let status = trace(alloc, Shown::Changed, input.as_bytes(), &mut out, &mut err);
+        let wanted = format!(in alloc; "{HEAD}{changes}")?;
+        assert_eq!(rt; (status, err.len()), (0, 0));
+        assert_eq!(rt; out.as_slice(), wanted.as_bytes());
+    }
     Ok(())
 }
 
 // A limit, the first step, and why it is not allowed.
 const REFUSED: [(u64, &str, &str); 7] = [
-    (4, "7 look", "there are 2 parties, counted from 0."),
+    (4, "7 look", "there are 3 parties, counted from 0."),
     (
         4,
         "0 complete",
@@ -207,19 +226,62 @@ fn a_refused_step_is_told_with_its_reason(rt: HostRuntime) -> Result<(), Fail> {
     Ok(())
 }
 
+// A waker has given up the last reference of an open task, which it is about to close: a lent waker wakes it no more.
+const ORPHANED: &str = "limit 4
+0 start-run
+0 start-poll
+2 gain-reference
+2 end-call
+0 answer-pending
+0 end-idle
+0 end-call
+1 detach
+1 end-call
+3 orphan-task
+2 wake-idle
+";
+
+// The last handle is gone: a lent waker finds that the task is over, and gains nothing.
+const DROPPED: &str = "limit 4
+1 detach
+1 end-call
+0 discard-open
+0 drop-future
+0 unschedule
+0 give-up-last-reference
+0 empty-slots
+0 end-call
+2 wake-over
+2 end-call
+2 gain-reference
+";
+
 #[test]
-fn a_lent_waker_is_refused_after_its_poll(rt: HostRuntime) -> Result<(), Fail> {
+fn a_lent_waker_is_refused_where_no_handle_is_left(rt: HostRuntime) -> Result<(), Fail> {
     let alloc = rt.alloc();
-    let input = "limit 4\n0 start-run\n0 start-poll\n0 answer-pending\n2 wake-running\n";
-    let mut out = Vec::new(alloc);
-    let mut err = Vec::new(alloc);
-    assert_eq!(rt;
-        trace(alloc, Shown::All, input.as_bytes(), &mut out, &mut err),
-        1
-    );
-    let reason =
-        "\nStep 4, `2 wake-running`, is not allowed: the waker is lent, and no poll is under way.\n";
-    assert!(rt; out.as_slice().ends_with(reason.as_bytes()));
+    let cases = [
+        (
+            ORPHANED,
+            "2 wake-idle",
+            "the word 0x000 does not fit, 0x010 would: TASK set.",
+        ),
+        (
+            DROPPED,
+            "2 gain-reference",
+            "the word 0x008 does not fit, 0x018 would: TASK set.",
+        ),
+    ];
+    for (input, step, reason) in cases {
+        let mut out = Vec::new(alloc);
+        let mut err = Vec::new(alloc);
+        let status = trace(alloc, Shown::All, input.as_bytes(), &mut out, &mut err);
+        let wanted = format!(in alloc; "\nStep 11, `{step}`, is not allowed: {reason}\n")?;
+        assert_eq!(rt; (status, err.len()), (1, 0), "{step}");
+        assert!(rt;
+            out.as_slice().ends_with(wanted.as_str().as_bytes()),
+            "{step}"
+        );
+    }
     Ok(())
 }
 

@@ -28,7 +28,8 @@ Plays the steps that it reads from standard input, and prints a row of a table f
     --help    this text
 
 The first line is `limit N`: up to N references wakers are gained. Each other line is a step, `PARTY ACT`.
-The Runnable of the spawn is party 0, the Task party 1; each party that a step adds takes the next number.
+The Runnable of the spawn is party 0, the Task party 1, and party 2 the waker that is lent to each call by reference.
+Each party that a step adds takes the next number.
 `#` begins a comment, which ends with its line. Blank lines pass. The acts:
 
 ";

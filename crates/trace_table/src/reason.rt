@@ -24,7 +24,6 @@ pub fn print_refusal<W: io::Write>(
             write!(out, "it is never made at {position:?}, where")?;
             print_acts(player, step, out)
         }
-        Some(Refusal::NoPoll) => writeln!(out, "the waker is lent, and no poll is under way."),
         Some(Refusal::UnfitWord(fitting)) => print_word(player.machine().word(), fitting, out),
         None => writeln!(out, "no reason is known."),
     }
