@@ -1,6 +1,6 @@
 -- The parts of a run, put together.
 use Rattle.std.proofs.Common.{◌≡◌, ℕ, Bool, true, false, List, [], ◌∷◌, sym, ap, ◌∙◌, subst}
-use Rattle.atomic_table.specs.Table.{Me, rest}
+use Rattle.atomic_table.specs.Table.{Me}
 use Rattle.task_core.specs.Word.{State}
 use Rattle.task_laws.specs.declared.positions.Position.TheVariants.{FutureInHand, Polling}
 use Rattle.task_laws.specs.declared.positions.Closer.TheVariants.{ClosedRun}

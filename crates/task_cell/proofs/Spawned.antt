@@ -1,5 +1,5 @@
 -- The rule at the spawn and at the end.
-use Rattle.std.proofs.Common.{◌≡◌, ℕ, zero, suc, ◌<◌, ◌≢◌, Bool, true, false, List, [], ◌∷◌, ◌++◌, length, get_or, set, sym, refl, ap, ◌∙◌, subst, ◌⊎◌, inr, ⊎_elim, arith, length-set, get_or-set_same}
+use Rattle.std.proofs.Common.{◌≡◌, ℕ, zero, suc, ◌<◌, ◌≢◌, Bool, true, false, List, [], ◌∷◌, ◌++◌, length, get_or, set, sym, refl, ap, ◌∙◌, subst, inr, ⊎_elim, arith, length-set, get_or-set_same}
 use mathlib.Core.Option.{some, none, some-injective, some-ne-none}
 use mathlib.Core.Logic.{dite}
 use native.Mathlib.Decide.{ℕ_discrete}
@@ -19,7 +19,7 @@ use Rattle.task_steps.specs.declared.table.View.{View}
 use Rattle.task_cell.specs.declared.cell.Party.{Party}
 use Rattle.task_steps.specs.Rule.{member, view, fresh, laid_view, filling_view, opening_view, IsFuture, IsEmpty, AtHome, opening_at, Told, Running, Ruled}
 use Rattle.task_steps.specs.Steps.{head_of}
-use Rattle.task_cell.specs.Calls.{deeds, limit_of, StandsWith}
+use Rattle.task_cell.specs.Calls.{deeds, StandsWith}
 use Rattle.task_cell.specs.LastWord.{IsLastWord}
 use Rattle.task_steps.specs.Spawns.{opening_runnable, opening_task}
 use Rattle.task_steps.proofs.Told.{inside, runs, regroups}

@@ -1,6 +1,5 @@
 -- What is known of the word and the slots where one party stands in a whole run, and what each row has to show.
 use Rattle.std.proofs.Common.{◌≡◌, ℕ, zero, suc, ◌+◌, ◌≤◌, Bool, true, false, not, ◌||◌, ◌⊎◌, refl, sym, cond, subst, eqb, List, Option, Some, None, arith}
-use Rattle.std.specs.Prelude.{nat_lt}
 use Rattle.task_core.specs.Word.{State, bit, is_open}
 use Rattle.task_laws.specs.Event.{HasOutput, Event}
 use Rattle.task_laws.specs.Position.{OfRun, OfDrop, OfCancel, OfPoll, OfClaim, ThenNotifies, Position, At, Leaving, Deliverer, Polling, Unstored, Stored, Cleared, FutureGone, OutputInHand, GivingUp, Notifier, Taker, Releaser, AwaiterInHand, Registrar, RefusedClone, Storing, Registered, TookBack, Looking, Claimer, OldAwaiterInHand, Answering, Detacher, Act}

@@ -62,7 +62,7 @@ pub under_condition : (act : Act) (p : Position) (condition : Scene → Bool) (l
     → InEach (HandshakeLeaves act p leaves) → InEach (HandshakeKeeps act p)
 under_condition act p condition leaves is row = record {
   at = λ scene i trace rest others fit holds shakes is_found.
-    subst (HandshakeKept i trace others p) (sym (is scene (written act scene.word))) (either (condition scene) i trace others (leaves scene (written act scene.word)) (row.at scene i trace rest others fit holds shakes is_found));
+      subst (HandshakeKept i trace others p) (sym (is scene (written act scene.word))) (either (condition scene) i trace others (leaves scene (written act scene.word)) (row.at scene i trace rest others fit holds shakes is_found));
 }
   where
     either : (b : Bool) (i : ℕ) (trace : List Event) (others : Awaiting) (o : Outcome) → HandshakeKept i trace others p (Some o) → HandshakeKept i trace others p (when b o)

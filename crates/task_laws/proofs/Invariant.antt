@@ -1,6 +1,6 @@
 -- What holds between the word, the slots, the trace and the census of the parties at each moment.
 use Rattle.std.proofs.Common.{◌≡◌, ℕ, ◌+◌, ◌≤◌, Bool, true, false, not, ◌&&◌, ◌||◌, ◌⊎◌, refl, sym, subst, List, ◌∷◌, ◌++◌, Option, Some, None}
-use Rattle.std.specs.Prelude.{if◌then◌else◌, nat_eq, nat_lt}
+use Rattle.std.specs.Prelude.{if◌then◌else◌, nat_eq}
 use Rattle.task_core.specs.Word.{State, bit, is_open}
 use Rattle.task_laws.specs.Event.{Event}
 use Rattle.task_laws.specs.Position.{Position, Act}

@@ -3,7 +3,7 @@ use Rattle.std.proofs.Common.{Bool, true, false, Option, Some, None, subst}
 use Rattle.task_core.specs.Word.{State}
 use Rattle.task_core.specs.Rows.{found, written}
 use Rattle.task_laws.specs.Position.{Runnable, Waker, Lent, Task, ClosedRun, DroppedRunnable, At, Leaving, Deliverer, Starting, Polling, Pending, Ready, Unstored, Stored, Cleared, FutureInHand, FutureGone, OutputInHand, GivingUp, Emptier, Notifier, Taker, Releaser, AwaiterInHand, OrphanHolder, Registrar, HasClone, RefusedClone, Storing, Registered, TookBack, CloneInHand, Looking, Claiming, Claimer, OldAwaiterInHand, Answering, OutputCloser, Detacher, GainReference, FindLimit, DropWaker, DropLastWaker, OrphanTask, CloseOrphan, GiveUpReference, GiveUpLastReference, WakeOver, WakeScheduled, WakeRunning, WakeIdle, DiscardOpen, DiscardClosed, CancelOver, CancelBusy, CancelIdle, ClaimOutput, GiveUpOutput, DetachOrphan, DetachLast, Detach, TakeUpClosed, StartRun, Unschedule, Complete, CompleteDetached, EndClosed, Reschedule, EndIdle, EndOrphaned, BeginNotify, MissNotify, FindNotify, BeginRegister, EndNotify, EndRegister, EndRegisterNotified, Look, LookFinished, StartPoll, AnswerPending, AnswerReady, DropFuture, StoreOutput, DropOutput, HandOutOutput, CloneAwaiter, RefuseClone, StoreAwaiter, TakeAwaiter, WakeAwaiter, DropAwaiter, HandOver, EmptySlots, RefuseGain, EndCall, Position, Act}
-use Rattle.task_laws.specs.Table.{Scene, Outcome, where_found, goes, rule}
+use Rattle.task_laws.specs.Table.{Scene, Outcome, where_found, goes}
 use Rattle.task_laws.specs.Theorem.{ChangesItsOwn, OwnersAct}
 use Rattle.task_laws.proofs.Scenes.{rules}
 

@@ -1,6 +1,6 @@
 -- The invariant holds after every list of steps that the machine allows.
 use Rattle.std.proofs.Common.{◌≡◌, ℕ, zero, suc, List, [], ◌∷◌, ◌++◌, Option, Some, None, refl, sym, ap, ◌∙◌, subst, arith}
-use Rattle.std.specs.Prelude.{slice_get, slice_set, nat_lt}
+use Rattle.std.specs.Prelude.{slice_get, slice_set}
 use Rattle.std.proofs.lemmas.Bool.Decides.{nat_tests}
 use Rattle.task_laws.specs.Position.{Position, Act}
 use Rattle.task_laws.specs.Table.{Outcome, rule}
@@ -11,7 +11,7 @@ use Rattle.task_laws.proofs.Awaiting.{Awaiting, join, none, await, awaiting, fit
 use Rattle.task_laws.proofs.Handshake.{HandshakeHolds, HandshakeKept, handshake_kept_by_rule}
 use Rattle.task_laws.proofs.InvariantRows.{every_row}
 use Rattle.task_laws.proofs.HandshakeRows.{every_handshake_row}
-use Rattle.task_core.specs.Word.{bit, opening_word}
+use Rattle.task_core.specs.Word.{opening_word}
 
 -- all parties but number i
 abbrev pub others : List Position → ℕ → List Position

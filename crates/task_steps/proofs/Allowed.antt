@@ -1,5 +1,5 @@
 -- The steps of the table that a party may make: what each owes is one obligation on the machine that it finds.
-use Rattle.std.proofs.Common.{◌≡◌, ℕ, suc, ◌<◌, ◌≢◌, Bool, eqb, true, false, Some, List, [], ◌∷◌, ◌++◌, length, map, get_or, set, sym, ap, ◌∙◌, subst, inl, inr, refl, ⊎_elim, arith, length-set, get_or-set_same}
+use Rattle.std.proofs.Common.{◌≡◌, ℕ, suc, ◌<◌, ◌≢◌, Bool, eqb, true, false, Some, List, ◌∷◌, ◌++◌, length, map, get_or, set, sym, ap, ◌∙◌, subst, inl, inr, refl, ⊎_elim, arith, length-set, get_or-set_same}
 use mathlib.Core.Option.{some, some-injective}
 use mathlib.Core.Option as maybe
 use lib.ListN.{get_elem?}
@@ -131,7 +131,6 @@ module _ (F T A : Type 0) (limit : ℕ) where
           carried = subst (λ (y : Position). Carried y o.next me.1 (carried_after me.1 z.move)) (sym (ap (λ (y : View). (head_of y.members).at) is)) z.carried;
         },
       )
-
     where
       ready : (b w : Bool) → (b ≡ false → w ≡ false) → has_work p ≡ false → w ≡ true → b ≡ true
       ready true w clear e f = refl

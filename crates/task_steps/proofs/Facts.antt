@@ -1,7 +1,5 @@
 -- What the machine's invariant says to a party that knows its own place.
 use Rattle.std.proofs.Common.{◌≡◌, ℕ, zero, suc, ◌+◌, ◌*◌, ◌/◌, ◌%◌, ◌≤◌, Bool, true, false, Some, List, [], ◌∷◌, ◌++◌, set, sym, refl, ap, subst, arith}
-use Rattle.std.specs.Prelude.{nat_lt}
-use Rattle.std.proofs.lemmas.Bool.Decides.{nat_tests}
 use mathlib.Core.Option.{some, some-injective, some-ne-none}
 use lib.ListN.{get_elem?}
 use Rattle.task_core.specs.Word.{State, bit, number_of}

@@ -1,5 +1,5 @@
 -- The rule of a table that was just made: the machine stands at its opening, and the future is still to be put in.
-use Rattle.std.proofs.Common.{◌≡◌, ℕ, zero, suc, ◌<◌, ◌≢◌, true, false, List, [], ◌∷◌, map, sym, refl, ap, ◌∙◌, subst, inl, arith}
+use Rattle.std.proofs.Common.{◌≡◌, ℕ, zero, suc, ◌<◌, ◌≢◌, false, List, [], ◌∷◌, sym, refl, ap, ◌∙◌, subst, inl, arith}
 use mathlib.Core.Option.{some, some-injective, some-ne-none}
 use lib.ListN.{get_elem?}
 use Rattle.atomic_table.specs.Table.{opening}

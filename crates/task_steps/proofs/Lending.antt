@@ -1,24 +1,20 @@
 -- A seat comes to the table with a waker that is lent to it.
-use Rattle.std.proofs.Common.{◌≡◌, ℕ, ◌+◌, Bool, List, [], ◌∷◌, ◌++◌, length, map, set, sym, refl, ap, ◌∙◌, subst, ◌⊎◌, ⊎_elim, arith}
-use Rattle.std.specs.Prelude.{slice_index}
-use mathlib.Core.Option.{some, some-injective}
+use Rattle.std.proofs.Common.{◌≡◌, ℕ, ◌+◌, Bool, List, [], ◌∷◌, ◌++◌, length, sym, refl, ap, ◌∙◌, ⊎_elim, arith}
+use mathlib.Core.Option.{some}
 use lib.ListN.{get_elem?}
 use Rattle.atomic_table.specs.Table.{State as Board, Me, Enters}
 use Rattle.atomic_table.proofs.Lists.{at_longer}
 use Rattle.task_laws.specs.Event.{CallEnds}
 use Rattle.task_laws.specs.declared.positions.Answer.TheVariants.{Nothing}
-use Rattle.task_laws.specs.declared.positions.Position.{Position}
 use Rattle.task_laws.specs.declared.positions.Position.TheVariants.{At}
 use Rattle.task_laws.specs.declared.positions.Rest.TheVariants.{Lent}
 use Rattle.task_core.specs.declared.moves.Act.TheVariants.{Look}
 use Rattle.task_laws.specs.Table.{Outcome, steps}
-use Rattle.task_laws.specs.Machine.{Machine, scene, how_many}
+use Rattle.task_laws.specs.Machine.{Machine, scene}
 use Rattle.task_laws.specs.Theorem.{owns_awaiter}
 use Rattle.task_steps.specs.declared.table.Slot.{Slot}
-use Rattle.task_steps.specs.declared.table.Member.{Member}
-use Rattle.task_steps.specs.declared.table.Stage.TheVariants.{Spawned}
 use Rattle.task_steps.specs.declared.table.View.{View}
-use Rattle.task_steps.specs.Rule.{deed, view, fresh, found_by, opening_at, lender, Entry, Told, has_work, Housed, Running, Ruled}
+use Rattle.task_steps.specs.Rule.{deed, view, fresh, found_by, opening_at, lender, has_work, Housed, Ruled}
 use Rattle.task_steps.proofs.Told.{next_machine, at_append, joined_by}
 use Rattle.task_steps.proofs.Facts.{many_next}
 use Rattle.task_steps.proofs.Seats.{just, retold}
@@ -47,10 +43,13 @@ module _ (F T A : Type 0) (limit : ℕ) where
 
   -- whoever reads the word may have a lent waker
   pub enters : (slots : ℕ) → Enters Rule slots 0 (λ n w. came w ≡ came (view limit (fresh (At Lent) ∷ [])))
-  enters slots s r homes fits = let run = r.running in let m : Machine = run.machine in let w : View = view limit (fresh (At Lent) ∷ []) in let N : Machine = next_machine m lender (At Lent) (lent_by m) in
-      (w, retold F T A limit s r.capped run (s.views ++ w ∷ []) (record { party = lender; deed = deed Look (found_by Look m.word) } ∷ run.log) N
-      (joined_by limit s.views run.log m Look (At Lent) (lent_by m) run.told refl refl refl) refl run.limited (still_housed run.filled m s.homes run.told.lends run.housed)
-      (λ early. let first = (run.unfilled early).first in at_longer s.views (w ∷ []) 0 (opening_at (run.unfilled early).stage limit) first ∙ sym first)
-      (λ j v ne e. ⊎_elim (λ (h : get_elem? s.views j ≡ some v). run.staged j v ne h)
-      (λ (h : (n : ℕ) × (j ≡ length s.views + n) × (get_elem? (w ∷ []) n ≡ some v)). ap (λ (u : View). u.stage) (sym (just w h.0 v h.2).1))
-      (at_append s.views (w ∷ []) j v e)), refl)
+  enters slots s r homes fits = let run = r.running in let m : Machine = run.machine in let w : View = view limit (fresh (At Lent) ∷ []) in let N : Machine = next_machine m lender (At Lent) (lent_by m) in (
+    w,
+    retold F T A limit s r.capped run (s.views ++ w ∷ []) (record { party = lender; deed = deed Look (found_by Look m.word) } ∷ run.log) N
+        (joined_by limit s.views run.log m Look (At Lent) (lent_by m) run.told refl refl refl) refl run.limited (still_housed run.filled m s.homes run.told.lends run.housed)
+        (λ early. let first = (run.unfilled early).first in at_longer s.views (w ∷ []) 0 (opening_at (run.unfilled early).stage limit) first ∙ sym first)
+        (λ j v ne e. ⊎_elim (λ (h : get_elem? s.views j ≡ some v). run.staged j v ne h)
+        (λ (h : (n : ℕ) × (j ≡ length s.views + n) × (get_elem? (w ∷ []) n ≡ some v)). ap (λ (u : View). u.stage) (sym (just w h.0 v h.2).1))
+        (at_append s.views (w ∷ []) j v e)),
+    refl,
+  )

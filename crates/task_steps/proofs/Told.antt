@@ -224,24 +224,3 @@ regroups limit views views' log m to t from = record {
   limited = λ seat index v u f g. let x = from seat index v u f g in x.6 ∙ t.limited x.0 x.1 x.2 u x.3 x.4;
   each = λ seat index v u f g. let x = from seat index v u f g in let k = t.each x.0 x.1 x.2 u x.3 x.4 in (k.0, record { seated = ap to k.1.seated ∙ x.5; apart = k.1.apart; at = k.1.at; did = k.1.did });
 }
-
--- a seat may forget what a party did
-pub forgets : (limit : ℕ) (views views' : List View) (log : List Entry) (m : Machine) → Told limit views log m
-    → ((seat index : ℕ) (v : View) (u : Member) → get_elem? views' seat ≡ some v → get_elem? v.members index ≡ some u
-    → (w : View) × (x : Member) × (get_elem? views seat ≡ some w) × (get_elem? w.members index ≡ some x) × (v.limit ≡ w.limit) × (u.at ≡ x.at) × ((u.deeds ≡ x.deeds) ⊎ (u.deeds ≡ [])))
-    → Told limit views' log m
-forgets limit views views' log m t from = record {
-  holder = t.holder;
-  reaches = t.reaches;
-  lends = t.lends;
-  limited = λ seat index v u f g. let x = from seat index v u f g in x.4 ∙ t.limited seat index x.0 x.1 x.2 x.3;
-  each = λ seat index v u f g. let x = from seat index v u f g in let k = t.each seat index x.0 x.1 x.2 x.3 in (
-    k.0,
-    record {
-      seated = k.1.seated;
-      apart = k.1.apart;
-      at = k.1.at ∙ ap (λ p. some p) (sym x.5);
-      did = ⊎_elim (λ e. subst (DidLast k.0 log) (sym e) k.1.did) (λ e. subst (DidLast k.0 log) (sym e) (did_nothing k.0 log)) x.6;
-    },
-  );
-}

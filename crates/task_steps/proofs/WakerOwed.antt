@@ -2,7 +2,7 @@
 use Rattle.std.proofs.Common.{◌≡◌, ℕ, ◌+◌, ◌-◌, ◌%◌, ◌^◌, ◌≤◌, Bool, true, false, not, ◌&&◌, ◌||◌, Some, None, List, [], ◌∷◌, refl, sym, ap, ◌∙◌, subst, inr, arith}
 use Rattle.std.specs.Prelude.{nat_lt, nat_le, nat_eq, if◌then◌else◌}
 use Rattle.std.proofs.lemmas.Bool.Decides.{nat_tests}
-use Rattle.task_core.specs.Word.{State, bit, state_of, number_of, is_open, orphan_word}
+use Rattle.task_core.specs.Word.{State, state_of, number_of, is_open, orphan_word}
 use Rattle.task_laws.specs.Event.{Event, WakerGained, WakerGivenUp, Wakes, Made, ByWake, ByClosing, Closes, CallBegins, CallEnds}
 use Rattle.task_laws.specs.declared.positions.Answer.TheVariants.{Nothing, Gained}
 use Rattle.task_laws.specs.declared.positions.Rest.{Rest}

@@ -11,7 +11,6 @@ use Rattle.task_steps.specs.declared.table.Slot.{Slot}
 use Rattle.task_steps.specs.declared.table.Member.{Member}
 use Rattle.task_steps.specs.declared.table.View.{View}
 use Rattle.task_steps.specs.Rule.{view, fresh}
-use Rattle.task_steps.specs.Steps.{head_of, tail_of}
 use Rattle.task_steps.specs.Knows.{known, known_exchanged}
 
 -- who may ask for a wake: a waker, and a lent one
@@ -37,10 +36,6 @@ module _ {F T A : Type 0} where
   -- .. and a compare and exchange, where it misses
   abbrev pub limited_exchanged : (State → List Act) → (ℕ → State → List Act) → Step (Slot F T A) → Me (Slot F T A) View → ℕ → Me (Slot F T A) View → Type 0
   limited_exchanged acts missed st m r m' = known_exchanged acts (missed m.0.limit) st m r m'
-
-  -- the seat forgets what its first party did
-  abbrev pub forgetting : Step (Slot F T A) → Me (Slot F T A) View → ℕ → Me (Slot F T A) View → Type 0
-  forgetting st m r m' = m' ≡ (view m.0.limit (fresh (head_of m.0.members).at ∷ tail_of m.0.members), m.1)
 
 -- all but the newest party
 abbrev pub others : List Member → List Member

@@ -1,6 +1,6 @@
 //! Steps by which a waker is gained, wakes and is dropped.
 ghost use Rattle.task_steps.specs.WakerScripts.{looking_for_room, gaining, refusing_gain, finding_over, waking_task, dropping_waker, closing_orphan};
-ghost use Rattle.task_steps.specs.Beside.{borrowing, limited, limited_exchanged, forgetting, without_newest, newest};
+ghost use Rattle.task_steps.specs.Beside.{borrowing, limited, limited_exchanged, without_newest, newest};
 
 use crate::script::Script;
 use crate::table::{Slot, View};
@@ -71,11 +71,4 @@ impl Split<View> for Parting {
     ghost left = { without_newest };
 
     ghost right = { newest };
-}
-
-/// The seat forgets what its first party did.
-pub struct Forgetting;
-
-impl<F, T, A> Play<Slot<F, T, A>, View> for Forgetting {
-    ghost then = { forgetting };
 }
