@@ -1,148 +1,216 @@
 //! Tests of stored awaiters: which one a task keeps, and how each clone ends.
 
-use crate::watched::{Ends, Watched, spawn_watched};
-use async_task::{TaskClosed, TaskPoll};
-use fixtures::answers::is_ready_with;
+use crate::calls;
+use crate::watched::{Ends, Watched, WatchedRunnable, WatchedTask, spawn_watched};
 use fixtures::counters::{Counters, Counts};
 use fixtures::fixture::Fixture;
 use fixtures::flag::Flag;
 use fixtures::future::Behaviour;
-use std::alloc::Global;
+use std::alloc::{AllocError, Global};
 use std::process::Abort;
 use std::sync::{Arc, Wait};
 use std::test::Fail;
 
 // The clones of an awaiter, the wakes, and the clones that were dropped unwoken.
-fn ends_of(flag: &Flag) -> (u64, u64, u64) {
+type Ended = (u64, u64, u64);
+
+const UNTOUCHED: Ended = (0, 0, 0);
+
+const STORED: Ended = (1, 0, 0);
+
+const DROPPED: Ended = (1, 0, 1);
+
+const WOKEN: Ended = (1, 1, 0);
+
+fn ends_of(flag: &Flag) -> Ended {
     (flag.clones(), flag.wakes(), flag.drops())
+}
+
+// Polls with one awaiter, with another, and after the run with that again: what was answered and shown, and how the awaiters ended.
+fn poll_with_two<R: Wait + Abort + Drop + Copy>(
+    fixture: &Fixture<R>,
+    first: &Flag,
+    second: &Flag,
+) -> ([bool; 4], [Ended; 5]) {
+    let (runnable, mut task) = calls::spawn(fixture, Behaviour::Ready(4));
+    let waits = calls::is_pending(&mut task, first);
+    let stored = ends_of(first);
+    let waits_again = calls::is_pending(&mut task, second);
+    let replaced = ends_of(first);
+    let stored_last = ends_of(second);
+    let shown = calls::task_shows(fixture, &task, 0x131);
+    calls::run(runnable);
+    let ended = ends_of(first);
+    let woken = ends_of(second);
+    let completed = calls::is_ready(&mut task, second, 4);
+    calls::drop_task(task);
+    (
+        [waits, waits_again, shown, completed],
+        [stored, replaced, stored_last, ended, woken],
+    )
 }
 
 // The awaiter of the first of two polls is dropped unwoken at the second, and that of the second is woken by the run.
 #[test]
-fn a_second_awaiter_replaces_the_first(rt: HostRuntime) -> Result<(), Fail> {
-    let fixture = Fixture::new(rt, rt.alloc())?;
-    let first = fixture.flag(1)?;
-    let second = fixture.flag(2)?;
-    let (runnable, mut task) = fixture.spawn(Behaviour::Ready(4))?;
-    let waits = matches!(task.poll(&first), TaskPoll::Pending);
-    let stored = ends_of(&first);
-    let waits_again = matches!(task.poll(&second), TaskPoll::Pending);
-    let replaced = [ends_of(&first), ends_of(&second)];
-    let shown = fixture.shows(&task, 0x131);
-    runnable.run();
-    let ended = [ends_of(&first), ends_of(&second)];
-    let completed = is_ready_with(&task.poll(&second), 4);
-    drop(task);
+fn a_second_awaiter_replaces_the_first(rt: HostRuntime) {
+    let fixture = calls::fixture(rt, rt.alloc());
+    let first = calls::flag(&fixture, 1);
+    let second = calls::flag(&fixture, 2);
+    let (answers, ends) = poll_with_two(&fixture, &first, &second);
+    let last = (ends_of(&first), ends_of(&second));
     assert_eq!(rt;
-        (waits, waits_again, shown, completed),
-        (true, true, Ok(true), true)
+        (answers, ends, last),
+        (
+            [true; 4],
+            [STORED, DROPPED, STORED, DROPPED, WOKEN],
+            (DROPPED, WOKEN)
+        )
     );
-    assert_eq!(rt; (stored, replaced), ((1, 0, 0), [(1, 0, 1), (1, 0, 0)]));
-    assert_eq!(rt; ended, [(1, 0, 1), (1, 1, 0)]);
-    assert_eq!(rt; [ends_of(&first), ends_of(&second)], ended);
-    Ok(())
+}
+
+// Polls while the task is scheduled, while it is idle, and after it was woken: what was answered and shown, what the runs answered, and how the awaiters stood before the last run.
+fn poll_with_three<R: Wait + Abort + Drop + Copy>(
+    fixture: &Fixture<R>,
+    first: &Flag,
+    second: &Flag,
+    third: &Flag,
+) -> ([bool; 7], (bool, Option<bool>), [Ended; 3]) {
+    let surroundings = &fixture.surroundings;
+    let (runnable, mut task) = calls::spawn(fixture, Behaviour::Keep(5));
+    let scheduled = calls::is_pending(&mut task, first);
+    let rescheduled = calls::run(runnable);
+    let idle = calls::is_pending(&mut task, second);
+    let shown = calls::task_shows(fixture, &task, 0x130);
+    let woken = surroundings.wake_kept();
+    let scheduled_again = calls::is_pending(&mut task, third);
+    let unwoken = [ends_of(first), ends_of(second), ends_of(third)];
+    let completing = surroundings.run_next();
+    let shown_last = calls::task_shows(fixture, &task, 0x114);
+    let completed = calls::is_ready(&mut task, first, 5);
+    calls::drop_task(task);
+    (
+        [
+            scheduled,
+            idle,
+            shown,
+            woken,
+            scheduled_again,
+            shown_last,
+            completed,
+        ],
+        (rescheduled, completing),
+        unwoken,
+    )
 }
 
 // A poll while the task is scheduled, one while it is idle, and one after it was woken: the run that completes wakes the last awaiter alone.
 #[test]
-fn the_last_of_three_awaiters_is_woken(rt: HostRuntime) -> Result<(), Fail> {
-    let fixture = Fixture::new(rt, rt.alloc())?;
-    let surroundings = &fixture.surroundings;
-    let flags = [fixture.flag(1)?, fixture.flag(2)?, fixture.flag(3)?];
-    let (runnable, mut task) = fixture.spawn(Behaviour::Keep(5))?;
-    let scheduled = matches!(task.poll(&flags[0]), TaskPoll::Pending);
-    let rescheduled = runnable.run();
-    let idle = matches!(task.poll(&flags[1]), TaskPoll::Pending);
-    let shown = fixture.shows(&task, 0x130);
-    let woken = surroundings.wake_kept();
-    let scheduled_again = matches!(task.poll(&flags[2]), TaskPoll::Pending);
-    let unwoken = [ends_of(&flags[0]), ends_of(&flags[1]), ends_of(&flags[2])];
-    let completing = surroundings.run_next();
-    let shown_last = fixture.shows(&task, 0x114);
-    let completed = is_ready_with(&task.poll(&flags[0]), 5);
-    drop(task);
-    let ended = [ends_of(&flags[0]), ends_of(&flags[1]), ends_of(&flags[2])];
+fn the_last_of_three_awaiters_is_woken(rt: HostRuntime) {
+    let fixture = calls::fixture(rt, rt.alloc());
+    let first = calls::flag(&fixture, 1);
+    let second = calls::flag(&fixture, 2);
+    let third = calls::flag(&fixture, 3);
+    let (answers, ran, unwoken) = poll_with_three(&fixture, &first, &second, &third);
+    let ended = [ends_of(&first), ends_of(&second), ends_of(&third)];
+    assert_eq!(rt; (answers, ran), ([true; 7], (false, Some(false))));
     assert_eq!(rt;
-        [scheduled, idle, woken, scheduled_again, completed],
-        [true; 5]
+        [unwoken, ended],
+        [[DROPPED, DROPPED, STORED], [DROPPED, DROPPED, WOKEN]]
     );
-    assert_eq!(rt; [shown, shown_last], [Ok(true), Ok(true)]);
-    assert_eq!(rt; (rescheduled, completing), (false, Some(false)));
-    assert_eq!(rt; unwoken, [(1, 0, 1), (1, 0, 1), (1, 0, 0)]);
-    assert_eq!(rt; ended, [(1, 0, 1), (1, 0, 1), (1, 1, 0)]);
-    Ok(())
+}
+
+// Drops the Task of an awaited task before the run: what was answered and shown, what the run answered, how the awaiter ended, and what the drop left.
+fn drop_awaited<R: Wait + Abort + Drop + Copy>(
+    fixture: &Fixture<R>,
+    flag: &Flag,
+) -> ([bool; 2], bool, Ended, Counts) {
+    let (runnable, mut task) = calls::spawn(fixture, Behaviour::Ready(1));
+    let waits = calls::is_pending(&mut task, flag);
+    calls::drop_task(task);
+    let woken = ends_of(flag);
+    let shown = calls::runnable_shows(fixture, &runnable, 0x109);
+    let kept = fixture.counts();
+    let rescheduled = calls::run(runnable);
+    ([waits, shown], rescheduled, woken, kept)
 }
 
 // The Task of an awaited task is dropped before the run: the drop wakes the awaiter, and the run polls nothing.
 #[test]
-fn the_drop_of_a_task_wakes_its_awaiter(rt: HostRuntime) -> Result<(), Fail> {
-    let fixture = Fixture::new(rt, rt.alloc())?;
-    let flag = fixture.flag(1)?;
-    let (runnable, mut task) = fixture.spawn(Behaviour::Ready(1))?;
-    let waits = matches!(task.poll(&flag), TaskPoll::Pending);
-    drop(task);
-    let woken = ends_of(&flag);
-    let shown = fixture.shows(&runnable, 0x109);
-    let kept = fixture.counts();
-    let rescheduled = runnable.run();
-    assert_eq!(rt; (waits, shown, rescheduled), (true, Ok(true), false));
-    assert_eq!(rt; [woken, ends_of(&flag)], [(1, 1, 0), (1, 1, 0)]);
+fn the_drop_of_a_task_wakes_its_awaiter(rt: HostRuntime) {
+    let fixture = calls::fixture(rt, rt.alloc());
+    let flag = calls::flag(&fixture, 1);
+    let seen = drop_awaited(&fixture, &flag);
+    let last = (ends_of(&flag), fixture.counts());
     assert_eq!(rt;
-        [kept, fixture.counts()],
-        [Counts::new(0, 0, 0, 0), Counts::new(0, 0, 1, 1)]
+        (seen, last),
+        (
+            ([true; 2], false, WOKEN, Counts::new(0, 0, 0, 0)),
+            (WOKEN, Counts::new(0, 0, 1, 1))
+        )
     );
-    Ok(())
+}
+
+// Drops the Task of an awaited idle task: whether the poll was pending and the Task shown so, how the awaiter ended, and what the drop left.
+fn drop_awaited_idle<R: Wait + Abort + Drop + Copy>(
+    fixture: &Fixture<R>,
+    flag: &Flag,
+) -> ([bool; 2], Ended, Counts) {
+    let (runnable, mut task) = calls::spawn(fixture, Behaviour::Pending);
+    calls::run(runnable);
+    let waits = calls::is_pending(&mut task, flag);
+    let shown = calls::task_shows(fixture, &task, 0x030);
+    calls::drop_task(task);
+    ([waits, shown], ends_of(flag), fixture.counts())
 }
 
 // The same of an idle task: the drop hands a Runnable over besides, which ends the task.
 #[test]
-fn the_drop_of_an_idle_task_wakes_its_awaiter(rt: HostRuntime) -> Result<(), Fail> {
-    let fixture = Fixture::new(rt, rt.alloc())?;
-    let surroundings = &fixture.surroundings;
-    let flag = fixture.flag(1)?;
-    let (runnable, mut task) = fixture.spawn(Behaviour::Pending)?;
-    runnable.run();
-    let waits = matches!(task.poll(&flag), TaskPoll::Pending);
-    let shown = fixture.shows(&task, 0x030);
-    drop(task);
-    let woken = ends_of(&flag);
+fn the_drop_of_an_idle_task_wakes_its_awaiter(rt: HostRuntime) {
+    let fixture = calls::fixture(rt, rt.alloc());
+    let flag = calls::flag(&fixture, 1);
+    let seen = drop_awaited_idle(&fixture, &flag);
+    let closing = fixture.surroundings.infos_are(&[false]);
+    let ran = fixture.surroundings.run_next();
+    let last = (ends_of(&flag), fixture.counts());
+    assert_eq!(rt; (closing, ran), (true, Some(false)));
+    assert_eq!(rt;
+        (seen, last),
+        (
+            ([true; 2], WOKEN, Counts::new(1, 1, 0, 0)),
+            (WOKEN, Counts::new(1, 1, 1, 1))
+        )
+    );
+}
+
+// Takes the output, and polls twice more: what was answered and shown, and what is left before the detach.
+fn poll_past_the_output<R: Wait + Abort + Drop + Copy>(
+    fixture: &Fixture<R>,
+    flag: &Flag,
+) -> ([bool; 5], Counts) {
+    let (runnable, mut task) = calls::spawn(fixture, Behaviour::Ready(9));
+    calls::run(runnable);
+    let completed = calls::is_ready(&mut task, flag, 9);
+    let closed = calls::is_closed(&mut task, flag);
+    let still_closed = calls::is_closed(&mut task, flag);
+    let finished = calls::is_finished(&mut task);
+    let shown = calls::task_shows(fixture, &task, 0x01C);
     let kept = fixture.counts();
-    let closing = surroundings.infos_are(&[false]);
-    let ran = surroundings.run_next();
-    assert_eq!(rt;
-        (waits, shown, closing, ran),
-        (true, Ok(true), true, Some(false))
-    );
-    assert_eq!(rt; [woken, ends_of(&flag)], [(1, 1, 0), (1, 1, 0)]);
-    assert_eq!(rt;
-        [kept, fixture.counts()],
-        [Counts::new(1, 1, 0, 0), Counts::new(1, 1, 1, 1)]
-    );
-    Ok(())
+    calls::detach(task);
+    ([completed, closed, still_closed, finished, shown], kept)
 }
 
 // The output is handed out once: each later poll answers that the task is closed, and registers nothing.
 #[test]
-fn a_task_whose_output_was_taken_is_closed(rt: HostRuntime) -> Result<(), Fail> {
-    let fixture = Fixture::new(rt, rt.alloc())?;
-    let flag = fixture.flag(1)?;
-    let (runnable, mut task) = fixture.spawn(Behaviour::Ready(9))?;
-    runnable.run();
-    let completed = is_ready_with(&task.poll(&flag), 9);
-    let closed = matches!(task.poll(&flag), TaskPoll::Ready(Err(TaskClosed)));
-    let still_closed = matches!(task.poll(&flag), TaskPoll::Ready(Err(TaskClosed)));
-    let finished = task.is_finished();
-    let shown = fixture.shows(&task, 0x01C);
-    let kept = fixture.counts();
-    task.detach();
-    assert_eq!(rt; [completed, closed, still_closed, finished], [true; 4]);
-    assert_eq!(rt; (shown, ends_of(&flag)), (Ok(true), (0, 0, 0)));
-    assert_eq!(rt; fixture.output_drops(), 1);
+fn a_task_whose_output_was_taken_is_closed(rt: HostRuntime) {
+    let fixture = calls::fixture(rt, rt.alloc());
+    let flag = calls::flag(&fixture, 1);
+    let (answers, kept) = poll_past_the_output(&fixture, &flag);
+    let drops = fixture.output_drops();
+    assert_eq!(rt; (answers, ends_of(&flag), drops), ([true; 5], UNTOUCHED, 1));
     assert_eq!(rt;
         [kept, fixture.counts()],
         [Counts::new(1, 0, 1, 0), Counts::new(1, 0, 1, 1)]
     );
-    Ok(())
 }
 
 // What is done first to a task that is awaited; the other handle follows.
@@ -154,23 +222,17 @@ enum First {
     Detach,
 }
 
-// Polls the Task once, and then ends the task: how the awaiter ended.
-fn ends_after<R: Wait + Abort + Drop + Copy>(
-    rt: &R,
-    alloc: Global,
-    behaviour: Behaviour,
-    first: First,
-) -> Result<Ends, Fail> {
-    let awaiter = Watched::new(alloc)?;
-    let counters = Arc::new(alloc, Counters::new())?;
-    let (runnable, mut task) = spawn_watched(*rt, alloc, behaviour, &counters)?;
-    drop(task.poll(&awaiter));
+// Ends a task, by that first.
+fn end_by<R: Wait + Drop>(runnable: WatchedRunnable<R>, task: WatchedTask<R>, first: First) {
     match first {
         First::Run => {
             runnable.run();
             drop(task);
         }
-        First::DropRunnable => drop((runnable, task)),
+        First::DropRunnable => {
+            drop(runnable);
+            drop(task);
+        }
         First::DropTask => {
             drop(task);
             runnable.run();
@@ -180,6 +242,20 @@ fn ends_after<R: Wait + Abort + Drop + Copy>(
             runnable.run();
         }
     }
+}
+
+// Polls the Task once, and then ends the task: how the awaiter ended.
+fn ends_after<R: Wait + Drop + Copy>(
+    rt: &R,
+    alloc: Global,
+    behaviour: Behaviour,
+    first: First,
+) -> Result<Ends, AllocError> {
+    let awaiter = Watched::new(alloc)?;
+    let counters = Arc::new(alloc, Counters::new())?;
+    let (runnable, mut task) = spawn_watched(*rt, alloc, behaviour, &counters)?;
+    drop(task.poll(&awaiter));
+    end_by(runnable, task, first);
     Ok(awaiter.ends())
 }
 

@@ -26,22 +26,23 @@ fn a_cell_ends_with_its_last_word(rt: HostRuntime) -> Result<(), Fail> {
     };
     let cell = share.cell();
     let (mut runnable, mut task): (TestParty, TestParty) = cell.fill(seat, future);
-    assert_eq!(rt; cell.word().bits(), 0x111);
+    let opening = cell.word().bits();
     cell.discard_runnable(&mut runnable);
     runnable.let_go();
-    assert_eq!(rt; cell.word().bits(), 0x18);
+    let discarded = cell.word().bits();
     // What a detach may hand over is named, since a check reads no type that stands in a bound alone.
     let handed_over: Option<BareRunnable<HostRuntime>> = None;
     Cell::detach(cell, &mut task, ());
     drop(handed_over);
     other.give_up();
-    match share.try_unwrap() {
-        Ok(last) => assert_eq!(rt; last.into_word(task), 0x08),
+    let last = match share.try_unwrap() {
+        Ok(last) => last.into_word(task),
         Err(share) => {
             task.let_go();
             share.leave();
             panic!(rt; "the cell is shared");
         }
-    }
+    };
+    assert_eq!(rt; [opening, discarded, last], [0x111, 0x18, 0x08]);
     Ok(())
 }

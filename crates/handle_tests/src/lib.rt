@@ -6,6 +6,8 @@ mod awaiter_tests;
 #[cfg(test)]
 mod builder_tests;
 #[cfg(test)]
+mod calls;
+#[cfg(test)]
 mod cell_tests;
 #[cfg(test)]
 mod limit_tests;

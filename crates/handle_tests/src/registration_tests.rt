@@ -68,20 +68,16 @@ where
     })
 }
 
-// A task ends, by a run or by the drop of its Runnable, while the second poll of its Task registers.
-fn end_while_registering<R>(rt: &R, alloc: Global, runs: bool, word: u64) -> Result<(), Fail>
-where
-    R: Wait + Threads + Abort + Drop + Copy + Send + Sync,
-{
-    let fixture = Fixture::new(*rt, alloc)?;
-    let older = Watched::new(alloc)?;
-    let newer = Watched::new(alloc)?;
-    let counters = Arc::new(alloc, Counters::new())?;
-    let (runnable, mut task) = spawn_watched(*rt, alloc, Behaviour::Ready(6), &counters)?;
-    let waits = matches!(task.poll(&older), TaskPoll::Pending);
-    let Some(beside) = poll_beside(rt, alloc, (runnable, task), &older, &newer, runs) else {
-        panic!(rt; "no thread");
-    };
+// What was seen of a second poll: whether the first was pending, the second was ready with 6 or closed, whether the other thread came, whether the Task showed that word at last, and what the Runnable showed meanwhile.
+type Registered = ([bool; 5], Result<String, AllocError>);
+
+// Looks at what came of the second poll, and lets it go.
+fn look_at<R: Wait + Drop + Copy>(
+    fixture: &Fixture<R>,
+    beside: Beside<R>,
+    waits: bool,
+    word: u64,
+) -> Registered {
     let Beside {
         task,
         polled,
@@ -90,18 +86,69 @@ where
     } = beside;
     let completed = is_ready_with(&polled, 6);
     let closed = matches!(&polled, TaskPoll::Ready(Err(TaskClosed)));
-    let shown = fixture.shows(&task, word);
-    drop((task, polled));
-    assert_eq!(rt;
-        (waits, came, older.rendezvous().met(), shown),
-        (true, true, true, Ok(true))
-    );
-    assert_eq!(rt; (completed, closed), (runs, !runs));
-    assert_eq!(rt;
-        [older.ends(), newer.ends()],
-        [Ends::new(1, 0, 0, 1), Ends::new(1, 1, 0, 0)]
-    );
-    assert_eq!(rt; counters.counts(), Counts::new(u64::from(runs), 0, 1, 1));
+    let shown = matches!(fixture.shows(&task, word), Ok(true));
+    drop(task);
+    drop(polled);
+    ([waits, completed, closed, came, shown], text)
+}
+
+// Polls twice, and lets the task end, by a run or by the drop of its Runnable, while the second poll registers. `None` where there is no thread.
+fn poll_twice<R>(
+    fixture: &Fixture<R>,
+    alloc: Global,
+    handles: (WatchedRunnable<R>, WatchedTask<R>),
+    awaiters: (&Watched, &Watched),
+    runs: bool,
+    word: u64,
+) -> Option<Registered>
+where
+    R: Wait + Threads + Drop + Copy + Send + Sync,
+{
+    let (runnable, mut task) = handles;
+    let (older, newer) = awaiters;
+    let waits = matches!(task.poll(older), TaskPoll::Pending);
+    let beside = poll_beside(&fixture.rt, alloc, (runnable, task), older, newer, runs)?;
+    Some(look_at(fixture, beside, waits, word))
+}
+
+// What was seen of two polls, if there was a thread; whether the older awaiter's drop met it; and how the awaiters ended.
+type Ended = (Option<Registered>, bool, [Ends; 2]);
+
+// Spawns a task that counts there, and lets it end while the second poll of its Task registers.
+fn register<R>(
+    rt: R,
+    alloc: Global,
+    counters: &Arc<Counters>,
+    runs: bool,
+    word: u64,
+) -> Result<Ended, AllocError>
+where
+    R: Wait + Threads + Drop + Copy + Send + Sync,
+{
+    let fixture = Fixture::new(rt, alloc)?;
+    let older = Watched::new(alloc)?;
+    let newer = Watched::new(alloc)?;
+    let handles = spawn_watched(rt, alloc, Behaviour::Ready(6), counters)?;
+    let registered = poll_twice(&fixture, alloc, handles, (&older, &newer), runs, word);
+    let ends = [older.ends(), newer.ends()];
+    Ok((registered, older.rendezvous().met(), ends))
+}
+
+// A task ends, by a run or by the drop of its Runnable, while the second poll of its Task registers.
+fn end_while_registering<R>(rt: R, alloc: Global, runs: bool, word: u64) -> Result<(), Fail>
+where
+    R: Wait + Threads + Abort + Drop + Copy + Send + Sync,
+{
+    let counters = Arc::new(alloc, Counters::new())?;
+    let (registered, met, ends) = register(rt, alloc, &counters, runs, word)?;
+    let counts = counters.counts();
+    let Some(registered) = registered else {
+        panic!(rt; "no thread");
+    };
+    let (answers, text) = registered;
+    assert_eq!(rt; (answers, met), ([true, runs, !runs, true, true], true));
+    assert_eq!(rt; ends, [Ends::new(1, 0, 0, 1), Ends::new(1, 1, 0, 0)]);
+    assert_eq!(rt; counts, Counts::new(u64::from(runs), 0, 1, 1));
     assert_eq!(rt; text?.as_str(), REGISTERING);
     Ok(())
 }
@@ -109,10 +156,10 @@ where
 // The poll is ready by its second look, and wakes its own awaiter, which the other thread could not take.
 #[test]
 fn a_run_while_a_task_registers_is_seen_by_its_poll(rt: HostRuntime) -> Result<(), Fail> {
-    end_while_registering(&rt, rt.alloc(), true, 0x01C)
+    end_while_registering(rt, rt.alloc(), true, 0x01C)
 }
 
 #[test]
 fn a_drop_while_a_task_registers_is_seen_by_its_poll(rt: HostRuntime) -> Result<(), Fail> {
-    end_while_registering(&rt, rt.alloc(), false, 0x018)
+    end_while_registering(rt, rt.alloc(), false, 0x018)
 }

@@ -1,14 +1,16 @@
 //! Tests of a Task, of a FallibleTask and of a Cancel.
 
-use async_task::{TaskClosed, TaskPoll};
-use fixtures::answers::is_some_with;
+use crate::calls;
+use async_task::{FallibleTask, TaskClosed, TaskPoll};
+use fixtures::answers::{is_ready_with, is_some_with};
 use fixtures::counters::Counts;
 use fixtures::fixture::Fixture;
-use fixtures::future::{Behaviour, Output};
+use fixtures::flag::Flag;
+use fixtures::future::{Behaviour, Output, RowFuture};
+use fixtures::surroundings::{RowRunnable, RowTask, Scheduler, Surroundings};
 use std::alloc::Global;
 use std::process::Abort;
 use std::sync::Wait;
-use std::test::Fail;
 
 // What is left after a Task was dropped, as such or as a Cancel that was not polled.
 #[derive(Clone, Copy, Debug, PartialEq, Eq)]
@@ -19,40 +21,45 @@ struct Left {
     last: Counts,
 }
 
+// Drops the Task, or a Cancel made of it.
+fn let_go<R: Wait + Drop>(task: RowTask<'_, R>, cancels: bool) {
+    if cancels {
+        calls::drop_cancel(task.cancel());
+    } else {
+        calls::drop_task(task);
+    }
+}
+
 // Drops the Task, or a Cancel made of it, before the run or after it.
 fn left_by<R: Wait + Abort + Drop + Copy>(
-    rt: &R,
+    rt: R,
     alloc: Global,
     behaviour: Behaviour,
     runs: bool,
     cancels: bool,
-) -> Result<Left, Fail> {
-    let fixture = Fixture::new(*rt, alloc)?;
+) -> Left {
+    let fixture = calls::fixture(rt, alloc);
     let surroundings = &fixture.surroundings;
-    let (runnable, task) = fixture.spawn(behaviour)?;
+    let (runnable, task) = calls::spawn(&fixture, behaviour);
     surroundings.push(runnable);
     if runs {
         surroundings.run_next();
     }
-    if cancels {
-        drop(task.cancel());
-    } else {
-        drop(task);
-    }
+    let_go(task, cancels);
     let counts = fixture.counts();
     let queued = surroundings.queued();
     surroundings.run_next();
-    Ok(Left {
+    Left {
         counts,
         queued,
         output_drops: fixture.output_drops(),
         last: fixture.counts(),
-    })
+    }
 }
 
 // Of a scheduled task, of an idle one and of one that has completed.
 #[test]
-fn a_dropped_cancel_leaves_what_a_dropped_task_leaves(rt: HostRuntime) -> Result<(), Fail> {
+fn a_dropped_cancel_leaves_what_a_dropped_task_leaves(rt: HostRuntime) {
     let scheduled = Left {
         counts: Counts::new(0, 0, 0, 0),
         queued: 1,
@@ -77,173 +84,257 @@ fn a_dropped_cancel_leaves_what_a_dropped_task_leaves(rt: HostRuntime) -> Result
         (Behaviour::Ready(1), true, completed),
     ];
     for (behaviour, runs, expected) in cases {
-        assert_eq!(rt; left_by(&rt, rt.alloc(), behaviour, runs, false)?, expected);
-        assert_eq!(rt; left_by(&rt, rt.alloc(), behaviour, runs, true)?, expected);
+        let by_drop = left_by(rt, rt.alloc(), behaviour, runs, false);
+        let by_cancel = left_by(rt, rt.alloc(), behaviour, runs, true);
+        assert_eq!(rt; [by_drop, by_cancel], [expected; 2]);
     }
-    Ok(())
+}
+
+// Drops a Task, and a Cancel of another task: whether the Runnables showed the word before the Cancel's drop, and after either.
+fn words_after_drops<R: Wait + Abort + Drop + Copy>(fixture: &Fixture<R>) -> [bool; 3] {
+    let (first, first_task) = calls::spawn(fixture, Behaviour::Pending);
+    calls::drop_task(first_task);
+    let dropped = calls::runnable_shows(fixture, &first, 0x109);
+    calls::drop_runnable(first);
+    let (second, second_task) = calls::spawn(fixture, Behaviour::Pending);
+    let cancel = second_task.cancel();
+    let before = calls::runnable_shows(fixture, &second, 0x111);
+    calls::drop_cancel(cancel);
+    let cancelled = calls::runnable_shows(fixture, &second, 0x109);
+    calls::drop_runnable(second);
+    [before, dropped, cancelled]
 }
 
 // A Cancel that was not polled leaves the word as the Task's drop does.
 #[test]
-fn a_dropped_cancel_leaves_the_same_word(rt: HostRuntime) -> Result<(), Fail> {
-    let fixture = Fixture::new(rt, rt.alloc())?;
-    let (first, task) = fixture.spawn(Behaviour::Pending)?;
-    drop(task);
-    let (second, task) = fixture.spawn(Behaviour::Pending)?;
-    let cancel = task.cancel();
-    let before = fixture.shows(&second, 0x111);
-    drop(cancel);
-    let shown = [
-        before,
-        fixture.shows(&first, 0x109),
-        fixture.shows(&second, 0x109),
-    ];
-    assert_eq!(rt; shown, [Ok(true), Ok(true), Ok(true)]);
-    Ok(())
+fn a_dropped_cancel_leaves_the_same_word(rt: HostRuntime) {
+    let fixture = calls::fixture(rt, rt.alloc());
+    let seen = words_after_drops(&fixture);
+    assert_eq!(rt; seen, [true; 3]);
+}
+
+// A FallibleTask of the rows.
+type RowFallible<'x, R> = FallibleTask<R, RowFuture, Scheduler, (), Flag, &'x Surroundings<R>>;
+
+// Polls a FallibleTask three times: whether it was pending, then ready with the number 4, and then without an output.
+fn is_fallible_pending<R: Wait + Drop>(task: &mut RowFallible<'_, R>, flag: &Flag) -> bool {
+    matches!(task.poll(flag), TaskPoll::Pending)
+}
+
+fn is_fallible_ready<R: Wait + Drop>(task: &mut RowFallible<'_, R>, flag: &Flag) -> bool {
+    is_some_with(&task.poll(flag), 4)
+}
+
+fn is_fallible_empty<R: Wait + Drop>(task: &mut RowFallible<'_, R>, flag: &Flag) -> bool {
+    matches!(task.poll(flag), TaskPoll::Ready(None))
+}
+
+// Whether the task of a FallibleTask is finished, whose metadata is nothing.
+fn is_fallible_finished<R: Wait + Drop>(task: &mut RowFallible<'_, R>) -> bool {
+    let () = *task.metadata();
+    task.is_finished()
+}
+
+// Calls each method of a FallibleTask: whether it was finished before the run and after it, what the run answered, and what the polls did.
+fn call_fallible<R: Wait + Abort + Drop + Copy>(
+    fixture: &Fixture<R>,
+    flag: &Flag,
+) -> ([bool; 2], bool, [bool; 3]) {
+    let (runnable, task) = calls::spawn(fixture, Behaviour::Ready(4));
+    let mut fallible = task.fallible();
+    let spawned = is_fallible_finished(&mut fallible);
+    let first = is_fallible_pending(&mut fallible, flag);
+    let rescheduled = calls::run(runnable);
+    let finished = is_fallible_finished(&mut fallible);
+    let second = is_fallible_ready(&mut fallible, flag);
+    let third = is_fallible_empty(&mut fallible, flag);
+    fallible.detach();
+    ([spawned, finished], rescheduled, [first, second, third])
 }
 
 #[test]
-fn a_fallible_task_answers_each_call(rt: HostRuntime) -> Result<(), Fail> {
-    let fixture = Fixture::new(rt, rt.alloc())?;
-    let flag = fixture.flag(1)?;
-    let (runnable, task) = fixture.spawn(Behaviour::Ready(4))?;
-    let mut fallible = task.fallible();
-    let spawned = (*fallible.metadata(), fallible.is_finished());
-    let first = fallible.poll(&flag);
-    let rescheduled = runnable.run();
-    let finished = fallible.is_finished();
-    let second = fallible.poll(&flag);
-    let third = fallible.poll(&flag);
-    fallible.detach();
+fn a_fallible_task_answers_each_call(rt: HostRuntime) {
+    let fixture = calls::fixture(rt, rt.alloc());
+    let flag = calls::flag(&fixture, 1);
+    let (finished, rescheduled, polled) = call_fallible(&fixture, &flag);
     assert_eq!(rt;
-        (spawned, rescheduled, finished),
-        (((), false), false, true)
+        (finished, rescheduled, polled, fixture.counts()),
+        ([false, true], false, [true; 3], Counts::new(1, 0, 1, 1))
     );
-    assert!(rt; matches!(first, TaskPoll::Pending));
-    assert!(rt; is_some_with(&second, 4));
-    assert!(rt; matches!(third, TaskPoll::Ready(None)));
-    assert_eq!(rt; fixture.counts(), Counts::new(1, 0, 1, 1));
-    Ok(())
+}
+
+// What was seen of a task whose Task was let go: whether its Runnable showed that word, what had been counted, and what the run answered.
+type Ran = (bool, Counts, bool);
+
+fn run_let_go<R: Wait + Abort + Drop + Copy>(
+    fixture: &Fixture<R>,
+    runnable: RowRunnable<'_, R>,
+    word: u64,
+) -> Ran {
+    let shown = calls::runnable_shows(fixture, &runnable, word);
+    let kept = fixture.counts();
+    (shown, kept, calls::run(runnable))
+}
+
+fn run_detached<R: Wait + Abort + Drop + Copy>(fixture: &Fixture<R>) -> Ran {
+    let (runnable, task) = calls::spawn(fixture, Behaviour::Ready(4));
+    task.fallible().detach();
+    run_let_go(fixture, runnable, 0x101)
 }
 
 // A detach makes no end of the task: the run that follows polls the future, and drops the output that nobody can claim.
 #[test]
-fn a_detached_fallible_task_runs(rt: HostRuntime) -> Result<(), Fail> {
-    let fixture = Fixture::new(rt, rt.alloc())?;
-    let (runnable, task) = fixture.spawn(Behaviour::Ready(4))?;
-    task.fallible().detach();
-    let shown = fixture.shows(&runnable, 0x101);
-    let kept = fixture.counts();
-    let rescheduled = runnable.run();
-    assert_eq!(rt; (shown, rescheduled), (Ok(true), false));
-    assert_eq!(rt; fixture.output_drops(), 1);
+fn a_detached_fallible_task_runs(rt: HostRuntime) {
+    let fixture = calls::fixture(rt, rt.alloc());
+    let ran = run_detached(&fixture);
     assert_eq!(rt;
-        [kept, fixture.counts()],
-        [Counts::new(0, 0, 0, 0), Counts::new(1, 0, 1, 1)]
+        (ran, fixture.output_drops(), fixture.counts()),
+        (
+            (true, Counts::new(0, 0, 0, 0), false),
+            1,
+            Counts::new(1, 0, 1, 1)
+        )
     );
-    Ok(())
+}
+
+fn run_discarded<R: Wait + Abort + Drop + Copy>(fixture: &Fixture<R>) -> Ran {
+    let (runnable, task) = calls::spawn(fixture, Behaviour::Ready(4));
+    task.discard();
+    run_let_go(fixture, runnable, 0x109)
 }
 
 // The run of a task that was cancelled polls nothing.
 #[test]
-fn a_discarded_task_cancels(rt: HostRuntime) -> Result<(), Fail> {
-    let fixture = Fixture::new(rt, rt.alloc())?;
-    let (runnable, task) = fixture.spawn(Behaviour::Ready(4))?;
-    task.discard();
-    let shown = fixture.shows(&runnable, 0x109);
-    let kept = fixture.counts();
-    let rescheduled = runnable.run();
-    assert_eq!(rt; (shown, rescheduled), (Ok(true), false));
-    assert_eq!(rt; fixture.output_drops(), 0);
+fn a_discarded_task_cancels(rt: HostRuntime) {
+    let fixture = calls::fixture(rt, rt.alloc());
+    let ran = run_discarded(&fixture);
     assert_eq!(rt;
-        [kept, fixture.counts()],
-        [Counts::new(0, 0, 0, 0), Counts::new(0, 0, 1, 1)]
+        (ran, fixture.output_drops(), fixture.counts()),
+        (
+            (true, Counts::new(0, 0, 0, 0), false),
+            0,
+            Counts::new(0, 0, 1, 1)
+        )
     );
-    Ok(())
 }
 
-#[test]
-fn a_discarded_fallible_task_cancels(rt: HostRuntime) -> Result<(), Fail> {
-    let fixture = Fixture::new(rt, rt.alloc())?;
-    let (runnable, task) = fixture.spawn(Behaviour::Ready(4))?;
+// Discards a FallibleTask and then the Runnable: whether the Runnable showed the cancel.
+fn discard_fallible<R: Wait + Abort + Drop + Copy>(fixture: &Fixture<R>) -> bool {
+    let (runnable, task) = calls::spawn(fixture, Behaviour::Ready(4));
     task.fallible().discard();
-    let shown = fixture.shows(&runnable, 0x109);
+    let shown = calls::runnable_shows(fixture, &runnable, 0x109);
     runnable.discard();
-    assert_eq!(rt;
-        (shown, fixture.counts()),
-        (Ok(true), Counts::new(0, 0, 1, 1))
-    );
-    Ok(())
+    shown
 }
 
 #[test]
-fn a_fallible_task_becomes_a_cancel(rt: HostRuntime) -> Result<(), Fail> {
-    let fixture = Fixture::new(rt, rt.alloc())?;
-    let flag = fixture.flag(1)?;
-    let (runnable, task) = fixture.spawn(Behaviour::Ready(4))?;
+fn a_discarded_fallible_task_cancels(rt: HostRuntime) {
+    let fixture = calls::fixture(rt, rt.alloc());
+    let shown = discard_fallible(&fixture);
+    assert_eq!(rt; (shown, fixture.counts()), (true, Counts::new(0, 0, 1, 1)));
+}
+
+// Polls a Cancel of a FallibleTask before the run and after it: whether it was pending, then shown and finished so, and empty at last; and what the run answered.
+fn cancel_fallible<R: Wait + Abort + Drop + Copy>(
+    fixture: &Fixture<R>,
+    flag: &Flag,
+) -> ([bool; 4], bool) {
+    let (runnable, task) = calls::spawn(fixture, Behaviour::Ready(4));
     let mut cancel = task.fallible().cancel();
-    let first = cancel.poll(&flag);
-    let shown = fixture.shows(&runnable, 0x139);
+    let waits = calls::is_cancel_pending(&mut cancel, flag);
+    let shown = calls::runnable_shows(fixture, &runnable, 0x139);
     let finished = cancel.is_finished();
-    let rescheduled = runnable.run();
-    let second = cancel.poll(&flag);
-    drop(cancel);
-    assert_eq!(rt; (shown, finished, rescheduled), (Ok(true), true, false));
-    assert!(rt; matches!(first, TaskPoll::Pending));
-    assert!(rt; matches!(second, TaskPoll::Ready(None)));
-    assert_eq!(rt; fixture.counts(), Counts::new(0, 0, 1, 1));
-    Ok(())
+    let rescheduled = calls::run(runnable);
+    let empty = calls::is_cancel_empty(&mut cancel, flag);
+    calls::drop_cancel(cancel);
+    ([waits, shown, finished, empty], rescheduled)
+}
+
+#[test]
+fn a_fallible_task_becomes_a_cancel(rt: HostRuntime) {
+    let fixture = calls::fixture(rt, rt.alloc());
+    let flag = calls::flag(&fixture, 1);
+    let seen = cancel_fallible(&fixture, &flag);
+    assert_eq!(rt;
+        (seen, fixture.counts()),
+        (([true; 4], false), Counts::new(0, 0, 1, 1))
+    );
+}
+
+// Drops the Runnable of an awaited task, and polls twice more: whether the Task waited, was finished and was closed, the wakes before and after the drop, and what was counted.
+fn poll_closed<R: Wait + Abort + Drop + Copy>(
+    fixture: &Fixture<R>,
+    flag: &Flag,
+) -> ([bool; 4], [u64; 2], Counts) {
+    let (runnable, mut task) = calls::spawn(fixture, Behaviour::Ready(1));
+    let waits = calls::is_pending(&mut task, flag);
+    let unwoken = flag.wakes();
+    calls::drop_runnable(runnable);
+    let woken = flag.wakes();
+    let finished = calls::is_finished(&mut task);
+    let closed = calls::is_closed(&mut task, flag);
+    let still_closed = calls::is_closed(&mut task, flag);
+    let counts = fixture.counts();
+    calls::drop_task(task);
+    (
+        [waits, finished, closed, still_closed],
+        [unwoken, woken],
+        counts,
+    )
 }
 
 // A Runnable's drop closes the task and wakes the awaiter, and each later poll answers that the task is closed.
 #[test]
-fn a_closed_task_answers_closed(rt: HostRuntime) -> Result<(), Fail> {
-    let fixture = Fixture::new(rt, rt.alloc())?;
-    let flag = fixture.flag(1)?;
-    let (runnable, mut task) = fixture.spawn(Behaviour::Ready(1))?;
-    let first = task.poll(&flag);
-    let unwoken = flag.wakes();
-    drop(runnable);
-    let woken = flag.wakes();
-    let finished = task.is_finished();
-    let second = task.poll(&flag);
-    let third = task.poll(&flag);
-    let counts = fixture.counts();
-    drop(task);
-    assert_eq!(rt; (unwoken, woken, flag.wakes(), finished), (0, 1, 1, true));
-    assert!(rt; matches!(first, TaskPoll::Pending));
-    assert!(rt; matches!(second, TaskPoll::Ready(Err(TaskClosed))));
-    assert!(rt; matches!(third, TaskPoll::Ready(Err(TaskClosed))));
-    assert_eq!(rt; counts, Counts::new(0, 0, 1, 0));
-    Ok(())
+fn a_closed_task_answers_closed(rt: HostRuntime) {
+    let fixture = calls::fixture(rt, rt.alloc());
+    let flag = calls::flag(&fixture, 1);
+    let seen = poll_closed(&fixture, &flag);
+    assert_eq!(rt;
+        (seen, flag.wakes()),
+        (([true; 4], [0, 1], Counts::new(0, 0, 1, 0)), 1)
+    );
 }
 
-#[test]
-fn a_detach_drops_the_output(rt: HostRuntime) -> Result<(), Fail> {
-    let fixture = Fixture::new(rt, rt.alloc())?;
-    let (runnable, mut task) = fixture.spawn(Behaviour::Ready(1))?;
-    let scheduled = task.is_finished();
-    runnable.run();
-    let completed = task.is_finished();
+// Detaches the Task of a completed task: whether it was finished before the run and after it, and the outputs that were dropped before the detach.
+fn detach_completed<R: Wait + Abort + Drop + Copy>(fixture: &Fixture<R>) -> ([bool; 2], u64) {
+    let (runnable, mut task) = calls::spawn(fixture, Behaviour::Ready(1));
+    let scheduled = calls::is_finished(&mut task);
+    calls::run(runnable);
+    let completed = calls::is_finished(&mut task);
     let kept = fixture.output_drops();
-    task.detach();
-    assert_eq!(rt; (scheduled, completed), (false, true));
-    assert_eq!(rt; (kept, fixture.output_drops()), (0, 1));
-    assert_eq!(rt; fixture.counts(), Counts::new(1, 0, 1, 1));
-    Ok(())
+    calls::detach(task);
+    ([scheduled, completed], kept)
 }
 
 #[test]
-fn a_polled_output_is_dropped_by_the_poller(rt: HostRuntime) -> Result<(), Fail> {
-    let fixture = Fixture::new(rt, rt.alloc())?;
-    let flag = fixture.flag(1)?;
-    let (runnable, mut task) = fixture.spawn(Behaviour::Ready(9))?;
-    runnable.run();
-    let polled = task.poll(&flag);
-    drop(task);
-    assert_eq!(rt; fixture.output_drops(), 0);
-    assert!(rt; matches!(&polled, TaskPoll::Ready(Ok(Output { number: 9, .. }))));
+fn a_detach_drops_the_output(rt: HostRuntime) {
+    let fixture = calls::fixture(rt, rt.alloc());
+    let seen = detach_completed(&fixture);
+    assert_eq!(rt;
+        (seen, fixture.output_drops(), fixture.counts()),
+        (([false, true], 0), 1, Counts::new(1, 0, 1, 1))
+    );
+}
+
+// Takes the output of a completed task, and drops its Task.
+fn take_output<R: Wait + Abort + Drop + Copy>(
+    fixture: &Fixture<R>,
+    flag: &Flag,
+) -> TaskPoll<Result<Output, TaskClosed>> {
+    let (runnable, mut task) = calls::spawn(fixture, Behaviour::Ready(9));
+    calls::run(runnable);
+    let polled = task.poll(flag);
+    calls::drop_task(task);
+    polled
+}
+
+#[test]
+fn a_polled_output_is_dropped_by_the_poller(rt: HostRuntime) {
+    let fixture = calls::fixture(rt, rt.alloc());
+    let flag = calls::flag(&fixture, 1);
+    let polled = take_output(&fixture, &flag);
+    let kept = fixture.output_drops();
+    let completed = is_ready_with(&polled, 9);
     drop(polled);
-    assert_eq!(rt; fixture.output_drops(), 1);
-    Ok(())
+    assert_eq!(rt; (kept, completed, fixture.output_drops()), (0, true, 1));
 }

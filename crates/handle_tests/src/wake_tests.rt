@@ -1,91 +1,118 @@
 //! Tests of wakes: how many Runnables they queue, and what a run answers of them.
 
+use crate::calls;
 use async_task::Wake;
-use fixtures::answers::is_ready_with;
 use fixtures::counters::Counts;
 use fixtures::fixture::Fixture;
+use fixtures::flag::Flag;
 use fixtures::future::Behaviour;
-use std::alloc::AllocError;
-use std::test::Fail;
+use fixtures::surroundings::RowRunnable;
+use std::process::Abort;
+use std::sync::Wait;
 
 // Wakes any awaiter by reference.
 fn wake_awaiter<W: Wake>(awaiter: &W) {
     awaiter.wake_by_ref();
 }
 
-#[test]
-fn a_waker_as_an_awaiter_wakes_by_reference(rt: HostRuntime) -> Result<(), Fail> {
-    let fixture = Fixture::new(rt, rt.alloc())?;
-    let surroundings = &fixture.surroundings;
-    let (runnable, task) = fixture.spawn(Behaviour::Pending)?;
-    let waker = runnable.waker().ok_or(AllocError)?;
-    let rescheduled = runnable.run();
+// Wakes an idle task by a waker as an awaiter: what its run answered, whether the Task showed the wake, and what was counted.
+fn wake_as_awaiter<R: Wait + Abort + Drop + Copy>(fixture: &Fixture<R>) -> (bool, bool, Counts) {
+    let (runnable, task) = calls::spawn(fixture, Behaviour::Pending);
+    let waker = calls::waker_of(fixture.rt, &runnable);
+    let rescheduled = calls::run(runnable);
     wake_awaiter(&waker);
-    let shown = fixture.shows(&task, 0x211);
+    let shown = calls::task_shows(fixture, &task, 0x211);
     let woken = fixture.counts();
-    drop((waker, task));
-    let queued = surroundings.queued();
-    let ran = surroundings.run_next();
+    calls::drop_waker(waker);
+    calls::drop_task(task);
+    (rescheduled, shown, woken)
+}
+
+#[test]
+fn a_waker_as_an_awaiter_wakes_by_reference(rt: HostRuntime) {
+    let fixture = calls::fixture(rt, rt.alloc());
+    let (rescheduled, shown, woken) = wake_as_awaiter(&fixture);
+    let queued = fixture.surroundings.queued();
+    let ran = fixture.surroundings.run_next();
+    let told = fixture.surroundings.infos_are(&[false]);
     assert_eq!(rt;
-        (rescheduled, shown, queued, ran),
-        (false, Ok(true), 1, Some(false))
+        (rescheduled, shown, queued, ran, told),
+        (false, true, 1, Some(false), true)
     );
-    assert!(rt; surroundings.infos_are(&[false]));
     assert_eq!(rt;
         [woken, fixture.counts()],
         [Counts::new(1, 1, 0, 0), Counts::new(1, 1, 1, 1)]
     );
-    Ok(())
+}
+
+// Discards the two wakers of a detached idle task: what was queued after each, and what was counted after the first.
+fn discard_wakers<R: Wait + Abort + Drop + Copy>(fixture: &Fixture<R>) -> (usize, Counts, usize) {
+    let (runnable, task) = calls::spawn(fixture, Behaviour::Pending);
+    let first = calls::waker_of(fixture.rt, &runnable);
+    let second = calls::waker_of(fixture.rt, &runnable);
+    calls::run(runnable);
+    calls::detach(task);
+    first.discard();
+    let queued = fixture.surroundings.queued();
+    let kept = fixture.counts();
+    second.discard();
+    (queued, kept, fixture.surroundings.queued())
 }
 
 // Of two wakers of a detached idle task the first is discarded without a Runnable, and the last one hands a closing one over.
 #[test]
-fn a_discarded_waker_leaves_the_task_to_the_others(rt: HostRuntime) -> Result<(), Fail> {
-    let fixture = Fixture::new(rt, rt.alloc())?;
-    let surroundings = &fixture.surroundings;
-    let (runnable, task) = fixture.spawn(Behaviour::Pending)?;
-    let first = runnable.waker().ok_or(AllocError)?;
-    let second = runnable.waker().ok_or(AllocError)?;
-    runnable.run();
-    task.detach();
-    first.discard();
-    let queued = surroundings.queued();
-    let kept = fixture.counts();
-    second.discard();
-    let queued_last = surroundings.queued();
-    let ran = surroundings.run_next();
-    assert_eq!(rt; (queued, queued_last, ran), (0, 1, Some(false)));
-    assert!(rt; surroundings.infos_are(&[false]));
+fn a_discarded_waker_leaves_the_task_to_the_others(rt: HostRuntime) {
+    let fixture = calls::fixture(rt, rt.alloc());
+    let (queued, kept, queued_last) = discard_wakers(&fixture);
+    let ran = fixture.surroundings.run_next();
+    let told = fixture.surroundings.infos_are(&[false]);
+    assert_eq!(rt; (queued, queued_last, ran, told), (0, 1, Some(false), true));
     assert_eq!(rt;
         [kept, fixture.counts()],
         [Counts::new(1, 0, 0, 0), Counts::new(1, 1, 1, 1)]
     );
-    Ok(())
+}
+
+// Wakes a detached idle task by value with its last waker: what was queued.
+fn wake_last<R: Wait + Abort + Drop + Copy>(fixture: &Fixture<R>) -> usize {
+    let (runnable, task) = calls::spawn(fixture, Behaviour::Pending);
+    let waker = calls::waker_of(fixture.rt, &runnable);
+    calls::detach(task);
+    calls::run(runnable);
+    calls::wake(waker);
+    fixture.surroundings.queued()
+}
+
+// Takes the Runnable that has waited longest. Stops where there is none.
+fn receive<R: Wait + Abort + Drop + Copy>(fixture: &Fixture<R>) -> RowRunnable<'_, R> {
+    match fixture.surroundings.receive() {
+        Some(received) => received,
+        None => panic!(fixture.rt; "nothing was queued"),
+    }
+}
+
+// Receives a Runnable and runs it: whether it showed its one reference, and what the run answered.
+fn run_received<R: Wait + Abort + Drop + Copy>(fixture: &Fixture<R>) -> (bool, bool) {
+    let received = receive(fixture);
+    let shown = calls::runnable_shows(fixture, &received, 0x101);
+    (shown, calls::run(received))
 }
 
 // The only handle of a task is a waker: a wake by value queues one Runnable, which has the one reference that is left, and the task stays open.
 // The future is pending once more, so that this run hands a closing Runnable over.
 #[test]
-fn the_last_waker_wakes_by_value(rt: HostRuntime) -> Result<(), Fail> {
-    let fixture = Fixture::new(rt, rt.alloc())?;
-    let surroundings = &fixture.surroundings;
-    let (runnable, task) = fixture.spawn(Behaviour::Pending)?;
-    let waker = runnable.waker().ok_or(AllocError)?;
-    task.detach();
-    runnable.run();
-    waker.wake();
-    let queued = surroundings.queued();
+fn the_last_waker_wakes_by_value(rt: HostRuntime) {
+    let fixture = calls::fixture(rt, rt.alloc());
+    let queued = wake_last(&fixture);
     let woken = fixture.counts();
-    let received = surroundings.receive().ok_or(AllocError)?;
-    let shown = fixture.shows(&received, 0x101);
-    let rescheduled = received.run();
+    let received = run_received(&fixture);
     let ran = fixture.counts();
-    let last = surroundings.run_next();
+    let last = fixture.surroundings.run_next();
+    let told = fixture.surroundings.infos_are(&[false, false]);
     assert_eq!(rt;
-        (queued, shown, rescheduled, last),
-        (1, Ok(true), false, Some(false))
+        (queued, received, last, told),
+        (1, (true, false), Some(false), true)
     );
-    assert!(rt; surroundings.infos_are(&[false, false]));
     assert_eq!(rt;
         [woken, ran, fixture.counts()],
         [
@@ -94,50 +121,63 @@ fn the_last_waker_wakes_by_value(rt: HostRuntime) -> Result<(), Fail> {
             Counts::new(2, 2, 1, 1)
         ]
     );
-    Ok(())
+}
+
+// Wakes a scheduled task by reference and by value, and runs it: what was shown, what the run answered, what was queued, and what was counted.
+fn wake_scheduled<R: Wait + Abort + Drop + Copy>(
+    fixture: &Fixture<R>,
+) -> ([bool; 3], bool, usize, Counts) {
+    let (runnable, task) = calls::spawn(fixture, Behaviour::Pending);
+    let waker = calls::waker_of(fixture.rt, &runnable);
+    calls::wake_by_ref(&waker);
+    let by_ref = calls::runnable_shows(fixture, &runnable, 0x211);
+    calls::wake(waker);
+    let by_value = calls::runnable_shows(fixture, &runnable, 0x111);
+    let rescheduled = calls::run(runnable);
+    let idle = calls::task_shows(fixture, &task, 0x010);
+    let counts = fixture.counts();
+    let queued = fixture.surroundings.queued();
+    calls::drop_task(task);
+    ([by_ref, by_value, idle], rescheduled, queued, counts)
 }
 
 // A scheduled task has its Runnable: a wake by reference and one by value queue none, and the run does not count them as its own.
 #[test]
-fn a_wake_of_a_scheduled_task_queues_nothing(rt: HostRuntime) -> Result<(), Fail> {
-    let fixture = Fixture::new(rt, rt.alloc())?;
-    let (runnable, task) = fixture.spawn(Behaviour::Pending)?;
-    let waker = runnable.waker().ok_or(AllocError)?;
-    waker.wake_by_ref();
-    let by_ref = fixture.shows(&runnable, 0x211);
-    waker.wake();
-    let by_value = fixture.shows(&runnable, 0x111);
-    let rescheduled = runnable.run();
-    let idle = fixture.shows(&task, 0x010);
-    let counts = fixture.counts();
+fn a_wake_of_a_scheduled_task_queues_nothing(rt: HostRuntime) {
+    let fixture = calls::fixture(rt, rt.alloc());
+    let seen = wake_scheduled(&fixture);
+    assert_eq!(rt; seen, ([true; 3], false, 0, Counts::new(1, 0, 0, 0)));
+}
+
+// Runs a future that wakes its lent waker in its first poll, and runs it once more: what the runs answered, whether the Task showed the wake and was ready then, and what the first run queued and counted.
+fn run_woken<R: Wait + Abort + Drop + Copy>(
+    fixture: &Fixture<R>,
+    flag: &Flag,
+) -> (bool, Option<bool>, [bool; 2], usize, Counts) {
+    let (runnable, mut task) = calls::spawn(fixture, Behaviour::Yield(3));
+    let rescheduled = calls::run(runnable);
+    let shown = calls::task_shows(fixture, &task, 0x111);
+    let woken = fixture.counts();
     let queued = fixture.surroundings.queued();
-    drop(task);
-    assert_eq!(rt; [by_ref, by_value, idle], [Ok(true); 3]);
-    assert_eq!(rt; (rescheduled, queued), (false, 0));
-    assert_eq!(rt; counts, Counts::new(1, 0, 0, 0));
-    Ok(())
+    let ran = fixture.surroundings.run_next();
+    let completed = calls::is_ready(&mut task, flag, 3);
+    calls::drop_task(task);
+    (rescheduled, ran, [shown, completed], queued, woken)
 }
 
 // A future that wakes its lent waker in its first poll: that run answers true, and the one without a wake false.
 #[test]
-fn a_run_answers_whether_its_poll_woke(rt: HostRuntime) -> Result<(), Fail> {
-    let fixture = Fixture::new(rt, rt.alloc())?;
-    let surroundings = &fixture.surroundings;
-    let flag = fixture.flag(1)?;
-    let (runnable, mut task) = fixture.spawn(Behaviour::Yield(3))?;
-    let rescheduled = runnable.run();
-    let shown = fixture.shows(&task, 0x111);
-    let woken = fixture.counts();
-    let queued = surroundings.queued();
-    let ran = surroundings.run_next();
-    let completed = is_ready_with(&task.poll(&flag), 3);
-    drop(task);
-    assert_eq!(rt; (rescheduled, shown, queued), (true, Ok(true), 1));
-    assert_eq!(rt; (ran, completed), (Some(false), true));
-    assert!(rt; surroundings.infos_are(&[true]));
+fn a_run_answers_whether_its_poll_woke(rt: HostRuntime) {
+    let fixture = calls::fixture(rt, rt.alloc());
+    let flag = calls::flag(&fixture, 1);
+    let (rescheduled, ran, answers, queued, woken) = run_woken(&fixture, &flag);
+    let told = fixture.surroundings.infos_are(&[true]);
+    assert_eq!(rt;
+        (rescheduled, ran, answers, queued, told),
+        (true, Some(false), [true; 2], 1, true)
+    );
     assert_eq!(rt;
         [woken, fixture.counts()],
         [Counts::new(1, 1, 0, 0), Counts::new(2, 1, 1, 1)]
     );
-    Ok(())
 }

@@ -1,91 +1,124 @@
 //! Tests of wakers and of an awaiter, and of tasks that end without a run that completes.
 
+use crate::calls;
 use async_task::{Runnable, Task, TaskPoll, Wake, spawn};
+use fixtures::answers::is_ready_with;
 use fixtures::counters::{Counters, Counts};
 use fixtures::fixture::Fixture;
 use fixtures::flag::Flag;
-use fixtures::future::{Behaviour, Output, RowFuture};
-use fixtures::surroundings::{RowWaker, Scheduler};
+use fixtures::future::{Behaviour, RowFuture};
+use fixtures::surroundings::{RowWaker, Scheduler, Surroundings};
 use std::alloc::{AllocError, Global};
 use std::mem;
 use std::process::Abort;
 use std::sync::{Arc, Wait};
 use std::test::Fail;
 
-// A pending task without wakers loses its Task after a run, by a detach or by a drop: a closing Runnable ends it.
-fn idle_end<R: Wait + Abort + Drop + Copy>(
-    rt: &R,
-    alloc: Global,
-    detaches: bool,
-) -> Result<(), Fail> {
-    let fixture = Fixture::new(*rt, alloc)?;
-    let (runnable, task) = fixture.spawn(Behaviour::Pending)?;
-    let rescheduled = runnable.run();
+// A pending task without wakers loses its Task after a run, by a detach or by a drop: what the run answered.
+fn leave_idle<R: Wait + Abort + Drop + Copy>(fixture: &Fixture<R>, detaches: bool) -> bool {
+    let (runnable, task) = calls::spawn(fixture, Behaviour::Pending);
+    let rescheduled = calls::run(runnable);
     if detaches {
-        task.detach();
+        calls::detach(task);
     } else {
-        drop(task);
+        calls::drop_task(task);
     }
+    rescheduled
+}
+
+// The same in surroundings of its own: a closing Runnable ends the task.
+fn idle_end<R: Wait + Abort + Drop + Copy>(rt: R, alloc: Global, detaches: bool) {
+    let fixture = calls::fixture(rt, alloc);
+    let rescheduled = leave_idle(&fixture, detaches);
     let counts = fixture.counts();
     let queued = fixture.surroundings.queued();
     let ran = fixture.surroundings.run_next();
-    assert_eq!(rt; (rescheduled, queued, ran), (false, 1, Some(false)));
-    assert!(rt; fixture.surroundings.infos_are(&[false]));
-    assert_eq!(rt; counts, Counts::new(1, 1, 0, 0));
-    assert_eq!(rt; fixture.counts(), Counts::new(1, 1, 1, 1));
-    Ok(())
+    let told = fixture.surroundings.infos_are(&[false]);
+    assert_eq!(rt;
+        (rescheduled, queued, ran, told),
+        (false, 1, Some(false), true)
+    );
+    assert_eq!(rt;
+        [counts, fixture.counts()],
+        [Counts::new(1, 1, 0, 0), Counts::new(1, 1, 1, 1)]
+    );
 }
 
 #[test]
-fn an_idle_task_ends_by_a_closing_runnable(rt: HostRuntime) -> Result<(), Fail> {
-    idle_end(&rt, rt.alloc(), true)?;
-    idle_end(&rt, rt.alloc(), false)
+fn an_idle_task_ends_by_a_closing_runnable(rt: HostRuntime) {
+    idle_end(rt, rt.alloc(), true);
+    idle_end(rt, rt.alloc(), false);
+}
+
+// Spawns a task without surroundings, detaches it and runs it: what the run answered.
+fn run_detached_bare<R: Wait + Drop + Copy>(fixture: &Fixture<R>) -> Result<bool, AllocError> {
+    let (runnable, task) = fixture.spawn_bare(Behaviour::Pending)?;
+    task.detach();
+    Ok(runnable.run())
 }
 
 // The run of a detached pending task without wakers hands a closing Runnable over, which the schedule value drops.
 #[test]
-fn a_closing_runnable_may_be_dropped(rt: HostRuntime) -> Result<(), Fail> {
-    let fixture = Fixture::new(rt, rt.alloc())?;
-    let (runnable, task) = fixture.spawn_bare(Behaviour::Pending)?;
-    task.detach();
-    let rescheduled = runnable.run();
+fn a_closing_runnable_may_be_dropped(rt: HostRuntime) {
+    let fixture = calls::fixture(rt, rt.alloc());
+    let rescheduled = run_detached_bare(&fixture);
     assert_eq!(rt;
         (rescheduled, fixture.counts()),
-        (false, Counts::new(1, 1, 1, 1))
+        (Ok(false), Counts::new(1, 1, 1, 1))
     );
-    Ok(())
+}
+
+// Parks a waker, unparks it and discards it.
+fn park_and_discard<R: Wait + Drop>(waker: RowWaker<'_, R>, surroundings: &Surroundings<R>) {
+    waker.park().unpark(surroundings).discard();
+}
+
+// Wakes an idle task thrice, by reference and then by value: what was queued after the first wake, and after all.
+fn wake_idle<R: Wait + Drop>(waker: RowWaker<'_, R>, surroundings: &Surroundings<R>) -> [usize; 2] {
+    calls::wake_by_ref(&waker);
+    let woken = waker.around().queued();
+    calls::wake_by_ref(&waker);
+    calls::wake(waker);
+    [woken, surroundings.queued()]
+}
+
+// Calls each method of a waker, and of one that is parked, and detaches the Task: what the waker knew of its clone, what the run answered, what was queued, and what was counted.
+fn call_waker<R: Wait + Abort + Drop + Copy>(
+    fixture: &Fixture<R>,
+) -> (bool, bool, [usize; 2], Counts) {
+    let (runnable, task) = calls::spawn(fixture, Behaviour::Pending);
+    let waker = calls::waker_of(fixture.rt, &runnable);
+    let clone = calls::clone_of(fixture.rt, &waker);
+    let known = waker.will_wake(&clone);
+    park_and_discard(clone, &fixture.surroundings);
+    let rescheduled = calls::run(runnable);
+    let queued = wake_idle(waker, &fixture.surroundings);
+    let idle = fixture.counts();
+    calls::detach(task);
+    (known, rescheduled, queued, idle)
 }
 
 // Each call of a waker, and of one that is parked.
 #[test]
-fn a_waker_answers_each_call(rt: HostRuntime) -> Result<(), Fail> {
-    let fixture = Fixture::new(rt, rt.alloc())?;
-    let surroundings = &fixture.surroundings;
-    let (runnable, task) = fixture.spawn(Behaviour::Pending)?;
-    let waker = runnable.waker().ok_or(AllocError)?;
-    let clone = waker.clone().ok_or(AllocError)?;
-    let known = waker.will_wake(&clone);
-    clone.park().unpark(surroundings).discard();
-    let rescheduled = runnable.run();
-    waker.wake_by_ref();
-    let woken = waker.around().queued();
-    waker.wake_by_ref();
-    waker.wake();
-    let still = surroundings.queued();
-    let idle = fixture.counts();
-    task.detach();
-    let second = surroundings.run_next();
+fn a_waker_answers_each_call(rt: HostRuntime) {
+    let fixture = calls::fixture(rt, rt.alloc());
+    let (known, rescheduled, queued, idle) = call_waker(&fixture);
+    let second = fixture.surroundings.run_next();
     let orphan = fixture.counts();
-    let last = surroundings.run_next();
-    assert_eq!(rt; (known, rescheduled, woken, still), (false, false, 1, 1));
-    assert_eq!(rt; (second, last), (Some(false), Some(false)));
-    assert!(rt; surroundings.infos_are(&[false, false]));
+    let last = fixture.surroundings.run_next();
+    let told = fixture.surroundings.infos_are(&[false, false]);
     assert_eq!(rt;
-        [idle, orphan],
-        [Counts::new(1, 1, 0, 0), Counts::new(2, 2, 0, 0)]
+        (known, rescheduled, queued, [second, last], told),
+        (false, false, [1, 1], [Some(false); 2], true)
     );
-    assert_eq!(rt; fixture.counts(), Counts::new(2, 2, 1, 1));
-    Ok(())
+    assert_eq!(rt;
+        [idle, orphan, fixture.counts()],
+        [
+            Counts::new(1, 1, 0, 0),
+            Counts::new(2, 2, 0, 0),
+            Counts::new(2, 2, 1, 1)
+        ]
+    );
 }
 
 // Calls each method of an awaiter: what it knows of its clone, or `None` where it could not be cloned.
@@ -98,31 +131,38 @@ fn wake_thrice<W: Wake>(awaiter: W) -> Option<bool> {
     Some(known)
 }
 
-#[test]
-fn a_waker_is_an_awaiter(rt: HostRuntime) -> Result<(), Fail> {
-    let fixture = Fixture::new(rt, rt.alloc())?;
-    let surroundings = &fixture.surroundings;
-    let (runnable, task) = fixture.spawn(Behaviour::Pending)?;
-    let waker = runnable.waker().ok_or(AllocError)?;
-    let rescheduled = runnable.run();
+// Calls each method of a waker of an idle task as an awaiter: what its run answered, what it knew of its clone, and what was queued.
+fn call_as_awaiter<R: Wait + Abort + Drop + Copy>(
+    fixture: &Fixture<R>,
+) -> (bool, Option<bool>, usize) {
+    let (runnable, task) = calls::spawn(fixture, Behaviour::Pending);
+    let waker = calls::waker_of(fixture.rt, &runnable);
+    let rescheduled = calls::run(runnable);
     let known = wake_thrice(waker);
-    let queued = surroundings.queued();
-    drop(task);
-    let ran = surroundings.run_next();
+    let queued = fixture.surroundings.queued();
+    calls::drop_task(task);
+    (rescheduled, known, queued)
+}
+
+#[test]
+fn a_waker_is_an_awaiter(rt: HostRuntime) {
+    let fixture = calls::fixture(rt, rt.alloc());
+    let seen = call_as_awaiter(&fixture);
+    let ran = fixture.surroundings.run_next();
+    let told = fixture.surroundings.infos_are(&[false]);
     assert_eq!(rt;
-        (rescheduled, known, queued, ran),
-        (false, Some(false), 1, Some(false))
+        (seen, ran, told),
+        ((false, Some(false), 1), Some(false), true)
     );
-    assert!(rt; surroundings.infos_are(&[false]));
     assert_eq!(rt; fixture.counts(), Counts::new(1, 1, 1, 1));
-    Ok(())
 }
 
 // The handles of a task without surroundings, which is awaited by wakers of the rows.
-type AwaitedHandles<'x, R> = (
-    Runnable<R, RowFuture, Scheduler, (), RowWaker<'x, R>, ()>,
-    Task<R, RowFuture, Scheduler, (), RowWaker<'x, R>, ()>,
-);
+type AwaitedRunnable<'x, R> = Runnable<R, RowFuture, Scheduler, (), RowWaker<'x, R>, ()>;
+
+type AwaitedTask<'x, R> = Task<R, RowFuture, Scheduler, (), RowWaker<'x, R>, ()>;
+
+type AwaitedHandles<'x, R> = (AwaitedRunnable<'x, R>, AwaitedTask<'x, R>);
 
 // Spawns a task that other tasks may await, whose future answers 5 and which counts here.
 fn spawn_awaited<'x, R: Wait + Drop + Copy>(
@@ -135,115 +175,194 @@ fn spawn_awaited<'x, R: Wait + Drop + Copy>(
     spawn(rt, alloc, future, scheduler, ()).map_err(|_| AllocError)
 }
 
+// What was seen of a task that is awaited by a waker: whether it was pending and then ready, and what was queued before its run and after it.
+type Awaited = ([bool; 2], [usize; 2]);
+
+fn await_by<'x, R: Wait + Drop>(
+    surroundings: &'x Surroundings<R>,
+    waker: &RowWaker<'x, R>,
+    runnable: AwaitedRunnable<'x, R>,
+    mut task: AwaitedTask<'x, R>,
+) -> Awaited {
+    let waits = matches!(task.poll(waker), TaskPoll::Pending);
+    let before = surroundings.queued();
+    runnable.run();
+    let after = surroundings.queued();
+    let completed = is_ready_with(&task.poll(waker), 5);
+    drop(task);
+    ([waits, completed], [before, after])
+}
+
+// Awaits a task of those counters by the waker of another one, which is idle: what was seen of it, and what the other one counted.
+fn await_another<R: Wait + Abort + Drop + Copy>(
+    fixture: &Fixture<R>,
+    alloc: Global,
+    counters: &Arc<Counters>,
+) -> Result<(Awaited, Counts), AllocError> {
+    let (awaited_runnable, awaited) = spawn_awaited(fixture.rt, alloc, counters)?;
+    let (runnable, task) = calls::spawn(fixture, Behaviour::Pending);
+    let waker = calls::waker_of(fixture.rt, &runnable);
+    calls::run(runnable);
+    let seen = await_by(&fixture.surroundings, &waker, awaited_runnable, awaited);
+    let counts = fixture.counts();
+    calls::drop_waker(waker);
+    calls::drop_task(task);
+    Ok((seen, counts))
+}
+
 // A task that awaits another one by its own waker is scheduled once the other one has completed.
 #[test]
 fn a_task_awaits_another(rt: HostRuntime) -> Result<(), Fail> {
-    let fixture = Fixture::new(rt, rt.alloc())?;
-    let surroundings = &fixture.surroundings;
     let counters = Arc::new(rt.alloc(), Counters::new())?;
-    let (runnable, task) = fixture.spawn(Behaviour::Pending)?;
-    let waker = runnable.waker().ok_or(AllocError)?;
-    runnable.run();
-    let (awaited_runnable, mut awaited) = spawn_awaited(rt, rt.alloc(), &counters)?;
-    let first = awaited.poll(&waker);
-    let before = surroundings.queued();
-    awaited_runnable.run();
-    let after = surroundings.queued();
-    let second = awaited.poll(&waker);
-    drop(awaited);
-    let counts = fixture.counts();
-    drop(waker);
-    drop(task);
-    assert_eq!(rt; (before, after), (0, 1));
-    assert!(rt; matches!(first, TaskPoll::Pending));
-    assert!(rt; matches!(second, TaskPoll::Ready(Ok(Output { number: 5, .. }))));
-    assert_eq!(rt; counters.counts(), Counts::new(1, 0, 1, 1));
-    assert_eq!(rt; counts, Counts::new(1, 1, 0, 0));
+    let fixture = calls::fixture(rt, rt.alloc());
+    let seen = await_another(&fixture, rt.alloc(), &counters);
+    assert_eq!(rt;
+        (seen, counters.counts()),
+        (
+            Ok((([true; 2], [0, 1]), Counts::new(1, 1, 0, 0))),
+            Counts::new(1, 0, 1, 1)
+        )
+    );
     Ok(())
+}
+
+// Unparks a parked waker without surroundings, and wakes by value.
+fn wake_without_surroundings<R: Wait + Drop>(waker: RowWaker<'_, R>) {
+    waker.park().unpark(()).wake();
+}
+
+// Wakes an idle task by a waker without surroundings: whether it was finished, and what was counted.
+fn wake_to_nowhere<R: Wait + Abort + Drop + Copy>(fixture: &Fixture<R>) -> (bool, Counts) {
+    let (runnable, mut task) = calls::spawn(fixture, Behaviour::Pending);
+    let waker = calls::waker_of(fixture.rt, &runnable);
+    calls::run(runnable);
+    wake_without_surroundings(waker);
+    let finished = calls::is_finished(&mut task);
+    let counts = fixture.counts();
+    calls::drop_task(task);
+    (finished, counts)
 }
 
 // A waker that is unparked without surroundings reaches no queue: the Runnable of its wake is dropped.
 #[test]
-fn a_waker_carries_what_it_was_unparked_with(rt: HostRuntime) -> Result<(), Fail> {
-    let fixture = Fixture::new(rt, rt.alloc())?;
-    let (runnable, mut task) = fixture.spawn(Behaviour::Pending)?;
-    let waker = runnable.waker().ok_or(AllocError)?;
-    runnable.run();
-    waker.park().unpark(()).wake();
-    let finished = task.is_finished();
-    let counts = fixture.counts();
-    drop(task);
-    assert_eq!(rt; (finished, fixture.surroundings.queued()), (true, 0));
-    assert_eq!(rt; counts, Counts::new(1, 1, 1, 0));
-    Ok(())
+fn a_waker_carries_what_it_was_unparked_with(rt: HostRuntime) {
+    let fixture = calls::fixture(rt, rt.alloc());
+    let seen = wake_to_nowhere(&fixture);
+    assert_eq!(rt;
+        (seen, fixture.surroundings.queued()),
+        ((true, Counts::new(1, 1, 1, 0)), 0)
+    );
+}
+
+// Runs a detached task that keeps its waker at each poll, and wakes it by another waker, which is gone then.
+fn run_keeping<R: Wait + Abort + Drop + Copy>(fixture: &Fixture<R>) {
+    let (runnable, task) = calls::spawn(fixture, Behaviour::KeepPending);
+    let waker = calls::waker_of(fixture.rt, &runnable);
+    calls::detach(task);
+    calls::run(runnable);
+    calls::wake(waker);
+}
+
+// Drops the waker that was kept: whether there was one.
+fn drop_kept<R: Wait + Drop>(surroundings: &Surroundings<R>) -> bool {
+    surroundings.take_kept().is_some()
 }
 
 // A poll that keeps its waker drops the one that an earlier poll kept: else the task would have another handle.
 #[test]
-fn a_kept_waker_replaces_the_one_before(rt: HostRuntime) -> Result<(), Fail> {
-    let fixture = Fixture::new(rt, rt.alloc())?;
-    let surroundings = &fixture.surroundings;
-    let (runnable, task) = fixture.spawn(Behaviour::KeepPending)?;
-    let waker = runnable.waker().ok_or(AllocError)?;
-    task.detach();
-    runnable.run();
-    waker.wake();
-    let second = surroundings.run_next();
+fn a_kept_waker_replaces_the_one_before(rt: HostRuntime) {
+    let fixture = calls::fixture(rt, rt.alloc());
+    run_keeping(&fixture);
+    let second = fixture.surroundings.run_next();
     let kept = fixture.counts();
-    drop(surroundings.take_kept());
-    let has_another = surroundings.take_kept().is_some();
-    let last = surroundings.run_next();
+    let dropped = drop_kept(&fixture.surroundings);
+    let has_another = drop_kept(&fixture.surroundings);
+    let last = fixture.surroundings.run_next();
     assert_eq!(rt;
-        (second, has_another, last),
-        (Some(false), false, Some(false))
+        ([second, last], dropped, has_another),
+        ([Some(false); 2], true, false)
     );
     assert_eq!(rt;
         [kept, fixture.counts()],
         [Counts::new(2, 1, 0, 0), Counts::new(2, 2, 1, 1)]
     );
-    Ok(())
+}
+
+// Forgets a waker.
+fn forget_waker<R: Wait + Drop>(waker: RowWaker<'_, R>, surroundings: &Surroundings<R>) {
+    mem::forget(waker.park().unpark(surroundings));
+}
+
+// Forgets the waker of a task, runs the task and detaches it: what the run answered.
+fn leave_forgotten<R: Wait + Abort + Drop + Copy>(fixture: &Fixture<R>) -> bool {
+    let (runnable, task) = calls::spawn(fixture, Behaviour::Pending);
+    let waker = calls::waker_of(fixture.rt, &runnable);
+    forget_waker(waker, &fixture.surroundings);
+    let rescheduled = calls::run(runnable);
+    calls::detach(task);
+    rescheduled
 }
 
 // A forgotten waker counts as a handle for ever: the task is not closed when the others are gone, and nothing is dropped.
 #[test]
-fn a_forgotten_waker_is_a_handle_that_is_left(rt: HostRuntime) -> Result<(), Fail> {
-    let fixture = Fixture::new(rt, rt.alloc())?;
-    let (runnable, task) = fixture.spawn(Behaviour::Pending)?;
-    let waker = runnable.waker().ok_or(AllocError)?;
-    mem::forget(waker.park().unpark(&fixture.surroundings));
-    let rescheduled = runnable.run();
-    task.detach();
-    assert_eq!(rt; (rescheduled, fixture.surroundings.queued()), (false, 0));
-    assert_eq!(rt; fixture.counts(), Counts::new(1, 0, 0, 0));
-    Ok(())
+fn a_forgotten_waker_is_a_handle_that_is_left(rt: HostRuntime) {
+    let fixture = calls::fixture(rt, rt.alloc());
+    let rescheduled = leave_forgotten(&fixture);
+    assert_eq!(rt;
+        (rescheduled, fixture.surroundings.queued(), fixture.counts()),
+        (false, 0, Counts::new(1, 0, 0, 0))
+    );
+}
+
+// Forgets a Runnable, and drops its Task.
+fn forget_runnable<R: Wait + Abort + Drop + Copy>(fixture: &Fixture<R>) {
+    let (runnable, task) = calls::spawn(fixture, Behaviour::Pending);
+    mem::forget(runnable.park().unpark(&fixture.surroundings));
+    calls::drop_task(task);
 }
 
 // A forgotten Runnable keeps the future, also where the Task is dropped, which closes the task.
 #[test]
-fn a_forgotten_runnable_is_a_handle_that_is_left(rt: HostRuntime) -> Result<(), Fail> {
-    let fixture = Fixture::new(rt, rt.alloc())?;
-    let (runnable, task) = fixture.spawn(Behaviour::Pending)?;
-    mem::forget(runnable.park().unpark(&fixture.surroundings));
-    drop(task);
-    assert_eq!(rt; fixture.surroundings.queued(), 0);
-    assert_eq!(rt; fixture.counts(), Counts::new(0, 0, 0, 0));
-    Ok(())
+fn a_forgotten_runnable_is_a_handle_that_is_left(rt: HostRuntime) {
+    let fixture = calls::fixture(rt, rt.alloc());
+    forget_runnable(&fixture);
+    assert_eq!(rt;
+        (fixture.surroundings.queued(), fixture.counts()),
+        (0, Counts::new(0, 0, 0, 0))
+    );
+}
+
+// The clones, wakes and drops of a flag.
+fn counts_of(flag: &Flag) -> (u64, u64, u64) {
+    (flag.clones(), flag.wakes(), flag.drops())
+}
+
+// Clones a flag, and wakes the clone by value: whether the flag knew it, or `None` where it was refused.
+fn wake_clone(flag: &Flag) -> Option<bool> {
+    let clone = flag.try_clone()?;
+    let known = flag.will_wake(&clone);
+    clone.wake();
+    Some(known)
+}
+
+// Whether a flag could be cloned. The clone is dropped.
+fn is_cloned(flag: &Flag) -> bool {
+    flag.try_clone().is_some()
 }
 
 #[test]
 fn a_flag_counts_what_is_done_to_it(rt: HostRuntime) -> Result<(), Fail> {
     let flag = Flag::new(rt.alloc(), 7)?;
     flag.wake_by_ref();
-    assert_eq!(rt; (flag.clones(), flag.wakes(), flag.drops()), (0, 1, 0));
-    let Some(clone) = flag.try_clone() else {
-        panic!(rt; "a clone was refused")
-    };
-    assert!(rt; flag.will_wake(&clone));
-    clone.wake();
-    drop(flag.try_clone());
-    assert_eq!(rt; (flag.clones(), flag.wakes(), flag.drops()), (2, 2, 1));
+    let woken = counts_of(&flag);
+    let known = wake_clone(&flag);
+    let first = is_cloned(&flag);
+    let dropped = counts_of(&flag);
     flag.refuse_next_clone();
-    assert!(rt; flag.try_clone().is_none());
-    assert!(rt; flag.try_clone().is_some());
+    let cloned = [first, is_cloned(&flag), is_cloned(&flag)];
+    assert_eq!(rt;
+        ([woken, dropped], known, cloned),
+        ([(0, 1, 0), (2, 2, 1)], Some(true), [true, false, true])
+    );
     Ok(())
 }

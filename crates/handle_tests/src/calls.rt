@@ -1,0 +1,173 @@
+//! Calls of handles of the rows, each in a function of its own that answers plain data. A test sees all that it looks at
+//! by these while its handles live, lets them go, and compares at its end.
+
+use async_task::{Cancel, TaskClosed, TaskPoll};
+use fixtures::answers::is_ready_with;
+use fixtures::fixture::Fixture;
+use fixtures::flag::Flag;
+use fixtures::future::{Behaviour, RowFuture};
+use fixtures::surroundings::{RowRunnable, RowTask, RowWaker, Scheduler, Surroundings};
+use std::alloc::Global;
+use std::process::Abort;
+use std::sync::Wait;
+
+/// A Cancel of the rows.
+pub type RowCancel<'x, R> = Cancel<R, RowFuture, Scheduler, (), Flag, &'x Surroundings<R>>;
+
+/// Surroundings of a test's own. Stops where there is no memory.
+pub fn fixture<R: Wait + Abort + Drop + Copy>(rt: R, alloc: Global) -> Fixture<R> {
+    match Fixture::new(rt, alloc) {
+        Ok(fixture) => fixture,
+        Err(_) => panic!(rt; "no memory"),
+    }
+}
+
+/// An awaiter of that number. Stops where there is no memory.
+pub fn flag<R: Wait + Abort + Drop + Copy>(fixture: &Fixture<R>, number: u64) -> Flag {
+    match fixture.flag(number) {
+        Ok(flag) => flag,
+        Err(_) => panic!(fixture.rt; "no memory"),
+    }
+}
+
+/// Spawns a task whose future behaves like that. Stops where there is no memory.
+pub fn spawn<'x, R: Wait + Abort + Drop + Copy>(
+    fixture: &'x Fixture<R>,
+    behaviour: Behaviour,
+) -> (RowRunnable<'x, R>, RowTask<'x, R>) {
+    match fixture.spawn(behaviour) {
+        Ok(handles) => handles,
+        Err(_) => panic!(fixture.rt; "no memory"),
+    }
+}
+
+/// Spawns a task that may have that many references. Stops where there is no memory.
+pub fn spawn_limited<'x, R: Wait + Abort + Drop + Copy>(
+    fixture: &'x Fixture<R>,
+    references: u64,
+) -> (RowRunnable<'x, R>, RowTask<'x, R>) {
+    match fixture.spawn_limited(Behaviour::Pending, references) {
+        Ok(handles) => handles,
+        Err(_) => panic!(fixture.rt; "no memory"),
+    }
+}
+
+/// Runs: what the run answers.
+pub fn run<R: Wait + Drop>(runnable: RowRunnable<'_, R>) -> bool {
+    runnable.run()
+}
+
+/// Drops a Runnable.
+pub fn drop_runnable<R: Wait + Drop>(runnable: RowRunnable<'_, R>) {
+    drop(runnable);
+}
+
+/// Whether a Runnable shows the flags and the count of that word.
+pub fn runnable_shows<R: Wait + Drop + Copy>(
+    fixture: &Fixture<R>,
+    runnable: &RowRunnable<'_, R>,
+    word: u64,
+) -> bool {
+    matches!(fixture.shows(runnable, word), Ok(true))
+}
+
+/// Polls a Task: whether it is pending.
+pub fn is_pending<R: Wait + Drop>(task: &mut RowTask<'_, R>, awaiter: &Flag) -> bool {
+    matches!(task.poll(awaiter), TaskPoll::Pending)
+}
+
+/// Polls a Task: whether it is ready with that number.
+pub fn is_ready<R: Wait + Drop>(task: &mut RowTask<'_, R>, awaiter: &Flag, number: u64) -> bool {
+    is_ready_with(&task.poll(awaiter), number)
+}
+
+/// Polls a Task: whether it is closed.
+pub fn is_closed<R: Wait + Drop>(task: &mut RowTask<'_, R>, awaiter: &Flag) -> bool {
+    matches!(task.poll(awaiter), TaskPoll::Ready(Err(TaskClosed)))
+}
+
+/// Whether the task of a Task is finished.
+pub fn is_finished<R: Wait + Drop>(task: &mut RowTask<'_, R>) -> bool {
+    task.is_finished()
+}
+
+/// Drops a Task.
+pub fn drop_task<R: Wait + Drop>(task: RowTask<'_, R>) {
+    drop(task);
+}
+
+/// Detaches a Task.
+pub fn detach<R: Wait + Drop>(task: RowTask<'_, R>) {
+    task.detach();
+}
+
+/// Whether a Task shows the flags and the count of that word.
+pub fn task_shows<R: Wait + Drop + Copy>(
+    fixture: &Fixture<R>,
+    task: &RowTask<'_, R>,
+    word: u64,
+) -> bool {
+    matches!(fixture.shows(task, word), Ok(true))
+}
+
+/// Polls a Cancel: whether it is pending.
+pub fn is_cancel_pending<R: Wait + Drop>(cancel: &mut RowCancel<'_, R>, awaiter: &Flag) -> bool {
+    matches!(cancel.poll(awaiter), TaskPoll::Pending)
+}
+
+/// Polls a Cancel: whether it is ready without an output.
+pub fn is_cancel_empty<R: Wait + Drop>(cancel: &mut RowCancel<'_, R>, awaiter: &Flag) -> bool {
+    matches!(cancel.poll(awaiter), TaskPoll::Ready(None))
+}
+
+/// Drops a Cancel.
+pub fn drop_cancel<R: Wait + Drop>(cancel: RowCancel<'_, R>) {
+    drop(cancel);
+}
+
+/// A waker of a Runnable. Stops where it is refused.
+pub fn waker_of<'x, R: Wait + Abort + Drop + Copy>(
+    rt: R,
+    runnable: &RowRunnable<'x, R>,
+) -> RowWaker<'x, R> {
+    match runnable.waker() {
+        Some(waker) => waker,
+        None => panic!(rt; "a waker was refused"),
+    }
+}
+
+/// Whether a Runnable is refused a waker. One that is given is dropped.
+pub fn refuses_waker<R: Wait + Drop>(runnable: &RowRunnable<'_, R>) -> bool {
+    runnable.waker().is_none()
+}
+
+/// A clone of a waker. Stops where it is refused.
+pub fn clone_of<'x, R: Wait + Abort + Drop + Copy>(
+    rt: R,
+    waker: &RowWaker<'x, R>,
+) -> RowWaker<'x, R> {
+    match waker.clone() {
+        Some(clone) => clone,
+        None => panic!(rt; "a clone of a waker was refused"),
+    }
+}
+
+/// Whether a waker is refused a clone. One that is given is dropped.
+pub fn refuses_clone<R: Wait + Drop>(waker: &RowWaker<'_, R>) -> bool {
+    waker.clone().is_none()
+}
+
+/// Wakes by value.
+pub fn wake<R: Wait + Drop>(waker: RowWaker<'_, R>) {
+    waker.wake();
+}
+
+/// Wakes by reference.
+pub fn wake_by_ref<R: Wait + Drop>(waker: &RowWaker<'_, R>) {
+    waker.wake_by_ref();
+}
+
+/// Drops a waker.
+pub fn drop_waker<R: Wait + Drop>(waker: RowWaker<'_, R>) {
+    drop(waker);
+}
