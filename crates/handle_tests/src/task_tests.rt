@@ -116,15 +116,17 @@ fn a_dropped_cancel_leaves_the_same_word(rt: HostRuntime) {
 // A FallibleTask of the rows.
 type RowFallible<'x, R> = FallibleTask<R, RowFuture, Scheduler, (), Flag, &'x Surroundings<R>>;
 
-// Polls a FallibleTask three times: whether it was pending, then ready with the number 4, and then without an output.
+// Polls a FallibleTask: whether it is pending.
 fn is_fallible_pending<R: Wait + Drop>(task: &mut RowFallible<'_, R>, flag: &Flag) -> bool {
     matches!(task.poll(flag), TaskPoll::Pending)
 }
 
+// Whether it is ready with the number 4.
 fn is_fallible_ready<R: Wait + Drop>(task: &mut RowFallible<'_, R>, flag: &Flag) -> bool {
     is_some_with(&task.poll(flag), 4)
 }
 
+// Whether it is ready without an output.
 fn is_fallible_empty<R: Wait + Drop>(task: &mut RowFallible<'_, R>, flag: &Flag) -> bool {
     matches!(task.poll(flag), TaskPoll::Ready(None))
 }
