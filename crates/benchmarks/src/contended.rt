@@ -21,8 +21,6 @@ pub enum Contention {
     WakeStorm,
     /// It clones the waker and drops the clone.
     CloneDrop,
-    /// It wakes the task, which one more thread runs, by a waker that all threads share.
-    OneWaker,
 }
 
 /// What such a benchmark gave.
@@ -45,35 +43,14 @@ struct Counted {
 }
 
 impl Contention {
-    /// All of them, in the order in which they are printed.
-    pub const ALL: [Contention; 3] = [
-        Contention::WakeStorm,
-        Contention::CloneDrop,
-        Contention::OneWaker,
-    ];
+    /// Both of them, in the order in which they are printed.
+    pub const ALL: [Contention; 2] = [Contention::WakeStorm, Contention::CloneDrop];
 
     /// The name that is printed before the number of threads.
     pub fn name(self) -> &'static str {
         match self {
             Contention::WakeStorm => "f_wake_storm",
             Contention::CloneDrop => "g_clone_drop",
-            Contention::OneWaker => "h_one_waker",
-        }
-    }
-
-    // How many wakers so many threads have.
-    fn wakers(self, threads: u32) -> u32 {
-        match self {
-            Contention::OneWaker => 1,
-            _ => threads,
-        }
-    }
-
-    // Whether the task is run meanwhile.
-    fn runs(self) -> bool {
-        match self {
-            Contention::CloneDrop => false,
-            _ => true,
         }
     }
 
@@ -92,7 +69,7 @@ impl Contention {
         medians_of(alloc, threads, counted.as_slice())
     }
 
-    // One measurement, of a task that is scheduled, whose Runnable makes the wakers of the threads.
+    // One measurement, of a task that is scheduled, whose Runnable makes the waker of each thread.
     fn measure_once<R: Clock + Threads + Wait + Drop + Copy + Send + Sync>(
         self,
         rt: R,
@@ -102,32 +79,27 @@ impl Contention {
         let queue = Queue::new(rt, alloc);
         let (runnable, task) = queue.spawn(Pending)?;
         let mut wakers = Vec::new(alloc);
-        for _ in 0..self.wakers(threads) {
+        for _ in 0..threads {
             wakers.push(runnable.waker().ok_or(AllocError)?)?;
         }
         runnable.schedule();
-        let counted = self.count(rt, &queue, threads, wakers.as_slice());
-        drop(wakers);
+        let counted = self.count(rt, &queue, wakers)?;
         drop(task);
-        counted
+        Ok(counted)
     }
 
-    // The threads are started, work for a time, and end: each has a waker, or all share the first one. The task is run by this thread.
+    // A thread is started for each waker, works for a time, and ends. The task is run by this thread.
     fn count<R: Clock + Threads + Wait + Drop + Copy + Send + Sync>(
         self,
         rt: R,
         queue: &Queue<R, Pending>,
-        threads: u32,
-        wakers: &[QueueWaker<'_, R, Pending>],
+        wakers: Vec<QueueWaker<'_, R, Pending>>,
     ) -> Result<Counted, Failure> {
         let phases = Phases::new();
         let shared = &phases;
         let start = thread::scope(thread::scope_env(), &rt, |scope| {
-            for thread in 0..threads {
-                let Some(waker) = wakers.get(thread as usize).or(wakers.first()) else {
-                    return shared.give_up();
-                };
-                if scope.spawn(move || shared.work(rt, waker, self)).is_err() {
+            for waker in wakers {
+                if scope.spawn(move || shared.work(rt, &waker, self)).is_err() {
                     return shared.give_up();
                 }
             }
@@ -136,7 +108,7 @@ impl Contention {
             }
             let start = Instant::now(&rt).ok();
             shared.start();
-            if self.runs() {
+            if let Contention::WakeStorm = self {
                 shared.run(rt, queue);
             }
             start

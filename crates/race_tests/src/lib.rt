@@ -10,8 +10,6 @@ mod registration_tests;
 #[cfg(test)]
 mod rounds;
 #[cfg(test)]
-mod shared_waker_tests;
-#[cfg(test)]
 mod task_tests;
 #[cfg(test)]
 mod waker_tests;

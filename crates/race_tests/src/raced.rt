@@ -11,7 +11,7 @@ use std::alloc::{AllocError, Global};
 use std::hint::spin_loop;
 use std::mem;
 use std::sync::atomic::{AtomicBool, Ordering};
-use std::sync::{Arc, Mutex, MutexGuard, Wait};
+use std::sync::{Arc, Mutex, Wait};
 
 /// A Runnable of a race.
 pub type RaceRunnable<'x, R> = Runnable<
@@ -197,26 +197,6 @@ impl<R: Wait + Drop> RaceSurroundings<R> {
         if let Some(second) = second {
             self.second_runnables.add_one();
             drop(second.unpark(self));
-        }
-    }
-
-    /// Holds the queue: a schedule value that is called waits in it until the answer is dropped.
-    pub fn hold_queue(&self) -> MutexGuard<'_, Option<RaceParked<R>>> {
-        self.queued.lock(&self.rt)
-    }
-
-    /// How often the schedule values were called.
-    pub fn schedules(&self) -> u64 {
-        self.counters.schedules.get()
-    }
-
-    /// Waits until a schedule value was called.
-    pub fn await_schedule(&self) {
-        for _ in self.rt.forever() {
-            if self.schedules() > 0 {
-                return;
-            }
-            spin_loop();
         }
     }
 

@@ -16,7 +16,7 @@ impl<F, T, A> Fits for AtRest<F, T, A> {
     ghost fits = { λ tag rest. (rest.seat.table_id ≡ tag.table_id) × (rest.seat.me ≡ (tag.view, [])) };
 }
 
-/// The seat of a handle. Threads may share the handle, since nobody steps with this seat before the handle's owner takes it out. It is made and taken apart without an atomic step.
+/// The seat of a handle: nobody steps with it before the handle's owner takes it out. It is made and taken apart without an atomic step.
 pub struct RestingSeat<F, T, A> {
     seat: Counted<AtRest<F, T, A>>,
 }

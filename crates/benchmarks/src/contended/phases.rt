@@ -88,8 +88,8 @@ impl Phases {
                 break;
             }
             match contention {
+                Contention::WakeStorm => wake_often(waker),
                 Contention::CloneDrop => clone_often(waker),
-                _ => wake_often(waker),
             }
             done = done.wrapping_add(BATCH);
         }

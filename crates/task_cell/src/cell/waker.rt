@@ -127,7 +127,7 @@ impl<R: Wait + Drop, F: Yields, Q: Drop, M: Drop, A: Wake, B: Allocator> WakerSe
 
 /// What wakes a task: a future keeps one, a clone of that which its poll is lent, and wakes it once a further poll can help. It holds a reference.
 ///
-/// The waker that a poll is lent holds none, and is taken back when the poll has answered. Threads may use one waker at the same time, and none waits for another.
+/// The waker that a poll is lent holds none, and is taken back when the poll has answered. No call on a waker waits for another thread.
 pub struct TaskWaker<
     R: Wait + Drop,
     F: Yields,
