@@ -137,10 +137,6 @@ module _ {F T A : Type 0} where
   share_goes r us limit p q false (is_refused g) = (_, g)
   share_goes r us limit p q _ (goes_on_to b path w g) = (path, g)
 
-  pub gain_goes : (r : Rest) (us : List Member) (limit : ℕ) (p q : Party F T A) (made : Option (Party F T A)) → Gains limit r us p q made → (path : List Deed) × GoesBeside path r us p q
-  gain_goes r us limit p q None (gains_none path w g) = (path, g)
-  gain_goes r us limit p q (Some d) (gains_one path x w g n) = (path, g)
-
   pub gain_new : (r : Rest) (us : List Member) (limit : ℕ) (p q x : Party F T A) → Gains limit r us p q (Some x) → IsNew as_waker p x
   gain_new r us limit p q x (gains_one path y w g n) = n
 

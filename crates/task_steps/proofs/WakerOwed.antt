@@ -23,6 +23,7 @@ use Rattle.task_steps.specs.declared.table.Member.{Member}
 use Rattle.task_steps.specs.Beside.{may_call, may_change}
 use Rattle.task_steps.specs.WakerScripts.{looking_for_room, gaining, refusing_gain, finding_over, waking_task, woken_word, dropping_waker, closing_orphan}
 use Rattle.task_steps.proofs.Acts.{row_found, both}
+use Rattle.task_steps.proofs.Seen.{true_right}
 use Rattle.task_steps.proofs.Leads.{leads_first, counted}
 use Rattle.task_steps.proofs.Numbers.{same_word}
 use Rattle.task_steps.proofs.Advance.{Finds, stays, takes_awaiter, Steps}
@@ -55,14 +56,10 @@ holds_one limit w slots t c h e = grind arith
 not_emptied : (limit : ℕ) (w : State) (slots : Slots) (t : List Event) (c : Census) → Holds limit w slots t c → 1 ≤ c.wakers → count is_emptying t ≡ 0
 not_emptied limit w slots t c h e = grind (arith, nat_tests)
 
-so_or : (a b : Bool) → b ≡ true → (a || b) ≡ true
-so_or true b e = refl
-so_or false b e = e
-
 -- a wake that finds the task over
 finds_it_over : (r : Rest) (m : Machine) → may_call r ≡ true → is_open m.word ≡ false → may_wake (scene m) r ≡ true
 finds_it_over Waker m call e = refl
-finds_it_over Lent m call e = so_or (is_held m.word) (not (is_open m.word)) (over (is_open m.word) e)
+finds_it_over Lent m call e = true_right (is_held m.word) (not (is_open m.word)) (over (is_open m.word) e)
 finds_it_over Runnable m call e = never call
 finds_it_over Ended m call e = never call
 finds_it_over (Task n) m call e = never call
