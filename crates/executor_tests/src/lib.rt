@@ -2,6 +2,8 @@
 #![tactic(auto)]
 
 #[cfg(test)]
+mod calls;
+#[cfg(test)]
 mod heap_tests;
 #[cfg(test)]
 mod priority_tests;
@@ -11,3 +13,5 @@ mod refusal_tests;
 mod slot_tests;
 #[cfg(test)]
 mod storm_tests;
+#[cfg(test)]
+mod tray;

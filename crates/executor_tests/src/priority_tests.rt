@@ -1,13 +1,14 @@
 //! Tests of the heap of priorities, and of the queue over it.
 
+use crate::calls;
 use async_task::ParkedRunnable;
 use fixtures::counters::Counts;
-use fixtures::executor::{PriorityQueue, PriorityScheduler};
+use fixtures::executor::{PriorityQueue, PriorityRunnable, PriorityScheduler, PriorityTask};
 use fixtures::fixture::Fixture;
 use fixtures::flag::Flag;
 use fixtures::future::{Behaviour, RowFuture};
 use priority_heap::PriorityHeap;
-use std::alloc::AllocError;
+use std::alloc::{AllocError, Global};
 use std::process::Abort;
 use std::sync::Wait;
 use std::test::Fail;
@@ -19,15 +20,53 @@ type Parked<R> = ParkedRunnable<R, RowFuture, PriorityScheduler, u64, Flag>;
 // Room that no memory has.
 const TOO_MUCH: usize = usize::MAX;
 
+// An empty queue with that room. Stops where there is no memory.
+fn queue_of<R: Wait + Abort + Drop + Copy>(fixture: &Fixture<R>, room: usize) -> PriorityQueue<R> {
+    match fixture.priorities(room) {
+        Ok(queue) => queue,
+        Err(_) => panic!(fixture.rt; "no memory"),
+    }
+}
+
+// An empty heap with that room. Stops where there is no memory.
+fn heap_of<R: Wait + Abort + Drop + Copy>(rt: R, alloc: Global, room: usize) -> Heap<R> {
+    match PriorityHeap::new(alloc, room) {
+        Ok(heap) => heap,
+        Err(_) => panic!(rt; "no memory"),
+    }
+}
+
+// Spawns a task of that priority. Stops where there is no memory.
+fn spawn<'x, R: Wait + Abort + Drop + Copy>(
+    fixture: &Fixture<R>,
+    queue: &'x PriorityQueue<R>,
+    priority: u64,
+) -> (PriorityRunnable<'x, R>, PriorityTask<'x, R>) {
+    match fixture.spawn_prior(queue, priority, Behaviour::Ready(priority)) {
+        Ok(handles) => handles,
+        Err(_) => panic!(fixture.rt; "no memory"),
+    }
+}
+
 // A parked Runnable of that priority, whose Task was detached.
-fn parked<R: Wait + Drop + Copy>(
+fn parked<R: Wait + Abort + Drop + Copy>(
     fixture: &Fixture<R>,
     queue: &PriorityQueue<R>,
     priority: u64,
-) -> Result<Parked<R>, AllocError> {
-    let (runnable, task) = fixture.spawn_prior(queue, priority, Behaviour::Ready(priority))?;
+) -> Parked<R> {
+    let (runnable, task) = spawn(fixture, queue, priority);
+    detach(task);
+    runnable.park()
+}
+
+// Detaches a Task.
+fn detach<R: Wait + Drop>(task: PriorityTask<'_, R>) {
     task.detach();
-    Ok(runnable.park())
+}
+
+// Schedules a Runnable.
+fn schedule<R: Wait + Drop>(runnable: PriorityRunnable<'_, R>) {
+    runnable.schedule();
 }
 
 // Drops a parked Runnable: its priority.
@@ -38,107 +77,177 @@ fn discarded<R: Wait + Drop>(parked: Parked<R>) -> u64 {
 }
 
 // Pushes a Runnable of that priority: the priority of the one that is handed back.
-fn push<R: Wait + Drop + Copy>(
+fn push<R: Wait + Abort + Drop + Copy>(
     heap: &mut Heap<R>,
     fixture: &Fixture<R>,
     queue: &PriorityQueue<R>,
     priority: u64,
-) -> Result<Option<u64>, AllocError> {
-    let pushed = heap.push(parked(fixture, queue, priority)?);
-    Ok(pushed.err().map(|refused| discarded(refused)))
+) -> Option<u64> {
+    match heap.push(parked(fixture, queue, priority)) {
+        Ok(()) => None,
+        Err(refused) => Some(discarded(refused)),
+    }
 }
 
 // Takes a Runnable out and drops it: its priority.
 fn pop<R: Wait + Drop>(heap: &mut Heap<R>) -> Option<u64> {
-    heap.pop().map(|parked| discarded(parked))
+    match heap.pop() {
+        Some(parked) => Some(discarded(parked)),
+        None => None,
+    }
+}
+
+// Whether there is no heap with that room.
+fn refuses_heap<R: Wait + Drop>(_rt: R, alloc: Global, room: usize) -> bool {
+    let made: Result<Heap<R>, AllocError> = PriorityHeap::new(alloc, room);
+    made.is_err()
+}
+
+// Whether there is no queue with that room.
+fn refuses_queue<R: Wait + Drop>(rt: R, alloc: Global, room: usize) -> bool {
+    PriorityQueue::new(rt, alloc, room).is_err()
 }
 
 #[test]
-fn new_is_refused_for_memory(rt: HostRuntime) -> Result<(), Fail> {
-    assert!(rt;
-        PriorityHeap::<HostRuntime, RowFuture, PriorityScheduler, Flag>::new(
-            rt.alloc(),
-            TOO_MUCH
-        ).is_err()
-    );
-    assert!(rt; PriorityQueue::new(rt, rt.alloc(), TOO_MUCH).is_err());
-    Ok(())
+fn new_is_refused_for_memory(rt: HostRuntime) {
+    let refused = [
+        refuses_heap(rt, rt.alloc(), TOO_MUCH),
+        refuses_queue(rt, rt.alloc(), TOO_MUCH),
+    ];
+    assert_eq!(rt; refused, [true; 2]);
 }
 
-// The priorities are those of a linear congruential generator (Knuth's), by their upper digits so that some are alike.
-#[test]
-fn a_thousand_come_out_in_order(rt: HostRuntime) -> Result<(), Fail> {
-    let fixture = Fixture::new(rt, rt.alloc())?;
-    let queue = fixture.priorities(0)?;
-    let mut heap = PriorityHeap::new(rt.alloc(), 1000)?;
-    let mut expected = Vec::with_capacity(rt.alloc(), 1000)?;
+// So many priorities, which are those of a linear congruential generator (Knuth's), by their upper digits so that some are alike.
+fn priorities(alloc: Global, count: u32) -> Result<Vec<u64>, AllocError> {
+    let mut priorities = Vec::new(alloc);
     let mut state = 1u64;
-    for _ in 0..1000u32 {
+    for _ in 0..count {
         state = state
             .wrapping_mul(6364136223846793005)
             .wrapping_add(1442695040888963407);
-        let priority = state >> 55;
-        expected.push(priority)?;
-        assert_eq!(rt; push(&mut heap, &fixture, &queue, priority)?, None);
+        priorities.push(state >> 55)?;
     }
-    expected.sort_unstable();
-    while let Some(priority) = expected.pop() {
-        assert_eq!(rt; pop(&mut heap), Some(priority));
+    Ok(priorities)
+}
+
+// Pushes Runnables of these priorities: how many were not handed back.
+fn push_all<R: Wait + Abort + Drop + Copy>(
+    heap: &mut Heap<R>,
+    fixture: &Fixture<R>,
+    queue: &PriorityQueue<R>,
+    priorities: &[u64],
+) -> u64 {
+    let mut kept = 0u64;
+    for priority in priorities {
+        if push(heap, fixture, queue, *priority).is_none() {
+            kept = kept.wrapping_add(1);
+        }
     }
-    assert_eq!(rt; pop(&mut heap), None);
-    assert_eq!(rt; fixture.counts(), Counts::new(0, 0, 1000, 1000));
-    Ok(())
+    kept
+}
+
+// Takes as many Runnables out as there are priorities: how many had the priority at their place, from the last to the first.
+fn pop_all<R: Wait + Drop>(heap: &mut Heap<R>, priorities: &[u64]) -> u64 {
+    let mut right = 0u64;
+    for priority in priorities.iter().rev() {
+        if pop(heap) == Some(*priority) {
+            right = right.wrapping_add(1);
+        }
+    }
+    right
+}
+
+// Pushes Runnables of these priorities, sorts the priorities and takes all out: how many were not handed back, how many came
+// out in order, and what came out at last.
+fn push_and_pop<R: Wait + Abort + Drop + Copy>(
+    fixture: &Fixture<R>,
+    alloc: Global,
+    priorities: &mut [u64],
+) -> (u64, u64, Option<u64>) {
+    let queue = queue_of(fixture, 0);
+    let mut heap = heap_of(fixture.rt, alloc, priorities.len());
+    let kept = push_all(&mut heap, fixture, &queue, priorities);
+    priorities.sort_unstable();
+    let right = pop_all(&mut heap, priorities);
+    (kept, right, pop(&mut heap))
 }
 
 #[test]
-fn a_full_heap_hands_back_and_stays(rt: HostRuntime) -> Result<(), Fail> {
-    let fixture = Fixture::new(rt, rt.alloc())?;
-    let queue = fixture.priorities(0)?;
-    let mut heap = PriorityHeap::new(rt.alloc(), 2)?;
-    let pushed = [
-        push(&mut heap, &fixture, &queue, 1),
-        push(&mut heap, &fixture, &queue, 2),
-        push(&mut heap, &fixture, &queue, 3),
-    ];
+fn a_thousand_come_out_in_order(rt: HostRuntime) -> Result<(), Fail> {
+    let mut priorities = priorities(rt.alloc(), 1000)?;
+    let fixture = calls::fixture(rt, rt.alloc());
+    let seen = push_and_pop(&fixture, rt.alloc(), priorities.as_mut_slice());
+    assert_eq!(rt;
+        (seen, fixture.counts()),
+        ((1000, 1000, None), Counts::new(0, 0, 1000, 1000))
+    );
+    Ok(())
+}
+
+// What a heap with room for two handed back of five Runnables, and what came out of it after the third and at last.
+fn fill_heap_of_two<R: Wait + Abort + Drop + Copy>(
+    rt: R,
+    alloc: Global,
+) -> ([Option<u64>; 5], [Option<u64>; 4]) {
+    let fixture = calls::fixture(rt, alloc);
+    let queue = queue_of(&fixture, 0);
+    let mut heap = heap_of(rt, alloc, 2);
+    let first = push(&mut heap, &fixture, &queue, 1);
+    let second = push(&mut heap, &fixture, &queue, 2);
+    let third = push(&mut heap, &fixture, &queue, 3);
     let largest = pop(&mut heap);
-    let pushed_again = [
-        push(&mut heap, &fixture, &queue, 0),
-        push(&mut heap, &fixture, &queue, 4),
-    ];
-    let popped = [pop(&mut heap), pop(&mut heap), pop(&mut heap)];
-    assert_eq!(rt; pushed, [Ok(None), Ok(None), Ok(Some(3))]);
-    assert_eq!(rt; pushed_again, [Ok(None), Ok(Some(4))]);
-    assert_eq!(rt; (largest, popped), (Some(2), [Some(1), Some(0), None]));
-    Ok(())
+    let fourth = push(&mut heap, &fixture, &queue, 0);
+    let fifth = push(&mut heap, &fixture, &queue, 4);
+    let next = pop(&mut heap);
+    let least = pop(&mut heap);
+    let none = pop(&mut heap);
+    (
+        [first, second, third, fourth, fifth],
+        [largest, next, least, none],
+    )
 }
 
 #[test]
-fn a_heap_without_room_hands_back(rt: HostRuntime) -> Result<(), Fail> {
-    let fixture = Fixture::new(rt, rt.alloc())?;
-    let queue = fixture.priorities(0)?;
-    let mut heap = PriorityHeap::new(rt.alloc(), 0)?;
+fn a_full_heap_hands_back_and_stays(rt: HostRuntime) {
+    let (pushed, popped) = fill_heap_of_two(rt, rt.alloc());
+    assert_eq!(rt; pushed, [None, None, Some(3), None, Some(4)]);
+    assert_eq!(rt; popped, [Some(2), Some(1), Some(0), None]);
+}
+
+// What came out of a heap without room before a Runnable was pushed and after it, and what was handed back.
+fn push_without_room<R: Wait + Abort + Drop + Copy>(rt: R, alloc: Global) -> [Option<u64>; 3] {
+    let fixture = calls::fixture(rt, alloc);
+    let queue = queue_of(&fixture, 0);
+    let mut heap = heap_of(rt, alloc, 0);
     let before = pop(&mut heap);
     let pushed = push(&mut heap, &fixture, &queue, 1);
-    let after = pop(&mut heap);
-    assert_eq!(rt; (before, pushed, after), (None, Ok(Some(1)), None));
-    Ok(())
+    [before, pushed, pop(&mut heap)]
 }
 
 #[test]
-fn what_is_left_in_the_queue_is_cancelled_with_it(rt: HostRuntime) -> Result<(), Fail> {
-    let fixture = Fixture::new(rt, rt.alloc())?;
-    let queue = fixture.priorities(2)?;
-    let (first_runnable, first) = fixture.spawn_prior(&queue, 1, Behaviour::Ready(1))?;
-    let (second_runnable, second) = fixture.spawn_prior(&queue, 2, Behaviour::Ready(2))?;
-    first_runnable.schedule();
-    second_runnable.schedule();
-    first.detach();
-    second.detach();
-    let queued = fixture.counts();
-    drop(queue);
+fn a_heap_without_room_hands_back(rt: HostRuntime) {
+    let seen = push_without_room(rt, rt.alloc());
+    assert_eq!(rt; seen, [None, Some(1), None]);
+}
+
+// Schedules the Runnables of two tasks and detaches their Tasks, and drops the queue: what was counted before its drop.
+fn leave_in_queue<R: Wait + Abort + Drop + Copy>(fixture: &Fixture<R>) -> Counts {
+    let queue = queue_of(fixture, 2);
+    let (first_runnable, first) = spawn(fixture, &queue, 1);
+    let (second_runnable, second) = spawn(fixture, &queue, 2);
+    schedule(first_runnable);
+    schedule(second_runnable);
+    detach(first);
+    detach(second);
+    fixture.counts()
+}
+
+#[test]
+fn what_is_left_in_the_queue_is_cancelled_with_it(rt: HostRuntime) {
+    let fixture = calls::fixture(rt, rt.alloc());
+    let queued = leave_in_queue(&fixture);
     assert_eq!(rt;
         [queued, fixture.counts()],
         [Counts::new(0, 2, 0, 0), Counts::new(0, 2, 2, 2)]
     );
-    Ok(())
 }

@@ -6,12 +6,11 @@ use async_task::{
     WithInfo, Yields,
 };
 use fixtures::flag::Flag;
-use std::alloc::{AllocError, Global};
+use std::alloc::Global;
 use std::collections::VecDeque;
 use std::mem;
 use std::process::Abort;
 use std::sync::{Mutex, Wait};
-use std::test::Fail;
 
 // A future that wakes its task at each poll, and always answers pending.
 #[derive(Drop)]
@@ -135,34 +134,51 @@ impl<'x, R: Wait + Drop> Schedule<SlotRunnable<'x, R>> for LastFirst {
     }
 }
 
-// Spawns a task with that metadata, and schedules its Runnable.
-fn spawn_scheduled<R: Wait + Drop + Copy>(
+// Spawns a task with that metadata, and schedules its Runnable. Stops where there is no memory.
+fn spawn_scheduled<R: Wait + Abort + Drop + Copy>(
     rt: R,
     alloc: Global,
     slots: &Slots<R>,
     number: u64,
-) -> Result<SlotTask<'_, R>, AllocError> {
+) -> SlotTask<'_, R> {
     let schedule = WithInfo::from(LastFirst);
-    let (runnable, task) = Builder::new()
+    let spawned = Builder::new()
         .metadata(number)
-        .spawn(rt, alloc, |_| Yielding, schedule, slots)
-        .map_err(|_| AllocError)?;
+        .spawn(rt, alloc, |_| Yielding, schedule, slots);
+    let Ok((runnable, task)) = spawned else {
+        panic!(rt; "no memory");
+    };
     runnable.schedule();
-    Ok(task)
+    task
 }
 
-#[test]
-fn the_last_runnable_stands_in_the_slot(rt: HostRuntime) -> Result<(), Fail> {
-    let slots = Slots::new(rt, rt.alloc());
-    let first = spawn_scheduled(rt, rt.alloc(), &slots, 1)?;
-    let second = spawn_scheduled(rt, rt.alloc(), &slots, 2)?;
-    let third = spawn_scheduled(rt, rt.alloc(), &slots, 3)?;
+// Drops a Task.
+fn drop_task<R: Wait + Drop>(task: SlotTask<'_, R>) {
+    drop(task);
+}
+
+// Schedules three tasks and runs the last one: its metadata and what the run answered; and whether the list was right before
+// the run, the slot was empty after it, and the list was right then.
+fn run_last_of_three<R: Wait + Abort + Drop + Copy>(
+    rt: R,
+    alloc: Global,
+) -> (Option<(u64, bool)>, [bool; 3]) {
+    let slots = Slots::new(rt, alloc);
+    let first = spawn_scheduled(rt, alloc, &slots, 1);
+    let second = spawn_scheduled(rt, alloc, &slots, 2);
+    let third = spawn_scheduled(rt, alloc, &slots, 3);
     let listed = slots.list_is(&[1, 2]);
     let ran = slots.run_last();
     let is_empty = slots.take().is_none();
     let listed_last = slots.list_is(&[1, 2, 3]);
-    drop((first, second, third));
-    assert_eq!(rt; ran, Some((3, true)));
-    assert!(rt; listed && is_empty && listed_last);
-    Ok(())
+    drop_task(first);
+    drop_task(second);
+    drop_task(third);
+    (ran, [listed, is_empty, listed_last])
+}
+
+#[test]
+fn the_last_runnable_stands_in_the_slot(rt: HostRuntime) {
+    let seen = run_last_of_three(rt, rt.alloc());
+    assert_eq!(rt; seen, (Some((3, true)), [true; 3]));
 }

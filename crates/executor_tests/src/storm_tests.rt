@@ -1,12 +1,12 @@
 //! A test of wakes by four threads while a fifth one runs the task.
 
+use crate::calls;
 use fixtures::counters::{Counter, Counts};
 use fixtures::fixture::Fixture;
 use fixtures::future::Behaviour;
 use fixtures::surroundings::{RowRunnable, RowWaker};
 use std::process::Abort;
 use std::sync::Wait;
-use std::test::Fail;
 use std::thread;
 use std::thread::{Threads, yield_now};
 
@@ -59,20 +59,35 @@ fn storm<'x, R: Wait + Threads + Drop + Copy + Send + Sync>(
     })
 }
 
-// Each Runnable that a wake hands over is polled once, and no two polls overlap.
-#[test]
-fn four_threads_wake_one_task(rt: HostRuntime) -> Result<(), Fail> {
-    let fixture = Fixture::new(rt, rt.alloc())?;
-    let (runnable, task) = fixture.spawn(Behaviour::Pending)?;
+// Spawns a task that four threads wake: whether all of them came and the last run was made, and what was counted before the Task was dropped.
+fn wake_by_four<R: Wait + Threads + Abort + Drop + Copy + Send + Sync>(
+    fixture: &Fixture<R>,
+) -> (bool, Counts) {
+    let Ok((runnable, task)) = fixture.spawn(Behaviour::Pending) else {
+        panic!(fixture.rt; "no memory");
+    };
     let ended = Counter::new();
-    let all_ended = storm(&rt, &fixture, &ended, runnable);
+    let all_ended = storm(&fixture.rt, fixture, &ended, runnable);
     let idle = fixture.counts();
     drop(task);
+    (all_ended, idle)
+}
+
+// Each Runnable that a wake hands over is polled once, and no two polls overlap.
+#[test]
+fn four_threads_wake_one_task(rt: HostRuntime) {
+    let fixture = calls::fixture(rt, rt.alloc());
+    let (all_ended, idle) = wake_by_four(&fixture);
     let ran = fixture.surroundings.run_next();
+    let overlaps = fixture.overlaps();
+    let last = fixture.counts();
     let polls = idle.polls;
-    assert_eq!(rt; (all_ended, ran), (true, Some(false)));
-    assert_eq!(rt; fixture.overlaps(), 0);
-    assert_eq!(rt; idle, Counts::new(polls, polls.wrapping_sub(1), 0, 0));
-    assert_eq!(rt; fixture.counts(), Counts::new(polls, polls, 1, 1));
-    Ok(())
+    assert_eq!(rt; (all_ended, ran, overlaps), (true, Some(false), 0));
+    assert_eq!(rt;
+        [idle, last],
+        [
+            Counts::new(polls, polls.wrapping_sub(1), 0, 0),
+            Counts::new(polls, polls, 1, 1)
+        ]
+    );
 }

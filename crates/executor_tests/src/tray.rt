@@ -1,0 +1,275 @@
+//! Tasks whose memory is of a heap, their surroundings, and calls of their handles that answer plain data.
+ghost use Rattle.std.specs.Prelude.{⊤};
+ghost use Rattle.fixtures.specs.Behaviour.{IsPolled};
+
+use crate::calls;
+use async_task::{
+    Builder, Future, ParkedRunnable, Poll, Runnable, Schedule, ScheduleInfo, Task, TaskWaker,
+    Yields,
+};
+use fixtures::counters::{Counters, Counts};
+use fixtures::flag::Flag;
+use fixtures::future::{Behaviour, Output, RowFuture};
+use fixtures::surroundings::Scheduler;
+use linked_list_allocator::LocalHeap;
+use std::alloc::Global;
+use std::mem;
+use std::process::Abort;
+use std::sync::{Arc, Mutex, Wait};
+
+/// Surroundings that hold one Runnable, parked: room that was there before any task.
+pub struct Tray<'heap, R: Wait + Drop> {
+    rt: R,
+    held: Mutex<Option<TrayParked<'heap, R>>>,
+}
+
+/// A Runnable of a task whose memory is of a heap.
+pub type TrayRunnable<'x, 'heap, R> = Runnable<
+    R,
+    TrayFuture,
+    TrayScheduler,
+    u64,
+    Flag,
+    &'x Tray<'heap, R>,
+    &'heap LocalHeap,
+>;
+
+/// A Task of such a task.
+pub type TrayTask<'x, 'heap, R> = Task<
+    R,
+    TrayFuture,
+    TrayScheduler,
+    u64,
+    Flag,
+    &'x Tray<'heap, R>,
+    &'heap LocalHeap,
+>;
+
+/// A waker of such a task.
+pub type TrayWaker<'x, 'heap, R> = TaskWaker<
+    R,
+    TrayFuture,
+    TrayScheduler,
+    u64,
+    Flag,
+    &'x Tray<'heap, R>,
+    &'heap LocalHeap,
+>;
+
+type TrayParked<'heap, R> = ParkedRunnable<
+    R,
+    TrayFuture,
+    TrayScheduler,
+    u64,
+    Flag,
+    &'heap LocalHeap,
+>;
+
+type TrayHandles<'x, 'heap, R> = (TrayRunnable<'x, 'heap, R>, TrayTask<'x, 'heap, R>);
+
+impl<'heap, R: Wait + Drop> Tray<'heap, R> {
+    /// An empty tray.
+    pub fn new(rt: R) -> Tray<'heap, R> {
+        Tray {
+            rt,
+            held: Mutex::new(None),
+        }
+    }
+
+    // Puts a Runnable on the tray, and drops the one that lay there.
+    fn put(&self, parked: TrayParked<'heap, R>) {
+        let previous = {
+            let mut held = self.held.lock(&self.rt);
+            mem::replace(&mut *held, Some(parked))
+        };
+        if let Some(previous) = previous {
+            drop(previous.unpark(()));
+        }
+    }
+
+    // Takes the Runnable off the tray.
+    fn receive(&self) -> Option<TrayRunnable<'_, 'heap, R>> {
+        let parked = self.held.lock(&self.rt).take()?;
+        Some(parked.unpark(self))
+    }
+
+    /// Takes the Runnable off the tray and runs it: what the run answers, or `None` where the tray is empty.
+    pub fn run_next(&self) -> Option<bool> {
+        Some(run(self.receive()?))
+    }
+
+    /// Takes the Runnable off the tray and drops it.
+    pub fn clear(&self) {
+        if let Some(runnable) = self.receive() {
+            drop_runnable(runnable);
+        }
+    }
+}
+
+// A parked handle cannot be dropped: one that is left is unparked first.
+impl<'heap, R: Wait + Drop> Drop for Tray<'heap, R> {
+    fn drop(self) {
+        let Tray { rt, held } = self;
+        if let Some(parked) = held.into_inner() {
+            drop(parked.unpark(()));
+        }
+        drop(rt);
+    }
+}
+
+/// The schedule value: it counts as that of the rows does, and puts each Runnable on the tray.
+#[derive(Drop)]
+pub struct TrayScheduler {
+    inner: Scheduler,
+}
+
+impl<'x, 'heap, R: Wait + Drop> Schedule<TrayRunnable<'x, 'heap, R>> for TrayScheduler {
+    ghost scheduled = { λ _ _ _. ⊤ };
+
+    fn schedule(&self, runnable: TrayRunnable<'x, 'heap, R>, _info: ScheduleInfo) {
+        self.inner.count_call();
+        runnable.around().put(runnable.park());
+    }
+}
+
+/// The future of such a task: one of the rows, which does nothing but answer.
+#[derive(Drop)]
+pub struct TrayFuture {
+    inner: RowFuture,
+}
+
+impl Yields for TrayFuture {
+    type Output = Output;
+}
+
+impl<'x, 'heap, R: Wait + Drop> Future<TrayWaker<'x, 'heap, R>> for TrayFuture {
+    ghost polled = { λ old _ answer new. IsPolled old.inner.behaviour answer new.inner.behaviour };
+
+    fn poll(&mut self, _waker: &TrayWaker<'x, 'heap, R>) -> Poll<Output> {
+        self.inner.answer_alone()
+    }
+}
+
+/// Room for a task, and more.
+pub const HEAP: usize = 4096;
+
+/// What fills a heap.
+pub type Filling<'heap> = Vec<Vec<u8, &'heap LocalHeap>>;
+
+/// Takes what is left of a heap: whatever is asked of it afterwards is refused.
+pub fn fill<R: Abort + Drop + Copy>(rt: R, alloc: Global, heap: &LocalHeap) -> Filling<'_> {
+    let mut filling = Vec::new(alloc);
+    for _ in 0..HEAP {
+        let Ok(block) = Vec::with_capacity(heap, 1) else {
+            return filling;
+        };
+        if filling.push(block).is_err() {
+            panic!(rt; "no memory");
+        }
+    }
+    panic!(rt; "the heap is larger than it was made")
+}
+
+/// Spawns a task in a heap, with metadata 7 and a future that behaves like that. Stops where it is refused.
+pub fn spawn_in<'x, 'heap, R: Wait + Abort + Drop + Copy>(
+    heap: &'heap LocalHeap,
+    tray: &'x Tray<'heap, R>,
+    counters: &Arc<Counters>,
+    behaviour: Behaviour,
+) -> TrayHandles<'x, 'heap, R> {
+    let future = TrayFuture {
+        inner: RowFuture::new(behaviour, calls::share(tray.rt, counters)),
+    };
+    let scheduler = TrayScheduler {
+        inner: Scheduler::new(calls::share(tray.rt, counters)),
+    };
+    let spawned = Builder::new()
+        .metadata(7)
+        .spawn(tray.rt, heap, |_| future, scheduler, tray);
+    match spawned {
+        Ok(handles) => handles,
+        Err(_) => panic!(tray.rt; "a spawn was refused"),
+    }
+}
+
+/// Runs: what the run answers.
+pub fn run<R: Wait + Drop>(runnable: TrayRunnable<'_, '_, R>) -> bool {
+    runnable.run()
+}
+
+/// Schedules a Runnable, and takes it off the tray again.
+pub fn reschedule<'x, 'heap, R: Wait + Abort + Drop + Copy>(
+    tray: &'x Tray<'heap, R>,
+    runnable: TrayRunnable<'x, 'heap, R>,
+) -> TrayRunnable<'x, 'heap, R> {
+    runnable.schedule();
+    match tray.receive() {
+        Some(received) => received,
+        None => panic!(tray.rt; "nothing was scheduled"),
+    }
+}
+
+/// Discards a Runnable: its metadata.
+pub fn discard_runnable<R: Wait + Drop>(runnable: TrayRunnable<'_, '_, R>) -> u64 {
+    let metadata = *runnable.metadata();
+    runnable.discard();
+    metadata
+}
+
+/// Drops a Runnable.
+pub fn drop_runnable<R: Wait + Drop>(runnable: TrayRunnable<'_, '_, R>) {
+    drop(runnable);
+}
+
+/// Whether the task of a Task is finished, and its metadata.
+pub fn finished<R: Wait + Drop>(task: &mut TrayTask<'_, '_, R>) -> (bool, u64) {
+    (task.is_finished(), *task.metadata())
+}
+
+/// Detaches a Task: what is counted then.
+pub fn detach<R: Wait + Drop>(task: TrayTask<'_, '_, R>, counters: &Counters) -> Counts {
+    task.detach();
+    counters.counts()
+}
+
+/// Drops a Task.
+pub fn drop_task<R: Wait + Drop>(task: TrayTask<'_, '_, R>) {
+    drop(task);
+}
+
+/// A waker of a Runnable. Stops where it is refused.
+pub fn waker_of<'x, 'heap, R: Wait + Abort + Drop + Copy>(
+    rt: R,
+    runnable: &TrayRunnable<'x, 'heap, R>,
+) -> TrayWaker<'x, 'heap, R> {
+    match runnable.waker() {
+        Some(waker) => waker,
+        None => panic!(rt; "a waker was refused"),
+    }
+}
+
+/// A clone of a waker. Stops where it is refused.
+pub fn clone_of<'x, 'heap, R: Wait + Abort + Drop + Copy>(
+    rt: R,
+    waker: &TrayWaker<'x, 'heap, R>,
+) -> TrayWaker<'x, 'heap, R> {
+    match waker.clone() {
+        Some(clone) => clone,
+        None => panic!(rt; "a clone of a waker was refused"),
+    }
+}
+
+/// Wakes by value.
+pub fn wake<R: Wait + Drop>(waker: TrayWaker<'_, '_, R>) {
+    waker.wake();
+}
+
+/// Wakes by reference.
+pub fn wake_by_ref<R: Wait + Drop>(waker: &TrayWaker<'_, '_, R>) {
+    waker.wake_by_ref();
+}
+
+/// Discards a waker.
+pub fn discard_waker<R: Wait + Drop>(waker: TrayWaker<'_, '_, R>) {
+    waker.discard();
+}
