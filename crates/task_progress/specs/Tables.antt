@@ -73,11 +73,12 @@ pub record Progresses (table : Table) : Type 0 where
   pub bounded : AreBoundedBy table left each
   pub may_step : EachHasAct table
 
--- A state that the machine reaches, and n steps more by the table: all are of one party, and no call begins or ends by them.
+-- A state that the machine reaches, and the table too, and n steps more by the table: all are of one party, and no call begins or ends by them.
 pub record GoesOn (table : Table) (limit n : ℕ) : Type 0 where
   pub steps : List Step
   pub before : Machine
   pub reached : run limit steps ≡ Some before
+  pub reached_by : run_by table limit steps ≡ Some before
   pub party : ℕ
   pub acts : List Act
   pub now : Machine
