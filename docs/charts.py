@@ -1,12 +1,13 @@
 #!/usr/bin/env python3
 """Draws word.svg and handshake.svg from the table of moves. With --check it only compares them with the table.
 
-The definitions are read from the specs/ of crates/task_core and crates/task_laws and evaluated as they stand there. All that is stated here is where
-each state of the word stands in a picture.
+In both cases it compares the table of steps left in MACHINE.md with the definitions. These are read from the specs/ of crates/task_core, crates/task_laws
+and crates/task_progress and evaluated as they stand there. All that is stated here is where each state of the word stands in a picture.
 """
 
 import argparse
 import functools
+import itertools
 import math
 import operator
 import pathlib
@@ -15,7 +16,8 @@ import sys
 
 DOCUMENTS = pathlib.Path(__file__).resolve().parent
 CRATES = DOCUMENTS.parent / "crates"
-FILES = ("task_core/specs/Word", "task_core/specs/Rows", "task_laws/specs/Position", "task_laws/specs/Table", "task_laws/specs/Machine")
+POSITION = "task_laws/specs/Position"
+FILES = ("task_core/specs/Word", "task_core/specs/Rows", POSITION, "task_laws/specs/Table", "task_laws/specs/Machine", "task_progress/specs/StepsLeft")
 TOKEN = re.compile(r"0x[0-9a-fA-F_]+|\d+|\w+|\[\]|&&|\|\||\+\+|\S")
 PRECEDENCE = {"||": 1, "&&": 2, "∷": 3, "++": 3, "+": 4, "-": 4, "*": 5, "/": 5, "%": 5, "^": 6}
 PRIMITIVES = {
@@ -33,6 +35,9 @@ PRIMITIVES = {
 }
 # the limit for references, and how many polls the Task begins; limit 3 and 3 polls give the same arrows
 LIMIT, POLLS = 2, 2
+# the heads of the two tables of steps left, and the variables there of which no number depends
+POSITIONS, WAYS = "| Position | Steps left | Writes left |", "| `way` | Steps on the way | Steps off it | Writes on the way | Writes off it |"
+UNUSED = {"woken": False, "answer": 0, "i": 0, "n": 0}
 # sizes: a box, a letter and a line of text, how far opposite arrows bend, and the arrow to the start
 BOX, LETTER, LINE, BEND, MARK = (136, 84), 8.4, 17, 24, 36
 INK, OPEN, OVER = "#333333", "#dcebfa", "#e6e6e6"
@@ -159,9 +164,9 @@ class Definitions:
         for text in texts:
             # what stands below a `where` are items of their own
             text = re.sub(r"\n  where((?:\n    .*)*)", lambda local: local[1].replace("\n    ", "\n"), re.sub(r"--.*", "", text))
-            # an item goes on until a line begins with a letter; types and imports are no equations
+            # an item goes on until a line begins with a letter; types, imports and claims are no equations
             for item in re.findall(r"^\w.*(?:\n(?!\w).*)*", text, re.MULTILINE):
-                if not re.match(r"(use|pub|abbrev) |\w+ : ", item):
+                if not re.match(r"(use|pub|abbrev) |\w+ : ", item) and "→" not in item:
                     name, patterns, body = Parser(item).equation()
                     self.equations.setdefault(name, []).append((patterns, body))
 
@@ -411,11 +416,50 @@ class Drawing:
             yield f'<text x="{x:.1f}" y="{y:.1f}" {style}>{line}</text>'
 
 
-def pictures():
+def rows_of(page, head):
+    """The cells of each row of the table of the page that has this head."""
+    lines = itertools.takewhile(lambda line: line.startswith("|"), page[page.index(head):].splitlines()[2:])
+    return [line.strip("| ").split(" | ") for line in lines]
+
+
+def agrees(definitions, kind, name, terms, way, numbers):
+    """Whether a sum of the table is what the definition comes to, on this way, with an awaiter in hand and without."""
+    for awaiters, hand in enumerate((("None",), ("Some", 1))):
+        position = definitions.evaluate(Parser(name).expression(), {**UNUSED, "way": way, "hand": hand})
+        values = {"hand": awaiters, "on": numbers[f"{kind}_on"], "off": numbers[f"{kind}_off"]}
+        number = sum(values[term] if term in values else int(term) for term in terms.split(" + "))
+        if definitions(f"{kind}_left", position) != number:
+            return False
+    return True
+
+
+def misstated(definitions, places):
+    """What the tables of steps left in MACHINE.md tell otherwise than the definitions, or do not tell of these positions and ways."""
+    page, ways = (DOCUMENTS / "MACHINE.md").read_text(encoding="utf-8"), {}
+    for names, *numbers in rows_of(page, WAYS):
+        for way in re.findall(r"`(\w+)[^`]*`", names):
+            ways[way, 0] = dict(zip(("steps_on", "steps_off", "writes_on", "writes_off"), map(int, numbers)))
+    told = {way[0] for way in ways}
+    for way, numbers in ways.items():
+        yield from (f"{name} of {way[0]}" for name, number in numbers.items() if definitions(name, way) != number)
+    for names, *columns in rows_of(page, POSITIONS):
+        names = re.findall(r"`([^`]*)`", names)
+        told.update(name.split()[0] for name in names)
+        for kind, column in zip(("steps", "writes"), columns):
+            sums = column.split(", ")
+            for name, terms in zip(names, sums if len(sums) > 1 else sums * len(names), strict=True):
+                if not all(agrees(definitions, kind, name, terms, *way) for way in ways.items()):
+                    yield f"{kind}_left of {name}"
+    yield from (f"{place} is missing" for place in sorted(set(places) - told))
+
+
+def variants(text, name):
+    """The constructors of this name that a file imports."""
+    return re.search(rf"\b{name}\.TheVariants\.\{{([^}}]*)\}}", text).group(1).split(", ")
+
+
+def pictures(definitions, acts):
     """The text of each picture. Ends the program where a place has no state, a state no place, or a picture a fault."""
-    texts = [(CRATES / f"{name}.antt").read_text(encoding="utf-8") for name in FILES]
-    definitions = Definitions(texts)
-    acts = re.search(r"Act\.TheVariants\.\{([^}]*)\}", texts[FILES.index("task_laws/specs/Position")]).group(1).split(", ")
     exploration = Exploration(definitions, acts)
     print(f"{len(exploration.seen)} states of the machine")
     for name, (flags, size, places) in PICTURES.items():
@@ -430,11 +474,16 @@ def pictures():
 
 
 def main():
-    """Writes the pictures, or compares them."""
+    """Writes the pictures, or compares them; compares the table of steps left."""
     arguments = argparse.ArgumentParser(description="Draws the charts of the word from the table of moves.")
     arguments.add_argument("--check", action="store_true", help="compare the charts, and write nothing")
     check, differs = arguments.parse_args().check, False
-    for path, text in list(pictures()):
+    texts = [(CRATES / f"{name}.antt").read_text(encoding="utf-8") for name in FILES]
+    definitions, names = Definitions(texts), texts[FILES.index(POSITION)]
+    for fault in misstated(definitions, variants(names, "Position") + variants(names, "Way")):
+        differs = True
+        print(f"MACHINE.md differs from the definitions: {fault}")
+    for path, text in list(pictures(definitions, variants(names, "Act"))):
         if not check:
             path.write_text(text, encoding="utf-8")
         elif not path.exists() or path.read_text(encoding="utf-8") != text:

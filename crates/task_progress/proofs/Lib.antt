@@ -14,5 +14,6 @@ pub mod ComesToRest
 pub mod Seen
 pub mod SeenRows
 pub mod TaskSaw
+pub mod Tables
 mod WorkedAttempts
 mod WorkedRest

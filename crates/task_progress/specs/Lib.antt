@@ -4,3 +4,4 @@ pub mod Attempts
 pub mod Waiting
 pub mod Ending
 pub mod AtRest
+pub mod Tables

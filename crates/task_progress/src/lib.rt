@@ -8,6 +8,8 @@ ghost use Rattle.task_progress.specs.Waiting.{NoCallWaits, WhatTaskSawStays};
 ghost use Rattle.task_progress.specs.Ending.{AllCallsEnd, EachEndsAlone, NeverStuck};
 ghost use Rattle.task_progress.specs.AtRest.{AllComeToRest, DueWakesArePolled, DueWakesStay, WithoutWorkAtRest};
 ghost use Rattle.task_progress.specs.AtRest.{ClosedLeadsToRest, ClosedMakesNoRunnable, RunsLeadToRest};
+ghost use Rattle.task_progress.specs.Tables.{LooksAgain, Progresses, WaitsForNotifier};
+ghost use Rattle.task_laws.specs.Table.{rule};
 
 /// What holds of every interleaving of the machine of moves, for every limit and any number of parties:
 ///
@@ -42,4 +44,15 @@ pub fn progress()
     ensures closed_makes_none { ClosedMakesNoRunnable }
     ensures closed_leads_to_rest { ClosedLeadsToRest }
     ensures at_rest { WithoutWorkAtRest }
+{}
+
+/// Two tables of moves that differ from the machine's own in one row do not progress, as the machine's own does (`own`):
+///
+/// - Where a notifier that misses looks again (`looks_again`), one call makes any number of steps while all others stand still.
+/// - Where a poll waits for a notifier in place of giving its registration up (`waits`), a party in a call has no act while that notifier stands still.
+///   The laws hold all the same.
+pub fn wrong_tables()
+    ensures own { Progresses rule }
+    ensures looks_again { LooksAgain }
+    ensures waits { WaitsForNotifier }
 {}

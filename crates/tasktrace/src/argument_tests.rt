@@ -35,7 +35,10 @@ const CHANGED: &str =
 const ALL: &str =
     "| 1 | 0 start-run | 0x112 | RUNNING TASK | 1 | party 0 | empty | empty | 0 Starting, 1 At(Task(0)), 2 At(Lent) |\n";
 
-const USAGE: &str = "usage: tasktrace [--all | --help]\n";
+const PROGRESS: &str =
+    "| 1 | 0 start-run | 0x112 | RUNNING TASK | 1 | party 0 | empty | empty | 0 Starting (13 left, may start-poll), 1 At(Task(0)), 2 At(Lent) |\n";
+
+const USAGE: &str = "usage: tasktrace [--all | --progress | --help]\n";
 
 // The status, and what is printed on `out` and `err`.
 fn answered(alloc: Global, args: &[&str]) -> Result<(u8, Vec<u8>, Vec<u8>), Fail> {
@@ -57,7 +60,11 @@ fn answered(alloc: Global, args: &[&str]) -> Result<(u8, Vec<u8>, Vec<u8>), Fail
 
 #[test]
 fn each_argument_asks_for_its_rows(rt: HostRuntime) -> Result<(), Fail> {
-    let cases: [(&[&str], &str); 2] = [(&[], CHANGED), (&["--all"], ALL)];
+    let cases: [(&[&str], &str); 3] = [
+        (&[], CHANGED),
+        (&["--all"], ALL),
+        (&["--progress"], PROGRESS),
+    ];
     for (args, row) in cases {
         let (status, out, err) = answered(rt.alloc(), args)?;
         let wanted = format!(in rt.alloc(); "{HEAD}{row}")?;
@@ -69,8 +76,10 @@ fn each_argument_asks_for_its_rows(rt: HostRuntime) -> Result<(), Fail> {
 
 #[test]
 fn other_arguments_are_told_the_usage(rt: HostRuntime) -> Result<(), Fail> {
-    let cases: [&[&str]; 5] = [
+    let cases: [&[&str]; 7] = [
         &["--al"],
+        &["--progres"],
+        &["--all", "--progress"],
         &["all"],
         &["steps.txt"],
         &["--all", "--all"],
@@ -101,6 +110,7 @@ fn the_help_lists_what_may_be_written(rt: HostRuntime) -> Result<(), Fail> {
     let text = String::from_utf8(out)?;
     for word in [
         "    --all ",
+        "    --progress ",
         "    --help ",
         "`limit N`",
         "`PARTY ACT`",
@@ -114,12 +124,20 @@ fn the_help_lists_what_may_be_written(rt: HostRuntime) -> Result<(), Fail> {
 #[test]
 fn a_request_is_read_from_the_arguments(rt: HostRuntime) -> Result<(), Fail> {
     let all = [String::from_str(rt.alloc(), "--all")?];
+    let progress = [String::from_str(rt.alloc(), "--progress")?];
     let help = [String::from_str(rt.alloc(), "--help")?];
     let other = [String::from_str(rt.alloc(), "-h")?];
-    let seen = [asked(&[]), asked(&all), asked(&help), asked(&other)];
+    let seen = [
+        asked(&[]),
+        asked(&all),
+        asked(&progress),
+        asked(&help),
+        asked(&other),
+    ];
     let expected = [
         Some(Request::Trace(Shown::Changed)),
         Some(Request::Trace(Shown::All)),
+        Some(Request::Trace(Shown::Progress)),
         Some(Request::Help),
         None,
     ];

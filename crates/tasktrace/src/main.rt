@@ -11,6 +11,8 @@ mod argument_tests;
 #[cfg(test)]
 mod line_tests;
 #[cfg(test)]
+mod progress_tests;
+#[cfg(test)]
 mod trace_tests;
 
 fn main(rt: HostRuntime) -> io::Result<ExitCode> {

@@ -1,5 +1,5 @@
 -- What the arguments of the program ask for.
-use Rattle.std.specs.Prelude.{◌≡◌, ℕ, List, [], ◌∷◌, String, string_bytes, codes, ⊤}
+use Rattle.std.specs.Prelude.{◌≡◌, ◌⊎◌, ℕ, List, [], ◌∷◌, String, string_bytes, codes, ⊤}
 use Rattle.std.specs.declared.alloc.Global.{Global}
 
 -- the arguments are this one word
@@ -12,11 +12,15 @@ IsWord text (word ∷ (other ∷ more)) = ⊥
 abbrev pub AskForAll : List (String Global) → Type 0
 AskForAll = IsWord (codes "--all")
 
+-- .. for how far each party is in its call beside it
+abbrev pub AskForProgress : List (String Global) → Type 0
+AskForProgress = IsWord (codes "--progress")
+
 -- .. for what may be written
 abbrev pub AskForHelp : List (String Global) → Type 0
 AskForHelp = IsWord (codes "--help")
 
--- the arguments ask for a trace: there are none, or the one for each party
+-- the arguments ask for a trace: there are none, or one of the two for each party
 abbrev pub AskForTrace : List (String Global) → Type 0
 AskForTrace [] = ⊤
-AskForTrace (word ∷ more) = AskForAll (word ∷ more)
+AskForTrace (word ∷ more) = AskForAll (word ∷ more) ⊎ AskForProgress (word ∷ more)

@@ -1,8 +1,8 @@
 //! What the arguments of the program ask for.
 ghost use Rattle.std.specs.Prelude.{◌≡◌, ◌≤◌, ◌↔◌, [], Some, IfOk};
-ghost use Rattle.trace_table.specs.Arguments.{AskForAll, AskForHelp, AskForTrace};
+ghost use Rattle.trace_table.specs.Arguments.{AskForAll, AskForHelp, AskForProgress, AskForTrace};
 ghost use Rattle.trace_table.specs.declared.arguments.Request.TheVariants.{Help, Trace};
-ghost use Rattle.trace_table.specs.declared.row.Shown.TheVariants.{Changed, All};
+ghost use Rattle.trace_table.specs.declared.row.Shown.TheVariants.{Changed, All, Progress};
 
 use crate::names::{ACTS, name};
 use crate::row::Shown;
@@ -19,13 +19,14 @@ pub enum Request {
     Trace(Shown),
 }
 
-const USAGE: &str = "usage: tasktrace [--all | --help]";
+const USAGE: &str = "usage: tasktrace [--all | --progress | --help]";
 
 const HELP: &str = "
 Plays the steps that it reads from standard input, and prints a row of a table for each.
 
-    --all     each row shows all parties that have not ended, and not only those that stand otherwise than before
-    --help    this text
+    --all       each row shows all parties that have not ended, and not only those that stand otherwise than before
+    --progress  the same, and of each party in a call how many steps it has left at most, and an act that it may make now
+    --help      this text
 
 The first line is `limit N`: up to N references wakers are gained. Each other line is a step, `PARTY ACT`.
 The Runnable of the spawn is party 0, the Task party 1, and party 2 the waker that is lent to each call by reference.
@@ -60,11 +61,13 @@ pub fn answer<R: io::BufRead + Drop, W: io::Write, E: io::Write>(
 pub fn asked(args: &[String]) -> Option<Request>
     ensures changed { (result ≡ Some (Trace Changed)) ↔ (args.now ≡ []) }
     ensures all { (result ≡ Some (Trace All)) ↔ AskForAll args.now }
+    ensures progress { (result ≡ Some (Trace Progress)) ↔ AskForProgress args.now }
     ensures help { (result ≡ Some Help) ↔ AskForHelp args.now }
 {
     match args {
         [] => Some(Request::Trace(Shown::Changed)),
         [word] if word.as_str() == "--all" => Some(Request::Trace(Shown::All)),
+        [word] if word.as_str() == "--progress" => Some(Request::Trace(Shown::Progress)),
         [word] if word.as_str() == "--help" => Some(Request::Help),
         _ => None,
     }

@@ -6,6 +6,7 @@ mod holders;
 pub mod line;
 pub mod names;
 pub mod nearest;
+pub mod progress;
 mod reason;
 pub mod row;
 pub mod trace;

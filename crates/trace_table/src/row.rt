@@ -2,6 +2,7 @@
 
 use crate::holders::{Slot, held_by};
 use crate::names::name;
+use crate::progress::{next_act, steps_left};
 use std::alloc::Global;
 use std::{fmt, io};
 use task_core::word::{
@@ -30,6 +31,8 @@ pub enum Shown {
     Changed,
     /// All that have not ended.
     All,
+    /// The same, and of each in a call how many steps it has left at most, and an act that it may make now.
+    Progress,
 }
 
 /// Prints the names of the columns.
@@ -68,6 +71,7 @@ pub fn print_row<W: io::Write>(
     match shown {
         Shown::Changed => print_changed(machine, step.party, before, out)?,
         Shown::All => print_all(machine, out)?,
+        Shown::Progress => print_progress(player, out)?,
     }
     writeln!(out, " |")
 }
@@ -133,6 +137,27 @@ fn print_all<W: io::Write>(machine: &Machine<Global>, out: &mut W) -> io::Result
             None | Some(Position::At(Rest::Ended)) => {}
             Some(position) => {
                 write!(out, "{mark} {party} {position:?}")?;
+                mark = ",";
+            }
+        }
+    }
+    Ok(())
+}
+
+// The same, and of each in a call how many steps it has left at most, and an act that it may make now.
+fn print_progress<W: io::Write>(player: &Player<Global>, out: &mut W) -> io::Result<()> {
+    let machine = player.machine();
+    let mut mark = "";
+    for party in 0..machine.parties() as u64 {
+        match machine.position(party) {
+            None | Some(Position::At(Rest::Ended)) => {}
+            Some(position) => {
+                write!(out, "{mark} {party} {position:?}")?;
+                if let Some(act) = next_act(player, party) {
+                    let left = steps_left(position);
+                    let act = name(act);
+                    write!(out, " ({left} left, may {act})")?;
+                }
                 mark = ",";
             }
         }
