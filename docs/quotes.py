@@ -1,6 +1,6 @@
 #!/usr/bin/env python3
-"""quotes.py --check compares the code blocks of README.md and docs/GUIDE.md with the files that they are quoted from.
-quotes.py FOLDER writes the files below FOLDER as a reader who types the blocks in would, to try them in another repository.
+"""quotes.py --check compares the code blocks of README.md and docs/GUIDE.md with the files that they are quoted from, and looks for the tests that
+docs/API.md names. quotes.py FOLDER writes the files below FOLDER as a reader who types the blocks in would, to try them in another repository.
 
 A block between fences is quoted from the file that the last path in backticks before it names. All blocks of a file, in their order, with a blank line
 between two, are the whole file. Of crates.txt a block is some lines.
@@ -31,10 +31,21 @@ def agrees(path, typed):
     return set(typed.split("\n")) <= set(text.split("\n")) if path == "crates.txt" else typed == text
 
 
+def lost_tests():
+    """The names in the last column of a table of API.md that are no test."""
+    texts = [path.read_text(encoding="utf-8") for path in (HERE / "crates").glob("*/src/**/*.rt")]
+    tests = {name for text in texts for name in re.findall(r"#\[test\]\s+fn (\w+)", text)}
+    lines = (HERE / "docs/API.md").read_text(encoding="utf-8").splitlines()
+    last = [line.split(" | ")[-1] for line in lines if line.startswith("| ")]
+    return [name for cell in last for name in re.findall(r"`(\w+)`", cell) if name not in tests]
+
+
 def main():
     if len(sys.argv) != 2 or sys.argv[1] in ("-h", "--help"):
         sys.exit(__doc__)
-    different = False
+    different = bool(lost_tests())
+    for name in lost_tests():
+        print(f"docs/API.md: no test has the name {name}")
     for page in ("README.md", "docs/GUIDE.md"):
         for path, typed in blocks_of(page).items():
             if sys.argv[1] != "--check":
