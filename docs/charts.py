@@ -1,8 +1,9 @@
 #!/usr/bin/env python3
-"""Draws word.svg and handshake.svg from the table of moves. With --check it only compares them with the table.
+"""Draws word.svg, handshake.svg and life.svg from the table of moves. With --check it only compares them with the table.
 
 In both cases it compares the table of steps left in MACHINE.md with the definitions. These are read from the specs/ of crates/task_core, crates/task_laws
-and crates/task_progress and evaluated as they stand there. All that is stated here is where each state of the word stands in a picture.
+and crates/task_progress and evaluated as they stand there. All that is stated here is where each state of the word stands in a picture, and who steps in a
+life of a task, and how.
 """
 
 import argparse
@@ -17,9 +18,54 @@ import sys
 DOCUMENTS = pathlib.Path(__file__).resolve().parent
 CRATES = DOCUMENTS.parent / "crates"
 POSITION = "task_laws/specs/Position"
-FILES = ("task_core/specs/Word", "task_core/specs/Rows", POSITION, "task_laws/specs/Table", "task_laws/specs/Machine", "task_progress/specs/StepsLeft")
+FILES = (
+    "task_core/specs/Word", "task_core/specs/Rows", POSITION, "task_laws/specs/Table", "task_laws/specs/Machine",
+    "task_laws/specs/Theorem", "task_progress/specs/StepsLeft", "task_progress/specs/Waiting",
+)
 TOKEN = re.compile(r"0x[0-9a-fA-F_]+|\d+|\w+|\[\]|&&|\|\||\+\+|\S")
 PRECEDENCE = {"||": 1, "&&": 2, "∷": 3, "++": 3, "+": 4, "-": 4, "*": 5, "/": 5, "%": 5, "^": 6}
+
+# the life that is drawn: what happens, and which party makes which acts
+LIFE = (
+    ("A spawn makes a Runnable and a Task. Party 2 stands for the wakers that calls have by a reference.", ()),
+    ("A run polls the future, which clones the waker that it is lent, and answers Pending.", (
+        (0, "StartRun StartPoll"), (2, "GainReference EndCall"), (0, "AnswerPending EndIdle EndCall"),
+    )),
+    ("A poll of the Task stores an awaiter, and answers Pending.", (
+        (1, "Look CloneAwaiter BeginRegister StoreAwaiter EndRegister Look EndCall"),
+    )),
+    ("The waker wakes the task: a Runnable is made, and handed to the schedule value.", ((3, "WakeIdle EndCall"), (4, "HandOver EndCall"))),
+    ("The run of this Runnable polls the future, which answers Ready. At its end it wakes the awaiter.", (
+        (5, "StartRun StartPoll AnswerReady DropFuture StoreOutput Complete BeginNotify TakeAwaiter EndNotify GiveUpReference WakeAwaiter EndCall"),
+    )),
+    ("A second poll of the Task claims the output.", ((1, "ClaimOutput HandOutOutput EndCall"),)),
+)
+# of this picture the width, the column of each party, the height of a row, and half the size of the box with a party's name
+WIDTH, COLUMNS, ROW, HEAD = 1450, {0: 340, 2: 525, 3: 710, 4: 895, 5: 1080, 1: 1275}, 24, (56, 17)
+
+
+def chain_of(items, end=("[]",)):
+    """The list of these elements, which goes on with the end."""
+    return ("∷", items[0], chain_of(items[1:], end)) if items else end
+
+
+def items_of(chain):
+    """The elements of a list."""
+    return [chain[1]] + items_of(chain[2]) if chain[0] == "∷" else []
+
+
+def element(chain, place):
+    """The element at this place, if there is one."""
+    items = items_of(chain)
+    return ("Some", items[place]) if place < len(items) else ("None",)
+
+
+def replaced(chain, place, item):
+    """The list with another element at this place."""
+    items = items_of(chain)
+    return chain_of(items[:place] + [item] + items[place + 1:])
+
+
 PRIMITIVES = {
     "||": operator.or_,
     "&&": operator.and_,
@@ -32,6 +78,9 @@ PRIMITIVES = {
     "nat_lt": operator.lt,
     "nat_le": operator.le,
     "nat_eq": operator.eq,
+    "++": lambda left, right: chain_of(items_of(left), right),
+    "slice_get": element,
+    "slice_set": replaced,
 }
 # the limit for references, and how many polls the Task begins; limit 3 and 3 polls give the same arrows
 LIMIT, POLLS = 2, 2
@@ -39,30 +88,33 @@ LIMIT, POLLS = 2, 2
 POSITIONS, WAYS = "| Position | Steps left | Writes left |", "| `way` | Steps on the way | Steps off it | Writes on the way | Writes off it |"
 UNUSED = {"woken": False, "answer": 0, "i": 0, "n": 0}
 # sizes: a box, a letter and a line of text, how far opposite arrows bend, and the arrow to the start
-BOX, LETTER, LINE, BEND, MARK = (136, 84), 8.4, 17, 24, 36
+BOX, LETTER, LINE, BEND, MARK = (136, 96), 8.4, 17, 24, 36
 INK, OPEN, OVER = "#333333", "#dcebfa", "#e6e6e6"
-# for each picture the flags, the size, and the middle of each state's box
+# who makes a step, with the colour of its name
+RUNNER, TASK, WAKER = "a Runnable or its run", "the Task", "a waker"
+COLORS = {RUNNER: "#a63a00", TASK: "#1d4fc4", WAKER: "#117a3a"}
+# for each picture the flags, the name of the state without any, the size, and the middle of each state's box
 PICTURES = {
-    "word.svg": (("scheduled", "running", "completed", "closed"), (1290, 860), {
+    "word.svg": (("scheduled", "running", "completed", "closed"), "idle", (1400, 920), {
         "SCHEDULED": (130, 100),
-        "RUNNING": (580, 230),
-        "SCHEDULED RUNNING": (1160, 100),
-        "": (300, 310),
-        "COMPLETED": (870, 310),
+        "RUNNING": (560, 260),
+        "SCHEDULED RUNNING": (1300, 260),
+        "": (280, 350),
+        "COMPLETED": (930, 380),
         "SCHEDULED CLOSED": (130, 640),
-        "RUNNING CLOSED": (580, 580),
-        "SCHEDULED RUNNING CLOSED": (1210, 780),
-        "CLOSED": (460, 780),
-        "COMPLETED CLOSED": (930, 580),
+        "RUNNING CLOSED": (560, 640),
+        "SCHEDULED RUNNING CLOSED": (1300, 640),
+        "CLOSED": (560, 810),
+        "COMPLETED CLOSED": (930, 640),
     }),
-    "handshake.svg": (("awaiter", "registering", "notifying"), (1290, 560), {
-        "": (380, 400),
-        "NOTIFYING": (80, 400),
-        "REGISTERING": (620, 60),
-        "AWAITER": (890, 180),
-        "AWAITER REGISTERING": (1210, 180),
-        "AWAITER NOTIFYING": (700, 380),
-        "AWAITER REGISTERING NOTIFYING": (1210, 500),
+    "handshake.svg": (("awaiter", "registering", "notifying"), "none", (1220, 640), {
+        "": (420, 340),
+        "NOTIFYING": (90, 340),
+        "REGISTERING": (250, 80),
+        "AWAITER": (740, 80),
+        "AWAITER REGISTERING": (1130, 80),
+        "AWAITER NOTIFYING": (740, 340),
+        "AWAITER REGISTERING NOTIFYING": (1130, 500),
     }),
 }
 
@@ -166,7 +218,8 @@ class Definitions:
             text = re.sub(r"\n  where((?:\n    .*)*)", lambda local: local[1].replace("\n    ", "\n"), re.sub(r"--.*", "", text))
             # an item goes on until a line begins with a letter; types, imports and claims are no equations
             for item in re.findall(r"^\w.*(?:\n(?!\w).*)*", text, re.MULTILINE):
-                if not re.match(r"(use|pub|abbrev) |\w+ : ", item) and "→" not in item:
+                # nor are statements, which nothing here asks for
+                if not re.match(r"(use|pub|abbrev) |\w+ : ", item) and not re.search("[→≡]", item):
                     name, patterns, body = Parser(item).equation()
                     self.equations.setdefault(name, []).append((patterns, body))
 
@@ -230,13 +283,15 @@ class Definitions:
         return functools.partial(self, name) if has_arguments else self(name)
 
 
-def items_of(chain):
-    """The elements of a list."""
-    return [chain[1]] + items_of(chain[2]) if chain[0] == "∷" else []
+def role(definitions, position):
+    """Who stands at a position."""
+    if definitions("is_task", position):
+        return TASK
+    return WAKER if definitions("is_waker", position) or position[-1] in (("Lent",), "OrphanHolder") else RUNNER
 
 
 class Exploration:
-    """The states that the machine can reach, and for each step of them the act, the word before and the word after."""
+    """The states that the machine can reach, and for each step of them the act, who makes it, the word before and the word after."""
 
     def __init__(self, definitions, acts):
         """Explores breadth first from the opening state."""
@@ -277,7 +332,7 @@ class Exploration:
             left = self.outcome(scene, act, party)
             if left is None or ("Polls", POLLS + 1) in items_of(left["told"]):
                 continue
-            self.steps.add((act, word, left["word"]))
+            self.steps.add((act, role(self.definitions, party), word, left["word"]))
             others = list(parties)
             others.remove(party)
             after = self.settled(left["word"], left["slots"], others + [left["next"]] + items_of(left["born"]))
@@ -288,22 +343,31 @@ class Exploration:
 
 
 class Chart:
-    """The states of the word by some of its flags, and for each pair of states the rows from one to the other."""
+    """The states of the word by some of its flags, and for each pair of states the rows from one to the other, each with who makes it."""
 
     def __init__(self, definitions, steps, flags):
         """Takes states and arrows from the steps of the machine. A state goes by the names of its flags."""
         self.flags, self.start = flags, self.state(definitions("opening_word"), flags)
         self.numbers, open_states, arrows = {}, set(), {}
-        for act, *words in sorted(steps):
+        for act, who, *words in sorted(steps):
             before, after = (self.state(word, flags) for word in words)
             for state, word in zip((before, after), words):
                 alone = tuple((field, field in flags and value) for field, value in word)
                 self.numbers[state] = definitions("number_of", alone)
                 open_states.update([state] if definitions("is_open", word) else [])
             if before != after:
-                arrows.setdefault((before, after), set()).add(act)
-        self.arrows = {pair: sorted(arrows[pair]) for pair in sorted(arrows)}
+                arrows.setdefault((before, after), {}).setdefault(act, set()).add(who)
+        self.arrows = {pair: sorted(arrows[pair].items()) for pair in sorted(arrows)}
         self.over = set(self.numbers) - open_states
+
+    def owners(self, definitions, exploration):
+        """Who has the awaiter's slot, for each state in which somebody has it always, but for the last party of all, which empties it."""
+        found = {}
+        for word, _, parties in exploration.seen:
+            having = [party for party in parties if definitions("owns_awaiter", party) and party[0] != "Emptier"]
+            names = ["a notifier" if party[0] in ("Taker", "Releaser") else role(definitions, party) for party in having]
+            found.setdefault(self.state(word, self.flags), set()).add(" ".join(names))
+        return {state: f"slot: {owners.pop()}" for state, owners in found.items() if len(owners) == 1 and owners != {""}}
 
     @staticmethod
     def state(word, flags):
@@ -330,18 +394,53 @@ def between(curve, first, last):
     return tuple(weights[0] * start + weights[1] * bend + weights[2] * end for start, bend, end in zip(*curve))
 
 
+def opened(size, title, description):
+    """The first lines of a picture."""
+    yield f'<svg xmlns="http://www.w3.org/2000/svg" width="{size[0]}" height="{size[1]}" viewBox="0 0 {size[0]} {size[1]}">'
+    yield f"<title>{title}</title>"
+    yield f"<desc>{description}</desc>"
+    yield f'<rect width="{size[0]}" height="{size[1]}" fill="white"/>'
+
+
+def written(place, text, color=INK, family="sans-serif", anchor="start", weight="normal", size=14):
+    """A line of text at a place of its base line."""
+    style = f'font-family="{family}" font-size="{size}" font-weight="{weight}" text-anchor="{anchor}" fill="{color}"'
+    return f'<text x="{place[0]:.1f}" y="{place[1]:.1f}" {style}>{text}</text>'
+
+
+def arrow(start, bend, end, color=INK):
+    """The curve of an arrow, and its head."""
+    length = math.dist(bend, end)
+    along, across = (end[0] - bend[0]) / length, (end[1] - bend[1]) / length
+    corners = [(end[0] - 11 * along + side * across, end[1] - 11 * across - side * along) for side in (4.5, -4.5)]
+    first, control, last, left, right = (f"{x:.1f} {y:.1f}" for x, y in (start, bend, end, *corners))
+    yield f'<path d="M {first} Q {control} {last}" fill="none" stroke="{color}" stroke-width="1.4"/>'
+    yield f'<path d="M {last} L {left} L {right} Z" fill="{color}"/>'
+
+
+def block(area, lines, fill, family="sans-serif"):
+    """Lines of text, each with its colour, in a rectangle, which has a border where it is a box."""
+    left, top, right, bottom = area
+    size = f'x="{left:.1f}" y="{top:.1f}" width="{right - left:.1f}" height="{bottom - top:.1f}"'
+    border = "" if fill == "white" else f' rx="10" stroke="{INK}"'
+    yield f'<rect {size} fill="{fill}"{border}/>'
+    for place, (line, color) in enumerate(lines):
+        middle = (left + right) / 2, (top + bottom) / 2 + (place - len(lines) / 2 + 0.77) * LINE
+        yield written(middle, line, color, family, "middle")
+
+
 class Drawing:
     """A chart as a picture: a box for each state, an arrow from box to box, and its label in the middle of it."""
 
-    def __init__(self, chart, size, places):
-        """Finds the way of each arrow and the rectangle of each label."""
-        self.chart, self.size = chart, size
+    def __init__(self, chart, empty, notes, size, places):
+        """Finds the way of each arrow and the rectangle of each label. The state without flags has a name, and a state may have a note."""
+        self.chart, self.empty, self.notes, self.size = chart, empty, notes, size
         self.boxes = {state: around(place, *BOX) for state, place in places.items()}
         self.mark = around((places[chart.start][0], places[chart.start][1] - BOX[1] / 2 - MARK / 2 - 1), 12, MARK)
         self.curves, self.labels = {}, {}
         for (source, target), rows in chart.arrows.items():
             curve = self.curve(places[source], places[target], (target, source) in chart.arrows)
-            size = max(map(len, rows)) * LETTER + 8, len(rows) * LINE + 4
+            size = max(len(act) for act, _ in rows) * LETTER + 8, len(rows) * LINE + 4
             self.curves[source, target], self.labels[source, target] = curve, around(between(curve, 0.5, 0.5), *size)
 
     def curve(self, start, end, has_opposite):
@@ -363,57 +462,147 @@ class Drawing:
         named += [(f"the label of {pair}", label) for pair, label in self.labels.items()]
         for place, (name, area) in enumerate(named):
             yield from (f"{name} covers {other}" for other, covered in named[:place] if overlap(area, covered))
-            if area[0] < 0 or area[1] < 0 or area[2] > self.size[0] or area[3] > self.size[1]:
-                yield f"{name} is not in the picture"
+            if area[0] < 0 or area[1] < 0 or area[2] > self.size[0] or area[3] > self.size[1] - 3 * LINE:
+                yield f"{name} is not in the picture, or covers its legend"
             for pair, curve in self.curves.items():
-                points = (between(curve, step / 200, step / 200) for step in range(1, 200))
-                if area != self.labels[pair] and any(overlap(2 * point, area) for point in points):
+                points = [between(curve, step / 200, step / 200) for step in range(1, 200)]
+                covered = sum(overlap(2 * point, area) for point in points)
+                if covered and area != self.labels[pair]:
                     yield f"the arrow of {pair} crosses {name}"
+                elif covered > 150:
+                    yield f"{name} covers most of its arrow"
 
     def text(self):
         """The picture."""
-        width, height = self.size
         names = ", ".join(flag.upper() for flag in self.chart.flags)
-        lines = [
-            f'<svg xmlns="http://www.w3.org/2000/svg" width="{width}" height="{height}" viewBox="0 0 {width} {height}">',
-            f"<title>The states of the word by {names}</title>",
-            f'<rect width="{width}" height="{height}" fill="white"/>',
-        ]
+        arrows = "; ".join(f"{self.name(a)} to {self.name(b)} by {', '.join(act for act, _ in rows)}" for (a, b), rows in self.chart.arrows.items())
+        lines = list(opened(self.size, f"The states of the word by {names}", f"The task starts in {self.name(self.chart.start)}. {arrows}."))
         start, end = (self.mark[0] + 6, self.mark[1] + 6), (self.mark[0] + 6, self.mark[3])
         lines.append(f'<circle cx="{start[0]:.1f}" cy="{start[1]:.1f}" r="6" fill="{INK}"/>')
         for curve in [(start, start, end), *self.curves.values()]:
-            lines += self.arrow(*curve)
+            lines += arrow(*curve)
         for pair, label in self.labels.items():
-            lines += self.written(label, self.chart.arrows[pair], "white", "monospace")
+            rows = [(act, COLORS[min(makers)] if len(makers) == 1 else INK) for act, makers in self.chart.arrows[pair]]
+            lines += block(label, rows, "white", "monospace")
         for state, box in self.boxes.items():
-            color = OVER if state in self.chart.over else OPEN
-            content = (state.split() or ["none"]) + [f"0x{self.chart.numbers[state]:02X}"]
-            lines += self.written(box, content, color, "sans-serif")
-        legend = around((170, height - 12), 0, 0)
-        lines += self.written(legend, ["blue: the task may be open; grey: it is over"], "white", "sans-serif")
-        return "\n".join(lines + ["</svg>", ""])
+            content = [self.empty] if not state else state.split()
+            content += [f"0x{self.chart.numbers[state]:02X}"] + ([self.notes[state]] if state in self.notes else [])
+            lines += block(box, [(line, INK) for line in content], OVER if state in self.chart.over else OPEN)
+        return "\n".join([*lines, *self.legend(), "</svg>", ""])
+
+    def name(self, state):
+        """A state in words."""
+        return state or self.empty
+
+    def legend(self):
+        """What boxes, dot and colours mean."""
+        height, place = self.size[1], 20
+        slot = " Slot: who has the slot of the awaiter." if self.notes else ""
+        yield written((place, height - 32), f"Blue box: the task may be open. Grey box: it is over. Dot: the word after a spawn.{slot}")
+        for who, color in [("The step is made by", INK), *COLORS.items(), ("one of several.", INK)]:
+            yield written((place, height - 12), who, color)
+            place += 7.6 * len(who) + 20
+
+
+class Life:
+    """A life of a task, played on the machine: a column for each party, a row for each step, and at the left each new word."""
+
+    def __init__(self, definitions):
+        """Plays the steps. Ends the program where the machine does not allow one."""
+        self.definitions, self.machine = definitions, dict(definitions("opening", LIMIT))
+        self.height, self.tops, self.calls, self.ends, self.told = 0, {}, {}, {}, []
+        # what lies below, as the columns, and what is written over it
+        self.below, self.above = [], []
+        for title, turns in LIFE:
+            self.height += 2 * ROW
+            self.below.append(f'<path d="M 12 {self.height - 20} H {WIDTH - 12}" stroke="{OVER}"/>')
+            self.above += block((12, self.height - 16, 12 + 8.4 * len(title), self.height + 6), [], "white")
+            self.above.append(written((12, self.height), title, weight="bold"))
+            if not self.tops:
+                self.height += ROW + 4
+                self.enter(self.parties())
+                self.show_word()
+            for party, acts in turns:
+                for act in acts.split():
+                    self.step(party, act)
+        for party, top in self.tops.items():
+            # the line of a party that has not ended goes on to the end of the picture
+            end = self.ends.get(party, self.height + ROW)
+            self.below.insert(0, f'<path d="M {COLUMNS[party]} {top} V {end}" stroke="{INK}"/>')
+
+    def parties(self):
+        """Where the parties stand."""
+        return items_of(self.machine["parties"])
+
+    def enter(self, positions):
+        """The columns of new parties begin, each with a name."""
+        for party, position in enumerate(positions, len(self.tops)):
+            name, place = position[1][0] if position[0] == "At" else position[0], COLUMNS[party]
+            name = {"Lent": "lent waker", "Waker": "waker", "Deliverer": "deliverer"}.get(name, name)
+            area = place - HEAD[0], self.height - HEAD[1], place + HEAD[0], self.height + HEAD[1]
+            self.above += block(area, [(name, INK), (f"party {party}", INK)], OPEN)
+            self.tops[party] = self.height
+            if position[0] != "At":
+                self.calls[party] = self.height
+
+    def show_word(self):
+        """The word, with its flags."""
+        number = self.definitions("number_of", self.machine["word"])
+        flags = " ".join(name.upper() for name, value in self.machine["word"] if value is True)
+        self.above.append(written((12, self.height + 5), f"0x{number:03X} {flags}", family="monospace", size=12))
+
+    def step(self, party, act):
+        """One step: a dot in the column of its party, and an arrow to a party that it adds, or whose awaiter it wakes."""
+        before, position = self.machine, self.parties()[party]
+        after = self.definitions("step", tuple(before.items()), (("party", party), ("act", (act,))))
+        if after[0] == "None":
+            sys.exit(f"life.svg: party {party} may not make {act}")
+        self.machine = dict(after[1])
+        events = items_of(self.machine["trace"])[:-len(items_of(before["trace"]))]
+        added = self.parties()[len(self.tops):]
+        target = COLUMNS[len(self.tops)] - HEAD[0] if added else COLUMNS[1] - 7 if any(event[0] == "Woken" for event in events) else None
+        # above an arrow there is room for the name of the step, and below the name of a party
+        self.height += ROW + 10 * (target is not None)
+        self.told.append(f"{party} {act}")
+        if position[0] == "At":
+            self.calls[party] = self.height
+        writes, color = self.machine["word"] != before["word"], COLORS[role(self.definitions, position)]
+        self.show_step(COLUMNS[party], self.name(act, events), writes, color, target)
+        if writes:
+            self.show_word()
+        self.enter(added)
+        if act == "EndCall":
+            self.end_call(party)
+        self.height += 6 * len(added)
 
     @staticmethod
-    def arrow(start, bend, end):
-        """The curve of an arrow, and its head."""
-        length = math.dist(bend, end)
-        along, across = (end[0] - bend[0]) / length, (end[1] - bend[1]) / length
-        corners = [(end[0] - 11 * along + side * across, end[1] - 11 * across - side * along) for side in (4.5, -4.5)]
-        first, control, last, left, right = (f"{x:.1f} {y:.1f}" for x, y in (start, bend, end, *corners))
-        yield f'<path d="M {first} Q {control} {last}" fill="none" stroke="{INK}" stroke-width="1.4"/>'
-        yield f'<path d="M {last} L {left} L {right} Z" fill="{INK}"/>'
+    def name(act, events):
+        """The name of a step. The last one of a call tells what the call answers."""
+        answers = [event[-1] for event in events if event[0] in ("CallEnds", "PollEnds") and event[-1] != ("Nothing",)]
+        parts = [str(part).lower() if isinstance(part, bool) else part for answer in answers for part in answer]
+        return f"{act}: {' '.join(parts)}" if parts else act
 
-    @staticmethod
-    def written(area, lines, color, family):
-        """Lines of text in a rectangle, which has a border where it is a box."""
-        left, top, right, bottom = area
-        size = f'x="{left:.1f}" y="{top:.1f}" width="{right - left:.1f}" height="{bottom - top:.1f}"'
-        border = "" if color == "white" else f' rx="10" stroke="{INK}"'
-        yield f'<rect {size} fill="{color}"{border}/>'
-        for place, line in enumerate(lines):
-            x, y = (left + right) / 2, (top + bottom) / 2 + (place - len(lines) / 2 + 0.77) * LINE
-            style = f'font-family="{family}" font-size="14" text-anchor="middle"'
-            yield f'<text x="{x:.1f}" y="{y:.1f}" {style}>{line}</text>'
+    def show_step(self, place, name, writes, color, target):
+        """The dot of a step, which is filled where the step writes the word, its name, and an arrow."""
+        fill = color if writes else "white"
+        self.above.append(f'<circle cx="{place}" cy="{self.height}" r="5" fill="{fill}" stroke="{color}" stroke-width="1.6"/>')
+        self.above.append(written((place + 12, self.height + (5 if target is None else -6)), name, color))
+        if target is not None:
+            self.above += arrow((place + 6, self.height), ((place + target) / 2, self.height), (target, self.height), color)
+
+    def end_call(self, party):
+        """The bar of a call, from its first step to its last."""
+        top = self.calls.pop(party)
+        self.below.append(f'<rect x="{COLUMNS[party] - 8}" y="{top}" width="16" height="{self.height - top}" rx="6" fill="{OVER}"/>')
+        if self.parties()[party] == ("At", ("Ended",)):
+            self.ends[party] = self.height
+
+    def text(self):
+        """The picture."""
+        size = WIDTH, self.height + 3 * ROW
+        legend = "Dot: a step, filled where it writes the word, which stands at the left with its flags. Bar: a call. A column ends with its party."
+        lines = opened(size, "A life of a task, step by step", f"Each party with its step, in order: {', '.join(self.told)}.")
+        return "\n".join([*lines, *self.below, *self.above, written((12, size[1] - 14), legend), "</svg>", ""])
 
 
 def rows_of(page, head):
@@ -460,13 +649,18 @@ def variants(text, name):
 
 def pictures(definitions, acts):
     """The text of each picture. Ends the program where a place has no state, a state no place, or a picture a fault."""
+    texts = [(CRATES / f"{name}.antt").read_text(encoding="utf-8") for name in FILES]
+    definitions = Definitions(texts)
+    yield DOCUMENTS / "life.svg", Life(definitions).text()
+    acts = re.search(r"Act\.TheVariants\.\{([^}]*)\}", texts[FILES.index("task_laws/specs/Position")]).group(1).split(", ")
     exploration = Exploration(definitions, acts)
     print(f"{len(exploration.seen)} states of the machine")
-    for name, (flags, size, places) in PICTURES.items():
+    for name, (flags, empty, size, places) in PICTURES.items():
         chart = Chart(definitions, exploration.steps, flags)
         faults = [f"the state '{state}' has no place" for state in sorted(set(chart.numbers) - set(places))]
         faults += [f"the place '{state}' has no state" for state in sorted(set(places) - set(chart.numbers))]
-        drawing = None if faults else Drawing(chart, size, places)
+        notes = chart.owners(definitions, exploration) if "awaiter" in flags else {}
+        drawing = None if faults else Drawing(chart, empty, notes, size, places)
         faults = faults or list(drawing.faults())
         if faults:
             sys.exit("\n".join(f"{name}: {fault}" for fault in faults))

@@ -2,16 +2,20 @@
 ghost use Rattle.std.specs.Prelude.{⊤};
 
 use crate::countdown::{Countdown, Nobody};
-use async_task::{ParkedRunnable, Runnable, Schedule, ScheduleInfo, Task, spawn};
+use async_task::{Runnable, Schedule, ScheduleInfo, Task, spawn};
 use std::alloc::Global;
 use std::collections::VecDeque;
 use std::sync::{Mutex, Wait};
 use std::thread::{self, Threads};
 
+// A Runnable as the queue holds it: without surroundings.
+type Queued<R> = Runnable<R, Countdown, ToQueue, (), Nobody, ()>;
+
 /// A queue, and the runtime by which its threads wait for one another.
+#[derive(Drop)]
 pub struct Executor<R: Wait + Drop + Copy> {
     rt: R,
-    queue: Mutex<VecDeque<ParkedRunnable<R, Countdown, ToQueue, (), Nobody>>>,
+    queue: Mutex<VecDeque<Queued<R>>>,
 }
 
 /// The schedule value of this executor: a Runnable goes to the queue that it carries.
@@ -28,11 +32,10 @@ impl<'x, R: Wait + Drop + Copy> Schedule<Work<'x, R>> for ToQueue {
 
     fn schedule(&self, runnable: Work<'x, R>, _info: ScheduleInfo) {
         let executor = runnable.around();
-        let pushed = executor.queue.lock(&executor.rt).push_back(runnable.park());
+        let queued = runnable.park().unpark(());
         // Where the queue cannot grow the Runnable is dropped, which cancels its task.
-        if let Err(refused) = pushed {
-            drop(refused.value.unpark(executor));
-        }
+        let pushed = executor.queue.lock(&executor.rt).push_back(queued);
+        drop(pushed);
     }
 }
 
@@ -59,21 +62,9 @@ impl<R: Wait + Threads + Drop + Copy + Send + Sync> Executor<R> {
         for _ in self.rt.forever() {
             let next = self.queue.lock(&self.rt).pop_front();
             match next {
-                Some(parked) => parked.unpark(self).run(),
+                Some(queued) => queued.park().unpark(self).run(),
                 None => return,
             };
         }
-    }
-}
-
-// A parked handle cannot be dropped, so what is left in the queue is unparked first.
-impl<R: Wait + Drop + Copy> Drop for Executor<R> {
-    fn drop(self) {
-        let Executor { rt: _, queue } = self;
-        let mut queue = queue.into_inner();
-        while let Some(parked) = queue.pop_front() {
-            drop(parked.unpark(()));
-        }
-        queue.destroy_empty();
     }
 }
