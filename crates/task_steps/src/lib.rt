@@ -1,6 +1,7 @@
 //! The table of a cell, what its seats know, and the steps on it by name. Each step keeps the rule of the table.
 #![tactic(auto)]
 
+pub mod attempt;
 pub mod common;
 pub mod places;
 pub mod poll;
