@@ -21,7 +21,7 @@ use Rattle.task_steps.specs.Knows.{Knows}
 use Rattle.task_steps.specs.Attempts.{looked, missed, Names, observed, attempted, MayTry}
 use Rattle.task_steps.proofs.Told.{inside, retries}
 use Rattle.task_steps.proofs.Advance.{Finds, Steps, Result}
-use Rattle.task_steps.proofs.Allowed.{Owes, result, not_first, set_apart}
+use Rattle.task_steps.proofs.Allowed.{result, not_first, set_apart}
 use Rattle.task_steps.proofs.Seats.{retold}
 use Rattle.task_steps.proofs.Known.{knows_now}
 
@@ -98,8 +98,9 @@ module _ (F T A : Type 0) (limit : ℕ) where
   -- what an attempt owes: its change where it finds the word that it names, and its end
   pub may_try : (slots id l : ℕ) (p : Position) (ds : List Deed) (us : List Member) (held : List (ℕ × Slot F T A)) (writes : ℕ → State → Option State) (ends : ℕ → State → Bool) (acts told : State → List Act) → slots ≡ 3
       → ((w v : State) → writes limit w ≡ Some v → (m : Machine) → Finds limit p ds us m → number_of w ≡ number_of m.word → Steps m p (acts m.word) (number_of v) held)
-      → Owes F T A limit told (λ n. n) p ds us held → MayTry limit slots id (view l (member p ds ∷ us), held) writes ends acts told
-  may_try slots id l p ds us held writes ends acts told three changes over = record {
+      → ((w : State) → ends l w ≡ ends limit w)
+      → ((m : Machine) → Finds limit p ds us m → (n : ℕ) → n ≡ number_of m.word → n < 18446744073709551616 → ends limit m.word ≡ true → Steps m p (told m.word) n held) → MayTry limit slots id (view l (member p ds ∷ us), held) writes ends acts told
+  may_try slots id l p ds us held writes ends acts told three changes same over = record {
     loads = λ t s c deep at fits. observe t s c (deep ∙ three) at fits (ends l (state_of (now s))) refl;
     exchanges = λ t w v writing names s c deep at fits. lists.exchanged (now s) (number_of w) (number_of v)
         (λ x. Result F T A limit s id (view l (trying p ds t ∷ us), held) x (attempted acts (step slots 0 (number_of w) (number_of v) none) (view l (trying p ds t ∷ us), held) (now s)))
@@ -119,7 +120,7 @@ module _ (F T A : Type 0) (limit : ℕ) where
 
       observe : (t : Option Tries) (s : B) (c : Rule s) → length s.homes ≡ 3 → get_elem? s.views id ≡ some (view l (trying p ds t ∷ us)) → now s < 18446744073709551616 → (b : Bool) → ends l (state_of (now s)) ≡ b
           → Result F T A limit s id (view l (trying p ds t ∷ us), held) (now s) (observed ends told (step slots 0 0 0 none) (view l (trying p ds t ∷ us), held) (now s))
-      observe t s c deep at fits true is = let o = acts_on s id l p ds t us held told (λ n. n) c at deep fits (λ m f e. over m f (now s) e fits) in
+      observe t s c deep at fits true is = let o = acts_on s id l p ds t us held told (λ n. n) c at deep fits (λ m f e. over m f (now s) e fits (sym (same m.word) ∙ (ap (ends l) (sym (state_of_number_of m.word) ∙ ap state_of (sym e)) ∙ is))) in
           (o.0, o.1, o.2, o.3, ((λ _. o.4), (λ no. differs (ends l (state_of (now s))) is no), knows t s c at))
       observe t s c deep at fits false is = let o = sees s id l p ds t (looked (state_of (now s)) t) us held c at
           (λ k h. subst (λ (x : State). Tried k c.running.log c.running.machine.word (looked x t)) (stands s c) (tried_look k c.running.log c.running.machine.word t h)) in

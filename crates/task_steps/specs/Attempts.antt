@@ -1,5 +1,5 @@
 -- What a party does that tries to change the word by compare and exchange, and what it has seen meanwhile.
-use Rattle.std.specs.Prelude.{◌≡◌, ◌≢◌, ℕ, ◌+◌, ◌==◌, Bool, true, false, List, ◌∷◌, Option, Some, None}
+use Rattle.std.specs.Prelude.{◌≡◌, ◌≢◌, ℕ, ◌+◌, ◌==◌, Bool, true, false, List, ◌∷◌, Option, Some, None, is_some}
 use mathlib.Core.Option.{none}
 use prog.Atomic.{either}
 use Rattle.atomic_table.specs.Table.{Me, Step, step, Allows}
@@ -50,3 +50,15 @@ module _ {F T A : Type 0} where
     pub loads : (t : Option Tries) → Allows (Ruled {F = F} {T = T} {A = A} limit) slots id (having_seen t me.0, me.1) 0 (λ n. n) (observed ends told (step slots 0 0 0 none) (having_seen t me.0, me.1))
     pub exchanges : (t : Option Tries) (w v : State) → writes limit w ≡ Some v → Names w t
         → Allows (Ruled {F = F} {T = T} {A = A} limit) slots id (having_seen t me.0, me.1) 0 (λ n. either (n == number_of w) (number_of v) n) (attempted acts (step slots 0 (number_of w) (number_of v) none) (having_seen t me.0, me.1))
+
+  -- an attempt has made its change on this word
+  pub record Changed (limit : ℕ) (writes : ℕ → State → Option State) (acts : State → List Act) (w : State) (me me' : Me (Slot F T A) View) : Type 0 where
+    pub written : is_some (writes limit w) ≡ true
+    pub made : Makes (acts w) w me me'
+    pub knows : Knows (head_of me.0.members).deeds w
+
+  -- .. or this word has ended it
+  pub record Ended (limit : ℕ) (ends : ℕ → State → Bool) (told : State → List Act) (w : State) (me me' : Me (Slot F T A) View) : Type 0 where
+    pub at_end : ends limit w ≡ true
+    pub made : Makes (told w) w me me'
+    pub knows : Knows (head_of me.0.members).deeds w
