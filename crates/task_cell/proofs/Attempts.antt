@@ -85,3 +85,17 @@ module _ {F T A : Type 0} where
     made = made_of (told w) w s.tries me after (subst (λ (z : State × Me (Slot F T A) View). Makes (told z.0) z.0 z.1 after) (λ i. (sym e i, s.is i)) made);
     knows = subst (λ (z : State × Me (Slot F T A) View). Knows (head_of z.1.0.members).deeds z.0) (λ i. (sym e i, s.is i)) knows;
   }
+
+  -- an attempt that goes on from a look is one from the seat as it was
+  pub seen_on : (w : State) (me now : Me (Slot F T A) View) → Seeing w me now → (t : Option Tries) × Names w t × (now.0 ≡ having_seen t now.0)
+  seen_on w me now s = (s.tries, s.names, subst (λ (m : Me (Slot F T A) View). m.0 ≡ having_seen s.tries m.0) (sym s.is) refl)
+
+  pub may_still : (limit id other : ℕ) (me now : Me (Slot F T A) View) (writes : ℕ → State → Option State) (ends : ℕ → State → Bool) (acts told : State → List Act) (w : State) → other ≡ id → Seeing w me now
+      → MayTry limit 3 id me writes ends acts told → MayTry limit 3 other now writes ends acts told
+  may_still limit id other me now writes ends acts told w e s may = subst (λ (z : ℕ × Me (Slot F T A) View). MayTry limit 3 z.0 z.1 writes ends acts told) (λ i. (sym e i, sym s.is i)) (record { loads = may.loads; exchanges = may.exchanges })
+
+  pub changed_on : (limit : ℕ) (writes : ℕ → State → Option State) (acts : State → List Act) (v w : State) (me now after : Me (Slot F T A) View) → Seeing v me now → Changed limit writes acts w now after → Changed limit writes acts w me after
+  changed_on limit writes acts v w me now after s x = let y = subst (λ (m : Me (Slot F T A) View). Changed limit writes acts w m after) s.is x in record { written = y.written; made = made_of (acts w) w s.tries me after y.made; knows = y.knows }
+
+  pub ended_on : (limit : ℕ) (ends : ℕ → State → Bool) (told : State → List Act) (v w : State) (me now after : Me (Slot F T A) View) → Seeing v me now → Ended limit ends told w now after → Ended limit ends told w me after
+  ended_on limit ends told v w me now after s x = let y = subst (λ (m : Me (Slot F T A) View). Ended limit ends told w m after) s.is x in record { at_end = y.at_end; made = made_of (told w) w s.tries me after y.made; knows = y.knows }

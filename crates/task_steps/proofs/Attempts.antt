@@ -21,7 +21,7 @@ use Rattle.task_steps.specs.Knows.{Knows}
 use Rattle.task_steps.specs.Attempts.{looked, missed, Names, observed, attempted, MayTry}
 use Rattle.task_steps.proofs.Told.{inside, retries}
 use Rattle.task_steps.proofs.Advance.{Finds, Steps, Result}
-use Rattle.task_steps.proofs.Allowed.{result, not_first, set_apart}
+use Rattle.task_steps.proofs.Allowed.{OwesEnd, result, not_first, set_apart}
 use Rattle.task_steps.proofs.Seats.{retold}
 use Rattle.task_steps.proofs.Known.{knows_now}
 
@@ -99,7 +99,7 @@ module _ (F T A : Type 0) (limit : ℕ) where
   pub may_try : (slots id l : ℕ) (p : Position) (ds : List Deed) (us : List Member) (held : List (ℕ × Slot F T A)) (writes : ℕ → State → Option State) (ends : ℕ → State → Bool) (acts told : State → List Act) → slots ≡ 3
       → ((w v : State) → writes limit w ≡ Some v → (m : Machine) → Finds limit p ds us m → number_of w ≡ number_of m.word → Steps m p (acts m.word) (number_of v) held)
       → ((w : State) → ends l w ≡ ends limit w)
-      → ((m : Machine) → Finds limit p ds us m → (n : ℕ) → n ≡ number_of m.word → n < 18446744073709551616 → ends limit m.word ≡ true → Steps m p (told m.word) n held) → MayTry limit slots id (view l (member p ds ∷ us), held) writes ends acts told
+      → OwesEnd F T A limit (ends limit) told p ds us held → MayTry limit slots id (view l (member p ds ∷ us), held) writes ends acts told
   may_try slots id l p ds us held writes ends acts told three changes same over = record {
     loads = λ t s c deep at fits. observe t s c (deep ∙ three) at fits (ends l (state_of (now s))) refl;
     exchanges = λ t w v writing names s c deep at fits. lists.exchanged (now s) (number_of w) (number_of v)

@@ -1,13 +1,11 @@
 -- The steps of the table that tell what their party knows of the word that it finds.
-use Rattle.std.proofs.Common.{◌≡◌, ◌≢◌, ℕ, ◌<◌, eqb, Option, None, List, ◌∷◌, get_or, sym, ap, ◌∙◌, subst, arith}
+use Rattle.std.proofs.Common.{◌≡◌, ℕ, ◌<◌, Option, None, List, ◌∷◌, get_or, sym, ap, ◌∙◌, subst, arith}
 use mathlib.Core.Option.{some}
 use lib.ListN.{get_elem?}
-use prog.Atomic.{either}
 use Rattle.atomic_table.specs.Table.{State as Board, Me, Allows}
-use Rattle.task_core.specs.Word.{State, state_of, number_of}
+use Rattle.task_core.specs.Word.{State, state_of}
 use Rattle.task_laws.specs.declared.positions.Position.{Position}
 use Rattle.task_core.specs.declared.moves.Act.{Act}
-use Rattle.task_laws.specs.Machine.{Machine}
 use Rattle.task_core.proofs.Bits.{state_of_number_of}
 use Rattle.task_steps.specs.declared.table.Slot.{Slot}
 use Rattle.task_steps.specs.declared.table.Deed.{Deed}
@@ -19,8 +17,7 @@ use Rattle.task_steps.specs.Steps.{head_of, Makes}
 use Rattle.task_steps.specs.Knows.{Knows}
 use Rattle.task_steps.proofs.Facts.{law, low}
 use Rattle.task_steps.proofs.Seen.{over_stays, closed_stays, ended_stays}
-use Rattle.task_steps.proofs.Advance.{Finds, Steps}
-use Rattle.task_steps.proofs.Allowed.{Owes, steps_always, steps_or_misses}
+use Rattle.task_steps.proofs.Allowed.{Owes, steps_always}
 
 module _ (F T A : Type 0) (limit : ℕ) where
   abbrev M : Type 0
@@ -50,12 +47,4 @@ module _ (F T A : Type 0) (limit : ℕ) where
       → me.0 ≡ view l (member p ds ∷ us) → Owes F T A limit acts write p ds us me.1
       → Allows (Ruled {F = F} {T = T} {A = A} limit) slots id me 0 write (λ r m. Makes (acts (state_of r)) (state_of r) me m × Knows (head_of me.0.members).deeds (state_of r))
   steps_knowing slots id me l p ds us acts write three is owes s r deep at fits = let o = steps_always F T A limit slots id me l p ds us acts write three is owes s r deep at fits in
-      (o.0, o.1, o.2, o.3, (o.4, knows_now s id me l p ds None us is r at))
-
-  -- .. and a compare and exchange
-  pub steps_or_misses_knowing : (slots id : ℕ) (me : M) (l : ℕ) (p : Position) (ds : List Deed) (us : List Member) (acts missed : State → List Act) (old new : ℕ) → slots ≡ 3
-      → me.0 ≡ view l (member p ds ∷ us) → ((m : Machine) → Finds limit p ds us m → old ≡ number_of m.word → Steps m p (acts m.word) new me.1) → Owes F T A limit missed (λ n. n) p ds us me.1
-      → Allows (Ruled {F = F} {T = T} {A = A} limit) slots id me 0 (λ n. either (eqb n old) new n)
-      (λ r m. ((r ≡ old → Makes (acts (state_of r)) (state_of r) me m) × (r ≢ old → Makes (missed (state_of r)) (state_of r) me m)) × Knows (head_of me.0.members).deeds (state_of r))
-  steps_or_misses_knowing slots id me l p ds us acts missed old new three is owes missing s r deep at fits = let o = steps_or_misses F T A limit slots id me l p ds us acts missed old new three is owes missing s r deep at fits in
       (o.0, o.1, o.2, o.3, (o.4, knows_now s id me l p ds None us is r at))

@@ -15,4 +15,4 @@ pub mod task;
 pub mod waker;
 pub mod words;
 
-pub use script::{Always, Exchange};
+pub use script::Always;
