@@ -1,5 +1,5 @@
 -- One round of an attempt: what its load and its exchange leave to the next round, or to the caller.
-use Rattle.std.proofs.Common.{◌≡◌, ℕ, Bool, true, Option, Some, None, is_some, List, sym, refl, ap, ◌∙◌, subst, ◌==◌}
+use Rattle.std.proofs.Common.{◌≡◌, ℕ, Bool, true, Option, Some, None, is_some, List, [], sym, refl, ap, ◌∙◌, subst, ◌==◌}
 use mathlib.Core.Option.{none}
 use prog.Atomic.{either}
 use Rattle.atomic_table.specs.Table.{Me, step, Allows}
@@ -11,8 +11,15 @@ use Rattle.task_steps.specs.declared.table.Tries.{Tries}
 use Rattle.task_steps.specs.declared.table.View.{View}
 use Rattle.task_steps.specs.Rule.{Ruled}
 use Rattle.task_steps.specs.Steps.{head_of, Makes}
+use Rattle.task_laws.specs.Machine.{Machine}
+use Rattle.task_laws.specs.declared.positions.Position.{Position}
+use Rattle.task_cell.specs.declared.cell.Party.{Party}
+use Rattle.task_cell.specs.Calls.{deeds, limit_of, StandsWith}
+use Rattle.task_steps.proofs.Advance.{Finds, Steps}
+use Rattle.task_steps.proofs.Allowed.{OwesEnd}
+use Rattle.task_steps.proofs.Attempts.{may_try}
 use Rattle.task_steps.specs.Knows.{Knows}
-use Rattle.task_steps.specs.Attempts.{looked, missed, Names, having_seen, observed, attempted, MayTry, Changed, Ended}
+use Rattle.task_steps.specs.Attempts.{looked, missed, Names, having_seen, observed, attempted, MayTry, HasChanged, HasEnded}
 
 names_looked : (w : State) (t : Option Tries) → Names w (looked w t)
 names_looked w t = refl
@@ -70,7 +77,7 @@ module _ {F T A : Type 0} where
 
   -- the change was made
   pub changed : (limit n : ℕ) (writes : ℕ → State → Option State) (acts : State → List Act) (w v : State) (me now after : Me (Slot F T A) View) → Seeing w me now → Some v ≡ writes limit w → n ≡ number_of w
-      → Makes (acts (state_of n)) (state_of n) now after → Knows (head_of now.0.members).deeds (state_of n) → Changed limit writes acts w me after
+      → Makes (acts (state_of n)) (state_of n) now after → Knows (head_of now.0.members).deeds (state_of n) → HasChanged limit writes acts w me after
   changed limit n writes acts w v me now after s writing is made knows = let here : state_of n ≡ w = ap state_of is ∙ state_of_number_of w in record {
     written = ap (λ x. is_some x) (sym writing);
     made = made_of (acts w) w s.tries me after (subst (λ (z : State × Me (Slot F T A) View). Makes (acts z.0) z.0 z.1 after) (λ i. (here i, s.is i)) made);
@@ -79,7 +86,7 @@ module _ {F T A : Type 0} where
 
   -- the word ended the attempt
   pub ended : (limit n : ℕ) (ends : ℕ → State → Bool) (told : State → List Act) (v w : State) (me now after : Me (Slot F T A) View) → Seeing v me now → w ≡ state_of n → ends limit w ≡ true
-      → Makes (told (state_of n)) (state_of n) now after → Knows (head_of now.0.members).deeds (state_of n) → Ended limit ends told w me after
+      → Makes (told (state_of n)) (state_of n) now after → Knows (head_of now.0.members).deeds (state_of n) → HasEnded limit ends told w me after
   ended limit n ends told v w me now after s e over made knows = record {
     at_end = over;
     made = made_of (told w) w s.tries me after (subst (λ (z : State × Me (Slot F T A) View). Makes (told z.0) z.0 z.1 after) (λ i. (sym e i, s.is i)) made);
@@ -94,8 +101,14 @@ module _ {F T A : Type 0} where
       → MayTry limit 3 id me writes ends acts told → MayTry limit 3 other now writes ends acts told
   may_still limit id other me now writes ends acts told w e s may = subst (λ (z : ℕ × Me (Slot F T A) View). MayTry limit 3 z.0 z.1 writes ends acts told) (λ i. (sym e i, sym s.is i)) (record { loads = may.loads; exchanges = may.exchanges })
 
-  pub changed_on : (limit : ℕ) (writes : ℕ → State → Option State) (acts : State → List Act) (v w : State) (me now after : Me (Slot F T A) View) → Seeing v me now → Changed limit writes acts w now after → Changed limit writes acts w me after
-  changed_on limit writes acts v w me now after s x = let y = subst (λ (m : Me (Slot F T A) View). Changed limit writes acts w m after) s.is x in record { written = y.written; made = made_of (acts w) w s.tries me after y.made; knows = y.knows }
+  pub changed_on : (limit : ℕ) (writes : ℕ → State → Option State) (acts : State → List Act) (v w : State) (me now after : Me (Slot F T A) View) → Seeing v me now → HasChanged limit writes acts w now after → HasChanged limit writes acts w me after
+  changed_on limit writes acts v w me now after s x = let y = subst (λ (m : Me (Slot F T A) View). HasChanged limit writes acts w m after) s.is x in record { written = y.written; made = made_of (acts w) w s.tries me after y.made; knows = y.knows }
 
-  pub ended_on : (limit : ℕ) (ends : ℕ → State → Bool) (told : State → List Act) (v w : State) (me now after : Me (Slot F T A) View) → Seeing v me now → Ended limit ends told w now after → Ended limit ends told w me after
-  ended_on limit ends told v w me now after s x = let y = subst (λ (m : Me (Slot F T A) View). Ended limit ends told w m after) s.is x in record { at_end = y.at_end; made = made_of (told w) w s.tries me after y.made; knows = y.knows }
+  pub ended_on : (limit : ℕ) (ends : ℕ → State → Bool) (told : State → List Act) (v w : State) (me now after : Me (Slot F T A) View) → Seeing v me now → HasEnded limit ends told w now after → HasEnded limit ends told w me after
+  ended_on limit ends told v w me now after s x = let y = subst (λ (m : Me (Slot F T A) View). HasEnded limit ends told w m after) s.is x in record { at_end = y.at_end; made = made_of (told w) w s.tries me after y.made; knows = y.knows }
+
+  -- what the rule allows a party that stands here, by what its change and its end owe
+  pub may_at : (limit : ℕ) (p : Party F T A) (at : Position) (held : List (ℕ × Slot F T A)) → StandsWith at held p → (writes : ℕ → State → Option State) (ends : ℕ → State → Bool) (acts told : State → List Act) → ((w : State) → ends (limit_of p) w ≡ ends limit w)
+      → ((w v : State) → writes limit w ≡ Some v → (m : Machine) → Finds limit at (deeds p) [] m → number_of w ≡ number_of m.word → Steps m at (acts m.word) (number_of v) held)
+      → OwesEnd F T A limit (ends limit) told at (deeds p) [] held → MayTry limit 3 p.seat.id p.seat.me writes ends acts told
+  may_at limit p at held s writes ends acts told same changes over = subst (λ (m : Me (Slot F T A) View). MayTry limit 3 p.seat.id m writes ends acts told) (sym s) (may_try F T A limit 3 p.seat.id (limit_of p) at (deeds p) [] held writes ends acts told refl changes same over)

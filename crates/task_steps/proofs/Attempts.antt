@@ -125,3 +125,7 @@ module _ (F T A : Type 0) (limit : ℕ) where
       observe t s c deep at fits false is = let o = sees s id l p ds t (looked (state_of (now s)) t) us held c at
           (λ k h. subst (λ (x : State). Tried k c.running.log c.running.machine.word (looked x t)) (stands s c) (tried_look k c.running.log c.running.machine.word t h)) in
           (o.0, o.1, o.2, o.3, ((λ yes. differs (ends l (state_of (now s))) yes is), (λ _. o.4), knows t s c at))
+
+  -- an attempt that no word ends
+  pub never_ends : (p : Position) (ds : List Deed) (us : List Member) (held : List (ℕ × Slot F T A)) → OwesEnd F T A limit (λ _. false) (λ _. []) p ds us held
+  never_ends p ds us held m f n e lt over = absurd (cc)

@@ -312,12 +312,3 @@ module _ (F T A : Type 0) (limit : ℕ) where
         idle = (refl, refl);
         placing = gives_work y z refl refl refl (inr (refl, refl)) (inl has) (λ e. is) (λ e. never (sym facts.1 ∙ e));
       }
-
-  -- .. by the numbers that the step names
-  pub may_complete : (w : State) (old new : ℕ) (ds : List Deed) (us : List Member) (y z : Slot F T A) (l : List (ℕ × Slot F T A)) → l ≡ output_first y z (rest (rest l)) → IsOutput z → old ≡ number_of w → new ≡ number_of (completed_word w)
-      → (m : Machine) → Finds limit Ready ds us m → old ≡ number_of m.word → Steps m Ready (completing m.word) new l
-  may_complete w old new ds us y z l has is e h m f found = subst (λ (n : ℕ). Steps m Ready (completing m.word) n l) (sym h) (completes w ds us y z l has is m f (sym e ∙ found))
-
-  pub may_end : (w : State) (old new : ℕ) (ds : List Deed) (us : List Member) (y z : Slot F T A) (l : List (ℕ × Slot F T A)) → l ≡ future_first y z (rest (rest l)) → IsFuture y → w.closed ≡ false → old ≡ number_of w → new ≡ number_of (after_pending w)
-      → (m : Machine) → Finds limit Pending ds us m → old ≡ number_of m.word → Steps m Pending (ending_pending m.word) new l
-  may_end w old new ds us y z l has is unclosed e h m f found = subst (λ (n : ℕ). Steps m Pending (ending_pending m.word) n l) (sym h) (ends_pending w ds us y z l has is unclosed m f (sym e ∙ found))

@@ -25,11 +25,10 @@ use Rattle.task_steps.specs.declared.table.Slot.{Slot}
 use Rattle.task_steps.specs.declared.table.Deed.{Deed}
 use Rattle.task_steps.specs.declared.table.Member.{Member}
 use Rattle.task_steps.specs.Rule.{has_work}
-use Rattle.task_steps.specs.Steps.{saw_closed, output_first}
+use Rattle.task_steps.specs.Steps.{saw_closed, output_first, and_then, spot}
 use Rattle.task_steps.specs.Scripts.{dropping_output}
 use Rattle.task_steps.specs.WakerScripts.{is_over}
 use Rattle.task_steps.specs.TaskScripts.{finding_cancelled, cancelling, cancelled, detaching, detached, giving_task_up}
-use Rattle.task_steps.specs.Steps.{and_then, spot}
 use Rattle.task_steps.proofs.Acts.{leads, both}
 use Rattle.task_steps.proofs.Advance.{Finds, stays, gives_work, takes_output, takes_awaiter, Steps}
 use Rattle.task_steps.proofs.Allowed.{Owes, OwesEnd}

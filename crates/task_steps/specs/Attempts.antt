@@ -52,13 +52,13 @@ module _ {F T A : Type 0} where
         → Allows (Ruled {F = F} {T = T} {A = A} limit) slots id (having_seen t me.0, me.1) 0 (λ n. either (n == number_of w) (number_of v) n) (attempted acts (step slots 0 (number_of w) (number_of v) none) (having_seen t me.0, me.1))
 
   -- an attempt has made its change on this word
-  pub record Changed (limit : ℕ) (writes : ℕ → State → Option State) (acts : State → List Act) (w : State) (me me' : Me (Slot F T A) View) : Type 0 where
+  pub record HasChanged (limit : ℕ) (writes : ℕ → State → Option State) (acts : State → List Act) (w : State) (me me' : Me (Slot F T A) View) : Type 0 where
     pub written : is_some (writes limit w) ≡ true
     pub made : Makes (acts w) w me me'
     pub knows : Knows (head_of me.0.members).deeds w
 
   -- .. or this word has ended it
-  pub record Ended (limit : ℕ) (ends : ℕ → State → Bool) (told : State → List Act) (w : State) (me me' : Me (Slot F T A) View) : Type 0 where
+  pub record HasEnded (limit : ℕ) (ends : ℕ → State → Bool) (told : State → List Act) (w : State) (me me' : Me (Slot F T A) View) : Type 0 where
     pub at_end : ends limit w ≡ true
     pub made : Makes (told w) w me me'
     pub knows : Knows (head_of me.0.members).deeds w

@@ -29,11 +29,10 @@ impl Change for Gaining {
     ghost told = { finding_limit };
 
     fn next(word: Word, limit: u64) -> Option<Word> {
-        if is_held(word) {
-            word.gain_reference(limit)
-        } else {
-            None
+        if !is_held(word) {
+            return None;
         }
+        word.gain_reference(limit)
     }
 
     fn is_end(word: Word, limit: u64) -> bool {

@@ -2,7 +2,7 @@
 ghost use Rattle.std.specs.Prelude.{◌≡◌, ◌<◌, IfOk, IfErr, Option, None};
 ghost use Rattle.task_core.specs.Word.{State};
 ghost use Rattle.task_steps.specs.declared.table.Tries.{Tries};
-ghost use Rattle.task_steps.specs.Attempts.{Names, having_seen, MayTry, Changed, Ended};
+ghost use Rattle.task_steps.specs.Attempts.{Names, having_seen, MayTry, HasChanged, HasEnded};
 
 use super::{Cell, Party};
 use std::alloc::Allocator;
@@ -25,8 +25,8 @@ impl<R: Wait + Drop, F: Yields, Q: Drop, M: Drop, A: Drop, B: Allocator> Cell<R,
         requires seen { (t : Option Tries) × Names word t × (party.old.seat.me.0 ≡ having_seen t party.old.seat.me.0) }
         requires allowed { MayTry self.now.limit 3 party.old.seat.id party.old.seat.me P.writes P.ends P.acts P.told }
         ensures cell { party.new.seat.table_id ≡ party.old.seat.table_id }
-        ensures changed { IfOk result (λ w. Changed self.now.limit P.writes P.acts w party.old.seat.me party.new.seat.me) }
-        ensures ended { IfErr result (λ w. Ended self.now.limit P.ends P.told w party.old.seat.me party.new.seat.me) }
+        ensures changed { IfOk result (λ w. HasChanged self.now.limit P.writes P.acts w party.old.seat.me party.new.seat.me) }
+        ensures ended { IfErr result (λ w. HasEnded self.now.limit P.ends P.told w party.old.seat.me party.new.seat.me) }
     {
         let shared = &self.table.shared;
         for _ in self.rt.forever() {
@@ -58,8 +58,8 @@ impl<R: Wait + Drop, F: Yields, Q: Drop, M: Drop, A: Drop, B: Allocator> Cell<R,
         requires quiet { party.old.seat.me.0 ≡ having_seen None party.old.seat.me.0 }
         requires allowed { MayTry self.now.limit 3 party.old.seat.id party.old.seat.me P.writes P.ends P.acts P.told }
         ensures cell { party.new.seat.table_id ≡ party.old.seat.table_id }
-        ensures changed { IfOk result (λ w. Changed self.now.limit P.writes P.acts w party.old.seat.me party.new.seat.me) }
-        ensures ended { IfErr result (λ w. Ended self.now.limit P.ends P.told w party.old.seat.me party.new.seat.me) }
+        ensures changed { IfOk result (λ w. HasChanged self.now.limit P.writes P.acts w party.old.seat.me party.new.seat.me) }
+        ensures ended { IfErr result (λ w. HasEnded self.now.limit P.ends P.told w party.old.seat.me party.new.seat.me) }
     {
         let word = Word::from_bits(self.table.shared.load::<Observing<P>>(&mut party.seat, 0));
         if P::is_end(word, self.limit) {
