@@ -1,4 +1,5 @@
 pub mod Moved
+pub mod Attempts
 pub mod Carried
 pub mod Notified
 pub mod Starting

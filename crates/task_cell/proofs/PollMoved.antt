@@ -1,15 +1,14 @@
 -- What the steps of a registering come to for the party that made them.
-use Rattle.std.proofs.Common.{◌≡◌, ℕ, Bool, true, false, not, Option, Some, None, List, [], ◌∷◌, refl, sym, ap, ◌∙◌, subst, map}
+use Rattle.std.proofs.Common.{◌≡◌, ℕ, Bool, true, false, not, Option, Some, None, List, [], ◌∷◌, refl, sym, ap, ◌∙◌, subst, map, is_some}
 use Rattle.std.specs.Prelude.{if◌then◌else◌}
-use Rattle.atomic_table.specs.Table.{Me}
-use Rattle.task_core.specs.Word.{State, state_of, number_of}
+use Rattle.atomic_table.specs.Table.{Me, rest}
+use Rattle.task_core.specs.Word.{State, number_of}
 use Rattle.task_core.specs.Rows.{written, row as row_of}
 use Rattle.task_laws.specs.declared.positions.Position.{Position}
 use Rattle.task_laws.specs.declared.positions.Position.TheVariants.{Looking, Registrar, RefusedClone, Registered}
 use Rattle.task_core.specs.declared.moves.Act.{Act}
-use Rattle.task_core.specs.declared.moves.Act.TheVariants.{CloneAwaiter, StoreAwaiter, FindNotify, BeginRegister, EndRegister}
+use Rattle.task_core.specs.declared.moves.Act.TheVariants.{CloneAwaiter, StoreAwaiter, FindNotify, BeginRegister, EndRegister, EndRegisterNotified, ClaimOutput}
 use Rattle.task_laws.specs.Table.{after_storing}
-use Rattle.task_core.proofs.Bits.{state_of_number_of}
 use Rattle.task_steps.specs.declared.table.Slot.{Slot}
 use Rattle.task_steps.specs.declared.table.Deed.{Deed}
 use Rattle.task_steps.specs.declared.table.View.{View}
@@ -18,40 +17,23 @@ use Rattle.task_steps.specs.Rule.{member, view, fresh, Waits}
 use Rattle.task_steps.specs.Steps.{head_of, next_of, born_of, leaves_by, noted, acted, Carried, Makes}
 use Rattle.task_cell.specs.Calls.{deeds, limit_of, StandsWith, Stands, GoesWith, Goes}
 use Rattle.task_steps.specs.Deeds.{after, row, act}
-use Rattle.task_steps.specs.PollScripts.{finding_notifier, beginning_register, ending_register}
-use Rattle.task_cell.specs.PollPaths.{BeginsRegister, begins, finds_one, EndsRegister, ends}
-use Rattle.task_steps.specs.Standing.{poll_number}
-use Rattle.task_steps.proofs.Seen.{not_true}
-use Rattle.task_cell.proofs.Moved.{position_is}
+use Rattle.task_steps.specs.PollScripts.{finding_notifier, beginning_register, ending_register, ending_notified, claiming}
+use Rattle.task_cell.specs.PollPaths.{BeginsRegister, begins, finds_one, EndsRegister, ends, finds_notified}
+use Rattle.task_steps.specs.Standing.{poll_number, claims_from}
+use Rattle.task_cell.proofs.Moved.{position_is, still}
+use Rattle.task_steps.specs.declared.table.Slot.TheVariants.{Empty, Awaiter}
+use Rattle.task_steps.specs.Attempts.{MayTry, HasChanged, HasEnded}
+use Rattle.task_steps.proofs.Owed.{does_nothing}
+use Rattle.task_steps.proofs.Attempts.{never_ends}
+use Rattle.task_steps.proofs.PollOwed.{begins_register, ends_register, ends_notified, claims, finds_notifier, fits}
+use Rattle.task_cell.proofs.Attempts.{may_at}
 
--- whether a function of the word allowed its row
-allowed_by : (v : State) (b : Bool) (next : State) → (if b then Some v else None) ≡ Some next → b ≡ true
-allowed_by v true next e = refl
-allowed_by v false next e = absurd (cc)
-
-refused_by : (v : State) (b : Bool) → (if b then Some v else None) ≡ None → b ≡ false
-refused_by v true e = absurd (cc)
-refused_by v false e = refl
-
-not_false : (b : Bool) → not b ≡ false → b ≡ true
-not_false true e = refl
-not_false false e = absurd (cc)
-
-pub finds_none : (w next : State) → row_of 0 BeginRegister w ≡ Some next → w.notifying ≡ false
-finds_none w next e = not_true w.notifying (allowed_by (written BeginRegister w) (not w.notifying) next e)
-
-pub finds_some : (w : State) → row_of 0 BeginRegister w ≡ None → w.notifying ≡ true
-finds_some w e = not_false w.notifying (refused_by (written BeginRegister w) (not w.notifying) e)
-
-pub leaves_none : (w next : State) → row_of 0 EndRegister w ≡ Some next → w.notifying ≡ false
-leaves_none w next e = not_true w.notifying (allowed_by (written EndRegister w) (not w.notifying) next e)
+-- a row that was made finds no notifier
+not_notifying : (b : Bool) (v : State) → is_some (if not b then Some v else None) ≡ true → b ≡ false
+not_notifying true v e = absurd (cc)
+not_notifying false v e = refl
 
 module _ {F T A : Type 0} where
-  -- what an exchange made that found its word
-  pub hit : (acts : State → List Act) (r first : ℕ) (w : State) (here me me' : Me (Slot F T A) View) → me ≡ here → r ≡ first → first ≡ number_of w → (r ≡ first → Makes (acts (state_of r)) (state_of r) me me') → Makes (acts w) w here me'
-  hit acts r first w here me me' same is e make = let at : state_of r ≡ w = ap state_of (is ∙ e) ∙ state_of_number_of w in
-      subst (λ (z : State × Me (Slot F T A) View). Makes (acts z.0) z.0 z.1 me') (λ i. (at i, same i)) (make is)
-
   -- the seat after acts that lead to this position, and add no party
   went : (acts : List Act) (w : State) (at at' : Position) (held : List (ℕ × Slot F T A)) (path : List Deed) (p q : Party F T A) → StandsWith at held p → q.seat.table_id ≡ p.seat.table_id → (m : Makes acts w p.seat.me q.seat.me)
       → next_of (leaves_by (limit_of p) w m.slots acts at) ≡ at' → born_of (leaves_by (limit_of p) w m.slots acts at) ≡ [] → noted w acts (deeds p) ≡ after path (deeds p)
@@ -65,33 +47,57 @@ module _ {F T A : Type 0} where
     },
   )
 
-  -- a load that finds no notifier leaves the seat as it was
-  pub stayed : (i : ℕ) (w : State) (p q : Party F T A) → Stands (Registrar i) p → q.seat.table_id ≡ p.seat.table_id → w.notifying ≡ false → Makes (finding_notifier w) w p.seat.me q.seat.me → q.seat.me ≡ p.seat.me
-  stayed i w p q s cell e m =
-      let g = went [] w (Registrar i) (Registrar i) [] [] p q s cell (subst (λ b. Makes (if b then CloneAwaiter ∷ FindNotify ∷ [] else []) w p.seat.me q.seat.me) e m) refl refl refl in
-      g.1.is ∙ ((λ j. (view (limit_of p) (member (Registrar i) (deeds p) ∷ []), g.0 j)) ∙ sym s)
-
-  pub found_one : (i : ℕ) (w : State) (p q : Party F T A) → Stands (Registrar i) p → q.seat.table_id ≡ p.seat.table_id → w.notifying ≡ true → Makes (finding_notifier w) w p.seat.me q.seat.me → BeginsRegister p q false
-  found_one i w p q s cell e m =
+  pub found_one : (limit i : ℕ) (w : State) (p q : Party F T A) → Stands (Registrar i) p → q.seat.table_id ≡ p.seat.table_id → HasEnded limit (λ _ w. w.notifying) finding_notifier w p.seat.me q.seat.me → BeginsRegister p q false
+  found_one limit i w p q s cell e =
       let path : List Deed = act CloneAwaiter ∷ row FindNotify w ∷ [] in
-      let g = went (CloneAwaiter ∷ FindNotify ∷ []) w (Registrar i) (RefusedClone i) [] path p q s cell (subst (λ b. Makes (if b then CloneAwaiter ∷ FindNotify ∷ [] else []) w p.seat.me q.seat.me) e m) refl refl refl in
-      finds_one w e (subst (λ at. Goes path (RefusedClone (poll_number at)) p q) (sym (position_is p (Registrar i) [] s)) (subst (λ l. GoesWith path (RefusedClone i) l p q) g.0 g.1))
+      let g = went (CloneAwaiter ∷ FindNotify ∷ []) w (Registrar i) (RefusedClone i) [] path p q s cell e.made refl refl refl in
+      finds_one w e.at_end (subst (λ at. Goes path (RefusedClone (poll_number at)) p q) (sym (position_is p (Registrar i) [] s)) (subst (λ l. GoesWith path (RefusedClone i) l p q) g.0 g.1))
 
   -- the slot that is taken, by what stood in it
   carried_slot : (i : ℕ) (hand : Option ℕ) (l' : List (ℕ × Slot F T A)) → Carried (Registrar i) (after_storing i hand) [] l' → (y : Slot F T A) × Waits hand y × (l' ≡ (2, y) ∷ [])
   carried_slot i None l' c = c
   carried_slot i (Some old) l' c = c
 
-  pub begun : (i : ℕ) (w : State) (p q : Party F T A) → Stands (Registrar i) p → q.seat.table_id ≡ p.seat.table_id → w.notifying ≡ false → Makes (beginning_register w) w p.seat.me q.seat.me → BeginsRegister p q true
-  begun i w p q s cell e m =
+  pub begun : (limit i : ℕ) (w : State) (p q : Party F T A) → Stands (Registrar i) p → q.seat.table_id ≡ p.seat.table_id → HasChanged limit (λ _ w. row_of 0 BeginRegister w) beginning_register w p.seat.me q.seat.me → BeginsRegister p q true
+  begun limit i w p q s cell c = let m = c.made in
       let path : List Deed = act CloneAwaiter ∷ row BeginRegister w ∷ act StoreAwaiter ∷ [] in let hand : Option ℕ = m.slots.awaiter in
       let g = went (CloneAwaiter ∷ BeginRegister ∷ StoreAwaiter ∷ []) w (Registrar i) (after_storing i hand) [] path p q s cell m refl refl refl in
       let y = carried_slot i hand q.seat.me.1 g.0 in
-      begins w hand y.0 e y.1 (subst (λ at. GoesWith path (after_storing (poll_number at) hand) ((2, y.0) ∷ []) p q) (sym (position_is p (Registrar i) [] s)) (subst (λ l. GoesWith path (after_storing i hand) l p q) y.2 g.1))
+      begins w hand y.0 (not_notifying w.notifying (written BeginRegister w) c.written) y.1 (subst (λ at. GoesWith path (after_storing (poll_number at) hand) ((2, y.0) ∷ []) p q) (sym (position_is p (Registrar i) [] s)) (subst (λ l. GoesWith path (after_storing i hand) l p q) y.2 g.1))
 
   -- the slot is given back
-  pub ended : (i : ℕ) (w : State) (y : Slot F T A) (p q : Party F T A) → StandsWith (Registered i) ((2, y) ∷ []) p → q.seat.table_id ≡ p.seat.table_id → w.notifying ≡ false → Makes (ending_register w) w p.seat.me q.seat.me → EndsRegister p q true
-  ended i w y p q s cell e m =
+  pub ended : (limit i : ℕ) (w : State) (y : Slot F T A) (p q : Party F T A) → StandsWith (Registered i) ((2, y) ∷ []) p → q.seat.table_id ≡ p.seat.table_id → HasChanged limit (λ _ w. row_of 0 EndRegister w) ending_register w p.seat.me q.seat.me → EndsRegister p q true
+  ended limit i w y p q s cell c = let m = c.made in
       let path : List Deed = row EndRegister w ∷ [] in
       let g = went (EndRegister ∷ []) w (Registered i) (Looking i) ((2, y) ∷ []) path p q s cell m refl refl refl in
-      ends w e (subst (λ at. Goes path (Looking (poll_number at)) p q) (sym (position_is p (Registered i) ((2, y) ∷ []) s)) (subst (λ l. GoesWith path (Looking i) l p q) g.0 g.1))
+      ends w (not_notifying w.notifying (written EndRegister w) c.written) (subst (λ at. Goes path (Looking (poll_number at)) p q) (sym (position_is p (Registered i) ((2, y) ∷ []) s)) (subst (λ l. GoesWith path (Looking i) l p q) g.0 g.1))
+
+  -- the clone was taken out of its place
+  pub left_empty : (i : ℕ) (y : Slot F T A) (p q : Party F T A) → StandsWith (Registered i) ((2, y) ∷ []) p → q.seat.me ≡ (p.seat.me.0, (2, Empty) ∷ rest p.seat.me.1) → StandsWith (Registered i) ((2, Empty) ∷ []) q
+  left_empty i y p q s is = let now = is ∙ ap (λ (m : Me (Slot F T A) View). (m.0, (2, Empty) ∷ rest m.1)) s in now ∙ ap (λ (z : ℕ × List Deed). (view z.0 (member (Registered i) z.1 ∷ []), (2, Empty) ∷ []))
+      (λ j. (sym (ap (λ (m : Me (Slot F T A) View). m.0.limit) now) j, sym (ap (λ (m : Me (Slot F T A) View). (head_of m.0.members).deeds) now) j))
+
+  -- a notifier came meanwhile
+  pub notified : (limit i : ℕ) (w : State) (y : Slot F T A) (p q : Party F T A) → StandsWith (Registered i) ((2, y) ∷ []) p → q.seat.table_id ≡ p.seat.table_id → HasEnded limit (λ _ w. w.notifying) (λ _. []) w p.seat.me q.seat.me → EndsRegister p q false
+  notified limit i w y p q s cell e = finds_notified cell (still w (Registered i) ((2, y) ∷ []) p q s e.made)
+
+module _ (F T A : Type 0) (limit : ℕ) where
+  -- the rule allows a poll to take the awaiter slot, to give it back, and to claim the output
+  pub may_register : (p : Party F T A) (i : ℕ) → Stands (Registrar i) p → MayTry limit 3 p.seat.id p.seat.me (λ _ w. row_of 0 BeginRegister w) (λ _ w. w.notifying) beginning_register finding_notifier
+  may_register p i s = may_at limit p (Registrar i) [] s (λ _ w. row_of 0 BeginRegister w) (λ _ w. w.notifying) beginning_register finding_notifier (λ w. refl)
+      (λ w v e m f here. begins_register F T A limit i (deeds p) [] [] m (number_of v) f (fits BeginRegister w v (number_of w) (number_of v) m.word e refl refl here)) (finds_notifier F T A limit i (deeds p) [] [])
+
+  pub may_give_back : (p : Party F T A) (i : ℕ) (a : A) → StandsWith (Registered i) ((2, Awaiter a) ∷ []) p → MayTry limit 3 p.seat.id p.seat.me (λ _ w. row_of 0 EndRegister w) (λ _ w. w.notifying) ending_register (λ _. [])
+  may_give_back p i a s = may_at limit p (Registered i) ((2, Awaiter a) ∷ []) s (λ _ w. row_of 0 EndRegister w) (λ _ w. w.notifying) ending_register (λ _. []) (λ w. refl)
+      (λ w v e m f here. ends_register F T A limit i (deeds p) [] (Awaiter a) ((2, Awaiter a) ∷ []) m (number_of v) f refl tt (fits EndRegister w v (number_of w) (number_of v) m.word e refl refl here))
+      (λ m f n e lt over. does_nothing F T A limit (Registered i) (deeds p) [] ((2, Awaiter a) ∷ []) m f n e lt)
+
+  pub may_take_back : (p : Party F T A) (i : ℕ) → StandsWith (Registered i) ((2, Empty) ∷ []) p → MayTry limit 3 p.seat.id p.seat.me (λ _ w. row_of 0 EndRegisterNotified w) (λ _ _. false) ending_notified (λ _. [])
+  may_take_back p i s = may_at limit p (Registered i) ((2, Empty) ∷ []) s (λ _ w. row_of 0 EndRegisterNotified w) (λ _ _. false) ending_notified (λ _. []) (λ w. refl)
+      (λ w v e m f here. ends_notified F T A limit i (deeds p) [] Empty ((2, Empty) ∷ []) m (number_of v) f refl tt (fits EndRegisterNotified w v (number_of w) (number_of v) m.word e refl refl here))
+      (never_ends F T A limit (Registered i) (deeds p) [] ((2, Empty) ∷ []))
+
+  pub may_claim : (p : Party F T A) (looked : Bool) (n : ℕ) → Stands (claims_from looked n) p → MayTry limit 3 p.seat.id p.seat.me (λ _ w. row_of 0 ClaimOutput w) (λ _ _. false) claiming (λ _. [])
+  may_claim p looked n s = may_at limit p (claims_from looked n) [] s (λ _ w. row_of 0 ClaimOutput w) (λ _ _. false) claiming (λ _. []) (λ w. refl)
+      (λ w v e m f here. claims F T A limit looked n (deeds p) [] [] m (number_of v) f (fits ClaimOutput w v (number_of w) (number_of v) m.word e refl refl here))
+      (never_ends F T A limit (claims_from looked n) (deeds p) [] [])

@@ -2,8 +2,7 @@
 use Rattle.std.proofs.Common.{◌≡◌, ℕ, Bool, true, false, not, ◌||◌, List, [], ◌∷◌, Option, Some, None, refl, sym, ap, ◌∙◌, subst}
 use Rattle.std.specs.Prelude.{if◌then◌else◌, nat_lt, is_some}
 use Rattle.atomic_table.specs.Table.{turned}
-use Rattle.task_core.specs.Word.{State, state_of, number_of}
-use Rattle.task_core.proofs.Bits.{state_of_number_of}
+use Rattle.task_core.specs.Word.{State, number_of}
 use Rattle.task_laws.specs.declared.positions.Answer.{Answer}
 use Rattle.task_laws.specs.declared.positions.Answer.TheVariants.{Ran}
 use Rattle.task_laws.specs.declared.positions.Rest.TheVariants.{Runnable, Ended}
@@ -19,21 +18,24 @@ use Rattle.task_laws.specs.Table.{after_giving_up, notifies}
 use Rattle.task_steps.specs.declared.table.Slot.{Slot}
 use Rattle.task_steps.specs.declared.table.Deed.{Deed}
 use Rattle.task_cell.specs.declared.cell.Party.{Party}
-use Rattle.task_steps.specs.declared.words.PendingEnd.{PendingEnd}
 use Rattle.task_steps.specs.declared.words.PendingEnd.TheVariants.{Rescheduled, Idle, Orphaned}
-use Rattle.task_steps.specs.Rule.{IsFuture}
+use Rattle.task_steps.specs.Rule.{IsFuture, IsOutput}
 use Rattle.task_steps.specs.Steps.{future_first, output_first, Makes, Carried, all_fit}
 use Rattle.task_steps.proofs.Seen.{left_true}
 use Rattle.task_steps.specs.Scripts.{dropping_output}
-use Rattle.task_steps.specs.RunScripts.{giving_up, emptying, discarding, answering_ready, answering_pending, completing, ending_pending, missing_end, ending_closed}
-use Rattle.task_cell.specs.Calls.{StandsWith, Stands, GoesWith, Goes, limit_of}
+use Rattle.task_steps.specs.RunScripts.{giving_up, emptying, discarding, answering_ready, answering_pending, completing, ending_pending, finding_closed, ending_closed, completed_word, after_pending}
+use Rattle.task_cell.specs.Calls.{StandsWith, Stands, GoesWith, Goes, limit_of, deeds}
 use Rattle.task_steps.specs.Deeds.{row, act}
 use Rattle.task_cell.specs.RunPaths.{leaves_others, leaves_none, DiscardStart, found_open, found_closed}
-use Rattle.task_cell.specs.RunCalls.{GivesUp, not_last, last, Releases, Completes, keeps, finds_closed, finds_detached, AnswersPending, stays_pending, clears, EndsPending, is_closed, is_rescheduled, is_idle, is_orphaned}
+use Rattle.task_cell.specs.RunCalls.{GivesUp, not_last, last, Releases, Completes, keeps, finds_closed, finds_detached, AnswersPending, stays_pending, clears, EndsPending, is_rescheduled, is_idle, is_orphaned}
 use Rattle.task_steps.specs.Found.{ending_of}
 use Rattle.task_cell.proofs.Moved as moved
 use Rattle.task_cell.proofs.Carried.{keeps_places, took_awaiter, gave_awaiter, took_work, gave_work}
-use Rattle.task_steps.proofs.RunOwed.{given_work, given_free, due_work, closed_already}
+use Rattle.task_steps.proofs.RunOwed.{given_work, given_free, due_work, closed_already, completes, ends_pending, finds_closed as finds_closed_task}
+use Rattle.task_steps.specs.Attempts.{MayTry, HasEnded}
+use Rattle.task_steps.proofs.Attempts.{never_ends}
+use Rattle.task_steps.proofs.Advance.{Steps}
+use Rattle.task_cell.proofs.Attempts.{may_at}
 
 some_if : (b : Bool) (x : State) → is_some (if b then Some x else None) ≡ b
 some_if true x = refl
@@ -50,6 +52,14 @@ none_left w o b e f = ap not (sym (some_if (nat_lt 1 w.references || w.task) (wr
 -- an act that is made alone finds the word that its row asks for
 alone_fits : (a : Act) (limit : ℕ) (w : State) → all_fit limit w (a ∷ []) ≡ true → found limit a w ≡ true
 alone_fits a limit w e = left_true (found limit a w) true e
+
+-- a run that ends without an output ends on an open task
+pub was_unclosed : (w : State) → is_some (if w.closed then None else Some (after_pending w)) ≡ true → w.closed ≡ false
+was_unclosed w e = by w.closed (after_pending w) e
+  where
+    by : (b : Bool) (v : State) → is_some (if b then None else Some v) ≡ true → b ≡ false
+    by false v e = refl
+    by true v e = absurd (cc)
 
 module _ {F T A : Type 0} where
   pub discarded : (p q : Party F T A) (w : State) → Stands (At Runnable) p → q.seat.table_id ≡ p.seat.table_id → Makes (discarding w) w p.seat.me q.seat.me
@@ -115,17 +125,9 @@ module _ {F T A : Type 0} where
       by false h made = let m = moved.moved (AnswerPending ∷ []) w Polling held p q s made in
           stays_pending (moved.goes p q (act AnswerPending ∷ []) Pending held cell m.viewed (keeps_places Polling Pending held q.seat.me.1 refl refl m.carried))
 
-  -- a word that changed in between
-  pub unchanged : (at : Position) (held : List (ℕ × Slot F T A)) (p q : Party F T A) (w : State) → StandsWith at held p → q.seat.table_id ≡ p.seat.table_id → Makes [] w p.seat.me q.seat.me → GoesWith [] at held p q
-  unchanged at held p q w s cell made = let m = moved.moved [] w at held p q s made in moved.goes p q [] at held cell m.viewed (keeps_places at at held q.seat.me.1 refl refl m.carried)
-
-  pub found_closed_meanwhile : (held : List (ℕ × Slot F T A)) (p q : Party F T A) (w : State) → StandsWith Pending held p → q.seat.table_id ≡ p.seat.table_id → Makes (missing_end w) w p.seat.me q.seat.me → w.closed ≡ true → GoesWith (act DropFuture ∷ []) Cleared held p q
-  found_closed_meanwhile held p q w s cell made h = let v : State = record w { closed = true } in
-      let m = moved.moved (DropFuture ∷ []) v Pending held p q s (at_closed (DropFuture ∷ []) w p q h (subst (λ b. Makes (if b then DropFuture ∷ [] else []) w p.seat.me q.seat.me) h made)) in
+  pub found_closed_meanwhile : (limit : ℕ) (held : List (ℕ × Slot F T A)) (p q : Party F T A) (w : State) → StandsWith Pending held p → q.seat.table_id ≡ p.seat.table_id → HasEnded limit (λ _ w. w.closed) finding_closed w p.seat.me q.seat.me → GoesWith (act DropFuture ∷ []) Cleared held p q
+  found_closed_meanwhile limit held p q w s cell e = let v : State = record w { closed = true } in let m = moved.moved (DropFuture ∷ []) v Pending held p q s (at_closed (DropFuture ∷ []) w p q e.at_end e.made) in
       moved.goes p q (act DropFuture ∷ []) Cleared held cell m.viewed (keeps_places Pending Cleared held q.seat.me.1 refl refl m.carried)
-
-  pub found_open_still : (held : List (ℕ × Slot F T A)) (p q : Party F T A) (w : State) → StandsWith Pending held p → q.seat.table_id ≡ p.seat.table_id → Makes (missing_end w) w p.seat.me q.seat.me → w.closed ≡ false → GoesWith [] Pending held p q
-  found_open_still held p q w s cell made h = unchanged Pending held p q w s cell (subst (λ b. Makes (if b then DropFuture ∷ [] else []) w p.seat.me q.seat.me) h made)
 
   pub ended_closed : (y z : Slot F T A) (p q : Party F T A) (w : State) → StandsWith Cleared (future_first y z []) p → q.seat.table_id ≡ p.seat.table_id → Makes (ending_closed w) w p.seat.me q.seat.me → (w.closed ≡ true) × Goes (row EndClosed w ∷ []) (notifies w.awaiter OfRun) p q
   ended_closed y z p q w s cell made = let m = moved.moved (EndClosed ∷ []) w Cleared (future_first y z []) p q s made in
@@ -170,20 +172,23 @@ module _ {F T A : Type 0} where
   pub turns : (at : Position) (y z : Slot F T A) (p q : Party F T A) → StandsWith at (future_first y z []) p → q.seat.table_id ≡ p.seat.table_id → q.seat.me ≡ (p.seat.me.0, turned p.seat.me.1) → GoesWith [] at (output_first y z []) p q
   turns at y z p q s cell turn = record { cell = cell; is = turn ∙ ap (λ m. (m.0, turned m.1)) s }
 
-  pub same_me : (at : Position) (held : List (ℕ × Slot F T A)) (p q : Party F T A) → StandsWith at held p → GoesWith [] at held p q → q.seat.me ≡ p.seat.me
-  same_me at held p q s g = g.is ∙ sym s
-
   pub completes_then : (at : Position) (held : List (ℕ × Slot F T A)) (p q r : Party F T A) (w : State) → GoesWith [] at held p q → Completes q r w → Completes p r w
   completes_then at held p q r w g (keeps h k x) = keeps h k (moved.goes_on p q r [] (act DropFuture ∷ act StoreOutput ∷ row Complete w ∷ []) at (notifies w.awaiter OfRun) held [] g x)
   completes_then at held p q r w g (finds_closed y z h k x) = finds_closed y z h k (moved.goes_on p q r [] (act DropFuture ∷ act StoreOutput ∷ row Complete w ∷ []) at (OutputInHand w.awaiter) held (output_first y z []) g x)
   completes_then at held p q r w g (finds_detached y z h x) = finds_detached y z h (moved.goes_on p q r [] (act DropFuture ∷ act StoreOutput ∷ row CompleteDetached w ∷ []) at (OutputInHand w.awaiter) held (output_first y z []) g x)
 
-  pub ends_then : (at : Position) (held : List (ℕ × Slot F T A)) (p q r : Party F T A) (e : PendingEnd) → GoesWith [] at held p q → EndsPending held q r e → EndsPending held p r e
-  ends_then at held p q r e g (is_closed x) = is_closed (moved.goes_on p q r [] (act DropFuture ∷ []) at Cleared held held g x)
-  ends_then at held p q r e g (is_rescheduled w a b x) = is_rescheduled w a b (moved.goes_on p q r [] (row Reschedule w ∷ []) at (Deliverer true (ThenEnds (Ran true))) held [] g x)
-  ends_then at held p q r e g (is_idle w a b d x) = is_idle w a b d (moved.goes_on p q r [] (row EndIdle w ∷ act EndCall ∷ []) at (At Ended) held [] g x)
-  ends_then at held p q r e g (is_orphaned w a b d x) = is_orphaned w a b d (moved.goes_on p q r [] (row EndOrphaned w ∷ []) at (Deliverer false (ThenEnds (Ran false))) held [] g x)
+module _ (F T A : Type 0) (limit : ℕ) where
+  -- the rule allows a run to end: with its output, and without one
+  pub may_complete : (p : Party F T A) (y z : Slot F T A) → StandsWith Ready (output_first y z []) p → IsOutput z → MayTry limit 3 p.seat.id p.seat.me (λ _ w. Some (completed_word w)) (λ _ _. false) completing (λ _. [])
+  may_complete p y z s is = may_at limit p Ready (output_first y z []) s (λ _ w. Some (completed_word w)) (λ _ _. false) completing (λ _. []) (λ w. refl)
+      (λ w v e m f here. let same : completed_word w ≡ v = cc in subst (λ (u : State). Steps m Ready (completing m.word) (number_of u) (output_first y z [])) same (completes F T A limit w (deeds p) [] y z (output_first y z []) refl is m f here))
+      (never_ends F T A limit Ready (deeds p) [] (output_first y z []))
 
-  -- the word that a step names, where it finds its number
-  pub at_found : (acts : State → List Act) (p q : Party F T A) (n old : ℕ) (w : State) → n ≡ old → old ≡ number_of w → Makes (acts (state_of n)) (state_of n) p.seat.me q.seat.me → Makes (acts w) w p.seat.me q.seat.me
-  at_found acts p q n old w e f made = subst (λ (v : State). Makes (acts v) v p.seat.me q.seat.me) (ap state_of (e ∙ f) ∙ state_of_number_of w) made
+  pub may_end : (p : Party F T A) (y z : Slot F T A) → StandsWith Pending (future_first y z []) p → IsFuture y → MayTry limit 3 p.seat.id p.seat.me (λ _ w. if w.closed then None else Some (after_pending w)) (λ _ w. w.closed) ending_pending finding_closed
+  may_end p y z s is = may_at limit p Pending (future_first y z []) s (λ _ w. if w.closed then None else Some (after_pending w)) (λ _ w. w.closed) ending_pending finding_closed (λ w. refl)
+      (λ w v e m f here. let x = unclosed w.closed (after_pending w) v e in subst (λ (u : State). Steps m Pending (ending_pending m.word) (number_of u) (future_first y z [])) x.1 (ends_pending F T A limit w (deeds p) [] y z (future_first y z []) refl is x.0 m f here))
+      (finds_closed_task F T A limit (deeds p) [] (future_first y z []))
+    where
+      unclosed : (b : Bool) (u v : State) → (if b then None else Some u) ≡ Some v → (b ≡ false) × (u ≡ v)
+      unclosed false u v e = (refl, cc)
+      unclosed true u v e = absurd (cc)

@@ -1,9 +1,8 @@
 -- What the steps of a cancel and of a detach come to for the party that made them.
-use Rattle.std.proofs.Common.{◌≡◌, ℕ, Bool, true, false, not, ◌&&◌, ◌||◌, List, [], ◌∷◌, ◌++◌, Option, Some, None, refl, sym, ap, ◌∙◌, subst, arith}
+use Rattle.std.proofs.Common.{◌≡◌, ℕ, Bool, true, false, not, ◌&&◌, ◌||◌, List, [], ◌∷◌, ◌++◌, Option, Some, None, refl, sym, ap, subst, arith, is_some}
 use Rattle.std.specs.Prelude.{nat_lt, nat_eq, if◌then◌else◌}
 use Rattle.std.proofs.lemmas.Bool.Decides.{nat_tests}
-use Rattle.task_core.specs.Word.{State, is_open, state_of, number_of}
-use Rattle.task_core.proofs.Bits.{state_of_number_of}
+use Rattle.task_core.specs.Word.{State, is_open, number_of}
 use Rattle.task_laws.specs.declared.positions.Answer.{Answer}
 use Rattle.task_laws.specs.declared.positions.Answer.TheVariants.{Nothing}
 use Rattle.task_laws.specs.declared.positions.Position.{Position}
@@ -18,28 +17,34 @@ use Rattle.task_laws.specs.Theorem.{owns_awaiter}
 use Rattle.task_steps.specs.declared.table.Slot.{Slot}
 use Rattle.task_steps.specs.declared.table.Deed.{Deed}
 use Rattle.task_cell.specs.declared.cell.Party.{Party}
-use Rattle.task_steps.specs.declared.words.Cancelled.{Cancelled}
-use Rattle.task_steps.specs.declared.words.Detached.{Detached}
 use Rattle.task_steps.specs.declared.words.Cancelled.TheVariants.{Over, Busy, Idle}
 use Rattle.task_steps.specs.declared.words.Detached.TheVariants.{Unclaimed, Shared, Last, Orphaned}
 use Rattle.task_steps.specs.Rule.{has_work}
 use Rattle.task_steps.specs.Steps.{output_first, Carries, Makes}
-use Rattle.task_cell.specs.Calls.{position, StandsWith, Stands, GoesWith, Goes}
+use Rattle.task_cell.specs.Calls.{position, Stands, Goes, deeds}
 use Rattle.task_steps.specs.Deeds.{row, act}
 use Rattle.task_steps.specs.Standing.{rest_of, as_task}
 use Rattle.task_cell.specs.RunPaths.{NotifyPath, not_due as none_due, missed as miss, none_there, taken, WakePath, nobody, woken}
 use Rattle.task_cell.specs.RunCalls.{TakesDue, takes_none, takes_one, Wakes}
-use Rattle.task_steps.specs.TaskScripts.{looking_over, cancelling, detaching, giving_task_up}
+use Rattle.task_steps.specs.TaskScripts.{cancelling, detaching, giving_task_up, finding_cancelled, cancelled, cancelled_word, detached}
 use Rattle.task_cell.specs.TaskPaths.{Notice, not_due, missed, found_none, woke, Cancels, Detaches, GivesTaskUp}
 use Rattle.task_steps.specs.Found.{closed_by, given_up_by}
 use Rattle.task_cell.proofs.Moved.{moved, goes, goes_on, stands, position_is}
 use Rattle.task_steps.proofs.Acts.{both}
-use Rattle.task_steps.proofs.TaskOwed.{over, neither, none_left, last_orphan, closed_claimed, idle_cancel}
+use Rattle.task_steps.proofs.TaskOwed.{over, neither, none_left, last_orphan, closed_claimed, idle_cancel, finds_over, cancels, detaches}
+use Rattle.task_steps.specs.WakerScripts.{is_over}
+use Rattle.task_steps.specs.Attempts.{MayTry, HasChanged, HasEnded}
+use Rattle.task_steps.proofs.Attempts.{never_ends}
+use Rattle.task_cell.proofs.Attempts.{may_at}
 
 -- a word that is written only where the test holds
 pub opened : (b : Bool) (v w : State) → Some v ≡ (if b then Some w else None) → (b ≡ true) × (v ≡ w)
 opened true v w e = (refl, cc)
 opened false v w e = absurd (cc)
+
+is_opened : (b : Bool) (v : State) → is_some (if b then Some v else None) ≡ true → b ≡ true
+is_opened true v e = refl
+is_opened false v e = absurd (cc)
 
 -- what was taken and woken, of a cancel
 noticed : (Woken : Type 0) (due found : Bool) (n k : List Deed) → NotifyPath due found n → WakePath Woken found k → Notice Woken due (n ++ k)
@@ -49,79 +54,42 @@ noticed Woken due found n k (none_there w v f) nobody = found_none w v f
 noticed Woken due found n k (taken w v f) (woken fact) = woke w v f fact
 
 module _ {F T A : Type 0} where
-  -- the party is where it was
-  pub record Same (p q : Party F T A) : Type 0 where
-    pub cell : q.seat.table_id ≡ p.seat.table_id
-    pub me : q.seat.me ≡ p.seat.me
-
-  pub here : (p q : Party F T A) (at : Position) (held : List (ℕ × Slot F T A)) → StandsWith at held p → Same p q → GoesWith [] at held p q
-  here p q at held s e = record { cell = e.cell; is = e.me ∙ s }
-
-  -- .. after a step without an act
-  pub stays_here : (p q r : Party F T A) (n : ℕ) (w : State) → Stands (as_task n) p → Same p q → r.seat.table_id ≡ q.seat.table_id → Makes [] w q.seat.me r.seat.me → Same p r
-  stays_here p q r n w s e cell m = let x = moved [] w (At (Task n)) [] q r (stands p q [] (At (Task n)) [] (here p q (At (Task n)) [] s e)) m in
-      let g = goes_on p q r [] [] (At (Task n)) (At (Task n)) [] [] (here p q (At (Task n)) [] s e) (goes q r [] (At (Task n)) [] cell x.viewed x.carried) in
-      record { cell = g.cell; me = g.is ∙ sym s }
-
   bare : (a b : Bool) (q : Position) (l : List (ℕ × Slot F T A)) → a ≡ false → b ≡ false → Carries {F = F} {T = T} {A = A} false a false b q [] l → l ≡ []
   bare a b q l e f c = subst (λ (z : Bool × Bool). Carries {F = F} {T = T} {A = A} false z.0 false z.1 q [] l) (λ i. (e i, f i)) c
 
-  -- a look of a cancel, on an open task
-  pub looks_on : (p q : Party F T A) (n : ℕ) (w : State) → Stands (as_task n) p → q.seat.table_id ≡ p.seat.table_id → is_open w ≡ true → Makes (looking_over w) w p.seat.me q.seat.me → Same p q
-  looks_on p q n w s cell now m = stays_here p p q n w s (record { cell = refl; me = refl }) cell (subst (λ b. Makes (if b then [] else CancelOver ∷ EndCall ∷ []) w p.seat.me q.seat.me) now m)
+  -- a cancel of a task that is over
+  pub looks_over : (limit : ℕ) (p q : Party F T A) (n : ℕ) (w : State) → Stands (as_task n) p → q.seat.table_id ≡ p.seat.table_id → HasEnded limit is_over finding_cancelled w p.seat.me q.seat.me → Cancels n p q Over
+  looks_over limit p q n w s cell e = let x = moved (CancelOver ∷ EndCall ∷ []) w (At (Task n)) [] p q s e.made in
+      (w, e.at_end, goes p q (row CancelOver w ∷ act EndCall ∷ []) (At (Task n)) [] cell x.viewed x.carried)
 
-  -- .. and on one that is over
-  pub looks_over : (p q : Party F T A) (n : ℕ) (w : State) → Stands (as_task n) p → q.seat.table_id ≡ p.seat.table_id → is_open w ≡ false → Makes (looking_over w) w p.seat.me q.seat.me → Cancels n p q Over
-  looks_over p q n w s cell now m = let x = moved (CancelOver ∷ EndCall ∷ []) w (At (Task n)) [] p q s (subst (λ b. Makes (if b then [] else CancelOver ∷ EndCall ∷ []) w p.seat.me q.seat.me) now m) in
-      (w, over (is_open w) now, goes p q (row CancelOver w ∷ act EndCall ∷ []) (At (Task n)) [] cell x.viewed x.carried)
-
-  -- the row of a cancel
-  pub closes : (p q r : Party F T A) (n : ℕ) (w : State) → Stands (as_task n) p → Same p q → r.seat.table_id ≡ q.seat.table_id → is_open w ≡ true → Makes (cancelling w) w q.seat.me r.seat.me → Cancels n p r (closed_by w)
-  closes p q r n w s e cell now m = made (w.scheduled || w.running) refl m
+  -- .. and the row of one that closes it
+  pub closes : (limit : ℕ) (p q : Party F T A) (n : ℕ) (w : State) → Stands (as_task n) p → q.seat.table_id ≡ p.seat.table_id → HasChanged limit cancelled_word cancelling w p.seat.me q.seat.me → Cancels n p q (closed_by w)
+  closes limit p q n w s cell c = made (w.scheduled || w.running) refl c.made
     where
-      g : GoesWith [] (At (Task n)) [] p q
-      g = here p q (At (Task n)) [] s e
+      now : is_open w ≡ true
+      now = is_opened (is_open w) (cancelled w) c.written
 
-      made : (b : Bool) → (w.scheduled || w.running) ≡ b → Makes (if b then CancelBusy ∷ [] else CancelIdle ∷ []) w q.seat.me r.seat.me → Cancels n p r (if b then Busy w.awaiter else Idle w.awaiter)
-      made true is m = let x = moved (CancelBusy ∷ []) w (At (Task n)) [] q r (stands p q [] (At (Task n)) [] g) m in
-          let path : List Deed = row CancelBusy w ∷ [] in let at : Position = notifies w.awaiter (OfCancel n) in let i = idle_cancel w.awaiter n in
-          let o = goes_on p q r [] path (At (Task n)) at [] [] g (goes q r path at [] cell x.viewed (bare (has_work at) (owns_awaiter at) at r.seat.me.1 i.0 i.1 x.carried)) in
-          (w, refl, both (is_open w) (w.scheduled || w.running) now is, o)
-      made false is m = let x = moved (CancelIdle ∷ []) w (At (Task n)) [] q r (stands p q [] (At (Task n)) [] g) m in
-          let path : List Deed = row CancelIdle w ∷ [] in let at : Position = Deliverer false (cancels_after w.awaiter n) in
-          let o = goes_on p q r [] path (At (Task n)) at [] [] g (goes q r path at [] cell x.viewed x.carried) in
-          (w, refl, neither (is_open w) w.scheduled w.running now is, o)
-
-  pub closes_at : (p q r : Party F T A) (n k : ℕ) (w : State) (result : Cancelled) → Stands (as_task n) p → Same p q → r.seat.table_id ≡ q.seat.table_id → k ≡ number_of w → is_open w ≡ true → result ≡ closed_by w
-      → Makes (cancelling (state_of k)) (state_of k) q.seat.me r.seat.me → Cancels n p r result
-  closes_at p q r n k w result s e cell is now by m = subst (Cancels n p r) (sym by) (closes p q r n w s e cell now (subst (λ (v : State). Makes (cancelling v) v q.seat.me r.seat.me) (ap state_of is ∙ state_of_number_of w) m))
+      made : (b : Bool) → (w.scheduled || w.running) ≡ b → Makes (if b then CancelBusy ∷ [] else CancelIdle ∷ []) w p.seat.me q.seat.me → Cancels n p q (if b then Busy w.awaiter else Idle w.awaiter)
+      made true is m = let x = moved (CancelBusy ∷ []) w (At (Task n)) [] p q s m in let at : Position = notifies w.awaiter (OfCancel n) in let i = idle_cancel w.awaiter n in
+          (w, refl, both (is_open w) (w.scheduled || w.running) now is, goes p q (row CancelBusy w ∷ []) at [] cell x.viewed (bare (has_work at) (owns_awaiter at) at q.seat.me.1 i.0 i.1 x.carried))
+      made false is m = let x = moved (CancelIdle ∷ []) w (At (Task n)) [] p q s m in
+          (w, refl, neither (is_open w) w.scheduled w.running now is, goes p q (row CancelIdle w ∷ []) (Deliverer false (cancels_after w.awaiter n)) [] cell x.viewed x.carried)
 
   -- the row of a detach
-  pub gives_up : (p q r : Party F T A) (n : ℕ) (w : State) → Stands (as_task n) p → Same p q → r.seat.table_id ≡ q.seat.table_id → Makes (detaching w) w q.seat.me r.seat.me → Detaches p r (given_up_by w)
-  gives_up p q r n w s e cell m = made (w.completed && not w.closed) (nat_lt 0 w.references) w.closed refl refl refl m
+  pub gives_up : (limit : ℕ) (p q : Party F T A) (n : ℕ) (w : State) → Stands (as_task n) p → q.seat.table_id ≡ p.seat.table_id → HasChanged limit (λ _ w. Some (detached w)) detaching w p.seat.me q.seat.me → Detaches p q (given_up_by w)
+  gives_up limit p q n w s cell c = made (w.completed && not w.closed) (nat_lt 0 w.references) w.closed refl refl refl c.made
     where
-      g : GoesWith [] (At (Task n)) [] p q
-      g = here p q (At (Task n)) [] s e
-
       made : (a b c : Bool) → (w.completed && not w.closed) ≡ a → nat_lt 0 w.references ≡ b → w.closed ≡ c
-          → Makes (if a then GiveUpOutput ∷ [] else (if b then Detach ∷ EndCall ∷ [] else (if c then DetachLast ∷ [] else DetachOrphan ∷ []))) w q.seat.me r.seat.me
-          → Detaches p r (if a then Unclaimed else (if b then Shared else (if c then Last else Orphaned)))
-      made true b c claimed counted closed m = let x = moved (GiveUpOutput ∷ []) w (At (Task n)) [] q r (stands p q [] (At (Task n)) [] g) m in
-          let path : List Deed = row GiveUpOutput w ∷ [] in let y = x.carried in
-          (w, y.0, y.1, claimed, y.2, goes_on p q r [] path (At (Task n)) OutputCloser [] (output_first y.0 y.1 []) g (goes q r path OutputCloser (output_first y.0 y.1 []) cell x.viewed y.3))
-      made false true c claimed counted closed m = let x = moved (Detach ∷ EndCall ∷ []) w (At (Task n)) [] q r (stands p q [] (At (Task n)) [] g) m in
-          let path : List Deed = row Detach w ∷ act EndCall ∷ [] in
-          (w, both (nat_lt 0 w.references) (not (w.completed && not w.closed)) counted (over (w.completed && not w.closed) claimed), goes_on p q r [] path (At (Task n)) (At Ended) [] [] g (goes q r path (At Ended) [] cell x.viewed x.carried))
-      made false false true claimed counted closed m = let x = moved (DetachLast ∷ []) w (At (Task n)) [] q r (stands p q [] (At (Task n)) [] g) m in
-          let path : List Deed = row DetachLast w ∷ [] in let at : Position = Emptier None Nothing in let y = x.carried in
-          (w, y.0, both (nat_eq w.references 0) w.closed (none_left w.references counted) closed, goes_on p q r [] path (At (Task n)) at [] ((2, y.0) ∷ []) g (goes q r path at ((2, y.0) ∷ []) cell x.viewed y.2))
-      made false false false claimed counted closed m = let x = moved (DetachOrphan ∷ []) w (At (Task n)) [] q r (stands p q [] (At (Task n)) [] g) m in
-          let path : List Deed = row DetachOrphan w ∷ [] in let at : Position = Deliverer false (ThenEnds Nothing) in
-          (w, last_orphan w.references w.completed w.closed counted claimed closed, goes_on p q r [] path (At (Task n)) at [] [] g (goes q r path at [] cell x.viewed x.carried))
-
-  pub gives_up_at : (p q r : Party F T A) (n k : ℕ) (w : State) (result : Detached) → Stands (as_task n) p → Same p q → r.seat.table_id ≡ q.seat.table_id → k ≡ number_of w → result ≡ given_up_by w
-      → Makes (detaching (state_of k)) (state_of k) q.seat.me r.seat.me → Detaches p r result
-  gives_up_at p q r n k w result s e cell is by m = subst (Detaches p r) (sym by) (gives_up p q r n w s e cell (subst (λ (v : State). Makes (detaching v) v q.seat.me r.seat.me) (ap state_of is ∙ state_of_number_of w) m))
+          → Makes (if a then GiveUpOutput ∷ [] else (if b then Detach ∷ EndCall ∷ [] else (if c then DetachLast ∷ [] else DetachOrphan ∷ []))) w p.seat.me q.seat.me
+          → Detaches p q (if a then Unclaimed else (if b then Shared else (if c then Last else Orphaned)))
+      made true b c claimed counted closed m = let x = moved (GiveUpOutput ∷ []) w (At (Task n)) [] p q s m in let y = x.carried in
+          (w, y.0, y.1, claimed, y.2, goes p q (row GiveUpOutput w ∷ []) OutputCloser (output_first y.0 y.1 []) cell x.viewed y.3)
+      made false true c claimed counted closed m = let x = moved (Detach ∷ EndCall ∷ []) w (At (Task n)) [] p q s m in
+          (w, both (nat_lt 0 w.references) (not (w.completed && not w.closed)) counted (over (w.completed && not w.closed) claimed), goes p q (row Detach w ∷ act EndCall ∷ []) (At Ended) [] cell x.viewed x.carried)
+      made false false true claimed counted closed m = let x = moved (DetachLast ∷ []) w (At (Task n)) [] p q s m in let y = x.carried in
+          (w, y.0, both (nat_eq w.references 0) w.closed (none_left w.references counted) closed, goes p q (row DetachLast w ∷ []) (Emptier None Nothing) ((2, y.0) ∷ []) cell x.viewed y.2)
+      made false false false claimed counted closed m = let x = moved (DetachOrphan ∷ []) w (At (Task n)) [] p q s m in
+          (w, last_orphan w.references w.completed w.closed counted claimed closed, goes p q (row DetachOrphan w ∷ []) (Deliverer false (ThenEnds Nothing)) [] cell x.viewed x.carried)
 
   -- the Task is given up whose output was dropped
   pub gives_rest : (p q r : Party F T A) (w : State) → Goes (act DropOutput ∷ []) Detacher p q → r.seat.table_id ≡ q.seat.table_id → w.closed ≡ true → Makes (giving_task_up w) w q.seat.me r.seat.me → GivesTaskUp p r (nat_eq w.references 0)
@@ -165,3 +133,13 @@ module _ {F T A : Type 0} where
     noticed Woken due true path k.0 told k.1,
     ends p r t (path ++ k.0) Nothing (Task n) (goes_on p q r path k.0 (AwaiterInHand i (OfCancel n)) (Leaving Nothing (Task n)) [] [] g k.2) e,
   )
+
+module _ (F T A : Type 0) (limit : ℕ) where
+  -- the rule allows a Task to cancel, and to be detached
+  pub may_cancel : (p : Party F T A) (n : ℕ) → Stands (as_task n) p → MayTry limit 3 p.seat.id p.seat.me cancelled_word is_over cancelling finding_cancelled
+  may_cancel p n s = may_at limit p (At (Task n)) [] s cancelled_word is_over cancelling finding_cancelled (λ w. refl)
+      (λ w v e m f here. let x = opened (is_open w) v (cancelled w) (sym e) in cancels F T A limit n (deeds p) [] [] w (number_of w) (number_of v) refl (ap number_of x.1) x.0 m f here) (finds_over F T A limit n (deeds p) [] [])
+
+  pub may_detach : (p : Party F T A) (n : ℕ) → Stands (as_task n) p → MayTry limit 3 p.seat.id p.seat.me (λ _ w. Some (detached w)) (λ _ _. false) detaching (λ _. [])
+  may_detach p n s = may_at limit p (At (Task n)) [] s (λ _ w. Some (detached w)) (λ _ _. false) detaching (λ _. []) (λ w. refl)
+      (λ w v e m f here. let is : detached w ≡ v = cc in detaches F T A limit n (deeds p) [] [] w (number_of w) (number_of v) refl (ap number_of (sym is)) m f here) (never_ends F T A limit (At (Task n)) (deeds p) [] [])

@@ -1,15 +1,12 @@
--- What the steps of a waker come to for the party that made them.
-use Rattle.std.proofs.Common.{◌≡◌, ℕ, ◌≢◌, eqb, Bool, true, false, not, ◌&&◌, List, [], ◌∷◌, ◌++◌, Option, Some, None, IfSome, is_some, refl, sym, ap, ◌∙◌, subst, append-nil}
+-- What the steps of a lent waker, and of a waker's drop, come to for the party that made them.
+use Rattle.std.proofs.Common.{◌≡◌, ℕ, Bool, true, false, not, ◌&&◌, List, [], ◌∷◌, Option, Some, None, IfSome, is_some, refl, sym, ap, ◌∙◌, subst}
 use Rattle.std.specs.Prelude.{nat_lt, if◌then◌else◌}
-use prog.Atomic.{either}
-use Rattle.atomic_table.specs.Table.{Me, Allows}
-use Rattle.task_core.specs.Word.{State, is_open, state_of, number_of}
-use Rattle.task_core.proofs.Bits.{state_of_number_of}
+use Rattle.atomic_table.specs.Table.{Me}
+use Rattle.task_core.specs.Word.{State, is_open, number_of}
 use Rattle.task_core.specs.Rows.{written, row as row_of}
-use Rattle.task_laws.specs.Table.{Slots}
+use Rattle.task_laws.specs.Table.{Slots, is_held}
 use Rattle.task_laws.specs.declared.positions.Answer.TheVariants.{Nothing}
-use Rattle.task_laws.specs.declared.positions.Rest.{Rest}
-use Rattle.task_laws.specs.declared.positions.Rest.TheVariants.{Runnable, Waker, Lent, Ended, Task}
+use Rattle.task_laws.specs.declared.positions.Rest.TheVariants.{Waker, Lent, Ended}
 use Rattle.task_laws.specs.declared.positions.After.TheVariants.{ThenEnds}
 use Rattle.task_laws.specs.declared.positions.Position.{Position}
 use Rattle.task_laws.specs.declared.positions.Position.TheVariants.{At, Deliverer, Emptier, OrphanHolder}
@@ -21,210 +18,156 @@ use Rattle.task_steps.specs.declared.table.Member.{Member}
 use Rattle.task_steps.specs.declared.table.View.{View}
 use Rattle.task_cell.specs.declared.cell.Party.{Party}
 use Rattle.task_steps.specs.declared.words.Dropped.TheVariants.{Shared, Last, Orphaned}
-use Rattle.task_steps.specs.Rule.{member, view, fresh, Ruled}
+use Rattle.task_steps.specs.Rule.{member, view, fresh}
 use Rattle.task_steps.specs.Steps.{head_of, acted, Carried, Makes}
-use Rattle.task_steps.specs.Knows.{Knows}
 use Rattle.task_cell.specs.Calls.{deeds, limit_of, IsNew, Stands, Goes}
 use Rattle.task_steps.specs.Deeds.{row, act, after}
 use Rattle.task_steps.specs.Standing.{as_waker, as_deliverer}
-use Rattle.task_steps.specs.WakerScripts.{others_left, looking_for_room, gaining, refusing_gain, finding_over, waking_task, dropping_waker, closing_orphan}
-use Rattle.task_cell.specs.Wakers.{StandsBeside, MayWake, GoesBeside}
-use Rattle.task_laws.specs.Table.{is_held, may_ask}
-use Rattle.task_steps.specs.Beside.{may_call, may_change, without_newest, newest}
-use Rattle.task_cell.specs.WakerPaths.{GainsShare, is_refused, goes_on_to, is_gained, finds_limit, is_over, is_scheduled, is_running, is_idle, GainsBeside, WakesBeside, Gains, gains_none, gains_one, WakesTask, makes_none, makes_one, DropsWaker}
+use Rattle.task_cell.specs.WakerPaths as paths
+use Rattle.task_steps.specs.Attempts.{MayTry, HasChanged, HasEnded}
+use Rattle.task_cell.proofs.Attempts.{may_at}
+use Rattle.task_steps.proofs.WakerOwed as owed
+use Rattle.task_steps.specs.WakerScripts.{others_left, gaining, gained_word, at_limit, finding_limit, refusing_gain, is_over, finding_over, waking_task, woken_word, woken_if_held, dropping_waker, closing_orphan}
+use Rattle.task_steps.specs.Beside.{without_newest, newest}
+use Rattle.task_cell.specs.WakerPaths.{GainsShare, is_refused, goes_on_to, is_gained, finds_limit, is_scheduled, is_running, is_idle, Gains, gains_none, gains_one, WakesTask, makes_none, makes_one, DropsWaker}
 use Rattle.task_steps.specs.Found.{dropped_by}
-use Rattle.task_steps.proofs.Allowed.{Owes}
-use Rattle.task_steps.proofs.Known.{steps_knowing, steps_or_misses_knowing}
-use Rattle.task_steps.proofs.Acts.{row_found, both}
+use Rattle.task_steps.proofs.Acts.{both}
 use Rattle.task_cell.proofs.Carried.{keeps_places}
 use Rattle.task_cell.proofs.Moved.{moved, goes}
-use Rattle.task_cell.proofs.TaskMoves.{Same}
 use Rattle.task_steps.proofs.TaskOwed.{over}
 use Rattle.task_steps.specs.Seats.{is_spent}
 use Rattle.atomic_table.specs.Seated.{TableId}
-use Rattle.task_steps.proofs.WakerSeats.{others_are, newest_is}
-use Rattle.task_steps.proofs.WakerOwed.{looks_for_room, gains, third, fourth}
+use Rattle.task_steps.proofs.WakerOwed.{gains, third, fourth}
 
 never : {P : Type 0} → false ≡ true → P
 never e = absurd (cc)
 
--- the acts leave this view, whatever the slots hold
-abbrev Leads : Rest → List Member → State → List Act → List Deed → List Member → Type 0
-Leads r us w acts path more = (slots : Slots) (l : ℕ) (ds : List Deed) → acted w slots acts (view l (member (At r) ds ∷ us)) ≡ view l (member (At r) (after path ds) ∷ more)
+-- whether the count had room, and the task was open, by the word that was written
+has_room : (limit : ℕ) (w : State) → is_some (gained_word limit w) ≡ true → nat_lt w.references limit ≡ true
+has_room limit w e = by (is_held w) (nat_lt w.references limit) (written GainReference w) e
+  where
+    by : (a b : Bool) (v : State) → is_some (if a then (if b then Some v else None) else None) ≡ true → b ≡ true
+    by true true v e = refl
+    by true false v e = absurd (cc)
+    by false b v e = absurd (cc)
 
-by_gainer : (r : Rest) (us : List Member) (w : State) (acts : List Act) (path : List Deed) (more : List Member) → may_ask r ≡ true → Leads Runnable us w acts path more → Leads Waker us w acts path more → Leads Lent us w acts path more → Leads r us w acts path more
-by_gainer Runnable us w acts path more may a b c = a
-by_gainer Waker us w acts path more may a b c = b
-by_gainer Lent us w acts path more may a b c = c
-by_gainer Ended us w acts path more may a b c = never may
-by_gainer (Task n) us w acts path more may a b c = never may
+was_open : (limit : ℕ) (w : State) → is_some (woken_if_held limit w) ≡ true → is_open w ≡ true
+was_open limit w e = by (is_held w) (is_open w) (woken_word w) e
+  where
+    by : (a b : Bool) (v : State) → is_some (if a then (if b then Some v else None) else None) ≡ true → b ≡ true
+    by true true v e = refl
+    by true false v e = absurd (cc)
+    by false b v e = absurd (cc)
 
-by_waker : (r : Rest) (us : List Member) (w : State) (acts : List Act) (path : List Deed) (more : List Member) → may_call r ≡ true → Leads Waker us w acts path more → Leads Lent us w acts path more → Leads r us w acts path more
-by_waker Runnable us w acts path more may b c = never may
-by_waker Waker us w acts path more may b c = b
-by_waker Lent us w acts path more may b c = c
-by_waker Ended us w acts path more may b c = never may
-by_waker (Task n) us w acts path more may b c = never may
+is_not : (b : Bool) → not b ≡ true → b ≡ false
+is_not true e = never e
+is_not false e = refl
+
+-- no wake is there yet, and no run
+both_idle : (w : State) → (not w.scheduled && not w.running) ≡ true → (w.scheduled ≡ false) × (w.running ≡ false)
+both_idle w e = by w.scheduled w.running e
+  where
+    by : (a b : Bool) → (not a && not b) ≡ true → (a ≡ false) × (b ≡ false)
+    by false false e = (refl, refl)
+    by false true e = absurd (cc)
+    by true b e = absurd (cc)
 
 module _ {F T A : Type 0} where
-  -- the party is back where it stood, with these parties beside it
-  back : (r : Rest) (us more : List Member) (w : State) (acts : List Act) (path : List Deed) (p q : Party F T A) → StandsBeside r us p → q.seat.table_id ≡ p.seat.table_id → Leads r us w acts path more → Makes acts w p.seat.me q.seat.me → GoesBeside path r more p q
-  back r us more w acts path p q s cell lead m = let viewed = m.viewed ∙ (ap (λ (x : Me (Slot F T A) View). acted w m.slots acts x.0) s ∙ lead m.slots (limit_of p) (deeds p)) in
-      let carried = subst (λ (z : Position × Position × List (ℕ × Slot F T A)). Carried z.0 z.1 z.2 q.seat.me.1)
-      (λ i. (ap (λ (x : Me (Slot F T A) View). (head_of x.0.members).at) s i, ap (λ (v : View). (head_of v.members).at) viewed i, ap (λ (x : Me (Slot F T A) View). x.1) s i)) m.carried in
-      record { cell = cell; is = λ i. (viewed i, keeps_places (At r) (At r) [] q.seat.me.1 refl refl carried i) }
+  -- the seat of a lent waker after acts by which it comes back, with what they added
+  abbrev Beside : List Deed → List Member → Party F T A → Party F T A → Type 0
+  Beside path more p q = q.seat.me ≡ (view (limit_of p) (member (At Lent) (after path (deeds p)) ∷ more), [])
 
-  pub alone : (path : List Deed) (r : Rest) (us : List Member) (p q : Party F T A) → GoesBeside path r (us ++ []) p q → GoesBeside path r us p q
-  alone path r us p q g = subst (λ l. GoesBeside path r l p q) (append-nil us) g
-
-  -- .. from where it was before a step without an act
-  from_same : (path : List Deed) (r : Rest) (us : List Member) (p q t : Party F T A) → Same p q → GoesBeside path r us q t → GoesBeside path r us p t
-  from_same path r us p q t e g = record { cell = g.cell ∙ e.cell; is = g.is ∙ ap (λ (x : Me (Slot F T A) View). (view x.0.limit (member (At r) (after path (head_of x.0.members).deeds) ∷ us), [])) e.me }
-
-  pub stands_same : (r : Rest) (us : List Member) (p q : Party F T A) → StandsBeside r us p → Same p q → StandsBeside r us q
-  stands_same r us p q s e = e.me ∙ (s ∙ ap (λ (x : Me (Slot F T A) View). (view x.0.limit (member (At r) (head_of x.0.members).deeds ∷ us), [])) (sym e.me))
+  back : (w : State) (acts : List Act) (path : List Deed) (more : List Member) (p q : Party F T A) → Stands (At Lent) p → ((slots : Slots) (l : ℕ) (ds : List Deed) → acted w slots acts (view l (member (At Lent) ds ∷ [])) ≡ view l (member (At Lent) (after path ds) ∷ more))
+      → Makes acts w p.seat.me q.seat.me → Beside path more p q
+  back w acts path more p q s lead m = let x = moved acts w (At Lent) [] p q s m in let viewed = x.viewed ∙ lead x.slots (limit_of p) (deeds p) in
+      let carried = subst (λ (at : Position). Carried (At Lent) at [] q.seat.me.1) (ap (λ (v : View). (head_of v.members).at) (lead x.slots (limit_of p) (deeds p))) x.carried in
+      (λ i. (viewed i, keeps_places (At Lent) (At Lent) [] q.seat.me.1 refl refl carried i))
 
   -- a party that has done nothing, alone on its seat
-  pub fresh_stands : (r : Rest) (l : ℕ) (p : Party F T A) → p.seat.me ≡ (view l (fresh (At r) ∷ []), []) → StandsBeside r [] p
-  fresh_stands r l p is = is ∙ ap (λ (z : ℕ × List Deed). (view z.0 (member (At r) z.1 ∷ []), []))
+  pub fresh_stands : (l : ℕ) (p : Party F T A) → p.seat.me ≡ (view l (fresh (At Lent) ∷ []), []) → Stands (At Lent) p
+  fresh_stands l p is = is ∙ ap (λ (z : ℕ × List Deed). (view z.0 (member (At Lent) z.1 ∷ []), []))
       (λ i. (sym (ap (λ (x : Me (Slot F T A) View). x.0.limit) is) i, sym (ap (λ (x : Me (Slot F T A) View). (head_of x.0.members).deeds) is) i))
 
-  -- the party of a call by reference may be let go after it
-  pub is_spent_after : (path : List Deed) (us : List Member) (p q : Party F T A) → GoesBeside path Lent us p q → is_spent q.seat.me.0 ≡ true
-  is_spent_after path us p q g = ap (λ (x : Me (Slot F T A) View). is_spent x.0) g.is
+  -- the party of a call by reference may be let go, before the call and after it
+  pub is_spent_at : (l : ℕ) (p : Party F T A) → p.seat.me ≡ (view l (fresh (At Lent) ∷ []), []) → is_spent p.seat.me.0 ≡ true
+  is_spent_at l p is = ap (λ (x : Me (Slot F T A) View). is_spent x.0) is
 
-  -- it stands where it came back
-  pub stands_back : (r : Rest) (us : List Member) (path : List Deed) (p q : Party F T A) → GoesBeside path r us p q → StandsBeside r us q
-  stands_back r us path p q g = g.is ∙ ap (λ (z : ℕ × List Deed). (view z.0 (member (At r) z.1 ∷ us), []))
-      (λ i. (sym (ap (λ (x : Me (Slot F T A) View). x.0.limit) g.is) i, sym (ap (λ (x : Me (Slot F T A) View). (head_of x.0.members).deeds) g.is) i))
+  is_spent_after : (path : List Deed) (p q : Party F T A) → Goes path (At Lent) p q → is_spent q.seat.me.0 ≡ true
+  is_spent_after path p q g = ap (λ (x : Me (Slot F T A) View). is_spent x.0) g.is
 
-  -- the path of a wake, whatever it made
-  pub wake_goes : (r : Rest) (us : List Member) (p q : Party F T A) (made : Option (Party F T A)) → WakesTask r us p q made → (path : List Deed) × GoesBeside path r us p q
-  wake_goes r us p q None (makes_none path w g) = (path, g)
-  wake_goes r us p q (Some d) (makes_one path x w g n) = (path, g)
+  pub spent_by_wake : (p q : Party F T A) (made : Option (Party F T A)) → WakesTask p q made → is_spent q.seat.me.0 ≡ true
+  spent_by_wake p q None (makes_none path w g) = is_spent_after path p q g
+  spent_by_wake p q (Some d) (makes_one path x w g n) = is_spent_after path p q g
+
+  pub spent_by_gain : (limit : ℕ) (p q : Party F T A) (b : Bool) → GainsShare limit p q b → is_spent q.seat.me.0 ≡ true
+  spent_by_gain limit p q false (is_refused g) = is_spent_after (act RefuseGain ∷ act EndCall ∷ []) p q g
+  spent_by_gain limit p q _ (goes_on_to b path w g) = is_spent_after path p q g
 
   -- what a wake by reference makes
-  pub wake_gives : (r : Rest) (us : List Member) (limit : ℕ) (table : TableId) (p q : Party F T A) (made : Option (Party F T A)) → p.seat.table_id ≡ table → limit_of p ≡ limit → WakesTask r us p q made
+  pub wake_gives : (limit : ℕ) (table : TableId) (p q : Party F T A) (made : Option (Party F T A)) → p.seat.table_id ≡ table → limit_of p ≡ limit → WakesTask p q made
       → IfSome made (λ d. (d.seat.table_id ≡ table) × (d.seat.me ≡ (view limit (fresh as_deliverer ∷ []), [])))
-  wake_gives r us limit table p q None cell is (makes_none path w g) = tt
-  wake_gives r us limit table p q (Some d) cell is (makes_one path x w g n) = (n.cell ∙ cell, n.is ∙ ap (λ l. (view l (fresh as_deliverer ∷ []), [])) is)
+  wake_gives limit table p q None cell is (makes_none path w g) = tt
+  wake_gives limit table p q (Some d) cell is (makes_one path x w g n) = (n.cell ∙ cell, n.is ∙ ap (λ l. (view l (fresh as_deliverer ∷ []), [])) is)
 
-  -- an owned waker after a wake
-  pub owned_after : (p q : Party F T A) (made : Option (Party F T A)) → Stands as_waker p → ((r : Rest) (us : List Member) → MayWake r us p → WakesTask r us p q made) → (q.seat.table_id ≡ p.seat.table_id) × (limit_of q ≡ limit_of p) × Stands as_waker q
-  owned_after p q made s told = let x = wake_goes Waker [] p q made (told Waker [] (refl, s)) in (x.1.cell, ap (λ (m : Me (Slot F T A) View). m.0.limit) x.1.is, stands_back Waker [] x.0 p q x.1)
+  -- .. and a gain
+  shares_by : (limit : ℕ) (p q : Party F T A) (made : Option (Party F T A)) → Gains limit p q made → GainsShare limit p q (is_some made)
+  shares_by limit p q None (gains_none path w g) = goes_on_to false path w g
+  shares_by limit p q (Some d) (gains_one path y w g n) = goes_on_to true path w g
 
-  -- .. and the deliverer that it made
-  pub deliverer_of : (p q d : Party F T A) → Stands as_waker p → ((r : Rest) (us : List Member) → MayWake r us p → WakesTask r us p q (Some d)) → (d.seat.table_id ≡ p.seat.table_id) × (limit_of d ≡ limit_of p) × Stands as_deliverer d
-  deliverer_of p q d s told = is_made (told Waker [] (refl, s))
-    where
-      is_made : WakesTask Waker [] p q (Some d) → (d.seat.table_id ≡ p.seat.table_id) × (limit_of d ≡ limit_of p) × Stands as_deliverer d
-      is_made (makes_one path x w g n) = (
-        n.cell,
-        ap (λ (m : Me (Slot F T A) View). m.0.limit) n.is,
-        n.is ∙ ap (λ (z : ℕ × List Deed). (view z.0 (member as_deliverer z.1 ∷ []), [])) (λ i. (sym (ap (λ (m : Me (Slot F T A) View). m.0.limit) n.is) i, sym (ap (λ (m : Me (Slot F T A) View). (head_of m.0.members).deeds) n.is) i)),
-      )
+  pub shares : (limit known : ℕ) (p q : Party F T A) (made made' : Option (Party F T A)) → limit ≡ known → made ≡ made' → Gains limit p q made → GainsShare known p q (is_some made')
+  shares limit known p q made made' e f g = subst (λ (z : ℕ × Option (Party F T A)). GainsShare z.0 p q (is_some z.1)) (λ i. (e i, f i)) (shares_by limit p q made g)
 
-  -- .. and of a gain
-  shares_by : (r : Rest) (us : List Member) (limit : ℕ) (p q : Party F T A) (made : Option (Party F T A)) → Gains limit r us p q made → GainsShare limit r us p q (is_some made)
-  shares_by r us limit p q None (gains_none path w g) = goes_on_to false path w g
-  shares_by r us limit p q (Some d) (gains_one path y w g n) = goes_on_to true path w g
-
-  pub shares : (r : Rest) (us : List Member) (limit known : ℕ) (p q : Party F T A) (made made' : Option (Party F T A)) → limit ≡ known → made ≡ made' → Gains limit r us p q made → GainsShare known r us p q (is_some made')
-  shares r us limit known p q made made' e f g = subst (λ (z : ℕ × Option (Party F T A)). GainsShare z.0 r us p q (is_some z.1)) (λ i. (e i, f i)) (shares_by r us limit p q made g)
-
-  -- the party is back where it stood
-  pub share_goes : (r : Rest) (us : List Member) (limit : ℕ) (p q : Party F T A) (b : Bool) → GainsShare limit r us p q b → (path : List Deed) × GoesBeside path r us p q
-  share_goes r us limit p q false (is_refused g) = (_, g)
-  share_goes r us limit p q _ (goes_on_to b path w g) = (path, g)
-
-  pub gain_new : (r : Rest) (us : List Member) (limit : ℕ) (p q x : Party F T A) → Gains limit r us p q (Some x) → IsNew as_waker p x
-  gain_new r us limit p q x (gains_one path y w g n) = n
-
-  -- the seat of a party, by the limit of its cell
-  pub viewed : (r : Rest) (us : List Member) (limit : ℕ) (p : Party F T A) → StandsBeside r us p → limit_of p ≡ limit → p.seat.me.0 ≡ view limit (member (At r) (deeds p) ∷ us)
-  viewed r us limit p s is = ap (λ (x : Me (Slot F T A) View). x.0) s ∙ ap (λ l. view l (member (At r) (deeds p) ∷ us)) is
-
-  -- a step without an act
-  stays : (r : Rest) (us : List Member) (w : State) (p q : Party F T A) → StandsBeside r us p → q.seat.table_id ≡ p.seat.table_id → Makes [] w p.seat.me q.seat.me → Same p q
-  stays r us w p q s cell m = let g = alone [] r us p q (back r us (us ++ []) w [] [] p q s cell (λ slots l ds. refl) m) in record { cell = cell; me = g.is ∙ sym s }
+  pub gain_new : (limit : ℕ) (p q x : Party F T A) → Gains limit p q (Some x) → IsNew as_waker p x
+  gain_new limit p q x (gains_one path y w g n) = n
 
   -- the memory was refused
-  pub refuses : (r : Rest) (us : List Member) (w : State) (p q : Party F T A) → may_ask r ≡ true → StandsBeside r us p → q.seat.table_id ≡ p.seat.table_id → Makes (refusing_gain w) w p.seat.me q.seat.me → GoesBeside (act RefuseGain ∷ act EndCall ∷ []) r us p q
-  refuses r us w p q may s cell m = let path : List Deed = act RefuseGain ∷ act EndCall ∷ [] in alone path r us p q
-      (back r us (us ++ []) w (refusing_gain w) path p q s cell (by_gainer r us w (refusing_gain w) path (us ++ []) may (λ slots l ds. refl) (λ slots l ds. refl) (λ slots l ds. refl)) m)
+  pub refuses : (w : State) (p q : Party F T A) → Stands (At Lent) p → q.seat.table_id ≡ p.seat.table_id → Makes (refusing_gain w) w p.seat.me q.seat.me → Goes (act RefuseGain ∷ act EndCall ∷ []) (At Lent) p q
+  refuses w p q s cell m = record { cell = cell; is = back w (refusing_gain w) (act RefuseGain ∷ act EndCall ∷ []) [] p q s (λ slots l ds. refl) m }
 
-  -- the look of a gain: at the limit the call ends, below it nothing is noted
-  pub finds_room : (r : Rest) (us : List Member) (limit k : ℕ) (w : State) (p q : Party F T A) → StandsBeside r us p → q.seat.table_id ≡ p.seat.table_id → k ≡ limit → nat_lt w.references limit ≡ true → Makes (looking_for_room k w) w p.seat.me q.seat.me → Same p q
-  finds_room r us limit k w p q s cell is room m = stays r us w p q s cell (subst (λ b. Makes (if b then [] else FindLimit ∷ EndCall ∷ []) w p.seat.me q.seat.me) (ap (nat_lt w.references) is ∙ room) m)
+  -- the seat after the row of a gain, and what it comes to when the waker has left it
+  pub beside_waker : (limit : ℕ) (w : State) (p q : Party F T A) → Stands (At Lent) p → HasChanged limit gained_word gaining w p.seat.me q.seat.me → Beside (row GainReference w ∷ act EndCall ∷ []) (fresh (At Waker) ∷ []) p q
+  beside_waker limit w p q s x = back w (gaining w) (row GainReference w ∷ act EndCall ∷ []) (fresh (At Waker) ∷ []) p q s (λ slots l ds. refl) x.made
 
-  pub finds_none : (r : Rest) (us : List Member) (limit k : ℕ) (w : State) (p q : Party F T A) → may_ask r ≡ true → StandsBeside r us p → q.seat.table_id ≡ p.seat.table_id → k ≡ limit → nat_lt w.references limit ≡ false
-      → Makes (looking_for_room k w) w p.seat.me q.seat.me → GainsBeside limit r us p q false
-  finds_none r us limit k w p q may s cell is full m = let path : List Deed = row FindLimit w ∷ act EndCall ∷ [] in let acts : List Act = FindLimit ∷ EndCall ∷ [] in (
-    path,
-    finds_limit w full,
-    back r us (us ++ []) w acts path p q s cell (by_gainer r us w acts path (us ++ []) may (λ slots l ds. refl) (λ slots l ds. refl) (λ slots l ds. refl))
-        (subst (λ b. Makes (if b then [] else FindLimit ∷ EndCall ∷ []) w p.seat.me q.seat.me) (ap (nat_lt w.references) is ∙ full) m),
-  )
+  leaves_newest : (path : List Deed) (n : Member) (p q t : Party F T A) → Beside path (n ∷ []) p q → q.seat.table_id ≡ p.seat.table_id → t.seat.table_id ≡ q.seat.table_id → t.seat.me ≡ (without_newest q.seat.me.0, q.seat.me.1) → Goes path (At Lent) p t
+  leaves_newest path n p q t b cell there is = record { cell = there ∙ cell; is = is ∙ ap (λ (x : Me (Slot F T A) View). (without_newest x.0, x.1)) b }
 
-  -- the row of a gain
-  pub gained : (r : Rest) (us : List Member) (limit n : ℕ) (w : State) (p q t : Party F T A) → may_ask r ≡ true → StandsBeside r us p → Same p q → t.seat.table_id ≡ q.seat.table_id → nat_lt w.references limit ≡ true → n ≡ number_of w
-      → Makes (gaining (state_of n)) (state_of n) q.seat.me t.seat.me → GainsBeside limit r us p t true
-  gained r us limit n w p q t may s e cell room is m = let path : List Deed = row GainReference w ∷ act EndCall ∷ [] in let more : List Member = us ++ fresh (At Waker) ∷ [] in (
-    path,
-    is_gained w room,
-    from_same path r more p q t e
-        (back r us more w (gaining w) path q t (stands_same r us p q s e) cell (by_gainer r us w (gaining w) path more may (λ slots l ds. refl) (λ slots l ds. refl) (λ slots l ds. refl))
-        (subst (λ (v : State). Makes (gaining v) v q.seat.me t.seat.me) (ap state_of is ∙ state_of_number_of w) m)),
-  )
+  is_newest : (path : List Deed) (at : Position) (p q x : Party F T A) → Beside path (fresh at ∷ []) p q → q.seat.table_id ≡ p.seat.table_id → x.seat.table_id ≡ q.seat.table_id → x.seat.me ≡ (newest q.seat.me.0, []) → IsNew at p x
+  is_newest path at p q x b cell there is = record { cell = there ∙ cell; is = is ∙ ap (λ (y : Me (Slot F T A) View). (newest y.0, [])) b }
 
-  -- the newest party has left the seat
-  left_alone : (path : List Deed) (r : Rest) (us : List Member) (n : Member) (p q t : Party F T A) → GoesBeside path r (us ++ n ∷ []) p q → t.seat.table_id ≡ q.seat.table_id → t.seat.me ≡ (without_newest q.seat.me.0, q.seat.me.1) → GoesBeside path r us p t
-  left_alone path r us n p q t g cell is = record { cell = cell ∙ g.cell; is = is ∙ (ap (λ (x : Me (Slot F T A) View). (without_newest x.0, x.1)) g.is ∙ ap (λ l. (view (limit_of p) l, [])) (others_are (member (At r) (after path (deeds p))) n us)) }
+  pub gains_waker : (limit : ℕ) (w : State) (p q t x : Party F T A) → Stands (At Lent) p → q.seat.table_id ≡ p.seat.table_id → HasChanged limit gained_word gaining w p.seat.me q.seat.me → t.seat.table_id ≡ q.seat.table_id → t.seat.me ≡ (without_newest q.seat.me.0, q.seat.me.1)
+      → x.seat.table_id ≡ q.seat.table_id → x.seat.me ≡ (newest q.seat.me.0, []) → Gains limit p t (Some x)
+  gains_waker limit w p q t x s cell c there is there' is' = let path : List Deed = row GainReference w ∷ act EndCall ∷ [] in let b = beside_waker limit w p q s c in
+      gains_one path x (is_gained w (has_room limit w c.written)) (leaves_newest path (fresh (At Waker)) p q t b cell there is) (is_newest path (At Waker) p q x b cell there' is')
 
-  is_new : (path : List Deed) (r : Rest) (us : List Member) (at : Position) (p q x : Party F T A) → GoesBeside path r (us ++ fresh at ∷ []) p q → x.seat.table_id ≡ q.seat.table_id → x.seat.me ≡ (newest q.seat.me.0, []) → IsNew at p x
-  is_new path r us at p q x g cell is = record { cell = cell ∙ g.cell; is = is ∙ (ap (λ (y : Me (Slot F T A) View). (newest y.0, [])) g.is ∙ ap (λ l. (view (limit_of p) l, [])) (newest_is (member (At r) (after path (deeds p))) (fresh at) us)) }
+  pub gains_nothing : (limit : ℕ) (w : State) (p q : Party F T A) → Stands (At Lent) p → q.seat.table_id ≡ p.seat.table_id → HasEnded limit at_limit finding_limit w p.seat.me q.seat.me → Gains limit p q None
+  gains_nothing limit w p q s cell x = let path : List Deed = row FindLimit w ∷ act EndCall ∷ [] in
+      gains_none path (finds_limit w (is_not (nat_lt w.references limit) x.at_end)) (record { cell = cell; is = back w (finding_limit w) path [] p q s (λ slots l ds. refl) x.made })
 
-  pub gains_waker : (r : Rest) (us : List Member) (limit : ℕ) (p q t x : Party F T A) → GainsBeside limit r us p q true → t.seat.table_id ≡ q.seat.table_id → t.seat.me ≡ (without_newest q.seat.me.0, q.seat.me.1) → x.seat.table_id ≡ q.seat.table_id → x.seat.me ≡ (newest q.seat.me.0, [])
-      → Gains limit r us p t (Some x)
-  gains_waker r us limit p q t x g cell is cell' is' = gains_one g.0 x g.1 (left_alone g.0 r us (fresh (At Waker)) p q t g.2 cell is) (is_new g.0 r us (At Waker) p q x g.2 cell' is')
+  -- a wake of a task that is over
+  pub wakes_over : (limit : ℕ) (w : State) (p q : Party F T A) → Stands (At Lent) p → q.seat.table_id ≡ p.seat.table_id → HasEnded limit is_over finding_over w p.seat.me q.seat.me → WakesTask p q None
+  wakes_over limit w p q s cell x = let path : List Deed = row WakeOver w ∷ act EndCall ∷ [] in
+      makes_none path (paths.is_over w x.at_end) (record { cell = cell; is = back w (finding_over w) path [] p q s (λ slots l ds. refl) x.made })
 
-  pub gains_nothing : (r : Rest) (us : List Member) (limit : ℕ) (p q : Party F T A) → GainsBeside limit r us p q false → Gains limit r us p q None
-  gains_nothing r us limit p q g = gains_none g.0 g.1 (alone g.0 r us p q g.2)
-
-  -- the look of a wake: where the task is over, the call ends
-  pub finds_open : (r : Rest) (us : List Member) (w : State) (p q : Party F T A) → StandsBeside r us p → q.seat.table_id ≡ p.seat.table_id → is_open w ≡ true → Makes (finding_over w) w p.seat.me q.seat.me → Same p q
-  finds_open r us w p q s cell now m = stays r us w p q s cell (subst (λ b. Makes (if b then [] else WakeOver ∷ EndCall ∷ []) w p.seat.me q.seat.me) now m)
-
-  pub finds_over : (r : Rest) (us : List Member) (w : State) (p q : Party F T A) → may_call r ≡ true → StandsBeside r us p → q.seat.table_id ≡ p.seat.table_id → is_open w ≡ false → Makes (finding_over w) w p.seat.me q.seat.me → WakesBeside r us p q false
-  finds_over r us w p q may s cell now m = let path : List Deed = row WakeOver w ∷ act EndCall ∷ [] in let acts : List Act = WakeOver ∷ EndCall ∷ [] in (
-    path,
-    is_over w (over (is_open w) now),
-    back r us (us ++ []) w acts path p q s cell (by_waker r us w acts path (us ++ []) may (λ slots l ds. refl) (λ slots l ds. refl))
-        (subst (λ b. Makes (if b then [] else WakeOver ∷ EndCall ∷ []) w p.seat.me q.seat.me) now m),
-  )
-
-  -- the row of a wake
-  pub woke : (r : Rest) (us : List Member) (n : ℕ) (w : State) (p q t : Party F T A) → may_call r ≡ true → StandsBeside r us p → Same p q → t.seat.table_id ≡ q.seat.table_id → is_open w ≡ true → n ≡ number_of w
-      → Makes (waking_task (state_of n)) (state_of n) q.seat.me t.seat.me → WakesBeside r us p t (not w.scheduled && not w.running)
-  woke r us n w p q t may s e cell now is m = by w.scheduled w.running refl refl (subst (λ (v : State). Makes (waking_task v) v q.seat.me t.seat.me) (ap state_of is ∙ state_of_number_of w) m)
+  -- .. of one that is scheduled, or runs
+  pub wakes_busy : (limit : ℕ) (w : State) (p q : Party F T A) → Stands (At Lent) p → q.seat.table_id ≡ p.seat.table_id → HasChanged limit woken_if_held waking_task w p.seat.me q.seat.me → (not w.scheduled && not w.running) ≡ false → WakesTask p q None
+  wakes_busy limit w p q s cell x busy = by w.scheduled w.running refl refl busy x.made
     where
-      made : (acts : List Act) (path : List Deed) (more : List Member) → Leads Waker us w acts path more → Leads Lent us w acts path more → Makes acts w q.seat.me t.seat.me → GoesBeside path r more p t
-      made acts path more b c x = from_same path r more p q t e (back r us more w acts path q t (stands_same r us p q s e) cell (by_waker r us w acts path more may b c) x)
+      by : (a b : Bool) → w.scheduled ≡ a → w.running ≡ b → (not a && not b) ≡ false → Makes (if a then WakeScheduled ∷ EndCall ∷ [] else (if b then WakeRunning ∷ EndCall ∷ [] else WakeIdle ∷ EndCall ∷ [])) w p.seat.me q.seat.me → WakesTask p q None
+      by true b scheduled running busy m = let path : List Deed = row WakeScheduled w ∷ act EndCall ∷ [] in
+          makes_none path (is_scheduled w (both (is_open w) w.scheduled (was_open limit w x.written) scheduled)) (record { cell = cell; is = back w (WakeScheduled ∷ EndCall ∷ []) path [] p q s (λ slots l ds. refl) m })
+      by false true scheduled running busy m = let path : List Deed = row WakeRunning w ∷ act EndCall ∷ [] in
+          makes_none path (is_running w (third (is_open w) w.scheduled w.running (was_open limit w x.written) scheduled running)) (record { cell = cell; is = back w (WakeRunning ∷ EndCall ∷ []) path [] p q s (λ slots l ds. refl) m })
+      by false false scheduled running busy m = absurd (cc)
 
-      by : (a b : Bool) → w.scheduled ≡ a → w.running ≡ b → Makes (if a then WakeScheduled ∷ EndCall ∷ [] else (if b then WakeRunning ∷ EndCall ∷ [] else WakeIdle ∷ EndCall ∷ [])) w q.seat.me t.seat.me → WakesBeside r us p t (not a && not b)
-      by true b scheduled running x = let path : List Deed = row WakeScheduled w ∷ act EndCall ∷ [] in
-          (path, is_scheduled w (both (is_open w) w.scheduled now scheduled), made (WakeScheduled ∷ EndCall ∷ []) path (us ++ []) (λ slots l ds. refl) (λ slots l ds. refl) x)
-      by false true scheduled running x = let path : List Deed = row WakeRunning w ∷ act EndCall ∷ [] in
-          (path, is_running w (third (is_open w) w.scheduled w.running now scheduled running), made (WakeRunning ∷ EndCall ∷ []) path (us ++ []) (λ slots l ds. refl) (λ slots l ds. refl) x)
-      by false false scheduled running x = let path : List Deed = row WakeIdle w ∷ act EndCall ∷ [] in
-          (path, is_idle w (fourth (is_open w) w.scheduled w.running now scheduled running), made (WakeIdle ∷ EndCall ∷ []) path (us ++ fresh (Deliverer false (ThenEnds Nothing)) ∷ []) (λ slots l ds. refl) (λ slots l ds. refl) x)
+  -- .. of one that was idle: the seat after the row, and what it comes to when the deliverer has left it
+  pub beside_deliverer : (limit : ℕ) (w : State) (p q : Party F T A) → Stands (At Lent) p → HasChanged limit woken_if_held waking_task w p.seat.me q.seat.me → (not w.scheduled && not w.running) ≡ true → Beside (row WakeIdle w ∷ act EndCall ∷ []) (fresh as_deliverer ∷ []) p q
+  beside_deliverer limit w p q s x idle = let i = both_idle w idle in back w (WakeIdle ∷ EndCall ∷ []) (row WakeIdle w ∷ act EndCall ∷ []) (fresh as_deliverer ∷ []) p q s (λ slots l ds. refl)
+      (subst (λ (z : Bool × Bool). Makes (if z.0 then WakeScheduled ∷ EndCall ∷ [] else (if z.1 then WakeRunning ∷ EndCall ∷ [] else WakeIdle ∷ EndCall ∷ [])) w p.seat.me q.seat.me) (λ j. (i.0 j, i.1 j)) x.made)
 
-  pub wakes_idle : (r : Rest) (us : List Member) (p q t x : Party F T A) → WakesBeside r us p q true → t.seat.table_id ≡ q.seat.table_id → t.seat.me ≡ (without_newest q.seat.me.0, q.seat.me.1) → x.seat.table_id ≡ q.seat.table_id → x.seat.me ≡ (newest q.seat.me.0, [])
-      → WakesTask r us p t (Some x)
-  wakes_idle r us p q t x g cell is cell' is' = let at : Position = Deliverer false (ThenEnds Nothing) in makes_one g.0 x g.1 (left_alone g.0 r us (fresh at) p q t g.2 cell is) (is_new g.0 r us at p q x g.2 cell' is')
-
-  pub wakes_else : (r : Rest) (us : List Member) (p q : Party F T A) → WakesBeside r us p q false → WakesTask r us p q None
-  wakes_else r us p q g = makes_none g.0 g.1 (alone g.0 r us p q g.2)
+  pub wakes_idle : (limit : ℕ) (w : State) (p q t d : Party F T A) → Stands (At Lent) p → q.seat.table_id ≡ p.seat.table_id → HasChanged limit woken_if_held waking_task w p.seat.me q.seat.me → (not w.scheduled && not w.running) ≡ true
+      → t.seat.table_id ≡ q.seat.table_id → t.seat.me ≡ (without_newest q.seat.me.0, q.seat.me.1) → d.seat.table_id ≡ q.seat.table_id → d.seat.me ≡ (newest q.seat.me.0, []) → WakesTask p t (Some d)
+  wakes_idle limit w p q t d s cell x idle there is there' is' = let path : List Deed = row WakeIdle w ∷ act EndCall ∷ [] in let b = beside_deliverer limit w p q s x idle in let i = both_idle w idle in
+      makes_one path d (is_idle w (fourth (is_open w) w.scheduled w.running (was_open limit w x.written) i.0 i.1)) (leaves_newest path (fresh as_deliverer) p q t b cell there is) (is_newest path as_deliverer p q d b cell there' is')
 
   -- the row of a waker's drop
   pub drops : (w : State) (p q : Party F T A) → Stands as_waker p → q.seat.table_id ≡ p.seat.table_id → Makes (dropping_waker w) w p.seat.me q.seat.me → DropsWaker p q (dropped_by w)
@@ -243,44 +186,29 @@ module _ {F T A : Type 0} where
   pub closes_orphan : (w : State) (p q : Party F T A) → Stands OrphanHolder p → q.seat.table_id ≡ p.seat.table_id → Makes (closing_orphan w) w p.seat.me q.seat.me → (v : State) × Goes (row CloseOrphan v ∷ []) (Deliverer false (ThenEnds Nothing)) p q
   closes_orphan w p q s cell m = let x = moved (CloseOrphan ∷ []) w OrphanHolder [] p q s m in (w, goes p q (row CloseOrphan w ∷ []) (Deliverer false (ThenEnds Nothing)) [] cell x.viewed x.carried)
 
--- whether there is room, by the row that fits
-pub has_room : (limit : ℕ) (w v : State) → Some v ≡ row_of limit GainReference w → nat_lt w.references limit ≡ true
-has_room limit w v e = (row_found limit GainReference w v e).0
+module _ (F T A : Type 0) (limit : ℕ) where
+  -- the rule allows a lent waker to gain a reference, and to wake
+  pub may_gain : (p : Party F T A) → Stands (At Lent) p → limit_of p ≡ limit → MayTry limit 3 p.seat.id p.seat.me gained_word at_limit gaining finding_limit
+  may_gain p s is = may_at limit p (At Lent) [] s gained_word at_limit gaining finding_limit (λ w. ap (λ l. at_limit l w) is)
+      (λ w v e m f here. let x = held_room w v e in gains F T A limit Lent (deeds p) [] [] w v (number_of w) (number_of v) refl x.0 x.1 refl refl m f here)
+      (owed.finds_limit F T A limit Lent (deeds p) [] [] refl)
+    where
+      held_room : (w v : State) → gained_word limit w ≡ Some v → (is_held w ≡ true) × (Some v ≡ row_of limit GainReference w)
+      held_room w v e = by (is_held w) (row_of limit GainReference w) e
+        where
+          by : (b : Bool) (x : Option State) → (if b then x else None) ≡ Some v → (b ≡ true) × (Some v ≡ x)
+          by true x e = (refl, sym e)
+          by false x e = absurd (cc)
 
-pub has_none : (limit : ℕ) (w : State) → None ≡ row_of limit GainReference w → nat_lt w.references limit ≡ false
-has_none limit w e = full (nat_lt w.references limit) (written GainReference w) e
-  where
-    full : (b : Bool) (v : State) → None ≡ (if b then Some v else None) → b ≡ false
-    full true v e = absurd (cc)
-    full false v e = refl
-
--- .. and whether the task is open, by the word that a wake writes
-pub was_open : (b : Bool) (v w : State) → Some v ≡ (if b then Some w else None) → (b ≡ true) × (v ≡ w)
-was_open true v w e = (refl, cc)
-was_open false v w e = absurd (cc)
-
-pub was_over : (b : Bool) (w : State) → None ≡ (if b then Some w else None) → b ≡ false
-was_over true w e = absurd (cc)
-was_over false w e = refl
-
--- what a gain owes that looks by the limit which its seat knows
-owes_look : (F T A : Type 0) (limit : ℕ) (me : Me (Slot F T A) View) (r : Rest) (ds : List Deed) (us : List Member) → me.0 ≡ view limit (member (At r) ds ∷ us) → may_ask r ≡ true → Owes F T A limit (looking_for_room me.0.limit) (λ n. n) (At r) ds us me.1
-owes_look F T A limit me r ds us is may = subst (λ (l : ℕ). Owes F T A limit (looking_for_room l) (λ n. n) (At r) ds us me.1) (sym (ap (λ (v : View). v.limit) is)) (looks_for_room F T A limit r ds us me.1 may)
-
--- the look of a gain
-pub may_look : (F T A : Type 0) (limit slots id : ℕ) (me : Me (Slot F T A) View) (r : Rest) (ds : List Deed) (us : List Member) → slots ≡ 3 → me.0 ≡ view limit (member (At r) ds ∷ us) → may_ask r ≡ true
-    → Allows (Ruled {F = F} {T = T} {A = A} limit) slots id me 0 (λ n. n) (λ r m. Makes (looking_for_room me.0.limit (state_of r)) (state_of r) me m × Knows (head_of me.0.members).deeds (state_of r))
-may_look F T A limit slots id me r ds us three is may = steps_knowing F T A limit slots id me limit (At r) ds us (looking_for_room me.0.limit) (λ n. n) three is (owes_look F T A limit me r ds us is may)
-
--- .. and its exchange
-pub may_gain : (F T A : Type 0) (limit slots id : ℕ) (me : Me (Slot F T A) View) (r : Rest) (ds : List Deed) (us : List Member) (w v : State) (old new : ℕ) → slots ≡ 3 → me.0 ≡ view limit (member (At r) ds ∷ us) → may_ask r ≡ true → may_change r w ≡ true
-    → Some v ≡ row_of limit GainReference w → old ≡ number_of w → new ≡ number_of v
-    → Allows (Ruled {F = F} {T = T} {A = A} limit) slots id me 0 (λ n. either (eqb n old) new n)
-    (λ r m. ((r ≡ old → Makes (gaining (state_of r)) (state_of r) me m) × (r ≢ old → Makes (looking_for_room me.0.limit (state_of r)) (state_of r) me m)) × Knows (head_of me.0.members).deeds (state_of r))
-may_gain F T A limit slots id me r ds us w v old new three is may held fits from to = steps_or_misses_knowing F T A limit slots id me limit (At r) ds us gaining (looking_for_room me.0.limit) old new three is
-    (gains F T A limit r ds us me.1 w v old new may held fits from to) (owes_look F T A limit me r ds us is may)
-
--- whoever may ask may change the word of a task that has a handle
-pub may_change_held : (r : Rest) (w : State) → is_held w ≡ true → may_change r w ≡ true
-may_change_held Lent w e = e
-may_change_held _ w e = refl
+  pub may_wake : (p : Party F T A) → Stands (At Lent) p → MayTry limit 3 p.seat.id p.seat.me woken_if_held is_over waking_task finding_over
+  may_wake p s = may_at limit p (At Lent) [] s woken_if_held is_over waking_task finding_over (λ w. refl)
+      (λ w v e m f here. let x = held_open w v e in owed.wakes F T A limit Lent (deeds p) [] [] w (number_of w) (number_of v) refl x.0 x.1 refl (ap number_of x.2) m f here)
+      (owed.finds_over F T A limit Lent (deeds p) [] [] refl)
+    where
+      held_open : (w v : State) → woken_if_held limit w ≡ Some v → (is_held w ≡ true) × (is_open w ≡ true) × (v ≡ woken_word w)
+      held_open w v e = by (is_held w) (is_open w) (woken_word w) e
+        where
+          by : (a b : Bool) (u : State) → (if a then (if b then Some u else None) else None) ≡ Some v → (a ≡ true) × (b ≡ true) × (v ≡ u)
+          by true true u e = (refl, refl, cc)
+          by true false u e = absurd (cc)
+          by false b u e = absurd (cc)

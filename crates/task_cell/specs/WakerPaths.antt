@@ -1,21 +1,17 @@
 -- The paths by which a waker is gained, wakes and is dropped, each with the words that its rows found and with what the foreign calls on it did.
-use Rattle.std.specs.Prelude.{◌≡◌, ℕ, nat_lt, if◌then◌else◌, Bool, true, false, List, [], ◌∷◌, ◌++◌, Option, Some, None}
+use Rattle.std.specs.Prelude.{◌≡◌, ℕ, nat_lt, Bool, true, false, List, [], ◌∷◌, Option, Some, None}
 use Rattle.task_core.specs.Word.{State, is_open}
 use Rattle.task_laws.specs.declared.positions.Answer.TheVariants.{Nothing}
-use Rattle.task_laws.specs.declared.positions.Rest.{Rest}
 use Rattle.task_laws.specs.declared.positions.Position.TheVariants.{Emptier, OrphanHolder}
 use Rattle.task_core.specs.declared.moves.Act.TheVariants.{GainReference, FindLimit, RefuseGain, DropWaker, DropLastWaker, OrphanTask, CloseOrphan, WakeOver, WakeScheduled, WakeRunning, WakeIdle, EmptySlots, HandOver, EndCall}
 use Rattle.task_steps.specs.declared.table.Slot.{Slot}
 use Rattle.task_steps.specs.declared.table.Deed.{Deed}
-use Rattle.task_steps.specs.declared.table.Member.{Member}
 use Rattle.task_cell.specs.declared.cell.Party.{Party}
 use Rattle.task_steps.specs.declared.words.Dropped.{Dropped}
 use Rattle.task_steps.specs.declared.words.Dropped.TheVariants.{Shared, Last, Orphaned}
-use Rattle.task_steps.specs.Rule.{fresh}
 use Rattle.task_cell.specs.Calls.{Fits, IsNew, Goes, GoesWith}
 use Rattle.task_steps.specs.Deeds.{row, act}
-use Rattle.task_steps.specs.Standing.{as_waker, as_ended, as_deliverer}
-use Rattle.task_cell.specs.Wakers.{GoesBeside}
+use Rattle.task_steps.specs.Standing.{as_waker, as_lent, as_ended, as_deliverer}
 use Rattle.task_steps.specs.WakerScripts.{others_left}
 
 -- a gain, and whether there is a new waker: the count was below the limit, or at it
@@ -38,27 +34,19 @@ pub data WakerDropPath (Scheduled : Type 0) : List Deed → Type 0 where
 
 module _ {F T A : Type 0} where
   -- a gain, and the new waker
-  pub data Gains (limit : ℕ) (r : Rest) (us : List Member) (p q : Party F T A) : Option (Party F T A) → Type 0 where
-    gains_none : (path : List Deed) → GainPath limit false path → GoesBeside path r us p q → Gains limit r us p q None
-    gains_one : (path : List Deed) (waker : Party F T A) → GainPath limit true path → GoesBeside path r us p q → IsNew as_waker p waker → Gains limit r us p q (Some waker)
+  pub data Gains (limit : ℕ) (p q : Party F T A) : Option (Party F T A) → Type 0 where
+    gains_none : (path : List Deed) → GainPath limit false path → Goes path as_lent p q → Gains limit p q None
+    gains_one : (path : List Deed) (waker : Party F T A) → GainPath limit true path → Goes path as_lent p q → IsNew as_waker p waker → Gains limit p q (Some waker)
 
   -- a gain with a share of the cell: where the share was refused, no row was made
-  pub data GainsShare (limit : ℕ) (r : Rest) (us : List Member) (p q : Party F T A) : Bool → Type 0 where
-    is_refused : GoesBeside (act RefuseGain ∷ act EndCall ∷ []) r us p q → GainsShare limit r us p q false
-    goes_on_to : (gained : Bool) (path : List Deed) → GainPath limit gained path → GoesBeside path r us p q → GainsShare limit r us p q gained
-
-  -- .. as long as the new waker is on the seat of the party that gained it
-  abbrev pub GainsBeside : ℕ → Rest → List Member → Party F T A → Party F T A → Bool → Type 0
-  GainsBeside limit r us p q gained = (path : List Deed) × GainPath limit gained path × GoesBeside path r (us ++ (if gained then fresh as_waker ∷ [] else [])) p q
+  pub data GainsShare (limit : ℕ) (p q : Party F T A) : Bool → Type 0 where
+    is_refused : Goes (act RefuseGain ∷ act EndCall ∷ []) as_lent p q → GainsShare limit p q false
+    goes_on_to : (gained : Bool) (path : List Deed) → GainPath limit gained path → Goes path as_lent p q → GainsShare limit p q gained
 
   -- a wake, and the deliverer that is to hand the Runnable over
-  pub data WakesTask (r : Rest) (us : List Member) (p q : Party F T A) : Option (Party F T A) → Type 0 where
-    makes_none : (path : List Deed) → TaskWakePath false path → GoesBeside path r us p q → WakesTask r us p q None
-    makes_one : (path : List Deed) (deliverer : Party F T A) → TaskWakePath true path → GoesBeside path r us p q → IsNew as_deliverer p deliverer → WakesTask r us p q (Some deliverer)
-
-  -- .. as long as the deliverer is on the seat of the party that woke the task
-  abbrev pub WakesBeside : Rest → List Member → Party F T A → Party F T A → Bool → Type 0
-  WakesBeside r us p q idle = (path : List Deed) × TaskWakePath idle path × GoesBeside path r (us ++ (if idle then fresh as_deliverer ∷ [] else [])) p q
+  pub data WakesTask (p q : Party F T A) : Option (Party F T A) → Type 0 where
+    makes_none : (path : List Deed) → TaskWakePath false path → Goes path as_lent p q → WakesTask p q None
+    makes_one : (path : List Deed) (deliverer : Party F T A) → TaskWakePath true path → Goes path as_lent p q → IsNew as_deliverer p deliverer → WakesTask p q (Some deliverer)
 
   -- the row of a waker's drop
   abbrev pub DropsWaker : Party F T A → Party F T A → Dropped → Type 0

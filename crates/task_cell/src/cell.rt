@@ -145,6 +145,7 @@ impl<R: Wait + Drop, F: Yields, Q: Drop, M: Drop, A: Wake, X: Copy, B: Allocator
 pub use share::Share;
 pub use waker::TaskWaker;
 
+mod attempt;
 mod awaiter;
 mod borrowed;
 mod cancel;

@@ -4,14 +4,11 @@ use Rattle.task_core.specs.Word.{State, bit, is_open}
 use Rattle.task_laws.specs.Event.{Event}
 use Rattle.task_laws.specs.declared.positions.Position.{Position}
 use Rattle.task_core.specs.declared.moves.Act.{Act}
-use Rattle.task_core.specs.declared.moves.Act.TheVariants.{AnswerPending, AnswerReady, BeginNotify, BeginRegister, CancelBusy, CancelIdle, CancelOver, ClaimOutput, CloneAwaiter, CloseOrphan, Complete, CompleteDetached, Detach, DetachLast, DetachOrphan, DiscardClosed, DiscardOpen, DropAwaiter, DropFuture, DropLastWaker, DropOutput, DropWaker, EmptySlots, EndCall, EndClosed, EndIdle, EndNotify, EndOrphaned, EndRegister, EndRegisterNotified, FindLimit, FindNotify, GainReference, GiveUpLastReference, GiveUpOutput, GiveUpReference, HandOutOutput, HandOver, Look, LookFinished, MissNotify, OrphanTask, RefuseClone, RefuseGain, Reschedule, StartPoll, StartRun, StoreAwaiter, StoreOutput, TakeAwaiter, TakeUpClosed, Unschedule, WakeAwaiter, WakeIdle, WakeOver, WakeRunning, WakeScheduled}
-use Rattle.task_laws.specs.declared.positions.Position.TheVariants.{Answering, At, AwaiterInHand, Claimer, Claiming, Cleared, CloneInHand, Deliverer, Detacher, Emptier, FutureGone, FutureInHand, GivingUp, HasClone, Leaving, Looking, Notifier, OldAwaiterInHand, OrphanHolder, OutputCloser, OutputInHand, Pending, Polling, Ready, RefusedClone, Registered, Registrar, Releaser, Starting, Stored, Storing, Taker, TookBack, Unstored}
-use Rattle.task_laws.specs.declared.positions.Closer.TheVariants.{ClosedRun, DroppedRunnable}
-use Rattle.task_laws.specs.declared.positions.Rest.TheVariants.{Ended, Lent, Runnable, Task, Waker}
-use Rattle.task_laws.specs.declared.positions.Way.TheVariants.{OfCancel, OfClaim, OfDrop, OfPoll, OfRun}
-use Rattle.task_laws.specs.declared.positions.After.TheVariants.{ThenEnds, ThenNotifies, ThenTask}
+use Rattle.task_core.specs.declared.moves.Act.TheVariants.{GainReference, WakeIdle, WakeOver, WakeRunning, WakeScheduled}
+use Rattle.task_laws.specs.declared.positions.Position.TheVariants.{At}
+use Rattle.task_laws.specs.declared.positions.Rest.TheVariants.{Lent}
 use Rattle.task_core.specs.Rows.{found, written, row}
-use Rattle.task_laws.specs.Table.{Slots, Scene, Outcome, when, where_found, is_held, steps, goes, rule}
+use Rattle.task_laws.specs.Table.{Slots, Scene, Outcome, when, is_held, steps, goes, rule}
 use Rattle.task_laws.specs.Machine.{Machine, begins, scene, how_many}
 use Rattle.task_laws.specs.Laws.{count, is_emptying}
 use Rattle.task_steps.specs.declared.table.Deed.{Deed}
@@ -21,144 +18,16 @@ use Rattle.task_steps.specs.Rule.{deed, member, view, fresh, found_by, Entry, To
 use Rattle.task_steps.specs.Steps.{then_leaves, and_then, spot, is_lent, held_word, leaves_by, all_fit, noted}
 use Rattle.task_steps.proofs.Told.{tells, next_machine}
 use Rattle.task_steps.proofs.Facts.{many_next}
+use Rattle.task_steps.proofs.Written.{found_is, found_so, rule_word}
 
 -- what acts in a row leave where each row finds its word
 abbrev pub leads : Scene → List Act → Position → Option Outcome
 leads s [] p = Some (steps s s.word p [] [])
 leads s (a ∷ more) p = and_then (rule s a p) (λ o. leads (spot s.limit o.word o.slots) more o.next)
 
--- the word that an act writes is the row's
-abbrev word_or : State → Option Outcome → State
-word_or v None = v
-word_or v (Some o) = o.word
-
 when_so : (b : Bool) (x o : Outcome) → when b x ≡ Some o → Some x ≡ Some o
 when_so true x o e = e
 when_so false x o e = absurd (cc)
-
-word_when : (v : State) (b : Bool) (o : Outcome) → o.word ≡ v → word_or v (when b o) ≡ v
-word_when v true o e = e
-word_when v false o e = refl
-
-goes_word : (s : Scene) (v : State) (a : Act) (p : Position) → word_or v (goes s v a p) ≡ v
-goes_word s v GainReference (At Lent) = word_when v (is_held s.word) _ refl
-goes_word s v FindLimit (At Lent) = refl
-goes_word s v RefuseGain (At Lent) = refl
-goes_word s v WakeOver (At Lent) = word_when v (is_held s.word || not (is_open s.word)) _ refl
-goes_word s v WakeScheduled (At Lent) = word_when v (is_held s.word || not (is_open s.word)) _ refl
-goes_word s v WakeRunning (At Lent) = word_when v (is_held s.word || not (is_open s.word)) _ refl
-goes_word s v WakeIdle (At Lent) = word_when v (is_held s.word || not (is_open s.word)) _ refl
-goes_word s v Look (At (Task n)) = word_when v (not (s.word.completed && not s.word.closed)) _ refl
-goes_word s v DropFuture Pending = word_when v s.word.closed _ refl
-goes_word s v TakeAwaiter (Registered i) = word_when v s.word.notifying _ refl
-goes_word s v GainReference (At Runnable) = refl
-goes_word s v FindLimit (At Runnable) = refl
-goes_word s v RefuseGain (At Runnable) = refl
-goes_word s v GainReference (At Waker) = refl
-goes_word s v FindLimit (At Waker) = refl
-goes_word s v RefuseGain (At Waker) = refl
-goes_word s v DropWaker (At Waker) = refl
-goes_word s v DropLastWaker (At Waker) = refl
-goes_word s v OrphanTask (At Waker) = refl
-goes_word s v CloseOrphan OrphanHolder = refl
-goes_word s v GiveUpReference (GivingUp (Some i) answer) = refl
-goes_word s v GiveUpReference (GivingUp None answer) = refl
-goes_word s v GiveUpLastReference (GivingUp hand answer) = refl
-goes_word s v WakeOver (At Waker) = refl
-goes_word s v WakeScheduled (At Waker) = refl
-goes_word s v WakeRunning (At Waker) = refl
-goes_word s v WakeIdle (At Waker) = refl
-goes_word s v DiscardOpen (At Runnable) = refl
-goes_word s v DiscardClosed (At Runnable) = refl
-goes_word s v TakeUpClosed (At Runnable) = refl
-goes_word s v StartRun (At Runnable) = refl
-goes_word s v CancelOver (At (Task n)) = refl
-goes_word s v CancelBusy (At (Task n)) = refl
-goes_word s v CancelIdle (At (Task n)) = refl
-goes_word s v ClaimOutput (At (Task n)) = refl
-goes_word s v GiveUpOutput (At (Task n)) = refl
-goes_word s v DetachOrphan (At (Task n)) = refl
-goes_word s v DetachLast (At (Task n)) = refl
-goes_word s v Detach (At (Task n)) = refl
-goes_word s v ClaimOutput (Claiming n) = refl
-goes_word s v DetachLast Detacher = refl
-goes_word s v Detach Detacher = refl
-goes_word s v Unschedule (FutureGone ClosedRun) = refl
-goes_word s v Unschedule (FutureGone DroppedRunnable) = refl
-goes_word s v Complete Stored = refl
-goes_word s v CompleteDetached Stored = refl
-goes_word s v EndClosed Cleared = refl
-goes_word s v Reschedule Pending = refl
-goes_word s v EndIdle Pending = refl
-goes_word s v EndOrphaned Pending = refl
-goes_word s v BeginNotify (Notifier OfRun) = refl
-goes_word s v MissNotify (Notifier OfRun) = refl
-goes_word s v EndNotify (Releaser None OfRun) = refl
-goes_word s v EndNotify (Releaser (Some i) OfRun) = refl
-goes_word s v TakeAwaiter (Taker OfRun) = refl
-goes_word s v WakeAwaiter (AwaiterInHand i OfRun) = refl
-goes_word s v BeginNotify (Notifier OfDrop) = refl
-goes_word s v MissNotify (Notifier OfDrop) = refl
-goes_word s v EndNotify (Releaser None OfDrop) = refl
-goes_word s v EndNotify (Releaser (Some i) OfDrop) = refl
-goes_word s v TakeAwaiter (Taker OfDrop) = refl
-goes_word s v WakeAwaiter (AwaiterInHand i OfDrop) = refl
-goes_word s v BeginNotify (Notifier (OfCancel n)) = refl
-goes_word s v MissNotify (Notifier (OfCancel n)) = refl
-goes_word s v EndNotify (Releaser None (OfCancel n)) = refl
-goes_word s v EndNotify (Releaser (Some i) (OfCancel n)) = refl
-goes_word s v TakeAwaiter (Taker (OfCancel n)) = refl
-goes_word s v WakeAwaiter (AwaiterInHand i (OfCancel n)) = refl
-goes_word s v BeginNotify (Notifier (OfPoll n)) = refl
-goes_word s v MissNotify (Notifier (OfPoll n)) = refl
-goes_word s v EndNotify (Releaser None (OfPoll n)) = refl
-goes_word s v EndNotify (Releaser (Some i) (OfPoll n)) = refl
-goes_word s v TakeAwaiter (Taker (OfPoll n)) = refl
-goes_word s v WakeAwaiter (AwaiterInHand i (OfPoll n)) = refl
-goes_word s v DropAwaiter (AwaiterInHand i (OfPoll n)) = refl
-goes_word s v BeginNotify (Notifier (OfClaim n)) = refl
-goes_word s v MissNotify (Notifier (OfClaim n)) = refl
-goes_word s v EndNotify (Releaser None (OfClaim n)) = refl
-goes_word s v EndNotify (Releaser (Some i) (OfClaim n)) = refl
-goes_word s v TakeAwaiter (Taker (OfClaim n)) = refl
-goes_word s v WakeAwaiter (AwaiterInHand i (OfClaim n)) = refl
-goes_word s v DropAwaiter (AwaiterInHand i (OfClaim n)) = refl
-goes_word s v WakeAwaiter (CloneInHand i) = refl
-goes_word s v FindNotify (HasClone i) = refl
-goes_word s v BeginRegister (HasClone i) = refl
-goes_word s v EndRegister (Registered i) = refl
-goes_word s v EndRegisterNotified (TookBack i) = refl
-goes_word s v Look (At Lent) = refl
-goes_word s v Look (Looking i) = refl
-goes_word s v LookFinished (At (Task n)) = refl
-goes_word s v StartPoll Starting = refl
-goes_word s v AnswerPending Polling = refl
-goes_word s v AnswerReady Polling = refl
-goes_word s v DropFuture Ready = refl
-goes_word s v DropFuture (FutureInHand ClosedRun) = refl
-goes_word s v DropFuture (FutureInHand DroppedRunnable) = refl
-goes_word s v StoreOutput Unstored = refl
-goes_word s v DropOutput (OutputInHand notifies) = refl
-goes_word s v DropOutput OutputCloser = refl
-goes_word s v HandOutOutput (Claimer i) = refl
-goes_word s v CloneAwaiter (Registrar i) = refl
-goes_word s v RefuseClone (Registrar i) = refl
-goes_word s v StoreAwaiter (Storing i) = refl
-goes_word s v DropAwaiter (OldAwaiterInHand i old) = refl
-goes_word s v DropAwaiter (RefusedClone i) = refl
-goes_word s v HandOver (At Runnable) = refl
-goes_word s v EndCall (Leaving answer Runnable) = refl
-goes_word s v EndCall (Leaving answer Waker) = refl
-goes_word s v EndCall (Leaving answer Lent) = refl
-goes_word s v EndCall (Leaving answer Ended) = refl
-goes_word s v EndCall (Leaving answer (Task n)) = refl
-goes_word s v EndCall (Answering i answer) = refl
-goes_word s v HandOver (Deliverer woken (ThenEnds answer)) = refl
-goes_word s v HandOver (Deliverer woken (ThenTask n)) = refl
-goes_word s v HandOver (Deliverer woken (ThenNotifies n)) = refl
-goes_word s v EmptySlots (Emptier (Some i) answer) = refl
-goes_word s v EmptySlots (Emptier None answer) = refl
-goes_word s v _ _ = refl
 
 lent_is : (p : Position) → is_lent p ≡ true → p ≡ At Lent
 lent_is (At Lent) e = refl
@@ -179,21 +48,6 @@ goes_spot limit w slots v a p o e = by (is_lent p) refl
     by : (b : Bool) → is_lent p ≡ b → goes (spot limit (held_word p w) slots) v a p ≡ Some o
     by true is = let at = lent_is p is in subst (λ (q : Position). goes (spot limit (held_word q w) slots) v a q ≡ Some o) (sym at) (goes_held limit w slots v a o (subst (λ (q : Position). goes (spot limit w slots) v a q ≡ Some o) at e))
     by false is = subst (λ (b : Bool). goes (spot limit (record w { task = b || w.task }) slots) v a p ≡ Some o) (sym is) e
-
--- what the rule allows is what the table says
-pub found_is : (g : Bool) (x : Option Outcome) (o : Outcome) → where_found g x ≡ Some o → (g ≡ true) × (x ≡ Some o)
-found_is g None o e = absurd (cc)
-found_is true (Some x) o e = (refl, e)
-found_is false (Some x) o e = absurd (cc)
-
-found_so : (g : Bool) (x : Option Outcome) (o : Outcome) → g ≡ true → x ≡ Some o → where_found g x ≡ Some o
-found_so g None o f e = absurd (cc)
-found_so true (Some x) o f e = e
-found_so false (Some x) o f e = absurd (cc)
-
-pub rule_word : (s : Scene) (a : Act) (p : Position) (o : Outcome) → rule s a p ≡ Some o → o.word ≡ written a s.word
-rule_word s a p o e = let f = found_is (found s.limit a s.word) (goes s (written a s.word) a p) o e in
-    ap (word_or (written a s.word)) (sym f.1) ∙ goes_word s (written a s.word) a p
 
 -- both halves of acts in a row
 pub record Joined (x : Option Outcome) (f : Outcome → Option Outcome) (o : Outcome) : Type 0 where

@@ -1,9 +1,8 @@
 -- The steps of the table that a party may make: what each owes is one obligation on the machine that it finds.
-use Rattle.std.proofs.Common.{◌≡◌, ℕ, suc, ◌<◌, ◌≢◌, Bool, eqb, true, false, Some, List, ◌∷◌, ◌++◌, length, map, get_or, set, sym, ap, ◌∙◌, subst, inl, inr, refl, ⊎_elim, arith, length-set, get_or-set_same}
+use Rattle.std.proofs.Common.{◌≡◌, ℕ, suc, ◌<◌, ◌≢◌, Bool, true, false, Some, List, ◌∷◌, ◌++◌, length, map, get_or, set, sym, ap, ◌∙◌, subst, inl, inr, refl, ⊎_elim, arith, length-set, get_or-set_same}
 use mathlib.Core.Option.{some, some-injective}
 use mathlib.Core.Option as maybe
 use lib.ListN.{get_elem?}
-use prog.Atomic.{either}
 use Rattle.atomic_table.specs.Table.{State as Board, Me, homes_after, carried_after, Allows}
 use Rattle.atomic_table.proofs.Lists as lists
 use Rattle.task_core.specs.Word.{State, state_of, number_of}
@@ -140,7 +139,11 @@ module _ (F T A : Type 0) (limit : ℕ) where
   abbrev pub Owes : (State → List Act) → (ℕ → ℕ) → Position → List Deed → List Member → List (ℕ × Slot F T A) → Type 0
   Owes acts write p ds us held = (m : Machine) → Finds limit p ds us m → (n : ℕ) → n ≡ number_of m.word → n < 18446744073709551616 → Steps m p (acts m.word) (write n) held
 
-  result : (s : B) (id : ℕ) (me : M) (l : ℕ) (p : Position) (ds : List Deed) (us : List Member) (acts : State → List Act) (write : ℕ → ℕ) → Rule s
+  -- .. and what it owes where the word that it finds ends its attempt
+  abbrev pub OwesEnd : (State → Bool) → (State → List Act) → Position → List Deed → List Member → List (ℕ × Slot F T A) → Type 0
+  OwesEnd test acts p ds us held = (m : Machine) → Finds limit p ds us m → (n : ℕ) → n ≡ number_of m.word → n < 18446744073709551616 → test m.word ≡ true → Steps m p (acts m.word) n held
+
+  pub result : (s : B) (id : ℕ) (me : M) (l : ℕ) (p : Position) (ds : List Deed) (us : List Member) (acts : State → List Act) (write : ℕ → ℕ) → Rule s
       → get_elem? s.views id ≡ some me.0 → me.0 ≡ view l (member p ds ∷ us) → length s.homes ≡ 3 → now s < 18446744073709551616
       → ((m : Machine) → Finds limit p ds us m → now s ≡ number_of m.word → Steps m p (acts m.word) (write (now s)) me.1)
       → Result F T A limit s id me (write (now s)) (Makes (acts (state_of (now s))) (state_of (now s)) me)
@@ -153,11 +156,3 @@ module _ (F T A : Type 0) (limit : ℕ) where
   pub steps_always : (slots id : ℕ) (me : M) (l : ℕ) (p : Position) (ds : List Deed) (us : List Member) (acts : State → List Act) (write : ℕ → ℕ) → slots ≡ 3
       → me.0 ≡ view l (member p ds ∷ us) → Owes acts write p ds us me.1 → Allows Rule slots id me 0 write (λ r m. Makes (acts (state_of r)) (state_of r) me m)
   steps_always slots id me l p ds us acts write three is owes s r deep at fits = result s id me l p ds us acts write r at is (deep ∙ three) fits (λ m f e. owes m f (now s) e fits)
-
-  -- a compare and exchange: on a miss nothing is written
-  pub steps_or_misses : (slots id : ℕ) (me : M) (l : ℕ) (p : Position) (ds : List Deed) (us : List Member) (acts missed : State → List Act) (old new : ℕ) → slots ≡ 3
-      → me.0 ≡ view l (member p ds ∷ us) → ((m : Machine) → Finds limit p ds us m → old ≡ number_of m.word → Steps m p (acts m.word) new me.1) → Owes missed (λ n. n) p ds us me.1
-      → Allows Rule slots id me 0 (λ n. either (eqb n old) new n) (λ r m. (r ≡ old → Makes (acts (state_of r)) (state_of r) me m) × (r ≢ old → Makes (missed (state_of r)) (state_of r) me m))
-  steps_or_misses slots id me l p ds us acts missed old new three is owes missing s r deep at fits = lists.exchanged (now s) old new (λ x. Result F T A limit s id me x (λ m. (now s ≡ old → Makes (acts (state_of (now s))) (state_of (now s)) me m) × (now s ≢ old → Makes (missed (state_of (now s))) (state_of (now s)) me m)))
-      (λ hit. let o = result s id me l p ds us acts (λ n. new) r at is (deep ∙ three) fits (λ m f e. owes m f (sym hit ∙ e)) in (o.0, o.1, o.2, o.3, ((λ _. o.4), λ no. absurd (no hit))))
-      (λ miss. let o = result s id me l p ds us missed (λ n. n) r at is (deep ∙ three) fits (λ m f e. missing m f (now s) e fits) in (o.0, o.1, o.2, o.3, ((λ hit. absurd (miss hit)), λ _. o.4)))

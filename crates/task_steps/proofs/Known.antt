@@ -1,25 +1,23 @@
 -- The steps of the table that tell what their party knows of the word that it finds.
-use Rattle.std.proofs.Common.{◌≡◌, ◌≢◌, ℕ, ◌<◌, eqb, List, ◌∷◌, get_or, sym, ap, ◌∙◌, subst, arith}
+use Rattle.std.proofs.Common.{◌≡◌, ℕ, ◌<◌, Option, None, List, ◌∷◌, get_or, sym, ap, ◌∙◌, subst, arith}
 use mathlib.Core.Option.{some}
 use lib.ListN.{get_elem?}
-use prog.Atomic.{either}
 use Rattle.atomic_table.specs.Table.{State as Board, Me, Allows}
-use Rattle.task_core.specs.Word.{State, state_of, number_of}
+use Rattle.task_core.specs.Word.{State, state_of}
 use Rattle.task_laws.specs.declared.positions.Position.{Position}
 use Rattle.task_core.specs.declared.moves.Act.{Act}
-use Rattle.task_laws.specs.Machine.{Machine}
 use Rattle.task_core.proofs.Bits.{state_of_number_of}
 use Rattle.task_steps.specs.declared.table.Slot.{Slot}
 use Rattle.task_steps.specs.declared.table.Deed.{Deed}
 use Rattle.task_steps.specs.declared.table.Member.{Member}
 use Rattle.task_steps.specs.declared.table.View.{View}
-use Rattle.task_steps.specs.Rule.{member, view, Running, Ruled}
+use Rattle.task_steps.specs.declared.table.Tries.{Tries}
+use Rattle.task_steps.specs.Rule.{member, trying, view, Running, Ruled}
 use Rattle.task_steps.specs.Steps.{head_of, Makes}
 use Rattle.task_steps.specs.Knows.{Knows}
 use Rattle.task_steps.proofs.Facts.{law, low}
 use Rattle.task_steps.proofs.Seen.{over_stays, closed_stays, ended_stays}
-use Rattle.task_steps.proofs.Advance.{Finds, Steps}
-use Rattle.task_steps.proofs.Allowed.{Owes, steps_always, steps_or_misses}
+use Rattle.task_steps.proofs.Allowed.{Owes, steps_always}
 
 module _ (F T A : Type 0) (limit : ℕ) where
   abbrev M : Type 0
@@ -29,32 +27,24 @@ module _ (F T A : Type 0) (limit : ℕ) where
   B = Board (Slot F T A) View
 
   -- what the first party of a seat knows of the word that stands
-  knows : (s : B) (r : Running {F = F} {T = T} {A = A} limit s) (id : ℕ) (v : View) (l : ℕ) (p : Position) (ds : List Deed) (us : List Member) → limit < 36028797018963968
-      → get_elem? s.views id ≡ some v → v ≡ view l (member p ds ∷ us) → Knows ds r.machine.word
-  knows s r id v l p ds us capped at is = let k = r.told.each id 0 v (member p ds) at (ap (λ (w : View). get_elem? w.members 0) is) in record {
+  knows : (s : B) (r : Running {F = F} {T = T} {A = A} limit s) (id : ℕ) (v : View) (l : ℕ) (p : Position) (ds : List Deed) (t : Option Tries) (us : List Member) → limit < 36028797018963968
+      → get_elem? s.views id ≡ some v → v ≡ view l (trying p ds t ∷ us) → Knows ds r.machine.word
+  knows s r id v l p ds t us capped at is = let k = r.told.each id 0 v (trying p ds t) at (ap (λ (w : View). get_elem? w.members 0) is) in record {
     over = λ e. over_stays limit k.0 r.log r.machine ds r.told.reaches k.1.did e;
     closed = λ e. closed_stays limit k.0 r.log r.machine ds r.told.reaches k.1.did e;
     ended = λ e. ended_stays limit k.0 r.log r.machine ds r.told.reaches k.1.did e;
     room = (let h = low r.machine (law limit r.log r.machine r.told.reaches) in let e = r.limited in omega arith);
   }
 
-  knows_now : (s : B) (id : ℕ) (me : M) (l : ℕ) (p : Position) (ds : List Deed) (us : List Member) → me.0 ≡ view l (member p ds ∷ us) → Ruled {F = F} {T = T} {A = A} limit s → get_elem? s.views id ≡ some me.0
+  pub knows_now : (s : B) (id : ℕ) (me : M) (l : ℕ) (p : Position) (ds : List Deed) (t : Option Tries) (us : List Member) → me.0 ≡ view l (trying p ds t ∷ us) → Ruled {F = F} {T = T} {A = A} limit s → get_elem? s.views id ≡ some me.0
       → Knows (head_of me.0.members).deeds (state_of (get_or s.words 0 0))
-  knows_now s id me l p ds us is r at = let run = r.running in
+  knows_now s id me l p ds t us is r at = let run = r.running in
       let same : run.machine.word ≡ state_of (get_or s.words 0 0) = sym (ap state_of run.word_is ∙ state_of_number_of run.machine.word) in
-      subst (λ (z : State × List Deed). Knows z.1 z.0) (λ i. (same i, sym (ap (λ (w : View). (head_of w.members).deeds) is) i)) (knows s run id me.0 l p ds us r.capped at is)
+      subst (λ (z : State × List Deed). Knows z.1 z.0) (λ i. (same i, sym (ap (λ (w : View). (head_of w.members).deeds) is) i)) (knows s run id me.0 l p ds t us r.capped at is)
 
   -- a load, a fetch or a store that tells it
   pub steps_knowing : (slots id : ℕ) (me : M) (l : ℕ) (p : Position) (ds : List Deed) (us : List Member) (acts : State → List Act) (write : ℕ → ℕ) → slots ≡ 3
       → me.0 ≡ view l (member p ds ∷ us) → Owes F T A limit acts write p ds us me.1
       → Allows (Ruled {F = F} {T = T} {A = A} limit) slots id me 0 write (λ r m. Makes (acts (state_of r)) (state_of r) me m × Knows (head_of me.0.members).deeds (state_of r))
   steps_knowing slots id me l p ds us acts write three is owes s r deep at fits = let o = steps_always F T A limit slots id me l p ds us acts write three is owes s r deep at fits in
-      (o.0, o.1, o.2, o.3, (o.4, knows_now s id me l p ds us is r at))
-
-  -- .. and a compare and exchange
-  pub steps_or_misses_knowing : (slots id : ℕ) (me : M) (l : ℕ) (p : Position) (ds : List Deed) (us : List Member) (acts missed : State → List Act) (old new : ℕ) → slots ≡ 3
-      → me.0 ≡ view l (member p ds ∷ us) → ((m : Machine) → Finds limit p ds us m → old ≡ number_of m.word → Steps m p (acts m.word) new me.1) → Owes F T A limit missed (λ n. n) p ds us me.1
-      → Allows (Ruled {F = F} {T = T} {A = A} limit) slots id me 0 (λ n. either (eqb n old) new n)
-      (λ r m. ((r ≡ old → Makes (acts (state_of r)) (state_of r) me m) × (r ≢ old → Makes (missed (state_of r)) (state_of r) me m)) × Knows (head_of me.0.members).deeds (state_of r))
-  steps_or_misses_knowing slots id me l p ds us acts missed old new three is owes missing s r deep at fits = let o = steps_or_misses F T A limit slots id me l p ds us acts missed old new three is owes missing s r deep at fits in
-      (o.0, o.1, o.2, o.3, (o.4, knows_now s id me l p ds us is r at))
+      (o.0, o.1, o.2, o.3, (o.4, knows_now s id me l p ds None us is r at))

@@ -11,7 +11,7 @@ use Rattle.task_steps.specs.declared.table.Slot.TheVariants.{Empty}
 use Rattle.task_steps.specs.declared.table.Member.{Member}
 use Rattle.task_steps.specs.declared.table.Stage.TheVariants.{Laid}
 use Rattle.task_steps.specs.declared.table.View.{View}
-use Rattle.task_steps.specs.Rule.{fresh, laid_view, lender, DidLast, Told, Ruled}
+use Rattle.task_steps.specs.Rule.{fresh, laid_view, lender, DidLast, Tried, Told, Ruled}
 use Rattle.task_steps.proofs.Told.{did_nothing}
 use Rattle.task_steps.proofs.Seats.{just}
 
@@ -23,12 +23,12 @@ laid_told limit = record {
   lends = refl;
   limited = λ seat index v u f g. ap (λ (w : View). w.limit) (sym (just (laid_view limit) seat v f).1);
   each = λ seat index v u f g. let e = just (laid_view limit) seat v f in let k = stands index u (ap (λ (w : View). get_elem? w.members index) e.1 ∙ g) in
-      (index, record { seated = λ i. (sym e.0 i, index); apart = k.0; at = k.1; did = subst (DidLast index []) (sym k.2) (did_nothing index []) });
+      (index, record { seated = λ i. (sym e.0 i, index); apart = k.0; at = k.1; did = subst (DidLast index []) (sym k.2) (did_nothing index []); tried = k.3 });
 }
   where
-    stands : (index : ℕ) (u : Member) → get_elem? (laid_view limit).members index ≡ some u → (index ≢ lender) × (get_elem? (opening_machine limit).parties index ≡ some u.at) × (u.deeds ≡ [])
-    stands zero u e = let x = some-injective (fresh (At Runnable)) u e in ((λ z. omega arith), ap (λ (w : Member). some w.at) x, sym (ap (λ (w : Member). w.deeds) x))
-    stands (suc zero) u e = let x = some-injective (fresh (At (Task 0))) u e in ((λ z. omega arith), ap (λ (w : Member). some w.at) x, sym (ap (λ (w : Member). w.deeds) x))
+    stands : (index : ℕ) (u : Member) → get_elem? (laid_view limit).members index ≡ some u → (index ≢ lender) × (get_elem? (opening_machine limit).parties index ≡ some u.at) × (u.deeds ≡ []) × Tried index [] (opening_machine limit).word u.tries
+    stands zero u e = let x = some-injective (fresh (At Runnable)) u e in ((λ z. omega arith), ap (λ (w : Member). some w.at) x, sym (ap (λ (w : Member). w.deeds) x), subst (λ (w : Member). Tried zero [] (opening_machine limit).word w.tries) x tt)
+    stands (suc zero) u e = let x = some-injective (fresh (At (Task 0))) u e in ((λ z. omega arith), ap (λ (w : Member). some w.at) x, sym (ap (λ (w : Member). w.deeds) x), subst (λ (w : Member). Tried (suc zero) [] (opening_machine limit).word w.tries) x tt)
     stands (suc (suc n)) u e = absurd (some-ne-none u (sym e))
 
 module _ (F T A : Type 0) (limit : ℕ) where

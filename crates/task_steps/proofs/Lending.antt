@@ -1,5 +1,5 @@
 -- A seat comes to the table with a waker that is lent to it.
-use Rattle.std.proofs.Common.{◌≡◌, ℕ, ◌+◌, Bool, List, [], ◌∷◌, ◌++◌, length, sym, refl, ap, ◌∙◌, ⊎_elim, arith}
+use Rattle.std.proofs.Common.{◌≡◌, ℕ, ◌+◌, ◌<◌, subst, Bool, List, [], ◌∷◌, ◌++◌, length, sym, refl, ap, ◌∙◌, ⊎_elim, arith}
 use mathlib.Core.Option.{some}
 use lib.ListN.{get_elem?}
 use Rattle.atomic_table.specs.Table.{State as Board, Me, Enters}
@@ -16,7 +16,9 @@ use Rattle.task_steps.specs.declared.table.Slot.{Slot}
 use Rattle.task_steps.specs.declared.table.View.{View}
 use Rattle.task_steps.specs.Rule.{deed, view, fresh, found_by, opening_at, lender, has_work, Housed, Ruled}
 use Rattle.task_steps.proofs.Told.{next_machine, at_append, joined_by}
-use Rattle.task_steps.proofs.Facts.{many_next}
+use Rattle.task_core.specs.Word.{State, state_of}
+use Rattle.task_core.proofs.Bits.{state_of_number_of}
+use Rattle.task_steps.proofs.Facts.{law, low, many_next}
 use Rattle.task_steps.proofs.Seats.{just, retold}
 
 -- the lender stays at rest, and adds a lent waker
@@ -42,7 +44,7 @@ module _ (F T A : Type 0) (limit : ℕ) where
   }
 
   -- whoever reads the word may have a lent waker
-  pub enters : (slots : ℕ) → Enters Rule slots 0 (λ n w. came w ≡ came (view limit (fresh (At Lent) ∷ [])))
+  pub enters : (slots : ℕ) → Enters Rule slots 0 (λ n w. (came w ≡ came (view limit (fresh (At Lent) ∷ []))) × ((state_of n).references < 72057594037927935))
   enters slots s r homes fits = let run = r.running in let m : Machine = run.machine in let w : View = view limit (fresh (At Lent) ∷ []) in let N : Machine = next_machine m lender (At Lent) (lent_by m) in (
     w,
     retold F T A limit s r.capped run (s.views ++ w ∷ []) (record { party = lender; deed = deed Look (found_by Look m.word) } ∷ run.log) N
@@ -51,5 +53,8 @@ module _ (F T A : Type 0) (limit : ℕ) where
         (λ j v ne e. ⊎_elim (λ (h : get_elem? s.views j ≡ some v). run.staged j v ne h)
         (λ (h : (n : ℕ) × (j ≡ length s.views + n) × (get_elem? (w ∷ []) n ≡ some v)). ap (λ (u : View). u.stage) (sym (just w h.0 v h.2).1))
         (at_append s.views (w ∷ []) j v e)),
-    refl,
+    (
+      refl,
+      subst (λ (v : State). v.references < 72057594037927935) (sym (state_of_number_of m.word) ∙ ap state_of (sym run.word_is)) (let h = low m (law limit run.log m run.told.reaches) in let e = run.limited in let c = r.capped in omega arith),
+    ),
   )

@@ -1,4 +1,5 @@
 pub mod Numbers
+pub mod Written
 pub mod Told
 pub mod Facts
 pub mod Acts
@@ -13,6 +14,7 @@ pub mod Leads
 pub mod AwaiterOwed
 pub mod RunOwed
 pub mod Known
+pub mod Attempts
 pub mod TaskOwed
 pub mod PollOwed
 pub mod WakerOwed

@@ -14,7 +14,7 @@ use Rattle.task_laws.specs.declared.positions.Way.TheVariants.{OfPoll, OfClaim}
 use Rattle.task_laws.specs.declared.positions.Position.TheVariants.{At, Notifier, Looking, Claiming, Claimer, Answering, Registrar, HasClone, RefusedClone, Storing, Registered, OldAwaiterInHand, TookBack, CloneInHand}
 use Rattle.task_laws.specs.declared.positions.Rest.TheVariants.{Task}
 use Rattle.task_core.specs.declared.moves.Act.{Act}
-use Rattle.task_core.specs.declared.moves.Act.TheVariants.{Look, ClaimOutput, CloneAwaiter, StoreAwaiter, TakeAwaiter, FindNotify, BeginRegister, EndRegister, EndRegisterNotified, EndCall}
+use Rattle.task_core.specs.declared.moves.Act.TheVariants.{Look, ClaimOutput, CloneAwaiter, StoreAwaiter, TakeAwaiter, BeginRegister, EndRegister, EndRegisterNotified, EndCall}
 use Rattle.task_laws.specs.Table.{Slots, steps, keeps, when, where_found, notifies, first_look, second_look, after_storing}
 use Rattle.task_laws.specs.Machine.{Machine, scene}
 use Rattle.task_laws.specs.Laws.{count, is_emptying, is_poll}
@@ -35,7 +35,7 @@ use Rattle.task_steps.specs.PollScripts.{has_output, has_ended, has_to_wait, loo
 use Rattle.task_steps.specs.Standing.{claims_from}
 use Rattle.task_steps.proofs.Acts.{leads}
 use Rattle.task_steps.proofs.Advance.{Finds, stays, takes_output, gives_work, takes_awaiter, gives_awaiter, Steps}
-use Rattle.task_steps.proofs.Allowed.{Owes}
+use Rattle.task_steps.proofs.Allowed.{Owes, OwesEnd}
 use Rattle.task_steps.proofs.Owed.{counted_at}
 
 never : {P : Type 0} → false ≡ true → P
@@ -203,24 +203,14 @@ module _ (F T A : Type 0) (limit : ℕ) where
     placing = gives_work y z refl refl refl (inr (refl, refl)) (inr has) (λ e. never (sym none ∙ e)) (λ e. never e);
   }
 
-  finds_by : (m : Machine) (i number : ℕ) (l : List (ℕ × Slot F T A)) (b : Bool) → m.word.notifying ≡ b → number ≡ number_of m.word → Steps m (Registrar i) (if b then CloneAwaiter ∷ FindNotify ∷ [] else []) number l
-  finds_by m i number l true e x = record {
+  pub finds_notifier : (i : ℕ) (ds : List Deed) (us : List Member) (l : List (ℕ × Slot F T A)) → OwesEnd F T A limit (λ w. w.notifying) finding_notifier (Registrar i) ds us l
+  finds_notifier i ds us l m f number x lt e = record {
     outcome = steps (scene m) m.word (RefusedClone i) [] (Woken i ∷ Cloned i ∷ []);
     leads_to = ap (λ (b : Bool). and_then (Some (steps (scene m) m.word (HasClone i) [] (Cloned i ∷ []))) (λ o. and_then (when b (steps (spot m.limit o.word o.slots) o.word (RefusedClone i) [] (Woken i ∷ []))) (λ o. leads (spot m.limit o.word o.slots) [] o.next))) e;
     writes = x;
     idle = (refl, refl);
     placing = stays refl refl (inr (refl, refl)) (inr (refl, refl));
   }
-  finds_by m i number l false e x = record {
-    outcome = steps (scene m) m.word (Registrar i) [] [];
-    leads_to = refl;
-    writes = x;
-    idle = (refl, refl);
-    placing = stays refl refl (inr (refl, refl)) (inr (refl, refl));
-  }
-
-  pub finds_notifier : (i : ℕ) (ds : List Deed) (us : List Member) (l : List (ℕ × Slot F T A)) → Owes F T A limit finding_notifier (λ n. n) (Registrar i) ds us l
-  finds_notifier i ds us l m f number x lt = finds_by m i number l m.word.notifying refl x
 
   pub drops_clone : (i : ℕ) (ds : List Deed) (us : List Member) (l : List (ℕ × Slot F T A)) → Owes F T A limit dropping (λ n. n) (RefusedClone i) ds us l
   drops_clone i ds us l m f number x lt = record {

@@ -29,13 +29,13 @@ use Rattle.task_steps.specs.declared.table.Member.{Member}
 use Rattle.task_steps.specs.Rule.{has_work, IsFuture, IsOutput}
 use Rattle.task_steps.specs.Steps.{then_leaves, spot, future_first, output_first}
 use Rattle.task_steps.specs.Scripts.{dropping_output}
-use Rattle.task_steps.specs.RunScripts.{giving_up, emptying, discarding, answering_ready, completing, answering_pending, ending_pending, missing_end, ending_closed, completed_word, after_pending}
+use Rattle.task_steps.specs.RunScripts.{giving_up, emptying, discarding, answering_ready, completing, answering_pending, ending_pending, finding_closed, ending_closed, completed_word, after_pending}
 use Rattle.task_steps.proofs.Numbers.{same_word}
 use Rattle.task_steps.proofs.Facts.{queued}
 use Rattle.task_steps.proofs.Leads.{leads_first, counted}
 use Rattle.task_steps.proofs.AwaiterOwed.{not_emptied}
 use Rattle.task_steps.proofs.Advance.{Finds, Placing, stays, takes_future, gives_work, takes_awaiter, gives_awaiter, Steps}
-use Rattle.task_steps.proofs.Allowed.{Owes}
+use Rattle.task_steps.proofs.Allowed.{Owes, OwesEnd}
 
 never : {P : Type 0} → false ≡ true → P
 never e = absurd (cc)
@@ -198,26 +198,16 @@ module _ (F T A : Type 0) (limit : ℕ) where
         placing = stays refl refl (inl refl) (inr (refl, refl));
       }
 
-  -- a word that changes in between changes nothing else, but that the task may be closed
-  pub misses_end : (ds : List Deed) (us : List Member) (l : List (ℕ × Slot F T A)) → Owes F T A limit missing_end (λ n. n) Pending ds us l
-  misses_end ds us l m f x e lt = by m.word.closed refl
-    where
-      by : (b : Bool) → m.word.closed ≡ b → Steps m Pending (if b then DropFuture ∷ [] else []) x l
-      by true h = record {
-        outcome = keeps (scene m) m.word (record (m.slots) { future = false }) Cleared (FutureDropped ∷ []);
-        leads_to = leads_first (scene m) DropFuture [] Pending (keeps (scene m) m.word (record (m.slots) { future = false }) Cleared (FutureDropped ∷ [])) refl
-            (ap (λ b. if b then Some (keeps (scene m) m.word (record (m.slots) { future = false }) Cleared (FutureDropped ∷ [])) else None) h);
-        writes = e;
-        idle = (refl, refl);
-        placing = stays refl refl (inl refl) (inr (refl, refl));
-      }
-      by false h = record {
-        outcome = steps (scene m) m.word Pending [] [];
-        leads_to = refl;
-        writes = e;
-        idle = (refl, refl);
-        placing = stays refl refl (inl refl) (inr (refl, refl));
-      }
+  -- the task was closed meanwhile, and its future is dropped next
+  pub finds_closed : (ds : List Deed) (us : List Member) (l : List (ℕ × Slot F T A)) → OwesEnd F T A limit (λ w. w.closed) finding_closed Pending ds us l
+  finds_closed ds us l m f x e lt h = record {
+    outcome = keeps (scene m) m.word (record (m.slots) { future = false }) Cleared (FutureDropped ∷ []);
+    leads_to = leads_first (scene m) DropFuture [] Pending (keeps (scene m) m.word (record (m.slots) { future = false }) Cleared (FutureDropped ∷ [])) refl
+        (ap (λ b. if b then Some (keeps (scene m) m.word (record (m.slots) { future = false }) Cleared (FutureDropped ∷ [])) else None) h);
+    writes = e;
+    idle = (refl, refl);
+    placing = stays refl refl (inl refl) (inr (refl, refl));
+  }
 
   pub ends_closed : (ds : List Deed) (us : List Member) (y z : Slot F T A) (l : List (ℕ × Slot F T A)) → l ≡ future_first y z (rest (rest l)) → Owes F T A limit ending_closed (λ n. bit_and n 18446744073709551612) Cleared ds us l
   ends_closed ds us y z l has m f x e lt = record {
@@ -322,12 +312,3 @@ module _ (F T A : Type 0) (limit : ℕ) where
         idle = (refl, refl);
         placing = gives_work y z refl refl refl (inr (refl, refl)) (inl has) (λ e. is) (λ e. never (sym facts.1 ∙ e));
       }
-
-  -- .. by the numbers that the step names
-  pub may_complete : (w : State) (old new : ℕ) (ds : List Deed) (us : List Member) (y z : Slot F T A) (l : List (ℕ × Slot F T A)) → l ≡ output_first y z (rest (rest l)) → IsOutput z → old ≡ number_of w → new ≡ number_of (completed_word w)
-      → (m : Machine) → Finds limit Ready ds us m → old ≡ number_of m.word → Steps m Ready (completing m.word) new l
-  may_complete w old new ds us y z l has is e h m f found = subst (λ (n : ℕ). Steps m Ready (completing m.word) n l) (sym h) (completes w ds us y z l has is m f (sym e ∙ found))
-
-  pub may_end : (w : State) (old new : ℕ) (ds : List Deed) (us : List Member) (y z : Slot F T A) (l : List (ℕ × Slot F T A)) → l ≡ future_first y z (rest (rest l)) → IsFuture y → w.closed ≡ false → old ≡ number_of w → new ≡ number_of (after_pending w)
-      → (m : Machine) → Finds limit Pending ds us m → old ≡ number_of m.word → Steps m Pending (ending_pending m.word) new l
-  may_end w old new ds us y z l has is unclosed e h m f found = subst (λ (n : ℕ). Steps m Pending (ending_pending m.word) n l) (sym h) (ends_pending w ds us y z l has is unclosed m f (sym e ∙ found))

@@ -19,7 +19,7 @@ use Rattle.task_steps.specs.declared.table.Deed.{Deed}
 use Rattle.task_steps.specs.PollScripts.{has_ended}
 use Rattle.task_steps.specs.Rule.{Entry, Reaches, is_private, noted_if, deeds_of, DidLast}
 use Rattle.task_steps.specs.Steps.{leaves_such, saw, saw_over, saw_closed, saw_ended}
-use Rattle.task_steps.proofs.Acts.{rule_word, found_is}
+use Rattle.task_steps.proofs.Written.{rule_word, found_is}
 use Rattle.task_steps.proofs.Facts.{law}
 use Rattle.task_steps.proofs.Leads.{counted}
 use Rattle.task_steps.proofs.Told.{next_machine}

@@ -25,14 +25,14 @@ use Rattle.task_steps.specs.declared.table.Slot.{Slot}
 use Rattle.task_steps.specs.declared.table.Deed.{Deed}
 use Rattle.task_steps.specs.declared.table.Member.{Member}
 use Rattle.task_steps.specs.Rule.{has_work}
-use Rattle.task_steps.specs.Steps.{saw_closed, output_first}
+use Rattle.task_steps.specs.Steps.{saw_closed, output_first, and_then, spot}
 use Rattle.task_steps.specs.Scripts.{dropping_output}
-use Rattle.task_steps.specs.TaskScripts.{looking_over, cancelling, cancelled, detaching, detached, giving_task_up}
-use Rattle.task_steps.specs.Steps.{and_then, spot}
+use Rattle.task_steps.specs.WakerScripts.{is_over}
+use Rattle.task_steps.specs.TaskScripts.{finding_cancelled, cancelling, cancelled, detaching, detached, giving_task_up}
 use Rattle.task_steps.proofs.Acts.{leads, both}
 use Rattle.task_steps.proofs.Advance.{Finds, stays, gives_work, takes_output, takes_awaiter, Steps}
-use Rattle.task_steps.proofs.Allowed.{Owes}
-use Rattle.task_steps.proofs.Owed.{counted_at, does_nothing}
+use Rattle.task_steps.proofs.Allowed.{Owes, OwesEnd}
+use Rattle.task_steps.proofs.Owed.{counted_at}
 
 never : {P : Type 0} → false ≡ true → P
 never e = absurd (cc)
@@ -77,18 +77,14 @@ no_future : (limit : ℕ) (w : State) (slots : Slots) (t : List Event) (c : Cens
 no_future limit w slots t c h e = grind arith
 
 module _ (F T A : Type 0) (limit : ℕ) where
-  pub looks_over : (n : ℕ) (ds : List Deed) (us : List Member) (l : List (ℕ × Slot F T A)) → Owes F T A limit looking_over (λ n. n) (At (Task n)) ds us l
-  looks_over n ds us l m f x e lt = looks (is_open m.word) refl
-    where
-      looks : (b : Bool) → is_open m.word ≡ b → Steps m (At (Task n)) (if b then [] else CancelOver ∷ EndCall ∷ []) x l
-      looks true is = does_nothing F T A limit (At (Task n)) ds us l m f x e lt
-      looks false is = record {
-        outcome = steps (scene m) m.word (At (Task n)) [] (CallEnds Nothing ∷ []);
-        leads_to = finds_it m (At (Task n)) CancelOver (EndCall ∷ []) (over (is_open m.word) is);
-        writes = e;
-        idle = (refl, refl);
-        placing = stays refl refl (inr (refl, refl)) (inr (refl, refl));
-      }
+  pub finds_over : (n : ℕ) (ds : List Deed) (us : List Member) (l : List (ℕ × Slot F T A)) → OwesEnd F T A limit (is_over limit) finding_cancelled (At (Task n)) ds us l
+  finds_over n ds us l m f x e lt is = record {
+    outcome = steps (scene m) m.word (At (Task n)) [] (CallEnds Nothing ∷ []);
+    leads_to = finds_it m (At (Task n)) CancelOver (EndCall ∷ []) is;
+    writes = e;
+    idle = (refl, refl);
+    placing = stays refl refl (inr (refl, refl)) (inr (refl, refl));
+  }
 
   pub cancels : (n : ℕ) (ds : List Deed) (us : List Member) (l : List (ℕ × Slot F T A)) (w : State) (old new : ℕ) → old ≡ number_of w → new ≡ number_of (cancelled w) → is_open w ≡ true
       → (m : Machine) → Finds limit (At (Task n)) ds us m → old ≡ number_of m.word → Steps m (At (Task n)) (cancelling m.word) new l

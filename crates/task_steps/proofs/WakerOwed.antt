@@ -21,13 +21,13 @@ use Rattle.task_steps.specs.declared.table.Slot.{Slot}
 use Rattle.task_steps.specs.declared.table.Deed.{Deed}
 use Rattle.task_steps.specs.declared.table.Member.{Member}
 use Rattle.task_steps.specs.Beside.{may_call, may_change}
-use Rattle.task_steps.specs.WakerScripts.{looking_for_room, gaining, refusing_gain, finding_over, waking_task, woken_word, dropping_waker, closing_orphan}
+use Rattle.task_steps.specs.WakerScripts.{at_limit, finding_limit, gaining, refusing_gain, is_over, finding_over, waking_task, woken_word, dropping_waker, closing_orphan}
 use Rattle.task_steps.proofs.Acts.{row_found, both}
 use Rattle.task_steps.proofs.Seen.{true_right}
 use Rattle.task_steps.proofs.Leads.{leads_first, counted}
 use Rattle.task_steps.proofs.Numbers.{same_word}
 use Rattle.task_steps.proofs.Advance.{Finds, stays, takes_awaiter, Steps}
-use Rattle.task_steps.proofs.Allowed.{Owes}
+use Rattle.task_steps.proofs.Allowed.{Owes, OwesEnd}
 use Rattle.task_steps.proofs.TaskOwed.{over}
 
 never : {P : Type 0} → false ≡ true → P
@@ -37,8 +37,12 @@ never e = absurd (cc)
 passes : (b : Bool) (o : Outcome) → b ≡ true → when b o ≡ Some o
 passes b o e = ap (λ x. when x o) e
 
-at_limit : (n l k : ℕ) → nat_lt n l ≡ false → k ≡ l → nat_le k n ≡ true
-at_limit n l k e f = grind (arith, nat_tests)
+at_the_limit : (n l k : ℕ) → nat_lt n l ≡ false → k ≡ l → nat_le k n ≡ true
+at_the_limit n l k e f = grind (arith, nat_tests)
+
+is_not : (b : Bool) → not b ≡ true → b ≡ false
+is_not true e = never e
+is_not false e = refl
 
 pub third : (o s r : Bool) → o ≡ true → s ≡ false → r ≡ true → (o && not s && r) ≡ true
 third o s r e f g = grind arith
@@ -90,25 +94,15 @@ module _ (F T A : Type 0) (limit : ℕ) where
     placing = stays refl refl (inr (refl, refl)) (inr (refl, refl));
   }
 
-  -- a look at the count
-  pub looks_for_room : (r : Rest) (ds : List Deed) (us : List Member) (l : List (ℕ × Slot F T A)) → may_ask r ≡ true → Owes F T A limit (looking_for_room limit) (λ n. n) (At r) ds us l
-  looks_for_room r ds us l may m f x e lt = looks (nat_lt m.word.references limit) refl
-    where
-      looks : (b : Bool) → nat_lt m.word.references limit ≡ b → Steps m (At r) (if b then [] else FindLimit ∷ EndCall ∷ []) x l
-      looks true is = record {
-        outcome = steps (scene m) m.word (At r) [] [];
-        leads_to = refl;
-        writes = e;
-        idle = (refl, refl);
-        placing = stays refl refl (inr (refl, refl)) (inr (refl, refl));
-      }
-      looks false is = let o : Outcome = steps (scene m) m.word (Leaving (Gained false) r) [] [] in record {
-        outcome = steps (scene m) m.word (At r) [] (CallEnds (Gained false) ∷ []);
-        leads_to = leads_first (scene m) FindLimit (EndCall ∷ []) (At r) o (at_limit m.word.references limit m.limit is f.limited) (passes (may_ask r) o may);
-        writes = e;
-        idle = (refl, refl);
-        placing = stays refl refl (inr (refl, refl)) (inr (refl, refl));
-      }
+  -- the count is at the limit
+  pub finds_limit : (r : Rest) (ds : List Deed) (us : List Member) (l : List (ℕ × Slot F T A)) → may_ask r ≡ true → OwesEnd F T A limit (at_limit limit) finding_limit (At r) ds us l
+  finds_limit r ds us l may m f x e lt full = let o : Outcome = steps (scene m) m.word (Leaving (Gained false) r) [] [] in record {
+    outcome = steps (scene m) m.word (At r) [] (CallEnds (Gained false) ∷ []);
+    leads_to = leads_first (scene m) FindLimit (EndCall ∷ []) (At r) o (at_the_limit m.word.references limit m.limit (is_not (nat_lt m.word.references limit) full) f.limited) (passes (may_ask r) o may);
+    writes = e;
+    idle = (refl, refl);
+    placing = stays refl refl (inr (refl, refl)) (inr (refl, refl));
+  }
 
   -- a reference is gained
   pub gains : (r : Rest) (ds : List Deed) (us : List Member) (l : List (ℕ × Slot F T A)) (w v : State) (old new : ℕ) → may_ask r ≡ true → may_change r w ≡ true → Some v ≡ row limit GainReference w → old ≡ number_of w → new ≡ number_of v
@@ -122,25 +116,15 @@ module _ (F T A : Type 0) (limit : ℕ) where
         placing = stays refl refl (inr (refl, refl)) (inr (refl, refl));
       }
 
-  -- a look before a wake
-  pub finds_over : (r : Rest) (ds : List Deed) (us : List Member) (l : List (ℕ × Slot F T A)) → may_call r ≡ true → Owes F T A limit finding_over (λ n. n) (At r) ds us l
-  finds_over r ds us l may m f x e lt = looks (is_open m.word) refl
-    where
-      looks : (b : Bool) → is_open m.word ≡ b → Steps m (At r) (if b then [] else WakeOver ∷ EndCall ∷ []) x l
-      looks true is = record {
-        outcome = steps (scene m) m.word (At r) [] [];
-        leads_to = refl;
-        writes = e;
-        idle = (refl, refl);
-        placing = stays refl refl (inr (refl, refl)) (inr (refl, refl));
-      }
-      looks false is = let o : Outcome = steps (scene m) m.word (Leaving Nothing r) [] (Wakes ∷ []) in record {
-        outcome = steps (scene m) m.word (At r) [] (CallEnds Nothing ∷ Wakes ∷ []);
-        leads_to = leads_first (scene m) WakeOver (EndCall ∷ []) (At r) o (over (is_open m.word) is) (passes (may_wake (scene m) r) o (finds_it_over r m may is));
-        writes = e;
-        idle = (refl, refl);
-        placing = stays refl refl (inr (refl, refl)) (inr (refl, refl));
-      }
+  -- the task is over
+  pub finds_over : (r : Rest) (ds : List Deed) (us : List Member) (l : List (ℕ × Slot F T A)) → may_call r ≡ true → OwesEnd F T A limit (is_over limit) finding_over (At r) ds us l
+  finds_over r ds us l may m f x e lt is = let o : Outcome = steps (scene m) m.word (Leaving Nothing r) [] (Wakes ∷ []) in record {
+    outcome = steps (scene m) m.word (At r) [] (CallEnds Nothing ∷ Wakes ∷ []);
+    leads_to = leads_first (scene m) WakeOver (EndCall ∷ []) (At r) o is (passes (may_wake (scene m) r) o (finds_it_over r m may (is_not (is_open m.word) is)));
+    writes = e;
+    idle = (refl, refl);
+    placing = stays refl refl (inr (refl, refl)) (inr (refl, refl));
+  }
 
   -- a wake of an open task
   pub wakes : (r : Rest) (ds : List Deed) (us : List Member) (l : List (ℕ × Slot F T A)) (w : State) (old new : ℕ) → may_call r ≡ true → may_change r w ≡ true → is_open w ≡ true → old ≡ number_of w → new ≡ number_of (woken_word w)

@@ -7,7 +7,7 @@ use Rattle.task_steps.specs.declared.table.Slot.{Slot}
 use Rattle.task_steps.specs.declared.table.Deed.{Deed}
 use Rattle.task_steps.specs.declared.table.View.{View}
 use Rattle.task_steps.specs.PollScripts.{has_ended}
-use Rattle.task_steps.specs.Steps.{head_of, Makes, exchanged, saw_over, saw_closed, saw_ended}
+use Rattle.task_steps.specs.Steps.{head_of, Makes, saw_over, saw_closed, saw_ended}
 
 -- what it has seen of the task's end is still so, and the count has room for one more
 pub record Knows (ds : List Deed) (w : State) : Type 0 where
@@ -20,7 +20,3 @@ module _ {F T A : Type 0} where
   -- what a step tells that always makes its acts, and what is known of the word that it finds
   abbrev pub known : (State → List Act) → Step (Slot F T A) → Me (Slot F T A) View → ℕ → Me (Slot F T A) View → Type 0
   known acts st m r m' = Makes (acts (state_of r)) (state_of r) m m' × Knows (head_of m.0.members).deeds (state_of r)
-
-  -- .. and a compare and exchange
-  abbrev pub known_exchanged : (State → List Act) → (State → List Act) → Step (Slot F T A) → Me (Slot F T A) View → ℕ → Me (Slot F T A) View → Type 0
-  known_exchanged acts missed st m r m' = exchanged acts missed st m r m' × Knows (head_of m.0.members).deeds (state_of r)

@@ -9,6 +9,7 @@ pub mod StartScripts
 pub mod RunScripts
 pub mod TaskScripts
 pub mod Knows
+pub mod Attempts
 pub mod PollScripts
 pub mod WakerScripts
 pub mod Beside

@@ -38,7 +38,7 @@ refusing w = RefuseClone ∷ EndCall ∷ []
 
 -- a notifier is found by a poll that would register
 abbrev pub finding_notifier : State → List Act
-finding_notifier w = if w.notifying then CloneAwaiter ∷ FindNotify ∷ [] else []
+finding_notifier w = CloneAwaiter ∷ FindNotify ∷ []
 
 -- the awaiter slot is taken, and the clone put in
 abbrev pub beginning_register : State → List Act

@@ -1,10 +1,11 @@
 -- The rule of the table: an interleaving of the machine ends in the present word, and each party of a seat did in it what the seat knows.
-use Rattle.std.specs.Prelude.{◌⊎◌, ◌≡◌, ◌≢◌, ℕ, ◌<◌, Bool, true, false, cond, eqb, List, [], ◌∷◌, ◌++◌, length, slice_index, Option, Some, None}
+use Rattle.std.specs.Prelude.{◌⊎◌, ◌≡◌, ◌≢◌, ℕ, ◌+◌, ◌<◌, ◌≤◌, Bool, true, false, not, cond, eqb, List, [], ◌∷◌, ◌++◌, length, slice_index, Option, Some, None}
 use mathlib.Core.Option.{some}
 use mathlib.Core.Option as maybe
 use lib.ListN.{get_elem?}
 use Rattle.atomic_table.specs.Table.{State as Board}
-use Rattle.task_core.specs.Word.{State, number_of}
+use Rattle.task_core.specs.Word.{State, bit, number_of}
+use Rattle.task_core.specs.Rows.{written}
 use Rattle.task_laws.specs.declared.positions.Rest.TheVariants.{Runnable, Task, Lent}
 use Rattle.task_laws.specs.declared.positions.Position.{Position}
 use Rattle.task_laws.specs.declared.positions.Way.TheVariants.{OfClaim}
@@ -19,14 +20,19 @@ use Rattle.task_steps.specs.declared.table.Slot.TheVariants.{Empty, Future, Outp
 use Rattle.task_steps.specs.declared.table.Stage.{Stage}
 use Rattle.task_steps.specs.declared.table.Stage.TheVariants.{Laid, Filling, Spawned}
 use Rattle.task_steps.specs.declared.table.Deed.{Deed}
+use Rattle.task_steps.specs.declared.table.Tries.{Tries}
 use Rattle.task_steps.specs.declared.table.Member.{Member}
 use Rattle.task_steps.specs.declared.table.View.{View}
 
 abbrev pub deed : Act → Option State → Deed
 deed a f = record { act = a; found = f }
 
+-- a party that tries to change the word, and has seen this since its last act; and one that tries nothing
+abbrev pub trying : Position → List Deed → Option Tries → Member
+trying p l t = record { at = p; deeds = l; tries = t }
+
 abbrev pub member : Position → List Deed → Member
-member p l = record { at = p; deeds = l }
+member p l = trying p l None
 
 -- a party that has done nothing yet
 abbrev pub fresh : Position → Member
@@ -106,12 +112,32 @@ deeds_of k (e ∷ earlier) = noted_if (eqb e.party k) e.deed (deeds_of k earlier
 abbrev pub DidLast : ℕ → List Entry → List Deed → Type 0
 DidLast k log ds = (older : List Deed) × (deeds_of k log ≡ ds ++ older)
 
+-- whether two words differ
+abbrev pub differ : State → State → Bool
+differ v w = not (eqb (number_of v) (number_of w))
+
+-- an act writes where it leaves another word than it found
+abbrev pub writes : Act → Option State → Bool
+writes a None = false
+writes a (Some w) = differ w (written a w)
+
+-- how often others have written since the last act of party k
+abbrev pub written_since : ℕ → List Entry → ℕ
+written_since k [] = 0
+written_since k (e ∷ earlier) = cond (eqb e.party k) 0 (bit (writes e.deed.act e.deed.found) + written_since k earlier)
+
+-- each miss of party k since its last act has met another write of another party
+abbrev pub Tried : ℕ → List Entry → State → Option Tries → Type 0
+Tried k log w None = Unit {0}
+Tried k log w (Some t) = t.misses + bit (differ t.seen w) ≤ written_since k log
+
 -- in this interleaving party k did last what is known of it, and it is this member of this seat
 pub record Fared (m : Machine) (log : List Entry) (holder : ℕ → ℕ × ℕ) (seat index : ℕ) (u : Member) (k : ℕ) : Type 0 where
   pub seated : holder k ≡ (seat, index)
   pub apart : k ≢ lender
   pub at : get_elem? m.parties k ≡ some u.at
   pub did : DidLast k log u.deeds
+  pub tried : Tried k log m.word u.tries
 
 -- an interleaving in which, under some numbering, each party of a seat did what the seat knows, and the lender is at rest
 pub record Told (limit : ℕ) (views : List View) (log : List Entry) (m : Machine) : Type 0 where

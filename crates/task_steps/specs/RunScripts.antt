@@ -38,9 +38,9 @@ answering_pending w = if w.closed then AnswerPending ∷ DropFuture ∷ [] else 
 abbrev pub ending_pending : State → List Act
 ending_pending w = if w.scheduled then Reschedule ∷ [] else (if nat_lt 1 w.references || w.task then EndIdle ∷ EndCall ∷ [] else EndOrphaned ∷ [])
 
--- .. and finds that the word has changed: where the task is closed, the future is dropped next
-abbrev pub missing_end : State → List Act
-missing_end w = if w.closed then DropFuture ∷ [] else []
+-- .. and that of a closed one goes on: its future is dropped next
+abbrev pub finding_closed : State → List Act
+finding_closed w = DropFuture ∷ []
 
 -- the run of a closed task ends, after the future was dropped
 abbrev pub ending_closed : State → List Act

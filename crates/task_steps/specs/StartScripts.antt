@@ -1,12 +1,12 @@
 -- The acts that the steps make by which a run starts.
-use Rattle.std.specs.Prelude.{if◌then◌else◌, List, [], ◌∷◌}
+use Rattle.std.specs.Prelude.{List, [], ◌∷◌}
 use Rattle.task_core.specs.Word.{State}
 use Rattle.task_core.specs.declared.moves.Act.{Act}
 use Rattle.task_core.specs.declared.moves.Act.TheVariants.{TakeUpClosed, StartRun, StartPoll}
 
--- a look at a task that is due: it may be closed
+-- a closed task is taken up, to drop its future
 abbrev pub taking_up_closed : State → List Act
-taking_up_closed w = if w.closed then TakeUpClosed ∷ [] else []
+taking_up_closed w = TakeUpClosed ∷ []
 
 -- the run starts, and its poll
 abbrev pub starting_run : State → List Act

@@ -1,5 +1,5 @@
 -- What a step on the word does to the seat that makes it.
-use Rattle.std.specs.Prelude.{◌≡◌, ◌≢◌, ℕ, Bool, true, false, not, ◌&&◌, ◌||◌, List, [], ◌∷◌, ◌++◌, map, Option, Some, None}
+use Rattle.std.specs.Prelude.{◌≡◌, ℕ, Bool, true, false, not, ◌&&◌, ◌||◌, List, [], ◌∷◌, ◌++◌, map, Option, Some, None}
 use Rattle.atomic_table.specs.Table.{Me, Step, rest}
 use Rattle.task_core.specs.Word.{State, state_of, is_open}
 use Rattle.task_laws.specs.declared.positions.Position.{Position}
@@ -130,10 +130,6 @@ module _ {F T A : Type 0} where
   -- what a step tells that always makes its acts, by the word that it finds
   abbrev pub made : (State → List Act) → Step (Slot F T A) → Me (Slot F T A) View → ℕ → Me (Slot F T A) View → Type 0
   made acts st m r m' = Makes (acts (state_of r)) (state_of r) m m'
-
-  -- .. that makes them where it finds the word that it names, and others where it does not
-  abbrev pub exchanged : (State → List Act) → (State → List Act) → Step (Slot F T A) → Me (Slot F T A) View → ℕ → Me (Slot F T A) View → Type 0
-  exchanged acts missed st m r m' = (r ≡ st.first → Makes (acts (state_of r)) (state_of r) m m') × (r ≢ st.first → Makes (missed (state_of r)) (state_of r) m m')
 
 -- the word that an act left, where it found one, is such a one
 abbrev pub leaves_such : (State → Bool) → Act → Option State → Bool

@@ -1,5 +1,5 @@
 -- The acts that the steps of a Task make beside its polls.
-use Rattle.std.specs.Prelude.{◌+◌, not, ◌&&◌, ◌||◌, nat_lt, true, false, if◌then◌else◌, List, [], ◌∷◌}
+use Rattle.std.specs.Prelude.{ℕ, Option, Some, None, ◌+◌, not, ◌&&◌, ◌||◌, nat_lt, true, false, if◌then◌else◌, List, [], ◌∷◌}
 use Rattle.task_core.specs.Word.{State, is_open, orphan_word}
 use Rattle.task_core.specs.declared.moves.Act.{Act}
 use Rattle.task_core.specs.declared.moves.Act.TheVariants.{LookFinished, CancelOver, CancelBusy, CancelIdle, GiveUpOutput, DetachOrphan, DetachLast, Detach, EndCall}
@@ -8,9 +8,9 @@ use Rattle.task_core.specs.declared.moves.Act.TheVariants.{LookFinished, CancelO
 abbrev pub looking_finished : State → List Act
 looking_finished w = LookFinished ∷ EndCall ∷ []
 
--- a look of a cancel, which ends where the task is over
-abbrev pub looking_over : State → List Act
-looking_over w = if is_open w then [] else CancelOver ∷ EndCall ∷ []
+-- the task is over, and a cancel of it ends
+abbrev pub finding_cancelled : State → List Act
+finding_cancelled w = CancelOver ∷ EndCall ∷ []
 
 -- a cancel closes an open task
 abbrev pub cancelling : State → List Act
@@ -19,6 +19,9 @@ cancelling w = if w.scheduled || w.running then CancelBusy ∷ [] else CancelIdl
 -- .. and writes this word
 abbrev pub cancelled : State → State
 cancelled w = if w.scheduled || w.running then record w { closed = true } else record w { scheduled = true; closed = true; references = w.references + 1 }
+
+abbrev pub cancelled_word : ℕ → State → Option State
+cancelled_word limit w = if is_open w then Some (cancelled w) else None
 
 -- the Task is given up
 abbrev pub detaching : State → List Act

@@ -1,25 +1,36 @@
 -- The acts that the steps make by which a waker is gained, wakes and is dropped.
-use Rattle.std.specs.Prelude.{ℕ, Bool, ◌||◌, nat_lt, if◌then◌else◌, List, [], ◌∷◌}
+use Rattle.std.specs.Prelude.{ℕ, Bool, not, ◌||◌, nat_lt, if◌then◌else◌, List, [], ◌∷◌, Option, Some, None}
 use Rattle.task_core.specs.Word.{State, is_open}
-use Rattle.task_core.specs.Rows.{written}
+use Rattle.task_core.specs.Rows.{written, row}
+use Rattle.task_laws.specs.Table.{is_held}
 use Rattle.task_core.specs.declared.moves.Act.{Act}
 use Rattle.task_core.specs.declared.moves.Act.TheVariants.{GainReference, FindLimit, RefuseGain, DropWaker, DropLastWaker, OrphanTask, CloseOrphan, WakeOver, WakeScheduled, WakeRunning, WakeIdle, EndCall}
-
--- a look at the count of references: where it is at the limit, the call ends
-abbrev pub looking_for_room : ℕ → State → List Act
-looking_for_room limit w = if nat_lt w.references limit then [] else FindLimit ∷ EndCall ∷ []
 
 -- a reference is gained for a new waker
 abbrev pub gaining : State → List Act
 gaining w = GainReference ∷ EndCall ∷ []
 
+-- .. and this word written, where the task has a handle and the count is below the limit
+abbrev pub gained_word : ℕ → State → Option State
+gained_word limit w = if is_held w then row limit GainReference w else None
+
+-- the count is at the limit, and the call ends
+abbrev pub at_limit : ℕ → State → Bool
+at_limit limit w = not (nat_lt w.references limit)
+
+abbrev pub finding_limit : State → List Act
+finding_limit w = FindLimit ∷ EndCall ∷ []
+
 -- the memory for a new waker was refused
 abbrev pub refusing_gain : State → List Act
 refusing_gain w = RefuseGain ∷ EndCall ∷ []
 
--- a look at the word: where the task is over, a wake ends
+-- the task is over, and a wake of it ends
+abbrev pub is_over : ℕ → State → Bool
+is_over limit w = not (is_open w)
+
 abbrev pub finding_over : State → List Act
-finding_over w = if is_open w then [] else WakeOver ∷ EndCall ∷ []
+finding_over w = WakeOver ∷ EndCall ∷ []
 
 -- a wake of an open task
 abbrev pub waking_task : State → List Act
@@ -28,6 +39,10 @@ waking_task w = if w.scheduled then WakeScheduled ∷ EndCall ∷ [] else (if w.
 -- .. and the word that it writes
 abbrev pub woken_word : State → State
 woken_word w = if w.scheduled then w else (if w.running then written WakeRunning w else written WakeIdle w)
+
+-- .. which has a handle
+abbrev pub woken_if_held : ℕ → State → Option State
+woken_if_held limit w = if is_held w then (if is_open w then Some (woken_word w) else None) else None
 
 -- whether there are other handles than the one that gives its reference up
 abbrev pub others_left : State → Bool

@@ -1,6 +1,7 @@
 //! The table of a cell, what its seats know, and the steps on it by name. Each step keeps the rule of the table.
 #![tactic(auto)]
 
+pub mod attempt;
 pub mod common;
 pub mod places;
 pub mod poll;
@@ -14,4 +15,4 @@ pub mod task;
 pub mod waker;
 pub mod words;
 
-pub use script::{Always, Exchange};
+pub use script::Always;

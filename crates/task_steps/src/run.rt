@@ -1,7 +1,11 @@
 //! Steps of a run and of a Runnable's drop.
-ghost use Rattle.task_steps.specs.RunScripts.{unscheduling, giving_up, emptying, discarding, answering_ready, completing, answering_pending, ending_pending, missing_end, ending_closed};
+ghost use Rattle.std.specs.Prelude.{Some, None, false, [], if◌then◌else◌};
+ghost use Rattle.task_steps.specs.RunScripts.{unscheduling, giving_up, emptying, discarding, answering_ready, completing, answering_pending, ending_pending, finding_closed, ending_closed, completed_word, after_pending};
 
+use crate::attempt::Change;
 use crate::script::Script;
+use crate::words::{completed, ended};
+use task_core::word::Word;
 
 /// SCHEDULED is cleared, after the future was dropped.
 pub struct Unscheduling;
@@ -41,8 +45,24 @@ impl Script for AnsweringReady {
 /// A run ends with its output.
 pub struct Completing;
 
-impl Script for Completing {
+impl Change for Completing {
+    ghost writes = { λ _ w. Some (completed_word w) };
+
+    ghost ends = { λ _ _. false };
+
     ghost acts = { completing };
+
+    ghost told = { λ _. [] };
+
+    fn next(word: Word, limit: u64) -> Option<Word> {
+        let _ = limit;
+        Some(completed(word))
+    }
+
+    fn is_end(word: Word, limit: u64) -> bool {
+        let _ = (word, limit);
+        false
+    }
 }
 
 /// The poll of the future has answered Pending.
@@ -55,10 +75,27 @@ impl Script for AnsweringPending {
 /// The run of an open task ends without an output.
 pub struct EndingPending;
 
-impl Script for EndingPending {
+impl Change for EndingPending {
+    ghost writes = { λ _ w. if w.closed then None else Some (after_pending w) };
+
+    ghost ends = { λ _ w. w.closed };
+
     ghost acts = { ending_pending };
 
-    ghost missed = { missing_end };
+    ghost told = { finding_closed };
+
+    fn next(word: Word, limit: u64) -> Option<Word> {
+        let _ = limit;
+        if word.closed() {
+            return None;
+        }
+        Some(ended(word))
+    }
+
+    fn is_end(word: Word, limit: u64) -> bool {
+        let _ = limit;
+        word.closed()
+    }
 }
 
 /// The run of a closed task ends, after the future was dropped.

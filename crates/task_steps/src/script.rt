@@ -1,6 +1,6 @@
 //! The steps of the calls by name: which acts each makes, by the word that it finds.
-ghost use Rattle.task_steps.specs.Steps.{made, exchanged};
-ghost use Rattle.std.specs.Prelude.{List, []};
+ghost use Rattle.task_steps.specs.Steps.{made};
+ghost use Rattle.std.specs.Prelude.{List};
 ghost use Rattle.task_core.specs.Word.{State};
 ghost use Rattle.task_core.specs.declared.moves.Act.{Act};
 
@@ -10,9 +10,6 @@ use atomic_table::Play;
 /// The acts of a step, by the word that it finds.
 pub trait Script {
     ghost acts: { State → List Act };
-
-    // .. and those of a compare and exchange that finds another word than the one that it names
-    ghost missed: { State → List Act } = { λ _. [] };
 }
 
 /// A step that always makes its acts: a load, a fetch or a store.
@@ -22,13 +19,4 @@ pub struct Always<P: Script> {
 
 impl<F, T, A, P: Script> Play<Slot<F, T, A>, View> for Always<P> {
     ghost then = { made P.acts };
-}
-
-/// A compare and exchange, which makes its acts where it finds the word that it names.
-pub struct Exchange<P: Script> {
-    script: P,
-}
-
-impl<F, T, A, P: Script> Play<Slot<F, T, A>, View> for Exchange<P> {
-    ghost then = { exchanged P.acts P.missed };
 }

@@ -1,20 +1,30 @@
 //! Steps by which a run starts.
+ghost use Rattle.task_core.specs.Rows.{row};
+ghost use Rattle.task_core.specs.declared.moves.Act.TheVariants.{StartRun};
 ghost use Rattle.task_steps.specs.StartScripts.{taking_up_closed, starting_run};
 
-use crate::script::Script;
+use crate::attempt::Change;
+use task_core::word::Word;
 
-/// A look at a task that is due: it may be closed.
-pub struct TakingUpClosed;
-
-impl Script for TakingUpClosed {
-    ghost acts = { taking_up_closed };
-}
-
-/// The run starts, and its poll; or the task was closed meanwhile.
+/// The run starts, and its poll, unless the task is closed.
 pub struct StartingRun;
 
-impl Script for StartingRun {
+impl Change for StartingRun {
+    ghost writes = { λ _ w. row 0 StartRun w };
+
+    ghost ends = { λ _ w. w.closed };
+
     ghost acts = { starting_run };
 
-    ghost missed = { taking_up_closed };
+    ghost told = { taking_up_closed };
+
+    fn next(word: Word, limit: u64) -> Option<Word> {
+        let _ = limit;
+        word.start_run()
+    }
+
+    fn is_end(word: Word, limit: u64) -> bool {
+        let _ = limit;
+        word.closed()
+    }
 }

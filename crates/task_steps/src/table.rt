@@ -47,6 +47,16 @@ pub struct Member {
     pub at: Position,
     /// What it did.
     pub deeds: LinkedList<Deed>,
+    /// What it has seen since, where it tries to change the word.
+    pub tries: Option<Tries>,
+}
+
+/// What a party has seen that tries to change the word, since its last act.
+pub struct Tries {
+    /// The word that it saw last.
+    pub seen: Word,
+    /// How often an exchange of it has missed.
+    pub misses: u64,
 }
 
 /// How far the cell is that a seat belongs to.

@@ -1,10 +1,15 @@
 //! Steps of a Task beside its polls.
-ghost use Rattle.task_steps.specs.Knows.{known, known_exchanged};
-ghost use Rattle.task_steps.specs.TaskScripts.{looking_finished, looking_over, cancelling, detaching, giving_task_up};
+ghost use Rattle.std.specs.Prelude.{Some, false, []};
+ghost use Rattle.task_steps.specs.WakerScripts.{is_over};
+ghost use Rattle.task_steps.specs.Knows.{known};
+ghost use Rattle.task_steps.specs.TaskScripts.{looking_finished, finding_cancelled, cancelling, cancelled_word, detaching, detached, giving_task_up};
 
+use crate::attempt::Change;
 use crate::script::Script;
 use crate::table::{Slot, View};
+use crate::words::{closing, giving_up};
 use atomic_table::Play;
+use task_core::word::Word;
 
 /// A step that always makes its acts, and tells what its party knows of the word by what it has seen before.
 pub struct Knowing<P: Script> {
@@ -15,15 +20,6 @@ impl<F, T, A, P: Script> Play<Slot<F, T, A>, View> for Knowing<P> {
     ghost then = { known P.acts };
 }
 
-/// A compare and exchange that tells the same.
-pub struct KnowingExchange<P: Script> {
-    script: P,
-}
-
-impl<F, T, A, P: Script> Play<Slot<F, T, A>, View> for KnowingExchange<P> {
-    ghost then = { known_exchanged P.acts P.missed };
-}
-
 /// The load of `is_finished`.
 pub struct LookingFinished;
 
@@ -31,27 +27,50 @@ impl Script for LookingFinished {
     ghost acts = { looking_finished };
 }
 
-/// The load of a cancel: the task may be over.
-pub struct LookingOver;
-
-impl Script for LookingOver {
-    ghost acts = { looking_over };
-}
-
-/// A cancel closes the task; or it was over meanwhile.
+/// A cancel closes the task, unless it is over.
 pub struct Cancelling;
 
-impl Script for Cancelling {
+impl Change for Cancelling {
+    ghost writes = { cancelled_word };
+
+    ghost ends = { is_over };
+
     ghost acts = { cancelling };
 
-    ghost missed = { looking_over };
+    ghost told = { finding_cancelled };
+
+    fn next(word: Word, limit: u64) -> Option<Word> {
+        let _ = limit;
+        closing(word)
+    }
+
+    fn is_end(word: Word, limit: u64) -> bool {
+        let _ = limit;
+        !word.is_open()
+    }
 }
 
 /// The Task is given up.
 pub struct Detaching;
 
-impl Script for Detaching {
+impl Change for Detaching {
+    ghost writes = { λ _ w. Some (detached w) };
+
+    ghost ends = { λ _ _. false };
+
     ghost acts = { detaching };
+
+    ghost told = { λ _. [] };
+
+    fn next(word: Word, limit: u64) -> Option<Word> {
+        let _ = limit;
+        Some(giving_up(word))
+    }
+
+    fn is_end(word: Word, limit: u64) -> bool {
+        let _ = (word, limit);
+        false
+    }
 }
 
 /// The Task is given up whose output was dropped.

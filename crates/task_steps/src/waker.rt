@@ -1,10 +1,13 @@
 //! Steps by which a waker is gained, wakes and is dropped.
-ghost use Rattle.task_steps.specs.WakerScripts.{looking_for_room, gaining, refusing_gain, finding_over, waking_task, dropping_waker, closing_orphan};
-ghost use Rattle.task_steps.specs.Beside.{borrowing, limited, limited_exchanged, without_newest, newest};
+ghost use Rattle.task_steps.specs.WakerScripts.{gaining, gained_word, at_limit, finding_limit, refusing_gain, is_over, finding_over, waking_task, woken_if_held, dropping_waker, closing_orphan};
+ghost use Rattle.task_steps.specs.Beside.{borrowing, without_newest, newest};
 
+use crate::attempt::Change;
 use crate::script::Script;
 use crate::table::{Slot, View};
+use crate::words::{is_held, woken};
 use atomic_table::{Play, Split};
+use task_core::word::Word;
 
 /// Who has a waker by reference gets a party of its own, by a seat of its own.
 pub struct Borrowing;
@@ -13,18 +16,28 @@ impl<F, T, A> Play<Slot<F, T, A>, View> for Borrowing {
     ghost then = { borrowing };
 }
 
-/// A look at the count of references, by the limit that the seat knows.
-pub struct LookingForRoom;
-
-impl<F, T, A> Play<Slot<F, T, A>, View> for LookingForRoom {
-    ghost then = { limited looking_for_room };
-}
-
-/// A reference is gained; or the count is at the limit meanwhile.
+/// A reference is gained, unless the count is at the limit.
 pub struct Gaining;
 
-impl<F, T, A> Play<Slot<F, T, A>, View> for Gaining {
-    ghost then = { limited_exchanged gaining looking_for_room };
+impl Change for Gaining {
+    ghost writes = { gained_word };
+
+    ghost ends = { at_limit };
+
+    ghost acts = { gaining };
+
+    ghost told = { finding_limit };
+
+    fn next(word: Word, limit: u64) -> Option<Word> {
+        if !is_held(word) {
+            return None;
+        }
+        word.gain_reference(limit)
+    }
+
+    fn is_end(word: Word, limit: u64) -> bool {
+        !(word.references() < limit)
+    }
 }
 
 /// The memory for a new waker was refused.
@@ -34,20 +47,27 @@ impl Script for RefusingGain {
     ghost acts = { refusing_gain };
 }
 
-/// A look at the word before a wake.
-pub struct FindingOver;
-
-impl Script for FindingOver {
-    ghost acts = { finding_over };
-}
-
-/// A wake of an open task; or the task is over meanwhile.
+/// A wake of the task, unless it is over.
 pub struct WakingTask;
 
-impl Script for WakingTask {
+impl Change for WakingTask {
+    ghost writes = { woken_if_held };
+
+    ghost ends = { is_over };
+
     ghost acts = { waking_task };
 
-    ghost missed = { finding_over };
+    ghost told = { finding_over };
+
+    fn next(word: Word, limit: u64) -> Option<Word> {
+        let _ = limit;
+        if is_held(word) { woken(word) } else { None }
+    }
+
+    fn is_end(word: Word, limit: u64) -> bool {
+        let _ = limit;
+        !word.is_open()
+    }
 }
 
 /// A waker is dropped.

@@ -1,39 +1,40 @@
 //! Calls by a reference to a handle: each gets a party of its own, by a load of the word.
-ghost use Rattle.std.specs.Prelude.{◌≡◌, ℕ, [], ◌∷◌, List, IfSome, is_some};
+ghost use Rattle.std.specs.Prelude.{◌≡◌, ◌<◌, [], ◌∷◌, IfSome, is_some};
 ghost use Rattle.std.specs.Arc.{arc_value};
-ghost use Rattle.task_laws.specs.declared.positions.Rest.{Rest};
-ghost use Rattle.task_steps.specs.declared.table.Member.{Member};
 ghost use Rattle.task_steps.specs.Rule.{view, fresh};
-ghost use Rattle.task_cell.specs.Calls.{IsNew, limit_of};
+ghost use Rattle.task_cell.specs.Calls.{IsNew, Stands, limit_of};
 ghost use Rattle.task_steps.specs.Standing.{as_waker, as_deliverer, as_lent};
-ghost use Rattle.task_cell.specs.Wakers.{MayGain};
 ghost use Rattle.task_cell.specs.WakerPaths.{GainsShare};
 
 use super::{Cell, Party, Share};
 use std::alloc::Allocator;
 use std::sync::{Arc, Wait};
 use task_core::Yields;
+use task_core::word::Word;
 use task_steps::table::{Kept, discard};
 use task_steps::waker::Borrowing;
 
 impl<R: Wait + Drop, F: Yields, Q: Drop, M: Drop, A: Drop, B: Allocator> Cell<R, F, Q, M, A, B> {
-    // The party of one call by reference.
-    fn borrow(&self) -> Party<F, Kept<F>, A>
-        ensures cell { result.seat.table_id ≡ self.now.table.shared.table_id }
-        ensures party { result.seat.me ≡ (view self.now.limit (fresh as_lent ∷ []), []) }
+    // The party of one call by reference, and the word that is found.
+    fn borrow(&self) -> (Word, Party<F, Kept<F>, A>)
+        ensures cell { result.1.seat.table_id ≡ self.now.table.shared.table_id }
+        ensures room { result.0.references < 72057594037927935 }
+        ensures party { result.1.seat.me ≡ (view self.now.limit (fresh as_lent ∷ []), []) }
     {
-        let (_, seat) = self.table.shared.load_new_seat::<Borrowing>(0);
-        Party { seat }
+        let (found, seat) = self.table.shared.load_new_seat::<Borrowing>(0);
+        (Word::from_bits(found), Party { seat })
     }
 
     // A gain, and a share of the cell for the new waker.
     fn gain_with_share(
         this: &Arc<Self, B>,
         party: &mut Party<F, Kept<F>, A>,
+        word: Word,
     ) -> Option<(Share<R, F, Q, M, A, B>, Party<F, Kept<F>, A>)>
         requires cell { (party.old.seat.table_id ≡ (arc_value this.now).table.shared.table_id) × (limit_of party.old ≡ (arc_value this.now).limit) }
-        requires party { (r : Rest) × (us : List Member) × MayGain r us party.old }
-        ensures path { (r : Rest) (us : List Member) → MayGain r us party.old → GainsShare (arc_value this.now).limit r us party.old party.new (is_some result) }
+        requires room { word.references < 72057594037927935 }
+        requires party { Stands as_lent party.old }
+        ensures path { GainsShare (arc_value this.now).limit party.old party.new (is_some result) }
         ensures cell { IfSome result (λ gained. arc_value gained.0.cell ≡ arc_value this.now) }
         ensures waker { IfSome result (λ gained. IsNew as_waker party.old gained.1) }
     {
@@ -42,7 +43,7 @@ impl<R: Wait + Drop, F: Yields, Q: Drop, M: Drop, A: Drop, B: Allocator> Cell<R,
             return None;
         };
         let share = Share::of(share);
-        match this.gain(party) {
+        match this.gain(party, word) {
             Some(waker) => Some((share, waker)),
             None => {
                 share.give_up();
@@ -58,8 +59,8 @@ impl<R: Wait + Drop, F: Yields, Q: Drop, M: Drop, A: Drop, B: Allocator> Cell<R,
         ensures cell { IfSome result (λ gained. arc_value gained.0.cell ≡ arc_value this.now) }
         ensures waker { IfSome result (λ gained. (gained.1.seat.table_id ≡ (arc_value this.now).table.shared.table_id) × (gained.1.seat.me ≡ (view (arc_value this.now).limit (fresh as_waker ∷ []), []))) }
     {
-        let mut party = this.borrow();
-        let gained = Cell::gain_with_share(this, &mut party);
+        let (word, mut party) = this.borrow();
+        let gained = Cell::gain_with_share(this, &mut party, word);
         let Party { seat } = party;
         discard(seat);
         gained
@@ -69,8 +70,14 @@ impl<R: Wait + Drop, F: Yields, Q: Drop, M: Drop, A: Drop, B: Allocator> Cell<R,
     pub(crate) fn wake_by_reference(&self) -> Option<Party<F, Kept<F>, A>>
         ensures deliverer { IfSome result (λ d. (d.seat.table_id ≡ self.now.table.shared.table_id) × (d.seat.me ≡ (view self.now.limit (fresh as_deliverer ∷ []), []))) }
     {
-        let mut party = self.borrow();
-        let deliverer = self.wake_by_ref(&mut party);
+        let (word, mut party) = self.borrow();
+        if !word.is_open() {
+            // The flags of a task that is over never go out, and a wake of it changes nothing.
+            let Party { seat } = party;
+            discard(seat);
+            return None;
+        }
+        let deliverer = self.wake_by_ref(&mut party, word);
         let Party { seat } = party;
         discard(seat);
         deliverer

@@ -14,11 +14,10 @@ ghost use Rattle.task_steps.specs.Standing.{as_task};
 use super::{Cell, Party, Runnable};
 use std::alloc::Allocator;
 use std::sync::{Arc, Wait};
-use task_core::word::Word;
 use task_core::{Schedule, Wake, Yields};
 use task_steps::table::Kept;
-use task_steps::task::{Cancelling, Knowing, KnowingExchange, LookingOver};
-use task_steps::words::{Cancelled, closed_as, closing};
+use task_steps::task::Cancelling;
+use task_steps::words::{Cancelled, closed_as};
 
 impl<R: Wait + Drop, F: Yields, Q: Drop, M: Drop, A: Wake, B: Allocator> Cell<R, F, Q, M, A, B> {
     /// Closes the task, if it is not over. Its future is dropped by the run or the Runnable that there is, or else by one that is handed over here.
@@ -45,25 +44,10 @@ impl<R: Wait + Drop, F: Yields, Q: Drop, M: Drop, A: Wake, B: Allocator> Cell<R,
         requires party { (n : ℕ) × Stands (as_task n) party.old }
         ensures { (n : ℕ) → Stands (as_task n) party.old → Cancels n party.old party.new result }
     {
-        let shared = &self.table.shared;
-        let found = shared.load::<Knowing<LookingOver>>(&mut party.seat, 0);
-        let mut word = Word::from_bits(found);
-        for _ in self.rt.forever() {
-            let Some(closed) = closing(word) else {
-                return Cancelled::Over;
-            };
-            let found = shared.compare_exchange::<KnowingExchange<Cancelling>>(
-                &mut party.seat,
-                0,
-                word.bits(),
-                closed.bits(),
-            );
-            if found == word.bits() {
-                return closed_as(word);
-            }
-            word = Word::from_bits(found);
+        match self.attempt::<Cancelling>(party) {
+            Ok(found) => closed_as(found),
+            Err(_) => Cancelled::Over,
         }
-        unreachable!()
     }
 
     // The awaiter is taken and woken, if one is due, and the call ends.

@@ -20,10 +20,10 @@ use std::alloc::Allocator;
 use std::sync::Wait;
 use task_core::word::Word;
 use task_core::{Wake, Yields};
+use task_steps::Always;
 use task_steps::places::{Held, take_out};
 use task_steps::poll::{Claiming, HandingOut};
 use task_steps::table::Kept;
-use task_steps::{Always, Exchange};
 
 impl<R: Drop, F: Yields, Q: Drop, M: Drop, A: Drop, B: Allocator> Cell<R, F, Q, M, A, B> {
     // Hands the output out, and ends the poll. One load.
@@ -64,23 +64,10 @@ impl<R: Wait + Drop, F: Yields, Q: Drop, M: Drop, A: Wake, B: Allocator> Cell<R,
         ensures found { has_output result ≡ true }
         ensures path { (y : Slot F _ A) × (z : Slot F _ A) × IsOutput z × GoesWith (row ClaimOutput result ∷ []) (notifies result.awaiter (OfClaim (poll_number (position party.old)))) (output_first y z []) party.old party.new }
     {
-        let shared = &self.table.shared;
-        for _ in self.rt.forever() {
-            let word = Word::from_bits(shared.peek(0));
-            let Some(next) = word.claim_output() else {
-                continue;
-            };
-            let found = shared.compare_exchange::<Exchange<Claiming>>(
-                &mut party.seat,
-                0,
-                word.bits(),
-                next.bits(),
-            );
-            if found == word.bits() {
-                return word;
-            }
+        match self.attempt::<Claiming>(party) {
+            Ok(found) => found,
+            Err(_) => unreachable!(),
         }
-        unreachable!()
     }
 
     // Takes the stored awaiter where the word that was found says that there is one.

@@ -18,11 +18,11 @@ use std::alloc::Allocator;
 use std::sync::{Arc, Wait};
 use task_core::word::{TASK, Word};
 use task_core::{Schedule, Wake, Yields};
+use task_steps::Always;
 use task_steps::common::DroppingOutput;
 use task_steps::table::Kept;
 use task_steps::task::{Detaching, GivingTaskUp, Knowing};
-use task_steps::words::{Detached, given_up_as, giving_up};
-use task_steps::{Always, Exchange};
+use task_steps::words::{Detached, given_up_as};
 
 impl<R: Drop, F: Yields, Q: Drop, M: Drop, A: Drop, B: Allocator> Cell<R, F, Q, M, A, B> {
     // Writes down that the output in hand was dropped, and gives the places back. One load.
@@ -86,20 +86,9 @@ impl<R: Wait + Drop, F: Yields, Q: Drop, M: Drop, A: Wake, B: Allocator> Cell<R,
         requires party { (n : ℕ) × Stands (as_task n) party.old }
         ensures { Detaches party.old party.new result }
     {
-        let shared = &self.table.shared;
-        let mut word = Word::from_bits(shared.peek(0));
-        for _ in self.rt.forever() {
-            let found = shared.compare_exchange::<Exchange<Detaching>>(
-                &mut party.seat,
-                0,
-                word.bits(),
-                giving_up(word).bits(),
-            );
-            if found == word.bits() {
-                return given_up_as(word);
-            }
-            word = Word::from_bits(found);
+        match self.attempt::<Detaching>(party) {
+            Ok(found) => given_up_as(found),
+            Err(_) => unreachable!(),
         }
-        unreachable!()
     }
 }

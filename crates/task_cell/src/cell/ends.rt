@@ -1,5 +1,5 @@
 //! The ends of a run whose poll has answered.
-ghost use Rattle.std.specs.Prelude.{◌≡◌, ℕ, ◌∷◌, [], List, Bool, true, false};
+ghost use Rattle.std.specs.Prelude.{◌≡◌, ◌<◌, ℕ, ◌∷◌, [], List, Bool, true, false};
 ghost use Rattle.task_laws.specs.declared.positions.Position.TheVariants.{Polling, Ready, Pending, Cleared, OutputInHand};
 ghost use Rattle.task_laws.specs.declared.positions.Way.TheVariants.{OfRun};
 ghost use Rattle.task_core.specs.declared.moves.Act.TheVariants.{AnswerReady, DropOutput, EndClosed};
@@ -16,12 +16,13 @@ use std::alloc::Allocator;
 use std::sync::Wait;
 use task_core::Yields;
 use task_core::word::{RUNNING, SCHEDULED, Word};
+use task_steps::Always;
 use task_steps::common::DroppingOutput;
 use task_steps::places::{Held, put_output};
 use task_steps::run::{AnsweringPending, AnsweringReady, Completing, EndingClosed, EndingPending};
 use task_steps::table::Kept;
-use task_steps::words::{PendingEnd, completed, ended, pending_end};
-use task_steps::{Always, Exchange};
+use task_steps::task::Knowing;
+use task_steps::words::{PendingEnd, pending_end};
 
 impl<R: Drop, F: Yields, Q: Drop, M: Drop, A: Drop, B: Allocator> Cell<R, F, Q, M, A, B> {
     // The poll has answered Ready. One load.
@@ -35,14 +36,15 @@ impl<R: Drop, F: Yields, Q: Drop, M: Drop, A: Drop, B: Allocator> Cell<R, F, Q, 
             .load::<Always<AnsweringReady>>(&mut party.seat, 0);
     }
 
-    // The poll has answered Pending. Whether the task is closed, so that the future is to be dropped. One load.
+    // The poll has answered Pending: the word that was found. Where it shows a closed task, the future is to be dropped. One load.
     pub(crate) fn answer_pending(&self, party: &mut Party<F, Kept<F>, A>) -> Word
         requires cell { party.old.seat.table_id ≡ self.now.table.shared.table_id }
         requires party { (held : List (ℕ × Slot F _ A)) × StandsWith Polling held party.old }
-        ensures { (held : List (ℕ × Slot F _ A)) → StandsWith Polling held party.old → AnswersPending held party.old party.new result.closed }
+        ensures room { result.references < 72057594037927935 }
+        ensures path { (held : List (ℕ × Slot F _ A)) → StandsWith Polling held party.old → AnswersPending held party.old party.new result.closed }
     {
         let shared = &self.table.shared;
-        let found = shared.load::<Always<AnsweringPending>>(&mut party.seat, 0);
+        let found = shared.load::<Knowing<AnsweringPending>>(&mut party.seat, 0);
         Word::from_bits(found)
     }
 
@@ -75,7 +77,7 @@ impl<R: Drop, F: Yields, Q: Drop, M: Drop, A: Drop, B: Allocator> Cell<R, F, Q, 
 }
 
 impl<R: Wait + Drop, F: Yields, Q: Drop, M: Drop, A: Drop, B: Allocator> Cell<R, F, Q, M, A, B> {
-    // The end step of a run with its output, after its future was dropped. It is tried again where the word has changed. The seat turns, since only the place in front can be written.
+    // The end step of a run with its output, after its future was dropped. The seat turns, since only the place in front can be written.
     pub(crate) fn complete(&self, party: &mut Party<F, Kept<F>, A>, output: Held<Kept<F>>) -> Word
         requires cell { party.old.seat.table_id ≡ self.now.table.shared.table_id }
         requires party { (y : Slot F _ A) × (z : Slot F _ A) × StandsWith Ready (future_first y z []) party.old × IsEmpty y }
@@ -84,49 +86,22 @@ impl<R: Wait + Drop, F: Yields, Q: Drop, M: Drop, A: Drop, B: Allocator> Cell<R,
         let shared = &self.table.shared;
         party.seat.turn();
         put_output(shared, &mut party.seat, output).discard();
-        let mut word = Word::from_bits(shared.peek(0));
-        for _ in self.rt.forever() {
-            let old = word.bits();
-            let new = completed(word).bits();
-            let found = shared.compare_exchange::<Exchange<Completing>>(
-                &mut party.seat,
-                0,
-                old,
-                new,
-            );
-            if found == old {
-                return word;
-            }
-            word = Word::from_bits(found);
+        match self.attempt::<Completing>(party) {
+            Ok(found) => found,
+            Err(_) => unreachable!(),
         }
-        unreachable!()
     }
 
-    // The end step of a run without an output. It is tried again where the word has changed.
-    pub(crate) fn end_pending(&self, party: &mut Party<F, Kept<F>, A>, mut word: Word) -> PendingEnd
+    // The end step of a run without an output, from the word on that its poll left. A task that was closed meanwhile is left to the end step of a closed one.
+    pub(crate) fn end_pending(&self, party: &mut Party<F, Kept<F>, A>, word: Word) -> PendingEnd
         requires cell { party.old.seat.table_id ≡ self.now.table.shared.table_id }
-        requires unclosed { word.closed ≡ false }
+        requires room { word.references < 72057594037927935 }
         requires party { (y : Slot F _ A) × (z : Slot F _ A) × StandsWith Pending (future_first y z []) party.old × IsFuture y }
         ensures { (y z : Slot F _ A) → StandsWith Pending (future_first y z []) party.old → EndsPending (future_first y z []) party.old party.new result }
     {
-        let shared = &self.table.shared;
-        for _ in self.rt.forever() {
-            let old = word.bits();
-            let new = ended(word).bits();
-            let found = shared.compare_exchange::<Exchange<EndingPending>>(
-                &mut party.seat,
-                0,
-                old,
-                new,
-            );
-            if found == old {
-                return pending_end(word);
-            }
-            word = Word::from_bits(found);
-            if word.closed() {
-                return PendingEnd::Closed;
-            }
+        match self.attempt_from::<EndingPending>(party, word) {
+            Ok(found) => pending_end(found),
+            Err(_) => PendingEnd::Closed,
         }
-        unreachable!()
     }
 }

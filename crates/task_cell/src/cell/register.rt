@@ -16,15 +16,12 @@ ghost use Rattle.task_steps.specs.Deeds.{row, act};
 use super::{Cell, Party};
 use std::alloc::Allocator;
 use std::sync::Wait;
-use task_core::word::Word;
 use task_core::{Wake, Yields};
+use task_steps::Always;
 use task_steps::common::{Dropping, Waking};
 use task_steps::places::{Held, put_awaiter, take_out};
-use task_steps::poll::{
-    BeginningRegister, EndingNotified, EndingRegister, FindingNotifier, Refusing,
-};
+use task_steps::poll::{BeginningRegister, EndingNotified, EndingRegister, Refusing};
 use task_steps::table::Kept;
-use task_steps::{Always, Exchange};
 
 impl<R: Drop, F: Yields, Q: Drop, M: Drop, A: Drop, B: Allocator> Cell<R, F, Q, M, A, B> {
     // Writes down that the clone was refused, and that the poll ends so. One load.
@@ -80,23 +77,10 @@ impl<R: Wait + Drop, F: Yields, Q: Drop, M: Drop, A: Wake, B: Allocator> Cell<R,
         requires party { (i : ℕ) × Stands (Registrar i) party.old }
         ensures { BeginsRegister party.old party.new result }
     {
-        let shared = &self.table.shared;
-        for _ in self.rt.forever() {
-            let word = Word::from_bits(shared.load::<Always<FindingNotifier>>(&mut party.seat, 0));
-            let Some(next) = word.begin_register() else {
-                return false;
-            };
-            let found = shared.compare_exchange::<Exchange<BeginningRegister>>(
-                &mut party.seat,
-                0,
-                word.bits(),
-                next.bits(),
-            );
-            if found == word.bits() {
-                return true;
-            }
+        match self.attempt::<BeginningRegister>(party) {
+            Ok(_) => true,
+            Err(_) => false,
         }
-        unreachable!()
     }
 
     // Gives the awaiter slot back with the clone in it, and answers whether it did: it does not where there is a notifier.
@@ -105,23 +89,10 @@ impl<R: Wait + Drop, F: Yields, Q: Drop, M: Drop, A: Wake, B: Allocator> Cell<R,
         requires party { (i : ℕ) × (clone : A) × StandsWith (Registered i) ((2, Awaiter clone) ∷ []) party.old }
         ensures { EndsRegister party.old party.new result }
     {
-        let shared = &self.table.shared;
-        for _ in self.rt.forever() {
-            let word = Word::from_bits(shared.peek(0));
-            let Some(next) = word.end_register() else {
-                return false;
-            };
-            let found = shared.compare_exchange::<Exchange<EndingRegister>>(
-                &mut party.seat,
-                0,
-                word.bits(),
-                next.bits(),
-            );
-            if found == word.bits() {
-                return true;
-            }
+        match self.attempt::<EndingRegister>(party) {
+            Ok(_) => true,
+            Err(_) => false,
         }
-        unreachable!()
     }
 
     // Takes the clone out again, since a notifier came, and gives the awaiter slot back. A notifier stays while the slot is the Task's.
@@ -135,22 +106,10 @@ impl<R: Wait + Drop, F: Yields, Q: Drop, M: Drop, A: Wake, B: Allocator> Cell<R,
         let Some(clone) = take_out(shared, &mut party.seat, 2).into_awaiter() else {
             unreachable!()
         };
-        for _ in self.rt.forever() {
-            let word = Word::from_bits(shared.peek(0));
-            let Some(next) = word.end_register_notified() else {
-                continue;
-            };
-            let found = shared.compare_exchange::<Exchange<EndingNotified>>(
-                &mut party.seat,
-                0,
-                word.bits(),
-                next.bits(),
-            );
-            if found == word.bits() {
-                return clone;
-            }
+        match self.attempt::<EndingNotified>(party) {
+            Ok(_) => clone,
+            Err(_) => unreachable!(),
         }
-        unreachable!()
     }
 
     // Registers a clone of the caller's awaiter, or wakes one where a notifier came before or meanwhile.

@@ -8,10 +8,8 @@ use super::{Cell, Party};
 use std::alloc::Allocator;
 use std::sync::Wait;
 use task_core::Yields;
-use task_core::word::Word;
-use task_steps::start::{StartingRun, TakingUpClosed};
+use task_steps::start::StartingRun;
 use task_steps::table::Kept;
-use task_steps::{Always, Exchange};
 
 impl<R: Wait + Drop, F: Yields, Q: Drop, M: Drop, A: Drop, B: Allocator> Cell<R, F, Q, M, A, B> {
     // Takes the future for a run: true where the run has started, false where the task was closed.
@@ -20,24 +18,9 @@ impl<R: Wait + Drop, F: Yields, Q: Drop, M: Drop, A: Drop, B: Allocator> Cell<R,
         requires party { Stands as_runnable party.old }
         ensures { TakesUp party.old party.new result }
     {
-        let shared = &self.table.shared;
-        let seat = &mut party.seat;
-        let mut word = Word::from_bits(shared.load::<Always<TakingUpClosed>>(seat, 0));
-        for _ in self.rt.forever() {
-            let Some(next) = word.start_run() else {
-                return false;
-            };
-            let found = shared.compare_exchange::<Exchange<StartingRun>>(
-                seat,
-                0,
-                word.bits(),
-                next.bits(),
-            );
-            if found == word.bits() {
-                return true;
-            }
-            word = Word::from_bits(found);
+        match self.attempt::<StartingRun>(party) {
+            Ok(_) => true,
+            Err(_) => false,
         }
-        unreachable!()
     }
 }

@@ -112,15 +112,10 @@ impl<R: Wait + Drop, F: Yields, Q: Drop, M: Drop, A: Wake, B: Allocator> WakerSe
     }
 
     // Wakes the task: the deliverer, where it was idle.
-    //
-    // A look is enough where it finds the task over: the flags of a task that is completed or closed never go out, so the wake would find it over too, and such a wake changes nothing.
     pub(crate) fn wake(&self) -> Option<Party<F, Kept<F>, A>>
         ensures cell { IfSome result (λ d. (d.seat.table_id ≡ (arc_value self.now.share.cell).table.shared.table_id) × (limit_of d ≡ (arc_value self.now.share.cell).limit)) }
         ensures deliverer { IfSome result (λ d. Stands as_deliverer d) }
     {
-        if !self.share.cell().word().is_open() {
-            return None;
-        }
         self.share.cell().wake_by_reference()
     }
 }

@@ -22,18 +22,8 @@ where
 {
     /// Wakes the task, and gives the waker up: `wake_by_ref`, and then a drop.
     pub fn wake(self) {
-        let (inner, around) = self.into_parts();
-        match inner.into_owned() {
-            Ok((share, mut party)) => {
-                if let Some(deliverer) = share.cell().wake_by_ref(&mut party) {
-                    Cell::finish_wake(share.cell(), deliverer, around);
-                }
-                Cell::drop_waker(share.cell(), &mut party, around);
-                party.let_go();
-                share.give_up();
-            }
-            Err(inner) => TaskWaker { inner, around }.wake_by_ref(),
-        }
+        self.wake_by_ref();
+        drop(self);
     }
 
     /// Wakes the task. A task that is over stays as it is; one that is scheduled will be polled after this call; one that runs is scheduled once more by its run; and of one that is idle, a Runnable is handed to the schedule value, with `woken_while_running` false.

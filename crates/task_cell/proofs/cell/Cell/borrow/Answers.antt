@@ -1,6 +1,7 @@
-use Rattle.std.proofs.Common.{rules}
+use Rattle.std.proofs.Common.{rules, sym, subst, ◌<◌}
+use Rattle.task_core.specs.Word.{State}
 use Rattle.task_steps.proofs.Lending.{enters}
 use Rattle.task_cell.proofs.cell.Cell.borrow.Goals as goal
 
-pub load_new_seat-seat-requires : goal.load_new_seat-seat-requires
-load_new_seat-seat-requires g c = (search rules, enters _ _ _ _ _)
+pub load_new_seat-found-requires : goal.load_new_seat-found-requires
+load_new_seat-found-requires g c = (search rules, enters _ _ _ _ _)

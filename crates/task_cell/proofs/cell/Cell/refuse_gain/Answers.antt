@@ -1,7 +1,13 @@
-use Rattle.std.proofs.Common.{rules, ap}
+use Rattle.std.proofs.Common.{rules, ap, refl}
+use Rattle.task_core.specs.Word.{state_of}
 use Rattle.task_steps.proofs.Allowed.{steps_always}
+use Rattle.task_laws.specs.declared.positions.Rest.TheVariants.{Lent}
 use Rattle.task_steps.proofs.WakerOwed.{refuses_gain}
+use Rattle.task_cell.proofs.WakerMoves.{refuses}
 use Rattle.task_cell.proofs.cell.Cell.refuse_gain.Goals as goal
 
 pub load-requires : goal.load-requires
-load-requires g c = let s = c.requires.party in (search rules, search rules, steps_always _ _ _ _ _ _ _ _ _ _ _ _ _ (search rules) (ap (λ m. m.0) s.2.1) (refuses_gain _ _ _ _ s.0 _ s.1 _ s.2.0))
+load-requires g c = (search rules, search rules, steps_always _ _ _ _ _ _ _ _ _ _ _ _ _ (search rules) (ap (λ m. m.0) c.requires.party) (refuses_gain _ _ _ _ Lent _ _ _ refl))
+
+pub returns : goal.returns
+returns g c = record { path = refuses (state_of c.load.result) c.args.party.now (record { seat = c.load.new.seat }) c.requires.party c.load.ensures.0 c.load.ensures.2 }

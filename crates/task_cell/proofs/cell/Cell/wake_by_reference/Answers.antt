@@ -1,13 +1,17 @@
-use Rattle.task_laws.specs.declared.positions.Rest.TheVariants.{Lent}
-use Rattle.std.proofs.Common.{refl, ap, []}
-use Rattle.task_cell.proofs.WakerMoves.{fresh_stands, wake_goes, wake_gives, is_spent_after}
+use Rattle.std.proofs.Common.{ap}
+use Rattle.task_cell.proofs.WakerMoves.{fresh_stands, spent_by_wake, is_spent_at, wake_gives}
 use Rattle.task_cell.proofs.cell.Cell.wake_by_reference.Goals as goal
 
 pub discard-requires : goal.discard-requires
-discard-requires g c = let p = c.borrow-party.result in let q = c.wake_by_ref-deliverer.new.party in
-    let back = wake_goes Lent [] p q c.wake_by_ref-deliverer.result (c.wake_by_ref-deliverer.ensures.path Lent [] (refl, fresh_stands Lent _ p c.borrow-party.ensures.party)) in is_spent_after back.0 [] p q back.1
+discard-requires g c = is_spent_at _ c.borrow-word.result.1 c.borrow-word.ensures.party
+
+pub discard-requires-2 : goal.discard-requires-2
+discard-requires-2 g c = spent_by_wake c.borrow-word.result.1 c.wake_by_ref-deliverer.new.party c.wake_by_ref-deliverer.result c.wake_by_ref-deliverer.ensures.path
+
+pub wake_by_ref-deliverer-requires-clause-party : goal.wake_by_ref-deliverer-requires-clause-party
+wake_by_ref-deliverer-requires-clause-party g c = fresh_stands _ c.borrow-word.result.1 c.borrow-word.ensures.party
 
 pub returns : goal.returns
-returns g c = let p = c.borrow-party.result in let q = c.wake_by_ref-deliverer.new.party in record {
-  deliverer = wake_gives Lent [] c.args.self.now.limit _ p q c.wake_by_ref-deliverer.result c.borrow-party.ensures.cell (ap (λ m. m.0.limit) c.borrow-party.ensures.party) (c.wake_by_ref-deliverer.ensures.path Lent [] (refl, fresh_stands Lent _ p c.borrow-party.ensures.party));
+returns g c = record {
+  deliverer = wake_gives c.args.self.now.limit _ c.borrow-word.result.1 c.wake_by_ref-deliverer.new.party c.wake_by_ref-deliverer.result c.borrow-word.ensures.cell (ap (λ m. m.0.limit) c.borrow-word.ensures.party) c.wake_by_ref-deliverer.ensures.path;
 }

@@ -1,0 +1,114 @@
+-- One round of an attempt: what its load and its exchange leave to the next round, or to the caller.
+use Rattle.std.proofs.Common.{◌≡◌, ℕ, Bool, true, Option, Some, None, is_some, List, [], sym, refl, ap, ◌∙◌, subst, ◌==◌}
+use mathlib.Core.Option.{none}
+use prog.Atomic.{either}
+use Rattle.atomic_table.specs.Table.{Me, step, Allows}
+use Rattle.task_core.specs.Word.{State, state_of, number_of}
+use Rattle.task_core.proofs.Bits.{state_of_number_of}
+use Rattle.task_core.specs.declared.moves.Act.{Act}
+use Rattle.task_steps.specs.declared.table.Slot.{Slot}
+use Rattle.task_steps.specs.declared.table.Tries.{Tries}
+use Rattle.task_steps.specs.declared.table.View.{View}
+use Rattle.task_steps.specs.Rule.{Ruled}
+use Rattle.task_steps.specs.Steps.{head_of, Makes}
+use Rattle.task_laws.specs.Machine.{Machine}
+use Rattle.task_laws.specs.declared.positions.Position.{Position}
+use Rattle.task_cell.specs.declared.cell.Party.{Party}
+use Rattle.task_cell.specs.Calls.{deeds, limit_of, StandsWith}
+use Rattle.task_steps.proofs.Advance.{Finds, Steps}
+use Rattle.task_steps.proofs.Allowed.{OwesEnd}
+use Rattle.task_steps.proofs.Attempts.{may_try}
+use Rattle.task_steps.specs.Knows.{Knows}
+use Rattle.task_steps.specs.Attempts.{looked, missed, Names, having_seen, observed, attempted, MayTry, HasChanged, HasEnded}
+
+names_looked : (w : State) (t : Option Tries) → Names w (looked w t)
+names_looked w t = refl
+
+names_missed : (w : State) (t : Option Tries) → Names w (missed w t)
+names_missed w None = refl
+names_missed w (Some t) = refl
+
+module _ {F T A : Type 0} where
+  -- the seat is as it was before the attempt, but for what it has seen, which is this word
+  pub record Seeing (w : State) (me now : Me (Slot F T A) View) : Type 0 where
+    pub tries : Option Tries
+    pub names : Names w tries
+    pub is : now ≡ (having_seen tries me.0, me.1)
+
+  pub seeing_first : (w : State) (me : Me (Slot F T A) View) (t : Option Tries) → Names w t → me.0 ≡ having_seen t me.0 → Seeing w me me
+  seeing_first w me t names is = record { tries = t; names = names; is = λ i. (is i, me.1) }
+
+  -- what the rule allows an attempt, at the seat as it is now
+  pub may_exchange : (limit key slots id other : ℕ) (me now : Me (Slot F T A) View) (writes : ℕ → State → Option State) (ends : ℕ → State → Bool) (acts told : State → List Act) (w v : State) (old new : ℕ) → key ≡ limit → slots ≡ 3 → other ≡ id → Seeing w me now
+      → MayTry limit 3 id me writes ends acts told → Some v ≡ writes limit w → old ≡ number_of w → new ≡ number_of v
+      → Allows (Ruled {F = F} {T = T} {A = A} key) slots other now 0 (λ n. either (n == old) new n) (attempted acts (step slots 0 old new none) now)
+  may_exchange limit key slots id other me now writes ends acts told w v old new a b c s may writing from to = subst
+      (λ (z : ℕ × ℕ × ℕ × Me (Slot F T A) View × ℕ × ℕ). Allows (Ruled {F = F} {T = T} {A = A} z.0) z.1 z.2 z.3 0 (λ n. either (n == z.4) z.5 n) (attempted acts (step z.1 0 z.4 z.5 none) z.3))
+      (λ i. (sym a i, sym b i, sym c i, sym s.is i, sym from i, sym to i)) (may.exchanges s.tries w v (sym writing) s.names)
+
+  pub may_load : (limit key slots id other : ℕ) (me now : Me (Slot F T A) View) (writes : ℕ → State → Option State) (ends : ℕ → State → Bool) (acts told : State → List Act) (w : State) → key ≡ limit → slots ≡ 3 → other ≡ id → Seeing w me now
+      → MayTry limit 3 id me writes ends acts told → Allows (Ruled {F = F} {T = T} {A = A} key) slots other now 0 (λ n. n) (observed ends told (step slots 0 0 0 none) now)
+  may_load limit key slots id other me now writes ends acts told w a b c s may = subst
+      (λ (z : ℕ × ℕ × ℕ × Me (Slot F T A) View). Allows (Ruled {F = F} {T = T} {A = A} z.0) z.1 z.2 z.3 0 (λ n. n) (observed ends told (step z.1 0 0 0 none) z.3))
+      (λ i. (sym a i, sym b i, sym c i, sym s.is i)) (may.loads s.tries)
+
+  -- the next round: after a load, and after a miss
+  pub seeing_next : (n : ℕ) (v w : State) (me now after : Me (Slot F T A) View) → Seeing v me now → w ≡ state_of n → after ≡ (having_seen (looked (state_of n) (head_of now.0.members).tries) now.0, now.1) → Seeing w me after
+  seeing_next n v w me now after s e is = record {
+    tries = looked w s.tries;
+    names = names_looked w s.tries;
+    is = subst (λ (z : Me (Slot F T A) View × State). after ≡ (having_seen (looked z.1 (head_of z.0.0.members).tries) z.0.0, z.0.1)) (λ i. (s.is i, sym e i)) is;
+  }
+
+  pub seeing_missed : (n : ℕ) (v w : State) (me now after : Me (Slot F T A) View) → Seeing v me now → w ≡ state_of n → after ≡ (having_seen (missed (state_of n) (head_of now.0.members).tries) now.0, now.1) → Seeing w me after
+  seeing_missed n v w me now after s e is = record {
+    tries = missed w s.tries;
+    names = names_missed w s.tries;
+    is = subst (λ (z : Me (Slot F T A) View × State). after ≡ (having_seen (missed z.1 (head_of z.0.0.members).tries) z.0.0, z.0.1)) (λ i. (s.is i, sym e i)) is;
+  }
+
+  -- whether the word that a load finds ends the attempt
+  pub ends_at : (ends : ℕ → State → Bool) (limit n : ℕ) (v w : State) (me now : Me (Slot F T A) View) (b : Bool) → ((x : State) → ends me.0.limit x ≡ ends limit x) → Seeing v me now → w ≡ state_of n → ends limit w ≡ b → ends now.0.limit (state_of n) ≡ b
+  ends_at ends limit n v w me now b same s e is = ap (λ (z : ℕ × State). ends z.0 z.1) (λ i. (ap (λ (m : Me (Slot F T A) View). m.0.limit) s.is i, sym e i)) ∙ (same w ∙ is)
+
+  -- what was made of the seat that has seen something was made of the seat
+  made_of : (acts : List Act) (w : State) (t : Option Tries) (me after : Me (Slot F T A) View) → Makes acts w (having_seen t me.0, me.1) after → Makes acts w me after
+  made_of acts w t me after x = record { slots = x.slots; fits = x.fits; viewed = x.viewed; carried = x.carried }
+
+  -- the change was made
+  pub changed : (limit n : ℕ) (writes : ℕ → State → Option State) (acts : State → List Act) (w v : State) (me now after : Me (Slot F T A) View) → Seeing w me now → Some v ≡ writes limit w → n ≡ number_of w
+      → Makes (acts (state_of n)) (state_of n) now after → Knows (head_of now.0.members).deeds (state_of n) → HasChanged limit writes acts w me after
+  changed limit n writes acts w v me now after s writing is made knows = let here : state_of n ≡ w = ap state_of is ∙ state_of_number_of w in record {
+    written = ap (λ x. is_some x) (sym writing);
+    made = made_of (acts w) w s.tries me after (subst (λ (z : State × Me (Slot F T A) View). Makes (acts z.0) z.0 z.1 after) (λ i. (here i, s.is i)) made);
+    knows = subst (λ (z : State × Me (Slot F T A) View). Knows (head_of z.1.0.members).deeds z.0) (λ i. (here i, s.is i)) knows;
+  }
+
+  -- the word ended the attempt
+  pub ended : (limit n : ℕ) (ends : ℕ → State → Bool) (told : State → List Act) (v w : State) (me now after : Me (Slot F T A) View) → Seeing v me now → w ≡ state_of n → ends limit w ≡ true
+      → Makes (told (state_of n)) (state_of n) now after → Knows (head_of now.0.members).deeds (state_of n) → HasEnded limit ends told w me after
+  ended limit n ends told v w me now after s e over made knows = record {
+    at_end = over;
+    made = made_of (told w) w s.tries me after (subst (λ (z : State × Me (Slot F T A) View). Makes (told z.0) z.0 z.1 after) (λ i. (sym e i, s.is i)) made);
+    knows = subst (λ (z : State × Me (Slot F T A) View). Knows (head_of z.1.0.members).deeds z.0) (λ i. (sym e i, s.is i)) knows;
+  }
+
+  -- an attempt that goes on from a look is one from the seat as it was
+  pub seen_on : (w : State) (me now : Me (Slot F T A) View) → Seeing w me now → (t : Option Tries) × Names w t × (now.0 ≡ having_seen t now.0)
+  seen_on w me now s = (s.tries, s.names, subst (λ (m : Me (Slot F T A) View). m.0 ≡ having_seen s.tries m.0) (sym s.is) refl)
+
+  pub may_still : (limit id other : ℕ) (me now : Me (Slot F T A) View) (writes : ℕ → State → Option State) (ends : ℕ → State → Bool) (acts told : State → List Act) (w : State) → other ≡ id → Seeing w me now
+      → MayTry limit 3 id me writes ends acts told → MayTry limit 3 other now writes ends acts told
+  may_still limit id other me now writes ends acts told w e s may = subst (λ (z : ℕ × Me (Slot F T A) View). MayTry limit 3 z.0 z.1 writes ends acts told) (λ i. (sym e i, sym s.is i)) (record { loads = may.loads; exchanges = may.exchanges })
+
+  pub changed_on : (limit : ℕ) (writes : ℕ → State → Option State) (acts : State → List Act) (v w : State) (me now after : Me (Slot F T A) View) → Seeing v me now → HasChanged limit writes acts w now after → HasChanged limit writes acts w me after
+  changed_on limit writes acts v w me now after s x = let y = subst (λ (m : Me (Slot F T A) View). HasChanged limit writes acts w m after) s.is x in record { written = y.written; made = made_of (acts w) w s.tries me after y.made; knows = y.knows }
+
+  pub ended_on : (limit : ℕ) (ends : ℕ → State → Bool) (told : State → List Act) (v w : State) (me now after : Me (Slot F T A) View) → Seeing v me now → HasEnded limit ends told w now after → HasEnded limit ends told w me after
+  ended_on limit ends told v w me now after s x = let y = subst (λ (m : Me (Slot F T A) View). HasEnded limit ends told w m after) s.is x in record { at_end = y.at_end; made = made_of (told w) w s.tries me after y.made; knows = y.knows }
+
+  -- what the rule allows a party that stands here, by what its change and its end owe
+  pub may_at : (limit : ℕ) (p : Party F T A) (at : Position) (held : List (ℕ × Slot F T A)) → StandsWith at held p → (writes : ℕ → State → Option State) (ends : ℕ → State → Bool) (acts told : State → List Act) → ((w : State) → ends (limit_of p) w ≡ ends limit w)
+      → ((w v : State) → writes limit w ≡ Some v → (m : Machine) → Finds limit at (deeds p) [] m → number_of w ≡ number_of m.word → Steps m at (acts m.word) (number_of v) held)
+      → OwesEnd F T A limit (ends limit) told at (deeds p) [] held → MayTry limit 3 p.seat.id p.seat.me writes ends acts told
+  may_at limit p at held s writes ends acts told same changes over = subst (λ (m : Me (Slot F T A) View). MayTry limit 3 p.seat.id m writes ends acts told) (sym s) (may_try F T A limit 3 p.seat.id (limit_of p) at (deeds p) [] held writes ends acts told refl changes same over)

@@ -1,0 +1,131 @@
+-- What an attempt owes: each load and each exchange of it keeps the rule, and each miss has met a write.
+use Rattle.std.proofs.Common.{◌≡◌, ◌≢◌, ℕ, ◌+◌, ◌<◌, ◌≤◌, Bool, eqb, not, true, false, Option, Some, None, List, [], ◌∷◌, length, get_or, set, set-set, sym, refl, ap, ◌∙◌, subst, ⊎_elim, arith, eq-eqb, ne_eqb}
+use mathlib.Core.Option.{none, some}
+use lib.ListN.{get_elem?}
+use prog.Atomic.{either}
+use Rattle.atomic_table.specs.Table.{State as Board, Me, Allows, keeps, step, homes_after, carried_after}
+use Rattle.atomic_table.proofs.Lists as lists
+use Rattle.task_core.specs.Word.{State, bit, state_of, number_of}
+use Rattle.task_core.proofs.Bits.{state_of_number_of}
+use Rattle.task_laws.specs.declared.positions.Position.{Position}
+use Rattle.task_core.specs.declared.moves.Act.{Act}
+use Rattle.task_laws.specs.Machine.{Machine}
+use Rattle.task_steps.specs.declared.table.Slot.{Slot}
+use Rattle.task_steps.specs.declared.table.Deed.{Deed}
+use Rattle.task_steps.specs.declared.table.Tries.{Tries}
+use Rattle.task_steps.specs.declared.table.Member.{Member}
+use Rattle.task_steps.specs.declared.table.View.{View}
+use Rattle.task_steps.specs.Rule.{view, member, trying, differ, Entry, Tried, Told, Ruled}
+use Rattle.task_steps.specs.Steps.{Makes}
+use Rattle.task_steps.specs.Knows.{Knows}
+use Rattle.task_steps.specs.Attempts.{looked, missed, Names, observed, attempted, MayTry}
+use Rattle.task_steps.proofs.Told.{inside, retries}
+use Rattle.task_steps.proofs.Advance.{Finds, Steps, Result}
+use Rattle.task_steps.proofs.Allowed.{OwesEnd, result, not_first, set_apart}
+use Rattle.task_steps.proofs.Seats.{retold}
+use Rattle.task_steps.proofs.Known.{knows_now}
+
+same_word : (w : State) → bit (differ w w) ≡ 0
+same_word w = ap (λ b. bit (not b)) (eq-eqb (number_of w) (number_of w) refl)
+
+other_word : (v w : State) → number_of v ≢ number_of w → bit (differ v w) ≡ 1
+other_word v w ne = ap (λ b. bit (not b)) (ne_eqb (number_of v) (number_of w) ne)
+
+-- a party that looks has seen the word that stands
+tried_look : (k : ℕ) (log : List Entry) (w : State) (t : Option Tries) → Tried k log w t → Tried k log w (looked w t)
+tried_look k log w None h = omega (arith, same_word w)
+tried_look k log w (Some t) h = omega (arith, same_word w)
+
+-- .. and one that misses has met a write
+tried_miss : (k : ℕ) (log : List Entry) (v w : State) (t : Option Tries) → Names v t → number_of v ≢ number_of w → Tried k log w t → Tried k log w (missed w t)
+tried_miss k log v w None names ne h = omega (arith, same_word w)
+tried_miss k log v w (Some t) names ne h = let stale : bit (differ t.seen w) ≡ 1 = other_word t.seen w (λ e. ne (ap number_of (sym names) ∙ e)) in omega (arith, same_word w)
+
+same_words : (l : List ℕ) → set l 0 (get_or l 0 0) ≡ l
+same_words [] = refl
+same_words (x ∷ xs) = refl
+
+module _ (F T A : Type 0) (limit : ℕ) where
+  abbrev M : Type 0
+  M = Me (Slot F T A) View
+
+  abbrev B : Type 0
+  B = Board (Slot F T A) View
+
+  abbrev Rule : B → Type 0
+  Rule = Ruled {F = F} {T = T} {A = A} limit
+
+  abbrev now : B → ℕ
+  now s = get_or s.words 0 0
+
+  -- the table with another view of this seat
+  abbrev viewing : B → ℕ → View → B
+  viewing s id v = record { words = s.words; homes = s.homes; views = set s.views id v }
+
+  -- the rule holds once the first party of a seat has seen something else
+  reseen : (s : B) (id : ℕ) (l : ℕ) (p : Position) (ds : List Deed) (t new : Option Tries) (us : List Member) (c : Rule s) → get_elem? s.views id ≡ some (view l (trying p ds t ∷ us))
+      → ((k : ℕ) → Tried k c.running.log c.running.machine.word t → Tried k c.running.log c.running.machine.word new) → Rule (viewing s id (view l (trying p ds new ∷ us)))
+  reseen s id l p ds t new us c at shows = let r = c.running in let v : View = view l (trying p ds t ∷ us) in let w : View = view l (trying p ds new ∷ us) in let lt = inside s.views id v at in
+      let t0 = subst (λ vs. Told limit vs r.log r.machine) (sym (lists.set_again s.views id v at)) r.told in
+      retold F T A limit s c.capped r (set s.views id w) r.log r.machine (retries limit s.views id l p ds t new us r.log r.machine t0 lt shows) refl r.limited r.housed
+      (λ early. set_apart F T A limit s.views id w (not_first F T A limit s r id v l (trying p ds t ∷ us) at refl early))
+      (λ j y ne e. ⊎_elim (λ (h : (j ≡ id) × (w ≡ y)). ap (λ (u : View). u.stage) (sym h.1)) (λ (h : (j ≢ id) × (get_elem? s.views j ≡ some y)). r.staged j y ne h.1) (lists.at_set s.views id j w y e))
+
+  made_alike : (acts : List Act) (w : State) (l : ℕ) (p : Position) (ds : List Deed) (t : Option Tries) (us : List Member) (held : List (ℕ × Slot F T A)) (m : M) → Makes acts w (view l (member p ds ∷ us), held) m → Makes acts w (view l (trying p ds t ∷ us), held) m
+  made_alike acts w l p ds t us held m x = record { slots = x.slots; fits = x.fits; viewed = x.viewed; carried = x.carried }
+
+  -- a step of a party is allowed whatever it has seen
+  acts_on : (s : B) (id : ℕ) (l : ℕ) (p : Position) (ds : List Deed) (t : Option Tries) (us : List Member) (held : List (ℕ × Slot F T A)) (acts : State → List Act) (write : ℕ → ℕ) → Rule s
+      → get_elem? s.views id ≡ some (view l (trying p ds t ∷ us)) → length s.homes ≡ 3 → now s < 18446744073709551616
+      → ((m : Machine) → Finds limit p ds us m → now s ≡ number_of m.word → Steps m p (acts m.word) (write (now s)) held)
+      → Result F T A limit s id (view l (trying p ds t ∷ us), held) (write (now s)) (Makes (acts (state_of (now s))) (state_of (now s)) (view l (trying p ds t ∷ us), held))
+  acts_on s id l p ds t us held acts write c at three fits owes = let v : View = view l (trying p ds t ∷ us) in let quiet : View = view l (member p ds ∷ us) in
+      let o = result F T A limit (viewing s id quiet) id (quiet, held) l p ds us acts write (reseen s id l p ds t None us c at (λ k h. tt)) (lists.set_here s.views id quiet (inside s.views id v at)) refl three fits owes in (
+        o.0,
+        o.1,
+        o.2,
+        subst (λ (vs : List View). Rule record { words = set s.words 0 (write (now s)); homes = homes_after s.homes held o.1; views = vs }) (set-set s.views id quiet o.0) o.3,
+        made_alike (acts (state_of (now s))) (state_of (now s)) l p ds t us held (o.0, carried_after held o.1) o.4,
+      )
+
+  -- a party that only sees the word
+  sees : (s : B) (id : ℕ) (l : ℕ) (p : Position) (ds : List Deed) (t new : Option Tries) (us : List Member) (held : List (ℕ × Slot F T A)) (c : Rule s) → get_elem? s.views id ≡ some (view l (trying p ds t ∷ us))
+      → ((k : ℕ) → Tried k c.running.log c.running.machine.word t → Tried k c.running.log c.running.machine.word new)
+      → Result F T A limit s id (view l (trying p ds t ∷ us), held) (now s) (λ m. m ≡ (view l (trying p ds new ∷ us), held))
+  sees s id l p ds t new us held c at shows = let w : View = view l (trying p ds new ∷ us) in
+      (w, keeps, tt, subst (λ (ws : List ℕ). Rule record { words = ws; homes = s.homes; views = set s.views id w }) (sym (same_words s.words)) (reseen s id l p ds t new us c at shows), refl)
+
+  -- what an attempt owes: its change where it finds the word that it names, and its end
+  pub may_try : (slots id l : ℕ) (p : Position) (ds : List Deed) (us : List Member) (held : List (ℕ × Slot F T A)) (writes : ℕ → State → Option State) (ends : ℕ → State → Bool) (acts told : State → List Act) → slots ≡ 3
+      → ((w v : State) → writes limit w ≡ Some v → (m : Machine) → Finds limit p ds us m → number_of w ≡ number_of m.word → Steps m p (acts m.word) (number_of v) held)
+      → ((w : State) → ends l w ≡ ends limit w)
+      → OwesEnd F T A limit (ends limit) told p ds us held → MayTry limit slots id (view l (member p ds ∷ us), held) writes ends acts told
+  may_try slots id l p ds us held writes ends acts told three changes same over = record {
+    loads = λ t s c deep at fits. observe t s c (deep ∙ three) at fits (ends l (state_of (now s))) refl;
+    exchanges = λ t w v writing names s c deep at fits. lists.exchanged (now s) (number_of w) (number_of v)
+        (λ x. Result F T A limit s id (view l (trying p ds t ∷ us), held) x (attempted acts (step slots 0 (number_of w) (number_of v) none) (view l (trying p ds t ∷ us), held) (now s)))
+        (λ hit. let o = acts_on s id l p ds t us held acts (λ n. number_of v) c at (deep ∙ three) fits (λ m f e. changes w v writing m f (sym hit ∙ e)) in (o.0, o.1, o.2, o.3, ((λ _. o.4), (λ no. absurd (no hit)), knows t s c at)))
+        (λ miss. let o = sees s id l p ds t (missed (state_of (now s)) t) us held c at (λ k h. subst (λ (x : State). Tried k c.running.log c.running.machine.word (missed x t)) (stands s c)
+        (tried_miss k c.running.log w c.running.machine.word t names (λ e. miss (c.running.word_is ∙ sym e)) h)) in (o.0, o.1, o.2, o.3, ((λ hit. absurd (miss hit)), (λ _. o.4), knows t s c at)));
+  }
+    where
+      stands : (s : B) (c : Rule s) → c.running.machine.word ≡ state_of (now s)
+      stands s c = sym (ap state_of c.running.word_is ∙ state_of_number_of c.running.machine.word)
+
+      knows : (t : Option Tries) (s : B) (c : Rule s) → get_elem? s.views id ≡ some (view l (trying p ds t ∷ us)) → Knows ds (state_of (now s))
+      knows t s c at = knows_now F T A limit s id (view l (trying p ds t ∷ us), held) l p ds t us refl c at
+
+      differs : {P : Type 0} (x : Bool) → x ≡ true → x ≡ false → P
+      differs x e f = absurd (cc)
+
+      observe : (t : Option Tries) (s : B) (c : Rule s) → length s.homes ≡ 3 → get_elem? s.views id ≡ some (view l (trying p ds t ∷ us)) → now s < 18446744073709551616 → (b : Bool) → ends l (state_of (now s)) ≡ b
+          → Result F T A limit s id (view l (trying p ds t ∷ us), held) (now s) (observed ends told (step slots 0 0 0 none) (view l (trying p ds t ∷ us), held) (now s))
+      observe t s c deep at fits true is = let o = acts_on s id l p ds t us held told (λ n. n) c at deep fits (λ m f e. over m f (now s) e fits (sym (same m.word) ∙ (ap (ends l) (sym (state_of_number_of m.word) ∙ ap state_of (sym e)) ∙ is))) in
+          (o.0, o.1, o.2, o.3, ((λ _. o.4), (λ no. differs (ends l (state_of (now s))) is no), knows t s c at))
+      observe t s c deep at fits false is = let o = sees s id l p ds t (looked (state_of (now s)) t) us held c at
+          (λ k h. subst (λ (x : State). Tried k c.running.log c.running.machine.word (looked x t)) (stands s c) (tried_look k c.running.log c.running.machine.word t h)) in
+          (o.0, o.1, o.2, o.3, ((λ yes. differs (ends l (state_of (now s))) yes is), (λ _. o.4), knows t s c at))
+
+  -- an attempt that no word ends
+  pub never_ends : (p : Position) (ds : List Deed) (us : List Member) (held : List (ℕ × Slot F T A)) → OwesEnd F T A limit (λ _. false) (λ _. []) p ds us held
+  never_ends p ds us held m f n e lt over = absurd (cc)

@@ -1,0 +1,64 @@
+-- What a party does that tries to change the word by compare and exchange, and what it has seen meanwhile.
+use Rattle.std.specs.Prelude.{◌≡◌, ◌≢◌, ℕ, ◌+◌, ◌==◌, Bool, true, false, List, ◌∷◌, Option, Some, None, is_some}
+use mathlib.Core.Option.{none}
+use prog.Atomic.{either}
+use Rattle.atomic_table.specs.Table.{Me, Step, step, Allows}
+use Rattle.task_core.specs.Word.{State, state_of, number_of}
+use Rattle.task_core.specs.declared.moves.Act.{Act}
+use Rattle.task_steps.specs.declared.table.Slot.{Slot}
+use Rattle.task_steps.specs.declared.table.Tries.{Tries}
+use Rattle.task_steps.specs.declared.table.View.{View}
+use Rattle.task_steps.specs.Rule.{view, trying, Ruled}
+use Rattle.task_steps.specs.Steps.{head_of, tail_of, Makes}
+use Rattle.task_steps.specs.Knows.{Knows}
+
+abbrev pub misses_of : Option Tries → ℕ
+misses_of None = 0
+misses_of (Some t) = t.misses
+
+-- after a load: the word was seen
+abbrev pub looked : State → Option Tries → Option Tries
+looked w t = Some (record { seen = w; misses = misses_of t })
+
+-- after an exchange that missed: one miss more, but for the first exchange of a party that has not looked
+abbrev pub missed : State → Option Tries → Option Tries
+missed w None = Some (record { seen = w; misses = 0 })
+missed w (Some t) = Some (record { seen = w; misses = t.misses + 1 })
+
+-- the word that an exchange names is the one that its party saw last
+abbrev pub Names : State → Option Tries → Type 0
+Names w None = Unit {0}
+Names w (Some t) = t.seen ≡ w
+
+-- the seat whose first party has seen this
+abbrev pub having_seen : Option Tries → View → View
+having_seen t v = view v.limit (trying (head_of v.members).at (head_of v.members).deeds t ∷ tail_of v.members)
+
+module _ {F T A : Type 0} where
+  -- what a load of an attempt tells: where the word ends the attempt, the acts of that end
+  abbrev pub observed : (ℕ → State → Bool) → (State → List Act) → Step (Slot F T A) → Me (Slot F T A) View → ℕ → Me (Slot F T A) View → Type 0
+  observed ends told st m r m' = (ends m.0.limit (state_of r) ≡ true → Makes (told (state_of r)) (state_of r) m m')
+      × (ends m.0.limit (state_of r) ≡ false → m' ≡ (having_seen (looked (state_of r) (head_of m.0.members).tries) m.0, m.1)) × Knows (head_of m.0.members).deeds (state_of r)
+
+  -- .. and its exchange: where it finds the word that it names, the acts of the change
+  abbrev pub attempted : (State → List Act) → Step (Slot F T A) → Me (Slot F T A) View → ℕ → Me (Slot F T A) View → Type 0
+  attempted acts st m r m' = (r ≡ st.first → Makes (acts (state_of r)) (state_of r) m m')
+      × (r ≢ st.first → m' ≡ (having_seen (missed (state_of r) (head_of m.0.members).tries) m.0, m.1)) × Knows (head_of m.0.members).deeds (state_of r)
+
+  -- the rule allows each load and each exchange of an attempt, whatever the party has seen
+  pub record MayTry (limit slots id : ℕ) (me : Me (Slot F T A) View) (writes : ℕ → State → Option State) (ends : ℕ → State → Bool) (acts told : State → List Act) : Type 0 where
+    pub loads : (t : Option Tries) → Allows (Ruled {F = F} {T = T} {A = A} limit) slots id (having_seen t me.0, me.1) 0 (λ n. n) (observed ends told (step slots 0 0 0 none) (having_seen t me.0, me.1))
+    pub exchanges : (t : Option Tries) (w v : State) → writes limit w ≡ Some v → Names w t
+        → Allows (Ruled {F = F} {T = T} {A = A} limit) slots id (having_seen t me.0, me.1) 0 (λ n. either (n == number_of w) (number_of v) n) (attempted acts (step slots 0 (number_of w) (number_of v) none) (having_seen t me.0, me.1))
+
+  -- an attempt has made its change on this word
+  pub record HasChanged (limit : ℕ) (writes : ℕ → State → Option State) (acts : State → List Act) (w : State) (me me' : Me (Slot F T A) View) : Type 0 where
+    pub written : is_some (writes limit w) ≡ true
+    pub made : Makes (acts w) w me me'
+    pub knows : Knows (head_of me.0.members).deeds w
+
+  -- .. or this word has ended it
+  pub record HasEnded (limit : ℕ) (ends : ℕ → State → Bool) (told : State → List Act) (w : State) (me me' : Me (Slot F T A) View) : Type 0 where
+    pub at_end : ends limit w ≡ true
+    pub made : Makes (told w) w me me'
+    pub knows : Knows (head_of me.0.members).deeds w
