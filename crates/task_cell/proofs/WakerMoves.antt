@@ -34,7 +34,6 @@ use Rattle.task_steps.specs.Found.{dropped_by}
 use Rattle.task_steps.proofs.Acts.{both}
 use Rattle.task_cell.proofs.Carried.{keeps_places}
 use Rattle.task_cell.proofs.Moved.{moved, goes}
-use Rattle.task_steps.proofs.TaskOwed.{over}
 use Rattle.task_steps.specs.Seats.{is_spent}
 use Rattle.atomic_table.specs.Seated.{TableId}
 use Rattle.task_steps.proofs.WakerOwed.{gains, third, fourth}

@@ -1,9 +1,8 @@
 -- What an attempt owes: each load and each exchange of it keeps the rule, and each miss has met a write.
-use Rattle.std.proofs.Common.{◌≡◌, ◌≢◌, ℕ, ◌+◌, ◌<◌, ◌≤◌, Bool, eqb, not, true, false, Option, Some, None, List, [], ◌∷◌, length, get_or, set, set-set, sym, refl, ap, ◌∙◌, subst, ⊎_elim, arith, eq-eqb, ne_eqb}
+use Rattle.std.proofs.Common.{◌≡◌, ◌≢◌, ℕ, ◌<◌, Bool, not, true, false, Option, Some, None, List, [], ◌∷◌, length, get_or, set, set-set, sym, refl, ap, ◌∙◌, subst, ⊎_elim, arith, eq-eqb, ne_eqb}
 use mathlib.Core.Option.{none, some}
 use lib.ListN.{get_elem?}
-use prog.Atomic.{either}
-use Rattle.atomic_table.specs.Table.{State as Board, Me, Allows, keeps, step, homes_after, carried_after}
+use Rattle.atomic_table.specs.Table.{State as Board, Me, keeps, step, homes_after, carried_after}
 use Rattle.atomic_table.proofs.Lists as lists
 use Rattle.task_core.specs.Word.{State, bit, state_of, number_of}
 use Rattle.task_core.proofs.Bits.{state_of_number_of}

@@ -1,5 +1,4 @@
-use Rattle.std.proofs.Common.{rules, sym, subst, ◌<◌}
-use Rattle.task_core.specs.Word.{State}
+use Rattle.std.proofs.Common.{rules}
 use Rattle.task_steps.proofs.Lending.{enters}
 use Rattle.task_cell.proofs.cell.Cell.borrow.Goals as goal
 

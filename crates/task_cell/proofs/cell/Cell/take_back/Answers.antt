@@ -1,4 +1,4 @@
-use Rattle.std.proofs.Common.{rules, ap, ◌∙◌}
+use Rattle.std.proofs.Common.{rules}
 use Rattle.task_steps.specs.declared.table.Slot.TheVariants.{Awaiter}
 use Rattle.task_cell.proofs.Moved.{first_held}
 use Rattle.task_cell.proofs.PollMoved.{may_take_back, left_empty}
