@@ -18,10 +18,10 @@ module _ {A T U : Type 0} (f : T → U) (cloned : A → Option A → Type 0) (wo
   answered_as : (path : List Deed) (answer : TaskPoll (Option T)) → AnswerPath woken compared awaiter path answer → AnswerPath woken compared awaiter path (answer_as f answer)
   answered_as _ _ (waits w e) = waits w e
   answered_as _ _ (has_ended_since w taken e t) = has_ended_since w taken e t
-  answered_as _ _ (has_output_since w path x e c) = has_output_since w path (f x) e c
+  answered_as _ _ (has_output_since w path x c) = has_output_since w path (f x) c
 
   polled_as : (path : List Deed) (answer : TaskPoll (Option T)) → PollPath cloned woken woken_by_ref compared awaiter path answer → PollPath cloned woken woken_by_ref compared awaiter path (answer_as f answer)
-  polled_as _ _ (finds_output path x c) = finds_output path (f x) c
+  polled_as _ _ (finds_output w path x c) = finds_output w path (f x) c
   polled_as _ _ (finds_ended w taken e t) = finds_ended w taken e t
   polled_as _ _ (is_refused w e e' c) = is_refused w e e' c
   polled_as _ _ (looks_again w registered path answer e e' r a) = looks_again w registered path (answer_as f answer) e e' r (answered_as path answer a)

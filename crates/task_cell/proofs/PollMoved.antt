@@ -1,37 +1,60 @@
--- What the steps of a registering come to for the party that made them.
-use Rattle.std.proofs.Common.{◌≡◌, ℕ, Bool, true, false, not, Option, Some, None, List, [], ◌∷◌, refl, sym, ap, ◌∙◌, subst, map, is_some}
-use Rattle.std.specs.Prelude.{if◌then◌else◌}
+-- What the looks of a poll and the steps of a registering come to for the party that made them.
+use Rattle.std.proofs.Common.{◌≡◌, ℕ, ◌+◌, Bool, true, false, not, ◌&&◌, ◌||◌, Option, Some, None, List, [], ◌∷◌, refl, sym, ap, ◌∙◌, subst, map, is_some}
+use Rattle.std.specs.Prelude.{if◌then◌else◌, Result, Ok, Err, IfOk, IfErr}
 use Rattle.atomic_table.specs.Table.{Me, rest}
 use Rattle.task_core.specs.Word.{State, number_of}
 use Rattle.task_core.specs.Rows.{written, row as row_of}
 use Rattle.task_laws.specs.declared.positions.Position.{Position}
-use Rattle.task_laws.specs.declared.positions.Position.TheVariants.{Looking, Registrar, RefusedClone, Registered}
+use Rattle.task_laws.specs.Event.{Polls}
+use Rattle.task_laws.specs.declared.positions.PollAnswer.TheVariants.{IsPending}
+use Rattle.task_laws.specs.declared.positions.Way.TheVariants.{OfPoll, OfClaim}
+use Rattle.task_laws.specs.declared.positions.Position.TheVariants.{Looking, Claiming, Answering, Notifier, Registrar, RefusedClone, Registered, TookBack, CloneInHand}
 use Rattle.task_core.specs.declared.moves.Act.{Act}
-use Rattle.task_core.specs.declared.moves.Act.TheVariants.{CloneAwaiter, StoreAwaiter, FindNotify, BeginRegister, EndRegister, EndRegisterNotified, ClaimOutput}
-use Rattle.task_laws.specs.Table.{after_storing}
+use Rattle.task_core.specs.declared.moves.Act.TheVariants.{Look, CloneAwaiter, StoreAwaiter, FindNotify, BeginRegister, EndRegister, EndRegisterNotified, TakeAwaiter, ClaimOutput, EndCall}
+use Rattle.task_laws.specs.Table.{Slots, Outcome, steps, keeps, when, notifies, first_look, after_storing}
+use Rattle.task_laws.specs.Theorem.{owns_awaiter}
 use Rattle.task_steps.specs.declared.table.Slot.{Slot}
 use Rattle.task_steps.specs.declared.table.Deed.{Deed}
 use Rattle.task_steps.specs.declared.table.View.{View}
 use Rattle.task_cell.specs.declared.cell.Party.{Party}
-use Rattle.task_steps.specs.Rule.{member, view, fresh, Waits}
-use Rattle.task_steps.specs.Steps.{head_of, next_of, born_of, leaves_by, noted, acted, Carried, Makes}
-use Rattle.task_cell.specs.Calls.{deeds, limit_of, StandsWith, Stands, GoesWith, Goes}
+use Rattle.task_steps.specs.Rule.{member, view, fresh, has_work, Waits}
+use Rattle.task_steps.specs.Steps.{head_of, and_then, spot, held_word, next_of, born_of, leaves_by, noted, acted, output_first, TakesOutput, Carries, Carried, Makes, saw_ended}
+use Rattle.task_cell.specs.Calls.{position, deeds, limit_of, StandsWith, Stands, GoesWith, Goes}
 use Rattle.task_steps.specs.Deeds.{after, row, act}
-use Rattle.task_steps.specs.PollScripts.{finding_notifier, beginning_register, ending_register, ending_notified, claiming}
-use Rattle.task_cell.specs.PollPaths.{BeginsRegister, begins, finds_one, EndsRegister, ends, finds_notified}
-use Rattle.task_steps.specs.Standing.{poll_number, claims_from}
-use Rattle.task_cell.proofs.Moved.{position_is, still}
+use Rattle.task_steps.specs.PollScripts.{has_output, has_ended, has_to_wait, looking, claiming, looking_again, claiming_again, finding_notifier, beginning_register, ending_register, taking_back}
+use Rattle.task_cell.specs.PollPaths.{ClaimsOutput, Looks, claims_output, sees_none, LooksAgain, claims_output_now, has_to_wait_on, sees_end, BeginsRegister, begins, finds_one, EndsRegister, ends, finds_notified}
+use Rattle.task_steps.specs.Standing.{as_task, poll_number}
+use Rattle.task_cell.proofs.Moved.{position_is, held_is, stands, goes_on}
 use Rattle.task_steps.specs.declared.table.Slot.TheVariants.{Empty, Awaiter}
 use Rattle.task_steps.specs.Attempts.{MayTry, HasChanged, HasEnded}
-use Rattle.task_steps.proofs.Owed.{does_nothing}
-use Rattle.task_steps.proofs.Attempts.{never_ends}
-use Rattle.task_steps.proofs.PollOwed.{begins_register, ends_register, ends_notified, claims, finds_notifier, fits}
+use Rattle.task_steps.proofs.PollOwed.{first_free, has_waited, sees_output, looks, looks_again, begins_register, ends_register, takes_back, claims, claims_again, finds_notifier, fits}
 use Rattle.task_cell.proofs.Attempts.{may_at}
+use Rattle.task_cell.proofs.PollSeen.{not_both}
 
 -- a row that was made finds no notifier
 not_notifying : (b : Bool) (v : State) → is_some (if not b then Some v else None) ≡ true → b ≡ false
 not_notifying true v e = absurd (cc)
 not_notifying false v e = refl
+
+output_found : (b : Bool) (v : State) → is_some (if b then Some v else None) ≡ true → b ≡ true
+output_found true v e = refl
+output_found false v e = absurd (cc)
+
+is_first : (a b : Bool) → (a && b) ≡ true → a ≡ true
+is_first true b e = refl
+is_first false b e = absurd (cc)
+
+is_not : (b : Bool) → not b ≡ true → b ≡ false
+is_not true e = absurd (cc)
+is_not false e = refl
+
+-- a look that finds no output, and has not to wait, finds the task ended
+finds_end : (i : ℕ) (closed busy completed : Bool) → (if closed then busy else not completed) ≡ false → (completed && not closed) ≡ false
+    → ((if closed then (if busy then Answering i IsPending else Notifier (OfPoll i)) else (if completed then Claiming i else Answering i IsPending)) ≡ Notifier (OfPoll i)) × ((closed && not busy) ≡ true)
+finds_end i true true completed e f = absurd (cc)
+finds_end i true false completed e f = (refl, refl)
+finds_end i false busy true e f = absurd (cc)
+finds_end i false busy false e f = absurd (cc)
 
 module _ {F T A : Type 0} where
   -- the seat after acts that lead to this position, and add no party
@@ -72,32 +95,108 @@ module _ {F T A : Type 0} where
       let g = went (EndRegister ∷ []) w (Registered i) (Looking i) ((2, y) ∷ []) path p q s cell m refl refl refl in
       ends w (not_notifying w.notifying (written EndRegister w) c.written) (subst (λ at. Goes path (Looking (poll_number at)) p q) (sym (position_is p (Registered i) ((2, y) ∷ []) s)) (subst (λ l. GoesWith path (Looking i) l p q) g.0 g.1))
 
-  -- the clone was taken out of its place
-  pub left_empty : (i : ℕ) (y : Slot F T A) (p q : Party F T A) → StandsWith (Registered i) ((2, y) ∷ []) p → q.seat.me ≡ (p.seat.me.0, (2, Empty) ∷ rest p.seat.me.1) → StandsWith (Registered i) ((2, Empty) ∷ []) q
-  left_empty i y p q s is = let now = is ∙ ap (λ (m : Me (Slot F T A) View). (m.0, (2, Empty) ∷ rest m.1)) s in now ∙ ap (λ (z : ℕ × List Deed). (view z.0 (member (Registered i) z.1 ∷ []), (2, Empty) ∷ []))
-      (λ j. (sym (ap (λ (m : Me (Slot F T A) View). m.0.limit) now) j, sym (ap (λ (m : Me (Slot F T A) View). (head_of m.0.members).deeds) now) j))
+  -- the slot is given back without the clone, which was taken out of it
+  pub given_back : (i : ℕ) (w : State) (y : Slot F T A) (p q r : Party F T A) → StandsWith (TookBack i) ((2, y) ∷ []) p → GoesWith [] (TookBack i) ((2, Empty) ∷ []) p q → r.seat.table_id ≡ q.seat.table_id → Makes (EndRegisterNotified ∷ []) w q.seat.me r.seat.me
+      → (v : State) × (v.notifying ≡ true) × Goes (row EndRegisterNotified v ∷ []) (CloneInHand (poll_number (position p))) p r
+  given_back i w y p q r s took cell m = let path : List Deed = row EndRegisterNotified w ∷ [] in let held : List (ℕ × Slot F T A) = (2, Empty) ∷ [] in
+      let g = went (EndRegisterNotified ∷ []) w (TookBack i) (CloneInHand i) held path q r (stands p q [] (TookBack i) held took) cell m refl refl refl in (
+        w,
+        is_first w.notifying true m.fits,
+        subst (λ at. Goes path (CloneInHand (poll_number at)) p r) (sym (position_is p (TookBack i) ((2, y) ∷ []) s)) (goes_on p q r [] path (TookBack i) (CloneInHand i) held [] took (subst (λ l. GoesWith path (CloneInHand i) l q r) g.0 g.1)),
+      )
 
-  -- a notifier came meanwhile
-  pub notified : (limit i : ℕ) (w : State) (y : Slot F T A) (p q : Party F T A) → StandsWith (Registered i) ((2, y) ∷ []) p → q.seat.table_id ≡ p.seat.table_id → HasEnded limit (λ _ w. w.notifying) (λ _. []) w p.seat.me q.seat.me → EndsRegister p q false
-  notified limit i w y p q s cell e = finds_notified cell (still w (Registered i) ((2, y) ∷ []) p q s e.made)
+  -- a notifier came meanwhile, and the clone is taken back
+  pub notified : (limit i : ℕ) (w : State) (y : Slot F T A) (p q : Party F T A) → StandsWith (Registered i) ((2, y) ∷ []) p → q.seat.table_id ≡ p.seat.table_id → HasEnded limit (λ _ w. w.notifying) taking_back w p.seat.me q.seat.me → EndsRegister p q false
+  notified limit i w y p q s cell e = let m = e.made in let path : List Deed = act TakeAwaiter ∷ [] in let held : List (ℕ × Slot F T A) = (2, y) ∷ [] in
+      let to : (f : Option Outcome → Position) → f (leaves_by (limit_of p) w m.slots (TakeAwaiter ∷ []) (Registered i)) ≡ f (Some (keeps (spot (limit_of p) (held_word (Registered i) w) m.slots) w (record (m.slots) { awaiter = None }) (TookBack i) [])) = λ f.
+          ap (λ (b : Bool). f (and_then (when b (keeps (spot (limit_of p) (held_word (Registered i) w) m.slots) w (record (m.slots) { awaiter = None }) (TookBack i) [])) (λ o. leaves_by (limit_of p) o.word o.slots [] o.next))) e.at_end in
+      let none : born_of (leaves_by (limit_of p) w m.slots (TakeAwaiter ∷ []) (Registered i)) ≡ [] = ap (λ (b : Bool). born_of (and_then (when b (keeps (spot (limit_of p) (held_word (Registered i) w) m.slots) w (record (m.slots) { awaiter = None }) (TookBack i) [])) (λ o. leaves_by (limit_of p) o.word o.slots [] o.next))) e.at_end in
+      let g = went (TakeAwaiter ∷ []) w (Registered i) (TookBack i) held path p q s cell m (to next_of) none refl in
+      finds_notified (subst (λ (z : Position × List (ℕ × Slot F T A)). GoesWith path (TookBack (poll_number z.0)) z.1 p q) (λ j. (sym (position_is p (Registered i) held s) j, sym (held_is p (Registered i) held s) j)) (subst (λ l. GoesWith path (TookBack i) l p q) g.0 g.1))
+
+  -- the places of the output, once it was claimed
+  carried_output : (b : Bool) (i : ℕ) (l : List (ℕ × Slot F T A)) → Carries false (has_work (notifies b (OfClaim i))) false (owns_awaiter (notifies b (OfClaim i))) (notifies b (OfClaim i)) [] l → TakesOutput [] l
+  carried_output true i l c = c
+  carried_output false i l c = c
+
+  claimed : (w : State) (at : Position) (acts : List Act) (path : List Deed) (p q : Party F T A) → Stands at p → q.seat.table_id ≡ p.seat.table_id → (m : Makes acts w p.seat.me q.seat.me) → has_output w ≡ true
+      → next_of (leaves_by (limit_of p) w m.slots acts at) ≡ notifies w.awaiter (OfClaim (poll_number at)) → born_of (leaves_by (limit_of p) w m.slots acts at) ≡ [] → noted w acts (deeds p) ≡ after path (deeds p)
+      → (Carried at (notifies w.awaiter (OfClaim (poll_number at))) [] q.seat.me.1 → TakesOutput [] q.seat.me.1) → ClaimsOutput w path p q
+  claimed w at acts path p q s cell m there to none is takes = let g = went acts w at (notifies w.awaiter (OfClaim (poll_number at))) [] path p q s cell m to none is in let c = takes g.0 in record {
+    there = there;
+    beside = c.0;
+    output = c.1;
+    is_output = c.2;
+    goes = subst (λ at. GoesWith path (notifies w.awaiter (OfClaim (poll_number at))) (output_first c.0 c.1 []) p q) (sym (position_is p at [] s)) (subst (λ l. GoesWith path (notifies w.awaiter (OfClaim (poll_number at))) l p q) c.3 g.1);
+  }
+
+  -- the first look of a poll
+  looked_first : (limit n : ℕ) (w : State) (p q : Party F T A) → Stands (as_task n) p → q.seat.table_id ≡ p.seat.table_id → HasChanged limit (λ _ w. row_of 0 ClaimOutput w) claiming w p.seat.me q.seat.me → Looks p q (Ok w)
+  looked_first limit n w p q s cell c = claims_output w (claimed w (as_task n) (ClaimOutput ∷ []) (row ClaimOutput w ∷ []) p q s cell c.made (output_found (has_output w) (written ClaimOutput w) c.written) refl refl refl (carried_output w.awaiter (n + 1) q.seat.me.1))
+
+  first_holds : (w : State) (n : ℕ) (l : List (ℕ × Slot F T A)) → Carried (as_task n) (first_look w (n + 1)) [] l → l ≡ []
+  first_holds w n l c = let f = first_free w (n + 1) in subst (λ (z : Bool × Bool). Carries false z.0 false z.1 (first_look w (n + 1)) [] l) (λ j. (f.0 j, f.1 j)) c
+
+  looked_in_vain : (limit n : ℕ) (w : State) (p q : Party F T A) → Stands (as_task n) p → q.seat.table_id ≡ p.seat.table_id → HasEnded limit (λ _ w. not (has_output w)) looking w p.seat.me q.seat.me → Looks p q (Err w)
+  looked_in_vain limit n w p q s cell e = let m = e.made in let l : ℕ = limit_of p in let path : List Deed = row Look w ∷ [] in
+      let left : Bool → Option Outcome = (λ b. and_then (when b (steps (spot l (held_word (as_task n) w) m.slots) w (first_look (held_word (as_task n) w) (n + 1)) [] (Polls (n + 1) ∷ []))) (λ o. leaves_by l o.word o.slots [] o.next)) in
+      let g = went (Look ∷ []) w (as_task n) (first_look w (n + 1)) [] path p q s cell m (ap (λ b. next_of (left b)) e.at_end) (ap (λ b. born_of (left b)) e.at_end) refl in
+      sees_none w (is_not (has_output w) e.at_end) (subst (λ at. Goes path (first_look w (poll_number at)) p q) (sym (position_is p (as_task n) [] s)) (subst (λ l. GoesWith path (first_look w (n + 1)) l p q) (first_holds w n q.seat.me.1 g.0) g.1))
+
+  pub looks_so : (limit n : ℕ) (x : Result State State) (p q : Party F T A) → Stands (as_task n) p → q.seat.table_id ≡ p.seat.table_id → IfOk x (λ w. HasChanged limit (λ _ w. row_of 0 ClaimOutput w) claiming w p.seat.me q.seat.me)
+      → IfErr x (λ w. HasEnded limit (λ _ w. not (has_output w)) looking w p.seat.me q.seat.me) → Looks p q x
+  looks_so limit n (Ok w) p q s cell c e = looked_first limit n w p q s cell c
+  looks_so limit n (Err w) p q s cell c e = looked_in_vain limit n w p q s cell e
+
+  -- .. which finds the task ended where one before it did
+  pub finds_it_ended : (limit : ℕ) (x : Result State State) (p q : Party F T A) → IfOk x (λ w. HasChanged limit (λ _ w. row_of 0 ClaimOutput w) claiming w p.seat.me q.seat.me) → IfErr x (λ w. HasEnded limit (λ _ w. not (has_output w)) looking w p.seat.me q.seat.me)
+      → saw_ended (deeds p) ≡ true → (w : State) × (x ≡ Err w) × (has_ended w ≡ true)
+  finds_it_ended limit (Ok w) p q c e saw = not_both w (c.knows.ended saw) (output_found (has_output w) (written ClaimOutput w) c.written)
+  finds_it_ended limit (Err w) p q c e saw = (w, refl, e.knows.ended saw)
+
+  -- .. and the look of one that has registered
+  claimed_again : (limit i : ℕ) (w : State) (p q : Party F T A) → Stands (Looking i) p → q.seat.table_id ≡ p.seat.table_id → HasChanged limit (λ _ w. row_of 0 ClaimOutput w) claiming_again w p.seat.me q.seat.me → LooksAgain p q (Ok w)
+  claimed_again limit i w p q s cell c = let m = c.made in let l : ℕ = limit_of p in let there = output_found (has_output w) (written ClaimOutput w) c.written in
+      let left : Position → Option Outcome = (λ at. and_then (Some (steps (spot l (held_word (Looking i) w) m.slots) w at [] [])) (λ o. leaves_by l o.word o.slots (ClaimOutput ∷ []) o.next)) in
+      claims_output_now w (claimed w (Looking i) (Look ∷ ClaimOutput ∷ []) (row Look w ∷ row ClaimOutput w ∷ []) p q s cell m there (ap (λ at. next_of (left at)) (sees_output w i there)) (ap (λ at. born_of (left at)) (sees_output w i there)) refl (carried_output w.awaiter i q.seat.me.1))
+
+  looked_again_in_vain : (limit i : ℕ) (w : State) (p q : Party F T A) → Stands (Looking i) p → q.seat.table_id ≡ p.seat.table_id → HasEnded limit (λ _ w. not (has_output w)) looking_again w p.seat.me q.seat.me → LooksAgain p q (Err w)
+  looked_again_in_vain limit i w p q s cell e = by (has_to_wait w) refl
+    where
+      l : ℕ
+      l = limit_of p
+
+      left : Slots → List Act → Position → Option Outcome
+      left slots acts at = and_then (Some (steps (spot l (held_word (Looking i) w) slots) w at [] [])) (λ o. leaves_by l o.word o.slots acts o.next)
+
+      by : (b : Bool) → has_to_wait w ≡ b → LooksAgain p q (Err w)
+      by true f = let m = subst (λ b. Makes (if b then Look ∷ EndCall ∷ [] else Look ∷ []) w p.seat.me q.seat.me) f e.made in let path : List Deed = row Look w ∷ act EndCall ∷ [] in
+          let is = has_waited w i f in let g = went (Look ∷ EndCall ∷ []) w (Looking i) (as_task i) [] path p q s cell m (ap (λ at. next_of (left m.slots (EndCall ∷ []) at)) is) (ap (λ at. born_of (left m.slots (EndCall ∷ []) at)) is) refl in
+          has_to_wait_on w f (subst (λ at. Goes path (as_task (poll_number at)) p q) (sym (position_is p (Looking i) [] s)) (subst (λ l. GoesWith path (as_task i) l p q) g.0 g.1))
+      by false f = let m = subst (λ b. Makes (if b then Look ∷ EndCall ∷ [] else Look ∷ []) w p.seat.me q.seat.me) f e.made in let path : List Deed = row Look w ∷ [] in
+          let is = finds_end i w.closed (w.scheduled || w.running) w.completed f (is_not (has_output w) e.at_end) in let g = went (Look ∷ []) w (Looking i) (Notifier (OfPoll i)) [] path p q s cell m (ap (λ at. next_of (left m.slots [] at)) is.0) (ap (λ at. born_of (left m.slots [] at)) is.0) refl in
+          sees_end w f is.1 (subst (λ at. Goes path (Notifier (OfPoll (poll_number at))) p q) (sym (position_is p (Looking i) [] s)) (subst (λ l. GoesWith path (Notifier (OfPoll i)) l p q) g.0 g.1))
+
+  pub looks_again_so : (limit i : ℕ) (x : Result State State) (p q : Party F T A) → Stands (Looking i) p → q.seat.table_id ≡ p.seat.table_id → IfOk x (λ w. HasChanged limit (λ _ w. row_of 0 ClaimOutput w) claiming_again w p.seat.me q.seat.me)
+      → IfErr x (λ w. HasEnded limit (λ _ w. not (has_output w)) looking_again w p.seat.me q.seat.me) → LooksAgain p q x
+  looks_again_so limit i (Ok w) p q s cell c e = claimed_again limit i w p q s cell c
+  looks_again_so limit i (Err w) p q s cell c e = looked_again_in_vain limit i w p q s cell e
 
 module _ (F T A : Type 0) (limit : ℕ) where
-  -- the rule allows a poll to take the awaiter slot, to give it back, and to claim the output
+  -- the rule allows a poll to look, to take the awaiter slot, and to give it back
   pub may_register : (p : Party F T A) (i : ℕ) → Stands (Registrar i) p → MayTry limit 3 p.seat.id p.seat.me (λ _ w. row_of 0 BeginRegister w) (λ _ w. w.notifying) beginning_register finding_notifier
   may_register p i s = may_at limit p (Registrar i) [] s (λ _ w. row_of 0 BeginRegister w) (λ _ w. w.notifying) beginning_register finding_notifier (λ w. refl)
       (λ w v e m f here. begins_register F T A limit i (deeds p) [] [] m (number_of v) f (fits BeginRegister w v (number_of w) (number_of v) m.word e refl refl here)) (finds_notifier F T A limit i (deeds p) [] [])
 
-  pub may_give_back : (p : Party F T A) (i : ℕ) (a : A) → StandsWith (Registered i) ((2, Awaiter a) ∷ []) p → MayTry limit 3 p.seat.id p.seat.me (λ _ w. row_of 0 EndRegister w) (λ _ w. w.notifying) ending_register (λ _. [])
-  may_give_back p i a s = may_at limit p (Registered i) ((2, Awaiter a) ∷ []) s (λ _ w. row_of 0 EndRegister w) (λ _ w. w.notifying) ending_register (λ _. []) (λ w. refl)
+  pub may_give_back : (p : Party F T A) (i : ℕ) (a : A) → StandsWith (Registered i) ((2, Awaiter a) ∷ []) p → MayTry limit 3 p.seat.id p.seat.me (λ _ w. row_of 0 EndRegister w) (λ _ w. w.notifying) ending_register taking_back
+  may_give_back p i a s = may_at limit p (Registered i) ((2, Awaiter a) ∷ []) s (λ _ w. row_of 0 EndRegister w) (λ _ w. w.notifying) ending_register taking_back (λ w. refl)
       (λ w v e m f here. ends_register F T A limit i (deeds p) [] (Awaiter a) ((2, Awaiter a) ∷ []) m (number_of v) f refl tt (fits EndRegister w v (number_of w) (number_of v) m.word e refl refl here))
-      (λ m f n e lt over. does_nothing F T A limit (Registered i) (deeds p) [] ((2, Awaiter a) ∷ []) m f n e lt)
+      (takes_back F T A limit i (deeds p) [] ((2, Awaiter a) ∷ []))
 
-  pub may_take_back : (p : Party F T A) (i : ℕ) → StandsWith (Registered i) ((2, Empty) ∷ []) p → MayTry limit 3 p.seat.id p.seat.me (λ _ w. row_of 0 EndRegisterNotified w) (λ _ _. false) ending_notified (λ _. [])
-  may_take_back p i s = may_at limit p (Registered i) ((2, Empty) ∷ []) s (λ _ w. row_of 0 EndRegisterNotified w) (λ _ _. false) ending_notified (λ _. []) (λ w. refl)
-      (λ w v e m f here. ends_notified F T A limit i (deeds p) [] Empty ((2, Empty) ∷ []) m (number_of v) f refl tt (fits EndRegisterNotified w v (number_of w) (number_of v) m.word e refl refl here))
-      (never_ends F T A limit (Registered i) (deeds p) [] ((2, Empty) ∷ []))
+  pub may_look : (p : Party F T A) (n : ℕ) → Stands (as_task n) p → MayTry limit 3 p.seat.id p.seat.me (λ _ w. row_of 0 ClaimOutput w) (λ _ w. not (has_output w)) claiming looking
+  may_look p n s = may_at limit p (as_task n) [] s (λ _ w. row_of 0 ClaimOutput w) (λ _ w. not (has_output w)) claiming looking (λ w. refl)
+      (λ w v e m f here. claims F T A limit n (deeds p) [] [] m (number_of v) f (fits ClaimOutput w v (number_of w) (number_of v) m.word e refl refl here)) (looks F T A limit n (deeds p) [] [])
 
-  pub may_claim : (p : Party F T A) (looked : Bool) (n : ℕ) → Stands (claims_from looked n) p → MayTry limit 3 p.seat.id p.seat.me (λ _ w. row_of 0 ClaimOutput w) (λ _ _. false) claiming (λ _. [])
-  may_claim p looked n s = may_at limit p (claims_from looked n) [] s (λ _ w. row_of 0 ClaimOutput w) (λ _ _. false) claiming (λ _. []) (λ w. refl)
-      (λ w v e m f here. claims F T A limit looked n (deeds p) [] [] m (number_of v) f (fits ClaimOutput w v (number_of w) (number_of v) m.word e refl refl here))
-      (never_ends F T A limit (claims_from looked n) (deeds p) [] [])
+  pub may_look_again : (p : Party F T A) (i : ℕ) → Stands (Looking i) p → MayTry limit 3 p.seat.id p.seat.me (λ _ w. row_of 0 ClaimOutput w) (λ _ w. not (has_output w)) claiming_again looking_again
+  may_look_again p i s = may_at limit p (Looking i) [] s (λ _ w. row_of 0 ClaimOutput w) (λ _ w. not (has_output w)) claiming_again looking_again (λ w. refl)
+      (λ w v e m f here. claims_again F T A limit i (deeds p) [] [] m (number_of v) f (fits ClaimOutput w v (number_of w) (number_of v) m.word e refl refl here)) (looks_again F T A limit i (deeds p) [] [])

@@ -1,8 +1,8 @@
 -- The paths of a registering, put together from those of its parts.
-use Rattle.std.proofs.Common.{◌≡◌, ℕ, Bool, true, false, Option, Some, None, List, [], ◌∷◌, ◌++◌, refl, ◌∙◌, subst}
+use Rattle.std.proofs.Common.{◌≡◌, ℕ, Bool, true, false, Option, Some, None, List, [], ◌∷◌, ◌++◌, refl, subst}
 use Rattle.task_core.specs.Word.{State}
 use Rattle.task_laws.specs.declared.positions.Position.{Position}
-use Rattle.task_laws.specs.declared.positions.Position.TheVariants.{Looking, RefusedClone, Registered, CloneInHand}
+use Rattle.task_laws.specs.declared.positions.Position.TheVariants.{Looking, RefusedClone, Registered, TookBack, CloneInHand}
 use Rattle.task_core.specs.declared.moves.Act.TheVariants.{CloneAwaiter, StoreAwaiter, TakeAwaiter, FindNotify, BeginRegister, EndRegister, EndRegisterNotified, DropAwaiter, WakeAwaiter}
 use Rattle.task_laws.specs.Table.{after_storing}
 use Rattle.task_steps.specs.declared.table.Slot.{Slot}
@@ -15,7 +15,7 @@ use Rattle.task_steps.specs.Deeds.{row, act}
 use Rattle.task_cell.specs.PollPaths as paths
 use Rattle.task_cell.specs.PollPaths.{RegisterPath, dropped_if, BeginsRegister, begins, finds_one, EndsRegister, ends, finds_notified}
 use Rattle.task_steps.specs.Standing.{poll_number}
-use Rattle.task_cell.proofs.Moved.{held_is}
+use Rattle.task_cell.proofs.Moved.{held_is, stands}
 use Rattle.task_steps.proofs.PollOwed.{same_first}
 use Rattle.task_cell.proofs.PollWays.{then_goes}
 
@@ -42,11 +42,11 @@ module _ {F T A : Type 0} where
 
   abbrev pub Ended : Party F T A → Party F T A → Bool → Type 0
   Ended p q true = (v : State) × (v.notifying ≡ false) × Goes (row EndRegister v ∷ []) (Looking (poll_number (position p))) p q
-  Ended p q false = (q.seat.table_id ≡ p.seat.table_id) × (q.seat.me ≡ p.seat.me)
+  Ended p q false = GoesWith (act TakeAwaiter ∷ []) (TookBack (poll_number (position p))) (holds p) p q
 
   ended_by : (p q : Party F T A) (b : Bool) → EndsRegister p q b → Ended p q b
   ended_by p q true (ends v e g) = (v, e, g)
-  ended_by p q false (finds_notified e f) = (e, f)
+  ended_by p q false (finds_notified g) = g
 
   pub has_ended : (p q : Party F T A) (b c : Bool) → EndsRegister p q b → b ≡ c → Ended p q c
   has_ended p q b c r e = ended_by p q c (subst (λ b. EndsRegister p q b) e r)
@@ -57,10 +57,6 @@ module _ {F T A : Type 0} where
   is_stored p q r w stood hand n held held' g h = subst (λ i. GoesWith (stored w ++ dropped_if stood) (Registered i) held' p r) (number_after n hand)
       (then_goes p q r (stored w) (dropped_if stood) (after_storing n hand) held held' (λ x. Registered (poll_number x)) g h)
 
-  -- a step that left the seat as it was
-  goes_still : (p q r : Party F T A) (path : List Deed) (at : Position) (held : List (ℕ × Slot F T A)) → GoesWith path at held p q → (r.seat.table_id ≡ q.seat.table_id) × (r.seat.me ≡ q.seat.me) → GoesWith path at held p r
-  goes_still p q r path at held g e = record { cell = e.0 ∙ g.cell; is = e.1 ∙ g.is }
-
   -- the clone was put in
   abbrev pub HasStored : A → Party F T A → Party F T A → Type 0
   HasStored clone p q = (w : State) × (stood : Bool) × (w.notifying ≡ false) × GoesWith (stored w ++ dropped_if stood) (Registered (poll_number (position p))) ((2, Awaiter clone) ∷ []) p q
@@ -68,13 +64,22 @@ module _ {F T A : Type 0} where
   pub stores_clone : (p q r : Party F T A) (b : Bool) (clone : A) → BeginsRegister p q b → b ≡ true → (stood : Bool) × GoesWith (dropped_if stood) (Registered (poll_number (position q))) ((2, Awaiter clone) ∷ []) q r → HasStored clone p r
   stores_clone p q r b clone f e s = let x = has_begun p q b true f e in (x.0, s.0, x.3, is_stored p q r x.0 s.0 x.1 (poll_number (position p)) ((2, x.2) ∷ []) ((2, Awaiter clone) ∷ []) x.5 s.1)
 
-  -- .. and is still there, where a notifier came meanwhile
-  pub keeps_clone : (p r t : Party F T A) (b : Bool) (clone : A) → HasStored clone p r → EndsRegister r t b → b ≡ false → HasStored clone p t
-  keeps_clone p r t b clone x f e = (x.0, x.1, x.2, goes_still p r t (stored x.0 ++ dropped_if x.1) (Registered (poll_number (position p))) ((2, Awaiter clone) ∷ []) x.3 (has_ended r t b false f e))
+  -- .. and taken back, where a notifier came meanwhile
+  abbrev pub TakenBack : A → Party F T A → Party F T A → Type 0
+  TakenBack clone p q = (w : State) × (stood : Bool) × (w.notifying ≡ false) × GoesWith ((stored w ++ dropped_if stood) ++ (act TakeAwaiter ∷ [])) (TookBack (poll_number (position p))) ((2, Awaiter clone) ∷ []) p q
+
+  pub takes_back : (p r t : Party F T A) (b : Bool) (clone : A) → HasStored clone p r → EndsRegister r t b → b ≡ false → TakenBack clone p t
+  takes_back p r t b clone x f e = let a : List Deed = stored x.0 ++ dropped_if x.1 in let n : ℕ = poll_number (position p) in let held : List (ℕ × Slot F T A) = (2, Awaiter clone) ∷ [] in (
+    x.0,
+    x.1,
+    x.2,
+    subst (λ l. GoesWith (a ++ (act TakeAwaiter ∷ [])) (TookBack n) l p t) (held_is r (Registered n) held (stands p r a (Registered n) held x.3))
+        (then_goes p r t a (act TakeAwaiter ∷ []) (Registered n) held (holds r) (λ x. TookBack (poll_number x)) x.3 (has_ended r t b false f e)),
+  )
 
   -- the clone that is taken out is the one that was put in
-  pub same_clone : (p : Party F T A) (n : ℕ) (a b : A) → StandsWith (Registered n) ((2, Awaiter a) ∷ []) p → holds p ≡ (2, Awaiter b) ∷ [] → b ≡ a
-  same_clone p n a b s e = let same = same_first (holds p) [] [] 2 (Awaiter a) (Awaiter b) (held_is p (Registered n) ((2, Awaiter a) ∷ []) s) e in cc
+  pub same_clone : (p : Party F T A) (n : ℕ) (a b : A) → StandsWith (TookBack n) ((2, Awaiter a) ∷ []) p → holds p ≡ (2, Awaiter b) ∷ [] → b ≡ a
+  same_clone p n a b s e = let same = same_first (holds p) [] [] 2 (Awaiter a) (Awaiter b) (held_is p (TookBack n) ((2, Awaiter a) ∷ []) s) e in cc
 
   module _ (cloned : A → Option A → Type 0) (woken woken_by_ref : A → Type 0) (awaiter : A) where
     abbrev pub IsRegistered : ℕ → Party F T A → Party F T A → Type 0
@@ -90,18 +95,18 @@ module _ {F T A : Type 0} where
     registered p r t n w v stood held clone e f c g h = let a : List Deed = stored w ++ dropped_if stood in
         (a ++ (row EndRegister v ∷ []), paths.registers w v stood clone e f c, then_goes p r t a (row EndRegister v ∷ []) (Registered n) held [] (λ x. Looking (poll_number x)) g h)
 
-    pub was_taken_back : (p r t : Party F T A) (n : ℕ) (w v : State) (stood : Bool) (held : List (ℕ × Slot F T A)) → GoesWith (stored w ++ dropped_if stood) (Registered n) held p r
-        → Goes (act TakeAwaiter ∷ row EndRegisterNotified v ∷ []) (CloneInHand (poll_number (position r))) r t → Goes ((stored w ++ dropped_if stood) ++ (act TakeAwaiter ∷ row EndRegisterNotified v ∷ [])) (CloneInHand n) p t
-    was_taken_back p r t n w v stood held g h = then_goes p r t (stored w ++ dropped_if stood) (act TakeAwaiter ∷ row EndRegisterNotified v ∷ []) (Registered n) held [] (λ x. CloneInHand (poll_number x)) g h
+    pub was_given_back : (p t u : Party F T A) (n : ℕ) (w v : State) (stood : Bool) (held : List (ℕ × Slot F T A)) → GoesWith ((stored w ++ dropped_if stood) ++ (act TakeAwaiter ∷ [])) (TookBack n) held p t
+        → Goes (row EndRegisterNotified v ∷ []) (CloneInHand (poll_number (position t))) t u → Goes (((stored w ++ dropped_if stood) ++ (act TakeAwaiter ∷ [])) ++ (row EndRegisterNotified v ∷ [])) (CloneInHand n) p u
+    was_given_back p t u n w v stood held g h = then_goes p t u ((stored w ++ dropped_if stood) ++ (act TakeAwaiter ∷ [])) (row EndRegisterNotified v ∷ []) (TookBack n) held [] (λ x. CloneInHand (poll_number x)) g h
 
-    pub was_notified : (p r t u : Party F T A) (n : ℕ) (w v : State) (stood : Bool) (held : List (ℕ × Slot F T A)) (clone : A) → w.notifying ≡ false → v.notifying ≡ true → cloned awaiter (Some clone) → woken clone
-        → GoesWith (stored w ++ dropped_if stood) (Registered n) held p r → Goes (act TakeAwaiter ∷ row EndRegisterNotified v ∷ []) (CloneInHand (poll_number (position r))) r t → Goes (act WakeAwaiter ∷ []) (Looking (poll_number (position t))) t u → IsRegistered n p u
-    was_notified p r t u n w v stood held clone e f c made g h k = let a : List Deed = stored w ++ dropped_if stood in let b : List Deed = act TakeAwaiter ∷ row EndRegisterNotified v ∷ [] in (
+    pub was_notified : (p t u x : Party F T A) (n : ℕ) (w v : State) (stood : Bool) (held : List (ℕ × Slot F T A)) (clone : A) → w.notifying ≡ false → v.notifying ≡ true → cloned awaiter (Some clone) → woken clone
+        → GoesWith ((stored w ++ dropped_if stood) ++ (act TakeAwaiter ∷ [])) (TookBack n) held p t → Goes (row EndRegisterNotified v ∷ []) (CloneInHand (poll_number (position t))) t u → Goes (act WakeAwaiter ∷ []) (Looking (poll_number (position u))) u x → IsRegistered n p x
+    was_notified p t u x n w v stood held clone e f c made g h k = let a : List Deed = stored w ++ dropped_if stood in let b : List Deed = (a ++ (act TakeAwaiter ∷ [])) ++ (row EndRegisterNotified v ∷ []) in (
       a ++ (act TakeAwaiter ∷ row EndRegisterNotified v ∷ act WakeAwaiter ∷ []),
       paths.was_notified w v stood clone e f c made,
-      subst (λ path. Goes path (Looking n) p u) (joined stood) (then_goes p t u (a ++ b) (act WakeAwaiter ∷ []) (CloneInHand n) [] [] (λ x. Looking (poll_number x)) (was_taken_back p r t n w v stood held g h) k),
+      subst (λ path. Goes path (Looking n) p x) (joined stood) (then_goes p u x b (act WakeAwaiter ∷ []) (CloneInHand n) [] [] (λ x. Looking (poll_number x)) (was_given_back p t u n w v stood held g h) k),
     )
       where
-        joined : (stood : Bool) → ((stored w ++ dropped_if stood) ++ (act TakeAwaiter ∷ row EndRegisterNotified v ∷ [])) ++ (act WakeAwaiter ∷ []) ≡ (stored w ++ dropped_if stood) ++ (act TakeAwaiter ∷ row EndRegisterNotified v ∷ act WakeAwaiter ∷ [])
+        joined : (stood : Bool) → (((stored w ++ dropped_if stood) ++ (act TakeAwaiter ∷ [])) ++ (row EndRegisterNotified v ∷ [])) ++ (act WakeAwaiter ∷ []) ≡ (stored w ++ dropped_if stood) ++ (act TakeAwaiter ∷ row EndRegisterNotified v ∷ act WakeAwaiter ∷ [])
         joined true = refl
         joined false = refl

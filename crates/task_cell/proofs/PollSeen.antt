@@ -1,5 +1,6 @@
 -- What a poll has seen of the task's end, and what an earlier poll has seen.
 use Rattle.std.proofs.Common.{◌≡◌, Bool, true, false, not, ◌&&◌, ◌||◌, List, [], ◌∷◌, ◌++◌, Option, None, sym, ap, subst}
+use Rattle.std.specs.Prelude.{Result, Err}
 use Rattle.atomic_table.specs.Table.{Me}
 use Rattle.task_core.specs.Word.{State}
 use Rattle.task_core.specs.declared.traits.TaskPoll.{TaskPoll}
@@ -35,11 +36,11 @@ module _ {A T : Type 0} (cloned : A → Option A → Type 0) (woken woken_by_ref
   answer_saw : (path : List Deed) (answer : TaskPoll (Option T)) (earlier : List Deed) → AnswerPath woken compared awaiter path answer → answer ≡ Ready None → saw_ended (after path earlier) ≡ true
   answer_saw _ _ earlier (waits w e) is = absurd (cc)
   answer_saw _ _ earlier (has_ended_since w taken e t) is = looked w (taken ++ act EndCall ∷ []) earlier e
-  answer_saw _ _ earlier (has_output_since w path x e c) is = absurd (cc)
+  answer_saw _ _ earlier (has_output_since w path x c) is = absurd (cc)
 
   -- a poll that answers ready without output has seen the task ended
   path_saw : (path : List Deed) (answer : TaskPoll (Option T)) (earlier : List Deed) → PollPath cloned woken woken_by_ref compared awaiter path answer → answer ≡ Ready None → saw_ended (after path earlier) ≡ true
-  path_saw _ _ earlier (finds_output path x c) is = absurd (cc)
+  path_saw _ _ earlier (finds_output w path x c) is = absurd (cc)
   path_saw _ _ earlier (finds_ended w taken e t) is = looked w (taken ++ act EndCall ∷ []) earlier e
   path_saw _ _ earlier (is_refused w e e' c) is = absurd (cc)
   path_saw _ _ earlier (looks_again w registered path answer e e' r a) is =
@@ -57,3 +58,10 @@ not_both w e f = by w.closed w.completed (w.scheduled || w.running) e f
     by true true b e f = absurd (cc)
     by true false b e f = absurd (cc)
     by false d b e f = absurd (cc)
+
+abbrev wrong : State → Result State State
+wrong w = Err w
+
+-- .. and a look that finds it going on contradicts one that saw it ended
+pub still_ended : {P : Type 0} (w : State) → (v : State) × (wrong w ≡ wrong v) × (has_ended v ≡ true) → has_ended w ≡ false → P
+still_ended w x f = absurd (cc)

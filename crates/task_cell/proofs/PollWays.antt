@@ -5,7 +5,7 @@ use Rattle.task_laws.specs.declared.positions.Position.{Position}
 use Rattle.task_laws.specs.declared.positions.Way.{Way}
 use Rattle.task_laws.specs.declared.positions.Way.TheVariants.{OfRun, OfDrop, OfCancel, OfPoll, OfClaim}
 use Rattle.task_laws.specs.declared.positions.Position.TheVariants.{Notifier, AwaiterInHand, Claimer, Answering}
-use Rattle.task_core.specs.declared.moves.Act.TheVariants.{ClaimOutput, HandOutOutput, TakeAwaiter, DropAwaiter, WakeAwaiter, EndCall, BeginNotify, MissNotify, EndNotify}
+use Rattle.task_core.specs.declared.moves.Act.TheVariants.{HandOutOutput, TakeAwaiter, DropAwaiter, WakeAwaiter, EndCall, BeginNotify, MissNotify, EndNotify}
 use Rattle.task_laws.specs.declared.positions.PollAnswer.TheVariants.{IsReady}
 use Rattle.task_laws.specs.Table.{goes_on as on_from, goes_off, may_drop, notifies}
 use Rattle.task_steps.specs.declared.table.Slot.{Slot}
@@ -14,9 +14,10 @@ use Rattle.task_cell.specs.declared.cell.Party.{Party}
 use Rattle.task_cell.specs.Calls.{Fits, position, holds, StandsWith, Stands, GoesWith, Goes, Notifies, misses, finds_none, takes_awaiter}
 use Rattle.task_steps.specs.Deeds.{row, act}
 use Rattle.task_steps.specs.Standing.{as_task, way_of, poll_number}
-use Rattle.task_steps.specs.PollScripts.{has_output}
+use Rattle.task_steps.specs.Rule.{IsOutput}
+use Rattle.task_steps.specs.Steps.{output_first}
 use Rattle.task_cell.specs.PollPaths as paths
-use Rattle.task_cell.specs.PollPaths.{TakePath, TakePathIf, ClaimPath}
+use Rattle.task_cell.specs.PollPaths.{TakePath, TakePathIf, ClaimsOutput}
 use Rattle.task_cell.proofs.Moved.{goes_on, stands, position_is, held_is}
 
 never : {P : Type 0} → false ≡ true → P
@@ -36,6 +37,10 @@ none_goes_on OfDrop e = never e
 none_goes_on (OfCancel n) e = never e
 none_goes_on (OfPoll n) e = refl
 none_goes_on (OfClaim n) e = refl
+
+claimed_number : (b : Bool) (i : ℕ) → poll_number (notifies b (OfClaim i)) ≡ i
+claimed_number true i = refl
+claimed_number false i = refl
 
 -- where the poll ends that stands here
 abbrev pub ends : Position → Position
@@ -151,21 +156,16 @@ module _ {F T A : Type 0} where
     goes_from p p path (Claimer i) held (holds p) (λ x. Claimer (poll_number x)) s' (subst (λ l. GoesWith path (Claimer i) l p p) (sym (held_is p (Claimer i) held s')) (record { cell = refl; is = s' })),
   )
 
-  pub is_claimer : (n : ℕ) (held : List (ℕ × Slot F T A)) (a b : List Deed) (w : State) (p q r : Party F T A) → GoesWith a (notifies w.awaiter (OfClaim n)) held p q → GoesWith b (Claimer (poll_number (position q))) (holds q) q r
-      → GoesWith (a ++ b) (Claimer n) held p r
-  is_claimer n held a b w p q r g h = let s = stands p q a (notifies w.awaiter (OfClaim n)) held g in
-      subst (λ (z : ℕ × List (ℕ × Slot F T A)). GoesWith (a ++ b) (Claimer z.0) z.1 p r) (λ j. (number w.awaiter j, held_is q (notifies w.awaiter (OfClaim n)) held s j))
-      (then_goes p q r a b (notifies w.awaiter (OfClaim n)) held (holds q) (λ x. Claimer (poll_number x)) g h)
-    where
-      number : (b : Bool) → poll_number (notifies b (OfClaim n)) ≡ n
-      number true = refl
-      number false = refl
+  -- .. and the output handed out
+  pub handed_out : (taken : List Deed) (p q r : Party F T A) → GoesWith taken (Claimer (poll_number (position p))) (holds p) p q → Goes (act HandOutOutput ∷ act EndCall ∷ []) (ends (position q)) q r
+      → Goes (taken ++ (act HandOutOutput ∷ act EndCall ∷ [])) (ends (position p)) p r
+  handed_out taken p q r g o = then_goes p q r taken (act HandOutOutput ∷ act EndCall ∷ []) (Claimer (poll_number (position p))) (holds p) [] ends g o
 
-  pub handed_out : (woken : A → Type 0) (compared : A → A → Bool → Type 0) (awaiter : A) (n : ℕ) (held : List (ℕ × Slot F T A)) (taken : List Deed) (w : State) (p q r t : Party F T A) → has_output w ≡ true → TakePathIf woken compared awaiter w.awaiter taken
-      → GoesWith (row ClaimOutput w ∷ []) (notifies w.awaiter (OfClaim n)) held p q → GoesWith taken (Claimer (poll_number (position q))) (holds q) q r → Goes (act HandOutOutput ∷ act EndCall ∷ []) (ends (position r)) r t
-      → (path : List Deed) × ClaimPath woken compared awaiter path × Goes path (as_task n) p t
-  handed_out woken compared awaiter n held taken w p q r t e k g h o = (
-    row ClaimOutput w ∷ taken ++ (act HandOutOutput ∷ act EndCall ∷ []),
-    paths.claims w taken e k,
-    then_goes p r t (row ClaimOutput w ∷ taken) (act HandOutOutput ∷ act EndCall ∷ []) (Claimer n) held [] ends (is_claimer n held (row ClaimOutput w ∷ []) taken w p q r g h) o,
-  )
+  -- a look that has claimed the output stands to take the awaiter
+  pub has_claimed : (w : State) (path : List Deed) (p q : Party F T A) → ClaimsOutput w path p q → (i : ℕ) × (y : Slot F T A) × (z : Slot F T A) × StandsWith (notifies w.awaiter (OfClaim i)) (output_first y z []) q × IsOutput z
+  has_claimed w path p q c = let n : ℕ = poll_number (position p) in (n, c.beside, c.output, stands p q path (notifies w.awaiter (OfClaim n)) (output_first c.beside c.output []) c.goes, c.is_output)
+
+  -- .. and goes on to the end of its poll
+  pub claimed_out : (w : State) (path rest : List Deed) (p q r : Party F T A) → ClaimsOutput w path p q → Goes rest (ends (position q)) q r → Goes (path ++ rest) (ends (position p)) p r
+  claimed_out w path rest p q r c o = let n : ℕ = poll_number (position p) in
+      subst (λ k. Goes (path ++ rest) (as_task k) p r) (claimed_number w.awaiter n) (then_goes p q r path rest (notifies w.awaiter (OfClaim n)) (output_first c.beside c.output []) [] ends c.goes o)

@@ -1,16 +1,18 @@
 -- The paths of a poll of the Task, part by part, and what its steps come to for the party that makes them.
-use Rattle.std.specs.Prelude.{◌≡◌, ℕ, Bool, true, false, List, [], ◌∷◌, ◌++◌, Option, Some, None, Result, IfOk, ⊤}
+use Rattle.std.specs.Prelude.{◌≡◌, ℕ, Bool, true, false, List, [], ◌∷◌, ◌++◌, Option, Some, None, Result, Ok, Err, IfOk, ⊤}
 use Rattle.task_core.specs.Word.{State}
 use Rattle.task_core.specs.declared.traits.TaskPoll.{TaskPoll}
 use Rattle.task_core.specs.declared.traits.TaskPoll.TheVariants.{Pending as Waits, Ready, NoMemory}
-use Rattle.task_laws.specs.declared.positions.Position.TheVariants.{Looking, RefusedClone}
+use Rattle.task_laws.specs.declared.positions.Way.TheVariants.{OfPoll, OfClaim}
+use Rattle.task_laws.specs.declared.positions.Position.TheVariants.{Notifier, Looking, RefusedClone, TookBack}
 use Rattle.task_core.specs.declared.moves.Act.TheVariants.{Look, ClaimOutput, HandOutOutput, CloneAwaiter, RefuseClone, StoreAwaiter, TakeAwaiter, FindNotify, BeginRegister, EndRegister, EndRegisterNotified, DropAwaiter, WakeAwaiter, EndCall, BeginNotify, MissNotify, EndNotify}
-use Rattle.task_laws.specs.Table.{first_look, second_look, after_storing}
+use Rattle.task_laws.specs.Table.{notifies, first_look, after_storing}
 use Rattle.task_steps.specs.declared.table.Slot.{Slot}
 use Rattle.task_steps.specs.declared.table.Deed.{Deed}
 use Rattle.task_cell.specs.declared.cell.Party.{Party}
-use Rattle.task_steps.specs.Rule.{Waits as SlotWaits}
-use Rattle.task_cell.specs.Calls.{Fits, Goes, GoesWith, position}
+use Rattle.task_steps.specs.Rule.{IsOutput, Waits as SlotWaits}
+use Rattle.task_steps.specs.Steps.{output_first}
+use Rattle.task_cell.specs.Calls.{Fits, Goes, GoesWith, holds, position}
 use Rattle.task_steps.specs.Deeds.{row, act}
 use Rattle.task_steps.specs.Standing.{as_task, poll_number}
 use Rattle.task_steps.specs.PollScripts.{has_output, has_ended, has_to_wait}
@@ -33,10 +35,10 @@ module _ {A : Type 0} where
   TakePathIf woken compared awaiter true path = TakePath woken compared awaiter path
   TakePathIf woken compared awaiter false path = path ≡ []
 
-  -- the output is claimed and handed out
-  pub data ClaimPath (woken : A → Type 0) (compared : A → A → Bool → Type 0) (awaiter : A) : List Deed → Type 0 where
-    claims : (w : State) (taken : List Deed) → has_output w ≡ true → TakePathIf woken compared awaiter w.awaiter taken
-        → ClaimPath woken compared awaiter (row ClaimOutput w ∷ taken ++ (act HandOutOutput ∷ act EndCall ∷ []))
+  -- the output is claimed on this word, and handed out
+  pub data ClaimPath (woken : A → Type 0) (compared : A → A → Bool → Type 0) (awaiter : A) (w : State) : List Deed → Type 0 where
+    claims : (taken : List Deed) → has_output w ≡ true → TakePathIf woken compared awaiter w.awaiter taken
+        → ClaimPath woken compared awaiter w (row ClaimOutput w ∷ taken ++ (act HandOutOutput ∷ act EndCall ∷ []))
 
   -- the caller's awaiter is registered, or a wake is made up for
   pub data RegisterPath (cloned : A → Option A → Type 0) (woken woken_by_ref : A → Type 0) (awaiter : A) : List Deed → Type 0 where
@@ -52,12 +54,12 @@ module _ {A : Type 0} where
     waits : (w : State) → has_to_wait w ≡ true → AnswerPath woken compared awaiter (row Look w ∷ act EndCall ∷ []) Waits
     has_ended_since : (w : State) (taken : List Deed) → has_ended w ≡ true → TakePath woken compared awaiter taken
         → AnswerPath woken compared awaiter (row Look w ∷ taken ++ (act EndCall ∷ [])) (Ready None)
-    has_output_since : (w : State) (path : List Deed) (x : T) → has_output w ≡ true → ClaimPath woken compared awaiter path
+    has_output_since : (w : State) (path : List Deed) (x : T) → ClaimPath woken compared awaiter w path
         → AnswerPath woken compared awaiter (row Look w ∷ path) (Ready (Some x))
 
   -- a poll, by what its first look found
   pub data PollPath {T : Type 0} (cloned : A → Option A → Type 0) (woken woken_by_ref : A → Type 0) (compared : A → A → Bool → Type 0) (awaiter : A) : List Deed → TaskPoll (Option T) → Type 0 where
-    finds_output : (path : List Deed) (x : T) → ClaimPath woken compared awaiter path → PollPath cloned woken woken_by_ref compared awaiter path (Ready (Some x))
+    finds_output : (w : State) (path : List Deed) (x : T) → ClaimPath woken compared awaiter w path → PollPath cloned woken woken_by_ref compared awaiter path (Ready (Some x))
     finds_ended : (w : State) (taken : List Deed) → has_ended w ≡ true → TakePath woken compared awaiter taken
         → PollPath cloned woken woken_by_ref compared awaiter (row Look w ∷ taken ++ (act EndCall ∷ [])) (Ready None)
     is_refused : (w : State) → has_output w ≡ false → has_ended w ≡ false → cloned awaiter None
@@ -73,15 +75,24 @@ IfOutput Waits P = ⊤
 IfOutput NoMemory P = ⊤
 
 module _ {F T A : Type 0} where
+  -- by this path the output was claimed, on this word
+  pub record ClaimsOutput (w : State) (path : List Deed) (p q : Party F T A) : Type 0 where
+    pub there : has_output w ≡ true
+    pub beside : Slot F T A
+    pub output : Slot F T A
+    pub is_output : IsOutput output
+    pub goes : GoesWith path (notifies w.awaiter (OfClaim (poll_number (position p)))) (output_first beside output []) p q
+
   -- the first look of a poll
-  pub data Looks (p q : Party F T A) (w : State) : Type 0 where
-    sees_output : has_output w ≡ true → Goes [] (position p) p q → Looks p q w
-    sees_none : has_output w ≡ false → Goes (row Look w ∷ []) (first_look w (poll_number (position p))) p q → Looks p q w
+  pub data Looks (p q : Party F T A) : Result State State → Type 0 where
+    claims_output : (w : State) → ClaimsOutput w (row ClaimOutput w ∷ []) p q → Looks p q (Ok w)
+    sees_none : (w : State) → has_output w ≡ false → Goes (row Look w ∷ []) (first_look w (poll_number (position p))) p q → Looks p q (Err w)
 
   -- .. and the one after it has registered
-  pub data LooksAgain (p q : Party F T A) (w : State) : Type 0 where
-    has_to_wait_on : has_to_wait w ≡ true → Goes (row Look w ∷ act EndCall ∷ []) (as_task (poll_number (position p))) p q → LooksAgain p q w
-    goes_on_by : has_to_wait w ≡ false → Goes (row Look w ∷ []) (second_look w (poll_number (position p))) p q → LooksAgain p q w
+  pub data LooksAgain (p q : Party F T A) : Result State State → Type 0 where
+    claims_output_now : (w : State) → ClaimsOutput w (row Look w ∷ row ClaimOutput w ∷ []) p q → LooksAgain p q (Ok w)
+    has_to_wait_on : (w : State) → has_to_wait w ≡ true → Goes (row Look w ∷ act EndCall ∷ []) (as_task (poll_number (position p))) p q → LooksAgain p q (Err w)
+    sees_end : (w : State) → has_to_wait w ≡ false → has_ended w ≡ true → Goes (row Look w ∷ []) (Notifier (OfPoll (poll_number (position p)))) p q → LooksAgain p q (Err w)
 
   -- the awaiter slot is taken, unless there is a notifier
   pub data BeginsRegister (p q : Party F T A) : Bool → Type 0 where
@@ -89,10 +100,10 @@ module _ {F T A : Type 0} where
         → GoesWith (act CloneAwaiter ∷ row BeginRegister w ∷ act StoreAwaiter ∷ []) (after_storing (poll_number (position p)) hand) ((2, y) ∷ []) p q → BeginsRegister p q true
     finds_one : (w : State) → w.notifying ≡ true → Goes (act CloneAwaiter ∷ row FindNotify w ∷ []) (RefusedClone (poll_number (position p))) p q → BeginsRegister p q false
 
-  -- the awaiter slot is given back with the clone in it, unless there is a notifier by then
+  -- the awaiter slot is given back with the clone in it, unless there is a notifier by then: then the clone is taken back
   pub data EndsRegister (p q : Party F T A) : Bool → Type 0 where
     ends : (v : State) → v.notifying ≡ false → Goes (row EndRegister v ∷ []) (Looking (poll_number (position p))) p q → EndsRegister p q true
-    finds_notified : q.seat.table_id ≡ p.seat.table_id → q.seat.me ≡ p.seat.me → EndsRegister p q false
+    finds_notified : GoesWith (act TakeAwaiter ∷ []) (TookBack (poll_number (position p))) (holds p) p q → EndsRegister p q false
 
   -- the caller's awaiter is registered, unless its clone is refused
   pub data Registers (cloned : A → Option A → Type 0) (woken woken_by_ref : A → Type 0) (awaiter : A) (p q : Party F T A) : Bool → Type 0 where

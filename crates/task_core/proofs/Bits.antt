@@ -118,6 +118,9 @@ fetch_and-scheduled_running n l = number_of-without_flags n 3 l (omega arith)
 pub fetch_and-task : (n : ℕ) → n < 2 ^ 64 → bit_and n 18446744073709551599 ≡ number_of (record (state_of n) { task = false })
 fetch_and-task n l = number_of-without_flags n 16 l (omega arith)
 
+pub fetch_and-awaiter_registering_notifying : (n : ℕ) → n < 2 ^ 64 → bit_and n 18446744073709551391 ≡ number_of (record (state_of n) { awaiter = false; registering = false; notifying = false })
+fetch_and-awaiter_registering_notifying n l = number_of-without_flags n 224 l (omega arith)
+
 pub fetch_and-awaiter_notifying : (n : ℕ) → n < 2 ^ 64 → bit_and n 18446744073709551455 ≡ number_of (record (state_of n) { awaiter = false; notifying = false })
 fetch_and-awaiter_notifying n l = number_of-without_flags n 160 l (omega arith)
 

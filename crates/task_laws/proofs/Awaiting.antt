@@ -15,6 +15,7 @@ pub record Awaiting : Type 0 where
   pub ready_polls : ℕ  -- the Task, in a poll that is to answer ready
   pub registered : ℕ  -- the Task, with its clone in the slot
   pub registrars : ℕ  -- the Task, before it clones the awaiter
+  pub takers_back : ℕ  -- the Task, with the slot, out of which it has taken its clone again
   pub numbered : ℕ  -- the Task, where it knows the number of its polls
   pub number : ℕ
   -- of poll number i
@@ -23,10 +24,10 @@ pub record Awaiting : Type 0 where
   pub hands : ℕ  -- its clone is in hand
 
 abbrev pub none : Awaiting
-none = record { registering = 0; run_takers = 0; task_takers = 0; releasers = 0; lookouts = 0; keepers = 0; ready_polls = 0; registered = 0; registrars = 0; numbered = 0; number = 0; looks = 0; to_wake = 0; hands = 0 }
+none = record { registering = 0; run_takers = 0; task_takers = 0; releasers = 0; lookouts = 0; keepers = 0; ready_polls = 0; registered = 0; registrars = 0; takers_back = 0; numbered = 0; number = 0; looks = 0; to_wake = 0; hands = 0 }
 
 abbrev pub join : Awaiting → Awaiting → Awaiting
-join a b = record { registering = a.registering + b.registering; run_takers = a.run_takers + b.run_takers; task_takers = a.task_takers + b.task_takers; releasers = a.releasers + b.releasers; lookouts = a.lookouts + b.lookouts; keepers = a.keepers + b.keepers; ready_polls = a.ready_polls + b.ready_polls; registered = a.registered + b.registered; registrars = a.registrars + b.registrars; numbered = a.numbered + b.numbered; number = a.number + b.number; looks = a.looks + b.looks; to_wake = a.to_wake + b.to_wake; hands = a.hands + b.hands }
+join a b = record { registering = a.registering + b.registering; run_takers = a.run_takers + b.run_takers; task_takers = a.task_takers + b.task_takers; releasers = a.releasers + b.releasers; lookouts = a.lookouts + b.lookouts; keepers = a.keepers + b.keepers; ready_polls = a.ready_polls + b.ready_polls; registered = a.registered + b.registered; registrars = a.registrars + b.registrars; takers_back = a.takers_back + b.takers_back; numbered = a.numbered + b.numbered; number = a.number + b.number; looks = a.looks + b.looks; to_wake = a.to_wake + b.to_wake; hands = a.hands + b.hands }
 
 abbrev pub held : ℕ → Option ℕ → ℕ
 held i None = 0
@@ -99,7 +100,7 @@ await i (HasClone j) = record none { hands = bit (eqb i j); numbered = 1; number
 await i (RefusedClone j) = record none { hands = bit (eqb i j); numbered = 1; number = j; looks = bit (eqb i j) }
 await i (Storing j) = record none { hands = bit (eqb i j); numbered = 1; number = j; registering = 1 }
 await i (Registered j) = record none { registered = 1; numbered = 1; number = j; registering = 1 }
-await i (TookBack j) = record none { hands = bit (eqb i j); numbered = 1; number = j; registering = 1 }
+await i (TookBack j) = record none { hands = bit (eqb i j); numbered = 1; number = j; registering = 1; takers_back = 1 }
 await i (CloneInHand j) = record none { hands = bit (eqb i j); numbered = 1; number = j }
 await i (Looking j) = record none { numbered = 1; number = j; looks = bit (eqb i j); lookouts = 1 }
 await i (Claiming j) = record none { numbered = 1; number = j; lookouts = 1 }
@@ -120,6 +121,7 @@ pub record Fits (c : Census) (b : Awaiting) : Type 0 where
   pub looks : b.looks ≤ c.tasks
   pub registered : b.registered ≤ b.registering
   pub registrars : b.registrars ≤ c.tasks
+  pub takers_back : b.takers_back ≤ b.registering
   pub numbered : b.numbered ≤ c.tasks
   pub number : b.numbered ≡ 0 → b.number ≡ 0
   pub releasers : b.releasers ≤ b.run_takers + b.task_takers

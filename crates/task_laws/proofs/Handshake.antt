@@ -25,6 +25,8 @@ pub record HandshakeHolds (i : ℕ) (word : State) (slots : Slots) (trace : List
   pub emptied : awaiters.releasers ≡ 0 ⊎ (slots.awaiter ≡ None)
   pub left_empty : count is_emptying trace ≡ 0 ⊎ (slots.awaiter ≡ None)
   pub own : awaiters.registered ≡ 0 ⊎ (slots.awaiter ≡ Some (count is_poll trace))
+  -- a poll that has taken its clone back was notified, and left the slot empty
+  pub taken_back : awaiters.takers_back ≡ 0 ⊎ ((word.notifying ≡ true) × (slots.awaiter ≡ None))
   -- an awaiter that stays when the future has gone is seen by somebody
   pub seen : word.awaiter ≡ true → slots.future ≡ false → word.task ≡ true → ((word.running || word.scheduled) || (word.registering || word.notifying)) ≡ true ⊎ (1 ≤ awaiters.lookouts)
   pub ready : awaiters.ready_polls ≡ 0 ⊎ (slots.future ≡ false)

@@ -1,7 +1,7 @@
 -- Each row of the table keeps what holds of the handshake: a clause for a row, in the table's order. A clause that stands below another of its act is checked in each case that it is left.
 use Rattle.std.proofs.Common.{Some, None, true, false, [], ◌∷◌, refl}
 use Rattle.task_laws.specs.Position.{Runnable, Waker, Lent, Task, ClosedRun, DroppedRunnable, OfRun, ThenEnds, At, Leaving, Deliverer, Starting, Polling, Pending, Ready, Unstored, Stored, Cleared, FutureInHand, FutureGone, OutputInHand, GivingUp, Emptier, Notifier, Taker, Releaser, AwaiterInHand, OrphanHolder, Registrar, HasClone, RefusedClone, Storing, Registered, TookBack, CloneInHand, Looking, Claiming, Claimer, OldAwaiterInHand, Answering, OutputCloser, Detacher, GainReference, FindLimit, DropWaker, DropLastWaker, OrphanTask, CloseOrphan, GiveUpReference, GiveUpLastReference, WakeOver, WakeScheduled, WakeRunning, WakeIdle, DiscardOpen, DiscardClosed, CancelOver, CancelBusy, CancelIdle, ClaimOutput, GiveUpOutput, DetachOrphan, DetachLast, Detach, TakeUpClosed, StartRun, Unschedule, Complete, CompleteDetached, EndClosed, Reschedule, EndIdle, EndOrphaned, BeginNotify, MissNotify, FindNotify, BeginRegister, EndNotify, EndRegister, EndRegisterNotified, Look, LookFinished, StartPoll, AnswerPending, AnswerReady, DropFuture, StoreOutput, DropOutput, HandOutOutput, CloneAwaiter, RefuseClone, StoreAwaiter, TakeAwaiter, WakeAwaiter, DropAwaiter, HandOver, EmptySlots, RefuseGain, EndCall, Position, Act}
-use Rattle.task_laws.proofs.Scenes.{rules, InEach, scheduled, running, completed, closed, awaiter, notifying, by_flag, by_slot}
+use Rattle.task_laws.proofs.Scenes.{rules, InEach, scheduled, running, completed, closed, awaiter, registering, notifying, by_flag, by_slot}
 use Rattle.task_laws.specs.Event.{Nothing, Gained, ByWake, CallBegins, Made, Wakes, WakerGained}
 use Rattle.task_laws.specs.Table.{steps, may_gain, may_wake}
 use Rattle.task_laws.proofs.Handshake.{HandshakeKeeps, under_condition, no_handshake_row}
@@ -52,7 +52,7 @@ every_handshake_row TakeUpClosed (At Runnable) = grind rules
 every_handshake_row StartRun (At Runnable) = grind rules
 every_handshake_row Unschedule (FutureGone ClosedRun) = by_flag awaiter (grind rules) (grind rules)
 every_handshake_row Unschedule (FutureGone DroppedRunnable) = by_flag awaiter (grind rules) (grind rules)
-every_handshake_row Complete Stored = by_flag awaiter (grind rules) (grind rules)
+every_handshake_row Complete Stored = by_flag awaiter (by_flag registering (by_flag notifying (grind rules) (grind rules)) (by_flag notifying (grind rules) (grind rules))) (grind rules)
 every_handshake_row CompleteDetached Stored = by_flag closed (grind rules) (grind rules)
 every_handshake_row EndClosed Cleared = by_flag awaiter (grind rules) (grind rules)
 every_handshake_row Reschedule Pending = grind rules

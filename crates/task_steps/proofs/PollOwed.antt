@@ -1,6 +1,6 @@
 -- What each step of a poll of the Task owes: the machine allows its acts, and writes its number.
-use Rattle.std.proofs.Common.{◌≡◌, ℕ, zero, suc, ◌+◌, ◌≤◌, Bool, true, false, not, ◌||◌, Option, Some, None, List, [], ◌∷◌, refl, sym, ap, ◌∙◌, subst, inl, inr, ⊎_elim, arith}
-use Rattle.std.specs.Prelude.{if◌then◌else◌}
+use Rattle.std.proofs.Common.{◌≡◌, ℕ, zero, suc, ◌+◌, ◌≤◌, Bool, true, false, not, ◌&&◌, ◌||◌, Option, Some, None, List, [], ◌∷◌, refl, sym, ap, ◌∙◌, subst, inl, inr, ⊎_elim, arith}
+use Rattle.std.specs.Prelude.{if◌then◌else◌, bit_and}
 use mathlib.Core.Option.{some, some-injective, some-ne-none}
 use lib.ListN.{get_elem?}
 use Rattle.atomic_table.specs.Table.{rest}
@@ -23,7 +23,7 @@ use Rattle.task_laws.proofs.Census.{Census, census, plus}
 use Rattle.task_laws.proofs.Awaiting.{Awaiting, awaiting, await}
 use Rattle.task_laws.proofs.Handshake.{HandshakeHolds}
 use Rattle.task_laws.proofs.Invariant.{Holds}
-use Rattle.task_core.proofs.Bits.{state_of_number_of}
+use Rattle.task_core.proofs.Bits.{state_of_number_of, fetch_and-awaiter_registering_notifying}
 use Rattle.task_steps.specs.declared.table.Slot.{Slot}
 use Rattle.task_steps.specs.declared.table.Slot.TheVariants.{Awaiter}
 use Rattle.task_steps.specs.declared.table.Deed.{Deed}
@@ -31,8 +31,7 @@ use Rattle.task_steps.specs.declared.table.Member.{Member}
 use Rattle.task_steps.specs.Rule.{has_work, IsEmpty, IsAwaiter, Waits}
 use Rattle.task_steps.specs.Steps.{and_then, spot, output_first, TakesOutput, Works, Awaits}
 use Rattle.task_steps.specs.Scripts.{ending, waking, dropping}
-use Rattle.task_steps.specs.PollScripts.{has_output, has_ended, has_to_wait, looking, looking_again, handing_out, refusing, finding_notifier}
-use Rattle.task_steps.specs.Standing.{claims_from}
+use Rattle.task_steps.specs.PollScripts.{has_output, has_ended, has_to_wait, looking, looking_again, handing_out, refusing, finding_notifier, taking_back, ending_notified}
 use Rattle.task_steps.proofs.Acts.{leads}
 use Rattle.task_steps.proofs.Advance.{Finds, stays, takes_output, gives_work, takes_awaiter, gives_awaiter, Steps}
 use Rattle.task_steps.proofs.Allowed.{Owes, OwesEnd}
@@ -71,6 +70,16 @@ waits i false busy false e = refl
 
 pub has_waited : (w : State) (i : ℕ) → has_to_wait w ≡ true → second_look w i ≡ Answering i IsPending
 has_waited w i e = waits i w.closed (w.scheduled || w.running) w.completed e
+
+-- .. and one that finds the output claims it
+pub sees_output : (w : State) (i : ℕ) → has_output w ≡ true → second_look w i ≡ Claiming i
+sees_output w i e = claims_there i w.closed (w.scheduled || w.running) w.completed e
+  where
+    claims_there : (i : ℕ) (closed busy completed : Bool) → (completed && not closed) ≡ true → (if closed then (if busy then Answering i IsPending else Notifier (OfPoll i)) else (if completed then Claiming i else Answering i IsPending)) ≡ Claiming i
+    claims_there i true busy true e = never e
+    claims_there i true busy false e = never e
+    claims_there i false busy true e = refl
+    claims_there i false busy false e = never e
 
 -- a row that a function of the word allowed, at the word that it found
 pub record Fits (a : Act) (w : State) (new : ℕ) : Type 0 where
@@ -119,28 +128,26 @@ registered_at i [] k p e = absurd (some-ne-none p (sym e))
 registered_at i (x ∷ xs) zero p e = let is : (await i x).registered ≡ (await i p).registered = ap (λ y. (await i y).registered) (some-injective x p e) in omega arith
 registered_at i (x ∷ xs) (suc k) p e = let h = registered_at i xs k p e in omega arith
 
+taken_back_at : (i : ℕ) (ps : List Position) (k : ℕ) (p : Position) → get_elem? ps k ≡ some p → (await i p).takers_back ≤ (awaiting i ps).takers_back
+taken_back_at i [] k p e = absurd (some-ne-none p (sym e))
+taken_back_at i (x ∷ xs) zero p e = let is : (await i x).takers_back ≡ (await i p).takers_back = ap (λ y. (await i y).takers_back) (some-injective x p e) in omega arith
+taken_back_at i (x ∷ xs) (suc k) p e = let h = taken_back_at i xs k p e in omega arith
+
+was_taken_back : (i : ℕ) (w : State) (slots : Slots) (t : List Event) (b : Awaiting) → HandshakeHolds i w slots t b → 1 ≤ b.takers_back → (w.notifying ≡ true) × (slots.awaiter ≡ None)
+was_taken_back i w slots t b h e = ⊎_elim (λ (z : b.takers_back ≡ 0). absurd (omega arith)) (λ z. z) h.taken_back
+
 clone_stored : (i : ℕ) (w : State) (slots : Slots) (t : List Event) (b : Awaiting) → HandshakeHolds i w slots t b → 1 ≤ b.registered → slots.awaiter ≡ Some (count is_poll t)
 clone_stored i w slots t b h e = ⊎_elim (λ (z : b.registered ≡ 0). absurd (omega arith)) (λ z. z) h.own
 
 module _ (F T A : Type 0) (limit : ℕ) where
-  looks_by : (m : Machine) (n number : ℕ) (l : List (ℕ × Slot F T A)) (b : Bool) → has_output m.word ≡ b → number ≡ number_of m.word → Steps m (At (Task n)) (if b then [] else Look ∷ []) number l
-  looks_by m n number l true e x = record {
-    outcome = steps (scene m) m.word (At (Task n)) [] [];
-    leads_to = refl;
-    writes = x;
-    idle = (refl, refl);
-    placing = stays refl refl (inr (refl, refl)) (inr (refl, refl));
-  }
-  looks_by m n number l false e x = let f = first_free m.word (n + 1) in record {
+  pub looks : (n : ℕ) (ds : List Deed) (us : List Member) (l : List (ℕ × Slot F T A)) → OwesEnd F T A limit (λ w. not (has_output w)) looking (At (Task n)) ds us l
+  looks n ds us l m f number x lt e = let f = first_free m.word (n + 1) in record {
     outcome = steps (scene m) m.word (first_look m.word (n + 1)) [] (Polls (n + 1) ∷ []);
-    leads_to = ap (λ (b : Bool). and_then (where_found true (when (not b) (steps (scene m) m.word (first_look m.word (n + 1)) [] (Polls (n + 1) ∷ [])))) (λ o. leads (spot m.limit o.word o.slots) [] o.next)) e;
+    leads_to = ap (λ (b : Bool). and_then (where_found true (when b (steps (scene m) m.word (first_look m.word (n + 1)) [] (Polls (n + 1) ∷ [])))) (λ o. leads (spot m.limit o.word o.slots) [] o.next)) e;
     writes = x;
     idle = (refl, refl);
     placing = stays f.0 f.1 (inr (refl, refl)) (inr (refl, refl));
   }
-
-  pub looks : (n : ℕ) (ds : List Deed) (us : List Member) (l : List (ℕ × Slot F T A)) → Owes F T A limit looking (λ n. n) (At (Task n)) ds us l
-  looks n ds us l m f number x lt = looks_by m n number l (has_output m.word) refl x
 
   looks_again_by : (m : Machine) (i number : ℕ) (l : List (ℕ × Slot F T A)) (b : Bool) → has_to_wait m.word ≡ b → number ≡ number_of m.word → Steps m (Looking i) (if b then Look ∷ EndCall ∷ [] else Look ∷ []) number l
   looks_again_by m i number l true e x = record {
@@ -158,8 +165,8 @@ module _ (F T A : Type 0) (limit : ℕ) where
     placing = stays f.0 f.1 (inr (refl, refl)) (inr (refl, refl));
   }
 
-  pub looks_again : (i : ℕ) (ds : List Deed) (us : List Member) (l : List (ℕ × Slot F T A)) → Owes F T A limit looking_again (λ n. n) (Looking i) ds us l
-  looks_again i ds us l m f number x lt = looks_again_by m i number l (has_to_wait m.word) refl x
+  pub looks_again : (i : ℕ) (ds : List Deed) (us : List Member) (l : List (ℕ × Slot F T A)) → OwesEnd F T A limit (λ w. not (has_output w)) looking_again (Looking i) ds us l
+  looks_again i ds us l m f number x lt e = looks_again_by m i number l (has_to_wait m.word) refl x
 
   pub ends_poll : (i : ℕ) (answer : PollAnswer) (ds : List Deed) (us : List Member) (l : List (ℕ × Slot F T A)) → Owes F T A limit ending (λ n. n) (Answering i answer) ds us l
   ends_poll i answer ds us l m f number x lt = record {
@@ -179,10 +186,10 @@ module _ (F T A : Type 0) (limit : ℕ) where
     placing = stays refl refl (inr (refl, refl)) (inr (refl, refl));
   }
 
-  claims_by : (m : Machine) (p : Position) (i : ℕ) (told : List Event) (new : ℕ) (l : List (ℕ × Slot F T A)) → Free p → count is_emptying told ≡ 0 → Fits ClaimOutput m.word new
-      → leads (scene m) (ClaimOutput ∷ []) p ≡ and_then (when (found 0 ClaimOutput m.word) (steps (scene m) (written ClaimOutput m.word) (notifies m.word.awaiter (OfClaim i)) [] told)) (λ o. leads (spot m.limit o.word o.slots) [] o.next)
-      → m.slots.output ≡ true → Steps m p (ClaimOutput ∷ []) new l
-  claims_by m p i told new l free told_none fit is there = let f = claim_works m.word.awaiter i in record {
+  claims_by : (m : Machine) (p : Position) (acts : List Act) (i : ℕ) (told : List Event) (new : ℕ) (l : List (ℕ × Slot F T A)) → Free p → count is_emptying told ≡ 0 → Fits ClaimOutput m.word new
+      → leads (scene m) acts p ≡ and_then (when (found 0 ClaimOutput m.word) (steps (scene m) (written ClaimOutput m.word) (notifies m.word.awaiter (OfClaim i)) [] told)) (λ o. leads (spot m.limit o.word o.slots) [] o.next)
+      → m.slots.output ≡ true → Steps m p acts new l
+  claims_by m p acts i told new l free told_none fit is there = let f = claim_works m.word.awaiter i in record {
     outcome = steps (scene m) (written ClaimOutput m.word) (notifies m.word.awaiter (OfClaim i)) [] told;
     leads_to = is ∙ ap (λ (b : Bool). and_then (when b (steps (scene m) (written ClaimOutput m.word) (notifies m.word.awaiter (OfClaim i)) [] told)) (λ o. leads (spot m.limit o.word o.slots) [] o.next)) fit.finds;
     writes = fit.writes;
@@ -275,25 +282,36 @@ module _ (F T A : Type 0) (limit : ℕ) where
     placing = gives_awaiter y refl refl refl (inr (refl, refl)) has (λ _. subst (λ (hand : Option ℕ). Waits hand y) (sym stored) is);
   }
 
-  pub ends_notified : (i : ℕ) (ds : List Deed) (us : List Member) (y : Slot F T A) (l : List (ℕ × Slot F T A)) (m : Machine) (new : ℕ) → Finds limit (Registered i) ds us m → l ≡ (2, y) ∷ rest l → IsEmpty y → Fits EndRegisterNotified m.word new
-      → Steps m (Registered i) (TakeAwaiter ∷ EndRegisterNotified ∷ []) new l
-  ends_notified i ds us y l m new f has is fit = record {
-    outcome = record { word = written EndRegisterNotified m.word; slots = record (m.slots) { awaiter = None }; next = CloneInHand i; born = []; told = [] };
-    leads_to = ap (λ (b : Bool). and_then (where_found true (when b (keeps (scene m) m.word (record (m.slots) { awaiter = None }) (TookBack i) []))) (λ o. leads (spot m.limit o.word o.slots) (EndRegisterNotified ∷ []) o.next)) fit.finds
-        ∙ ap (λ (b : Bool). and_then (Some (keeps (scene m) m.word (record (m.slots) { awaiter = None }) (TookBack i) []))
-        (λ o. and_then (when b (steps (spot m.limit o.word o.slots) (written EndRegisterNotified o.word) (CloneInHand i) [] [])) (λ o. leads (spot m.limit o.word o.slots) [] o.next))) fit.finds;
-    writes = fit.writes;
+  -- the clone is taken back while its place is still the poll's
+  pub takes_back : (i : ℕ) (ds : List Deed) (us : List Member) (l : List (ℕ × Slot F T A)) → OwesEnd F T A limit (λ w. w.notifying) taking_back (Registered i) ds us l
+  takes_back i ds us l m f number x lt e = record {
+    outcome = keeps (scene m) m.word (record (m.slots) { awaiter = None }) (TookBack i) [];
+    leads_to = ap (λ (b : Bool). and_then (where_found true (when b (keeps (scene m) m.word (record (m.slots) { awaiter = None }) (TookBack i) []))) (λ o. leads (spot m.limit o.word o.slots) [] o.next)) e;
+    writes = x;
     idle = (refl, refl);
-    placing = gives_awaiter y refl refl refl (inr (refl, refl)) has (λ _. is);
+    placing = stays refl refl (inr (refl, refl)) (inl refl);
   }
 
-  -- the output is claimed at once, or after a look
-  claims_first : (n : ℕ) (ds : List Deed) (us : List Member) (l : List (ℕ × Slot F T A)) (m : Machine) (new : ℕ) → Finds limit (At (Task n)) ds us m → Fits ClaimOutput m.word new → Steps m (At (Task n)) (ClaimOutput ∷ []) new l
-  claims_first n ds us l m new f fit = claims_by m (At (Task n)) (n + 1) (Closes ∷ Polls (n + 1) ∷ []) new l (refl, refl) refl fit refl (output_there m.limit m.word m.slots m.trace (census m.parties) f.invariant.holds fit.finds)
+  pub ends_notified : (i : ℕ) (ds : List Deed) (us : List Member) (y : Slot F T A) (l : List (ℕ × Slot F T A)) → l ≡ (2, y) ∷ rest l → IsEmpty y → Owes F T A limit ending_notified (λ n. bit_and n 18446744073709551391) (TookBack i) ds us l
+  ends_notified i ds us y l has is m f n e lt = let t = was_taken_back i m.word m.slots m.trace (awaiting i m.parties) (f.invariant.shakes i) (taken_back_at i m.parties f.number (TookBack i) f.stands) in record {
+    outcome = steps (scene m) (written EndRegisterNotified m.word) (CloneInHand i) [] [];
+    leads_to = ap (λ (b : Bool). and_then (when b (steps (scene m) (written EndRegisterNotified m.word) (CloneInHand i) [] [])) (λ o. leads (spot m.limit o.word o.slots) [] o.next)) t.0;
+    writes = fetch_and-awaiter_registering_notifying n lt ∙ ap (λ (w : State). number_of (record w { awaiter = false; registering = false; notifying = false })) (ap state_of e ∙ state_of_number_of m.word);
+    idle = (refl, refl);
+    placing = gives_awaiter y refl refl refl (inr (refl, refl)) has (λ _. subst (λ (hand : Option ℕ). Waits hand y) (sym t.1) is);
+  }
 
-  claims_later : (i : ℕ) (ds : List Deed) (us : List Member) (l : List (ℕ × Slot F T A)) (m : Machine) (new : ℕ) → Finds limit (Claiming i) ds us m → Fits ClaimOutput m.word new → Steps m (Claiming i) (ClaimOutput ∷ []) new l
-  claims_later i ds us l m new f fit = claims_by m (Claiming i) i (Closes ∷ []) new l (refl, refl) refl fit refl (output_there m.limit m.word m.slots m.trace (census m.parties) f.invariant.holds fit.finds)
+  -- the output is taken at once, or by a poll that has registered
+  pub claims : (n : ℕ) (ds : List Deed) (us : List Member) (l : List (ℕ × Slot F T A)) (m : Machine) (new : ℕ) → Finds limit (At (Task n)) ds us m → Fits ClaimOutput m.word new → Steps m (At (Task n)) (ClaimOutput ∷ []) new l
+  claims n ds us l m new f fit = claims_by m (At (Task n)) (ClaimOutput ∷ []) (n + 1) (Closes ∷ Polls (n + 1) ∷ []) new l (refl, refl) refl fit refl (output_there m.limit m.word m.slots m.trace (census m.parties) f.invariant.holds fit.finds)
 
-  pub claims : (looked : Bool) (n : ℕ) (ds : List Deed) (us : List Member) (l : List (ℕ × Slot F T A)) (m : Machine) (new : ℕ) → Finds limit (claims_from looked n) ds us m → Fits ClaimOutput m.word new → Steps m (claims_from looked n) (ClaimOutput ∷ []) new l
-  claims false n ds us l m new f fit = claims_first n ds us l m new f fit
-  claims true n ds us l m new f fit = claims_later n ds us l m new f fit
+  pub claims_again : (i : ℕ) (ds : List Deed) (us : List Member) (l : List (ℕ × Slot F T A)) (m : Machine) (new : ℕ) → Finds limit (Looking i) ds us m → Fits ClaimOutput m.word new → Steps m (Looking i) (Look ∷ ClaimOutput ∷ []) new l
+  claims_again i ds us l m new f fit = claims_by m (Looking i) (Look ∷ ClaimOutput ∷ []) i (Closes ∷ []) new l (refl, refl) refl fit
+      (ap (λ (p : Position). and_then (Some (steps (scene m) m.word p [] [])) (λ o. leads (spot m.limit o.word o.slots) (ClaimOutput ∷ []) o.next)) (sees_output m.word i fit.finds)
+        ∙ again (found 0 ClaimOutput m.word))
+      (output_there m.limit m.word m.slots m.trace (census m.parties) f.invariant.holds fit.finds)
+    where
+      again : (b : Bool) → and_then (Some (steps (scene m) m.word (Claiming i) [] [])) (λ o. and_then (when b (steps (spot m.limit o.word o.slots) (written ClaimOutput o.word) (notifies o.word.awaiter (OfClaim i)) [] (Closes ∷ []))) (λ o. leads (spot m.limit o.word o.slots) [] o.next))
+          ≡ and_then (when b (steps (scene m) (written ClaimOutput m.word) (notifies m.word.awaiter (OfClaim i)) [] (Closes ∷ []))) (λ o. leads (spot m.limit o.word o.slots) [] o.next)
+      again true = refl
+      again false = refl

@@ -16,19 +16,23 @@ has_ended w = w.closed && not (w.scheduled || w.running)
 abbrev pub has_to_wait : State → Bool
 has_to_wait w = if w.closed then w.scheduled || w.running else not w.completed
 
--- the first look; where the output is there, it is claimed without one
+-- the first look of a poll, which finds no output
 abbrev pub looking : State → List Act
-looking w = if has_output w then [] else Look ∷ []
+looking w = Look ∷ []
 
--- the look of a poll that has registered, which ends where it has to wait
-abbrev pub looking_again : State → List Act
-looking_again w = if has_to_wait w then Look ∷ EndCall ∷ [] else Look ∷ []
-
--- the output is taken
+-- .. and one that finds it, and takes it
 abbrev pub claiming : State → List Act
 claiming w = ClaimOutput ∷ []
 
--- .. and handed out
+-- the look of a poll that has registered, which finds no output; it ends where it has to wait
+abbrev pub looking_again : State → List Act
+looking_again w = if has_to_wait w then Look ∷ EndCall ∷ [] else Look ∷ []
+
+-- .. and one that finds it, and takes it
+abbrev pub claiming_again : State → List Act
+claiming_again w = Look ∷ ClaimOutput ∷ []
+
+-- the output that was taken is handed out
 abbrev pub handing_out : State → List Act
 handing_out w = HandOutOutput ∷ EndCall ∷ []
 
@@ -48,6 +52,10 @@ beginning_register w = CloneAwaiter ∷ BeginRegister ∷ StoreAwaiter ∷ []
 abbrev pub ending_register : State → List Act
 ending_register w = EndRegister ∷ []
 
--- .. without it, since a notifier came meanwhile
+-- a notifier came meanwhile: the clone is taken back
+abbrev pub taking_back : State → List Act
+taking_back w = TakeAwaiter ∷ []
+
+-- .. and the awaiter slot given back without it
 abbrev pub ending_notified : State → List Act
-ending_notified w = TakeAwaiter ∷ EndRegisterNotified ∷ []
+ending_notified w = EndRegisterNotified ∷ []

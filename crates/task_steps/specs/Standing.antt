@@ -1,7 +1,7 @@
 -- Where a party stands: between two calls, as a handle, and within one.
 use Rattle.std.specs.Prelude.{ℕ, ◌+◌, Bool, true, false}
 use Rattle.task_laws.specs.declared.positions.Position.{Position}
-use Rattle.task_laws.specs.declared.positions.Position.TheVariants.{At, Deliverer, Leaving, Answering, FutureInHand, Notifier, AwaiterInHand, Looking, Claiming, Claimer, Registrar, RefusedClone, Registered, OldAwaiterInHand, CloneInHand}
+use Rattle.task_laws.specs.declared.positions.Position.TheVariants.{At, Deliverer, Leaving, Answering, FutureInHand, Notifier, AwaiterInHand, Looking, Claiming, Claimer, Registrar, RefusedClone, Registered, OldAwaiterInHand, TookBack, CloneInHand}
 use Rattle.task_laws.specs.declared.positions.Rest.TheVariants.{Task, Runnable, Waker, Lent, Ended}
 use Rattle.task_laws.specs.Table.{goes_after}
 use Rattle.task_laws.specs.declared.positions.Answer.TheVariants.{Nothing}
@@ -72,14 +72,10 @@ poll_number (Registrar i) = i
 poll_number (RefusedClone i) = i
 poll_number (OldAwaiterInHand i old) = i
 poll_number (Registered i) = i
+poll_number (TookBack i) = i
 poll_number (CloneInHand i) = i
 poll_number (Looking i) = i
 poll_number (Claiming i) = i
 poll_number (Claimer i) = i
 poll_number (Answering i answer) = i
 poll_number p = 0
-
--- a poll that claims the output at once, or after a look
-abbrev pub claims_from : Bool → ℕ → Position
-claims_from false n = as_task n
-claims_from true i = Claiming i

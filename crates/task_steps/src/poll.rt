@@ -1,38 +1,25 @@
 //! Steps of a poll of the Task.
-ghost use Rattle.std.specs.Prelude.{false, []};
+ghost use Rattle.std.specs.Prelude.{not};
 ghost use Rattle.task_core.specs.Rows.{row};
-ghost use Rattle.task_core.specs.declared.moves.Act.TheVariants.{BeginRegister, EndRegister, EndRegisterNotified, ClaimOutput};
-ghost use Rattle.task_steps.specs.PollScripts.{looking, looking_again, claiming, handing_out, refusing, finding_notifier, beginning_register, ending_register, ending_notified};
+ghost use Rattle.task_core.specs.declared.moves.Act.TheVariants.{BeginRegister, EndRegister, ClaimOutput};
+ghost use Rattle.task_steps.specs.PollScripts.{has_output, looking, looking_again, claiming, claiming_again, handing_out, refusing, finding_notifier, beginning_register, ending_register, taking_back, ending_notified};
 
 use crate::attempt::Change;
 use crate::script::Script;
+use crate::words::has_output;
 use task_core::word::Word;
 
-/// The first look of a poll.
+/// The first look of a poll, which takes the output where it is there.
 pub struct Looking;
 
-impl Script for Looking {
-    ghost acts = { looking };
-}
-
-/// The look of a poll that has registered.
-pub struct LookingAgain;
-
-impl Script for LookingAgain {
-    ghost acts = { looking_again };
-}
-
-/// The output is taken.
-pub struct Claiming;
-
-impl Change for Claiming {
+impl Change for Looking {
     ghost writes = { λ _ w. row 0 ClaimOutput w };
 
-    ghost ends = { λ _ _. false };
+    ghost ends = { λ _ w. not (has_output w) };
 
     ghost acts = { claiming };
 
-    ghost told = { λ _. [] };
+    ghost told = { looking };
 
     fn next(word: Word, limit: u64) -> Option<Word> {
         let _ = limit;
@@ -40,8 +27,31 @@ impl Change for Claiming {
     }
 
     fn is_end(word: Word, limit: u64) -> bool {
-        let _ = (word, limit);
-        false
+        let _ = limit;
+        !has_output(word)
+    }
+}
+
+/// The look of a poll that has registered, which takes the output where it is there.
+pub struct LookingAgain;
+
+impl Change for LookingAgain {
+    ghost writes = { λ _ w. row 0 ClaimOutput w };
+
+    ghost ends = { λ _ w. not (has_output w) };
+
+    ghost acts = { claiming_again };
+
+    ghost told = { looking_again };
+
+    fn next(word: Word, limit: u64) -> Option<Word> {
+        let _ = limit;
+        word.claim_output()
+    }
+
+    fn is_end(word: Word, limit: u64) -> bool {
+        let _ = limit;
+        !has_output(word)
     }
 }
 
@@ -82,7 +92,7 @@ impl Change for BeginningRegister {
     }
 }
 
-/// The awaiter slot is given back, with the clone in it, unless a notifier came meanwhile.
+/// The awaiter slot is given back, with the clone in it, unless a notifier came meanwhile: then the clone is taken back.
 pub struct EndingRegister;
 
 impl Change for EndingRegister {
@@ -92,7 +102,7 @@ impl Change for EndingRegister {
 
     ghost acts = { ending_register };
 
-    ghost told = { λ _. [] };
+    ghost told = { taking_back };
 
     fn next(word: Word, limit: u64) -> Option<Word> {
         let _ = limit;
@@ -108,22 +118,6 @@ impl Change for EndingRegister {
 /// The awaiter slot is given back empty, since a notifier came meanwhile.
 pub struct EndingNotified;
 
-impl Change for EndingNotified {
-    ghost writes = { λ _ w. row 0 EndRegisterNotified w };
-
-    ghost ends = { λ _ _. false };
-
+impl Script for EndingNotified {
     ghost acts = { ending_notified };
-
-    ghost told = { λ _. [] };
-
-    fn next(word: Word, limit: u64) -> Option<Word> {
-        let _ = limit;
-        word.end_register_notified()
-    }
-
-    fn is_end(word: Word, limit: u64) -> bool {
-        let _ = (word, limit);
-        false
-    }
 }

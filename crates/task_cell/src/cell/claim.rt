@@ -1,19 +1,18 @@
-//! The output of a completed task: claimed by a poll, and handed out.
-ghost use Rattle.std.specs.Prelude.{◌≡◌, ℕ, ◌∷◌, [], List, Bool, true};
+//! The output of a completed task, which a look of a poll has taken: handed out.
+ghost use Rattle.std.specs.Prelude.{◌≡◌, ℕ, ◌∷◌, ◌++◌, [], List, true};
 ghost use Rattle.task_laws.specs.declared.positions.Way.{Way};
 ghost use Rattle.task_laws.specs.declared.positions.Way.TheVariants.{OfClaim};
 ghost use Rattle.task_laws.specs.declared.positions.Position.TheVariants.{Notifier, Claimer};
-ghost use Rattle.task_core.specs.declared.moves.Act.TheVariants.{ClaimOutput, HandOutOutput, EndCall};
+ghost use Rattle.task_core.specs.declared.moves.Act.TheVariants.{HandOutOutput, EndCall};
 ghost use Rattle.task_laws.specs.Table.{notifies, goes_off, may_drop};
 ghost use Rattle.task_steps.specs.declared.table.Slot.{Slot};
 ghost use Rattle.task_steps.specs.declared.table.Deed.{Deed};
 ghost use Rattle.task_steps.specs.Rule.{IsOutput};
 ghost use Rattle.task_steps.specs.Steps.{output_first};
-ghost use Rattle.task_steps.specs.PollScripts.{has_output};
-ghost use Rattle.task_cell.specs.PollPaths.{TakePath, TakePathIf, ClaimPath};
-ghost use Rattle.task_steps.specs.Standing.{poll_number, claims_from, way_of, as_task};
-ghost use Rattle.task_cell.specs.Calls.{Stands, StandsWith, Goes, GoesWith, position, holds};
-ghost use Rattle.task_steps.specs.Deeds.{row, act};
+ghost use Rattle.task_cell.specs.PollPaths.{TakePath, TakePathIf};
+ghost use Rattle.task_steps.specs.Standing.{poll_number, way_of, as_task};
+ghost use Rattle.task_cell.specs.Calls.{StandsWith, Goes, GoesWith, position, holds};
+ghost use Rattle.task_steps.specs.Deeds.{act};
 
 use super::{Cell, Party};
 use std::alloc::Allocator;
@@ -22,7 +21,7 @@ use task_core::word::Word;
 use task_core::{Wake, Yields};
 use task_steps::Always;
 use task_steps::places::{Held, take_out};
-use task_steps::poll::{Claiming, HandingOut};
+use task_steps::poll::HandingOut;
 use task_steps::table::Kept;
 
 impl<R: Drop, F: Yields, Q: Drop, M: Drop, A: Drop, B: Allocator> Cell<R, F, Q, M, A, B> {
@@ -57,19 +56,6 @@ impl<R: Wait + Drop, F: Yields, Q: Drop, M: Drop, A: Wake, B: Allocator> Cell<R,
         }
     }
 
-    // Takes the output of a task that was seen completed and open. Only the Task closes such a task.
-    fn claim(&self, party: &mut Party<F, Kept<F>, A>) -> Word
-        requires cell { party.old.seat.table_id ≡ self.now.table.shared.table_id }
-        requires party { (looked : Bool) × (n : ℕ) × Stands (claims_from looked n) party.old }
-        ensures found { has_output result ≡ true }
-        ensures path { (y : Slot F _ A) × (z : Slot F _ A) × IsOutput z × GoesWith (row ClaimOutput result ∷ []) (notifies result.awaiter (OfClaim (poll_number (position party.old)))) (output_first y z []) party.old party.new }
-    {
-        match self.attempt::<Claiming>(party) {
-            Ok(found) => found,
-            Err(_) => unreachable!(),
-        }
-    }
-
     // Takes the stored awaiter where the word that was found says that there is one.
     fn take_awaiter_of(&self, party: &mut Party<F, Kept<F>, A>, awaiter: &A, found: Word)
         requires cell { party.old.seat.table_id ≡ self.now.table.shared.table_id }
@@ -81,13 +67,17 @@ impl<R: Wait + Drop, F: Yields, Q: Drop, M: Drop, A: Wake, B: Allocator> Cell<R,
         }
     }
 
-    // Claims the output, takes the stored awaiter where there is one, and hands the output out.
-    pub(crate) fn take_output(&self, party: &mut Party<F, Kept<F>, A>, awaiter: &A) -> Held<Kept<F>>
+    // Takes the stored awaiter where there is one, and hands out the output that a look has taken on this word.
+    pub(crate) fn take_output(
+        &self,
+        party: &mut Party<F, Kept<F>, A>,
+        awaiter: &A,
+        found: Word,
+    ) -> Held<Kept<F>>
         requires cell { party.old.seat.table_id ≡ self.now.table.shared.table_id }
-        requires party { (looked : Bool) × (n : ℕ) × Stands (claims_from looked n) party.old }
-        ensures { (path : List Deed) × ClaimPath A.woken A.compared awaiter.now path × Goes path (as_task (poll_number (position party.old))) party.old party.new }
+        requires party { (i : ℕ) × (y : Slot F _ A) × (z : Slot F _ A) × StandsWith (notifies found.awaiter (OfClaim i)) (output_first y z []) party.old × IsOutput z }
+        ensures { (taken : List Deed) × TakePathIf A.woken A.compared awaiter.now found.awaiter taken × Goes (taken ++ (act HandOutOutput ∷ act EndCall ∷ [])) (as_task (poll_number (position party.old))) party.old party.new }
     {
-        let found = self.claim(party);
         self.take_awaiter_of(party, awaiter, found);
         self.hand_out(party)
     }

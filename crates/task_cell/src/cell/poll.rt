@@ -1,5 +1,6 @@
 //! Polls of the Task.
-ghost use Rattle.std.specs.Prelude.{◌≡◌, ℕ, ◌∷◌, ◌++◌, [], List, None, true};
+ghost use Rattle.std.specs.Prelude.{◌≡◌, ℕ, ◌∷◌, ◌++◌, [], List, None, Err, true};
+ghost use Rattle.task_core.specs.Word.{State};
 ghost use Rattle.task_laws.specs.declared.positions.PollAnswer.{PollAnswer};
 ghost use Rattle.task_laws.specs.declared.positions.Position.TheVariants.{Answering, Notifier, Looking as LookingAt};
 ghost use Rattle.task_laws.specs.declared.positions.Way.TheVariants.{OfPoll};
@@ -7,7 +8,7 @@ ghost use Rattle.task_core.specs.declared.moves.Act.TheVariants.{EndCall};
 ghost use Rattle.task_steps.specs.declared.table.Deed.{Deed};
 ghost use Rattle.task_cell.specs.PollPaths.{PollPath, AnswerPath, TakePath, Looks, LooksAgain};
 ghost use Rattle.task_steps.specs.Standing.{poll_number, as_task};
-ghost use Rattle.task_steps.specs.PollScripts.{has_output, has_ended as has_ended_word, has_to_wait};
+ghost use Rattle.task_steps.specs.PollScripts.{has_ended as has_ended_word};
 ghost use Rattle.task_steps.specs.Steps.{saw_ended};
 ghost use Rattle.task_cell.specs.Calls.{Stands, Goes, position, deeds};
 ghost use Rattle.task_steps.specs.Deeds.{act};
@@ -21,31 +22,9 @@ use task_steps::Always;
 use task_steps::common::Ending;
 use task_steps::poll::{Looking, LookingAgain};
 use task_steps::table::Kept;
-use task_steps::task::Knowing;
-use task_steps::words::{has_ended, has_output, has_to_wait};
+use task_steps::words::{has_ended, has_to_wait};
 
 impl<R: Drop, F: Yields, Q: Drop, M: Drop, A: Drop, B: Allocator> Cell<R, F, Q, M, A, B> {
-    // The first look of a poll. It is no look of the poll where the output is there to be claimed.
-    fn look(&self, party: &mut Party<F, Kept<F>, A>) -> Word
-        requires cell { party.old.seat.table_id ≡ self.now.table.shared.table_id }
-        requires party { (n : ℕ) × Stands (as_task n) party.old }
-        ensures path { Looks party.old party.new result }
-        ensures ended { saw_ended (deeds party.old) ≡ true → has_ended_word result ≡ true }
-    {
-        let shared = &self.table.shared;
-        Word::from_bits(shared.load::<Knowing<Looking>>(&mut party.seat, 0))
-    }
-
-    // The look of a poll that has registered, which ends there where it has to wait.
-    fn look_again(&self, party: &mut Party<F, Kept<F>, A>) -> Word
-        requires cell { party.old.seat.table_id ≡ self.now.table.shared.table_id }
-        requires party { (i : ℕ) × Stands (LookingAt i) party.old }
-        ensures { LooksAgain party.old party.new result }
-    {
-        let shared = &self.table.shared;
-        Word::from_bits(shared.load::<Always<LookingAgain>>(&mut party.seat, 0))
-    }
-
     // Writes down that the poll has ended. One load.
     fn end_poll(&self, party: &mut Party<F, Kept<F>, A>)
         requires cell { party.old.seat.table_id ≡ self.now.table.shared.table_id }
@@ -53,6 +32,27 @@ impl<R: Drop, F: Yields, Q: Drop, M: Drop, A: Drop, B: Allocator> Cell<R, F, Q, 
         ensures { Goes (act EndCall ∷ []) (as_task (poll_number (position party.old))) party.old party.new }
     {
         self.table.shared.load::<Always<Ending>>(&mut party.seat, 0);
+    }
+}
+
+impl<R: Wait + Drop, F: Yields, Q: Drop, M: Drop, A: Drop, B: Allocator> Cell<R, F, Q, M, A, B> {
+    // The first look of a poll, which takes the output where it is there. It answers with the word that it was taken on; the error is a word without an output.
+    fn look(&self, party: &mut Party<F, Kept<F>, A>) -> Result<Word, Word>
+        requires cell { party.old.seat.table_id ≡ self.now.table.shared.table_id }
+        requires party { (n : ℕ) × Stands (as_task n) party.old }
+        ensures path { Looks party.old party.new result }
+        ensures ended { saw_ended (deeds party.old) ≡ true → (w : State) × (result ≡ Err w) × (has_ended_word w ≡ true) }
+    {
+        self.attempt::<Looking>(party)
+    }
+
+    // The look of a poll that has registered, which takes the output where it is there, and ends the poll where it has to wait.
+    fn look_again(&self, party: &mut Party<F, Kept<F>, A>) -> Result<Word, Word>
+        requires cell { party.old.seat.table_id ≡ self.now.table.shared.table_id }
+        requires party { (i : ℕ) × Stands (LookingAt i) party.old }
+        ensures { LooksAgain party.old party.new result }
+    {
+        self.attempt::<LookingAgain>(party)
     }
 }
 
@@ -73,15 +73,19 @@ impl<R: Wait + Drop, F: Yields, Q: Drop, M: Drop, A: Wake, B: Allocator> Cell<R,
         requires party { (i : ℕ) × Stands (LookingAt i) party.old }
         ensures { (path : List Deed) × AnswerPath A.woken A.compared awaiter.now path result × Goes path (as_task (poll_number (position party.old))) party.old party.new }
     {
-        let found = self.look_again(party);
-        if has_to_wait(found) {
-            return TaskPoll::Pending;
+        match self.look_again(party) {
+            Ok(found) => {
+                let output = self.take_output(party, awaiter, found);
+                TaskPoll::Ready(Some(output.hand_out()))
+            }
+            Err(found) => {
+                if has_to_wait(found) {
+                    return TaskPoll::Pending;
+                }
+                self.answer_closed(party, awaiter);
+                TaskPoll::Ready(None)
+            }
         }
-        if found.closed() {
-            self.answer_closed(party, awaiter);
-            return TaskPoll::Ready(None);
-        }
-        TaskPoll::Ready(Some(self.take_output(party, awaiter).hand_out()))
     }
 
     /// Answers with the output, once there is one, or without one, where the task was closed and its future is gone.
@@ -97,10 +101,13 @@ impl<R: Wait + Drop, F: Yields, Q: Drop, M: Drop, A: Wake, B: Allocator> Cell<R,
         ensures ended { saw_ended (deeds party.old) ≡ true → result ≡ TaskPoll.Ready None }
         ensures closed { result ≡ TaskPoll.Ready None → saw_ended (deeds party.new) ≡ true }
     {
-        let found = self.look(party);
-        if has_output(found) {
-            return TaskPoll::Ready(Some(self.take_output(party, awaiter).hand_out()));
-        }
+        let found = match self.look(party) {
+            Ok(found) => {
+                let output = self.take_output(party, awaiter, found);
+                return TaskPoll::Ready(Some(output.hand_out()));
+            }
+            Err(found) => found,
+        };
         if has_ended(found) {
             self.answer_closed(party, awaiter);
             return TaskPoll::Ready(None);

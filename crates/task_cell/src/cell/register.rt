@@ -1,8 +1,8 @@
 //! The registering of a poll's awaiter, beside parties that notify.
 ghost use Rattle.std.specs.Prelude.{◌≡◌, ℕ, ◌∷◌, [], List, Bool, true, Option, None};
 ghost use Rattle.task_core.specs.Word.{State};
-ghost use Rattle.task_laws.specs.declared.positions.Position.TheVariants.{Registrar, RefusedClone, Registered, CloneInHand, Looking};
-ghost use Rattle.task_core.specs.declared.moves.Act.TheVariants.{TakeAwaiter, EndRegisterNotified, RefuseClone, EndCall, DropAwaiter, WakeAwaiter};
+ghost use Rattle.task_laws.specs.declared.positions.Position.TheVariants.{Registrar, RefusedClone, Registered, TookBack, CloneInHand, Looking};
+ghost use Rattle.task_core.specs.declared.moves.Act.TheVariants.{EndRegisterNotified, RefuseClone, EndCall, DropAwaiter, WakeAwaiter};
 ghost use Rattle.task_laws.specs.Table.{after_storing};
 ghost use Rattle.task_steps.specs.declared.table.Slot.{Slot};
 ghost use Rattle.task_steps.specs.declared.table.Slot.TheVariants.{Awaiter};
@@ -16,6 +16,7 @@ ghost use Rattle.task_steps.specs.Deeds.{row, act};
 use super::{Cell, Party};
 use std::alloc::Allocator;
 use std::sync::Wait;
+use task_core::word::{AWAITER, NOTIFYING, REGISTERING};
 use task_core::{Wake, Yields};
 use task_steps::Always;
 use task_steps::common::{Dropping, Waking};
@@ -68,6 +69,25 @@ impl<R: Drop, F: Yields, Q: Drop, M: Drop, A: Drop, B: Allocator> Cell<R, F, Q, 
             shared.load::<Always<Dropping>>(&mut party.seat, 0);
         }
     }
+
+    // Takes the clone out again, since a notifier came, and gives the awaiter slot back: a single fetch, never tried again. A notifier stays while the slot is the Task's.
+    fn take_back(&self, party: &mut Party<F, Kept<F>, A>) -> Held<A>
+        requires cell { party.old.seat.table_id ≡ self.now.table.shared.table_id }
+        requires party { (i : ℕ) × (clone : A) × StandsWith (TookBack i) ((2, Awaiter clone) ∷ []) party.old }
+        ensures same { holds party.old ≡ (2, Awaiter result.value) ∷ [] }
+        ensures path { (v : State) × (v.notifying ≡ true) × Goes (row EndRegisterNotified v ∷ []) (CloneInHand (poll_number (position party.old))) party.old party.new }
+    {
+        let shared = &self.table.shared;
+        let Some(clone) = take_out(shared, &mut party.seat, 2).into_awaiter() else {
+            unreachable!()
+        };
+        shared.fetch_and::<Always<EndingNotified>>(
+            &mut party.seat,
+            0,
+            !(AWAITER | REGISTERING | NOTIFYING),
+        );
+        clone
+    }
 }
 
 impl<R: Wait + Drop, F: Yields, Q: Drop, M: Drop, A: Wake, B: Allocator> Cell<R, F, Q, M, A, B> {
@@ -83,7 +103,7 @@ impl<R: Wait + Drop, F: Yields, Q: Drop, M: Drop, A: Wake, B: Allocator> Cell<R,
         }
     }
 
-    // Gives the awaiter slot back with the clone in it, and answers whether it did: it does not where there is a notifier.
+    // Gives the awaiter slot back with the clone in it, and answers whether it did: where there is a notifier, the clone is to be taken out again.
     fn end_register(&self, party: &mut Party<F, Kept<F>, A>) -> bool
         requires cell { party.old.seat.table_id ≡ self.now.table.shared.table_id }
         requires party { (i : ℕ) × (clone : A) × StandsWith (Registered i) ((2, Awaiter clone) ∷ []) party.old }
@@ -92,23 +112,6 @@ impl<R: Wait + Drop, F: Yields, Q: Drop, M: Drop, A: Wake, B: Allocator> Cell<R,
         match self.attempt::<EndingRegister>(party) {
             Ok(_) => true,
             Err(_) => false,
-        }
-    }
-
-    // Takes the clone out again, since a notifier came, and gives the awaiter slot back. A notifier stays while the slot is the Task's.
-    fn take_back(&self, party: &mut Party<F, Kept<F>, A>) -> Held<A>
-        requires cell { party.old.seat.table_id ≡ self.now.table.shared.table_id }
-        requires party { (i : ℕ) × (clone : A) × StandsWith (Registered i) ((2, Awaiter clone) ∷ []) party.old }
-        ensures same { holds party.old ≡ (2, Awaiter result.value) ∷ [] }
-        ensures path { (v : State) × (v.notifying ≡ true) × Goes (act TakeAwaiter ∷ row EndRegisterNotified v ∷ []) (CloneInHand (poll_number (position party.old))) party.old party.new }
-    {
-        let shared = &self.table.shared;
-        let Some(clone) = take_out(shared, &mut party.seat, 2).into_awaiter() else {
-            unreachable!()
-        };
-        match self.attempt::<EndingNotified>(party) {
-            Ok(_) => clone,
-            Err(_) => unreachable!(),
         }
     }
 

@@ -1,37 +1,33 @@
-use Rattle.std.proofs.Common.{◌∷◌, [], sym, ◌∙◌, true, false}
+use Rattle.std.proofs.Common.{◌∷◌, [], sym, ◌∙◌, refl}
+use Rattle.std.specs.Prelude.{Ok, Err}
 use Rattle.task_laws.specs.declared.positions.Way.TheVariants.{OfPoll}
-use Rattle.task_laws.specs.declared.positions.Position.TheVariants.{Notifier, Claiming}
-use Rattle.task_core.specs.declared.moves.Act.TheVariants.{Look, EndCall}
+use Rattle.task_laws.specs.declared.positions.Position.TheVariants.{Notifier}
+use Rattle.task_core.specs.declared.moves.Act.TheVariants.{Look, ClaimOutput, EndCall}
 use Rattle.task_cell.specs.Calls.{position}
 use Rattle.task_steps.specs.Deeds.{row, act}
 use Rattle.task_cell.specs.PollPaths.{waits}
 use Rattle.task_steps.specs.Standing.{poll_number}
 use Rattle.task_cell.proofs.Moved.{stands}
-use Rattle.task_cell.proofs.PollAnswers.{is_ended, is_there, waited, went_on, answers_ended, answers_output}
+use Rattle.task_cell.proofs.PollWays.{has_claimed}
+use Rattle.task_cell.proofs.PollAnswers.{seen_again, waited, saw_end, answers_ended, answers_output}
 use Rattle.task_cell.proofs.cell.Cell.answer.Goals as goal
 
+pub take_output-output-requires-clause-party : goal.take_output-output-requires-clause-party
+take_output-output-requires-clause-party g c = let p = c.args.party.now in let q = c.look_again.new.party in let w = c.in-Ok.found in has_claimed w (row Look w ∷ row ClaimOutput w ∷ []) p q (seen_again p q (Ok w) c.in-Ok.ensures)
+
+pub returns-in-Ok : goal.returns-in-Ok
+returns-in-Ok g c = let p = c.args.party.now in let q = c.look_again.new.party in let w = c.in-Ok.found in let t = c.take_output-output.ensures in
+    answers_output g.A.Wake.cloned g.A.Wake.woken g.A.Wake.woken_by_ref g.A.Wake.compared c.args.awaiter.now w c.hand_out.result t.0 p q c.take_output-output.new.party (seen_again p q (Ok w) c.in-Ok.ensures) t.1 t.2
+
 pub returns-then-has_to_wait : goal.returns-then-has_to_wait
-returns-then-has_to_wait g c = let w = c.look_again-found.result in let e = sym c.has_to_wait.ensures ∙ c.if-has_to_wait.true in
-    (row Look w ∷ act EndCall ∷ [], waits w e, waited w c.args.party.now c.look_again-found.new.party c.look_again-found.ensures e)
+returns-then-has_to_wait g c = let p = c.args.party.now in let q = c.look_again.new.party in let w = c.in-Err.found in let e = sym c.has_to_wait.ensures ∙ c.if-has_to_wait.true in
+    (row Look w ∷ act EndCall ∷ [], waits w e, waited w p q (seen_again p q (Err w) c.in-Err.ensures) e)
 
 pub answer_closed-requires-clause-party : goal.answer_closed-requires-clause-party
-answer_closed-requires-clause-party g c = let w = c.look_again-found.result in let n = poll_number (position c.args.party.now) in
-    let on = went_on w c.args.party.now c.look_again-found.new.party true c.look_again-found.ensures (sym c.has_to_wait.ensures ∙ c.if-has_to_wait.false) (sym c.closed.ensures ∙ c.if-closed.true) in
-    (n, stands c.args.party.now c.look_again-found.new.party (row Look w ∷ []) (Notifier (OfPoll n)) [] on)
+answer_closed-requires-clause-party g c = let p = c.args.party.now in let q = c.look_again.new.party in let w = c.in-Err.found in let n = poll_number (position p) in
+    let s = saw_end w p q (seen_again p q (Err w) c.in-Err.ensures) (sym c.has_to_wait.ensures ∙ c.if-has_to_wait.false) in (n, stands p q (row Look w ∷ []) (Notifier (OfPoll n)) [] s.1)
 
-pub returns-then-closed : goal.returns-then-closed
-returns-then-closed g c = let w = c.look_again-found.result in let e = sym c.has_to_wait.ensures ∙ c.if-has_to_wait.false in let f = sym c.closed.ensures ∙ c.if-closed.true in
-    let t = c.answer_closed.ensures in
-    answers_ended g.A.Wake.cloned g.A.Wake.woken g.A.Wake.woken_by_ref g.A.Wake.compared c.args.awaiter.now w (poll_number (position c.args.party.now)) t.0 c.args.party.now c.look_again-found.new.party c.answer_closed.new.party (is_ended w e f) t.1
-    (went_on w c.args.party.now c.look_again-found.new.party true c.look_again-found.ensures e f) t.2
-
-pub take_output-requires-clause-party : goal.take_output-requires-clause-party
-take_output-requires-clause-party g c = let w = c.look_again-found.result in let n = poll_number (position c.args.party.now) in
-    let on = went_on w c.args.party.now c.look_again-found.new.party false c.look_again-found.ensures (sym c.has_to_wait.ensures ∙ c.if-has_to_wait.false) (sym c.closed.ensures ∙ c.if-closed.false) in
-    (true, n, stands c.args.party.now c.look_again-found.new.party (row Look w ∷ []) (Claiming n) [] on)
-
-pub returns : goal.returns
-returns g c = let w = c.look_again-found.result in let e = sym c.has_to_wait.ensures ∙ c.if-has_to_wait.false in let f = sym c.closed.ensures ∙ c.if-closed.false in
-    let t = c.take_output.ensures in
-    answers_output g.A.Wake.cloned g.A.Wake.woken g.A.Wake.woken_by_ref g.A.Wake.compared c.args.awaiter.now w (poll_number (position c.args.party.now)) c.hand_out.result t.0 c.args.party.now c.look_again-found.new.party c.take_output.new.party (is_there w e f) t.1
-    (went_on w c.args.party.now c.look_again-found.new.party false c.look_again-found.ensures e f) t.2
+pub returns-else-has_to_wait : goal.returns-else-has_to_wait
+returns-else-has_to_wait g c = let p = c.args.party.now in let q = c.look_again.new.party in let w = c.in-Err.found in let t = c.answer_closed.ensures in
+    let s = saw_end w p q (seen_again p q (Err w) c.in-Err.ensures) (sym c.has_to_wait.ensures ∙ c.if-has_to_wait.false) in
+    answers_ended g.A.Wake.cloned g.A.Wake.woken g.A.Wake.woken_by_ref g.A.Wake.compared c.args.awaiter.now w (poll_number (position p)) t.0 p q c.answer_closed.new.party s.0 t.1 s.1 t.2

@@ -1,8 +1,8 @@
-use Rattle.std.proofs.Common.{rules, ap}
-use Rattle.task_steps.proofs.Allowed.{steps_always}
-use Rattle.task_steps.proofs.PollOwed.{looks_again}
+use Rattle.task_cell.proofs.PollMoved.{may_look_again, looks_again_so}
 use Rattle.task_cell.proofs.cell.Cell.look_again.Goals as goal
 
-pub load-requires : goal.load-requires
-load-requires g c = let s = c.requires.party in
-    (search rules, search rules, steps_always _ _ _ _ _ _ _ _ _ _ _ _ _ (search rules) (ap (λ m. m.0) s.1) (looks_again _ _ _ _ s.0 _ _ _))
+pub attempt-requires-clause-allowed : goal.attempt-requires-clause-allowed
+attempt-requires-clause-allowed g c = let s = c.requires.party in may_look_again _ _ _ _ c.args.party.now s.0 s.1
+
+pub returns : goal.returns
+returns g c = let s = c.requires.party in looks_again_so _ s.0 c.attempt.result c.args.party.now c.attempt.new.party s.1 c.attempt.ensures.cell c.attempt.ensures.changed c.attempt.ensures.ended

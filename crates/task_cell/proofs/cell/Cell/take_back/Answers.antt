@@ -1,12 +1,25 @@
-use Rattle.std.proofs.Common.{rules}
-use Rattle.task_steps.specs.declared.table.Slot.TheVariants.{Awaiter}
-use Rattle.task_cell.proofs.Moved.{first_held}
-use Rattle.task_cell.proofs.PollMoved.{may_take_back, left_empty}
+use Rattle.std.proofs.Common.{rules, ap, ◌∷◌, [], refl}
+use Rattle.task_core.specs.Word.{state_of}
+use Rattle.task_laws.specs.declared.positions.Position.TheVariants.{TookBack}
+use Rattle.task_steps.specs.declared.table.Slot.TheVariants.{Awaiter, Empty}
+use Rattle.task_steps.proofs.Allowed.{steps_always}
+use Rattle.task_steps.proofs.PollOwed.{ends_notified}
+use Rattle.task_cell.proofs.RunGoes.{at_rest}
+use Rattle.task_cell.proofs.Carried.{exchanges}
+use Rattle.task_cell.proofs.Moved.{stands, first_held}
+use Rattle.task_cell.proofs.PollMoved.{given_back}
 use Rattle.task_cell.proofs.cell.Cell.take_back.Goals as goal
 
 pub take_out-requires : goal.take_out-requires
 take_out-requires g c = let s = c.requires.party in (search rules, (Awaiter s.1, first_held c.args.party.now _ 2 (Awaiter s.1) _ s.2))
 
-pub attempt-requires-clause-allowed : goal.attempt-requires-clause-allowed
-attempt-requires-clause-allowed g c = let s = c.requires.party in
-    may_take_back _ _ _ _ (record { seat = c.take_out.new.seat }) s.0 (left_empty s.0 (Awaiter s.1) c.args.party.now (record { seat = c.take_out.new.seat }) s.2 c.take_out.ensures.3)
+pub fetch_and-requires : goal.fetch_and-requires
+fetch_and-requires g c = let s = c.requires.party in let p = c.args.party.now in let e = c.take_out.ensures in
+    let x = exchanges p p (record { seat = c.take_out.new.seat }) [] (TookBack s.0) 2 (Awaiter s.1) c.take_out.result.slot Empty [] (at_rest (TookBack s.0) ((2, Awaiter s.1) ∷ []) p p s.2 refl refl) e.0 e.2 e.3 in
+    let at = stands p (record { seat = c.take_out.new.seat }) [] (TookBack s.0) ((2, Empty) ∷ []) x.1 in
+    (search rules, search rules, steps_always _ _ _ _ _ _ _ _ _ _ _ _ _ (search rules) (ap (λ m. m.0) at) (ends_notified _ _ _ _ s.0 _ _ Empty _ (first_held (record { seat = c.take_out.new.seat }) _ 2 Empty _ at) tt))
+
+pub returns-clause-path : goal.returns-clause-path
+returns-clause-path g c = let s = c.requires.party in let p = c.args.party.now in let e = c.take_out.ensures in
+    let x = exchanges p p (record { seat = c.take_out.new.seat }) [] (TookBack s.0) 2 (Awaiter s.1) c.take_out.result.slot Empty [] (at_rest (TookBack s.0) ((2, Awaiter s.1) ∷ []) p p s.2 refl refl) e.0 e.2 e.3 in
+    given_back s.0 (state_of c.fetch_and.result) (Awaiter s.1) p (record { seat = c.take_out.new.seat }) (record { seat = c.fetch_and.new.seat }) s.2 x.1 c.fetch_and.ensures.0 c.fetch_and.ensures.2
