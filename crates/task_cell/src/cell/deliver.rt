@@ -2,8 +2,6 @@
 ghost use Rattle.std.specs.Prelude.{◌≡◌, ◌∷◌, [], true, false};
 ghost use Rattle.std.specs.Arc.{arc_value};
 ghost use Rattle.task_laws.specs.declared.positions.Position.{Position};
-ghost use Rattle.task_laws.specs.declared.positions.Position.TheVariants.{Deliverer};
-ghost use Rattle.task_laws.specs.declared.positions.After.{After};
 ghost use Rattle.task_core.specs.declared.moves.Act.TheVariants.{HandOver, EndCall};
 ghost use Rattle.task_cell.specs.Handed.{HandedOver};
 ghost use Rattle.task_cell.specs.Calls.{Stands, Goes, IsNew, position, limit_of};
@@ -31,8 +29,8 @@ impl<R: Drop, F: Yields, Q: Drop, M: Drop, A: Drop, B: Allocator> Cell<R, F, Q, 
 }
 
 impl<R: Wait + Drop, F: Yields, Q: Drop, M: Drop, A: Wake, B: Allocator> Cell<R, F, Q, M, A, B> {
-    // Hands a Runnable to the schedule value. The act stands in the list before the schedule value is called.
-    fn hand_to_schedule<X: Copy>(
+    // Hands a Runnable to the schedule value: that of a deliverer, or the Runnable itself once more. It makes no step on the word but loads, and the act stands in the list before the schedule value is called.
+    pub(crate) fn deliver<X: Copy>(
         this: &Arc<Self, B>,
         party: &mut Party<F, Kept<F>, A>,
         around: X,
@@ -52,23 +50,6 @@ impl<R: Wait + Drop, F: Yields, Q: Drop, M: Drop, A: Wake, B: Allocator> Cell<R,
         this.schedule.schedule(runnable, info);
     }
 
-    // Hands the Runnable of a deliverer to the schedule value. It makes no step on the word but loads. After it the party goes on as its `After` says: it ends its call, or notifies.
-    pub(crate) fn deliver<X: Copy>(
-        this: &Arc<Self, B>,
-        party: &mut Party<F, Kept<F>, A>,
-        around: X,
-        woken_while_running: bool,
-    )
-    where
-        Q: Schedule<Runnable<R, F, Q, M, A, X, B>>,
-        requires cell { (party.old.seat.table_id ≡ (arc_value this.now).table.shared.table_id) × (limit_of party.old ≡ (arc_value this.now).limit) }
-        requires party { (next : After) × Stands (Deliverer woken_while_running next) party.old }
-        ensures path { Goes (act HandOver ∷ []) (handed_over (position party.old)) party.old party.new }
-        ensures fact { HandedOver Q.scheduled (arc_value this.now) around woken_while_running }
-    {
-        Cell::hand_to_schedule(this, party, around, woken_while_running);
-    }
-
     /// Hands a Runnable to the schedule value again, with `woken_while_running` false. It makes no step on the word but loads.
     pub fn schedule<X: Copy>(this: &Arc<Self, B>, party: &mut Party<F, Kept<F>, A>, around: X)
     where
@@ -78,7 +59,7 @@ impl<R: Wait + Drop, F: Yields, Q: Drop, M: Drop, A: Wake, B: Allocator> Cell<R,
         ensures path { Goes (act HandOver ∷ act EndCall ∷ []) as_ended party.old party.new }
         ensures fact { HandedOver Q.scheduled (arc_value this.now) around false }
     {
-        Cell::hand_to_schedule(this, party, around, false);
+        Cell::deliver(this, party, around, false);
         this.end(party);
     }
 

@@ -1,4 +1,4 @@
-use Rattle.std.proofs.Common.{◌∙◌, ap, sym}
+use Rattle.std.proofs.Common.{◌∙◌, ap, sym, refl}
 use Rattle.task_cell.proofs.Moved.{stands, limit_is}
 use Rattle.task_cell.proofs.TaskCalls.{closed_busy, closed_idle, cancels_over, cancels_busy, cancels_idle}
 use Rattle.task_cell.proofs.cell.Cell.cancel.Goals as goal
@@ -13,7 +13,7 @@ pub deliver-requires-clause-cell : goal.deliver-requires-clause-cell
 deliver-requires-clause-cell g c = let s = c.requires.party in let x = c.in-Idle.ensures s.0 s.1 in (x.3.cell ∙ c.requires.cell.0, limit_is _ _ _ _ _ x.3 ∙ c.requires.cell.1)
 
 pub deliver-requires-clause-party : goal.deliver-requires-clause-party
-deliver-requires-clause-party g c = let s = c.requires.party in (_, stands _ _ _ _ _ (c.in-Idle.ensures s.0 s.1).3)
+deliver-requires-clause-party g c = let s = c.requires.party in (_, refl, stands _ _ _ _ _ (c.in-Idle.ensures s.0 s.1).3)
 
 pub leave_closed-requires-in-Idle-clause-cell : goal.leave_closed-requires-in-Idle-clause-cell
 leave_closed-requires-in-Idle-clause-cell g c = let x = closed_idle _ _ _ _ c.requires.party c.in-Idle.ensures c.deliver.ensures.path in

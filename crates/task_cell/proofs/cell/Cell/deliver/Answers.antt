@@ -1,6 +1,13 @@
-use Rattle.std.proofs.Common.{refl}
-use Rattle.task_laws.specs.declared.positions.Position.TheVariants.{Deliverer}
+use Rattle.std.proofs.Common.{ap, ◌∙◌, subst}
+use Rattle.std.specs.Arc.{arc_value}
+use Rattle.task_cell.specs.declared.cell.Cell.{Cell}
 use Rattle.task_cell.proofs.cell.Cell.deliver.Goals as goal
 
-pub hand_to_schedule-requires-clause-party : goal.hand_to_schedule-requires-clause-party
-hand_to_schedule-requires-clause-party g c = let s = c.requires.party in (Deliverer c.args.woken_while_running s.0, refl, s.1)
+pub returns-clause-fact : goal.returns-clause-fact
+returns-clause-fact g c = (
+  c.new-runnable.result,
+  ap (λ s. arc_value s.cell) c.new-runnable.ensures.cell ∙ c.share.ensures,
+  c.new-runnable.ensures.around,
+  subst (λ (z : Cell g.row.R.Denot g.row.F.Denot g.row.Q.Denot g.row.M.Denot g.row.A.Denot g.row.B.Denot g.row.F-Output.Denot g.F.Yields). g.Q.Schedule.scheduled z.schedule c.new-runnable.result (record { woken_while_running = c.args.woken_while_running }))
+      c.deref-2.ensures c.schedule.ensures,
+)

@@ -1,4 +1,4 @@
-use Rattle.std.proofs.Common.{◌∷◌, ◌∙◌, ap, sym, [], false}
+use Rattle.std.proofs.Common.{◌∷◌, ◌∙◌, ap, sym, [], false, refl}
 use Rattle.task_laws.specs.declared.positions.Answer.TheVariants.{Nothing}
 use Rattle.task_laws.specs.declared.positions.Rest.TheVariants.{Ended}
 use Rattle.task_laws.specs.declared.positions.After.TheVariants.{ThenEnds}
@@ -26,7 +26,7 @@ end-requires-in-Last-clause-party g c = let x = last_emptied c.args.party.now c.
     (Nothing, Ended, stands c.args.party.now c.empty-in-Last.new.party _ (Leaving Nothing Ended) [] x)
 
 pub deliver-requires-clause-party : goal.deliver-requires-clause-party
-deliver-requires-clause-party g c = let x = c.in-Orphaned.ensures in (ThenEnds Nothing, stands c.args.party.now c.give_task_up.new.party _ (Deliverer false (ThenEnds Nothing)) [] x.2)
+deliver-requires-clause-party g c = let x = c.in-Orphaned.ensures in (Deliverer false (ThenEnds Nothing), refl, stands c.args.party.now c.give_task_up.new.party _ (Deliverer false (ThenEnds Nothing)) [] x.2)
 
 pub returns-then-drop_unclaimed : goal.returns-then-drop_unclaimed
 returns-then-drop_unclaimed g c = record { path = detaches_unclaimed_last _ c.args.party.now c.give_task_up.new.party c.drop_unclaimed.new.party c.empty.new.party c.end.new.party c.drop_unclaimed.result c.if-drop_unclaimed.true c.in-Unclaimed.ensures c.drop_unclaimed.ensures c.empty.ensures c.end.ensures }
