@@ -8,7 +8,7 @@ use atomic_table::{Refused, Seat, Table, TableRule};
 use std::alloc::{AllocError, Allocator};
 use std::collections::LinkedList;
 use task_core::moves::Act;
-use task_core::word::Word;
+use task_core::word::{REFERENCE, SCHEDULED, TASK, Word};
 use task_core::{Future, Poll, Yields};
 use task_laws::positions::Position;
 
@@ -94,7 +94,7 @@ impl<F, T, A> TableRule<Slot<F, T, A>, View, u64> for Law {
 pub type Board<F, T, A, B> = Table<Slot<F, T, A>, View, u64, Law, B>;
 
 /// The word of a task that was just spawned: scheduled, with its Task, and one reference.
-const OPENING: u64 = 0x111;
+const OPENING: u64 = SCHEDULED | TASK | REFERENCE;
 
 /// A table with the opening word and three empty places, and its first seat. `alloc` is where the memory comes from, and `limit` the limit of references. An `Err` says that memory was refused, and nothing stays allocated then.
 pub fn lay<F: Drop, T: Drop, A: Drop, B: Allocator + Copy>(

@@ -20,7 +20,7 @@ ghost use Rattle.task_cell.specs.RunCalls.{Stores, ClosesPending, Closes, EndsRe
 use super::{Cell, Party, Runnable};
 use std::alloc::Allocator;
 use std::sync::{Arc, Wait};
-use task_core::word::Word;
+use task_core::word::{SCHEDULED, Word};
 use task_core::{Schedule, Wake, Yields};
 use task_steps::Always;
 use task_steps::places::Held;
@@ -38,7 +38,7 @@ impl<R: Drop, F: Yields, Q: Drop, M: Drop, A: Drop, B: Allocator> Cell<R, F, Q, 
         let found = self
             .table
             .shared
-            .fetch_and::<Always<Unscheduling>>(&mut party.seat, 0, !1);
+            .fetch_and::<Always<Unscheduling>>(&mut party.seat, 0, !SCHEDULED);
         Word::from_bits(found)
     }
 }
