@@ -14,3 +14,5 @@ mod group_tests;
 mod line;
 #[cfg(test)]
 mod mailbox_tests;
+#[cfg(test)]
+mod nobody_tests;
