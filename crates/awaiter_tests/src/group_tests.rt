@@ -55,6 +55,10 @@ enum LetGo {
     Drop,
 }
 
+fn drop_group<R: Wait + Drop + Copy>(group: LineGroup<'_, R>) {
+    drop(group);
+}
+
 // Fills a group with tasks, pushes one more, and lets all go: whether that one was refused, whether the group was empty then,
 // and whether any of the tasks answered when they were run.
 fn let_go<R: Wait + Drop + Copy>(
@@ -76,7 +80,7 @@ fn let_go<R: Wait + Drop + Copy>(
         LetGo::Drop => {}
     }
     let emptied = group.is_empty();
-    drop(group);
+    drop_group(group);
     line.run();
     Ok([refused, emptied, line.answered() > 0])
 }
