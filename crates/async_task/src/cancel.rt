@@ -44,6 +44,21 @@ impl<R: Wait + Drop, F: Yields, Q: Drop, M: Drop, A: Wake, X: Copy, B: Allocator
 where
     Q: Schedule<Runnable<R, F, Q, M, A, X, B>>,
 {
+    /// The same handle with other surroundings, which has cancelled if this one has. It makes no step. A cancel and the drop hand their Runnable over with these.
+    pub fn with_around<Y: Copy>(self, around: Y) -> Cancel<R, F, Q, M, A, Y, B>
+    where
+        Q: Schedule<Runnable<R, F, Q, M, A, Y, B>>,
+        ensures inner { result.task.inner ≡ self.task.inner }
+        ensures around { result.task.around ≡ around }
+        ensures cancelled { result.cancelled ≡ self.cancelled }
+    {
+        let Cancel { task, cancelled } = self;
+        Cancel {
+            task: task.with_around(around),
+            cancelled,
+        }
+    }
+
     /// Whether the task is completed or closed. Once it is, each further answer is true.
     pub fn is_finished(&mut self) -> bool
         ensures path { FindsFinished self.old.task.inner.party self.new.task.inner.party result }

@@ -53,6 +53,19 @@ where
         drop(self);
     }
 
+    /// The same handle with other surroundings. It makes no step. A cancel and the drop hand their Runnable over with these.
+    pub fn with_around<Y: Copy>(self, around: Y) -> FallibleTask<R, F, Q, M, A, Y, B>
+    where
+        Q: Schedule<Runnable<R, F, Q, M, A, Y, B>>,
+        ensures inner { result.task.inner ≡ self.task.inner }
+        ensures around { result.task.around ≡ around }
+    {
+        let FallibleTask { task } = self;
+        FallibleTask {
+            task: task.with_around(around),
+        }
+    }
+
     /// Gives the Task up and lets the task go on. An output that nobody claimed is dropped.
     pub fn detach(self) {
         let FallibleTask { task } = self;

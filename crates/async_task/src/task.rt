@@ -158,6 +158,19 @@ where
         ParkedTask { inner }
     }
 
+    /// The same Task with other surroundings. It makes no step. A cancel and the drop hand their Runnable over with these.
+    ///
+    /// With `()` any container holds the Task. Its schedule value then has no executor at hand, and drops the Runnable that a cancel hands over, which drops the future at once.
+    pub fn with_around<Y: Copy>(self, around: Y) -> Task<R, F, Q, M, A, Y, B>
+    where
+        Q: Schedule<Runnable<R, F, Q, M, A, Y, B>>,
+        ensures inner { result.inner ≡ self.inner }
+        ensures around { result.around ≡ around }
+    {
+        let inner = self.into_parts().0;
+        Task { inner, around }
+    }
+
     /// The same Task, whose polls answer `None` where a Task's answer `TaskClosed`. It makes no step.
     pub fn fallible(self) -> FallibleTask<R, F, Q, M, A, X, B>
         ensures { result.task ≡ self }

@@ -32,7 +32,7 @@ impl<'x, R: Wait + Drop + Copy> Schedule<Work<'x, R>> for ToQueue {
 
     fn schedule(&self, runnable: Work<'x, R>, _info: ScheduleInfo) {
         let executor = runnable.around();
-        let queued = runnable.park().unpark(());
+        let queued = runnable.with_around(());
         // Where the queue cannot grow the Runnable is dropped, which cancels its task.
         let pushed = executor.queue.lock(&executor.rt).push_back(queued);
         drop(pushed);
@@ -62,7 +62,7 @@ impl<R: Wait + Threads + Drop + Copy + Send + Sync> Executor<R> {
         for _ in self.rt.forever() {
             let next = self.queue.lock(&self.rt).pop_front();
             match next {
-                Some(queued) => queued.park().unpark(self).run(),
+                Some(queued) => queued.with_around(self).run(),
                 None => return,
             };
         }

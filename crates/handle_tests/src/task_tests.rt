@@ -340,3 +340,36 @@ fn a_polled_output_is_dropped_by_the_poller(rt: HostRuntime) {
     drop(polled);
     assert_eq!(rt; (kept, completed, fixture.output_drops()), (0, true, 1));
 }
+
+// Turns the Task of an idle task into each of its kinds, each with other surroundings, and drops the last: whether it was finished before.
+fn change_surroundings<R: Wait + Drop>(task: RowTask<'_, R>) -> [bool; 2] {
+    let surroundings = task.around();
+    let mut task = task.with_around(()).with_around(surroundings);
+    let open = calls::is_finished(&mut task);
+    let mut cancel = task
+        .fallible()
+        .with_around(())
+        .cancel()
+        .with_around(surroundings);
+    let still_open = cancel.is_finished();
+    calls::drop_cancel(cancel);
+    [open, still_open]
+}
+
+// Runs a task once, which goes idle, and changes the surroundings of its Runnable before and of its Task after it.
+fn run_with_other_surroundings<R: Wait + Abort + Drop + Copy>(fixture: &Fixture<R>) -> [bool; 2] {
+    let (runnable, task) = calls::spawn(fixture, Behaviour::Pending);
+    calls::run(runnable.with_around(()).with_around(&fixture.surroundings));
+    change_surroundings(task)
+}
+
+// The cancel of an idle task hands its Runnable to the queue that the Cancel carries.
+#[test]
+fn handles_go_on_with_other_surroundings(rt: HostRuntime) {
+    let fixture = calls::fixture(rt, rt.alloc());
+    let finished = run_with_other_surroundings(&fixture);
+    assert_eq!(rt;
+        (finished, fixture.surroundings.queued(), fixture.counts()),
+        ([false; 2], 1, Counts::new(1, 1, 0, 0))
+    );
+}

@@ -226,9 +226,9 @@ fn a_task_awaits_another(rt: HostRuntime) -> Result<(), Fail> {
     Ok(())
 }
 
-// Unparks a parked waker without surroundings, and wakes by value.
+// Wakes by value, by a waker without surroundings.
 fn wake_without_surroundings<R: Wait + Drop>(waker: RowWaker<'_, R>) {
-    waker.park().unpark(()).wake();
+    waker.with_around(()).wake();
 }
 
 // Wakes an idle task by a waker without surroundings: whether it was finished, and what was counted.
@@ -243,9 +243,9 @@ fn wake_to_nowhere<R: Wait + Abort + Drop + Copy>(fixture: &Fixture<R>) -> (bool
     (finished, counts)
 }
 
-// A waker that is unparked without surroundings reaches no queue: the Runnable of its wake is dropped.
+// A waker without surroundings reaches no queue: the Runnable of its wake is dropped.
 #[test]
-fn a_waker_carries_what_it_was_unparked_with(rt: HostRuntime) {
+fn a_waker_wakes_with_what_it_carries(rt: HostRuntime) {
     let fixture = calls::fixture(rt, rt.alloc());
     let seen = wake_to_nowhere(&fixture);
     assert_eq!(rt;

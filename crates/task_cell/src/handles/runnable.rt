@@ -62,6 +62,15 @@ impl<R: Wait + Drop, F: Yields, Q: Drop, M: Drop, A: Wake, X: Copy, B: Allocator
         ParkedRunnable { inner }
     }
 
+    /// The same Runnable with other surroundings. It makes no step. With `()` any container holds it, and the schedule value needs no implementation for it.
+    pub fn with_around<Y: Copy>(self, around: Y) -> Runnable<R, F, Q, M, A, Y, B>
+        ensures inner { result.inner ≡ self.inner }
+        ensures around { result.around ≡ around }
+    {
+        let (inner, _) = self.into_parts();
+        Runnable { inner, around }
+    }
+
     /// Hands the Runnable to the schedule value again, with `woken_while_running` false.
     pub fn schedule(self)
     where

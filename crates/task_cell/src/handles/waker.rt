@@ -20,13 +20,13 @@ impl<R: Wait + Drop, F: Yields, Q: Drop, M: Drop, A: Wake, X: Copy, B: Allocator
 where
     Q: Schedule<Runnable<R, F, Q, M, A, X, B>>,
 {
-    /// Wakes the task, and gives the waker up: `wake_by_ref`, and then a drop.
+    /// Wakes the task, and gives the waker up: `wake_by_ref`, and then a drop. By a waker whose surroundings are `()` it cancels the task where the schedule value drops Runnables without an executor.
     pub fn wake(self) {
         self.wake_by_ref();
         drop(self);
     }
 
-    /// Wakes the task. A task that is over stays as it is; one that is scheduled will be polled after this call; one that runs is scheduled once more by its run; and of one that is idle, a Runnable is handed to the schedule value, with `woken_while_running` false.
+    /// Wakes the task. A task that is over stays as it is; one that is scheduled will be polled after this call; one that runs is scheduled once more by its run; and of one that is idle, a Runnable is handed to the schedule value, with `woken_while_running` false and the surroundings of this waker. Where these are `()`, and the schedule value drops such Runnables, the task is cancelled.
     pub fn wake_by_ref(&self) {
         if let Some(deliverer) = self.inner.wake() {
             Cell::finish_wake(self.inner.share.cell(), deliverer, self.around);
@@ -72,9 +72,23 @@ where
         let (inner, _) = self.into_parts();
         ParkedWaker { inner }
     }
+
+    /// The same waker with other surroundings. It makes no step.
+    ///
+    /// A wake by it, and the drop of the last waker, hand their Runnable over with these surroundings. With `()` any container holds the waker, but the schedule value then has no executor at hand:
+    /// where it drops such Runnables, a wake cancels the task. So give a waker its executor again before you wake it.
+    pub fn with_around<Y: Copy>(self, around: Y) -> TaskWaker<R, F, Q, M, A, Y, B>
+    where
+        Q: Schedule<Runnable<R, F, Q, M, A, Y, B>>,
+        ensures inner { result.inner ≡ self.inner }
+        ensures around { result.around ≡ around }
+    {
+        let (inner, _) = self.into_parts();
+        TaskWaker { inner, around }
+    }
 }
 
-/// A waker is an awaiter too: a task may await another.
+/// A waker is an awaiter too, of a Task that other code keeps and polls. What `wake` and `wake_by_ref` say of surroundings `()` holds here too.
 impl<R: Wait + Drop, F: Yields, Q: Drop, M: Drop, A: Wake, X: Copy, B: Allocator> Wake
     for TaskWaker<R, F, Q, M, A, X, B>
 where

@@ -1,0 +1,70 @@
+//! Tasks that await one another: a chain, and a ring.
+use crate::line::{Errand, Line};
+use async_task::TaskPoll;
+use awaiters::{Awaiter, Mailbox};
+use std::alloc::{AllocError, Global};
+use std::sync::Wait;
+
+// How many tasks the chain has.
+const CHAIN: usize = 1000;
+
+// What a poll of the Task of this number answers: 0 where it is closed, `None` where it is pending.
+fn answer_of<R: Wait + Drop + Copy>(
+    line: &Line<R>,
+    rt: R,
+    alloc: Global,
+    number: usize,
+) -> Result<Option<u64>, AllocError> {
+    let mailbox = Mailbox::new(rt, alloc, 1)?;
+    let awaiter = Awaiter::new(&mailbox, 0).ok_or(AllocError)?;
+    let mut task = line.take_task(number).ok_or(AllocError)?;
+    Ok(match task.poll(&awaiter) {
+        TaskPoll::Ready(Ok(answer)) => Some(answer),
+        TaskPoll::Ready(Err(_)) => Some(0),
+        TaskPoll::Pending | TaskPoll::NoMemory => None,
+    })
+}
+
+// Each task awaits the next one, and the last answers 1: what the first answers.
+fn run_chain<R: Wait + Drop + Copy>(rt: R, alloc: Global) -> Result<Option<u64>, AllocError> {
+    let line = Line::new(rt, alloc, CHAIN)?;
+    for number in 0..CHAIN {
+        let errand = if number + 1 < CHAIN {
+            Errand::Await(number + 1)
+        } else {
+            Errand::GiveWay(1)
+        };
+        let task = line.spawn(number, errand).ok_or(AllocError)?;
+        line.keep_task(number, task);
+    }
+    line.run();
+    answer_of(&line, rt, alloc, 0)
+}
+
+#[test]
+fn a_chain_of_tasks_that_await_one_another(rt: HostRuntime) {
+    let answer = run_chain(rt, rt.alloc());
+    assert_eq!(rt; answer, Ok(Some(1000)));
+}
+
+// Two tasks that await each other, of which the first is then cancelled: the answers before the cancel, and that of the second after it.
+fn run_ring<R: Wait + Drop + Copy>(rt: R, alloc: Global) -> Result<[bool; 2], AllocError> {
+    let line = Line::new(rt, alloc, 2)?;
+    for number in 0..2usize {
+        let task = line.spawn(number, Errand::Await(1 - number)).ok_or(AllocError)?;
+        line.keep_task(number, task);
+    }
+    line.run();
+    let first = line.take_task(0).ok_or(AllocError)?;
+    let mut second = line.take_task(1).ok_or(AllocError)?;
+    let pending = !second.is_finished();
+    drop(first);
+    line.run();
+    Ok([pending, second.is_finished()])
+}
+
+#[test]
+fn a_ring_of_two_ends_by_a_cancel(rt: HostRuntime) {
+    let ends = run_ring(rt, rt.alloc());
+    assert_eq!(rt; ends, Ok([true, true]));
+}

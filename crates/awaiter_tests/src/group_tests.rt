@@ -1,0 +1,97 @@
+//! Groups: the order in which members come out, a group that is full, and the ways to let all go.
+use crate::line::{Errand, Line, Member, ToLine};
+use std::alloc::{AllocError, Global};
+use std::sync::Wait;
+use task_group::TaskGroup;
+
+type LineGroup<'x, R> = TaskGroup<R, Member, ToLine, (), &'x Line<R>>;
+
+// The number and the answer of the next member: `None` where there is none, or where it has none.
+fn next_of<R: Wait + Drop + Copy>(group: &mut LineGroup<'_, R>) -> Option<(usize, u64)> {
+    let ended = group.next().ok()??;
+    Some((ended.number, ended.answer.ok()?))
+}
+
+// Pushes a task to a group: whether there was room.
+fn push<'x, R: Wait + Drop + Copy>(
+    line: &'x Line<R>,
+    group: &mut LineGroup<'x, R>,
+    errand: Errand,
+) -> Result<bool, AllocError> {
+    let task = line.spawn(0, errand).ok_or(AllocError)?;
+    Ok(group.push(task).is_ok())
+}
+
+// Three tasks, of which the first ends last: how they come out, and what comes after them.
+fn in_order<R: Wait + Drop + Copy>(
+    rt: R,
+    alloc: Global,
+) -> Result<[Option<(usize, u64)>; 4], AllocError> {
+    let line = Line::new(rt, alloc, 1)?;
+    let mut group: LineGroup<'_, R> = TaskGroup::new(rt, alloc, 3)?;
+    push(&line, &mut group, Errand::GiveWay(10))?;
+    push(&line, &mut group, Errand::Answer(11))?;
+    push(&line, &mut group, Errand::Answer(12))?;
+    line.run();
+    Ok([
+        next_of(&mut group),
+        next_of(&mut group),
+        next_of(&mut group),
+        next_of(&mut group),
+    ])
+}
+
+#[test]
+fn members_come_out_in_the_order_in_which_they_end(rt: HostRuntime) {
+    let seen = in_order(rt, rt.alloc());
+    assert_eq!(rt; seen, Ok([Some((1, 11)), Some((2, 12)), Some((0, 10)), None]));
+}
+
+// How a group lets its tasks go.
+#[derive(Clone, Copy, Debug, PartialEq, Eq)]
+enum LetGo {
+    Abort,
+    Detach,
+    Drop,
+}
+
+fn drop_group<R: Wait + Drop + Copy>(group: LineGroup<'_, R>) {
+    drop(group);
+}
+
+// Fills a group with tasks, pushes one more, and lets all go: whether that one was refused, whether the group was empty then,
+// and whether any of the tasks answered when they were run.
+fn let_go<R: Wait + Drop + Copy>(
+    rt: R,
+    alloc: Global,
+    how: LetGo,
+) -> Result<[bool; 3], AllocError> {
+    let line = Line::new(rt, alloc, 1)?;
+    let mut group: LineGroup<'_, R> = TaskGroup::new(rt, alloc, 2)?;
+    for _ in 0..64u64 {
+        if !group.is_full() {
+            push(&line, &mut group, Errand::GiveWay(20))?;
+        }
+    }
+    let refused = !push(&line, &mut group, Errand::Stay)?;
+    match how {
+        LetGo::Abort => group.abort_all(),
+        LetGo::Detach => group.detach_all(),
+        LetGo::Drop => {}
+    }
+    let emptied = group.is_empty();
+    drop_group(group);
+    line.run();
+    Ok([refused, emptied, line.answered() > 0])
+}
+
+#[test]
+fn an_abort_and_a_drop_cancel_what_a_detach_lets_go_on(rt: HostRuntime) {
+    let aborted = let_go(rt, rt.alloc(), LetGo::Abort);
+    let detached = let_go(rt, rt.alloc(), LetGo::Detach);
+    let dropped = let_go(rt, rt.alloc(), LetGo::Drop);
+    assert_eq!(rt;
+        (aborted, detached, dropped),
+        (Ok([true, true, false]), Ok([true, true, true]), Ok([true, false, false]))
+    );
+}

@@ -1,0 +1,111 @@
+//! The mailbox that threads share, and the awaiter that posts to it.
+ghost use Rattle.std.specs.Prelude.{⊤, ◌≡◌, false, IfSome};
+ghost use Rattle.std.specs.Arc.{arc_value};
+
+use crate::numbers::Numbers;
+use async_task::Wake;
+use std::alloc::{AllocError, Global};
+use std::sync::{Arc, Condvar, Mutex, Wait};
+
+/// A mailbox of numbers: any thread posts, and any thread takes them or waits for one.
+#[derive(Drop)]
+pub struct Mailbox<R: Wait + Drop + Copy> {
+    rt: R,
+    numbers: Mutex<Numbers>,
+    posted: Condvar,
+}
+
+impl<R: Wait + Drop + Copy> Mailbox<R> {
+    /// An empty mailbox for the numbers below `room`. All its memory is taken here.
+    ///
+    /// `rt` is what its calls wait by, `alloc` where the memory comes from. An `Err` says that memory was refused; nothing stays allocated then.
+    pub fn new(rt: R, alloc: Global, room: usize) -> Result<Arc<Mailbox<R>>, AllocError> {
+        let numbers = Mutex::new(Numbers::new(alloc, room)?);
+        let mailbox = Mailbox {
+            rt,
+            numbers,
+            posted: Condvar::new(),
+        };
+        Ok(Arc::new(alloc, mailbox)?)
+    }
+
+    /// Posts a number, and wakes a thread that waits for one. It needs no memory. A number that waits already stays where it is.
+    ///
+    /// False says that the number is not below the room; nothing has changed then.
+    pub fn post(&self, number: usize) -> bool {
+        let mut numbers = self.numbers.lock(&self.rt);
+        if number >= numbers.room() {
+            return false;
+        }
+        let joined = numbers.post(number);
+        drop(numbers);
+        if joined {
+            self.posted.notify_one();
+        }
+        true
+    }
+
+    /// Takes out the number that has waited longest; `None` where none waits.
+    pub fn take(&self) -> Option<usize> {
+        self.numbers.lock(&self.rt).take()
+    }
+
+    /// Takes out the number that has waited longest, and sleeps until there is one.
+    pub fn wait(&self) -> usize {
+        let mut numbers = self.numbers.lock(&self.rt);
+        for _ in self.rt.forever() {
+            if let Some(number) = numbers.take() {
+                return number;
+            }
+            numbers = self.posted.wait(&self.rt, numbers);
+        }
+        unreachable!()
+    }
+}
+
+/// An awaiter whose wake posts its number to a mailbox.
+#[derive(Drop)]
+pub struct Awaiter<R: Wait + Drop + Copy> {
+    mailbox: Arc<Mailbox<R>>,
+    number: usize,
+}
+
+impl<R: Wait + Drop + Copy> Awaiter<R> {
+    /// An awaiter that posts `number` to `mailbox`, for a number below the room of the mailbox: a post of another number does nothing.
+    ///
+    /// It asks for no memory. `None` says that the mailbox has as many owners as can be counted.
+    pub fn new(mailbox: &Arc<Mailbox<R>>, number: usize) -> Option<Awaiter<R>>
+        ensures mailbox { IfSome result (λ awaiter. arc_value awaiter.mailbox ≡ arc_value mailbox.now) }
+        ensures number { IfSome result (λ awaiter. awaiter.number ≡ number) }
+    {
+        let mailbox = Arc::try_clone(mailbox).ok()?;
+        Some(Awaiter { mailbox, number })
+    }
+}
+
+impl<R: Wait + Drop + Copy> Wake for Awaiter<R> {
+    ghost woken = { λ _. ⊤ };
+
+    ghost woken_by_ref = { λ _. ⊤ };
+
+    ghost cloned = { λ awaiter clone. IfSome clone (λ other. (arc_value other.mailbox ≡ arc_value awaiter.mailbox) × (other.number ≡ awaiter.number)) };
+
+    ghost compared = { λ _ _ answer. answer ≡ false };
+
+    fn wake(self) {
+        self.mailbox.post(self.number);
+    }
+
+    fn wake_by_ref(&self) {
+        self.mailbox.post(self.number);
+    }
+
+    fn try_clone(&self) -> Option<Awaiter<R>> {
+        Awaiter::new(&self.mailbox, self.number)
+    }
+
+    // Two shares of a mailbox cannot be told to be of one: a wake too many posts a number once more.
+    fn will_wake(&self, _other: &Awaiter<R>) -> bool {
+        false
+    }
+}

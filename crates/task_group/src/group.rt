@@ -1,0 +1,245 @@
+//! The group: its members by number, and the mailbox that their awaiters post to.
+ghost use Rattle.std.specs.Prelude.{◌≡◌, ◌↔◌, ◌≤◌, true, IsTrue, IsErr, IfOk, IfErr, OnErr, OnOk};
+ghost use Rattle.slab.specs.Slab.{slab_len};
+ghost use Rattle.task_group.specs.Members.{Joins, Leaves, SameMembers, IfNext, is_over};
+
+use crate::ended::Ended;
+use async_task::{Runnable, Schedule, Task, TaskPoll, Yields};
+use awaiters::{Awaiter, Mailbox};
+use slab::Slab;
+use std::alloc::{AllocError, Allocator, Global};
+use std::sync::{Arc, Wait};
+
+/// A poll of a member was refused its awaiter. The member is still in the group, and is looked at again by the next call of `next`.
+#[derive(Clone, Copy, Debug, PartialEq, Eq)]
+pub struct AwaiterRefused;
+
+// A member: its Task, or the answer that the Task gave as it was pushed.
+#[derive(Drop)]
+enum Member<R: Wait + Drop + Copy, F: Yields, Q: Drop, M: Drop, X: Copy, B: Allocator>
+where
+    Q: Schedule<Runnable<R, F, Q, M, Awaiter<R>, X, B>>,
+{
+    Runs(Task<R, F, Q, M, Awaiter<R>, X, B>),
+    HasEnded(Ended<F>),
+}
+
+// A member that has not ended, and whether its poll was refused its awaiter.
+#[derive(Drop)]
+struct Stays<R: Wait + Drop + Copy, F: Yields, Q: Drop, M: Drop, X: Copy, B: Allocator>
+where
+    Q: Schedule<Runnable<R, F, Q, M, Awaiter<R>, X, B>>,
+{
+    member: Member<R, F, Q, M, X, B>,
+    refused: bool,
+}
+
+/// Tasks, each under a number, with room for a fixed number of them. Dropped, it cancels those that are left.
+#[derive(Drop)]
+pub struct TaskGroup<
+    R: Wait + Drop + Copy,
+    F: Yields,
+    Q: Drop,
+    M: Drop,
+    X: Copy,
+    B: Allocator = Global,
+>
+where
+    Q: Schedule<Runnable<R, F, Q, M, Awaiter<R>, X, B>>,
+{
+    rt: R,
+    mailbox: Arc<Mailbox<R>>,
+    members: Slab<Member<R, F, Q, M, X, B>>,
+}
+
+impl<R: Wait + Drop + Copy, F: Yields, Q: Drop, M: Drop, X: Copy, B: Allocator> TaskGroup<
+    R,
+    F,
+    Q,
+    M,
+    X,
+    B,
+>
+where
+    Q: Schedule<Runnable<R, F, Q, M, Awaiter<R>, X, B>>,
+{
+    /// An empty group with room for `room` tasks at a time, or a few more. All its memory is taken here.
+    ///
+    /// `rt` is what `next` waits by, `alloc` where the memory comes from. An `Err` says that memory was refused; nothing stays allocated then.
+    pub fn new(
+        rt: R,
+        alloc: Global,
+        room: usize,
+    ) -> Result<TaskGroup<R, F, Q, M, X, B>, AllocError>
+        ensures empty { IfOk result (λ group. slab_len group.members ≡ 0) }
+        ensures room { IfOk result (λ group. room ≤ group.members.capacity) }
+    {
+        let members = Slab::with_capacity(alloc, room)?;
+        let mailbox = Mailbox::new(rt, alloc, members.capacity())?;
+        Ok(TaskGroup {
+            rt,
+            mailbox,
+            members,
+        })
+    }
+
+    /// How many tasks are in the group.
+    pub fn len(&self) -> usize
+        ensures { result ≡ slab_len self.now.members }
+    {
+        self.members.len()
+    }
+
+    /// Whether the group is empty.
+    pub fn is_empty(&self) -> bool
+        ensures { IsTrue result ↔ (slab_len self.now.members ≡ 0) }
+    {
+        self.members.is_empty()
+    }
+
+    /// Whether the group has no room for one more task.
+    pub fn is_full(&self) -> bool
+        ensures full { IsTrue result ↔ (slab_len self.now.members ≡ self.now.members.capacity) }
+        ensures fits { slab_len self.now.members ≤ self.now.members.capacity }
+    {
+        self.members.len() == self.members.capacity()
+    }
+
+    /// Puts a Task in, under a number that no other member has, and polls it once. It asks for no memory.
+    ///
+    /// The task is scheduled by whoever spawned it. An `Err` hands the Task back: the group is full, and has not changed.
+    pub fn push(
+        &mut self,
+        task: Task<R, F, Q, M, Awaiter<R>, X, B>,
+    ) -> Result<usize, Task<R, F, Q, M, Awaiter<R>, X, B>>
+        ensures full { IsErr result ↔ (slab_len self.old.members ≡ self.old.members.capacity) }
+        ensures returned { IfErr result (λ refused. refused ≡ task) }
+        ensures unchanged { OnErr result (self.new ≡ self.old) }
+        ensures joins { IfOk result (λ number. Joins self.old.members self.new.members number) }
+        ensures room { self.new.members.capacity ≡ self.old.members.capacity }
+    {
+        if self.is_full() {
+            return Err(task);
+        }
+        let number = self.members.vacant_key();
+        let member = self.first_look(number, task);
+        Ok(self.members.insert_reserved(member))
+    }
+
+    /// Waits for the next member that ends, and takes it out of the group. `None` where the group is empty.
+    ///
+    /// Members come out in the order in which their tasks ended. An `Err` says that the poll of a member was refused its awaiter:
+    /// the group is as it was, and the next call polls that member again.
+    pub fn next(&mut self) -> Result<Option<Ended<F>>, AwaiterRefused>
+        ensures over { is_over result ≡ true → slab_len self.old.members ≡ 0 }
+        ensures empty { slab_len self.old.members ≡ 0 → is_over result ≡ true }
+        ensures leaves { IfNext result (λ ended. Leaves self.old.members self.new.members ended.number) }
+        ensures refused { OnErr result (SameMembers self.old.members self.new.members) }
+        ensures room { self.new.members.capacity ≡ self.old.members.capacity }
+    {
+        let rt = self.rt;
+        for _ in rt.forever() {
+            if self.members.is_empty() {
+                return Ok(None);
+            }
+            let number = self.mailbox.wait();
+            match self.look(number) {
+                Ok(ended) => return Ok(Some(ended)),
+                Err(refused) => {
+                    if refused {
+                        return Err(AwaiterRefused);
+                    }
+                }
+            }
+        }
+        unreachable!()
+    }
+
+    // Polls the member of this number, if there is one. An `Err` says whether the poll was refused its awaiter.
+    fn look(&mut self, number: usize) -> Result<Ended<F>, bool>
+        ensures leaves { IfOk result (λ ended. Leaves self.old.members self.new.members ended.number) }
+        ensures stays { OnErr result (SameMembers self.old.members self.new.members) }
+        ensures len { OnErr result (slab_len self.new.members ≡ slab_len self.old.members) }
+        ensures room { self.new.members.capacity ≡ self.old.members.capacity }
+    {
+        let Some(member) = self.members.try_remove(number) else {
+            return Err(false);
+        };
+        let polled = self.poll_member(number, member);
+        match polled {
+            Ok(ended) => Ok(ended),
+            Err(stays) => {
+                let Stays { member, refused } = stays;
+                self.members.insert_reserved(member);
+                Err(refused)
+            }
+        }
+    }
+
+    // Polls a member of this number. Where the poll is refused its awaiter, the number is posted, so that `next` polls the member again.
+    fn poll_member(
+        &self,
+        number: usize,
+        member: Member<R, F, Q, M, X, B>,
+    ) -> Result<Ended<F>, Stays<R, F, Q, M, X, B>>
+        ensures { IfOk result (λ ended. ended.number ≡ number) }
+    {
+        let mut task = match member {
+            Member::Runs(task) => task,
+            Member::HasEnded(ended) => return Ok(ended.numbered(number)),
+        };
+        let polled = match Awaiter::new(&self.mailbox, number) {
+            Some(awaiter) => task.poll(&awaiter),
+            None => TaskPoll::NoMemory,
+        };
+        let refused = match polled {
+            TaskPoll::Ready(answer) => return Ok(Ended { number, answer }),
+            TaskPoll::Pending => false,
+            TaskPoll::NoMemory => {
+                self.mailbox.post(number);
+                true
+            }
+        };
+        let member = Member::Runs(task);
+        Err(Stays { member, refused })
+    }
+
+    // The member that a task becomes under this number, once polled.
+    fn first_look(
+        &self,
+        number: usize,
+        task: Task<R, F, Q, M, Awaiter<R>, X, B>,
+    ) -> Member<R, F, Q, M, X, B> {
+        match self.poll_member(number, Member::Runs(task)) {
+            Ok(ended) => {
+                self.mailbox.post(number);
+                Member::HasEnded(ended)
+            }
+            Err(stays) => {
+                let Stays { member, refused: _ } = stays;
+                member
+            }
+        }
+    }
+
+    /// Takes all members out and drops their Tasks, which cancels those that have not ended.
+    pub fn abort_all(&mut self)
+        ensures empty { slab_len self.new.members ≡ 0 }
+        ensures room { self.new.members.capacity ≡ self.old.members.capacity }
+    {
+        self.members.clear();
+    }
+
+    /// Takes all members out and lets their tasks go on. An output that nobody took is dropped.
+    pub fn detach_all(&mut self)
+        ensures empty { slab_len self.new.members ≡ 0 }
+        ensures room { self.new.members.capacity ≡ self.old.members.capacity }
+    {
+        for number in 0..self.members.capacity() {
+            if let Some(Member::Runs(task)) = self.members.try_remove(number) {
+                task.detach();
+            }
+        }
+        self.members.clear();
+    }
+}
