@@ -164,3 +164,7 @@ zeros-more [] zeros zero = refl
 zeros-more [] zeros (suc i) = refl
 zeros-more (x ∷ xs) zeros zero = zeros 0
 zeros-more (x ∷ xs) zeros (suc i) = zeros-more xs (λ k. zeros (suc k)) i
+
+-- an item more at the end of a list, of each of which P holds
+pub each-more : {A : Type 0} (P : A → Type 0) (old new : List A) (x : A) → new ≡ old ++ x ∷ [] → ((i : ℕ) (a : A) → get_elem? old i ≡ some a → P a) → P x → (i : ℕ) (a : A) → get_elem? new i ≡ some a → P a
+each-more {A} P old new x is each last i a at = ⊎_elim (λ e. each i a e) (λ e. subst P e last) (at_snoc old x a i (ap (λ (l : List A). get_elem? l i) (sym is) ∙ at))

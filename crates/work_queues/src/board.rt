@@ -4,9 +4,8 @@ ghost use Rattle.std.specs.VecDeque.{deque_len, deque_capacity};
 ghost use mathlib.Core.Option.{some};
 ghost use lib.ListN.{get_elem?};
 ghost use Rattle.work_queues.specs.Board.{HasQueue, Changes};
-ghost use Rattle.work_queues.specs.Sleep.{IsAsleep};
 
-use crate::rule::{Enter, LieDown, Lock, LookAtQueue, LookAtWorker, Order, Rouse, Unlock};
+use crate::rule::{Enter, Lock, LookAtWorker, Order, Rouse, Unlock};
 use crate::moving::shift;
 use atomic_table::{Refused, Seat, Table};
 use std::alloc::{AllocError, AllocFailed, Global};
@@ -21,32 +20,33 @@ const EMPTY: u64 = 0;
 
 const LOCKED: u64 = 1;
 
-const FILLED: u64 = 2;
+pub(crate) const FILLED: u64 = 2;
 
-const AWAKE: u64 = 0;
+pub(crate) const AWAKE: u64 = 0;
 
-const ASLEEP: u64 = 1;
+pub(crate) const ASLEEP: u64 = 1;
 
 // What a thread does at the board. It has no `Drop`, so it ends in `leave`, which asks that no look is owed.
-struct Visit<T> {
-    seat: Seat<VecDeque<T>, u64>,
-}
-
-/// A worker that has lain down. It has no `Drop`, so it ends in `Board::get_up`.
-pub struct Sleeper<T> {
-    visit: Visit<T>,
-    worker: usize,
+pub(crate) struct Visit<T> {
+    pub(crate) seat: Seat<VecDeque<T>, u64>,
 }
 
 /// A queue for each worker, one more for what comes from outside, and a word for each worker that says whether it sleeps. The items are dropped with it.
 #[derive(Drop)]
 pub struct Board<T> {
-    table: Table<VecDeque<T>, u64, usize, Order, Global>,
-    workers: usize,
+    pub(crate) table: Table<VecDeque<T>, u64, usize, Order, Global>,
+    pub(crate) workers: usize,
     ghost sized: { (table.shared.table_id.words ≡ workers + 1 + workers) × (table.shared.table_id.slots ≡ workers + 1) × (table.shared.key ≡ workers) × (0 < workers) × (workers ≤ 1024) },
 }
 
-fn leave<T>(visit: Visit<T>)
+// What the word of a queue shows of it.
+fn shown<T>(queue: &VecDeque<T>) -> u64
+    ensures { result ≡ 0 → queue.now.items ≡ [] }
+{
+    if queue.is_empty() { EMPTY } else { FILLED }
+}
+
+pub(crate) fn leave<T>(visit: Visit<T>)
     requires { visit.seat.me.0 ≡ 0 }
 {
     let Visit { seat } = visit;
@@ -198,7 +198,7 @@ impl<T> Board<T> {
         None
     }
 
-    fn visit(&self) -> Visit<T>
+    pub(crate) fn visit(&self) -> Visit<T>
         ensures { (result.seat.table_id ≡ self.now.table.shared.table_id) × (result.seat.me.0 ≡ 0) }
     {
         let seat = self.table.shared.load_new_seat::<Enter>(0).1;
@@ -239,10 +239,9 @@ impl<T> Board<T> {
         ensures empty { result.1 ≡ false → result.0.seat.me.0 ≡ 0 }
     {
         let Visit { mut seat } = visit;
-        let is_empty = seat.slot_mut(&self.table.shared, queue).is_empty();
-        let shown = if is_empty { EMPTY } else { FILLED };
+        let shown = shown(seat.slot_mut(&self.table.shared, queue));
         self.table.shared.store::<Unlock>(&mut seat, queue, shown);
-        (Visit { seat }, !is_empty)
+        (Visit { seat }, shown != EMPTY)
     }
 
     // Looks for a worker that sleeps, and makes it awake. It answers which.
@@ -271,47 +270,5 @@ impl<T> Board<T> {
             return false;
         }
         shared.swap::<Rouse>(&mut visit.seat, word, AWAKE) == ASLEEP
-    }
-
-    /// The worker counts as asleep from here on, and owes a look at each queue before it may sleep: `has_items`.
-    pub fn lie_down(&self, worker: usize) -> Sleeper<T>
-        requires { worker < self.now.workers }
-        ensures { IsAsleep self.now result × (result.visit.seat.me.0 ≡ self.now.workers + 1) }
-    {
-        let mut visit = self.visit();
-        self.table.shared.swap::<LieDown>(&mut visit.seat, self.workers + 1 + worker, ASLEEP);
-        Sleeper { visit, worker }
-    }
-
-    /// Looks at each queue, until one has items.
-    pub fn has_items(&self, sleeper: &mut Sleeper<T>) -> bool
-        requires { IsAsleep self.now sleeper.old × (sleeper.old.visit.seat.me.0 ≡ self.now.workers + 1) }
-        ensures same { IsAsleep self.now sleeper.new }
-        ensures none { result ≡ false → sleeper.new.visit.seat.me.0 ≡ 0 }
-    {
-        let mut left = self.workers + 1;
-        while left > 0 {
-            if self.table.shared.load::<LookAtQueue>(&mut sleeper.visit.seat, left - 1) == FILLED {
-                return true;
-            }
-            left -= 1;
-        }
-        false
-    }
-
-    /// Whether nobody has woken the worker since it lay down. Only a worker that owes no look may ask, and then sleep.
-    pub fn may_sleep(&self, sleeper: &Sleeper<T>) -> bool
-        requires { IsAsleep self.now sleeper.now × (sleeper.now.visit.seat.me.0 ≡ 0) }
-    {
-        self.table.shared.peek(self.workers + 1 + sleeper.worker) == ASLEEP
-    }
-
-    /// Ends the sleep: the worker is awake.
-    pub fn get_up(&self, sleeper: Sleeper<T>)
-        requires { IsAsleep self.now sleeper }
-    {
-        let Sleeper { mut visit, worker } = sleeper;
-        self.table.shared.swap::<Rouse>(&mut visit.seat, self.workers + 1 + worker, AWAKE);
-        leave(visit);
     }
 }

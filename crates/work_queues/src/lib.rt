@@ -8,6 +8,8 @@
 pub mod board;
 pub mod moving;
 pub mod rule;
+pub mod sleeping;
 
-pub use board::{Board, Sleeper};
+pub use board::Board;
 pub use moving::shift;
+pub use sleeping::Sleeper;
