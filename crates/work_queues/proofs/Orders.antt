@@ -60,7 +60,7 @@ module _ {S : Type 0} (IsEmpty : S → Type 0) (n : ℕ) where
         stored = length-set s.homes i h ∙ o.stored;
         home = λ r le free. dite (ℕ_discrete r i)
             (λ e. subst (λ (y : ℕ). Stands IsEmpty (set s.homes i h) y (get_or (set s.words i k) y 0)) (sym e)
-                (subst (λ (y : ℕ). Stands IsEmpty (set s.homes i h) i y) (sym it) (here (λ one. free (ap (λ (y : ℕ). get_or (set s.words i k) y 0) e ∙ (it ∙ one))))))
+            (subst (λ (y : ℕ). Stands IsEmpty (set s.homes i h) i y) (sym it) (here (λ one. free (ap (λ (y : ℕ). get_or (set s.words i k) y 0) e ∙ (it ∙ one))))))
             (λ ne. let t = o.home r le (λ one. free (same r ne ∙ one)) in (t.0, set_else s.homes i r h ne ∙ t.1, λ none-there. t.2 (sym (same r ne) ∙ none-there)));
         watched = λ r le shows. dite (ℕ_discrete r i)
             (λ e. inr (id, w, reaches s.views id v w me, subst (λ (y : ℕ). y < w) (sym e) (owed (sym it ∙ (ap (λ (y : ℕ). get_or (set s.words i k) y 0) (sym e) ∙ shows)))))
@@ -90,7 +90,7 @@ module _ {S : Type 0} (IsEmpty : S → Type 0) (n : ℕ) where
       let long = o.sized in
       let found : ℕ = get_or s.words x 0 in dite (ℕ_discrete found 0)
       (λ e. let awake : IsAwake n (set s.words x found) = (j, near, ap (λ (y : ℕ). get_or (set s.words x found) y 0) (sym is) ∙ (get_or-set_same s.words x found 0 (omega arith) ∙ e)) in
-          (0, keeps, tt, at_worker s o x found (set s.views id 0) (omega arith) (λ i le shows. inl awake), ((λ _. refl), λ ne. absurd (ne e))))
+      (0, keeps, tt, at_worker s o x found (set s.views id 0) (omega arith) (λ i le shows. inl awake), ((λ _. refl), λ ne. absurd (ne e))))
       (λ ne. (me.0, keeps, tt, unmoved s o x id me.0 at, ((λ e. absurd (ne e)), λ _. refl)))
 
   pub lies_down : (slots id : ℕ) (me : Me S ℕ) (x j : ℕ) → x ≡ n + 1 + j → Allows (Orderly IsEmpty n) slots id me x (λ _. 1) (LiesDown (step slots x 1 0 none) me)

@@ -5,8 +5,8 @@ ghost use mathlib.Core.Option.{some};
 ghost use lib.ListN.{get_elem?};
 ghost use Rattle.work_queues.specs.Board.{HasQueue, Changes};
 
-use crate::rule::{Enter, Lock, LookAtWorker, Order, Rouse, Unlock};
 use crate::moving::shift;
+use crate::rule::{Enter, Lock, LookAtWorker, Order, Rouse, Unlock};
 use atomic_table::{Refused, Seat, Table};
 use std::alloc::{AllocError, AllocFailed, Global};
 use std::collections::VecDeque;
@@ -212,7 +212,9 @@ impl<T> Board<T> {
     {
         let shared = &self.table.shared;
         let (seen, mut seat) = shared.load_new_seat::<Enter>(queue);
-        if seen != LOCKED && shared.compare_exchange::<Lock>(&mut seat, queue, seen, LOCKED) == seen {
+        if seen != LOCKED
+            && shared.compare_exchange::<Lock>(&mut seat, queue, seen, LOCKED) == seen
+        {
             return Some(Visit { seat });
         }
         None

@@ -18,7 +18,9 @@ impl<T> Board<T> {
         ensures { IsAsleep self.now result × (result.visit.seat.me.0 ≡ self.now.workers + 1) }
     {
         let mut visit = self.visit();
-        self.table.shared.swap::<LieDown>(&mut visit.seat, self.workers + 1 + worker, ASLEEP);
+        self.table
+            .shared
+            .swap::<LieDown>(&mut visit.seat, self.workers + 1 + worker, ASLEEP);
         Sleeper { visit, worker }
     }
 
@@ -30,7 +32,12 @@ impl<T> Board<T> {
     {
         let mut left = self.workers + 1;
         while left > 0 {
-            if self.table.shared.load::<LookAtQueue>(&mut sleeper.visit.seat, left - 1) == FILLED {
+            if self
+                .table
+                .shared
+                .load::<LookAtQueue>(&mut sleeper.visit.seat, left - 1)
+                == FILLED
+            {
                 return true;
             }
             left -= 1;
@@ -50,7 +57,9 @@ impl<T> Board<T> {
         requires { IsAsleep self.now sleeper }
     {
         let Sleeper { mut visit, worker } = sleeper;
-        self.table.shared.swap::<Rouse>(&mut visit.seat, self.workers + 1 + worker, AWAKE);
+        self.table
+            .shared
+            .swap::<Rouse>(&mut visit.seat, self.workers + 1 + worker, AWAKE);
         leave(visit);
     }
 }
