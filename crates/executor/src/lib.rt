@@ -6,5 +6,7 @@
 #![tactic(auto)]
 
 pub mod pool;
+#[cfg(test)]
+mod tests;
 
-pub use pool::{Place, Pool, PoolRunnable, PoolTask, PoolWaker, SpawnError, ToPool, Turns};
+pub use pool::{Place, Pool, PoolRunnable, PoolTask, PoolWaker, ToPool, Turns};

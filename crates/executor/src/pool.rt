@@ -4,9 +4,9 @@ ghost use Rattle.std.specs.Prelude.{⊤};
 use async_task::{Future, Runnable, Schedule, ScheduleInfo, Task, TaskWaker, Wake, Yields, spawn};
 use std::alloc::{AllocError, Global};
 use std::sync::atomic::{AtomicBool, Ordering};
-use std::sync::{Arc, Wait};
+use std::sync::Wait;
 use std::thread::{self, Threads};
-use work_queues::{Bells, Crew, Worker};
+use work_queues::{Crew, Worker};
 
 /// How many Runnables each queue has room for, before it asks for more memory.
 const ROOM: usize = 64;
@@ -45,13 +45,6 @@ pub struct Turns<R: Wait + Drop + Copy, F: Yields, A: Wake> {
 #[derive(Drop)]
 pub struct ToPool;
 
-/// Why a future was not spawned. It has the future back.
-#[derive(Drop)]
-pub struct SpawnError<F> {
-    /// The future that was given.
-    pub future: F,
-}
-
 // The Runnable as it carries another place. All changes of surroundings are made here.
 fn queued<R: Wait + Drop + Copy, F: Yields, A: Wake>(runnable: PoolRunnable<'_, R, F, A>) -> Queued<R, F, A> {
     runnable.park().unpark(())
@@ -75,5 +68,115 @@ impl<'x, R: Wait + Drop + Copy, F: Yields, A: Wake> Schedule<PoolRunnable<'x, R,
             return;
         }
         drop(pool.crew.push(&pool.rt, worker, queued(runnable)));
+    }
+}
+
+impl<R: Wait + Drop + Copy, F: Yields, A: Wake> Pool<R, F, A> {
+    /// A pool of so many workers, at least one and at most `work_queues::board::MOST_WORKERS`. Its workers do not run yet. `rt` is what its threads wait by, `alloc` where all memory comes from. An error says that there was no memory.
+    pub fn new(rt: R, alloc: Global, workers: usize) -> Result<Pool<R, F, A>, AllocError> {
+        Ok(Pool {
+            rt,
+            alloc,
+            crew: Crew::new(alloc, workers, ROOM)?,
+            stopped: AtomicBool::new(false),
+        })
+    }
+
+    /// How many workers it has.
+    pub fn workers(&self) -> usize {
+        self.crew.workers()
+    }
+
+    /// What a thread needs to be the worker of this number. An error says that there was no memory, or that there is no such worker. Two threads may not be one worker: both would sleep where one is woken.
+    pub fn turns(&self, worker: usize) -> Result<Turns<R, F, A>, AllocError> {
+        let worker = self.crew.worker(self.alloc, worker)?;
+        Ok(Turns { worker })
+    }
+
+    /// Spawns a task from a thread that is no worker, and schedules it. `Err` has the future back, where there was no memory for the task.
+    pub fn spawn(&self, future: F) -> Result<PoolTask<'_, R, F, A>, F> {
+        self.spawn_on(self.crew.workers(), future)
+    }
+
+    /// Spawns a task at the queue of a worker, as that which polls the spawning future: `waker.around().1`.
+    pub fn spawn_on(&self, worker: usize, future: F) -> Result<PoolTask<'_, R, F, A>, F> {
+        match spawn(self.rt, self.alloc, future, ToPool, (self, worker)) {
+            Ok((runnable, task)) => {
+                runnable.schedule();
+                Ok(task)
+            }
+            Err(refused) => Err(refused.maker),
+        }
+    }
+
+    /// Ends the pool: each worker ends after the turn that it has, and Runnables are dropped from here on, which cancels their tasks.
+    pub fn shutdown(&self) {
+        self.stopped.store(true, Ordering::SeqCst);
+        self.crew.bells().interrupt_all();
+    }
+
+    /// Whether the pool was shut down.
+    pub fn is_shut_down(&self) -> bool {
+        self.stopped.load(Ordering::SeqCst)
+    }
+
+    /// Runs one task, if there is one for this worker: its own, one that came from outside, or one of another worker. It answers whether there was one.
+    pub fn tick<'x>(&'x self, turns: &mut Turns<R, F, A>) -> bool
+    where
+        F: Future<PoolWaker<'x, R, F, A>>,
+    {
+        match self.crew.find(&self.rt, &mut turns.worker) {
+            Some(runnable) => {
+                placed(runnable, (self, turns.worker.number())).run();
+                true
+            }
+            None => false,
+        }
+    }
+
+    /// Is a worker until the pool is shut down, and sleeps where there is nothing to do. After it no Runnable is left that this worker can find.
+    pub fn work<'x>(&'x self, turns: &mut Turns<R, F, A>)
+    where
+        F: Future<PoolWaker<'x, R, F, A>>,
+    {
+        for _ in self.rt.forever() {
+            let interruptions = self.crew.bells().interruptions();
+            if self.is_shut_down() {
+                return self.cancel_all(turns);
+            }
+            if !self.tick(turns) {
+                self.crew.rest(&self.rt, &turns.worker, interruptions);
+            }
+        }
+    }
+
+    fn cancel_all(&self, turns: &mut Turns<R, F, A>) {
+        for _ in self.rt.forever() {
+            match self.crew.find(&self.rt, &mut turns.worker) {
+                Some(runnable) => drop(runnable),
+                None => return,
+            }
+        }
+    }
+}
+
+impl<R: Wait + Threads + Drop + Copy + Send + Sync, F: Yields + Send, A: Wake + Send> Pool<R, F, A> {
+    /// Runs all workers, each on a thread of its own, until the pool is shut down. It answers how many could begin, for want of memory fewer than there are. An error says that there was no memory for any.
+    pub fn run<'x>(&'x self) -> Result<usize, AllocError>
+    where
+        F: Future<PoolWaker<'x, R, F, A>>,
+        F::Output: Send,
+    {
+        let began = thread::map_indices(&self.rt, self.alloc, self.workers(), &|worker| match self.turns(worker) {
+            Ok(mut turns) => {
+                self.work(&mut turns);
+                1
+            }
+            Err(AllocError) => 0,
+        })?;
+        match began.iter().sum() {
+            0 => Err(AllocError),
+            count => Ok(count),
+        }
     }
 }

@@ -1,0 +1,134 @@
+//! Programs of tasks on pools of one, two and four threads.
+ghost use Rattle.std.specs.Prelude.{⊤};
+
+use crate::pool::{Pool, PoolWaker};
+use async_task::{Future, Poll, Wake, Yields};
+use std::alloc::Global;
+use std::sync::Wait;
+use std::sync::atomic::{AtomicU64, Ordering};
+use std::test::Fail;
+use std::thread::Threads;
+
+/// An awaiter that wakes nobody.
+#[derive(Drop)]
+struct Nobody;
+
+impl Wake for Nobody {
+    ghost woken = { λ _. ⊤ };
+
+    ghost woken_by_ref = { λ _. ⊤ };
+
+    ghost cloned = { λ _ _. ⊤ };
+
+    ghost compared = { λ _ _ _. ⊤ };
+
+    fn wake(self) {}
+
+    fn wake_by_ref(&self) {}
+
+    fn try_clone(&self) -> Option<Nobody> {
+        Some(Nobody)
+    }
+
+    fn will_wake(&self, _other: &Nobody) -> bool {
+        true
+    }
+}
+
+/// What the tasks of a program count together, and when it is over.
+#[derive(Drop)]
+struct Counts {
+    done: AtomicU64,
+    wanted: u64,
+}
+
+/// A future that gives way `left` times, spawns two more of `depth` less, counts one, and ends the pool with the last.
+#[derive(Drop)]
+struct Job<'d> {
+    left: u64,
+    depth: u64,
+    counts: &'d Counts,
+}
+
+impl<'d> Yields for Job<'d> {
+    type Output = u64;
+}
+
+impl<'x, 'd, R: Wait + Drop + Copy> Future<PoolWaker<'x, R, Job<'d>, Nobody>> for Job<'d> {
+    ghost polled = { λ _ _ _ _. ⊤ };
+
+    fn poll(&mut self, waker: &PoolWaker<'x, R, Job<'d>, Nobody>) -> Poll<u64> {
+        if self.left > 0 {
+            self.left -= 1;
+            waker.wake_by_ref();
+            return Poll::Pending;
+        }
+        let (pool, worker) = waker.around();
+        if self.depth > 0 {
+            for _ in 0..2 {
+                let child = Job {
+                    left: 1,
+                    depth: self.depth - 1,
+                    counts: self.counts,
+                };
+                if let Ok(task) = pool.spawn_on(worker, child) {
+                    task.detach();
+                }
+            }
+        }
+        let before = self.counts.done.fetch_add(1, Ordering::SeqCst);
+        if before.wrapping_add(1) == self.counts.wanted {
+            pool.shutdown();
+        }
+        Poll::Ready(before)
+    }
+}
+
+// What so many tasks counted, each of which gives way so often and is the root of a tree of tasks.
+fn counted<R>(rt: R, alloc: Global, threads: usize, tasks: u64, left: u64, depth: u64) -> Option<u64>
+where
+    R: Wait + Threads + Drop + Copy + Send + Sync,
+{
+    let counts = Counts {
+        done: AtomicU64::new(0),
+        wanted: tasks.wrapping_mul((2 << (depth % 32)) - 1),
+    };
+    let shared = &counts;
+    let pool: Pool<R, Job<'_>, Nobody> = Pool::new(rt, alloc, threads).ok()?;
+    for _ in 0..tasks {
+        let job = Job {
+            left,
+            depth,
+            counts: shared,
+        };
+        pool.spawn(job).ok()?.detach();
+    }
+    pool.run().ok()?;
+    Some(shared.done.load(Ordering::SeqCst))
+}
+
+#[test]
+fn every_task_ends_on_one_thread(rt: HostRuntime) -> Result<(), Fail> {
+    assert!(rt; counted(rt, rt.alloc(), 1, 100, 3, 0) == Some(100));
+    Ok(())
+}
+
+#[test]
+fn every_task_ends_on_two_threads(rt: HostRuntime) -> Result<(), Fail> {
+    assert!(rt; counted(rt, rt.alloc(), 2, 100, 3, 0) == Some(100));
+    Ok(())
+}
+
+#[test]
+fn every_task_ends_on_four_threads(rt: HostRuntime) -> Result<(), Fail> {
+    assert!(rt; counted(rt, rt.alloc(), 4, 1000, 10, 0) == Some(1000));
+    Ok(())
+}
+
+#[test]
+fn a_task_spawns_tasks(rt: HostRuntime) -> Result<(), Fail> {
+    // A tree of depth 7 has 255 tasks.
+    assert!(rt; counted(rt, rt.alloc(), 1, 1, 0, 7) == Some(255));
+    assert!(rt; counted(rt, rt.alloc(), 4, 4, 2, 7) == Some(1020));
+    Ok(())
+}
