@@ -1,11 +1,10 @@
 //! The pool: spawn, the turns of its workers, and the shutdown.
-ghost use Rattle.std.specs.Prelude.{⊤};
+ghost use Rattle.std.specs.Prelude.{⊤, ◌≡◌, IfOk, IfErr};
 
 use async_task::{Future, Runnable, Schedule, ScheduleInfo, Task, TaskWaker, Wake, Yields, spawn};
 use std::alloc::{AllocError, Global};
-use std::sync::atomic::{AtomicBool, Ordering};
 use std::sync::Wait;
-use std::thread::{self, Threads};
+use std::sync::atomic::{AtomicBool, Ordering};
 use work_queues::{Crew, Worker};
 
 /// How many Runnables each queue has room for, before it asks for more memory.
@@ -46,7 +45,9 @@ pub struct Turns<R: Wait + Drop + Copy, F: Yields, A: Wake> {
 pub struct ToPool;
 
 // The Runnable as it carries another place. All changes of surroundings are made here.
-fn queued<R: Wait + Drop + Copy, F: Yields, A: Wake>(runnable: PoolRunnable<'_, R, F, A>) -> Queued<R, F, A> {
+fn queued<R: Wait + Drop + Copy, F: Yields, A: Wake>(
+    runnable: PoolRunnable<'_, R, F, A>,
+) -> Queued<R, F, A> {
     runnable.park().unpark(())
 }
 
@@ -94,12 +95,17 @@ impl<R: Wait + Drop + Copy, F: Yields, A: Wake> Pool<R, F, A> {
     }
 
     /// Spawns a task from a thread that is no worker, and schedules it. `Err` has the future back, where there was no memory for the task.
-    pub fn spawn(&self, future: F) -> Result<PoolTask<'_, R, F, A>, F> {
+    pub fn spawn(&self, future: F) -> Result<PoolTask<'_, R, F, A>, F>
+        ensures refused { IfErr result (λ back. back ≡ future) }
+    {
         self.spawn_on(self.crew.workers(), future)
     }
 
     /// Spawns a task at the queue of a worker, as that which polls the spawning future: `waker.around().1`.
-    pub fn spawn_on(&self, worker: usize, future: F) -> Result<PoolTask<'_, R, F, A>, F> {
+    pub fn spawn_on(&self, worker: usize, future: F) -> Result<PoolTask<'_, R, F, A>, F>
+        ensures place { IfOk result (λ task. task.around.1 ≡ worker) }
+        ensures refused { IfErr result (λ back. back ≡ future) }
+    {
         match spawn(self.rt, self.alloc, future, ToPool, (self, worker)) {
             Ok((runnable, task)) => {
                 runnable.schedule();
@@ -134,20 +140,23 @@ impl<R: Wait + Drop + Copy, F: Yields, A: Wake> Pool<R, F, A> {
         }
     }
 
-    /// Is a worker until the pool is shut down, and sleeps where there is nothing to do. After it no Runnable is left that this worker can find.
-    pub fn work<'x>(&'x self, turns: &mut Turns<R, F, A>)
+    /// Is the worker of this number until the pool is shut down, and sleeps where there is nothing to do. After it no Runnable is left that this worker can find. An error says that there was no memory to begin, or that there is no such worker.
+    pub fn run<'x>(&'x self, worker: usize) -> Result<(), AllocError>
     where
         F: Future<PoolWaker<'x, R, F, A>>,
     {
+        let mut turns = self.turns(worker)?;
         for _ in self.rt.forever() {
             let interruptions = self.crew.bells().interruptions();
             if self.is_shut_down() {
-                return self.cancel_all(turns);
+                self.cancel_all(&mut turns);
+                break;
             }
-            if !self.tick(turns) {
+            if !self.tick(&mut turns) {
                 self.crew.rest(&self.rt, &turns.worker, interruptions);
             }
         }
+        Ok(())
     }
 
     fn cancel_all(&self, turns: &mut Turns<R, F, A>) {
@@ -156,27 +165,6 @@ impl<R: Wait + Drop + Copy, F: Yields, A: Wake> Pool<R, F, A> {
                 Some(runnable) => drop(runnable),
                 None => return,
             }
-        }
-    }
-}
-
-impl<R: Wait + Threads + Drop + Copy + Send + Sync, F: Yields + Send, A: Wake + Send> Pool<R, F, A> {
-    /// Runs all workers, each on a thread of its own, until the pool is shut down. It answers how many could begin, for want of memory fewer than there are. An error says that there was no memory for any.
-    pub fn run<'x>(&'x self) -> Result<usize, AllocError>
-    where
-        F: Future<PoolWaker<'x, R, F, A>>,
-        F::Output: Send,
-    {
-        let began = thread::map_indices(&self.rt, self.alloc, self.workers(), &|worker| match self.turns(worker) {
-            Ok(mut turns) => {
-                self.work(&mut turns);
-                1
-            }
-            Err(AllocError) => 0,
-        })?;
-        match began.iter().sum() {
-            0 => Err(AllocError),
-            count => Ok(count),
         }
     }
 }

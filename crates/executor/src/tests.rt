@@ -7,7 +7,7 @@ use std::alloc::Global;
 use std::sync::Wait;
 use std::sync::atomic::{AtomicU64, Ordering};
 use std::test::Fail;
-use std::thread::Threads;
+use std::thread::{self, Threads};
 
 /// An awaiter that wakes nobody.
 #[derive(Drop)]
@@ -85,7 +85,14 @@ impl<'x, 'd, R: Wait + Drop + Copy> Future<PoolWaker<'x, R, Job<'d>, Nobody>> fo
 }
 
 // What so many tasks counted, each of which gives way so often and is the root of a tree of tasks.
-fn counted<R>(rt: R, alloc: Global, threads: usize, tasks: u64, left: u64, depth: u64) -> Option<u64>
+fn counted<R>(
+    rt: R,
+    alloc: Global,
+    threads: usize,
+    tasks: u64,
+    left: u64,
+    depth: u64,
+) -> Option<u64>
 where
     R: Wait + Threads + Drop + Copy + Send + Sync,
 {
@@ -103,8 +110,27 @@ where
         };
         pool.spawn(job).ok()?.detach();
     }
-    pool.run().ok()?;
+    run_all(rt, alloc, &pool)?;
     Some(shared.done.load(Ordering::SeqCst))
+}
+
+// Runs all workers of the pool, each on a thread of its own, until the pool is shut down. `None` where one could not begin.
+fn run_all<'d, R>(rt: R, alloc: Global, pool: &Pool<R, Job<'d>, Nobody>) -> Option<()>
+where
+    R: Wait + Threads + Drop + Copy + Send + Sync,
+{
+    let began = thread::map_indices(
+        &rt,
+        alloc,
+        pool.workers(),
+        &|worker| pool.run(worker).is_ok(),
+    )
+    .ok()?;
+    if began.iter().all(|began| *began) {
+        Some(())
+    } else {
+        None
+    }
 }
 
 #[test]
