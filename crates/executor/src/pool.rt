@@ -1,11 +1,13 @@
 //! The pool: spawn, the turns of its workers, and the shutdown.
 ghost use Rattle.std.specs.Prelude.{⊤, ◌≡◌, IfOk, IfErr};
 
+use crate::kept::{KeptTask, KeptWaker, collect};
 use async_task::{Future, Runnable, Schedule, ScheduleInfo, Task, TaskWaker, Wake, Yields, spawn};
+use handle_store::Store;
 use std::alloc::{AllocError, Global};
-use std::sync::Wait;
+use std::sync::{Arc, Wait};
 use std::sync::atomic::{AtomicBool, Ordering};
-use work_queues::{Crew, Worker};
+use work_queues::{Bells, Crew, Worker};
 
 /// How many Runnables each queue has room for, before it asks for more memory.
 const ROOM: usize = 64;
@@ -28,10 +30,12 @@ type Queued<R, F, A> = Runnable<R, F, ToPool, (), A, ()>;
 /// The queues of a pool of workers. `F` is the one type of its futures, `A` that of the awaiters of their Tasks. With the pool the Runnables that are left are dropped, which cancels their tasks.
 #[derive(Drop)]
 pub struct Pool<R: Wait + Drop + Copy, F: Yields, A: Wake> {
-    rt: R,
+    pub(crate) rt: R,
     alloc: Global,
     crew: Crew<Queued<R, F, A>>,
     stopped: AtomicBool,
+    pub(crate) wakers: Store<KeptWaker<R, F, A>>,
+    pub(crate) tasks: Store<KeptTask<R, F, A>>,
 }
 
 /// What one worker keeps for its turns.
@@ -80,6 +84,8 @@ impl<R: Wait + Drop + Copy, F: Yields, A: Wake> Pool<R, F, A> {
             alloc,
             crew: Crew::new(alloc, workers, ROOM)?,
             stopped: AtomicBool::new(false),
+            wakers: Store::new(alloc)?,
+            tasks: Store::new(alloc)?,
         })
     }
 
@@ -148,15 +154,26 @@ impl<R: Wait + Drop + Copy, F: Yields, A: Wake> Pool<R, F, A> {
         let mut turns = self.turns(worker)?;
         for _ in self.rt.forever() {
             let interruptions = self.crew.bells().interruptions();
+            collect((self, worker));
             if self.is_shut_down() {
                 self.cancel_all(&mut turns);
                 break;
             }
             if !self.tick(&mut turns) {
-                self.crew.rest(&self.rt, &turns.worker, interruptions);
+                self.rest(&turns, interruptions);
             }
         }
         Ok(())
+    }
+
+    /// Sleeps, if there is nothing for this worker to do and the bells counted no interruption since `interruptions`. It may also return for no reason. It is for loops of a user's own around `tick`.
+    pub fn rest(&self, turns: &Turns<R, F, A>, interruptions: u64) {
+        self.crew.rest(&self.rt, &turns.worker, interruptions);
+    }
+
+    /// The bells of the workers. An awaiter may hold them, to have a sleeping worker look once more.
+    pub fn bells(&self) -> &Arc<Bells> {
+        self.crew.bells()
     }
 
     fn cancel_all(&self, turns: &mut Turns<R, F, A>) {

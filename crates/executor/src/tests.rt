@@ -1,8 +1,10 @@
 //! Programs of tasks on pools of one, two and four threads.
 ghost use Rattle.std.specs.Prelude.{⊤};
 
+use crate::kept::{keep_waker, place_for_waker, wake_kept};
 use crate::pool::{Pool, PoolWaker};
-use async_task::{Future, Poll, Wake, Yields};
+use async_task::{Future, Poll, TaskPoll, Wake, Yields};
+use handle_store::Key;
 use std::alloc::Global;
 use std::sync::Wait;
 use std::sync::atomic::{AtomicU64, Ordering};
@@ -156,5 +158,78 @@ fn a_task_spawns_tasks(rt: HostRuntime) -> Result<(), Fail> {
     // A tree of depth 7 has 255 tasks.
     assert!(rt; counted(rt, rt.alloc(), 1, 1, 0, 7) == Some(255));
     assert!(rt; counted(rt, rt.alloc(), 4, 4, 2, 7) == Some(1020));
+    Ok(())
+}
+
+/// A future that waits until another thread wakes it, and then ends the pool. Dropped before, it counts one.
+#[derive(Drop)]
+struct Waits<'d, R: Wait + Drop + Copy> {
+    key: Option<Key<R>>,
+    number: &'d AtomicU64,
+}
+
+impl<'d, R: Wait + Drop + Copy> Yields for Waits<'d, R> {
+    type Output = u64;
+}
+
+impl<'x, 'd, R: Wait + Drop + Copy> Future<PoolWaker<'x, R, Waits<'d, R>, Nobody>> for Waits<'d, R> {
+    ghost polled = { λ _ _ _ _. ⊤ };
+
+    fn poll(&mut self, waker: &PoolWaker<'x, R, Waits<'d, R>, Nobody>) -> Poll<u64> {
+        let (pool, _) = waker.around();
+        if self.key.is_some() {
+            pool.shutdown();
+            return Poll::Ready(7);
+        }
+        self.key = place_for_waker(pool);
+        if let Some(key) = &self.key {
+            if keep_waker(waker, key) {
+                self.number.store(key.number() as u64 + 1, Ordering::SeqCst);
+            }
+        }
+        Poll::Pending
+    }
+}
+
+// What a task answers that another thread wakes once it waits.
+fn woken<R>(rt: R, alloc: Global, threads: usize) -> Option<u64>
+where
+    R: Wait + Threads + Drop + Copy + Send + Sync,
+{
+    let number = AtomicU64::new(0);
+    let shared = &number;
+    let pool: Pool<R, Waits<'_, R>, Nobody> = Pool::new(rt, alloc, threads).ok()?;
+    let waits = Waits {
+        key: None,
+        number: shared,
+    };
+    let mut task = pool.spawn(waits).ok()?;
+    let lent = &pool;
+    let (began, woke) = thread::join(
+        &rt,
+        || thread::map_indices(&rt, alloc, lent.workers(), &|worker| lent.run(worker).is_ok()).is_ok(),
+        || wake_once(rt, lent, shared),
+    );
+    match task.poll(&Nobody) {
+        TaskPoll::Ready(Ok(answer)) if began && woke => Some(answer),
+        _ => None,
+    }
+}
+
+fn wake_once<'d, R: Wait + Drop + Copy>(rt: R, pool: &Pool<R, Waits<'d, R>, Nobody>, number: &AtomicU64) -> bool {
+    for _ in rt.forever() {
+        let seen = number.load(Ordering::SeqCst);
+        if seen != 0 {
+            return wake_kept((pool, pool.workers()), seen as usize - 1);
+        }
+        thread::yield_now();
+    }
+    unreachable!()
+}
+
+#[test]
+fn another_thread_wakes_a_kept_waker(rt: HostRuntime) -> Result<(), Fail> {
+    assert!(rt; woken(rt, rt.alloc(), 1) == Some(7));
+    assert!(rt; woken(rt, rt.alloc(), 4) == Some(7));
     Ok(())
 }
