@@ -13,7 +13,8 @@ pub type KeptWaker<R, F, A> = TaskWaker<R, F, ToPool, (), A, ()>;
 pub type KeptTask<R, F, A> = Task<R, F, ToPool, (), A, ()>;
 
 // No handle without a pool is woken or dropped by this crate but at the end of the pool, where a Runnable that is due is dropped.
-impl<R: Wait + Drop + Copy, F: Yields, A: Wake> Schedule<Runnable<R, F, ToPool, (), A, ()>> for ToPool {
+impl<R: Wait + Drop + Copy, F: Yields, A: Wake> Schedule<Runnable<R, F, ToPool, (), A, ()>>
+    for ToPool {
     ghost scheduled = { λ _ _ _. ⊤ };
 
     fn schedule(&self, runnable: Runnable<R, F, ToPool, (), A, ()>, _info: ScheduleInfo) {
@@ -22,7 +23,9 @@ impl<R: Wait + Drop + Copy, F: Yields, A: Wake> Schedule<Runnable<R, F, ToPool, 
 }
 
 /// Takes a place for a waker. `None` where there was no memory for it.
-pub fn place_for_waker<R: Wait + Drop + Copy, F: Yields, A: Wake>(pool: &Pool<R, F, A>) -> Option<Key<R>> {
+pub fn place_for_waker<R: Wait + Drop + Copy, F: Yields, A: Wake>(
+    pool: &Pool<R, F, A>,
+) -> Option<Key<R>> {
     pool.wakers.reserve(pool.rt)
 }
 
@@ -35,7 +38,10 @@ pub fn keep_waker<'x, R: Wait + Drop + Copy, F: Yields, A: Wake>(
     let Some(clone) = waker.clone() else {
         return false;
     };
-    let before = place.0.wakers.put(&place.0.rt, key.number(), clone.park().unpark(()));
+    let before = place
+        .0
+        .wakers
+        .put(&place.0.rt, key.number(), clone.park().unpark(()));
     if let Some(before) = before {
         drop(before.park().unpark(place));
     }
@@ -43,7 +49,10 @@ pub fn keep_waker<'x, R: Wait + Drop + Copy, F: Yields, A: Wake>(
 }
 
 /// Wakes the task whose waker is kept under this number, on the queue of the worker of this place. False where no waker is there. The waker is gone after it.
-pub fn wake_kept<'x, R: Wait + Drop + Copy, F: Yields, A: Wake>(place: Place<'x, R, F, A>, number: usize) -> bool {
+pub fn wake_kept<'x, R: Wait + Drop + Copy, F: Yields, A: Wake>(
+    place: Place<'x, R, F, A>,
+    number: usize,
+) -> bool {
     match place.0.wakers.take(&place.0.rt, number) {
         Some(waker) => {
             waker.park().unpark(place).wake();
@@ -54,14 +63,22 @@ pub fn wake_kept<'x, R: Wait + Drop + Copy, F: Yields, A: Wake>(place: Place<'x,
 }
 
 /// Takes a place for a Task. `None` where there was no memory for it.
-pub fn place_for_task<R: Wait + Drop + Copy, F: Yields, A: Wake>(pool: &Pool<R, F, A>) -> Option<Key<R>> {
+pub fn place_for_task<R: Wait + Drop + Copy, F: Yields, A: Wake>(
+    pool: &Pool<R, F, A>,
+) -> Option<Key<R>> {
     pool.tasks.reserve(pool.rt)
 }
 
 /// Keeps a Task at the place of a key, and drops what was there, which cancels that task.
-pub fn keep_task<'x, R: Wait + Drop + Copy, F: Yields, A: Wake>(task: PoolTask<'x, R, F, A>, key: &Key<R>) {
+pub fn keep_task<'x, R: Wait + Drop + Copy, F: Yields, A: Wake>(
+    task: PoolTask<'x, R, F, A>,
+    key: &Key<R>,
+) {
     let place = task.around();
-    let before = place.0.tasks.put(&place.0.rt, key.number(), task.park().unpark(()));
+    let before = place
+        .0
+        .tasks
+        .put(&place.0.rt, key.number(), task.park().unpark(()));
     if let Some(before) = before {
         drop(before.park().unpark(place));
     }

@@ -10,5 +10,8 @@ pub mod pool;
 #[cfg(test)]
 mod tests;
 
-pub use kept::{KeptTask, KeptWaker, collect, keep_task, keep_waker, place_for_task, place_for_waker, poll_kept, wake_kept};
+pub use kept::{
+    KeptTask, KeptWaker, collect, keep_task, keep_waker, place_for_task, place_for_waker,
+    poll_kept, wake_kept,
+};
 pub use pool::{Place, Pool, PoolRunnable, PoolTask, PoolWaker, ToPool, Turns};

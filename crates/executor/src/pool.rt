@@ -5,8 +5,8 @@ use crate::kept::{KeptTask, KeptWaker, collect};
 use async_task::{Future, Runnable, Schedule, ScheduleInfo, Task, TaskWaker, Wake, Yields, spawn};
 use handle_store::Store;
 use std::alloc::{AllocError, Global};
-use std::sync::{Arc, Wait};
 use std::sync::atomic::{AtomicBool, Ordering};
+use std::sync::{Arc, Wait};
 use work_queues::{Bells, Crew, Worker};
 
 /// How many Runnables each queue has room for, before it asks for more memory.

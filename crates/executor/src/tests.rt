@@ -172,7 +172,8 @@ impl<'d, R: Wait + Drop + Copy> Yields for Waits<'d, R> {
     type Output = u64;
 }
 
-impl<'x, 'd, R: Wait + Drop + Copy> Future<PoolWaker<'x, R, Waits<'d, R>, Nobody>> for Waits<'d, R> {
+impl<'x, 'd, R: Wait + Drop + Copy> Future<PoolWaker<'x, R, Waits<'d, R>, Nobody>>
+    for Waits<'d, R> {
     ghost polled = { λ _ _ _ _. ⊤ };
 
     fn poll(&mut self, waker: &PoolWaker<'x, R, Waits<'d, R>, Nobody>) -> Poll<u64> {
@@ -207,7 +208,13 @@ where
     let lent = &pool;
     let (began, woke) = thread::join(
         &rt,
-        || thread::map_indices(&rt, alloc, lent.workers(), &|worker| lent.run(worker).is_ok()).is_ok(),
+        || thread::map_indices(
+            &rt,
+            alloc,
+            lent.workers(),
+            &|worker| lent.run(worker).is_ok(),
+        )
+        .is_ok(),
         || wake_once(rt, lent, shared),
     );
     match task.poll(&Nobody) {
@@ -216,7 +223,11 @@ where
     }
 }
 
-fn wake_once<'d, R: Wait + Drop + Copy>(rt: R, pool: &Pool<R, Waits<'d, R>, Nobody>, number: &AtomicU64) -> bool {
+fn wake_once<'d, R: Wait + Drop + Copy>(
+    rt: R,
+    pool: &Pool<R, Waits<'d, R>, Nobody>,
+    number: &AtomicU64,
+) -> bool {
     for _ in rt.forever() {
         let seen = number.load(Ordering::SeqCst);
         if seen != 0 {
