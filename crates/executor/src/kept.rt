@@ -101,19 +101,28 @@ pub fn poll_kept<'x, R: Wait + Drop + Copy, F: Yields, A: Wake>(
 
 /// Drops what is left at the places of keys that were dropped: wakers, and Tasks, whose tasks are cancelled. Each worker does it between its turns.
 pub fn collect<'x, R: Wait + Drop + Copy, F: Yields, A: Wake>(place: Place<'x, R, F, A>) {
+    collect_wakers(place);
+    collect_tasks(place);
+}
+
+fn collect_wakers<'x, R: Wait + Drop + Copy, F: Yields, A: Wake>(place: Place<'x, R, F, A>) {
     let pool = place.0;
     for _ in pool.rt.forever() {
         match pool.wakers.collect(&pool.rt) {
             Some(Some(waker)) => drop(waker.park().unpark(place)),
             Some(None) => {}
-            None => break,
+            None => return,
         }
     }
+}
+
+fn collect_tasks<'x, R: Wait + Drop + Copy, F: Yields, A: Wake>(place: Place<'x, R, F, A>) {
+    let pool = place.0;
     for _ in pool.rt.forever() {
         match pool.tasks.collect(&pool.rt) {
             Some(Some(task)) => drop(task.park().unpark(place)),
             Some(None) => {}
-            None => break,
+            None => return,
         }
     }
 }

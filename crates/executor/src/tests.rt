@@ -102,37 +102,64 @@ where
         done: AtomicU64::new(0),
         wanted: tasks.wrapping_mul((2 << (depth % 32)) - 1),
     };
-    let shared = &counts;
-    let pool: Pool<R, Job<'_>, Nobody> = Pool::new(rt, alloc, threads).ok()?;
+    let ended = played(rt, alloc, threads, (tasks, left, depth), &counts);
+    if ended {
+        Some(counts.done.load(Ordering::SeqCst))
+    } else {
+        None
+    }
+}
+
+fn played<'d, R>(
+    rt: R,
+    alloc: Global,
+    threads: usize,
+    size: (u64, u64, u64),
+    counts: &'d Counts,
+) -> bool
+where
+    R: Wait + Threads + Drop + Copy + Send + Sync,
+{
+    let Ok(pool) = Pool::<R, Job<'d>, Nobody>::new(rt, alloc, threads) else {
+        return false;
+    };
+    spawn_all(&pool, size, counts) && run_all(rt, alloc, &pool)
+}
+
+fn spawn_all<'d, R: Wait + Drop + Copy>(
+    pool: &Pool<R, Job<'d>, Nobody>,
+    size: (u64, u64, u64),
+    counts: &'d Counts,
+) -> bool {
+    let (tasks, left, depth) = size;
     for _ in 0..tasks {
         let job = Job {
             left,
             depth,
-            counts: shared,
+            counts,
         };
-        pool.spawn(job).ok()?.detach();
+        match pool.spawn(job) {
+            Ok(task) => task.detach(),
+            Err(_) => return false,
+        }
     }
-    run_all(rt, alloc, &pool)?;
-    Some(shared.done.load(Ordering::SeqCst))
+    true
 }
 
-// Runs all workers of the pool, each on a thread of its own, until the pool is shut down. `None` where one could not begin.
-fn run_all<'d, R>(rt: R, alloc: Global, pool: &Pool<R, Job<'d>, Nobody>) -> Option<()>
+// Runs all workers of the pool, each on a thread of its own, until the pool is shut down. False where one could not begin.
+fn run_all<'d, R>(rt: R, alloc: Global, pool: &Pool<R, Job<'d>, Nobody>) -> bool
 where
     R: Wait + Threads + Drop + Copy + Send + Sync,
 {
-    let began = thread::map_indices(
+    let Ok(began) = thread::map_indices(
         &rt,
         alloc,
         pool.workers(),
         &|worker| pool.run(worker).is_ok(),
-    )
-    .ok()?;
-    if began.iter().all(|began| *began) {
-        Some(())
-    } else {
-        None
-    }
+    ) else {
+        return false;
+    };
+    began.iter().all(|began| *began)
 }
 
 #[test]
@@ -198,29 +225,62 @@ where
     R: Wait + Threads + Drop + Copy + Send + Sync,
 {
     let number = AtomicU64::new(0);
-    let shared = &number;
-    let pool: Pool<R, Waits<'_, R>, Nobody> = Pool::new(rt, alloc, threads).ok()?;
-    let waits = Waits {
-        key: None,
-        number: shared,
+    woken_at(rt, alloc, threads, &number)
+}
+
+fn woken_at<'d, R>(rt: R, alloc: Global, threads: usize, number: &'d AtomicU64) -> Option<u64>
+where
+    R: Wait + Threads + Drop + Copy + Send + Sync,
+{
+    let Ok(pool) = Pool::<R, Waits<'d, R>, Nobody>::new(rt, alloc, threads) else {
+        return None;
     };
-    let mut task = pool.spawn(waits).ok()?;
-    let lent = &pool;
+    answer_of(rt, alloc, &pool, number)
+}
+
+fn answer_of<'d, R>(
+    rt: R,
+    alloc: Global,
+    pool: &Pool<R, Waits<'d, R>, Nobody>,
+    number: &'d AtomicU64,
+) -> Option<u64>
+where
+    R: Wait + Threads + Drop + Copy + Send + Sync,
+{
+    let waits = Waits { key: None, number };
+    let Ok(mut task) = pool.spawn(waits) else {
+        return None;
+    };
+    if !run_beside_a_wake(rt, alloc, pool, number) {
+        return None;
+    }
+    match task.poll(&Nobody) {
+        TaskPoll::Ready(Ok(answer)) => Some(answer),
+        _ => None,
+    }
+}
+
+fn run_beside_a_wake<'d, R>(
+    rt: R,
+    alloc: Global,
+    pool: &Pool<R, Waits<'d, R>, Nobody>,
+    number: &AtomicU64,
+) -> bool
+where
+    R: Wait + Threads + Drop + Copy + Send + Sync,
+{
     let (began, woke) = thread::join(
         &rt,
         || thread::map_indices(
             &rt,
             alloc,
-            lent.workers(),
-            &|worker| lent.run(worker).is_ok(),
+            pool.workers(),
+            &|worker| pool.run(worker).is_ok(),
         )
         .is_ok(),
-        || wake_once(rt, lent, shared),
+        || wake_once(rt, pool, number),
     );
-    match task.poll(&Nobody) {
-        TaskPoll::Ready(Ok(answer)) if began && woke => Some(answer),
-        _ => None,
-    }
+    began && woke
 }
 
 fn wake_once<'d, R: Wait + Drop + Copy>(
