@@ -1,0 +1,128 @@
+//! Wakers and Tasks that futures keep: the pool has them by number, and a future has the keys.
+ghost use Rattle.std.specs.Prelude.{⊤};
+
+use crate::pool::{Place, Pool, PoolTask, PoolWaker, ToPool};
+use async_task::{Runnable, Schedule, ScheduleInfo, Task, TaskPoll, TaskWaker, Wake, Yields};
+use handle_store::Key;
+use std::sync::Wait;
+
+/// A waker as the pool keeps it.
+pub type KeptWaker<R, F, A> = TaskWaker<R, F, ToPool, (), A, ()>;
+
+/// A Task as the pool keeps it.
+pub type KeptTask<R, F, A> = Task<R, F, ToPool, (), A, ()>;
+
+// No handle without a pool is woken or dropped by this crate but at the end of the pool, where a Runnable that is due is dropped.
+impl<R: Wait + Drop + Copy, F: Yields, A: Wake> Schedule<Runnable<R, F, ToPool, (), A, ()>>
+    for ToPool {
+    ghost scheduled = { λ _ _ _. ⊤ };
+
+    fn schedule(&self, runnable: Runnable<R, F, ToPool, (), A, ()>, _info: ScheduleInfo) {
+        drop(runnable);
+    }
+}
+
+/// Takes a place for a waker. `None` where there was no memory for it.
+pub fn place_for_waker<R: Wait + Drop + Copy, F: Yields, A: Wake>(
+    pool: &Pool<R, F, A>,
+) -> Option<Key<R>> {
+    pool.wakers.reserve(pool.rt)
+}
+
+/// Keeps a clone of a waker at the place of a key, and drops what was there. False where the clone was refused; the place is as it was then.
+pub fn keep_waker<'x, R: Wait + Drop + Copy, F: Yields, A: Wake>(
+    waker: &PoolWaker<'x, R, F, A>,
+    key: &Key<R>,
+) -> bool {
+    let place = waker.around();
+    let Some(clone) = waker.clone() else {
+        return false;
+    };
+    let before = place
+        .0
+        .wakers
+        .put(&place.0.rt, key.number(), clone.park().unpark(()));
+    if let Some(before) = before {
+        drop(before.park().unpark(place));
+    }
+    true
+}
+
+/// Wakes the task whose waker is kept under this number, on the queue of the worker of this place. False where no waker is there. The waker is gone after it.
+pub fn wake_kept<'x, R: Wait + Drop + Copy, F: Yields, A: Wake>(
+    place: Place<'x, R, F, A>,
+    number: usize,
+) -> bool {
+    match place.0.wakers.take(&place.0.rt, number) {
+        Some(waker) => {
+            waker.park().unpark(place).wake();
+            true
+        }
+        None => false,
+    }
+}
+
+/// Takes a place for a Task. `None` where there was no memory for it.
+pub fn place_for_task<R: Wait + Drop + Copy, F: Yields, A: Wake>(
+    pool: &Pool<R, F, A>,
+) -> Option<Key<R>> {
+    pool.tasks.reserve(pool.rt)
+}
+
+/// Keeps a Task at the place of a key, and drops what was there, which cancels that task.
+pub fn keep_task<'x, R: Wait + Drop + Copy, F: Yields, A: Wake>(
+    task: PoolTask<'x, R, F, A>,
+    key: &Key<R>,
+) {
+    let place = task.around();
+    let before = place
+        .0
+        .tasks
+        .put(&place.0.rt, key.number(), task.park().unpark(()));
+    if let Some(before) = before {
+        drop(before.park().unpark(place));
+    }
+}
+
+/// Polls the Task at the place of a key, with this awaiter. `None` where there is no Task, as while another thread polls it. A Task that answers `Ready` is gone after it.
+pub fn poll_kept<'x, R: Wait + Drop + Copy, F: Yields, A: Wake>(
+    place: Place<'x, R, F, A>,
+    key: &Key<R>,
+    awaiter: &A,
+) -> Option<TaskPoll<Result<F::Output, async_task::TaskClosed>>> {
+    let kept = place.0.tasks.take(&place.0.rt, key.number())?;
+    let mut task = kept.park().unpark(place);
+    let answer = task.poll(awaiter);
+    if !matches!(answer, TaskPoll::Ready(_)) {
+        keep_task(task, key);
+    }
+    Some(answer)
+}
+
+/// Drops what is left at the places of keys that were dropped: wakers, and Tasks, whose tasks are cancelled. Each worker does it between its turns.
+pub fn collect<'x, R: Wait + Drop + Copy, F: Yields, A: Wake>(place: Place<'x, R, F, A>) {
+    collect_wakers(place);
+    collect_tasks(place);
+}
+
+fn collect_wakers<'x, R: Wait + Drop + Copy, F: Yields, A: Wake>(place: Place<'x, R, F, A>) {
+    let pool = place.0;
+    for _ in pool.rt.forever() {
+        match pool.wakers.collect(&pool.rt) {
+            Some(Some(waker)) => drop(waker.park().unpark(place)),
+            Some(None) => {}
+            None => return,
+        }
+    }
+}
+
+fn collect_tasks<'x, R: Wait + Drop + Copy, F: Yields, A: Wake>(place: Place<'x, R, F, A>) {
+    let pool = place.0;
+    for _ in pool.rt.forever() {
+        match pool.tasks.collect(&pool.rt) {
+            Some(Some(task)) => drop(task.park().unpark(place)),
+            Some(None) => {}
+            None => return,
+        }
+    }
+}

@@ -1,0 +1,17 @@
+//! A pool of threads that run the tasks of `async_task` and steal from one another.
+//! It stands on `async_task` and on `work_queues`, which has the queues and the sleep of the workers.
+//! A user calls `Pool`, `Turns` for loops of its own, and the functions of `kept`; a future reaches the pool by `waker.around()`.
+//! Nothing is public only to carry a claim; the claims on queues and sleep are those of `work_queues`.
+//! The page is docs/EXECUTOR_POOL.md.
+#![tactic(auto)]
+
+pub mod kept;
+pub mod pool;
+#[cfg(test)]
+mod tests;
+
+pub use kept::{
+    KeptTask, KeptWaker, collect, keep_task, keep_waker, place_for_task, place_for_waker,
+    poll_kept, wake_kept,
+};
+pub use pool::{Place, Pool, PoolRunnable, PoolTask, PoolWaker, ToPool, Turns};

@@ -1,0 +1,187 @@
+//! The pool: spawn, the turns of its workers, and the shutdown.
+ghost use Rattle.std.specs.Prelude.{⊤, ◌≡◌, IfOk, IfErr};
+
+use crate::kept::{KeptTask, KeptWaker, collect};
+use async_task::{Future, Runnable, Schedule, ScheduleInfo, Task, TaskWaker, Wake, Yields, spawn};
+use handle_store::Store;
+use std::alloc::{AllocError, Global};
+use std::sync::atomic::{AtomicBool, Ordering};
+use std::sync::{Arc, Wait};
+use work_queues::{Bells, Crew, Worker};
+
+/// How many Runnables each queue has room for, before it asks for more memory.
+const ROOM: usize = 64;
+
+/// What the handles of a pool carry: the pool, and the number of the worker on which they were made or woken. It stands for a thread local. A thread that is no worker has the number of workers, or any above it.
+pub type Place<'x, R, F, A> = (&'x Pool<R, F, A>, usize);
+
+/// A Runnable of a pool.
+pub type PoolRunnable<'x, R, F, A> = Runnable<R, F, ToPool, (), A, Place<'x, R, F, A>>;
+
+/// The Task of a task of a pool.
+pub type PoolTask<'x, R, F, A> = Task<R, F, ToPool, (), A, Place<'x, R, F, A>>;
+
+/// The waker by which the future of a pool is polled.
+pub type PoolWaker<'x, R, F, A> = TaskWaker<R, F, ToPool, (), A, Place<'x, R, F, A>>;
+
+// A Runnable as the queues hold it.
+type Queued<R, F, A> = Runnable<R, F, ToPool, (), A, ()>;
+
+/// The queues of a pool of workers. `F` is the one type of its futures, `A` that of the awaiters of their Tasks. With the pool the Runnables that are left are dropped, which cancels their tasks.
+#[derive(Drop)]
+pub struct Pool<R: Wait + Drop + Copy, F: Yields, A: Wake> {
+    pub(crate) rt: R,
+    alloc: Global,
+    crew: Crew<Queued<R, F, A>>,
+    stopped: AtomicBool,
+    pub(crate) wakers: Store<KeptWaker<R, F, A>>,
+    pub(crate) tasks: Store<KeptTask<R, F, A>>,
+}
+
+/// What one worker keeps for its turns.
+#[derive(Drop)]
+pub struct Turns<R: Wait + Drop + Copy, F: Yields, A: Wake> {
+    worker: Worker<Queued<R, F, A>>,
+}
+
+/// The schedule value of a pool: a Runnable goes to the queue of the worker on which its task was woken, and else to that for what comes from outside.
+#[derive(Drop)]
+pub struct ToPool;
+
+// The Runnable as it carries another place. All changes of surroundings are made here.
+fn queued<R: Wait + Drop + Copy, F: Yields, A: Wake>(
+    runnable: PoolRunnable<'_, R, F, A>,
+) -> Queued<R, F, A> {
+    runnable.park().unpark(())
+}
+
+fn placed<'x, R: Wait + Drop + Copy, F: Yields, A: Wake>(
+    runnable: Queued<R, F, A>,
+    place: Place<'x, R, F, A>,
+) -> PoolRunnable<'x, R, F, A> {
+    runnable.park().unpark(place)
+}
+
+impl<'x, R: Wait + Drop + Copy, F: Yields, A: Wake> Schedule<PoolRunnable<'x, R, F, A>> for ToPool {
+    ghost scheduled = { λ _ _ _. ⊤ };
+
+    // A Runnable that no queue has memory for, or that comes after the shutdown, is dropped: its task is cancelled.
+    fn schedule(&self, runnable: PoolRunnable<'x, R, F, A>, _info: ScheduleInfo) {
+        let (pool, worker) = runnable.around();
+        if pool.stopped.load(Ordering::SeqCst) {
+            drop(runnable);
+            return;
+        }
+        drop(pool.crew.push(&pool.rt, worker, queued(runnable)));
+    }
+}
+
+impl<R: Wait + Drop + Copy, F: Yields, A: Wake> Pool<R, F, A> {
+    /// A pool of so many workers, at least one and at most `work_queues::board::MOST_WORKERS`. Its workers do not run yet. `rt` is what its threads wait by, `alloc` where all memory comes from. An error says that there was no memory.
+    pub fn new(rt: R, alloc: Global, workers: usize) -> Result<Pool<R, F, A>, AllocError> {
+        Ok(Pool {
+            rt,
+            alloc,
+            crew: Crew::new(alloc, workers, ROOM)?,
+            stopped: AtomicBool::new(false),
+            wakers: Store::new(alloc)?,
+            tasks: Store::new(alloc)?,
+        })
+    }
+
+    /// How many workers it has.
+    pub fn workers(&self) -> usize {
+        self.crew.workers()
+    }
+
+    /// What a thread needs to be the worker of this number. An error says that there was no memory, or that there is no such worker. Two threads may not be one worker: both would sleep where one is woken.
+    pub fn turns(&self, worker: usize) -> Result<Turns<R, F, A>, AllocError> {
+        let worker = self.crew.worker(self.alloc, worker)?;
+        Ok(Turns { worker })
+    }
+
+    /// Spawns a task from a thread that is no worker, and schedules it. `Err` has the future back, where there was no memory for the task.
+    pub fn spawn(&self, future: F) -> Result<PoolTask<'_, R, F, A>, F>
+        ensures refused { IfErr result (λ back. back ≡ future) }
+    {
+        self.spawn_on(self.crew.workers(), future)
+    }
+
+    /// Spawns a task at the queue of a worker, as that which polls the spawning future: `waker.around().1`.
+    pub fn spawn_on(&self, worker: usize, future: F) -> Result<PoolTask<'_, R, F, A>, F>
+        ensures place { IfOk result (λ task. task.around.1 ≡ worker) }
+        ensures refused { IfErr result (λ back. back ≡ future) }
+    {
+        match spawn(self.rt, self.alloc, future, ToPool, (self, worker)) {
+            Ok((runnable, task)) => {
+                runnable.schedule();
+                Ok(task)
+            }
+            Err(refused) => Err(refused.maker),
+        }
+    }
+
+    /// Ends the pool: each worker ends after the turn that it has, and Runnables are dropped from here on, which cancels their tasks.
+    pub fn shutdown(&self) {
+        self.stopped.store(true, Ordering::SeqCst);
+        self.crew.bells().interrupt_all();
+    }
+
+    /// Whether the pool was shut down.
+    pub fn is_shut_down(&self) -> bool {
+        self.stopped.load(Ordering::SeqCst)
+    }
+
+    /// Runs one task, if there is one for this worker: its own, one that came from outside, or one of another worker. It answers whether there was one.
+    pub fn tick<'x>(&'x self, turns: &mut Turns<R, F, A>) -> bool
+    where
+        F: Future<PoolWaker<'x, R, F, A>>,
+    {
+        match self.crew.find(&self.rt, &mut turns.worker) {
+            Some(runnable) => {
+                placed(runnable, (self, turns.worker.number())).run();
+                true
+            }
+            None => false,
+        }
+    }
+
+    /// Is the worker of this number until the pool is shut down, and sleeps where there is nothing to do. After it no Runnable is left that this worker can find. An error says that there was no memory to begin, or that there is no such worker.
+    pub fn run<'x>(&'x self, worker: usize) -> Result<(), AllocError>
+    where
+        F: Future<PoolWaker<'x, R, F, A>>,
+    {
+        let mut turns = self.turns(worker)?;
+        for _ in self.rt.forever() {
+            let interruptions = self.crew.bells().interruptions();
+            collect((self, worker));
+            if self.is_shut_down() {
+                self.cancel_all(&mut turns);
+                break;
+            }
+            if !self.tick(&mut turns) {
+                self.rest(&turns, interruptions);
+            }
+        }
+        Ok(())
+    }
+
+    /// Sleeps, if there is nothing for this worker to do and the bells counted no interruption since `interruptions`. It may also return for no reason. It is for loops of a user's own around `tick`.
+    pub fn rest(&self, turns: &Turns<R, F, A>, interruptions: u64) {
+        self.crew.rest(&self.rt, &turns.worker, interruptions);
+    }
+
+    /// The bells of the workers. An awaiter may hold them, to have a sleeping worker look once more.
+    pub fn bells(&self) -> &Arc<Bells> {
+        self.crew.bells()
+    }
+
+    fn cancel_all(&self, turns: &mut Turns<R, F, A>) {
+        for _ in self.rt.forever() {
+            match self.crew.find(&self.rt, &mut turns.worker) {
+                Some(runnable) => drop(runnable),
+                None => return,
+            }
+        }
+    }
+}

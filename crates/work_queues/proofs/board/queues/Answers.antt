@@ -1,0 +1,6 @@
+use Rattle.std.proofs.Common.{rules}
+use Rattle.work_queues.proofs.Orders.{each-more}
+use Rattle.work_queues.proofs.board.queues.Goals as goal
+
+pub loop-preserved : goal.loop-preserved
+loop-preserved g c = (search rules, each-more _ _ _ _ c.in_ok-push.ensures.items c.loop.invariant.1 (search rules))

@@ -1,0 +1,276 @@
+//! The board of a pool: a queue for each worker and one for all, and which workers sleep.
+ghost use Rattle.std.specs.Prelude.{◌≡◌, ◌≢◌, ℕ, ◌+◌, ◌<◌, ◌≤◌, ◌++◌, [], ◌∷◌, true, false, IfOk, IfErr, IfSome, OnOk, MatchOption, List, length, slice_index, min, ◌-◌, ◌/◌, option_to_list, IsSome, ◌↔◌, is_ok, if◌then◌else◌};
+ghost use Rattle.std.specs.VecDeque.{deque_len, deque_capacity};
+ghost use mathlib.Core.Option.{some};
+ghost use lib.ListN.{get_elem?};
+ghost use Rattle.work_queues.specs.Board.{HasQueue, Changes};
+
+use crate::moving::shift;
+use crate::rule::{Enter, Lock, LookAtWorker, Order, Rouse, Unlock};
+use atomic_table::{Refused, Seat, Table};
+use std::alloc::{AllocError, AllocFailed, Global};
+use std::collections::VecDeque;
+use std::sync::Wait;
+use std::thread::yield_now;
+
+/// The most workers of a board.
+pub const MOST_WORKERS: usize = 1024;
+
+const EMPTY: u64 = 0;
+
+const LOCKED: u64 = 1;
+
+pub(crate) const FILLED: u64 = 2;
+
+pub(crate) const AWAKE: u64 = 0;
+
+pub(crate) const ASLEEP: u64 = 1;
+
+// What a thread does at the board. It has no `Drop`, so it ends in `leave`, which asks that no look is owed.
+pub(crate) struct Visit<T> {
+    pub(crate) seat: Seat<VecDeque<T>, u64>,
+}
+
+/// A queue for each worker, one more for what comes from outside, and a word for each worker that says whether it sleeps. The items are dropped with it.
+#[derive(Drop)]
+pub struct Board<T> {
+    pub(crate) table: Table<VecDeque<T>, u64, usize, Order, Global>,
+    pub(crate) workers: usize,
+    ghost sized: { (table.shared.table_id.words ≡ workers + 1 + workers) × (table.shared.table_id.slots ≡ workers + 1) × (table.shared.key ≡ workers) × (0 < workers) × (workers ≤ 1024) },
+}
+
+// What the word of a queue shows of it.
+fn shown<T>(queue: &VecDeque<T>) -> u64
+    ensures { result ≡ 0 → queue.now.items ≡ [] }
+{
+    if queue.is_empty() { EMPTY } else { FILLED }
+}
+
+pub(crate) fn leave<T>(visit: Visit<T>)
+    requires { visit.seat.me.0 ≡ 0 }
+{
+    let Visit { seat } = visit;
+    drop(seat);
+}
+
+fn words(alloc: Global, count: usize) -> Result<Vec<u64>, AllocError>
+    ensures { IfOk result (λ words. (length words.items ≡ count) × ((i : ℕ) → slice_index words.items i ≡ 0)) }
+{
+    let mut words = Vec::new(alloc);
+    for _ in 0..count {
+        words.push(0)?;
+    }
+    Ok(words)
+}
+
+fn queues<T: Drop>(alloc: Global, count: usize, room: usize) -> Result<Vec<VecDeque<T>>, AllocError>
+    ensures { IfOk result (λ queues. (length queues.items ≡ count) × ((i : ℕ) (queue : _) → get_elem? queues.items i ≡ some queue → queue.items ≡ [])) }
+{
+    let mut queues = Vec::new(alloc);
+    for _ in 0..count {
+        queues.push(VecDeque::with_capacity(alloc, room)?)?;
+    }
+    Ok(queues)
+}
+
+impl<T: Drop> Board<T> {
+    /// A board with empty queues, and room for so many items in each before it asks for more memory. No worker is asleep. There are at least one worker and at most `MOST_WORKERS`, whatever `workers` is. An error says that there was no memory.
+    pub fn new(alloc: Global, workers: usize, room: usize) -> Result<Board<T>, AllocError> {
+        let workers = workers.max(1).min(MOST_WORKERS);
+        let words = words(alloc, workers + 1 + workers)?;
+        let queues = queues(alloc, workers + 1, room)?;
+        match Table::new(alloc, &words, queues, &workers) {
+            Ok((table, _seat)) => Ok(Board { table, workers }),
+            Err(Refused { slots: _ }) => Err(AllocError),
+        }
+    }
+}
+
+impl<T> Board<T> {
+    /// How many workers it has. Their queues have the numbers below it, and the queue for what comes from outside has this number.
+    pub fn workers(&self) -> usize
+        ensures { result ≡ self.now.workers }
+    {
+        self.workers
+    }
+
+    /// Puts an item at the back of a queue, and wakes a worker if one sleeps. `Ok` has the worker that is to be woken. `Err` hands the item back, where the queue was full and there was no memory for more.
+    pub fn push<R: Wait>(&self, rt: &R, queue: usize, item: T) -> Result<Option<usize>, T>
+        requires { queue ≤ self.now.workers }
+        ensures refused { IfErr result (λ back. back ≡ item) }
+        ensures woken { IfOk result (λ worker. IfSome worker (λ w. w < self.now.workers)) }
+    {
+        let mut visit = self.lock(rt, queue);
+        let pushed = self.push_at(&mut visit, queue, item);
+        let woken = self.give_back(visit, queue);
+        match pushed {
+            Ok(()) => Ok(woken),
+            Err(item) => Err(item),
+        }
+    }
+
+    /// Takes the item at the front of a queue, if it has one, and the worker that is to be woken for what is left.
+    pub fn pop<R: Wait>(&self, rt: &R, queue: usize) -> (Option<T>, Option<usize>)
+        requires { queue ≤ self.now.workers }
+        ensures { IfSome result.1 (λ w. w < self.now.workers) }
+    {
+        let mut visit = self.lock(rt, queue);
+        let item = self.pop_at(&mut visit, queue);
+        (item, self.give_back(visit, queue))
+    }
+
+    /// Takes half of a queue from its front, rounded up, as far as `batch` has room, and the worker that is to be woken for what is left.
+    pub fn take_half<R: Wait>(&self, rt: &R, queue: usize, batch: &mut VecDeque<T>) -> Option<usize>
+        requires { queue ≤ self.now.workers }
+        ensures { IfSome result (λ w. w < self.now.workers) }
+    {
+        let mut visit = self.lock(rt, queue);
+        self.take_half_at(&mut visit, queue, batch);
+        self.give_back(visit, queue)
+    }
+
+    /// Puts the items of `batch` at the back of a queue, in their order, and answers the worker that is to be woken. What the queue has no room for, where it is refused memory, stays in `batch`.
+    pub fn put_all<R: Wait>(&self, rt: &R, queue: usize, batch: &mut VecDeque<T>) -> Option<usize>
+        requires { queue ≤ self.now.workers }
+        ensures { IfSome result (λ w. w < self.now.workers) }
+    {
+        let mut visit = self.lock(rt, queue);
+        self.put_all_at(&mut visit, queue, batch);
+        self.give_back(visit, queue)
+    }
+
+    fn push_at(&self, visit: &mut Visit<T>, queue: usize, item: T) -> Result<(), T>
+        requires { (visit.old.seat.table_id ≡ self.now.table.shared.table_id) × HasQueue queue visit.old.seat.me }
+        ensures id { visit.new.seat.table_id ≡ visit.old.seat.table_id }
+        ensures queue { Changes (λ held left. left.items ≡ (if is_ok result then held.items ++ item ∷ [] else held.items)) queue visit.old.seat.me visit.new.seat.me }
+        ensures refused { IfErr result (λ back. back ≡ item) }
+    {
+        let held = visit.seat.slot_mut(&self.table.shared, queue);
+        match held.push_back(item) {
+            Ok(()) => Ok(()),
+            Err(AllocFailed { value }) => Err(value),
+        }
+    }
+
+    fn pop_at(&self, visit: &mut Visit<T>, queue: usize) -> Option<T>
+        requires { (visit.old.seat.table_id ≡ self.now.table.shared.table_id) × HasQueue queue visit.old.seat.me }
+        ensures id { visit.new.seat.table_id ≡ visit.old.seat.table_id }
+        ensures queue { Changes (λ held left. held.items ≡ option_to_list result ++ left.items) queue visit.old.seat.me visit.new.seat.me }
+        ensures found { Changes (λ held left. IsSome result ↔ (0 < deque_len held)) queue visit.old.seat.me visit.new.seat.me }
+    {
+        let held = visit.seat.slot_mut(&self.table.shared, queue);
+        held.pop_front()
+    }
+
+    fn take_half_at(&self, visit: &mut Visit<T>, queue: usize, batch: &mut VecDeque<T>)
+        requires { (visit.old.seat.table_id ≡ self.now.table.shared.table_id) × HasQueue queue visit.old.seat.me }
+        ensures id { visit.new.seat.table_id ≡ visit.old.seat.table_id }
+        ensures order { Changes (λ held left. batch.new.items ++ left.items ≡ batch.old.items ++ held.items) queue visit.old.seat.me visit.new.seat.me }
+        ensures half { Changes (λ held left. deque_len batch.new ≡ deque_len batch.old + min (deque_len held - deque_len held / 2) (deque_capacity batch.old - deque_len batch.old)) queue visit.old.seat.me visit.new.seat.me }
+    {
+        let held = visit.seat.slot_mut(&self.table.shared, queue);
+        let half = held.len() - held.len() / 2;
+        shift(held, batch, half);
+    }
+
+    fn put_all_at(&self, visit: &mut Visit<T>, queue: usize, batch: &mut VecDeque<T>)
+        requires { (visit.old.seat.table_id ≡ self.now.table.shared.table_id) × HasQueue queue visit.old.seat.me }
+        ensures id { visit.new.seat.table_id ≡ visit.old.seat.table_id }
+        ensures order { Changes (λ held left. left.items ++ batch.new.items ≡ held.items ++ batch.old.items) queue visit.old.seat.me visit.new.seat.me }
+    {
+        let held = visit.seat.slot_mut(&self.table.shared, queue);
+        let _ = held.reserve(batch.len());
+        let count = batch.len();
+        shift(batch, held, count);
+    }
+
+    // Unlocks the queue, and wakes a worker if the queue has items.
+    fn give_back(&self, visit: Visit<T>, queue: usize) -> Option<usize>
+        requires id { visit.seat.table_id ≡ self.now.table.shared.table_id }
+        requires queue { (queue ≤ self.now.workers) × HasQueue queue visit.seat.me }
+        ensures { IfSome result (λ worker. worker < self.now.workers) }
+    {
+        let (visit, has_items) = self.unlock(visit, queue);
+        if has_items {
+            return self.call(visit);
+        }
+        leave(visit);
+        None
+    }
+
+    pub(crate) fn visit(&self) -> Visit<T>
+        ensures { (result.seat.table_id ≡ self.now.table.shared.table_id) × (result.seat.me.0 ≡ 0) }
+    {
+        let seat = self.table.shared.load_new_seat::<Enter>(0).1;
+        Visit { seat }
+    }
+
+    // `None` where another thread has the queue.
+    fn try_lock(&self, queue: usize) -> Option<Visit<T>>
+        requires { queue ≤ self.now.workers }
+        ensures { IfSome result (λ visit. (visit.seat.table_id ≡ self.now.table.shared.table_id) × HasQueue queue visit.seat.me) }
+    {
+        let shared = &self.table.shared;
+        let (seen, mut seat) = shared.load_new_seat::<Enter>(queue);
+        if seen != LOCKED
+            && shared.compare_exchange::<Lock>(&mut seat, queue, seen, LOCKED) == seen
+        {
+            return Some(Visit { seat });
+        }
+        None
+    }
+
+    fn lock<R: Wait>(&self, rt: &R, queue: usize) -> Visit<T>
+        requires { queue ≤ self.now.workers }
+        ensures { (result.seat.table_id ≡ self.now.table.shared.table_id) × HasQueue queue result.seat.me }
+    {
+        for _ in rt.forever() {
+            if let Some(visit) = self.try_lock(queue) {
+                return visit;
+            }
+            yield_now();
+        }
+        unreachable!()
+    }
+
+    // Gives the queue back. Where it has items, which is the answer, the visit owes a look at the workers.
+    fn unlock(&self, visit: Visit<T>, queue: usize) -> (Visit<T>, bool)
+        requires id { visit.seat.table_id ≡ self.now.table.shared.table_id }
+        requires queue { (queue ≤ self.now.workers) × HasQueue queue visit.seat.me }
+        ensures id { result.0.seat.table_id ≡ self.now.table.shared.table_id }
+        ensures empty { result.1 ≡ false → result.0.seat.me.0 ≡ 0 }
+    {
+        let Visit { mut seat } = visit;
+        let shown = shown(seat.slot_mut(&self.table.shared, queue));
+        self.table.shared.store::<Unlock>(&mut seat, queue, shown);
+        (Visit { seat }, shown != EMPTY)
+    }
+
+    // Looks for a worker that sleeps, and makes it awake. It answers which.
+    fn call(&self, mut visit: Visit<T>) -> Option<usize>
+        requires { visit.seat.table_id ≡ self.now.table.shared.table_id }
+        ensures { IfSome result (λ worker. worker < self.now.workers) }
+    {
+        for worker in 0..self.workers {
+            if self.rouse(&mut visit, worker) {
+                leave(visit);
+                return Some(worker);
+            }
+        }
+        leave(visit);
+        None
+    }
+
+    // Whether it slept. No look is owed after it.
+    fn rouse(&self, visit: &mut Visit<T>, worker: usize) -> bool
+        requires { (visit.old.seat.table_id ≡ self.now.table.shared.table_id) × (worker < self.now.workers) }
+        ensures { (visit.new.seat.table_id ≡ visit.old.seat.table_id) × (visit.new.seat.me.0 ≡ 0) }
+    {
+        let shared = &self.table.shared;
+        let word = self.workers + 1 + worker;
+        if shared.load::<LookAtWorker>(&mut visit.seat, word) == AWAKE {
+            return false;
+        }
+        shared.swap::<Rouse>(&mut visit.seat, word, AWAKE) == ASLEEP
+    }
+}

@@ -1,0 +1,168 @@
+//! What the workers of a pool share, and what each does with it: push, find, and rest.
+ghost use Rattle.std.specs.Prelude.{◌≡◌, ◌<◌, IfErr, IfOk};
+ghost use Rattle.std.specs.Arc.{arc_value};
+
+use crate::bells::Bells;
+use crate::board::Board;
+use std::alloc::{AllocError, Global};
+use std::collections::VecDeque;
+use std::sync::{Arc, Wait};
+
+/// How many items a worker takes from another queue at once, at most.
+const BATCH: usize = 256;
+
+/// A worker looks at the queue for what comes from outside first, once in so many looks.
+const OUTSIDE_FIRST: u64 = 61;
+
+/// The board of a pool and its bells. The items that are left are dropped with it.
+#[derive(Drop)]
+pub struct Crew<T> {
+    board: Board<T>,
+    bells: Arc<Bells>,
+}
+
+/// What one worker keeps for itself.
+#[derive(Drop)]
+pub struct Worker<T> {
+    number: usize,
+    looks: u64,
+    batch: VecDeque<T>,
+}
+
+impl<T> Worker<T> {
+    /// Its number: that of its queue.
+    pub fn number(&self) -> usize
+        ensures { result ≡ self.now.number }
+    {
+        self.number
+    }
+}
+
+impl<T: Drop> Crew<T> {
+    /// Empty queues for so many workers, at least one and at most `MOST_WORKERS`, with room for `room` items in each before it asks for more memory. An error says that there was no memory.
+    pub fn new(alloc: Global, workers: usize, room: usize) -> Result<Crew<T>, AllocError> {
+        let board = Board::new(alloc, workers, room)?;
+        let bells = Bells::new(alloc, board.workers())?;
+        Ok(Crew {
+            board,
+            bells: Arc::new(alloc, bells)?,
+        })
+    }
+
+    /// What the worker of this number keeps. An error says that there was no memory, or that there is no such worker.
+    pub fn worker(&self, alloc: Global, number: usize) -> Result<Worker<T>, AllocError>
+        ensures { IfOk result (λ worker. (worker.number ≡ number) × (number < self.now.board.workers)) }
+    {
+        if number >= self.board.workers() {
+            return Err(AllocError);
+        }
+        let batch = VecDeque::with_capacity(alloc, BATCH)?;
+        Ok(Worker {
+            number,
+            looks: 0,
+            batch,
+        })
+    }
+}
+
+impl<T> Crew<T> {
+    /// How many workers it has.
+    pub fn workers(&self) -> usize
+        ensures { result ≡ self.now.board.workers }
+    {
+        self.board.workers()
+    }
+
+    /// The bells of its workers.
+    pub fn bells(&self) -> &Arc<Bells>
+        ensures { result.now ≡ self.now.bells }
+    {
+        &self.bells
+    }
+
+    fn ring(&self, woken: Option<usize>) {
+        if let Some(worker) = woken {
+            self.bells.ring(worker);
+        }
+    }
+
+    /// Puts an item at the back of a worker's queue, or, where there is no worker of this number, of the queue for what comes from outside. It wakes a worker if one sleeps. `Err` hands the item back, where there was no memory.
+    pub fn push<R: Wait>(&self, rt: &R, worker: usize, item: T) -> Result<(), T>
+        ensures { IfErr result (λ back. back ≡ item) }
+    {
+        let queue = worker.min(self.board.workers());
+        let woken = self.board.push(rt, queue, item)?;
+        self.ring(woken);
+        Ok(())
+    }
+
+    fn pop<R: Wait>(&self, rt: &R, queue: usize) -> Option<T> {
+        let queue = queue.min(self.board.workers());
+        let (item, woken) = self.board.pop(rt, queue);
+        self.ring(woken);
+        item
+    }
+
+    // One item of another queue, and up to half of the others into the own queue.
+    fn steal<R: Wait>(&self, rt: &R, worker: &mut Worker<T>, from: usize) -> Option<T> {
+        let from = from.min(self.board.workers());
+        let woken = self.board.take_half(rt, from, &mut worker.batch);
+        self.ring(woken);
+        let first = worker.batch.pop_front();
+        if !worker.batch.is_empty() {
+            let own = worker.number.min(self.board.workers());
+            let woken = self.board.put_all(rt, own, &mut worker.batch);
+            self.ring(woken);
+        }
+        first
+    }
+
+    fn find_elsewhere<R: Wait>(&self, rt: &R, worker: &mut Worker<T>) -> Option<T> {
+        let workers = self.board.workers();
+        if let Some(item) = self.steal(rt, worker, workers) {
+            return Some(item);
+        }
+        let number = worker.number % workers;
+        for step in 1..workers {
+            if let Some(item) = self.steal(rt, worker, (number + step) % workers) {
+                return Some(item);
+            }
+        }
+        None
+    }
+
+    /// The next item for this worker: what a batch left in its hands, then that at the front of its queue, then half of what came from outside or of another worker's queue. Once in 61 looks what came from outside is first.
+    pub fn find<R: Wait>(&self, rt: &R, worker: &mut Worker<T>) -> Option<T> {
+        if let Some(item) = worker.batch.pop_front() {
+            return Some(item);
+        }
+        worker.looks = worker.looks.wrapping_add(1);
+        if worker.looks % OUTSIDE_FIRST == 0 {
+            if let Some(item) = self.pop(rt, self.board.workers()) {
+                return Some(item);
+            }
+        }
+        if let Some(item) = self.pop(rt, worker.number) {
+            return Some(item);
+        }
+        self.find_elsewhere(rt, worker)
+    }
+
+    /// Sleeps, if no queue has an item and there was no interruption since `interruptions` were counted. It may also return for no reason.
+    pub fn rest<R: Wait>(&self, rt: &R, worker: &Worker<T>, interruptions: u64) {
+        let number = worker.number;
+        if number >= self.board.workers() {
+            return;
+        }
+        let mut sleeper = self.board.lie_down(number);
+        if !self.board.has_items(&mut sleeper) {
+            self.bells.rests(number);
+            let shown = self.bells.shows(number);
+            if self.board.may_sleep(&sleeper) && self.bells.interruptions() == interruptions {
+                self.bells.sleep(rt, number, shown);
+            }
+            self.bells.works(number);
+        }
+        self.board.get_up(sleeper);
+    }
+}

@@ -1,0 +1,65 @@
+//! The sleep of a worker: it lies down, looks at each queue, may sleep, and gets up.
+ghost use Rattle.std.specs.Prelude.{◌≡◌, ◌+◌, ◌<◌, false};
+ghost use Rattle.work_queues.specs.Sleep.{IsAsleep};
+
+use crate::board::{ASLEEP, AWAKE, Board, FILLED, Visit, leave};
+use crate::rule::{LieDown, LookAtQueue, Rouse};
+
+/// A worker that has lain down. It has no `Drop`, so it ends in `Board::get_up`.
+pub struct Sleeper<T> {
+    visit: Visit<T>,
+    worker: usize,
+}
+
+impl<T> Board<T> {
+    /// The worker counts as asleep from here on, and owes a look at each queue before it may sleep: `has_items`.
+    pub fn lie_down(&self, worker: usize) -> Sleeper<T>
+        requires { worker < self.now.workers }
+        ensures { IsAsleep self.now result × (result.visit.seat.me.0 ≡ self.now.workers + 1) }
+    {
+        let mut visit = self.visit();
+        self.table
+            .shared
+            .swap::<LieDown>(&mut visit.seat, self.workers + 1 + worker, ASLEEP);
+        Sleeper { visit, worker }
+    }
+
+    /// Looks at each queue, until one has items.
+    pub fn has_items(&self, sleeper: &mut Sleeper<T>) -> bool
+        requires { IsAsleep self.now sleeper.old × (sleeper.old.visit.seat.me.0 ≡ self.now.workers + 1) }
+        ensures same { IsAsleep self.now sleeper.new }
+        ensures none { result ≡ false → sleeper.new.visit.seat.me.0 ≡ 0 }
+    {
+        let mut left = self.workers + 1;
+        while left > 0 {
+            if self
+                .table
+                .shared
+                .load::<LookAtQueue>(&mut sleeper.visit.seat, left - 1)
+                == FILLED
+            {
+                return true;
+            }
+            left -= 1;
+        }
+        false
+    }
+
+    /// Whether nobody has woken the worker since it lay down. Only a worker that owes no look may ask, and then sleep.
+    pub fn may_sleep(&self, sleeper: &Sleeper<T>) -> bool
+        requires { IsAsleep self.now sleeper.now × (sleeper.now.visit.seat.me.0 ≡ 0) }
+    {
+        self.table.shared.peek(self.workers + 1 + sleeper.worker) == ASLEEP
+    }
+
+    /// Ends the sleep: the worker is awake.
+    pub fn get_up(&self, sleeper: Sleeper<T>)
+        requires { IsAsleep self.now sleeper }
+    {
+        let Sleeper { mut visit, worker } = sleeper;
+        self.table
+            .shared
+            .swap::<Rouse>(&mut visit.seat, self.workers + 1 + worker, AWAKE);
+        leave(visit);
+    }
+}
