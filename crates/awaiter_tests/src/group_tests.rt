@@ -55,8 +55,14 @@ enum LetGo {
     Drop,
 }
 
-fn drop_group<R: Wait + Drop + Copy>(group: LineGroup<'_, R>) {
-    drop(group);
+// Lets the tasks of a group go, and the group: whether it was empty before its drop.
+fn let_all_go<R: Wait + Drop + Copy>(mut group: LineGroup<'_, R>, how: LetGo) -> bool {
+    match how {
+        LetGo::Abort => group.abort_all(),
+        LetGo::Detach => group.detach_all(),
+        LetGo::Drop => {}
+    }
+    group.is_empty()
 }
 
 // Fills a group with tasks, pushes one more, and lets all go: whether that one was refused, whether the group was empty then,
@@ -74,13 +80,7 @@ fn let_go<R: Wait + Drop + Copy>(
         }
     }
     let refused = !push(&line, &mut group, Errand::Stay)?;
-    match how {
-        LetGo::Abort => group.abort_all(),
-        LetGo::Detach => group.detach_all(),
-        LetGo::Drop => {}
-    }
-    let emptied = group.is_empty();
-    drop_group(group);
+    let emptied = let_all_go(group, how);
     line.run();
     Ok([refused, emptied, line.answered() > 0])
 }
