@@ -330,7 +330,7 @@ class Exploration:
         scene, new = self.scene(word, slots), []
         for party, act in ((party, act) for party in sorted(set(parties)) for act in self.acts):
             left = self.outcome(scene, act, party)
-            if left is None or ("Polls", POLLS + 1) in items_of(left["told"]):
+            if left is None or ("TaskPollBegins", POLLS + 1) in items_of(left["told"]):
                 continue
             self.steps.add((act, role(self.definitions, party), word, left["word"]))
             others = list(parties)
@@ -578,7 +578,7 @@ class Life:
     @staticmethod
     def name(act, events):
         """The name of a step. The last one of a call tells what the call answers."""
-        answers = [event[-1] for event in events if event[0] in ("CallEnds", "PollEnds") and event[-1] != ("Nothing",)]
+        answers = [event[-1] for event in events if event[0] in ("CallEnds", "TaskPollEnds") and event[-1] != ("Nothing",)]
         parts = [str(part).lower() if isinstance(part, bool) else part for answer in answers for part in answer]
         return f"{act}: {' '.join(parts)}" if parts else act
 
@@ -674,7 +674,7 @@ def main():
     check, differs = arguments.parse_args().check, False
     texts = [(CRATES / f"{name}.antt").read_text(encoding="utf-8") for name in FILES]
     definitions, names = Definitions(texts), texts[FILES.index(POSITION)]
-    for fault in misstated(definitions, variants(names, "Position") + variants(names, "Way")):
+    for fault in misstated(definitions, variants(names, "Position") + variants(names, "NotifyingCall")):
         differs = True
         print(f"MACHINE.md differs from the definitions: {fault}")
     for path, text in list(pictures(definitions, variants(names, "Act"))):

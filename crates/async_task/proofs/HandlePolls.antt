@@ -1,7 +1,7 @@
 -- A poll that hands out what is made of the output has the same path.
 use Rattle.std.proofs.Common.{◌≡◌, Bool, List, Option, Some, None, subst}
 use Rattle.task_core.specs.declared.traits.TaskPoll.{TaskPoll}
-use Rattle.task_core.specs.declared.traits.TaskPoll.TheVariants.{Pending as Waits, Ready, NoMemory}
+use Rattle.task_core.specs.declared.traits.TaskPoll.TheVariants.{Pending as Waits, Ready, Refused}
 use Rattle.task_steps.specs.declared.table.Deed.{Deed}
 use Rattle.task_cell.specs.declared.cell.Party.{Party}
 use Rattle.task_cell.specs.PollPaths.{AnswerPath, waits, has_ended_since, has_output_since, PollPath, finds_output, finds_ended, is_refused, looks_again}
@@ -12,7 +12,7 @@ abbrev pub answer_as : {T U : Type 0} → (T → U) → TaskPoll (Option T) → 
 answer_as f (Ready (Some x)) = Ready (Some (f x))
 answer_as f (Ready None) = Ready None
 answer_as f Waits = Waits
-answer_as f NoMemory = NoMemory
+answer_as f Refused = Refused
 
 module _ {A T U : Type 0} (f : T → U) (cloned : A → Option A → Type 0) (woken woken_by_ref : A → Type 0) (compared : A → A → Bool → Type 0) (awaiter : A) where
   answered_as : (path : List Deed) (answer : TaskPoll (Option T)) → AnswerPath woken compared awaiter path answer → AnswerPath woken compared awaiter path (answer_as f answer)

@@ -2,8 +2,8 @@
 use Rattle.std.specs.Prelude.{◌≡◌, Bool, true, false, not, List, [], ◌∷◌, ◌++◌, Option, Some, None, Result, Ok, Err, IfSome, ⊤}
 use Rattle.task_core.specs.Word.{State, is_open}
 use Rattle.task_core.specs.declared.traits.TaskPoll.{TaskPoll}
-use Rattle.task_core.specs.declared.traits.TaskPoll.TheVariants.{Pending as Waits, Ready, NoMemory}
-use Rattle.task_core.specs.declared.moves.Act.TheVariants.{LookFinished, EndCall}
+use Rattle.task_core.specs.declared.traits.TaskPoll.TheVariants.{Pending as Waits, Ready, Refused}
+use Rattle.task_core.specs.declared.acts.Act.TheVariants.{LookFinished, EndCall}
 use Rattle.task_steps.specs.declared.table.Deed.{Deed}
 use Rattle.task_cell.specs.declared.cell.Party.{Party}
 use Rattle.task_cell.specs.Calls.{Goes, position}
@@ -16,20 +16,20 @@ abbrev pub fallible_answer : {T E : Type 0} → TaskPoll (Result T E) → TaskPo
 fallible_answer (Ready (Ok output)) = Ready (Some output)
 fallible_answer (Ready (Err closed)) = Ready None
 fallible_answer Waits = Waits
-fallible_answer NoMemory = NoMemory
+fallible_answer Refused = Refused
 
 -- the answer of a Task's poll says that no output will come
 abbrev pub is_closed : {T E : Type 0} → TaskPoll (Result T E) → Bool
 is_closed (Ready (Ok output)) = false
 is_closed (Ready (Err closed)) = true
 is_closed Waits = false
-is_closed NoMemory = false
+is_closed Refused = false
 
 -- the fact holds of the output that such a poll handed out, if there is one
 abbrev pub IfSomeOutput : {T : Type 0} → TaskPoll (Option T) → (T → Type 0) → Type 0
 IfSomeOutput (Ready answer) P = IfSome answer P
 IfSomeOutput Waits P = ⊤
-IfSomeOutput NoMemory P = ⊤
+IfSomeOutput Refused P = ⊤
 
 -- a path that closes the task, or none where it was closed before
 abbrev pub ClosesUnless : Bool → (List Deed → Type 0) → List Deed → Type 0

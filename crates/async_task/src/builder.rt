@@ -73,7 +73,7 @@ impl<M: Default> Default for Builder<M> {
 }
 
 impl<M> Builder<M> {
-    /// The same builder for tasks that may have this many references. A number above `LIMIT` is taken as `LIMIT`; at 0 every `clone` and `waker` is refused.
+    /// The same builder for tasks that may have this many references. A number above `LIMIT` is taken as `LIMIT`; at 0 every `try_clone` and `waker` is refused.
     pub fn reference_limit(self, references: u64) -> Builder<M>
         ensures metadata { result.metadata ≡ self.metadata }
         ensures limit { result.limit ≡ min references LIMIT }

@@ -75,7 +75,7 @@ where
     /// Otherwise a clone of `awaiter` is registered, to be woken then.
     ///
     /// The output meets what the type of the future states. After `None` each later poll answers the same.
-    /// `NoMemory` says that the clone was refused: the task is cancelled all the same, nothing was registered, and an awaiter that an earlier poll registered is still woken.
+    /// `Refused` says that the clone was refused: the task is cancelled all the same, nothing was registered, and an awaiter that an earlier poll registered is still woken.
     pub fn poll(&mut self, awaiter: &A) -> TaskPoll<Option<F::Output>>
         ensures path { PollsClosed self.old.cancelled (CancelPath (HandedOver Q.scheduled (arc_value self.old.task.inner.share.cell) self.old.task.around false) ((a : A) × A.woken a)) A.cloned A.woken A.woken_by_ref A.compared awaiter.now self.old.task.inner.party self.new.task.inner.party result }
         ensures meets { IfSomeOutput result (λ output. ∥ F.Yields.meets output ∥₁) }

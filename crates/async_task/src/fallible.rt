@@ -95,7 +95,7 @@ where
     /// Answers with the output once there is one, or with `None` where the task is closed. Otherwise a clone of `awaiter` is registered, to be woken then.
     ///
     /// The output meets what the type of the future states. `None` says that no output will come, and each later poll answers the same.
-    /// `NoMemory` says that the clone was refused: nothing was registered, and an awaiter that an earlier poll registered is still woken.
+    /// `Refused` says that the clone was refused: nothing was registered, and an awaiter that an earlier poll registered is still woken.
     pub fn poll(&mut self, awaiter: &A) -> TaskPoll<Option<F::Output>>
         ensures path { PollsOnce A.cloned A.woken A.woken_by_ref A.compared awaiter.now self.old.task.inner.party self.new.task.inner.party result }
         ensures meets { IfSomeOutput result (λ output. ∥ F.Yields.meets output ∥₁) }

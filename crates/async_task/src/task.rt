@@ -62,7 +62,7 @@ impl<R: Wait + Drop, F: Yields, Q: Drop, M: Drop, A: Wake, B: Allocator> TaskPar
     {
         match self.share.cell().poll(&mut self.party, awaiter) {
             TaskPoll::Pending => TaskPoll::Pending,
-            TaskPoll::NoMemory => TaskPoll::NoMemory,
+            TaskPoll::Refused => TaskPoll::Refused,
             TaskPoll::Ready(Some(kept)) => TaskPoll::Ready(Some(kept.output)),
             TaskPoll::Ready(None) => TaskPoll::Ready(None),
         }
@@ -212,7 +212,7 @@ where
     /// Answers with the output once there is one, or with `TaskClosed`. Otherwise a clone of `awaiter` is registered, to be woken then.
     ///
     /// The output meets what the type of the future states. `TaskClosed` says that no output will come, and each later poll answers the same.
-    /// `NoMemory` says that the clone was refused: nothing was registered, and an awaiter that an earlier poll registered is still woken.
+    /// `Refused` says that the clone was refused: nothing was registered, and an awaiter that an earlier poll registered is still woken.
     pub fn poll(&mut self, awaiter: &A) -> TaskPoll<Result<F::Output, TaskClosed>>
         ensures path { PollsOnce A.cloned A.woken A.woken_by_ref A.compared awaiter.now self.old.inner.party self.new.inner.party (fallible_answer result) }
         ensures meets { IfOutput result (λ output. ∥ F.Yields.meets output ∥₁) }
@@ -223,7 +223,7 @@ where
     {
         match self.inner.poll(awaiter) {
             TaskPoll::Pending => TaskPoll::Pending,
-            TaskPoll::NoMemory => TaskPoll::NoMemory,
+            TaskPoll::Refused => TaskPoll::Refused,
             TaskPoll::Ready(Some(output)) => TaskPoll::Ready(Ok(output)),
             TaskPoll::Ready(None) => TaskPoll::Ready(Err(TaskClosed)),
         }

@@ -21,7 +21,7 @@ fn answer_of<R: Wait + Drop + Copy>(
     Ok(match task.poll(&awaiter) {
         TaskPoll::Ready(Ok(answer)) => Some(answer),
         TaskPoll::Ready(Err(_)) => Some(0),
-        TaskPoll::Pending | TaskPoll::NoMemory => None,
+        TaskPoll::Pending | TaskPoll::Refused => None,
     })
 }
 

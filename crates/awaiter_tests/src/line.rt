@@ -167,7 +167,7 @@ impl<R: Wait + Drop + Copy> Line<R> {
         other: usize,
         waker: &LineWaker<'x, R>,
     ) -> Poll<u64> {
-        let Some(clone) = waker.clone() else {
+        let Some(clone) = waker.try_clone() else {
             return Poll::Ready(0);
         };
         drop(self.swap_waker(number, Some(clone.with_around(()))));
@@ -179,7 +179,7 @@ impl<R: Wait + Drop + Copy> Line<R> {
         };
         match task.poll(&awaiter) {
             TaskPoll::Ready(Ok(answer)) => Poll::Ready(answer.saturating_add(1)),
-            TaskPoll::Ready(Err(_)) | TaskPoll::NoMemory => Poll::Ready(0),
+            TaskPoll::Ready(Err(_)) | TaskPoll::Refused => Poll::Ready(0),
             TaskPoll::Pending => {
                 self.keep_task(other, task);
                 Poll::Pending

@@ -14,7 +14,7 @@ pub enum BlockOnError {
     /// The task is closed: no output will come.
     Closed,
     /// Memory was refused. The Task is as it was but for its polls, and may be waited for again.
-    NoMemory,
+    Refused,
 }
 
 /// Waits for the output of a task, asleep until the task wakes this thread. Other threads have to run the task.
@@ -38,13 +38,13 @@ where
     ensures cell { task.new.inner.share ≡ task.old.inner.share }
     ensures around { task.new.around ≡ task.old.around }
 {
-    let mailbox = Mailbox::new(rt, alloc, 1).map_err(|_| BlockOnError::NoMemory)?;
-    let awaiter = Awaiter::new(&mailbox, 0).ok_or(BlockOnError::NoMemory)?;
+    let mailbox = Mailbox::new(rt, alloc, 1).map_err(|_| BlockOnError::Refused)?;
+    let awaiter = Awaiter::new(&mailbox, 0).ok_or(BlockOnError::Refused)?;
     for _ in rt.forever() {
         match task.poll(&awaiter) {
             TaskPoll::Ready(Ok(output)) => return Ok(output),
             TaskPoll::Ready(Err(_)) => return Err(BlockOnError::Closed),
-            TaskPoll::NoMemory => return Err(BlockOnError::NoMemory),
+            TaskPoll::Refused => return Err(BlockOnError::Refused),
             TaskPoll::Pending => {
                 mailbox.wait();
             }

@@ -35,7 +35,7 @@ pub fn keep_waker<'x, R: Wait + Drop + Copy, F: Yields, A: Wake>(
     key: &Key<R>,
 ) -> bool {
     let place = waker.around();
-    let Some(clone) = waker.clone() else {
+    let Some(clone) = waker.try_clone() else {
         return false;
     };
     let before = place

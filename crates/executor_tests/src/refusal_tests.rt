@@ -83,7 +83,7 @@ impl<'x, R: Wait + Drop, M: Drop, B: Allocator> Future<WideWaker<'x, R, M, B>> f
     ghost polled = { λ _ _ _ _. ⊤ };
 
     fn poll(&mut self, waker: &WideWaker<'x, R, M, B>) -> Poll<Output> {
-        match waker.clone() {
+        match waker.try_clone() {
             Some(clone) => drop(clone),
             None => waker.around().add_one(),
         }
@@ -378,7 +378,7 @@ fn clone_of<'x, 'heap, R: Wait + Abort + Drop + Copy>(
     rt: R,
     waker: &HeapWaker<'x, 'heap, R>,
 ) -> HeapWaker<'x, 'heap, R> {
-    match waker.clone() {
+    match waker.try_clone() {
         Some(clone) => clone,
         None => panic!(rt; "a clone of a waker was refused"),
     }
@@ -386,7 +386,7 @@ fn clone_of<'x, 'heap, R: Wait + Abort + Drop + Copy>(
 
 // Whether a waker is refused a clone. One that is given is dropped.
 fn refuses_clone<R: Wait + Drop>(waker: &HeapWaker<'_, '_, R>) -> bool {
-    waker.clone().is_none()
+    waker.try_clone().is_none()
 }
 
 // Runs.

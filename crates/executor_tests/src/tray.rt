@@ -253,7 +253,7 @@ pub fn clone_of<'x, 'heap, R: Wait + Abort + Drop + Copy>(
     rt: R,
     waker: &TrayWaker<'x, 'heap, R>,
 ) -> TrayWaker<'x, 'heap, R> {
-    match waker.clone() {
+    match waker.try_clone() {
         Some(clone) => clone,
         None => panic!(rt; "a clone of a waker was refused"),
     }

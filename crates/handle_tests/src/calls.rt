@@ -146,7 +146,7 @@ pub fn clone_of<'x, R: Wait + Abort + Drop + Copy>(
     rt: R,
     waker: &RowWaker<'x, R>,
 ) -> RowWaker<'x, R> {
-    match waker.clone() {
+    match waker.try_clone() {
         Some(clone) => clone,
         None => panic!(rt; "a clone of a waker was refused"),
     }
@@ -154,7 +154,7 @@ pub fn clone_of<'x, R: Wait + Abort + Drop + Copy>(
 
 /// Whether a waker is refused a clone. One that is given is dropped.
 pub fn refuses_clone<R: Wait + Drop>(waker: &RowWaker<'_, R>) -> bool {
-    waker.clone().is_none()
+    waker.try_clone().is_none()
 }
 
 /// Wakes by value.

@@ -2,7 +2,7 @@
 use Rattle.std.proofs.Common.{◌≡◌, ℕ, Bool, true, false, not, nat_lt, [], ◌∷◌, Option, Some, None, refl, subst, if◌then◌else◌, arith}
 use Rattle.task_core.specs.declared.traits.Poll.TheVariants.{Pending, Ready}
 use Rattle.task_core.specs.Local.{Local, opening_task, starts, settles, discards, wakes, gains_waker, drops_waker, cancels, detaches, claims, registers, is_done, is_queued, is_started, is_emptied}
-use Rattle.local_task.specs.LocalCalls.{Call, Start, DiscardRunnable, Wake, AddWaker, DropWaker, Cancel, Detach, Settle, PollTask, may_be_called, effect_of_start, row, then_called, all_called, IsSound, CallsAreSound}
+use Rattle.local_task.specs.LocalCalls.{Call, Start, DiscardRunnable, Wake, AddWaker, DropWaker, Cancel, Detach, Settle, PollTask, may_be_called, effect_of_start, effect_of_call, then_called, all_called, IsSound, CallsAreSound}
 
 module _ {F T A : Type 0} where
   opening-sound : (limit : ℕ) (f : F) → IsSound F T A limit (opening_task f)
@@ -166,7 +166,7 @@ module _ {F T A : Type 0} where
   poll-sound limit None same false t d s m = refuse-sound limit t s
   poll-sound limit (Some clone) same false t d s m = register-sound limit clone t s m d
 
-  row-sound : (limit : ℕ) (call : Call F T A) (t : Local F T A) → IsSound F T A limit t → may_be_called call t ≡ true → IsSound F T A limit ((row limit call t).task)
+  row-sound : (limit : ℕ) (call : Call F T A) (t : Local F T A) → IsSound F T A limit t → may_be_called call t ≡ true → IsSound F T A limit ((effect_of_call limit call t).task)
   row-sound limit Start t s m = start-sound limit t s
   row-sound limit DiscardRunnable t s m = discard-sound limit t s m
   row-sound limit Wake t s m = wake-sound limit t s
@@ -184,7 +184,7 @@ module _ {F T A : Type 0} where
 
   then-sound : (limit : ℕ) (call : Call F T A) (before : Option (Local F T A)) (t : Local F T A) → ((u : Local F T A) → before ≡ Some u → IsSound F T A limit u) → then_called limit call before ≡ Some t → IsSound F T A limit t
   then-sound limit call None t s e = absurd (cc)
-  then-sound limit call (Some u) t s e = if-sound limit (may_be_called call u) ((row limit call u).task) t (row-sound limit call u (s u refl)) e
+  then-sound limit call (Some u) t s e = if-sound limit (may_be_called call u) ((effect_of_call limit call u).task) t (row-sound limit call u (s u refl)) e
 
   pub calls-sound : (limit : ℕ) → CallsAreSound F T A limit
   calls-sound limit f [] t e = let same : opening_task f ≡ t = cc in subst (IsSound F T A limit) same (opening-sound limit f)

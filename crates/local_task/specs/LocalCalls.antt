@@ -27,21 +27,21 @@ effect_of_start (IsEnded effect) = effect
 effect_of_start (IsNotDue effect) = effect
 
 -- the row of a call, for a limit of the references
-abbrev pub row : {F T A : Type 0} → ℕ → Call F T A → Local F T A → Effect F T A
-row limit Start t = effect_of_start (starts t)
-row limit DiscardRunnable t = discards t
-row limit Wake t = wakes t
-row limit AddWaker t = gains_waker limit t
-row limit DropWaker t = drops_waker t
-row limit Cancel t = cancels t
-row limit Detach t = detaches t
-row limit (Settle f polled) t = settles f polled t
-row limit (PollTask clone same) t = (if is_done t.phase then claims same t else registers clone t).effect
+abbrev pub effect_of_call : {F T A : Type 0} → ℕ → Call F T A → Local F T A → Effect F T A
+effect_of_call limit Start t = effect_of_start (starts t)
+effect_of_call limit DiscardRunnable t = discards t
+effect_of_call limit Wake t = wakes t
+effect_of_call limit AddWaker t = gains_waker limit t
+effect_of_call limit DropWaker t = drops_waker t
+effect_of_call limit Cancel t = cancels t
+effect_of_call limit Detach t = detaches t
+effect_of_call limit (Settle f polled) t = settles f polled t
+effect_of_call limit (PollTask clone same) t = (if is_done t.phase then claims same t else registers clone t).effect
 
 -- the task after the calls, the newest first, from a new one
 abbrev pub then_called : {F T A : Type 0} → ℕ → Call F T A → Option (Local F T A) → Option (Local F T A)
 then_called limit call None = None
-then_called limit call (Some t) = if may_be_called call t then Some ((row limit call t).task) else None
+then_called limit call (Some t) = if may_be_called call t then Some ((effect_of_call limit call t).task) else None
 
 abbrev pub all_called : {F T A : Type 0} → ℕ → F → List (Call F T A) → Option (Local F T A)
 all_called limit f [] = Some (opening_task f)

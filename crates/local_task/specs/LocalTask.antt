@@ -67,7 +67,7 @@ answered_of t r = record { answer = r.0; effect = effect_of t r.1 }
 abbrev pub started_of : {F T A : Type 0} → Local F T A → Start F T A → Started F T A
 started_of t (start.Poll future) = IsPolled (record (becomes t) { future = Some future })
 started_of t (start.Ended settled) = IsEnded (effect_of t settled)
-started_of t start.Idle = IsNotDue (becomes t)
+started_of t start.NotDue = IsNotDue (becomes t)
 
 -- a poll of a task that is done, with what `will_wake` of its stored awaiter answered
 abbrev pub Claims : {F T A : Type 0} → (A → Bool → Type 0) → Local F T A → Answered F T A → Type 0

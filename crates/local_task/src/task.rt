@@ -124,7 +124,7 @@ pub enum Start<F, T, A> {
     /// The task was closed: it has ended, and its future is not polled.
     Ended(Settled<F, T, A>),
     /// The task was not queued: nothing has changed.
-    Idle,
+    NotDue,
 }
 
 // Whether the task was closed while it still has its future.
@@ -295,7 +295,7 @@ impl<F: Drop, T: Drop, M, A: Drop> LocalTask<F, T, M, A> {
 
     /// The task was taken from the queue: its future is to be polled, or the task was closed and has ended. A task that is not queued stays as it is.
     pub fn start(&mut self) -> Start<F, T, A>
-        ensures row { started_of self.new.task result ≡ starts self.old.task }
+        ensures effect { started_of self.new.task result ≡ starts self.old.task }
         ensures metadata { self.new.metadata ≡ self.old.metadata }
     {
         match mem::replace(&mut self.stage, Stage::Ended) {
@@ -306,7 +306,7 @@ impl<F: Drop, T: Drop, M, A: Drop> LocalTask<F, T, M, A> {
             Stage::Queued(future, Closed) => Start::Ended(self.finish(future, None)),
             stage => {
                 self.stage = stage;
-                Start::Idle
+                Start::NotDue
             }
         }
     }
@@ -315,7 +315,7 @@ impl<F: Drop, T: Drop, M, A: Drop> LocalTask<F, T, M, A> {
     /// meanwhile. The task is queued again if it was woken meanwhile, and for the last time if nobody is left to wake it.
     pub fn settle(&mut self, future: F, polled: Poll<T>) -> Settled<F, T, A>
         requires { local.is_started self.old.task.phase ≡ true }
-        ensures row { effect_of self.new.task result ≡ settles future polled self.old.task }
+        ensures effect { effect_of self.new.task result ≡ settles future polled self.old.task }
         ensures metadata { self.new.metadata ≡ self.old.metadata }
     {
         match polled {
@@ -327,7 +327,7 @@ impl<F: Drop, T: Drop, M, A: Drop> LocalTask<F, T, M, A> {
     // The future answered Ready.
     fn complete(&mut self, future: F, output: T) -> Settled<F, T, A>
         requires { local.is_started self.old.task.phase ≡ true }
-        ensures row { effect_of self.new.task result ≡ settles future (Poll.Ready output) self.old.task }
+        ensures effect { effect_of self.new.task result ≡ settles future (Poll.Ready output) self.old.task }
         ensures metadata { self.new.metadata ≡ self.old.metadata }
     {
         if self.has_task && !self.is_finished() {
@@ -341,7 +341,7 @@ impl<F: Drop, T: Drop, M, A: Drop> LocalTask<F, T, M, A> {
     // The future answered Pending.
     fn suspend(&mut self, future: F) -> Settled<F, T, A>
         requires { local.is_started self.old.task.phase ≡ true }
-        ensures row { effect_of self.new.task result ≡ settles future Poll.Pending self.old.task }
+        ensures effect { effect_of self.new.task result ≡ settles future Poll.Pending self.old.task }
         ensures metadata { self.new.metadata ≡ self.old.metadata }
     {
         match mem::replace(&mut self.stage, Stage::Ended) {
@@ -360,7 +360,7 @@ impl<F: Drop, T: Drop, M, A: Drop> LocalTask<F, T, M, A> {
     /// The Runnable was dropped in place of being run: the task is closed and ends, and its future is not polled.
     pub fn discard_runnable(&mut self) -> Settled<F, T, A>
         requires { local.is_queued self.old.task.phase ≡ true }
-        ensures row { effect_of self.new.task result ≡ discards self.old.task }
+        ensures effect { effect_of self.new.task result ≡ discards self.old.task }
         ensures metadata { self.new.metadata ≡ self.old.metadata }
     {
         match mem::replace(&mut self.stage, Stage::Ended) {
@@ -380,7 +380,7 @@ impl<F: Drop, T: Drop, M, A: Drop> LocalTask<F, T, M, A> {
     /// A waker wakes the task. `Some` where the owner is to put it into the queue; a task that is queued, over, or between `start` and `settle`
     /// is not put there by this call.
     pub fn wake(&mut self) -> Option<ScheduleInfo>
-        ensures row { queued_of self.new.task result ≡ wakes self.old.task }
+        ensures effect { queued_of self.new.task result ≡ wakes self.old.task }
         ensures metadata { self.new.metadata ≡ self.old.metadata }
     {
         match mem::replace(&mut self.stage, Stage::Ended) {
@@ -397,7 +397,7 @@ impl<F: Drop, T: Drop, M, A: Drop> LocalTask<F, T, M, A> {
     /// There is one waker more. `false` where the references, the wakers and that of a Runnable or a run, have reached `LIMIT`: nothing has changed.
     pub fn add_waker(&mut self) -> bool
         requires { local.is_emptied self.old.task ≡ false }
-        ensures row { becomes self.new.task ≡ gains_waker LIMIT self.old.task }
+        ensures effect { becomes self.new.task ≡ gains_waker LIMIT self.old.task }
         ensures room { result ≡ has_room LIMIT self.old.task }
         ensures metadata { self.new.metadata ≡ self.old.metadata }
     {
@@ -411,7 +411,7 @@ impl<F: Drop, T: Drop, M, A: Drop> LocalTask<F, T, M, A> {
     /// A waker was dropped. Where nobody is left to wake an idle task, it is closed and queued, for its future to be dropped.
     pub fn drop_waker(&mut self) -> Settled<F, T, A>
         requires { 0 < self.old.task.wakers }
-        ensures row { effect_of self.new.task result ≡ drops_waker self.old.task }
+        ensures effect { effect_of self.new.task result ≡ drops_waker self.old.task }
         ensures metadata { self.new.metadata ≡ self.old.metadata }
     {
         self.wakers -= 1;
@@ -427,7 +427,7 @@ impl<F: Drop, T: Drop, M, A: Drop> LocalTask<F, T, M, A> {
     /// The Task cancels the task: it is closed, unless it is over. An idle one is queued, for its future to be dropped.
     pub fn cancel(&mut self) -> Settled<F, T, A>
         requires { self.old.task.has_task ≡ true }
-        ensures row { effect_of self.new.task result ≡ cancels self.old.task }
+        ensures effect { effect_of self.new.task result ≡ cancels self.old.task }
         ensures metadata { self.new.metadata ≡ self.old.metadata }
     {
         if self.is_finished() {
@@ -441,7 +441,7 @@ impl<F: Drop, T: Drop, M, A: Drop> LocalTask<F, T, M, A> {
     /// queued, for its future to be dropped. The Task's drop is a `cancel` and then a `detach`.
     pub fn detach(&mut self) -> Settled<F, T, A>
         requires { self.old.task.has_task ≡ true }
-        ensures row { effect_of self.new.task result ≡ detaches self.old.task }
+        ensures effect { effect_of self.new.task result ≡ detaches self.old.task }
         ensures metadata { self.new.metadata ≡ self.old.metadata }
     {
         self.has_task = false;
@@ -464,7 +464,7 @@ impl<F: Drop, T: Drop, M, A: Wake> LocalTask<F, T, M, A> {
     ghost use Rattle.task_core.specs.Local as local;
 
     /// The Task is polled by `awaiter`. Where the future has gone the answer is ready: with the output, or with `None` if the task was closed or the output
-    /// claimed. Else it is Pending, and a clone of the awaiter is stored in place of the one before; or `NoMemory`, where the awaiter refuses to be
+    /// claimed. Else it is Pending, and a clone of the awaiter is stored in place of the one before; or `Refused`, where the awaiter refuses to be
     /// cloned: nothing has changed.
     pub fn poll(&mut self, awaiter: &A) -> (TaskPoll<Option<T>>, Settled<F, T, A>)
         requires { self.old.task.has_task ≡ true }
@@ -504,7 +504,7 @@ impl<F: Drop, T: Drop, M, A: Wake> LocalTask<F, T, M, A> {
         ensures metadata { self.new.metadata ≡ self.old.metadata }
     {
         let Some(clone) = awaiter.try_clone() else {
-            return (TaskPoll::NoMemory, Settled::nothing());
+            return (TaskPoll::Refused, Settled::nothing());
         };
         let mut settled = Settled::nothing();
         settled.dropped = mem::replace(&mut self.awaiter, Some(clone));
@@ -520,7 +520,7 @@ impl<F: Drop, T: Drop, M, A: Drop> LocalTask<F, T, M, A> {
 
     // The future has gone: the awaiter is taken, and the task is emptied if nobody is left.
     fn finish(&mut self, future: F, output: Option<T>) -> Settled<F, T, A>
-        ensures row { effect_of self.new.task result ≡
+        ensures effect { effect_of self.new.task result ≡
             empties (takes (record (becomes self.old.task) { future = Some future; output = output })) }
         ensures metadata { self.new.metadata ≡ self.old.metadata }
     {
@@ -530,7 +530,7 @@ impl<F: Drop, T: Drop, M, A: Drop> LocalTask<F, T, M, A> {
 
     // An awaiter that is not forgotten is handed out, to be woken.
     fn take_awaiter(&mut self, mut settled: Settled<F, T, A>) -> Settled<F, T, A>
-        ensures row { effect_of self.new.task result ≡ takes (effect_of self.old.task settled) }
+        ensures effect { effect_of self.new.task result ≡ takes (effect_of self.old.task settled) }
         ensures metadata { self.new.metadata ≡ self.old.metadata }
     {
         settled.wake = if self.forgotten {
@@ -543,7 +543,7 @@ impl<F: Drop, T: Drop, M, A: Drop> LocalTask<F, T, M, A> {
 
     // Where nobody is left, a stored awaiter is handed out, to be dropped.
     fn empty(&mut self, mut settled: Settled<F, T, A>) -> Settled<F, T, A>
-        ensures row { effect_of self.new.task result ≡ empties (effect_of self.old.task settled) }
+        ensures effect { effect_of self.new.task result ≡ empties (effect_of self.old.task settled) }
         ensures metadata { self.new.metadata ≡ self.old.metadata }
     {
         if !self.has_task && self.wakers == 0 && !self.holds_reference() {
@@ -555,7 +555,7 @@ impl<F: Drop, T: Drop, M, A: Drop> LocalTask<F, T, M, A> {
 
     // Where nobody is left, an idle task is closed and queued, and one that is done is emptied.
     fn end_if_abandoned(&mut self) -> Settled<F, T, A>
-        ensures row { effect_of self.new.task result ≡ empties (loses_at self.old.task.phase self.old.task) }
+        ensures effect { effect_of self.new.task result ≡ empties (loses_at self.old.task.phase self.old.task) }
         ensures metadata { self.new.metadata ≡ self.old.metadata }
     {
         match mem::replace(&mut self.stage, Stage::Ended) {
@@ -573,7 +573,7 @@ impl<F: Drop, T: Drop, M, A: Drop> LocalTask<F, T, M, A> {
 
     // The task is closed, if it is not over, and queued if it is idle.
     fn close(&mut self) -> Settled<F, T, A>
-        ensures row { effect_of self.new.task result ≡ cancels_at self.old.task.phase self.old.task }
+        ensures effect { effect_of self.new.task result ≡ cancels_at self.old.task.phase self.old.task }
         ensures metadata { self.new.metadata ≡ self.old.metadata }
     {
         match mem::replace(&mut self.stage, Stage::Ended) {

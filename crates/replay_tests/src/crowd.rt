@@ -1,8 +1,8 @@
 //! A player with many parties: each step takes the same time, however many there are.
 
 use std::test::Fail;
-use task_core::moves::Act;
-use task_core::moves::Act::*;
+use task_core::acts::Act;
+use task_core::acts::Act::*;
 use task_core::word::LIMIT;
 use task_replay::Step;
 use task_replay::player::{PlayError, Player};

@@ -3,8 +3,8 @@
 //! Party 0 is the first Runnable, party 1 the Task, and party 2 the waker that is lent to each call by reference: a poll of the future gains by it. Those
 //! that are added follow: a waker, a waker that is lent to one call alone, a deliverer, a Runnable that is handed over.
 
-use task_core::moves::Act;
-use task_core::moves::Act::*;
+use task_core::acts::Act;
+use task_core::acts::Act::*;
 
 /// A life of a task.
 pub struct Life {

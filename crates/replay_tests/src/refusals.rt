@@ -10,10 +10,10 @@ use crate::turns::steps_of;
 use std::alloc::Global;
 use std::process::Abort;
 use std::test::Fail;
-use task_core::moves::Act;
-use task_core::moves::Act::*;
+use task_core::acts::Act;
+use task_core::acts::Act::*;
 use task_core::word::Word;
-use task_laws::positions::{Closer, Position, Rest, Way};
+use task_laws::positions::{NotifyingCall, Position, Rest, WithoutPoll};
 use task_replay::player::{PlayError, Player};
 use task_replay::refusal::Refusal;
 use task_replay::{ReplayError, Step, replay};
@@ -428,14 +428,14 @@ const NEVER: [(&[(u64, &[Act])], u64, Act, Position); 10] = [
         &[(0, &[DiscardOpen])],
         0,
         Unschedule,
-        Position::FutureInHand(Closer::DroppedRunnable),
+        Position::FutureInHand(WithoutPoll::DroppedRunnable),
     ),
     (&[(0, PENDS)], 0, EndClosed, Position::Pending),
     (
         &[(1, POLLS), (0, UNSCHEDULES), (0, &[BeginNotify])],
         0,
         EndNotify,
-        Position::Taker(Way::OfDrop),
+        Position::Taker(NotifyingCall::OfDrop),
     ),
     (
         &[(1, REGISTERS_AND_STORES)],

@@ -1,7 +1,7 @@
 //! A list of steps, written as turns: a party, and the acts that it makes one after another.
 
 use std::alloc::{AllocError, Global};
-use task_core::moves::Act;
+use task_core::acts::Act;
 use task_replay::Step;
 
 /// The steps of these turns, in their order.

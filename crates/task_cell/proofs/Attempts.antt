@@ -5,11 +5,11 @@ use prog.Atomic.{either}
 use Rattle.atomic_table.specs.Table.{Me, step, Allows}
 use Rattle.task_core.specs.Word.{State, state_of, number_of}
 use Rattle.task_core.proofs.Bits.{state_of_number_of}
-use Rattle.task_core.specs.declared.moves.Act.{Act}
+use Rattle.task_core.specs.declared.acts.Act.{Act}
 use Rattle.task_steps.specs.declared.table.Slot.{Slot}
 use Rattle.task_steps.specs.declared.table.Tries.{Tries}
 use Rattle.task_steps.specs.declared.table.View.{View}
-use Rattle.task_steps.specs.Rule.{Ruled}
+use Rattle.task_steps.specs.Rule.{RuleHolds}
 use Rattle.task_steps.specs.Steps.{head_of, Makes}
 use Rattle.task_laws.specs.Machine.{Machine}
 use Rattle.task_laws.specs.declared.positions.Position.{Position}
@@ -41,15 +41,15 @@ module _ {F T A : Type 0} where
   -- what the rule allows an attempt, at the seat as it is now
   pub may_exchange : (limit key slots id other : ℕ) (me now : Me (Slot F T A) View) (writes : ℕ → State → Option State) (ends : ℕ → State → Bool) (acts told : State → List Act) (w v : State) (old new : ℕ) → key ≡ limit → slots ≡ 3 → other ≡ id → Seeing w me now
       → MayTry limit 3 id me writes ends acts told → Some v ≡ writes limit w → old ≡ number_of w → new ≡ number_of v
-      → Allows (Ruled {F = F} {T = T} {A = A} key) slots other now 0 (λ n. either (n == old) new n) (attempted acts (step slots 0 old new none) now)
+      → Allows (RuleHolds {F = F} {T = T} {A = A} key) slots other now 0 (λ n. either (n == old) new n) (attempted acts (step slots 0 old new none) now)
   may_exchange limit key slots id other me now writes ends acts told w v old new a b c s may writing from to = subst
-      (λ (z : ℕ × ℕ × ℕ × Me (Slot F T A) View × ℕ × ℕ). Allows (Ruled {F = F} {T = T} {A = A} z.0) z.1 z.2 z.3 0 (λ n. either (n == z.4) z.5 n) (attempted acts (step z.1 0 z.4 z.5 none) z.3))
+      (λ (z : ℕ × ℕ × ℕ × Me (Slot F T A) View × ℕ × ℕ). Allows (RuleHolds {F = F} {T = T} {A = A} z.0) z.1 z.2 z.3 0 (λ n. either (n == z.4) z.5 n) (attempted acts (step z.1 0 z.4 z.5 none) z.3))
       (λ i. (sym a i, sym b i, sym c i, sym s.is i, sym from i, sym to i)) (may.exchanges s.tries w v (sym writing) s.names)
 
   pub may_load : (limit key slots id other : ℕ) (me now : Me (Slot F T A) View) (writes : ℕ → State → Option State) (ends : ℕ → State → Bool) (acts told : State → List Act) (w : State) → key ≡ limit → slots ≡ 3 → other ≡ id → Seeing w me now
-      → MayTry limit 3 id me writes ends acts told → Allows (Ruled {F = F} {T = T} {A = A} key) slots other now 0 (λ n. n) (observed ends told (step slots 0 0 0 none) now)
+      → MayTry limit 3 id me writes ends acts told → Allows (RuleHolds {F = F} {T = T} {A = A} key) slots other now 0 (λ n. n) (observed ends told (step slots 0 0 0 none) now)
   may_load limit key slots id other me now writes ends acts told w a b c s may = subst
-      (λ (z : ℕ × ℕ × ℕ × Me (Slot F T A) View). Allows (Ruled {F = F} {T = T} {A = A} z.0) z.1 z.2 z.3 0 (λ n. n) (observed ends told (step z.1 0 0 0 none) z.3))
+      (λ (z : ℕ × ℕ × ℕ × Me (Slot F T A) View). Allows (RuleHolds {F = F} {T = T} {A = A} z.0) z.1 z.2 z.3 0 (λ n. n) (observed ends told (step z.1 0 0 0 none) z.3))
       (λ i. (sym a i, sym b i, sym c i, sym s.is i)) (may.loads s.tries)
 
   -- the next round: after a load, and after a miss

@@ -2,10 +2,10 @@
 use Rattle.std.proofs.Common.{◌≡◌, ℕ, Bool, true, false, not, ◌&&◌, ◌||◌, List, [], ◌∷◌, Option, Some, None, refl, sym, ap, ◌∙◌, subst}
 use Rattle.std.specs.Prelude.{if◌then◌else◌}
 use Rattle.task_core.specs.Word.{State}
-use Rattle.task_laws.specs.declared.positions.Way.{Way}
+use Rattle.task_laws.specs.declared.positions.NotifyingCall.{NotifyingCall}
 use Rattle.task_laws.specs.declared.positions.Position.TheVariants.{Notifier, Releaser}
-use Rattle.task_core.specs.declared.moves.Act.TheVariants.{MissNotify, BeginNotify, TakeAwaiter, EndNotify}
-use Rattle.task_laws.specs.Table.{goes_on}
+use Rattle.task_core.specs.declared.acts.Act.TheVariants.{MissNotify, BeginNotify, TakeAwaiter, EndNotify}
+use Rattle.task_laws.specs.Table.{after_taking}
 use Rattle.task_steps.specs.declared.table.Slot.{Slot}
 use Rattle.task_steps.specs.declared.table.Slot.TheVariants.{Empty, Future, Output, Awaiter}
 use Rattle.task_steps.specs.declared.table.Deed.{Deed}
@@ -39,26 +39,26 @@ awaiter_there (Awaiter b) a e = cc
 
 module _ {F T A : Type 0} where
   -- the position and the places of a notifier, as contracts say them
-  as_said : (p q : Party F T A) (path : List Deed) (hand : Option ℕ) (way : Way) (held : List (ℕ × Slot F T A)) → StandsWith (Notifier way) held p → GoesWith path (goes_on hand way) held p q → GoesWith path (goes_on hand (way_of (position p))) (holds p) p q
-  as_said p q path hand way held s g = subst (λ (z : Way × List (ℕ × Slot F T A)). GoesWith path (goes_on hand z.0) z.1 p q)
+  as_said : (p q : Party F T A) (path : List Deed) (hand : Option ℕ) (way : NotifyingCall) (held : List (ℕ × Slot F T A)) → StandsWith (Notifier way) held p → GoesWith path (after_taking hand way) held p q → GoesWith path (after_taking hand (way_of (position p))) (holds p) p q
+  as_said p q path hand way held s g = subst (λ (z : NotifyingCall × List (ℕ × Slot F T A)). GoesWith path (after_taking hand z.0) z.1 p q)
       (λ i. (sym (ap way_of (moved.position_is p (Notifier way) held s)) i, sym (moved.held_is p (Notifier way) held s) i)) g
 
-  pub missed : (way : Way) (held : List (ℕ × Slot F T A)) (p q : Party F T A) (w : State) → StandsWith (Notifier way) held p → q.seat.table_id ≡ p.seat.table_id
+  pub missed : (way : NotifyingCall) (held : List (ℕ × Slot F T A)) (p q : Party F T A) (w : State) → StandsWith (Notifier way) held p → q.seat.table_id ≡ p.seat.table_id
       → Makes (taking_awaiter w) w p.seat.me q.seat.me → (w.notifying || w.registering) ≡ true → Notifies p q None
   missed way held p q w s cell made is =
       let m = moved.moved (MissNotify ∷ []) w (Notifier way) held p q s (subst (λ b. Makes (if b then MissNotify ∷ [] else BeginNotify ∷ TakeAwaiter ∷ []) w p.seat.me q.seat.me) is made) in
-      misses w is (as_said p q (row MissNotify w ∷ []) None way held s (moved.goes p q (row MissNotify w ∷ []) (goes_on None way) held cell m.viewed
-      (keeps_places (Notifier way) (goes_on None way) held q.seat.me.1 (on_work None way) (on_free None way) m.carried)))
+      misses w is (as_said p q (row MissNotify w ∷ []) None way held s (moved.goes p q (row MissNotify w ∷ []) (after_taking None way) held cell m.viewed
+      (keeps_places (Notifier way) (after_taking None way) held q.seat.me.1 (on_work None way) (on_free None way) m.carried)))
 
   -- the awaiter slot was taken, with this value
-  pub record Taken (way : Way) (held : List (ℕ × Slot F T A)) (w : State) (p q : Party F T A) : Type 0 where
+  pub record Taken (way : NotifyingCall) (held : List (ℕ × Slot F T A)) (w : State) (p q : Party F T A) : Type 0 where
     pub hand : Option ℕ
     pub value : Slot F T A
     pub waits : Waits hand value
     pub fits : Fits BeginNotify w
     pub goes : GoesWith (row BeginNotify w ∷ act TakeAwaiter ∷ []) (Releaser hand way) ((2, value) ∷ held) p q
 
-  pub taken : (way : Way) (held : List (ℕ × Slot F T A)) (p q : Party F T A) (w : State) → StandsWith (Notifier way) held p → q.seat.table_id ≡ p.seat.table_id
+  pub taken : (way : NotifyingCall) (held : List (ℕ × Slot F T A)) (p q : Party F T A) (w : State) → StandsWith (Notifier way) held p → q.seat.table_id ≡ p.seat.table_id
       → Makes (taking_awaiter w) w p.seat.me q.seat.me → (w.notifying || w.registering) ≡ false → Taken way held w p q
   taken way held p q w s cell made is =
       let m = moved.moved (BeginNotify ∷ TakeAwaiter ∷ []) w (Notifier way) held p q s (subst (λ b. Makes (if b then MissNotify ∷ [] else BeginNotify ∷ TakeAwaiter ∷ []) w p.seat.me q.seat.me) is made) in
@@ -67,17 +67,17 @@ module _ {F T A : Type 0} where
       record { hand = hand; value = y.0; waits = y.1; fits = free w.notifying w.registering is; goes = moved.goes p q (row BeginNotify w ∷ act TakeAwaiter ∷ []) (Releaser hand way) ((2, y.0) ∷ held) cell m.viewed y.2 }
 
   -- .. as nobody else was found at it
-  pub taken_free : (p q : Party F T A) (w v : State) (n r : Bool) (s : (way : Way) × (held : List (ℕ × Slot F T A)) × StandsWith (Notifier way) held p) → q.seat.table_id ≡ p.seat.table_id → Makes (taking_awaiter w) w p.seat.me q.seat.me
+  pub taken_free : (p q : Party F T A) (w v : State) (n r : Bool) (s : (way : NotifyingCall) × (held : List (ℕ × Slot F T A)) × StandsWith (Notifier way) held p) → q.seat.table_id ≡ p.seat.table_id → Makes (taking_awaiter w) w p.seat.me q.seat.me
       → v ≡ w → n ≡ v.notifying → r ≡ v.registering → n ≡ false → r ≡ false → Taken s.0 s.1 w p q
   taken_free p q w v n r s cell made same e f g h = taken s.0 s.1 p q w s.2 cell made (neither w.notifying w.registering (ap (λ u. u.notifying) (sym same) ∙ (sym e ∙ g)) (ap (λ u. u.registering) (sym same) ∙ (sym f ∙ h)))
 
-  pub released : (hand : Option ℕ) (way : Way) (y : Slot F T A) (held : List (ℕ × Slot F T A)) (p q : Party F T A) (w : State) → StandsWith (Releaser hand way) ((2, y) ∷ held) p → q.seat.table_id ≡ p.seat.table_id
-      → Makes (releasing_awaiter w) w p.seat.me q.seat.me → GoesWith (row EndNotify w ∷ []) (goes_on hand way) held p q
+  pub released : (hand : Option ℕ) (way : NotifyingCall) (y : Slot F T A) (held : List (ℕ × Slot F T A)) (p q : Party F T A) (w : State) → StandsWith (Releaser hand way) ((2, y) ∷ held) p → q.seat.table_id ≡ p.seat.table_id
+      → Makes (releasing_awaiter w) w p.seat.me q.seat.me → GoesWith (row EndNotify w ∷ []) (after_taking hand way) held p q
   released hand way y held p q w s cell made =
       let m = moved.moved (EndNotify ∷ []) w (Releaser hand way) ((2, y) ∷ held) p q s made in
-      moved.goes p q (row EndNotify w ∷ []) (goes_on hand way) held cell m.viewed (gave_awaiter (Releaser hand way) (goes_on hand way) ((2, y) ∷ held) q.seat.me.1 (on_work hand way ∙ sym (same_way hand way)) refl (on_free hand way) m.carried)
+      moved.goes p q (row EndNotify w ∷ []) (after_taking hand way) held cell m.viewed (gave_awaiter (Releaser hand way) (after_taking hand way) ((2, y) ∷ held) q.seat.me.1 (on_work hand way ∙ sym (same_way hand way)) refl (on_free hand way) m.carried)
 
-  found_there : (w v : State) (hand : Option ℕ) (y : Slot F T A) (p q : Party F T A) → Fits BeginNotify w → Waits hand y → GoesWith (row BeginNotify w ∷ act TakeAwaiter ∷ row EndNotify v ∷ []) (goes_on hand (way_of (position p))) (holds p) p q → Notifies p q (awaiter_in y)
+  found_there : (w v : State) (hand : Option ℕ) (y : Slot F T A) (p q : Party F T A) → Fits BeginNotify w → Waits hand y → GoesWith (row BeginNotify w ∷ act TakeAwaiter ∷ row EndNotify v ∷ []) (after_taking hand (way_of (position p))) (holds p) p q → Notifies p q (awaiter_in y)
   found_there w v None Empty p q b h g = finds_none w v b g
   found_there w v None (Future f) p q b h g = absurd h
   found_there w v None (Output x) p q b h g = absurd h
@@ -87,10 +87,10 @@ module _ {F T A : Type 0} where
   found_there w v (Some i) (Output x) p q b h g = absurd h
   found_there w v (Some i) (Awaiter a) p q b h g = takes_awaiter w v i a b g
 
-  pub notified : (way : Way) (held : List (ℕ × Slot F T A)) (w v : State) (hand : Option ℕ) (y : Slot F T A) (p q r : Party F T A) (found : Option A) → StandsWith (Notifier way) held p → Fits BeginNotify w → Waits hand y
+  pub notified : (way : NotifyingCall) (held : List (ℕ × Slot F T A)) (w v : State) (hand : Option ℕ) (y : Slot F T A) (p q r : Party F T A) (found : Option A) → StandsWith (Notifier way) held p → Fits BeginNotify w → Waits hand y
       → GoesWith (row BeginNotify w ∷ act TakeAwaiter ∷ []) (Releaser hand way) ((2, Empty) ∷ held) p q → r.seat.table_id ≡ q.seat.table_id → Makes (releasing_awaiter v) v q.seat.me r.seat.me → found ≡ awaiter_in y → Notifies p r found
   notified way held w v hand y p q r found s fits waits g cell made is =
       let h = released hand way Empty held q r v (moved.stands p q (row BeginNotify w ∷ act TakeAwaiter ∷ []) (Releaser hand way) ((2, Empty) ∷ held) g) cell made in
       subst (λ (x : Option A). Notifies p r x) (sym is)
       (found_there w v hand y p r fits waits (as_said p r (row BeginNotify w ∷ act TakeAwaiter ∷ row EndNotify v ∷ []) hand way held s
-      (moved.goes_on p q r (row BeginNotify w ∷ act TakeAwaiter ∷ []) (row EndNotify v ∷ []) (Releaser hand way) (goes_on hand way) ((2, Empty) ∷ held) held g h)))
+      (moved.goes_on p q r (row BeginNotify w ∷ act TakeAwaiter ∷ []) (row EndNotify v ∷ []) (Releaser hand way) (after_taking hand way) ((2, Empty) ∷ held) held g h)))

@@ -3,10 +3,10 @@ use Rattle.std.proofs.Common.{◌≡◌, ℕ, Bool, true, false, Option, Some, N
 use Rattle.std.specs.Prelude.{if◌then◌else◌, Result, Ok, Err}
 use Rattle.task_core.specs.Word.{State}
 use Rattle.task_core.specs.declared.traits.TaskPoll.{TaskPoll}
-use Rattle.task_core.specs.declared.traits.TaskPoll.TheVariants.{Ready, NoMemory}
-use Rattle.task_laws.specs.declared.positions.Way.TheVariants.{OfPoll}
+use Rattle.task_core.specs.declared.traits.TaskPoll.TheVariants.{Ready, Refused}
+use Rattle.task_laws.specs.declared.positions.NotifyingCall.TheVariants.{OfPoll}
 use Rattle.task_laws.specs.declared.positions.Position.TheVariants.{Notifier, Looking, Registrar}
-use Rattle.task_core.specs.declared.moves.Act.TheVariants.{Look, ClaimOutput, HandOutOutput, RefuseClone, EndCall}
+use Rattle.task_core.specs.declared.acts.Act.TheVariants.{Look, ClaimOutput, HandOutOutput, RefuseClone, EndCall}
 use Rattle.task_laws.specs.Table.{first_look}
 use Rattle.task_steps.specs.declared.table.Deed.{Deed}
 use Rattle.task_cell.specs.declared.cell.Party.{Party}
@@ -17,9 +17,7 @@ use Rattle.task_steps.specs.PollScripts.{has_output, has_ended, has_to_wait}
 use Rattle.task_cell.specs.PollPaths as paths
 use Rattle.task_cell.specs.PollPaths.{TakePath, TakePathIf, RegisterPath, AnswerPath, PollPath, ClaimsOutput, Looks, claims_output, sees_none, LooksAgain, claims_output_now, has_to_wait_on, sees_end, Registers, is_registered, clone_refused}
 use Rattle.task_cell.proofs.PollWays.{ends, then_goes, claimed_out}
-
-pub never : {P : Type 0} → false ≡ true → P
-never e = absurd (cc)
+use Rattle.task_steps.proofs.Bools.{never}
 
 module _ {F T A : Type 0} where
   -- a look, by its answer
@@ -88,7 +86,7 @@ module _ {F T A : Type 0} where
     pub came : (p q : Party F T A) (b c : Bool) → Registers cloned woken woken_by_ref awaiter p q b → b ≡ c → Came p q c
     came p q b c r e = came_by p q c (subst (λ b. Registers cloned woken woken_by_ref awaiter p q b) e r)
 
-    pub polled_refused : (w : State) (n : ℕ) (p q r : Party F T A) → has_output w ≡ false → has_ended w ≡ false → Goes (row Look w ∷ []) (Registrar n) p q → Came q r false → Polled n NoMemory p r
+    pub polled_refused : (w : State) (n : ℕ) (p q r : Party F T A) → has_output w ≡ false → has_ended w ≡ false → Goes (row Look w ∷ []) (Registrar n) p q → Came q r false → Polled n Refused p r
     polled_refused w n p q r e f g h = (row Look w ∷ act RefuseClone ∷ act EndCall ∷ [], paths.is_refused w e f h.0, then_goes p q r (row Look w ∷ []) (act RefuseClone ∷ act EndCall ∷ []) (Registrar n) [] [] ends g h.1)
 
     pub is_looking : (w : State) (n : ℕ) (path : List Deed) (p q r : Party F T A) → Goes (row Look w ∷ []) (Registrar n) p q → Goes path (Looking (poll_number (position q))) q r → Goes ((row Look w ∷ []) ++ path) (Looking n) p r

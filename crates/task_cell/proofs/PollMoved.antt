@@ -5,13 +5,13 @@ use Rattle.atomic_table.specs.Table.{Me, rest}
 use Rattle.task_core.specs.Word.{State, number_of}
 use Rattle.task_core.specs.Rows.{written, row as row_of}
 use Rattle.task_laws.specs.declared.positions.Position.{Position}
-use Rattle.task_laws.specs.Event.{Polls}
+use Rattle.task_laws.specs.Event.{TaskPollBegins}
 use Rattle.task_laws.specs.declared.positions.PollAnswer.TheVariants.{IsPending}
-use Rattle.task_laws.specs.declared.positions.Way.TheVariants.{OfPoll, OfClaim}
-use Rattle.task_laws.specs.declared.positions.Position.TheVariants.{Looking, Claiming, Answering, Notifier, Registrar, RefusedClone, Registered, TookBack, CloneInHand}
-use Rattle.task_core.specs.declared.moves.Act.{Act}
-use Rattle.task_core.specs.declared.moves.Act.TheVariants.{Look, CloneAwaiter, StoreAwaiter, FindNotify, BeginRegister, EndRegister, EndRegisterNotified, TakeAwaiter, ClaimOutput, EndCall}
-use Rattle.task_laws.specs.Table.{Slots, Outcome, steps, keeps, when, notifies, first_look, after_storing}
+use Rattle.task_laws.specs.declared.positions.NotifyingCall.TheVariants.{OfPoll, OfClaim}
+use Rattle.task_laws.specs.declared.positions.Position.TheVariants.{Looking, SawOutput, Answering, Notifier, Registrar, UnusedClone, Registered, TookBack, CloneInHand}
+use Rattle.task_core.specs.declared.acts.Act.{Act}
+use Rattle.task_core.specs.declared.acts.Act.TheVariants.{Look, CloneAwaiter, StoreAwaiter, FindNotify, BeginRegister, EndRegister, EndRegisterNotified, TakeAwaiter, ClaimOutput, EndCall}
+use Rattle.task_laws.specs.Table.{Slots, Outcome, leaves_slots, changes_slots, when, notifies, first_look, after_storing}
 use Rattle.task_laws.specs.Theorem.{owns_awaiter}
 use Rattle.task_steps.specs.declared.table.Slot.{Slot}
 use Rattle.task_steps.specs.declared.table.Deed.{Deed}
@@ -50,7 +50,7 @@ is_not false e = refl
 
 -- a look that finds no output, and has not to wait, finds the task ended
 finds_end : (i : ℕ) (closed busy completed : Bool) → (if closed then busy else not completed) ≡ false → (completed && not closed) ≡ false
-    → ((if closed then (if busy then Answering i IsPending else Notifier (OfPoll i)) else (if completed then Claiming i else Answering i IsPending)) ≡ Notifier (OfPoll i)) × ((closed && not busy) ≡ true)
+    → ((if closed then (if busy then Answering i IsPending else Notifier (OfPoll i)) else (if completed then SawOutput i else Answering i IsPending)) ≡ Notifier (OfPoll i)) × ((closed && not busy) ≡ true)
 finds_end i true true completed e f = absurd (cc)
 finds_end i true false completed e f = (refl, refl)
 finds_end i false busy true e f = absurd (cc)
@@ -73,8 +73,8 @@ module _ {F T A : Type 0} where
   pub found_one : (limit i : ℕ) (w : State) (p q : Party F T A) → Stands (Registrar i) p → q.seat.table_id ≡ p.seat.table_id → HasEnded limit (λ _ w. w.notifying) finding_notifier w p.seat.me q.seat.me → BeginsRegister p q false
   found_one limit i w p q s cell e =
       let path : List Deed = act CloneAwaiter ∷ row FindNotify w ∷ [] in
-      let g = went (CloneAwaiter ∷ FindNotify ∷ []) w (Registrar i) (RefusedClone i) [] path p q s cell e.made refl refl refl in
-      finds_one w e.at_end (subst (λ at. Goes path (RefusedClone (poll_number at)) p q) (sym (position_is p (Registrar i) [] s)) (subst (λ l. GoesWith path (RefusedClone i) l p q) g.0 g.1))
+      let g = went (CloneAwaiter ∷ FindNotify ∷ []) w (Registrar i) (UnusedClone i) [] path p q s cell e.made refl refl refl in
+      finds_one w e.at_end (subst (λ at. Goes path (UnusedClone (poll_number at)) p q) (sym (position_is p (Registrar i) [] s)) (subst (λ l. GoesWith path (UnusedClone i) l p q) g.0 g.1))
 
   -- the slot that is taken, by what stood in it
   carried_slot : (i : ℕ) (hand : Option ℕ) (l' : List (ℕ × Slot F T A)) → Carried (Registrar i) (after_storing i hand) [] l' → (y : Slot F T A) × Waits hand y × (l' ≡ (2, y) ∷ [])
@@ -108,9 +108,9 @@ module _ {F T A : Type 0} where
   -- a notifier came meanwhile, and the clone is taken back
   pub notified : (limit i : ℕ) (w : State) (y : Slot F T A) (p q : Party F T A) → StandsWith (Registered i) ((2, y) ∷ []) p → q.seat.table_id ≡ p.seat.table_id → HasEnded limit (λ _ w. w.notifying) taking_back w p.seat.me q.seat.me → EndsRegister p q false
   notified limit i w y p q s cell e = let m = e.made in let path : List Deed = act TakeAwaiter ∷ [] in let held : List (ℕ × Slot F T A) = (2, y) ∷ [] in
-      let to : (f : Option Outcome → Position) → f (leaves_by (limit_of p) w m.slots (TakeAwaiter ∷ []) (Registered i)) ≡ f (Some (keeps (spot (limit_of p) (held_word (Registered i) w) m.slots) w (record (m.slots) { awaiter = None }) (TookBack i) [])) = λ f.
-          ap (λ (b : Bool). f (and_then (when b (keeps (spot (limit_of p) (held_word (Registered i) w) m.slots) w (record (m.slots) { awaiter = None }) (TookBack i) [])) (λ o. leaves_by (limit_of p) o.word o.slots [] o.next))) e.at_end in
-      let none : born_of (leaves_by (limit_of p) w m.slots (TakeAwaiter ∷ []) (Registered i)) ≡ [] = ap (λ (b : Bool). born_of (and_then (when b (keeps (spot (limit_of p) (held_word (Registered i) w) m.slots) w (record (m.slots) { awaiter = None }) (TookBack i) [])) (λ o. leaves_by (limit_of p) o.word o.slots [] o.next))) e.at_end in
+      let to : (f : Option Outcome → Position) → f (leaves_by (limit_of p) w m.slots (TakeAwaiter ∷ []) (Registered i)) ≡ f (Some (changes_slots (spot (limit_of p) (held_word (Registered i) w) m.slots) w (record (m.slots) { awaiter = None }) (TookBack i) [])) = λ f.
+      ap (λ (b : Bool). f (and_then (when b (changes_slots (spot (limit_of p) (held_word (Registered i) w) m.slots) w (record (m.slots) { awaiter = None }) (TookBack i) [])) (λ o. leaves_by (limit_of p) o.word o.slots [] o.next))) e.at_end in
+      let none : born_of (leaves_by (limit_of p) w m.slots (TakeAwaiter ∷ []) (Registered i)) ≡ [] = ap (λ (b : Bool). born_of (and_then (when b (changes_slots (spot (limit_of p) (held_word (Registered i) w) m.slots) w (record (m.slots) { awaiter = None }) (TookBack i) [])) (λ o. leaves_by (limit_of p) o.word o.slots [] o.next))) e.at_end in
       let g = went (TakeAwaiter ∷ []) w (Registered i) (TookBack i) held path p q s cell m (to next_of) none refl in
       finds_notified (subst (λ (z : Position × List (ℕ × Slot F T A)). GoesWith path (TookBack (poll_number z.0)) z.1 p q) (λ j. (sym (position_is p (Registered i) held s) j, sym (held_is p (Registered i) held s) j)) (subst (λ l. GoesWith path (TookBack i) l p q) g.0 g.1))
 
@@ -139,7 +139,7 @@ module _ {F T A : Type 0} where
 
   looked_in_vain : (limit n : ℕ) (w : State) (p q : Party F T A) → Stands (as_task n) p → q.seat.table_id ≡ p.seat.table_id → HasEnded limit (λ _ w. not (has_output w)) looking w p.seat.me q.seat.me → Looks p q (Err w)
   looked_in_vain limit n w p q s cell e = let m = e.made in let l : ℕ = limit_of p in let path : List Deed = row Look w ∷ [] in
-      let left : Bool → Option Outcome = (λ b. and_then (when b (steps (spot l (held_word (as_task n) w) m.slots) w (first_look (held_word (as_task n) w) (n + 1)) [] (Polls (n + 1) ∷ []))) (λ o. leaves_by l o.word o.slots [] o.next)) in
+      let left : Bool → Option Outcome = (λ b. and_then (when b (leaves_slots (spot l (held_word (as_task n) w) m.slots) w (first_look (held_word (as_task n) w) (n + 1)) [] (TaskPollBegins (n + 1) ∷ []))) (λ o. leaves_by l o.word o.slots [] o.next)) in
       let g = went (Look ∷ []) w (as_task n) (first_look w (n + 1)) [] path p q s cell m (ap (λ b. next_of (left b)) e.at_end) (ap (λ b. born_of (left b)) e.at_end) refl in
       sees_none w (is_not (has_output w) e.at_end) (subst (λ at. Goes path (first_look w (poll_number at)) p q) (sym (position_is p (as_task n) [] s)) (subst (λ l. GoesWith path (first_look w (n + 1)) l p q) (first_holds w n q.seat.me.1 g.0) g.1))
 
@@ -157,7 +157,7 @@ module _ {F T A : Type 0} where
   -- .. and the look of one that has registered
   claimed_again : (limit i : ℕ) (w : State) (p q : Party F T A) → Stands (Looking i) p → q.seat.table_id ≡ p.seat.table_id → HasChanged limit (λ _ w. row_of 0 ClaimOutput w) claiming_again w p.seat.me q.seat.me → LooksAgain p q (Ok w)
   claimed_again limit i w p q s cell c = let m = c.made in let l : ℕ = limit_of p in let there = output_found (has_output w) (written ClaimOutput w) c.written in
-      let left : Position → Option Outcome = (λ at. and_then (Some (steps (spot l (held_word (Looking i) w) m.slots) w at [] [])) (λ o. leaves_by l o.word o.slots (ClaimOutput ∷ []) o.next)) in
+      let left : Position → Option Outcome = (λ at. and_then (Some (leaves_slots (spot l (held_word (Looking i) w) m.slots) w at [] [])) (λ o. leaves_by l o.word o.slots (ClaimOutput ∷ []) o.next)) in
       claims_output_now w (claimed w (Looking i) (Look ∷ ClaimOutput ∷ []) (row Look w ∷ row ClaimOutput w ∷ []) p q s cell m there (ap (λ at. next_of (left at)) (sees_output w i there)) (ap (λ at. born_of (left at)) (sees_output w i there)) refl (carried_output w.awaiter i q.seat.me.1))
 
   looked_again_in_vain : (limit i : ℕ) (w : State) (p q : Party F T A) → Stands (Looking i) p → q.seat.table_id ≡ p.seat.table_id → HasEnded limit (λ _ w. not (has_output w)) looking_again w p.seat.me q.seat.me → LooksAgain p q (Err w)
@@ -167,7 +167,7 @@ module _ {F T A : Type 0} where
       l = limit_of p
 
       left : Slots → List Act → Position → Option Outcome
-      left slots acts at = and_then (Some (steps (spot l (held_word (Looking i) w) slots) w at [] [])) (λ o. leaves_by l o.word o.slots acts o.next)
+      left slots acts at = and_then (Some (leaves_slots (spot l (held_word (Looking i) w) slots) w at [] [])) (λ o. leaves_by l o.word o.slots acts o.next)
 
       by : (b : Bool) → has_to_wait w ≡ b → LooksAgain p q (Err w)
       by true f = let m = subst (λ b. Makes (if b then Look ∷ EndCall ∷ [] else Look ∷ []) w p.seat.me q.seat.me) f e.made in let path : List Deed = row Look w ∷ act EndCall ∷ [] in

@@ -2,8 +2,8 @@
 use Rattle.std.proofs.Common.{◌≡◌, ℕ, Bool, true, false, Option, Some, None, List, [], ◌∷◌, ◌++◌, refl, subst}
 use Rattle.task_core.specs.Word.{State}
 use Rattle.task_laws.specs.declared.positions.Position.{Position}
-use Rattle.task_laws.specs.declared.positions.Position.TheVariants.{Looking, RefusedClone, Registered, TookBack, CloneInHand}
-use Rattle.task_core.specs.declared.moves.Act.TheVariants.{CloneAwaiter, StoreAwaiter, TakeAwaiter, FindNotify, BeginRegister, EndRegister, EndRegisterNotified, DropAwaiter, WakeAwaiter}
+use Rattle.task_laws.specs.declared.positions.Position.TheVariants.{Looking, UnusedClone, Registered, TookBack, CloneInHand}
+use Rattle.task_core.specs.declared.acts.Act.TheVariants.{CloneAwaiter, StoreAwaiter, TakeAwaiter, FindNotify, BeginRegister, EndRegister, EndRegisterNotified, DropAwaiter, WakeAwaiter}
 use Rattle.task_laws.specs.Table.{after_storing}
 use Rattle.task_steps.specs.declared.table.Slot.{Slot}
 use Rattle.task_steps.specs.declared.table.Slot.TheVariants.{Awaiter}
@@ -31,7 +31,7 @@ module _ {F T A : Type 0} where
   -- what a Task comes to that would take the slot, and that would give it back
   abbrev pub Begun : Party F T A → Party F T A → Bool → Type 0
   Begun p q true = (w : State) × (hand : Option ℕ) × (y : Slot F T A) × (w.notifying ≡ false) × Waits hand y × GoesWith (stored w) (after_storing (poll_number (position p)) hand) ((2, y) ∷ []) p q
-  Begun p q false = (w : State) × (w.notifying ≡ true) × Goes (act CloneAwaiter ∷ row FindNotify w ∷ []) (RefusedClone (poll_number (position p))) p q
+  Begun p q false = (w : State) × (w.notifying ≡ true) × Goes (act CloneAwaiter ∷ row FindNotify w ∷ []) (UnusedClone (poll_number (position p))) p q
 
   begun_by : (p q : Party F T A) (b : Bool) → BeginsRegister p q b → Begun p q b
   begun_by p q true (begins w hand y e h g) = (w, hand, y, e, h, g)
@@ -86,9 +86,9 @@ module _ {F T A : Type 0} where
     IsRegistered n p r = (path : List Deed) × RegisterPath cloned woken woken_by_ref awaiter path × Goes path (Looking n) p r
 
     pub woken_at_once : (p q r : Party F T A) (n : ℕ) (w : State) (clone : A) → w.notifying ≡ true → cloned awaiter (Some clone) → woken_by_ref awaiter
-        → Goes (act CloneAwaiter ∷ row FindNotify w ∷ []) (RefusedClone n) p q → Goes (act DropAwaiter ∷ []) (Looking (poll_number (position q))) q r → IsRegistered n p r
+        → Goes (act CloneAwaiter ∷ row FindNotify w ∷ []) (UnusedClone n) p q → Goes (act DropAwaiter ∷ []) (Looking (poll_number (position q))) q r → IsRegistered n p r
     woken_at_once p q r n w clone e c made g h = let a : List Deed = act CloneAwaiter ∷ row FindNotify w ∷ [] in
-        (a ++ (act DropAwaiter ∷ []), paths.finds_notifier w clone e c made, then_goes p q r a (act DropAwaiter ∷ []) (RefusedClone n) [] [] (λ x. Looking (poll_number x)) g h)
+        (a ++ (act DropAwaiter ∷ []), paths.finds_notifier w clone e c made, then_goes p q r a (act DropAwaiter ∷ []) (UnusedClone n) [] [] (λ x. Looking (poll_number x)) g h)
 
     pub registered : (p r t : Party F T A) (n : ℕ) (w v : State) (stood : Bool) (held : List (ℕ × Slot F T A)) (clone : A) → w.notifying ≡ false → v.notifying ≡ false → cloned awaiter (Some clone)
         → GoesWith (stored w ++ dropped_if stood) (Registered n) held p r → Goes (row EndRegister v ∷ []) (Looking (poll_number (position r))) r t → IsRegistered n p t

@@ -2,12 +2,12 @@
 use Rattle.std.proofs.Common.{◌≡◌, ℕ, Bool, true, false, Option, Some, None, List, [], ◌∷◌, ◌++◌, refl, sym, ap, ◌∙◌, subst}
 use Rattle.task_core.specs.Word.{State}
 use Rattle.task_laws.specs.declared.positions.Position.{Position}
-use Rattle.task_laws.specs.declared.positions.Way.{Way}
-use Rattle.task_laws.specs.declared.positions.Way.TheVariants.{OfRun, OfDrop, OfCancel, OfPoll, OfClaim}
-use Rattle.task_laws.specs.declared.positions.Position.TheVariants.{Notifier, AwaiterInHand, Claimer, Answering}
-use Rattle.task_core.specs.declared.moves.Act.TheVariants.{HandOutOutput, TakeAwaiter, DropAwaiter, WakeAwaiter, EndCall, BeginNotify, MissNotify, EndNotify}
-use Rattle.task_laws.specs.declared.positions.PollAnswer.TheVariants.{IsReady}
-use Rattle.task_laws.specs.Table.{goes_on as on_from, goes_off, may_drop, notifies}
+use Rattle.task_laws.specs.declared.positions.NotifyingCall.{NotifyingCall}
+use Rattle.task_laws.specs.declared.positions.NotifyingCall.TheVariants.{OfRun, OfDrop, OfCancel, OfPoll, OfClaim}
+use Rattle.task_laws.specs.declared.positions.Position.TheVariants.{Notifier, AwaiterInHand, TookOutput, Answering}
+use Rattle.task_core.specs.declared.acts.Act.TheVariants.{HandOutOutput, TakeAwaiter, DropAwaiter, WakeAwaiter, EndCall, BeginNotify, MissNotify, EndNotify}
+use Rattle.task_laws.specs.declared.positions.PollAnswer.TheVariants.{IsClosed}
+use Rattle.task_laws.specs.Table.{after_taking as on_from, after_waking, may_drop, notifies}
 use Rattle.task_steps.specs.declared.table.Slot.{Slot}
 use Rattle.task_steps.specs.declared.table.Deed.{Deed}
 use Rattle.task_cell.specs.declared.cell.Party.{Party}
@@ -19,19 +19,17 @@ use Rattle.task_steps.specs.Steps.{output_first}
 use Rattle.task_cell.specs.PollPaths as paths
 use Rattle.task_cell.specs.PollPaths.{TakePath, TakePathIf, ClaimsOutput}
 use Rattle.task_cell.proofs.Moved.{goes_on, stands, position_is, held_is}
-
-never : {P : Type 0} → false ≡ true → P
-never e = absurd (cc)
+use Rattle.task_steps.proofs.Bools.{never}
 
 -- the way on of a poll that may drop the awaiter
-some_goes_on : (way : Way) (i : ℕ) → may_drop way ≡ true → on_from (Some i) way ≡ AwaiterInHand i way
+some_goes_on : (way : NotifyingCall) (i : ℕ) → may_drop way ≡ true → on_from (Some i) way ≡ AwaiterInHand i way
 some_goes_on OfRun i e = never e
 some_goes_on OfDrop i e = never e
 some_goes_on (OfCancel n) i e = never e
 some_goes_on (OfPoll n) i e = refl
 some_goes_on (OfClaim n) i e = refl
 
-none_goes_on : (way : Way) → may_drop way ≡ true → on_from None way ≡ goes_off way
+none_goes_on : (way : NotifyingCall) → may_drop way ≡ true → on_from None way ≡ after_waking way
 none_goes_on OfRun e = never e
 none_goes_on OfDrop e = never e
 none_goes_on (OfCancel n) e = never e
@@ -61,10 +59,10 @@ module _ {F T A : Type 0} where
   took_one p q (Some a) (takes_awaiter w v i b f g) = (w, v, i, f, g)
 
   -- .. and where it stands with the awaiter in hand
-  abbrev pub InHand : Way → List (ℕ × Slot F T A) → Party F T A → Party F T A → Type 0
+  abbrev pub InHand : NotifyingCall → List (ℕ × Slot F T A) → Party F T A → Party F T A → Type 0
   InHand way held p q = (w : State) × (v : State) × (i : ℕ) × Fits BeginNotify w × GoesWith (took w v) (AwaiterInHand i way) held p q
 
-  pub in_hand : (way : Way) (held : List (ℕ × Slot F T A)) (p q : Party F T A) (a : A) (x : Option A) → StandsWith (Notifier way) held p → may_drop way ≡ true → Notifies p q x → x ≡ Some a → InHand way held p q
+  pub in_hand : (way : NotifyingCall) (held : List (ℕ × Slot F T A)) (p q : Party F T A) (a : A) (x : Option A) → StandsWith (Notifier way) held p → may_drop way ≡ true → Notifies p q x → x ≡ Some a → InHand way held p q
   in_hand way held p q a x s e n is = let g = took_one p q (Some a) (subst (λ y. Notifies p q y) is n) in (
     g.0,
     g.1,
@@ -74,47 +72,47 @@ module _ {F T A : Type 0} where
         (λ j. ((ap (λ (at : Position). on_from (Some g.2) (way_of at)) (position_is p (Notifier way) held s) ∙ some_goes_on way g.2 e) j, held_is p (Notifier way) held s j)) g.4,
   )
 
-  pub hand_stands : (way : Way) (held : List (ℕ × Slot F T A)) (p q : Party F T A) → (h : InHand way held p q) → StandsWith (AwaiterInHand h.2 way) held q
+  pub hand_stands : (way : NotifyingCall) (held : List (ℕ × Slot F T A)) (p q : Party F T A) → (h : InHand way held p q) → StandsWith (AwaiterInHand h.2 way) held q
   hand_stands way held p q h = stands p q (took h.0 h.1) (AwaiterInHand h.2 way) held h.4
 
   -- the awaiter is dealt with, and the poll goes on
-  dealt : (way : Way) (held : List (ℕ × Slot F T A)) (b : List Deed) (p q r : Party F T A) → StandsWith (Notifier way) held p → (h : InHand way held p q) → GoesWith b (goes_off (way_of (position q))) (holds q) q r
-      → GoesWith (took h.0 h.1 ++ b) (goes_off (way_of (position p))) (holds p) p r
+  dealt : (way : NotifyingCall) (held : List (ℕ × Slot F T A)) (b : List Deed) (p q r : Party F T A) → StandsWith (Notifier way) held p → (h : InHand way held p q) → GoesWith b (after_waking (way_of (position q))) (holds q) q r
+      → GoesWith (took h.0 h.1 ++ b) (after_waking (way_of (position p))) (holds p) p r
   dealt way held b p q r s h g = let t = hand_stands way held p q h in
       let at = position_is q (AwaiterInHand h.2 way) held t in let has = held_is q (AwaiterInHand h.2 way) held t in
-      let whole = goes_on p q r (took h.0 h.1) b (AwaiterInHand h.2 way) (goes_off way) held held h.4
-      (subst (λ (z : Position × List (ℕ × Slot F T A)). GoesWith b (goes_off (way_of z.0)) z.1 q r) (λ j. (at j, has j)) g) in
-      subst (λ (z : Position × List (ℕ × Slot F T A)). GoesWith (took h.0 h.1 ++ b) (goes_off (way_of z.0)) z.1 p r) (λ j. (sym (position_is p (Notifier way) held s) j, sym (held_is p (Notifier way) held s) j)) whole
+      let whole = goes_on p q r (took h.0 h.1) b (AwaiterInHand h.2 way) (after_waking way) held held h.4
+      (subst (λ (z : Position × List (ℕ × Slot F T A)). GoesWith b (after_waking (way_of z.0)) z.1 q r) (λ j. (at j, has j)) g) in
+      subst (λ (z : Position × List (ℕ × Slot F T A)). GoesWith (took h.0 h.1 ++ b) (after_waking (way_of z.0)) z.1 p r) (λ j. (sym (position_is p (Notifier way) held s) j, sym (held_is p (Notifier way) held s) j)) whole
 
   module _ (woken : A → Type 0) (compared : A → A → Bool → Type 0) (awaiter : A) where
     abbrev pub Takes : Party F T A → Party F T A → Type 0
-    Takes p r = (path : List Deed) × TakePath woken compared awaiter path × GoesWith path (goes_off (way_of (position p))) (holds p) p r
+    Takes p r = (path : List Deed) × TakePath woken compared awaiter path × GoesWith path (after_waking (way_of (position p))) (holds p) p r
 
-    pub dropped : (way : Way) (held : List (ℕ × Slot F T A)) (p q r : Party F T A) (a : A) (x : Option A) → StandsWith (Notifier way) held p → may_drop way ≡ true → Notifies p q x → x ≡ Some a
-        → compared a awaiter true → GoesWith (act DropAwaiter ∷ []) (goes_off (way_of (position q))) (holds q) q r → Takes p r
+    pub dropped : (way : NotifyingCall) (held : List (ℕ × Slot F T A)) (p q r : Party F T A) (a : A) (x : Option A) → StandsWith (Notifier way) held p → may_drop way ≡ true → Notifies p q x → x ≡ Some a
+        → compared a awaiter true → GoesWith (act DropAwaiter ∷ []) (after_waking (way_of (position q))) (holds q) q r → Takes p r
     dropped way held p q r a x s e n is same g = let h = in_hand way held p q a x s e n is in
         (took h.0 h.1 ++ (act DropAwaiter ∷ []), paths.drops h.0 h.1 a h.3 same, dealt way held (act DropAwaiter ∷ []) p q r s h g)
 
-    pub woke : (way : Way) (held : List (ℕ × Slot F T A)) (p q r : Party F T A) (a : A) (x : Option A) → StandsWith (Notifier way) held p → may_drop way ≡ true → Notifies p q x → x ≡ Some a
-        → compared a awaiter false → woken a → GoesWith (act WakeAwaiter ∷ []) (goes_off (way_of (position q))) (holds q) q r → Takes p r
+    pub woke : (way : NotifyingCall) (held : List (ℕ × Slot F T A)) (p q r : Party F T A) (a : A) (x : Option A) → StandsWith (Notifier way) held p → may_drop way ≡ true → Notifies p q x → x ≡ Some a
+        → compared a awaiter false → woken a → GoesWith (act WakeAwaiter ∷ []) (after_waking (way_of (position q))) (holds q) q r → Takes p r
     woke way held p q r a x s e n is other made g = let h = in_hand way held p q a x s e n is in
         (took h.0 h.1 ++ (act WakeAwaiter ∷ []), paths.wakes h.0 h.1 a h.3 other made, dealt way held (act WakeAwaiter ∷ []) p q r s h g)
 
-    took_none : (way : Way) (held : List (ℕ × Slot F T A)) (p r : Party F T A) (path : List Deed) → StandsWith (Notifier way) held p → may_drop way ≡ true → TakePath woken compared awaiter path
+    took_none : (way : NotifyingCall) (held : List (ℕ × Slot F T A)) (p r : Party F T A) (path : List Deed) → StandsWith (Notifier way) held p → may_drop way ≡ true → TakePath woken compared awaiter path
         → GoesWith path (on_from None (way_of (position p))) (holds p) p r → Takes p r
     took_none way held p r path s e t g = (
       path,
       t,
       subst (λ at. GoesWith path at (holds p) p r)
-          (ap (λ (at : Position). on_from None (way_of at)) (position_is p (Notifier way) held s) ∙ (none_goes_on way e ∙ ap (λ (at : Position). goes_off (way_of at)) (sym (position_is p (Notifier way) held s)))) g,
+          (ap (λ (at : Position). on_from None (way_of at)) (position_is p (Notifier way) held s) ∙ (none_goes_on way e ∙ ap (λ (at : Position). after_waking (way_of at)) (sym (position_is p (Notifier way) held s)))) g,
     )
 
-    nothing_by : (way : Way) (held : List (ℕ × Slot F T A)) (p r : Party F T A) (x : Option A) → StandsWith (Notifier way) held p → may_drop way ≡ true → Notifies p r x → x ≡ None → Takes p r
+    nothing_by : (way : NotifyingCall) (held : List (ℕ × Slot F T A)) (p r : Party F T A) (x : Option A) → StandsWith (Notifier way) held p → may_drop way ≡ true → Notifies p r x → x ≡ None → Takes p r
     nothing_by way held p r None s e (misses w f g) is = took_none way held p r (row MissNotify w ∷ []) s e (paths.misses w f) g
     nothing_by way held p r None s e (finds_none w v f g) is = took_none way held p r (took w v) s e (paths.finds_none w v f) g
     nothing_by way held p r (Some a) s e (takes_awaiter w v i b f g) is = absurd (cc)
 
-    pub nothing : (way : Way) (held : List (ℕ × Slot F T A)) (p r : Party F T A) (x : Option A) → StandsWith (Notifier way) held p → may_drop way ≡ true → Notifies p r x → x ≡ None → Takes p r
+    pub nothing : (way : NotifyingCall) (held : List (ℕ × Slot F T A)) (p r : Party F T A) (x : Option A) → StandsWith (Notifier way) held p → may_drop way ≡ true → Notifies p r x → x ≡ None → Takes p r
     nothing way held p r x s e n is = nothing_by way held p r x s e n is
 
   -- a path, and then another whose end goes by where the first one ends
@@ -129,37 +127,37 @@ module _ {F T A : Type 0} where
   goes_by p q path at held held' f s g = subst (λ x. GoesWith path (f x) held' p q) (position_is p at held s) g
 
   -- a closed task: the awaiter was taken, and the poll ends
-  pub is_answering : (i : ℕ) (path : List Deed) (p q : Party F T A) → Stands (Notifier (OfPoll i)) p → GoesWith path (goes_off (way_of (position p))) (holds p) p q → Goes path (Answering i IsReady) p q
-  is_answering i path p q s g = subst (λ l. GoesWith path (Answering i IsReady) l p q) (held_is p (Notifier (OfPoll i)) [] s) (goes_by p q path (Notifier (OfPoll i)) [] (holds p) (λ x. goes_off (way_of x)) s g)
+  pub is_answering : (i : ℕ) (path : List Deed) (p q : Party F T A) → Stands (Notifier (OfPoll i)) p → GoesWith path (after_waking (way_of (position p))) (holds p) p q → Goes path (Answering i IsClosed) p q
+  is_answering i path p q s g = subst (λ l. GoesWith path (Answering i IsClosed) l p q) (held_is p (Notifier (OfPoll i)) [] s) (goes_by p q path (Notifier (OfPoll i)) [] (holds p) (λ x. after_waking (way_of x)) s g)
 
-  pub ended_closed : (i : ℕ) (path : List Deed) (p q r : Party F T A) → Stands (Notifier (OfPoll i)) p → GoesWith path (goes_off (way_of (position p))) (holds p) p q → Goes (act EndCall ∷ []) (ends (position q)) q r
+  pub ended_closed : (i : ℕ) (path : List Deed) (p q r : Party F T A) → Stands (Notifier (OfPoll i)) p → GoesWith path (after_waking (way_of (position p))) (holds p) p q → Goes (act EndCall ∷ []) (ends (position q)) q r
       → Goes (path ++ (act EndCall ∷ [])) (ends (position p)) p r
-  ended_closed i path p q r s g h = goes_from p r (path ++ (act EndCall ∷ [])) (Notifier (OfPoll i)) [] [] ends s (then_goes p q r path (act EndCall ∷ []) (Answering i IsReady) [] [] ends (is_answering i path p q s g) h)
+  ended_closed i path p q r s g h = goes_from p r (path ++ (act EndCall ∷ [])) (Notifier (OfPoll i)) [] [] ends s (then_goes p q r path (act EndCall ∷ []) (Answering i IsClosed) [] [] ends (is_answering i path p q s g) h)
 
   -- the output is claimed: the awaiter is taken where there is one
   pub notifies_so : (i : ℕ) (held : List (ℕ × Slot F T A)) (b : Bool) (p : Party F T A) → StandsWith (notifies b (OfClaim i)) held p → b ≡ true → StandsWith (Notifier (OfClaim i)) held p
   notifies_so i held b p s e = subst (λ (b : Bool). StandsWith (notifies b (OfClaim i)) held p) e s
 
   pub taken_if : (woken : A → Type 0) (compared : A → A → Bool → Type 0) (awaiter : A) (i : ℕ) (held : List (ℕ × Slot F T A)) (b : Bool) (p q : Party F T A) → StandsWith (notifies b (OfClaim i)) held p → b ≡ true
-      → Takes woken compared awaiter p q → (path : List Deed) × TakePathIf woken compared awaiter b path × GoesWith path (Claimer (poll_number (position p))) (holds p) p q
+      → Takes woken compared awaiter p q → (path : List Deed) × TakePathIf woken compared awaiter b path × GoesWith path (TookOutput (poll_number (position p))) (holds p) p q
   taken_if woken compared awaiter i held b p q s e t = let s' = notifies_so i held b p s e in (
     t.0,
     subst (λ (b : Bool). TakePathIf woken compared awaiter b t.0) (sym e) t.1,
-    goes_from p q t.0 (Notifier (OfClaim i)) held (holds p) (λ x. Claimer (poll_number x)) s' (goes_by p q t.0 (Notifier (OfClaim i)) held (holds p) (λ x. goes_off (way_of x)) s' t.2),
+    goes_from p q t.0 (Notifier (OfClaim i)) held (holds p) (λ x. TookOutput (poll_number x)) s' (goes_by p q t.0 (Notifier (OfClaim i)) held (holds p) (λ x. after_waking (way_of x)) s' t.2),
   )
 
   pub none_taken : (woken : A → Type 0) (compared : A → A → Bool → Type 0) (awaiter : A) (i : ℕ) (held : List (ℕ × Slot F T A)) (b : Bool) (p : Party F T A) → StandsWith (notifies b (OfClaim i)) held p → b ≡ false
-      → (path : List Deed) × TakePathIf woken compared awaiter b path × GoesWith path (Claimer (poll_number (position p))) (holds p) p p
+      → (path : List Deed) × TakePathIf woken compared awaiter b path × GoesWith path (TookOutput (poll_number (position p))) (holds p) p p
   none_taken woken compared awaiter i held b p s e = let s' = subst (λ (b : Bool). StandsWith (notifies b (OfClaim i)) held p) e s in let path : List Deed = [] in (
     path,
     subst (λ (b : Bool). TakePathIf woken compared awaiter b path) (sym e) (let x : path ≡ [] = refl in x),
-    goes_from p p path (Claimer i) held (holds p) (λ x. Claimer (poll_number x)) s' (subst (λ l. GoesWith path (Claimer i) l p p) (sym (held_is p (Claimer i) held s')) (record { cell = refl; is = s' })),
+    goes_from p p path (TookOutput i) held (holds p) (λ x. TookOutput (poll_number x)) s' (subst (λ l. GoesWith path (TookOutput i) l p p) (sym (held_is p (TookOutput i) held s')) (record { cell = refl; is = s' })),
   )
 
   -- .. and the output handed out
-  pub handed_out : (taken : List Deed) (p q r : Party F T A) → GoesWith taken (Claimer (poll_number (position p))) (holds p) p q → Goes (act HandOutOutput ∷ act EndCall ∷ []) (ends (position q)) q r
+  pub handed_out : (taken : List Deed) (p q r : Party F T A) → GoesWith taken (TookOutput (poll_number (position p))) (holds p) p q → Goes (act HandOutOutput ∷ act EndCall ∷ []) (ends (position q)) q r
       → Goes (taken ++ (act HandOutOutput ∷ act EndCall ∷ [])) (ends (position p)) p r
-  handed_out taken p q r g o = then_goes p q r taken (act HandOutOutput ∷ act EndCall ∷ []) (Claimer (poll_number (position p))) (holds p) [] ends g o
+  handed_out taken p q r g o = then_goes p q r taken (act HandOutOutput ∷ act EndCall ∷ []) (TookOutput (poll_number (position p))) (holds p) [] ends g o
 
   -- a look that has claimed the output stands to take the awaiter
   pub has_claimed : (w : State) (path : List Deed) (p q : Party F T A) → ClaimsOutput w path p q → (i : ℕ) × (y : Slot F T A) × (z : Slot F T A) × StandsWith (notifies w.awaiter (OfClaim i)) (output_first y z []) q × IsOutput z

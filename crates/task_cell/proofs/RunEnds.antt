@@ -3,11 +3,11 @@ use Rattle.std.proofs.Common.{◌≡◌, ℕ, Bool, true, false, not, ◌&&◌, 
 use Rattle.std.specs.Prelude.{nat_lt, ◌||◌}
 use Rattle.task_core.specs.Word.{State}
 use Rattle.task_laws.specs.declared.positions.Rest.TheVariants.{Ended}
-use Rattle.task_laws.specs.declared.positions.Way.TheVariants.{OfRun}
-use Rattle.task_laws.specs.declared.positions.After.TheVariants.{ThenEnds}
+use Rattle.task_laws.specs.declared.positions.NotifyingCall.TheVariants.{OfRun}
+use Rattle.task_laws.specs.declared.positions.OnceDelivered.TheVariants.{ThenEnds}
 use Rattle.task_laws.specs.declared.positions.Position.{Position}
-use Rattle.task_laws.specs.declared.positions.Position.TheVariants.{At, Deliverer, Polling, Pending, Ready, Cleared, OutputInHand}
-use Rattle.task_core.specs.declared.moves.Act.TheVariants.{AnswerReady, AnswerPending, DropFuture, StoreOutput, Complete, CompleteDetached, DropOutput, EndClosed, Reschedule, EndIdle, EndOrphaned, HandOver, EndCall}
+use Rattle.task_laws.specs.declared.positions.Position.TheVariants.{At, Deliverer, Polling, Pending, Ready, PendingFutureDropped, OutputInHand}
+use Rattle.task_core.specs.declared.acts.Act.TheVariants.{AnswerReady, AnswerPending, DropFuture, StoreOutput, Complete, CompleteDetached, DropOutput, EndClosed, Reschedule, EndIdle, EndOrphaned, HandOver, EndCall}
 use Rattle.task_laws.specs.declared.positions.Answer.TheVariants.{Ran}
 use Rattle.task_laws.specs.Table.{notifies}
 use Rattle.task_steps.specs.declared.table.Slot.{Slot}
@@ -69,17 +69,17 @@ module _ {F T A : Type 0} where
   )
 
   -- a closed task
-  pub closes_rest : (Woken : Type 0) (w : State) (held : List (ℕ × Slot F T A)) (p q r s : Party F T A) → GoesWith [] Cleared held p q → (w.closed ≡ true) × Goes (row EndClosed w ∷ []) (notifies w.awaiter OfRun) q r → Rests Woken w.awaiter r s → ClosesPending Woken p s
+  pub closes_rest : (Woken : Type 0) (w : State) (held : List (ℕ × Slot F T A)) (p q r s : Party F T A) → GoesWith [] PendingFutureDropped held p q → (w.closed ≡ true) × Goes (row EndClosed w ∷ []) (notifies w.awaiter OfRun) q r → Rests Woken w.awaiter r s → ClosesPending Woken p s
   closes_rest Woken w held p q r s g h x = (
     w,
     x.0,
     h.0,
     x.1,
-    moved.goes_on p q s [] (row EndClosed w ∷ x.0) Cleared (At Ended) held [] g
+    moved.goes_on p q s [] (row EndClosed w ∷ x.0) PendingFutureDropped (At Ended) held [] g
         (moved.goes_on q r s (row EndClosed w ∷ []) x.0 (notifies w.awaiter OfRun) (At Ended) [] [] h.1 x.2),
   )
 
-  pending_clears : (held : List (ℕ × Slot F T A)) (p q : Party F T A) (b : Bool) → AnswersPending held p q b → b ≡ true → GoesWith (act AnswerPending ∷ act DropFuture ∷ []) Cleared held p q
+  pending_clears : (held : List (ℕ × Slot F T A)) (p q : Party F T A) (b : Bool) → AnswersPending held p q b → b ≡ true → GoesWith (act AnswerPending ∷ act DropFuture ∷ []) PendingFutureDropped held p q
   pending_clears held p q true (clears g) e = g
   pending_clears held p q false (stays_pending g) e = absurd (cc)
 
@@ -97,7 +97,7 @@ module _ {F T A : Type 0} where
   abbrev pub IsOrphaned : Party F T A → Party F T A → Type 0
   IsOrphaned p q = (w : State) × (w.closed ≡ false) × (w.scheduled ≡ false) × ((nat_lt 1 w.references || w.task) ≡ false) × Goes (act AnswerPending ∷ row EndOrphaned w ∷ []) (Deliverer false (ThenEnds (Ran false))) p q
 
-  closed_left : (held : List (ℕ × Slot F T A)) (p q : Party F T A) (e : PendingEnd) → EndsPending held p q e → e ≡ Closed → GoesWith (act DropFuture ∷ []) Cleared held p q
+  closed_left : (held : List (ℕ × Slot F T A)) (p q : Party F T A) (e : PendingEnd) → EndsPending held p q e → e ≡ Closed → GoesWith (act DropFuture ∷ []) PendingFutureDropped held p q
   closed_left held p q e (is_closed g) h = g
   closed_left held p q e (is_rescheduled w a b g) h = absurd (cc)
   closed_left held p q e (is_idle w a b d g) h = absurd (cc)
@@ -134,7 +134,7 @@ module _ {F T A : Type 0} where
   Ends q r e = (y z : Slot F T A) → StandsWith Pending (future_first y z []) q → EndsPending (future_first y z []) q r e
 
   -- the task was found closed, or not
-  pub cleared_first : (p q : Party F T A) (b : Bool) (s : IsPolling p) → Answers p q b → b ≡ true → GoesWith (act AnswerPending ∷ act DropFuture ∷ []) Cleared (future_first s.0 s.1 []) p q
+  pub cleared_first : (p q : Party F T A) (b : Bool) (s : IsPolling p) → Answers p q b → b ≡ true → GoesWith (act AnswerPending ∷ act DropFuture ∷ []) PendingFutureDropped (future_first s.0 s.1 []) p q
   cleared_first p q b s f h = pending_clears (future_first s.0 s.1 []) p q b (f (future_first s.0 s.1 []) s.2) h
 
   pub left_pending : (p q : Party F T A) (b : Bool) (s : IsPolling p) → Answers p q b → b ≡ false → GoesWith (act AnswerPending ∷ []) Pending (future_first s.0 s.1 []) p q
@@ -151,8 +151,9 @@ module _ {F T A : Type 0} where
     both : (path : List Deed) (at : Position) (held : List (ℕ × Slot F T A)) → GoesWith path at held q r → GoesWith (act AnswerPending ∷ path) at held p r
     both path at held x = moved.goes_on p q r (act AnswerPending ∷ []) path Pending at (future_first s.0 s.1 []) held first x
 
-    pub cleared_later : e ≡ Closed → GoesWith (act AnswerPending ∷ act DropFuture ∷ []) Cleared (future_first s.0 s.1 []) p r
-    cleared_later is = both (act DropFuture ∷ []) Cleared (future_first s.0 s.1 []) (closed_left (future_first s.0 s.1 []) q r e ended is)
+    pub cleared_later : e ≡ Closed → GoesWith (act AnswerPending ∷ act DropFuture ∷ []) PendingFutureDropped (future_first s.0 s.1 []) p r
+    cleared_later is =
+        both (act DropFuture ∷ []) PendingFutureDropped (future_first s.0 s.1 []) (closed_left (future_first s.0 s.1 []) q r e ended is)
 
     pub went_rescheduled : e ≡ Rescheduled → IsRescheduled p r
     went_rescheduled is = let x = rescheduled_left (future_first s.0 s.1 []) q r e ended is in (x.0, x.1, x.2, both (row Reschedule x.0 ∷ []) (Deliverer true (ThenEnds (Ran true))) [] x.3)
@@ -164,8 +165,8 @@ module _ {F T A : Type 0} where
     went_orphaned is = let x = orphan_left (future_first s.0 s.1 []) q r e ended is in (x.0, x.1, x.2, x.3, both (row EndOrphaned x.0 ∷ []) (Deliverer false (ThenEnds (Ran false))) [] x.4)
 
   module _ (Woken : Type 0) (Scheduled : Bool → Type 0) where
-    pub found_closed : (held : List (ℕ × Slot F T A)) (p q r : Party F T A) → GoesWith (act AnswerPending ∷ act DropFuture ∷ []) Cleared held p q → ClosesPending Woken q r → EndsUnready Woken Scheduled false p r
-    found_closed held p q r f x = (_, closed_meanwhile x.0 x.1 x.2 x.3, moved.goes_on p q r (act AnswerPending ∷ act DropFuture ∷ []) (row EndClosed x.0 ∷ x.1) Cleared (At Ended) held [] f x.4)
+    pub found_closed : (held : List (ℕ × Slot F T A)) (p q r : Party F T A) → GoesWith (act AnswerPending ∷ act DropFuture ∷ []) PendingFutureDropped held p q → ClosesPending Woken q r → EndsUnready Woken Scheduled false p r
+    found_closed held p q r f x = (_, closed_meanwhile x.0 x.1 x.2 x.3, moved.goes_on p q r (act AnswerPending ∷ act DropFuture ∷ []) (row EndClosed x.0 ∷ x.1) PendingFutureDropped (At Ended) held [] f x.4)
 
     pub found_idle : (p q : Party F T A) → IsIdle p q → EndsUnready Woken Scheduled false p q
     found_idle p q x = (_, idle x.0 x.1 x.2 x.3, x.4)

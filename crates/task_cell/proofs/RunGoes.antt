@@ -6,13 +6,13 @@ use Rattle.task_core.specs.Word.{State, number_of}
 use Rattle.task_laws.specs.declared.positions.Answer.{Answer}
 use Rattle.task_laws.specs.declared.positions.Answer.TheVariants.{Ran}
 use Rattle.task_laws.specs.declared.positions.Rest.TheVariants.{Runnable, Ended}
-use Rattle.task_laws.specs.declared.positions.Way.TheVariants.{OfRun}
-use Rattle.task_laws.specs.declared.positions.After.TheVariants.{ThenEnds}
-use Rattle.task_laws.specs.declared.positions.Closer.TheVariants.{DroppedRunnable}
+use Rattle.task_laws.specs.declared.positions.NotifyingCall.TheVariants.{OfRun}
+use Rattle.task_laws.specs.declared.positions.OnceDelivered.TheVariants.{ThenEnds}
+use Rattle.task_laws.specs.declared.positions.WithoutPoll.TheVariants.{DroppedRunnable}
 use Rattle.task_laws.specs.declared.positions.Position.{Position}
-use Rattle.task_laws.specs.declared.positions.Position.TheVariants.{At, Deliverer, GivingUp, Emptier, FutureInHand, Polling, Pending, Ready, Cleared, OutputInHand}
-use Rattle.task_core.specs.declared.moves.Act.{Act}
-use Rattle.task_core.specs.declared.moves.Act.TheVariants.{GiveUpReference, GiveUpLastReference, EmptySlots, DiscardOpen, DiscardClosed, AnswerReady, AnswerPending, DropFuture, StoreOutput, Complete, CompleteDetached, DropOutput, EndClosed, Reschedule, EndIdle, EndCall, EndOrphaned}
+use Rattle.task_laws.specs.declared.positions.Position.TheVariants.{At, Deliverer, GivingUp, Emptier, FutureInHand, Polling, Pending, Ready, PendingFutureDropped, OutputInHand}
+use Rattle.task_core.specs.declared.acts.Act.{Act}
+use Rattle.task_core.specs.declared.acts.Act.TheVariants.{GiveUpReference, GiveUpLastReference, EmptySlots, DiscardOpen, DiscardClosed, AnswerReady, AnswerPending, DropFuture, StoreOutput, Complete, CompleteDetached, DropOutput, EndClosed, Reschedule, EndIdle, EndCall, EndOrphaned}
 use Rattle.task_core.specs.Rows.{row as row_of, found, written}
 use Rattle.task_laws.specs.Table.{after_giving_up, notifies}
 use Rattle.task_steps.specs.declared.table.Slot.{Slot}
@@ -121,17 +121,17 @@ module _ {F T A : Type 0} where
     where
       by : (b : Bool) → w.closed ≡ b → Makes (if b then AnswerPending ∷ DropFuture ∷ [] else AnswerPending ∷ []) w p.seat.me q.seat.me → AnswersPending held p q b
       by true h made = let v : State = record w { closed = true } in let m = moved.moved (AnswerPending ∷ DropFuture ∷ []) v Polling held p q s (at_closed (AnswerPending ∷ DropFuture ∷ []) w p q h made) in
-          clears (moved.goes p q (act AnswerPending ∷ act DropFuture ∷ []) Cleared held cell m.viewed (keeps_places Polling Cleared held q.seat.me.1 refl refl m.carried))
+          clears (moved.goes p q (act AnswerPending ∷ act DropFuture ∷ []) PendingFutureDropped held cell m.viewed (keeps_places Polling PendingFutureDropped held q.seat.me.1 refl refl m.carried))
       by false h made = let m = moved.moved (AnswerPending ∷ []) w Polling held p q s made in
           stays_pending (moved.goes p q (act AnswerPending ∷ []) Pending held cell m.viewed (keeps_places Polling Pending held q.seat.me.1 refl refl m.carried))
 
-  pub found_closed_meanwhile : (limit : ℕ) (held : List (ℕ × Slot F T A)) (p q : Party F T A) (w : State) → StandsWith Pending held p → q.seat.table_id ≡ p.seat.table_id → HasEnded limit (λ _ w. w.closed) finding_closed w p.seat.me q.seat.me → GoesWith (act DropFuture ∷ []) Cleared held p q
+  pub found_closed_meanwhile : (limit : ℕ) (held : List (ℕ × Slot F T A)) (p q : Party F T A) (w : State) → StandsWith Pending held p → q.seat.table_id ≡ p.seat.table_id → HasEnded limit (λ _ w. w.closed) finding_closed w p.seat.me q.seat.me → GoesWith (act DropFuture ∷ []) PendingFutureDropped held p q
   found_closed_meanwhile limit held p q w s cell e = let v : State = record w { closed = true } in let m = moved.moved (DropFuture ∷ []) v Pending held p q s (at_closed (DropFuture ∷ []) w p q e.at_end e.made) in
-      moved.goes p q (act DropFuture ∷ []) Cleared held cell m.viewed (keeps_places Pending Cleared held q.seat.me.1 refl refl m.carried)
+      moved.goes p q (act DropFuture ∷ []) PendingFutureDropped held cell m.viewed (keeps_places Pending PendingFutureDropped held q.seat.me.1 refl refl m.carried)
 
-  pub ended_closed : (y z : Slot F T A) (p q : Party F T A) (w : State) → StandsWith Cleared (future_first y z []) p → q.seat.table_id ≡ p.seat.table_id → Makes (ending_closed w) w p.seat.me q.seat.me → (w.closed ≡ true) × Goes (row EndClosed w ∷ []) (notifies w.awaiter OfRun) p q
-  ended_closed y z p q w s cell made = let m = moved.moved (EndClosed ∷ []) w Cleared (future_first y z []) p q s made in
-      (alone_fits EndClosed (limit_of p) w made.fits, moved.goes p q (row EndClosed w ∷ []) (notifies w.awaiter OfRun) [] cell m.viewed (gave_work Cleared (notifies w.awaiter OfRun) (future_first y z []) q.seat.me.1 refl (due_work w.awaiter) m.carried))
+  pub ended_closed : (y z : Slot F T A) (p q : Party F T A) (w : State) → StandsWith PendingFutureDropped (future_first y z []) p → q.seat.table_id ≡ p.seat.table_id → Makes (ending_closed w) w p.seat.me q.seat.me → (w.closed ≡ true) × Goes (row EndClosed w ∷ []) (notifies w.awaiter OfRun) p q
+  ended_closed y z p q w s cell made = let m = moved.moved (EndClosed ∷ []) w PendingFutureDropped (future_first y z []) p q s made in
+      (alone_fits EndClosed (limit_of p) w made.fits, moved.goes p q (row EndClosed w ∷ []) (notifies w.awaiter OfRun) [] cell m.viewed (gave_work PendingFutureDropped (notifies w.awaiter OfRun) (future_first y z []) q.seat.me.1 refl (due_work w.awaiter) m.carried))
 
   pub dropped_output : (due : Bool) (y z : Slot F T A) (p q : Party F T A) (w : State) → StandsWith (OutputInHand due) (output_first y z []) p → q.seat.table_id ≡ p.seat.table_id → Makes (dropping_output w) w p.seat.me q.seat.me → Goes (act DropOutput ∷ []) (notifies due OfRun) p q
   dropped_output due y z p q w s cell made = let m = moved.moved (DropOutput ∷ []) w (OutputInHand due) (output_first y z []) p q s made in

@@ -1,18 +1,18 @@
 -- What the calls of a run and of a Runnable's drop come to, step after step.
 use Rattle.std.proofs.Common.{◌≡◌, ℕ, Bool, true, false, List, [], ◌∷◌, ◌++◌, Option, Some, None, refl, sym, ap, ◌∙◌, subst}
 use Rattle.task_core.specs.Word.{State}
-use Rattle.task_laws.specs.declared.positions.Closer.{Closer}
+use Rattle.task_laws.specs.declared.positions.WithoutPoll.{WithoutPoll}
 use Rattle.task_laws.specs.declared.positions.Rest.{Rest}
 use Rattle.task_laws.specs.declared.positions.Rest.TheVariants.{Ended}
-use Rattle.task_laws.specs.declared.positions.Way.{Way}
-use Rattle.task_laws.specs.declared.positions.Way.TheVariants.{OfRun, OfDrop, OfCancel}
-use Rattle.task_laws.specs.declared.positions.Closer.TheVariants.{DroppedRunnable}
+use Rattle.task_laws.specs.declared.positions.NotifyingCall.{NotifyingCall}
+use Rattle.task_laws.specs.declared.positions.NotifyingCall.TheVariants.{OfRun, OfDrop, OfCancel}
+use Rattle.task_laws.specs.declared.positions.WithoutPoll.TheVariants.{DroppedRunnable}
 use Rattle.task_laws.specs.declared.positions.Position.{Position}
-use Rattle.task_laws.specs.declared.positions.Position.TheVariants.{At, Leaving, Notifier, GivingUp, AwaiterInHand, FutureInHand}
-use Rattle.task_core.specs.declared.moves.Act.TheVariants.{EndCall, WakeAwaiter, DropFuture, Unschedule}
+use Rattle.task_laws.specs.declared.positions.Position.TheVariants.{At, CallEnding, Notifier, GivingUp, AwaiterInHand, FutureInHand}
+use Rattle.task_core.specs.declared.acts.Act.TheVariants.{EndCall, WakeAwaiter, DropFuture, Unschedule}
 use Rattle.task_laws.specs.declared.positions.Answer.{Answer}
 use Rattle.task_laws.specs.declared.positions.Answer.TheVariants.{Ran, Nothing}
-use Rattle.task_laws.specs.Table.{goes_on, goes_off, notifies}
+use Rattle.task_laws.specs.Table.{after_taking, after_waking, notifies}
 use Rattle.task_steps.specs.declared.table.Slot.{Slot}
 use Rattle.task_steps.specs.declared.table.Slot.TheVariants.{Empty}
 use Rattle.task_steps.specs.declared.table.Deed.{Deed}
@@ -27,47 +27,50 @@ use Rattle.task_cell.specs.RunCalls.{Releases, TakesDue, takes_none, takes_one, 
 use Rattle.task_cell.proofs.Moved as moved
 
 module _ {F T A : Type 0} where
-  pub at_way : (way : Way) (hand : Option ℕ) (path : List Deed) (p q : Party F T A) → Stands (Notifier way) p → GoesWith path (goes_on hand (way_of (position p))) (holds p) p q → Goes path (goes_on hand way) p q
-  at_way way hand path p q s g = subst (λ (z : Way × List (ℕ × Slot F T A)). GoesWith path (goes_on hand z.0) z.1 p q)
+  pub at_way : (way : NotifyingCall) (hand : Option ℕ) (path : List Deed) (p q : Party F T A) → Stands (Notifier way) p → GoesWith path (after_taking hand (way_of (position p))) (holds p) p q → Goes path (after_taking hand way) p q
+  at_way way hand path p q s g = subst (λ (z : NotifyingCall × List (ℕ × Slot F T A)). GoesWith path (after_taking hand z.0) z.1 p q)
       (λ i. (ap way_of (moved.position_is p (Notifier way) [] s) i, moved.held_is p (Notifier way) [] s i)) g
 
-  pub took_due : (way : Way) (p q : Party F T A) (r : Option A) → Stands (Notifier way) p → Notifies p q r → TakesDue way true p q r
+  pub took_due : (way : NotifyingCall) (p q : Party F T A) (r : Option A) → Stands (Notifier way) p → Notifies p q r
+      → TakesDue way true p q r
   took_due way p q r s (misses w f g) = takes_none _ (missed w f) (at_way way None _ p q s g)
   took_due way p q r s (finds_none w v f g) = takes_none _ (none_there w v f) (at_way way None _ p q s g)
   took_due way p q r s (takes_awaiter w v i a f g) = takes_one i a _ (taken w v f) (at_way way (Some i) _ p q s g)
 
-  pub due_cell : (way : Way) (due : Bool) (p q : Party F T A) (r : Option A) → TakesDue way due p q r → q.seat.table_id ≡ p.seat.table_id
+  pub due_cell : (way : NotifyingCall) (due : Bool) (p q : Party F T A) (r : Option A) → TakesDue way due p q r
+      → q.seat.table_id ≡ p.seat.table_id
   due_cell way due p q r (takes_none path n g) = g.cell
   due_cell way due p q r (takes_one i a path n g) = g.cell
 
   -- an awaiter in hand was woken
-  pub woke : (Woken : Type 0) (way : Way) (i : ℕ) (a : A) (p q : Party F T A) → Stands (AwaiterInHand i way) p → Woken → GoesWith (act WakeAwaiter ∷ []) (goes_off (way_of (position p))) (holds p) p q → Wakes Woken way (Some a) p q
+  pub woke : (Woken : Type 0) (way : NotifyingCall) (i : ℕ) (a : A) (p q : Party F T A) → Stands (AwaiterInHand i way) p → Woken → GoesWith (act WakeAwaiter ∷ []) (after_waking (way_of (position p))) (holds p) p q → Wakes Woken way (Some a) p q
   woke Woken way i a p q s fact g = (
     act WakeAwaiter ∷ [],
     woken fact,
-    subst (λ (z : Way × List (ℕ × Slot F T A)). GoesWith (act WakeAwaiter ∷ []) (goes_off z.0) z.1 p q)
+    subst (λ (z : NotifyingCall × List (ℕ × Slot F T A)). GoesWith (act WakeAwaiter ∷ []) (after_waking z.0) z.1 p q)
         (λ j. (ap way_of (moved.position_is p (AwaiterInHand i way) [] s) j, moved.held_is p (AwaiterInHand i way) [] s j)) g,
   )
 
-  pub woke_nobody : (Woken : Type 0) (way : Way) (p : Party F T A) → Stands (goes_off way) p → Wakes Woken way None p p
+  pub woke_nobody : (Woken : Type 0) (way : NotifyingCall) (p : Party F T A) → Stands (after_waking way) p → Wakes Woken way None p p
   woke_nobody Woken way p s = ([], nobody, record { cell = refl; is = s })
 
   -- .. by what it has
-  pub wakes_has : (Woken : Type 0) (way : Way) (a : A) (r : Option A) (p q : Party F T A) → HasTaken way p r → r ≡ Some a → Woken
-      → GoesWith (act WakeAwaiter ∷ []) (goes_off (way_of (position p))) (holds p) p q → Wakes Woken way r p q
+  pub wakes_has : (Woken : Type 0) (way : NotifyingCall) (a : A) (r : Option A) (p q : Party F T A) → HasTaken way p r → r ≡ Some a → Woken
+      → GoesWith (act WakeAwaiter ∷ []) (after_waking (way_of (position p))) (holds p) p q → Wakes Woken way r p q
   wakes_has Woken way a r p q (has_none s) e fact g = absurd (cc)
   wakes_has Woken way a r p q (has_one i b s) e fact g = woke Woken way i b p q s fact g
 
-  pub wakes_none : (Woken : Type 0) (way : Way) (r : Option A) (p : Party F T A) → HasTaken way p r → r ≡ None → Wakes Woken way r p p
+  pub wakes_none : (Woken : Type 0) (way : NotifyingCall) (r : Option A) (p : Party F T A) → HasTaken way p r → r ≡ None
+      → Wakes Woken way r p p
   wakes_none Woken way r p (has_none s) e = woke_nobody Woken way p s
   wakes_none Woken way r p (has_one i b s) e = absurd (cc)
 
-  pub has_hand : (way : Way) (a : A) (r : Option A) (p : Party F T A) → HasTaken way p r → r ≡ Some a → (i : ℕ) × Stands (AwaiterInHand i way) p
+  pub has_hand : (way : NotifyingCall) (a : A) (r : Option A) (p : Party F T A) → HasTaken way p r → r ≡ Some a → (i : ℕ) × Stands (AwaiterInHand i way) p
   has_hand way a r p (has_none s) e = absurd (cc)
   has_hand way a r p (has_one i b s) e = (i, s)
 
-  pub ended_call : (answer : Answer) (r : Rest) (p q : Party F T A) → Stands (Leaving answer r) p → Goes (act EndCall ∷ []) (rest_of (position p)) p q → Goes (act EndCall ∷ []) (At r) p q
-  ended_call answer r p q s g = subst (λ (at : Position). Goes (act EndCall ∷ []) at p q) (ap rest_of (moved.position_is p (Leaving answer r) [] s)) g
+  pub ended_call : (answer : Answer) (r : Rest) (p q : Party F T A) → Stands (CallEnding answer r) p → Goes (act EndCall ∷ []) (rest_of (position p)) p q → Goes (act EndCall ∷ []) (At r) p q
+  ended_call answer r p q s g = subst (λ (at : Position). Goes (act EndCall ∷ []) at p q) (ap rest_of (moved.position_is p (CallEnding answer r) [] s)) g
 
   -- in a run, what was taken is woken after the reference was given up
   pub run_gives_up : (due : Bool) (p q : Party F T A) (r : Option A) → TakesDue OfRun due p q r → (hand : Option ℕ) × Stands (GivingUp hand (Ran false)) q
@@ -78,30 +81,30 @@ module _ {F T A : Type 0} where
   Released q r = (hand : Option ℕ) (answer : Answer) → Stands (GivingUp hand answer) q → Releases hand answer q r
 
   pub run_has : (due : Bool) (p q q' : Party F T A) (r : Option A) → TakesDue OfRun due p q r → Released q q' → HasTaken OfRun q' r
-  run_has due p q q' r (takes_none path n g) rel = let x = rel None (Ran false) (moved.stands p q path (GivingUp None (Ran false)) [] g) in has_none (moved.stands q q' x.0 (Leaving (Ran false) Ended) [] x.2)
+  run_has due p q q' r (takes_none path n g) rel = let x = rel None (Ran false) (moved.stands p q path (GivingUp None (Ran false)) [] g) in has_none (moved.stands q q' x.0 (CallEnding (Ran false) Ended) [] x.2)
   run_has due p q q' r (takes_one i a path n g) rel = let x = rel (Some i) (Ran false) (moved.stands p q path (GivingUp (Some i) (Ran false)) [] g) in has_one i a (moved.stands q q' x.0 (AwaiterInHand i OfRun) [] x.2)
 
-  pub rested : (Woken : Type 0) (due : Bool) (p q q' s t : Party F T A) (r : Option A) → TakesDue OfRun due p q r → Released q q' → ((way : Way) → HasTaken way q' r → Wakes Woken way r q' s)
-      → (Stands (Leaving (Ran false) Ended) s → Goes (act EndCall ∷ []) (At Ended) s t) → Rests Woken due p t
+  pub rested : (Woken : Type 0) (due : Bool) (p q q' s t : Party F T A) (r : Option A) → TakesDue OfRun due p q r → Released q q' → ((way : NotifyingCall) → HasTaken way q' r → Wakes Woken way r q' s)
+      → (Stands (CallEnding (Ran false) Ended) s → Goes (act EndCall ∷ []) (At Ended) s t) → Rests Woken due p t
   rested Woken due p q q' s t r (takes_none n np g) rel wake ends = let x = rel None (Ran false) (moved.stands p q n (GivingUp None (Ran false)) [] g) in
-      let k = wake OfRun (has_none (moved.stands q q' x.0 (Leaving (Ran false) Ended) [] x.2)) in let z = ends (moved.stands q' s k.0 (Leaving (Ran false) Ended) [] k.2) in (
+      let k = wake OfRun (has_none (moved.stands q q' x.0 (CallEnding (Ran false) Ended) [] x.2)) in let z = ends (moved.stands q' s k.0 (CallEnding (Ran false) Ended) [] k.2) in (
         n ++ (x.0 ++ (k.0 ++ act EndCall ∷ [])),
         rests due false n x.0 k.0 np x.1 k.1,
         moved.goes_on p q t n (x.0 ++ (k.0 ++ act EndCall ∷ [])) (GivingUp None (Ran false)) (At Ended) [] [] g
-            (moved.goes_on q q' t x.0 (k.0 ++ act EndCall ∷ []) (Leaving (Ran false) Ended) (At Ended) [] [] x.2 (moved.goes_on q' s t k.0 (act EndCall ∷ []) (Leaving (Ran false) Ended) (At Ended) [] [] k.2 z)),
+            (moved.goes_on q q' t x.0 (k.0 ++ act EndCall ∷ []) (CallEnding (Ran false) Ended) (At Ended) [] [] x.2 (moved.goes_on q' s t k.0 (act EndCall ∷ []) (CallEnding (Ran false) Ended) (At Ended) [] [] k.2 z)),
       )
   rested Woken due p q q' s t r (takes_one i a n np g) rel wake ends = let x = rel (Some i) (Ran false) (moved.stands p q n (GivingUp (Some i) (Ran false)) [] g) in
-      let k = wake OfRun (has_one i a (moved.stands q q' x.0 (AwaiterInHand i OfRun) [] x.2)) in let z = ends (moved.stands q' s k.0 (Leaving (Ran false) Ended) [] k.2) in (
+      let k = wake OfRun (has_one i a (moved.stands q q' x.0 (AwaiterInHand i OfRun) [] x.2)) in let z = ends (moved.stands q' s k.0 (CallEnding (Ran false) Ended) [] k.2) in (
         n ++ (x.0 ++ (k.0 ++ act EndCall ∷ [])),
         rests due true n x.0 k.0 np x.1 k.1,
         moved.goes_on p q t n (x.0 ++ (k.0 ++ act EndCall ∷ [])) (GivingUp (Some i) (Ran false)) (At Ended) [] [] g
-            (moved.goes_on q q' t x.0 (k.0 ++ act EndCall ∷ []) (AwaiterInHand i OfRun) (At Ended) [] [] x.2 (moved.goes_on q' s t k.0 (act EndCall ∷ []) (Leaving (Ran false) Ended) (At Ended) [] [] k.2 z)),
+            (moved.goes_on q q' t x.0 (k.0 ++ act EndCall ∷ []) (AwaiterInHand i OfRun) (At Ended) [] [] x.2 (moved.goes_on q' s t k.0 (act EndCall ∷ []) (CallEnding (Ran false) Ended) (At Ended) [] [] k.2 z)),
       )
 
   -- where the awaiter is in hand as soon as it was taken
-  pub has_next : (way : Way) (due : Bool) (p q : Party F T A) (r : Option A) → goes_on None way ≡ goes_off way → ((i : ℕ) → goes_on (Some i) way ≡ AwaiterInHand i way) → TakesDue way due p q r → HasTaken way q r
-  has_next way due p q r none one (takes_none path n g) = has_none (subst (λ at. Stands at q) none (moved.stands p q path (goes_on None way) [] g))
-  has_next way due p q r none one (takes_one i a path n g) = has_one i a (subst (λ at. Stands at q) (one i) (moved.stands p q path (goes_on (Some i) way) [] g))
+  pub has_next : (way : NotifyingCall) (due : Bool) (p q : Party F T A) (r : Option A) → after_taking None way ≡ after_waking way → ((i : ℕ) → after_taking (Some i) way ≡ AwaiterInHand i way) → TakesDue way due p q r → HasTaken way q r
+  has_next way due p q r none one (takes_none path n g) = has_none (subst (λ at. Stands at q) none (moved.stands p q path (after_taking None way) [] g))
+  has_next way due p q r none one (takes_one i a path n g) = has_one i a (subst (λ at. Stands at q) (one i) (moved.stands p q path (after_taking (Some i) way) [] g))
 
   pub cancel_has : (n : ℕ) (due : Bool) (p q : Party F T A) (r : Option A) → TakesDue (OfCancel n) due p q r → HasTaken (OfCancel n) q r
   cancel_has n due p q r d = has_next (OfCancel n) due p q r refl (λ i. refl) d
@@ -113,21 +116,21 @@ module _ {F T A : Type 0} where
     discards d w false n k.0 x.0 start np k.1 x.1,
     moved.goes_on p o u (d ∷ act DropFuture ∷ row Unschedule w ∷ []) (n ++ (k.0 ++ (x.0 ++ act EndCall ∷ []))) (notifies w.awaiter OfDrop) (At Ended) [] [] f
         (moved.goes_on o q u n (k.0 ++ (x.0 ++ act EndCall ∷ [])) (GivingUp None Nothing) (At Ended) [] [] g
-        (moved.goes_on q s u k.0 (x.0 ++ act EndCall ∷ []) (GivingUp None Nothing) (At Ended) [] [] k.2 (moved.goes_on s t u x.0 (act EndCall ∷ []) (Leaving Nothing Ended) (At Ended) [] [] x.2 z))),
+        (moved.goes_on q s u k.0 (x.0 ++ act EndCall ∷ []) (GivingUp None Nothing) (At Ended) [] [] k.2 (moved.goes_on s t u x.0 (act EndCall ∷ []) (CallEnding Nothing Ended) (At Ended) [] [] x.2 z))),
   )
   discard_rest Woken d w p o q s t u r start f (takes_one i a n np g) k x z = (
     d ∷ act DropFuture ∷ row Unschedule w ∷ (n ++ (k.0 ++ (x.0 ++ act EndCall ∷ []))),
     discards d w true n k.0 x.0 start np k.1 x.1,
     moved.goes_on p o u (d ∷ act DropFuture ∷ row Unschedule w ∷ []) (n ++ (k.0 ++ (x.0 ++ act EndCall ∷ []))) (notifies w.awaiter OfDrop) (At Ended) [] [] f
         (moved.goes_on o q u n (k.0 ++ (x.0 ++ act EndCall ∷ [])) (AwaiterInHand i OfDrop) (At Ended) [] [] g
-        (moved.goes_on q s u k.0 (x.0 ++ act EndCall ∷ []) (GivingUp None Nothing) (At Ended) [] [] k.2 (moved.goes_on s t u x.0 (act EndCall ∷ []) (Leaving Nothing Ended) (At Ended) [] [] x.2 z))),
+        (moved.goes_on q s u k.0 (x.0 ++ act EndCall ∷ []) (GivingUp None Nothing) (At Ended) [] [] k.2 (moved.goes_on s t u x.0 (act EndCall ∷ []) (CallEnding Nothing Ended) (At Ended) [] [] x.2 z))),
   )
 
   -- the future was dropped, and SCHEDULED cleared
-  pub unscheduled : (closer : Closer) (w : State) (held : List (ℕ × Slot F T A)) (p q r : Party F T A) → GoesWith [] (FutureInHand closer) held p q
+  pub unscheduled : (closer : WithoutPoll) (w : State) (held : List (ℕ × Slot F T A)) (p q r : Party F T A) → GoesWith [] (FutureInHand closer) held p q
       → Goes (act DropFuture ∷ row Unschedule w ∷ []) (notifies w.awaiter (closing_way (position q))) q r → Goes (act DropFuture ∷ row Unschedule w ∷ []) (notifies w.awaiter (closing_way (FutureInHand closer))) p r
   unscheduled closer w held p q r g h = let way = closing_way (FutureInHand closer) in moved.goes_on p q r [] (act DropFuture ∷ row Unschedule w ∷ []) (FutureInHand closer) (notifies w.awaiter way) held [] g
-      (subst (λ (z : Way). Goes (act DropFuture ∷ row Unschedule w ∷ []) (notifies w.awaiter z) q r)
+      (subst (λ (z : NotifyingCall). Goes (act DropFuture ∷ row Unschedule w ∷ []) (notifies w.awaiter z) q r)
       (ap closing_way (moved.position_is q (FutureInHand closer) held (moved.stands p q [] (FutureInHand closer) held g))) h)
 
   discard_first : (d : Deed) (w : State) (held cleared : List (ℕ × Slot F T A)) (p q r s : Party F T A) → GoesWith (d ∷ []) (FutureInHand DroppedRunnable) held p q → GoesWith [] (FutureInHand DroppedRunnable) cleared q r
@@ -148,7 +151,7 @@ module _ {F T A : Type 0} where
       drop_notifies = subst (λ h. Stands (notifies h OfDrop) o) (sym is) (moved.stands p o (start.0 ∷ act DropFuture ∷ row Unschedule w ∷ []) (notifies w.awaiter OfDrop) [] drop_closes)
 
       -- .. to q by the awaiter that was taken
-      module _ (q : Party F T A) (r : Option A) (take : (way : Way) → Stands (notifies due way) o → TakesDue way due o q r) where
+      module _ (q : Party F T A) (r : Option A) (take : (way : NotifyingCall) → Stands (notifies due way) o → TakesDue way due o q r) where
         pub drop_takes : TakesDue OfDrop w.awaiter o q r
         drop_takes = subst (λ h. TakesDue OfDrop h o q r) is (take OfDrop drop_notifies)
 
@@ -159,7 +162,7 @@ module _ {F T A : Type 0} where
         drop_has = has_next OfDrop w.awaiter o q r refl (λ i. refl) drop_takes
 
         -- .. to s by its wake
-        module _ (Woken : Type 0) (s : Party F T A) (wake : (way : Way) → HasTaken way q r → Wakes Woken way r q s) where
+        module _ (Woken : Type 0) (s : Party F T A) (wake : (way : NotifyingCall) → HasTaken way q r → Wakes Woken way r q s) where
           pub drop_wakes : Wakes Woken OfDrop r q s
           drop_wakes = wake OfDrop drop_has
 
@@ -171,8 +174,8 @@ module _ {F T A : Type 0} where
             pub drop_releases : Releases None Nothing s t
             drop_releases = release None Nothing drop_gives_up
 
-            pub drop_leaves : Stands (Leaving Nothing Ended) t
-            drop_leaves = moved.stands s t drop_releases.0 (Leaving Nothing Ended) [] drop_releases.2
+            pub drop_leaves : Stands (CallEnding Nothing Ended) t
+            drop_leaves = moved.stands s t drop_releases.0 (CallEnding Nothing Ended) [] drop_releases.2
 
             pub drop_ends : (u : Party F T A) → Goes (act EndCall ∷ []) (rest_of (position t)) t u → Discards Woken p u
             drop_ends u e = discard_rest Woken start.0 w p o q s t u r start.3 drop_closes drop_takes drop_wakes drop_releases (ended_call Nothing Ended t u drop_leaves e)

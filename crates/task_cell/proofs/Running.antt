@@ -3,8 +3,8 @@ use Rattle.std.proofs.Common.{◌≡◌, ℕ, Bool, true, false, List, [], ◌�
 use Rattle.atomic_table.specs.Table.{Me}
 use Rattle.task_core.specs.Word.{State}
 use Rattle.task_laws.specs.declared.positions.Position.TheVariants.{FutureInHand, Polling}
-use Rattle.task_laws.specs.declared.positions.Closer.TheVariants.{ClosedRun}
-use Rattle.task_core.specs.declared.moves.Act.TheVariants.{TakeUpClosed, StartRun, StartPoll}
+use Rattle.task_laws.specs.declared.positions.WithoutPoll.TheVariants.{ClosedRun}
+use Rattle.task_core.specs.declared.acts.Act.TheVariants.{TakeUpClosed, StartRun, StartPoll}
 use Rattle.task_core.specs.declared.traits.Poll.{Poll}
 use Rattle.task_core.specs.declared.traits.Poll.TheVariants.{Pending as Unready, Ready as Answered}
 use Rattle.task_steps.specs.declared.table.Slot.{Slot}

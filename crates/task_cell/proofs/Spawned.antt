@@ -17,12 +17,12 @@ use Rattle.task_steps.specs.declared.table.Stage.{Stage}
 use Rattle.task_steps.specs.declared.table.Stage.TheVariants.{Laid, Filling, Spawned}
 use Rattle.task_steps.specs.declared.table.View.{View}
 use Rattle.task_cell.specs.declared.cell.Party.{Party}
-use Rattle.task_steps.specs.Rule.{member, view, fresh, laid_view, filling_view, opening_view, IsFuture, IsEmpty, AtHome, opening_at, Told, Running, Ruled}
+use Rattle.task_steps.specs.Rule.{member, view, fresh, laid_view, filling_view, opening_view, IsFuture, IsEmpty, AtHome, opening_at, Explains, Running, RuleHolds}
 use Rattle.task_steps.specs.Steps.{head_of}
 use Rattle.task_cell.specs.Calls.{deeds, StandsWith}
 use Rattle.task_cell.specs.LastWord.{IsLastWord}
 use Rattle.task_steps.specs.Spawns.{opening_runnable, opening_task}
-use Rattle.task_steps.proofs.Told.{inside, runs, regroups}
+use Rattle.task_steps.proofs.Explains.{inside, runs, regroups}
 use Rattle.task_steps.proofs.Facts.{law}
 use Rattle.task_steps.proofs.Seats.{leaves, retold, staged_more, first_more}
 
@@ -34,7 +34,7 @@ module _ (F T A : Type 0) (limit : ℕ) where
   B = Board (Slot F T A) View
 
   abbrev Rule : B → Type 0
-  Rule = Ruled {F = F} {T = T} {A = A} limit
+  Rule = RuleHolds {F = F} {T = T} {A = A} limit
 
   abbrev Opened : Me (Slot F T A) View → Me (Slot F T A) View → Type 0
   Opened m before = m ≡ (opening_view before.0.limit, rest before.1)
@@ -61,7 +61,7 @@ module _ (F T A : Type 0) (limit : ℕ) where
   same_words s run = (length-set s.words 0 (get_or s.words 0 0) ∙ run.wide, get_or-set_same s.words 0 (get_or s.words 0 0) 0 (let h = run.wide in omega arith) ∙ run.word_is)
 
   -- the opening seat goes on to another stage, with the parties that it has
-  goes_to : (s : B) (run : Running {F = F} {T = T} {A = A} limit s) (id : ℕ) (from stage : Stage) → get_elem? s.views id ≡ some (opening_at from limit) → Told limit (set s.views id (opening_at stage limit)) run.log run.machine
+  goes_to : (s : B) (run : Running {F = F} {T = T} {A = A} limit s) (id : ℕ) (from stage : Stage) → get_elem? s.views id ≡ some (opening_at from limit) → Explains limit (set s.views id (opening_at stage limit)) run.log run.machine
   goes_to s run id from stage at = regroups limit s.views (set s.views id (opening_at stage limit)) run.log run.machine (λ k. k) run.told
       (λ seat index v u f g. ⊎_elim
       (λ (z : (seat ≡ id) × (opening_at stage limit ≡ v)). (seat, index, opening_at from limit, ap (λ (k : ℕ). get_elem? s.views k) z.0 ∙ at, ap (λ (w : View). get_elem? w.members index) z.1 ∙ g, refl, ap (λ (w : View). w.limit) (sym z.1)))
@@ -134,7 +134,7 @@ module _ (F T A : Type 0) (limit : ℕ) where
   -- the Task gets a seat
   pub parts : (id : ℕ) (v : View) (l : ℕ) → v ≡ opening_view l → Splits Rule id v (opening_runnable v) (opening_task v)
   parts id v l is s r at = let run = r.running in
-      let t0 = subst (λ vs. Told limit vs run.log run.machine) (sym (ap (λ z. set s.views id z) (sym is) ∙ lists.set_again s.views id v at)) run.told in
+      let t0 = subst (λ vs. Explains limit vs run.log run.machine) (sym (ap (λ z. set s.views id z) (sym is) ∙ lists.set_again s.views id v at)) run.told in
       let t1 = leaves limit s.views id l run.log run.machine (fresh (At Runnable) ∷ fresh (At (Task 0)) ∷ []) (fresh (At Runnable) ∷ []) (fresh (At (Task 0))) 1 t0 (inside s.views id v at) refl only in
       subst (λ vs. Rule record { words = s.words; homes = s.homes; views = vs }) (λ j. set s.views id (ap opening_runnable (sym is) j) ++ (ap opening_task (sym is)) j ∷ [])
       (retold F T A limit s r.capped run (set s.views id (view l (fresh (At Runnable) ∷ [])) ++ view l (fresh (At (Task 0)) ∷ []) ∷ []) run.log run.machine t1 refl run.limited run.housed (first_more F T A limit s run id v (view l (fresh (At Runnable) ∷ [])) (view l (fresh (At (Task 0)) ∷ [])) l (fresh (At Runnable) ∷ fresh (At (Task 0)) ∷ []) at is) (staged_more F T A limit s run id (view l (fresh (At Runnable) ∷ [])) (view l (fresh (At (Task 0)) ∷ [])) refl refl))

@@ -1,13 +1,13 @@
 -- How a run takes a Runnable up.
 use Rattle.std.proofs.Common.{◌≡◌, ℕ, Bool, true, false, not, Some, None, List, [], ◌∷◌, refl, sym, ap, ◌∙◌, inr, is_some}
 use Rattle.task_core.specs.Word.{State, number_of}
-use Rattle.task_laws.specs.Event.{TakenUp, Started}
+use Rattle.task_laws.specs.Event.{TakenUp, FuturePollBegins}
 use Rattle.task_laws.specs.declared.positions.Position.TheVariants.{At, FutureInHand, Starting, Polling}
 use Rattle.task_laws.specs.declared.positions.Rest.TheVariants.{Runnable}
-use Rattle.task_laws.specs.declared.positions.Closer.TheVariants.{ClosedRun}
-use Rattle.task_core.specs.declared.moves.Act.TheVariants.{TakeUpClosed, StartRun, StartPoll}
+use Rattle.task_laws.specs.declared.positions.WithoutPoll.TheVariants.{ClosedRun}
+use Rattle.task_core.specs.declared.acts.Act.TheVariants.{TakeUpClosed, StartRun, StartPoll}
 use Rattle.task_core.specs.Rows.{written, row}
-use Rattle.task_laws.specs.Table.{Outcome, steps}
+use Rattle.task_laws.specs.Table.{Outcome, leaves_slots}
 use Rattle.task_laws.specs.Machine.{Machine, scene}
 use Rattle.task_steps.specs.declared.table.Slot.{Slot}
 use Rattle.task_steps.specs.declared.table.Deed.{Deed}
@@ -28,8 +28,8 @@ use Rattle.task_cell.proofs.Attempts.{may_at}
 module _ (F T A : Type 0) (limit : ℕ) where
   takes_up_closed : (ds : List Deed) (l : List (ℕ × Slot F T A)) → OwesEnd F T A limit (λ w. w.closed) taking_up_closed (At Runnable) ds [] l
   takes_up_closed ds l m f n e lt closed = record {
-    outcome = steps (scene m) m.word (FutureInHand ClosedRun) [] (TakenUp ∷ []);
-    leads_to = leads_found (scene m) TakeUpClosed (At Runnable) [] (steps (scene m) m.word (FutureInHand ClosedRun) [] (TakenUp ∷ [])) (steps (scene m) m.word (FutureInHand ClosedRun) [] []) closed refl refl;
+    outcome = leaves_slots (scene m) m.word (FutureInHand ClosedRun) [] (TakenUp ∷ []);
+    leads_to = leads_found (scene m) TakeUpClosed (At Runnable) [] (leaves_slots (scene m) m.word (FutureInHand ClosedRun) [] (TakenUp ∷ [])) (leaves_slots (scene m) m.word (FutureInHand ClosedRun) [] []) closed refl refl;
     writes = e;
     idle = (refl, refl);
     placing = takes_future refl refl refl (inr (refl, refl)) (queued m f.number f.invariant f.stands).future (λ _ h. h);
@@ -38,9 +38,9 @@ module _ (F T A : Type 0) (limit : ℕ) where
   pub starts_run : (ds : List Deed) (l : List (ℕ × Slot F T A)) (w v : State) (old new : ℕ) → Some v ≡ row 0 StartRun w → old ≡ number_of w → new ≡ number_of v
       → (m : Machine) → Finds limit (At Runnable) ds [] m → old ≡ number_of m.word → Steps m (At Runnable) (starting_run m.word) new l
   starts_run ds l w v old new fits is to m f here = let same = same_word m.word w old is here in let r = row_found 0 StartRun w v fits in
-      let o : Outcome = steps (scene m) (written StartRun m.word) Starting [] (TakenUp ∷ []) in
-      let x : Outcome = steps (scene m) (written StartRun m.word) Polling [] (Started ∷ []) in record {
-        outcome = steps (scene m) (written StartRun m.word) Polling [] (Started ∷ TakenUp ∷ []);
+      let o : Outcome = leaves_slots (scene m) (written StartRun m.word) Starting [] (TakenUp ∷ []) in
+      let x : Outcome = leaves_slots (scene m) (written StartRun m.word) Polling [] (FuturePollBegins ∷ []) in record {
+        outcome = leaves_slots (scene m) (written StartRun m.word) Polling [] (FuturePollBegins ∷ TakenUp ∷ []);
         leads_to = leads_found (scene m) StartRun (At Runnable) (StartPoll ∷ []) o x (ap (λ (z : State). not z.closed) same ∙ r.0) refl refl;
         writes = to ∙ ap number_of (r.1 ∙ ap (written StartRun) (sym same));
         idle = (refl, refl);

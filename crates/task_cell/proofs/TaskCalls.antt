@@ -3,13 +3,13 @@ use Rattle.std.proofs.Common.{◌≡◌, ℕ, Bool, true, false, List, [], ◌�
 use Rattle.task_core.specs.Word.{State}
 use Rattle.task_laws.specs.declared.positions.Answer.{Answer}
 use Rattle.task_laws.specs.declared.positions.Answer.TheVariants.{Nothing}
-use Rattle.task_laws.specs.declared.positions.Position.TheVariants.{Deliverer, Emptier, OutputCloser, Leaving}
+use Rattle.task_laws.specs.declared.positions.Position.TheVariants.{Deliverer, Emptier, OutputCloser, CallEnding}
 use Rattle.task_laws.specs.declared.positions.Rest.TheVariants.{Ended}
-use Rattle.task_laws.specs.declared.positions.Way.TheVariants.{OfCancel}
-use Rattle.task_laws.specs.declared.positions.After.{After}
-use Rattle.task_laws.specs.declared.positions.After.TheVariants.{ThenEnds}
-use Rattle.task_core.specs.declared.moves.Act.TheVariants.{CancelOver, CancelBusy, CancelIdle, GiveUpOutput, DropOutput, DetachOrphan, DetachLast, Detach, EmptySlots, EndCall, HandOver}
-use Rattle.task_laws.specs.Table.{notifies, cancels_after, goes_after, after_giving_up}
+use Rattle.task_laws.specs.declared.positions.NotifyingCall.TheVariants.{OfCancel}
+use Rattle.task_laws.specs.declared.positions.OnceDelivered.{OnceDelivered}
+use Rattle.task_laws.specs.declared.positions.OnceDelivered.TheVariants.{ThenEnds}
+use Rattle.task_core.specs.declared.acts.Act.TheVariants.{CancelOver, CancelBusy, CancelIdle, GiveUpOutput, DropOutput, DetachOrphan, DetachLast, Detach, EmptySlots, EndCall, HandOver}
+use Rattle.task_laws.specs.Table.{notifies, after_cancelling, after_handing_over, after_giving_up}
 use Rattle.task_steps.specs.declared.table.Slot.{Slot}
 use Rattle.task_steps.specs.declared.table.Deed.{Deed}
 use Rattle.task_cell.specs.declared.cell.Party.{Party}
@@ -25,18 +25,18 @@ use Rattle.task_cell.proofs.Moved.{goes_on, stands, position_is}
 use Rattle.task_cell.proofs.TaskMoves.{Ends, ends}
 
 -- a cancel goes on where its Runnable was handed over
-cancel_goes_on : (due : Bool) (n : ℕ) → goes_after (cancels_after due n) ≡ notifies due (OfCancel n)
+cancel_goes_on : (due : Bool) (n : ℕ) → after_handing_over (after_cancelling due n) ≡ notifies due (OfCancel n)
 cancel_goes_on true n = refl
 cancel_goes_on false n = refl
 
 module _ {F T A : Type 0} where
   -- the Runnable of a deliverer is handed over
-  pub hands_over : (p q r : Party F T A) (path : List Deed) (next : After) → Goes path (Deliverer false next) p q → Goes (act HandOver ∷ []) (handed_over (position q)) q r → Goes (path ++ act HandOver ∷ []) (goes_after next) p r
-  hands_over p q r path next g h = goes_on p q r path (act HandOver ∷ []) (Deliverer false next) (goes_after next) [] [] g
+  pub hands_over : (p q r : Party F T A) (path : List Deed) (next : OnceDelivered) → Goes path (Deliverer false next) p q → Goes (act HandOver ∷ []) (handed_over (position q)) q r → Goes (path ++ act HandOver ∷ []) (after_handing_over next) p r
+  hands_over p q r path next g h = goes_on p q r path (act HandOver ∷ []) (Deliverer false next) (after_handing_over next) [] [] g
       (subst (λ at. Goes (act HandOver ∷ []) (handed_over at) q r) (position_is q (Deliverer false next) [] (stands p q path (Deliverer false next) [] g)) h)
 
-  pub delivered : (p q r : Party F T A) (n : ℕ) (due : Bool) (path : List Deed) → Goes path (Deliverer false (cancels_after due n)) p q → Goes (act HandOver ∷ []) (handed_over (position q)) q r → Goes (path ++ act HandOver ∷ []) (notifies due (OfCancel n)) p r
-  delivered p q r n due path g h = subst (λ at. Goes (path ++ act HandOver ∷ []) at p r) (cancel_goes_on due n) (hands_over p q r path (cancels_after due n) g h)
+  pub delivered : (p q r : Party F T A) (n : ℕ) (due : Bool) (path : List Deed) → Goes path (Deliverer false (after_cancelling due n)) p q → Goes (act HandOver ∷ []) (handed_over (position q)) q r → Goes (path ++ act HandOver ∷ []) (notifies due (OfCancel n)) p r
+  delivered p q r n due path g h = subst (λ at. Goes (path ++ act HandOver ∷ []) at p r) (cancel_goes_on due n) (hands_over p q r path (after_cancelling due n) g h)
 
   -- a cancel goes such a path
   abbrev pub Cancelling : Type 0 → Type 0 → Party F T A → Party F T A → Type 0
@@ -79,13 +79,13 @@ module _ {F T A : Type 0} where
   abbrev pub Empties : Party F T A → Party F T A → Type 0
   Empties p q = (hand : Option ℕ) (answer : Answer) (y : Slot F T A) → StandsWith (Emptier hand answer) ((2, y) ∷ []) p → Goes (act EmptySlots ∷ []) (after_giving_up hand answer) p q
 
-  pub empties : (p q r : Party F T A) (path : List Deed) (y : Slot F T A) → GoesWith path (Emptier None Nothing) ((2, y) ∷ []) p q → Empties q r → Goes (path ++ act EmptySlots ∷ []) (Leaving Nothing Ended) p r
-  empties p q r path y g e = goes_on p q r path (act EmptySlots ∷ []) (Emptier None Nothing) (Leaving Nothing Ended) ((2, y) ∷ []) [] g
+  pub empties : (p q r : Party F T A) (path : List Deed) (y : Slot F T A) → GoesWith path (Emptier None Nothing) ((2, y) ∷ []) p q → Empties q r → Goes (path ++ act EmptySlots ∷ []) (CallEnding Nothing Ended) p r
+  empties p q r path y g e = goes_on p q r path (act EmptySlots ∷ []) (Emptier None Nothing) (CallEnding Nothing Ended) ((2, y) ∷ []) [] g
       (e None Nothing y (stands p q path (Emptier None Nothing) ((2, y) ∷ []) g))
 
   -- the Task of a completed task was the last handle
   pub unclaimed_last : (p q r t : Party F T A) (b : Bool) → b ≡ true → Detaches p q Unclaimed → GivesTaskUp q r b → Empties r t
-      → (w v : State) × Fits GiveUpOutput w × Fits DetachLast v × Goes (row GiveUpOutput w ∷ act DropOutput ∷ row DetachLast v ∷ act EmptySlots ∷ []) (Leaving Nothing Ended) p t
+      → (w v : State) × Fits GiveUpOutput w × Fits DetachLast v × Goes (row GiveUpOutput w ∷ act DropOutput ∷ row DetachLast v ∷ act EmptySlots ∷ []) (CallEnding Nothing Ended) p t
   unclaimed_last p q r t false is x y e = absurd (cc)
   unclaimed_last p q r t true is x y e = let path : List Deed = row GiveUpOutput x.0 ∷ [] in let more : List Deed = act DropOutput ∷ row DetachLast y.0 ∷ [] in
       (x.0, y.0, x.3, y.2, empties p r t (path ++ more) y.1 (goes_on p q r path more OutputCloser (Emptier None Nothing) (output_first x.1 x.2 []) ((2, y.1) ∷ []) x.5 y.3) e)
@@ -104,7 +104,7 @@ module _ {F T A : Type 0} where
   detaches_shared Scheduled p q x = (row Detach x.0 ∷ act EndCall ∷ [], is_shared x.0 x.1, x.2)
 
   -- a closed task has no other handle
-  pub last_emptied : (p q r : Party F T A) (x : Detaches p q Last) → Empties q r → Goes (row DetachLast x.0 ∷ act EmptySlots ∷ []) (Leaving Nothing Ended) p r
+  pub last_emptied : (p q r : Party F T A) (x : Detaches p q Last) → Empties q r → Goes (row DetachLast x.0 ∷ act EmptySlots ∷ []) (CallEnding Nothing Ended) p r
   last_emptied p q r x e = empties p q r (row DetachLast x.0 ∷ []) x.1 x.3 e
 
   pub detaches_last : (Scheduled : Type 0) (p q r t : Party F T A) → Detaches p q Last → Empties q r → Goes (act EndCall ∷ []) (rest_of (position r)) r t → Detaching Scheduled p t
@@ -112,7 +112,7 @@ module _ {F T A : Type 0} where
       (path ++ act EndCall ∷ [], is_last x.0 x.2, ends p r t path Nothing Ended (last_emptied p q r x e) end)
 
   -- an open task has no other handle
-  pub orphan_delivered : (p q r : Party F T A) (x : Detaches p q Orphaned) → Goes (act HandOver ∷ []) (handed_over (position q)) q r → Goes (row DetachOrphan x.0 ∷ act HandOver ∷ []) (Leaving Nothing Ended) p r
+  pub orphan_delivered : (p q r : Party F T A) (x : Detaches p q Orphaned) → Goes (act HandOver ∷ []) (handed_over (position q)) q r → Goes (row DetachOrphan x.0 ∷ act HandOver ∷ []) (CallEnding Nothing Ended) p r
   orphan_delivered p q r x h = hands_over p q r (row DetachOrphan x.0 ∷ []) (ThenEnds Nothing) x.2 h
 
   pub detaches_orphaned : (Scheduled : Type 0) (p q r t : Party F T A) → Detaches p q Orphaned → Scheduled → Goes (act HandOver ∷ []) (handed_over (position q)) q r → Goes (act EndCall ∷ []) (rest_of (position r)) r t → Detaching Scheduled p t

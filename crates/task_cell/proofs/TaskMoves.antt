@@ -6,13 +6,13 @@ use Rattle.task_core.specs.Word.{State, is_open, number_of}
 use Rattle.task_laws.specs.declared.positions.Answer.{Answer}
 use Rattle.task_laws.specs.declared.positions.Answer.TheVariants.{Nothing}
 use Rattle.task_laws.specs.declared.positions.Position.{Position}
-use Rattle.task_laws.specs.declared.positions.Position.TheVariants.{At, Deliverer, Emptier, OutputCloser, Detacher, Leaving, AwaiterInHand}
+use Rattle.task_laws.specs.declared.positions.Position.TheVariants.{At, Deliverer, Emptier, OutputCloser, Detacher, CallEnding, AwaiterInHand}
 use Rattle.task_laws.specs.declared.positions.Rest.{Rest}
 use Rattle.task_laws.specs.declared.positions.Rest.TheVariants.{Task, Ended}
-use Rattle.task_laws.specs.declared.positions.After.TheVariants.{ThenEnds}
-use Rattle.task_laws.specs.declared.positions.Way.TheVariants.{OfCancel}
-use Rattle.task_core.specs.declared.moves.Act.TheVariants.{CancelOver, CancelBusy, CancelIdle, GiveUpOutput, DropOutput, DetachOrphan, DetachLast, Detach, EndCall}
-use Rattle.task_laws.specs.Table.{notifies, cancels_after}
+use Rattle.task_laws.specs.declared.positions.OnceDelivered.TheVariants.{ThenEnds}
+use Rattle.task_laws.specs.declared.positions.NotifyingCall.TheVariants.{OfCancel}
+use Rattle.task_core.specs.declared.acts.Act.TheVariants.{CancelOver, CancelBusy, CancelIdle, GiveUpOutput, DropOutput, DetachOrphan, DetachLast, Detach, EndCall}
+use Rattle.task_laws.specs.Table.{notifies, after_cancelling}
 use Rattle.task_laws.specs.Theorem.{owns_awaiter}
 use Rattle.task_steps.specs.declared.table.Slot.{Slot}
 use Rattle.task_steps.specs.declared.table.Deed.{Deed}
@@ -73,7 +73,7 @@ module _ {F T A : Type 0} where
       made true is m = let x = moved (CancelBusy ∷ []) w (At (Task n)) [] p q s m in let at : Position = notifies w.awaiter (OfCancel n) in let i = idle_cancel w.awaiter n in
           (w, refl, both (is_open w) (w.scheduled || w.running) now is, goes p q (row CancelBusy w ∷ []) at [] cell x.viewed (bare (has_work at) (owns_awaiter at) at q.seat.me.1 i.0 i.1 x.carried))
       made false is m = let x = moved (CancelIdle ∷ []) w (At (Task n)) [] p q s m in
-          (w, refl, neither (is_open w) w.scheduled w.running now is, goes p q (row CancelIdle w ∷ []) (Deliverer false (cancels_after w.awaiter n)) [] cell x.viewed x.carried)
+          (w, refl, neither (is_open w) w.scheduled w.running now is, goes p q (row CancelIdle w ∷ []) (Deliverer false (after_cancelling w.awaiter n)) [] cell x.viewed x.carried)
 
   -- the row of a detach
   pub gives_up : (limit : ℕ) (p q : Party F T A) (n : ℕ) (w : State) → Stands (as_task n) p → q.seat.table_id ≡ p.seat.table_id → HasChanged limit (λ _ w. Some (detached w)) detaching w p.seat.me q.seat.me → Detaches p q (given_up_by w)
@@ -114,9 +114,9 @@ module _ {F T A : Type 0} where
           )
 
   -- the call ends
-  pub ends : (p q r : Party F T A) (path : List Deed) (answer : Answer) (x : Rest) → Goes path (Leaving answer x) p q → Goes (act EndCall ∷ []) (rest_of (position q)) q r → Goes (path ++ act EndCall ∷ []) (At x) p r
-  ends p q r path answer x g e = goes_on p q r path (act EndCall ∷ []) (Leaving answer x) (At x) [] [] g
-      (subst (λ at. Goes (act EndCall ∷ []) (rest_of at) q r) (position_is q (Leaving answer x) [] (stands p q path (Leaving answer x) [] g)) e)
+  pub ends : (p q r : Party F T A) (path : List Deed) (answer : Answer) (x : Rest) → Goes path (CallEnding answer x) p q → Goes (act EndCall ∷ []) (rest_of (position q)) q r → Goes (path ++ act EndCall ∷ []) (At x) p r
+  ends p q r path answer x g e = goes_on p q r path (act EndCall ∷ []) (CallEnding answer x) (At x) [] [] g
+      (subst (λ at. Goes (act EndCall ∷ []) (rest_of at) q r) (position_is q (CallEnding answer x) [] (stands p q path (CallEnding answer x) [] g)) e)
 
   -- how a cancel ends that has closed the task
   abbrev pub Ends : Type 0 → Bool → ℕ → Party F T A → Party F T A → Type 0
@@ -126,12 +126,12 @@ module _ {F T A : Type 0} where
   ends_noticed Woken p q r t n due x (takes_none path told g) k e = (
     path ++ k.0,
     noticed Woken due false path k.0 told k.1,
-    ends p r t (path ++ k.0) Nothing (Task n) (goes_on p q r path k.0 (Leaving Nothing (Task n)) (Leaving Nothing (Task n)) [] [] g k.2) e,
+    ends p r t (path ++ k.0) Nothing (Task n) (goes_on p q r path k.0 (CallEnding Nothing (Task n)) (CallEnding Nothing (Task n)) [] [] g k.2) e,
   )
   ends_noticed Woken p q r t n due x (takes_one i a path told g) k e = (
     path ++ k.0,
     noticed Woken due true path k.0 told k.1,
-    ends p r t (path ++ k.0) Nothing (Task n) (goes_on p q r path k.0 (AwaiterInHand i (OfCancel n)) (Leaving Nothing (Task n)) [] [] g k.2) e,
+    ends p r t (path ++ k.0) Nothing (Task n) (goes_on p q r path k.0 (AwaiterInHand i (OfCancel n)) (CallEnding Nothing (Task n)) [] [] g k.2) e,
   )
 
 module _ (F T A : Type 0) (limit : ℕ) where

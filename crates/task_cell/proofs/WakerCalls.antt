@@ -2,10 +2,10 @@
 use Rattle.std.proofs.Common.{false, List, [], ◌∷◌, ◌++◌}
 use Rattle.task_core.specs.Word.{State}
 use Rattle.task_laws.specs.declared.positions.Answer.TheVariants.{Nothing}
-use Rattle.task_laws.specs.declared.positions.Position.TheVariants.{Deliverer, Leaving, OrphanHolder}
+use Rattle.task_laws.specs.declared.positions.Position.TheVariants.{Deliverer, CallEnding, OrphanHolder}
 use Rattle.task_laws.specs.declared.positions.Rest.TheVariants.{Ended}
-use Rattle.task_laws.specs.declared.positions.After.TheVariants.{ThenEnds}
-use Rattle.task_core.specs.declared.moves.Act.TheVariants.{DropWaker, DropLastWaker, OrphanTask, CloseOrphan, EmptySlots, EndCall, HandOver}
+use Rattle.task_laws.specs.declared.positions.OnceDelivered.TheVariants.{ThenEnds}
+use Rattle.task_core.specs.declared.acts.Act.TheVariants.{DropWaker, DropLastWaker, OrphanTask, CloseOrphan, EmptySlots, EndCall, HandOver}
 use Rattle.task_steps.specs.declared.table.Deed.{Deed}
 use Rattle.task_cell.specs.declared.cell.Party.{Party}
 use Rattle.task_steps.specs.declared.words.Dropped.TheVariants.{Shared, Last, Orphaned}
@@ -26,7 +26,7 @@ module _ {F T A : Type 0} where
   drops_shared Scheduled p q x = (row DropWaker x.0 ∷ act EndCall ∷ [], leaves_others x.0 x.1, x.2)
 
   -- the last handle of a task that is over
-  pub last_emptied : (p q r : Party F T A) (x : DropsWaker p q Last) → Empties q r → Goes (row DropLastWaker x.0 ∷ act EmptySlots ∷ []) (Leaving Nothing Ended) p r
+  pub last_emptied : (p q r : Party F T A) (x : DropsWaker p q Last) → Empties q r → Goes (row DropLastWaker x.0 ∷ act EmptySlots ∷ []) (CallEnding Nothing Ended) p r
   last_emptied p q r x e = empties p q r (row DropLastWaker x.0 ∷ []) x.1 x.4 e
 
   pub drops_last : (Scheduled : Type 0) (p q r t : Party F T A) → DropsWaker p q Last → Empties q r → Goes (act EndCall ∷ []) (rest_of (position r)) r t → DroppingWaker Scheduled p t

@@ -7,11 +7,11 @@ use Rattle.task_core.specs.Rows.{written, row as row_of}
 use Rattle.task_laws.specs.Table.{Slots, is_held}
 use Rattle.task_laws.specs.declared.positions.Answer.TheVariants.{Nothing}
 use Rattle.task_laws.specs.declared.positions.Rest.TheVariants.{Waker, Lent, Ended}
-use Rattle.task_laws.specs.declared.positions.After.TheVariants.{ThenEnds}
+use Rattle.task_laws.specs.declared.positions.OnceDelivered.TheVariants.{ThenEnds}
 use Rattle.task_laws.specs.declared.positions.Position.{Position}
 use Rattle.task_laws.specs.declared.positions.Position.TheVariants.{At, Deliverer, Emptier, OrphanHolder}
-use Rattle.task_core.specs.declared.moves.Act.{Act}
-use Rattle.task_core.specs.declared.moves.Act.TheVariants.{GainReference, FindLimit, RefuseGain, DropWaker, DropLastWaker, OrphanTask, CloseOrphan, WakeOver, WakeScheduled, WakeRunning, WakeIdle, EndCall}
+use Rattle.task_core.specs.declared.acts.Act.{Act}
+use Rattle.task_core.specs.declared.acts.Act.TheVariants.{GainReference, FindLimit, RefuseGain, DropWaker, DropLastWaker, OrphanTask, CloseOrphan, WakeOver, WakeScheduled, WakeRunning, WakeIdle, EndCall}
 use Rattle.task_steps.specs.declared.table.Slot.{Slot}
 use Rattle.task_steps.specs.declared.table.Deed.{Deed}
 use Rattle.task_steps.specs.declared.table.Member.{Member}
@@ -26,6 +26,7 @@ use Rattle.task_steps.specs.Standing.{as_waker, as_deliverer}
 use Rattle.task_cell.specs.WakerPaths as paths
 use Rattle.task_steps.specs.Attempts.{MayTry, HasChanged, HasEnded}
 use Rattle.task_cell.proofs.Attempts.{may_at}
+use Rattle.task_steps.proofs.Bools.{never}
 use Rattle.task_steps.proofs.WakerOwed as owed
 use Rattle.task_steps.specs.WakerScripts.{others_left, gaining, gained_word, at_limit, finding_limit, refusing_gain, is_over, finding_over, waking_task, woken_word, woken_if_held, dropping_waker, closing_orphan}
 use Rattle.task_steps.specs.Beside.{without_newest, newest}
@@ -37,9 +38,6 @@ use Rattle.task_cell.proofs.Moved.{moved, goes}
 use Rattle.task_steps.specs.Seats.{is_spent}
 use Rattle.atomic_table.specs.Seated.{TableId}
 use Rattle.task_steps.proofs.WakerOwed.{gains, third, fourth}
-
-never : {P : Type 0} → false ≡ true → P
-never e = absurd (cc)
 
 -- whether the count had room, and the task was open, by the word that was written
 has_room : (limit : ℕ) (w : State) → is_some (gained_word limit w) ≡ true → nat_lt w.references limit ≡ true

@@ -2,10 +2,10 @@
 use Rattle.std.specs.Prelude.{◌≡◌, ℕ, List, [], ◌∷◌, Bool, true, false, Option, Some, None}
 use Rattle.task_core.specs.Word.{State}
 use Rattle.task_core.specs.Rows.{found}
-use Rattle.task_core.specs.declared.moves.Act.{Act}
+use Rattle.task_core.specs.declared.acts.Act.{Act}
 use Rattle.task_laws.specs.declared.positions.Position.{Position}
-use Rattle.task_core.specs.declared.moves.Act.TheVariants.{MissNotify, BeginNotify, TakeAwaiter, EndNotify}
-use Rattle.task_laws.specs.Table.{goes_on}
+use Rattle.task_core.specs.declared.acts.Act.TheVariants.{MissNotify, BeginNotify, TakeAwaiter, EndNotify}
+use Rattle.task_laws.specs.Table.{after_taking}
 use Rattle.task_steps.specs.declared.table.Slot.{Slot}
 use Rattle.task_steps.specs.declared.table.Deed.{Deed}
 use Rattle.task_cell.specs.declared.cell.Party.{Party}
@@ -56,9 +56,9 @@ module _ {F T A : Type 0} where
 
   -- a notifier: it finds another party at the awaiter, or takes it out
   pub data Notifies (p q : Party F T A) : Option A → Type 0 where
-    misses : (w : State) → Fits MissNotify w → GoesWith (row MissNotify w ∷ []) (goes_on None (way_of (position p))) (holds p) p q → Notifies p q None
-    finds_none : (w v : State) → Fits BeginNotify w → GoesWith (row BeginNotify w ∷ act TakeAwaiter ∷ row EndNotify v ∷ []) (goes_on None (way_of (position p))) (holds p) p q → Notifies p q None
-    takes_awaiter : (w v : State) (i : ℕ) (a : A) → Fits BeginNotify w → GoesWith (row BeginNotify w ∷ act TakeAwaiter ∷ row EndNotify v ∷ []) (goes_on (Some i) (way_of (position p))) (holds p) p q → Notifies p q (Some a)
+    misses : (w : State) → Fits MissNotify w → GoesWith (row MissNotify w ∷ []) (after_taking None (way_of (position p))) (holds p) p q → Notifies p q None
+    finds_none : (w v : State) → Fits BeginNotify w → GoesWith (row BeginNotify w ∷ act TakeAwaiter ∷ row EndNotify v ∷ []) (after_taking None (way_of (position p))) (holds p) p q → Notifies p q None
+    takes_awaiter : (w v : State) (i : ℕ) (a : A) → Fits BeginNotify w → GoesWith (row BeginNotify w ∷ act TakeAwaiter ∷ row EndNotify v ∷ []) (after_taking (Some i) (way_of (position p))) (holds p) p q → Notifies p q (Some a)
 
 abbrev pub is_empty : {X : Type 0} → List X → Bool
 is_empty [] = true

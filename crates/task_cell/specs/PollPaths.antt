@@ -2,10 +2,10 @@
 use Rattle.std.specs.Prelude.{◌≡◌, ℕ, Bool, true, false, List, [], ◌∷◌, ◌++◌, Option, Some, None, Result, Ok, Err, IfOk, ⊤}
 use Rattle.task_core.specs.Word.{State}
 use Rattle.task_core.specs.declared.traits.TaskPoll.{TaskPoll}
-use Rattle.task_core.specs.declared.traits.TaskPoll.TheVariants.{Pending as Waits, Ready, NoMemory}
-use Rattle.task_laws.specs.declared.positions.Way.TheVariants.{OfPoll, OfClaim}
-use Rattle.task_laws.specs.declared.positions.Position.TheVariants.{Notifier, Looking, RefusedClone, TookBack}
-use Rattle.task_core.specs.declared.moves.Act.TheVariants.{Look, ClaimOutput, HandOutOutput, CloneAwaiter, RefuseClone, StoreAwaiter, TakeAwaiter, FindNotify, BeginRegister, EndRegister, EndRegisterNotified, DropAwaiter, WakeAwaiter, EndCall, BeginNotify, MissNotify, EndNotify}
+use Rattle.task_core.specs.declared.traits.TaskPoll.TheVariants.{Pending as Waits, Ready, Refused}
+use Rattle.task_laws.specs.declared.positions.NotifyingCall.TheVariants.{OfPoll, OfClaim}
+use Rattle.task_laws.specs.declared.positions.Position.TheVariants.{Notifier, Looking, UnusedClone, TookBack}
+use Rattle.task_core.specs.declared.acts.Act.TheVariants.{Look, ClaimOutput, HandOutOutput, CloneAwaiter, RefuseClone, StoreAwaiter, TakeAwaiter, FindNotify, BeginRegister, EndRegister, EndRegisterNotified, DropAwaiter, WakeAwaiter, EndCall, BeginNotify, MissNotify, EndNotify}
 use Rattle.task_laws.specs.Table.{notifies, first_look, after_storing}
 use Rattle.task_steps.specs.declared.table.Slot.{Slot}
 use Rattle.task_steps.specs.declared.table.Deed.{Deed}
@@ -63,7 +63,7 @@ module _ {A : Type 0} where
     finds_ended : (w : State) (taken : List Deed) → has_ended w ≡ true → TakePath woken compared awaiter taken
         → PollPath cloned woken woken_by_ref compared awaiter (row Look w ∷ taken ++ (act EndCall ∷ [])) (Ready None)
     is_refused : (w : State) → has_output w ≡ false → has_ended w ≡ false → cloned awaiter None
-        → PollPath cloned woken woken_by_ref compared awaiter (row Look w ∷ act RefuseClone ∷ act EndCall ∷ []) NoMemory
+        → PollPath cloned woken woken_by_ref compared awaiter (row Look w ∷ act RefuseClone ∷ act EndCall ∷ []) Refused
     looks_again : (w : State) (registered path : List Deed) (answer : TaskPoll (Option T)) → has_output w ≡ false → has_ended w ≡ false
         → RegisterPath cloned woken woken_by_ref awaiter registered → AnswerPath woken compared awaiter path answer
         → PollPath cloned woken woken_by_ref compared awaiter (row Look w ∷ registered ++ path) answer
@@ -72,7 +72,7 @@ module _ {A : Type 0} where
 abbrev pub IfOutput : {T E : Type 0} → TaskPoll (Result T E) → (T → Type 0) → Type 0
 IfOutput (Ready answer) P = IfOk answer P
 IfOutput Waits P = ⊤
-IfOutput NoMemory P = ⊤
+IfOutput Refused P = ⊤
 
 module _ {F T A : Type 0} where
   -- by this path the output was claimed, on this word
@@ -98,7 +98,7 @@ module _ {F T A : Type 0} where
   pub data BeginsRegister (p q : Party F T A) : Bool → Type 0 where
     begins : (w : State) (hand : Option ℕ) (y : Slot F T A) → w.notifying ≡ false → SlotWaits hand y
         → GoesWith (act CloneAwaiter ∷ row BeginRegister w ∷ act StoreAwaiter ∷ []) (after_storing (poll_number (position p)) hand) ((2, y) ∷ []) p q → BeginsRegister p q true
-    finds_one : (w : State) → w.notifying ≡ true → Goes (act CloneAwaiter ∷ row FindNotify w ∷ []) (RefusedClone (poll_number (position p))) p q → BeginsRegister p q false
+    finds_one : (w : State) → w.notifying ≡ true → Goes (act CloneAwaiter ∷ row FindNotify w ∷ []) (UnusedClone (poll_number (position p))) p q → BeginsRegister p q false
 
   -- the awaiter slot is given back with the clone in it, unless there is a notifier by then: then the clone is taken back
   pub data EndsRegister (p q : Party F T A) : Bool → Type 0 where

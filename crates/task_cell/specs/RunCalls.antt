@@ -2,14 +2,14 @@
 use Rattle.std.specs.Prelude.{◌≡◌, ℕ, ◌||◌, nat_lt, Bool, true, false, List, [], ◌∷◌, Option, Some, None, is_some}
 use Rattle.task_core.specs.Word.{State}
 use Rattle.task_laws.specs.declared.positions.Answer.{Answer}
-use Rattle.task_laws.specs.declared.positions.Position.TheVariants.{At, AwaiterInHand, Deliverer, Emptier, Pending, Cleared, OutputInHand}
-use Rattle.task_core.specs.declared.moves.Act.TheVariants.{GiveUpReference, GiveUpLastReference, DropFuture, StoreOutput, Complete, CompleteDetached, AnswerPending, Reschedule, EndIdle, EndCall, EndOrphaned, EndClosed}
+use Rattle.task_laws.specs.declared.positions.Position.TheVariants.{At, AwaiterInHand, Deliverer, Emptier, Pending, PendingFutureDropped, OutputInHand}
+use Rattle.task_core.specs.declared.acts.Act.TheVariants.{GiveUpReference, GiveUpLastReference, DropFuture, StoreOutput, Complete, CompleteDetached, AnswerPending, Reschedule, EndIdle, EndCall, EndOrphaned, EndClosed}
 use Rattle.task_laws.specs.declared.positions.Answer.TheVariants.{Ran}
 use Rattle.task_laws.specs.declared.positions.Rest.TheVariants.{Ended}
-use Rattle.task_laws.specs.declared.positions.After.TheVariants.{ThenEnds}
-use Rattle.task_laws.specs.declared.positions.Way.TheVariants.{OfRun}
-use Rattle.task_laws.specs.declared.positions.Way.{Way}
-use Rattle.task_laws.specs.Table.{after_giving_up, notifies, goes_on, goes_off}
+use Rattle.task_laws.specs.declared.positions.OnceDelivered.TheVariants.{ThenEnds}
+use Rattle.task_laws.specs.declared.positions.NotifyingCall.TheVariants.{OfRun}
+use Rattle.task_laws.specs.declared.positions.NotifyingCall.{NotifyingCall}
+use Rattle.task_laws.specs.Table.{after_giving_up, notifies, after_taking, after_waking}
 use Rattle.task_steps.specs.declared.table.Slot.{Slot}
 use Rattle.task_steps.specs.declared.table.Deed.{Deed}
 use Rattle.task_cell.specs.declared.cell.Party.{Party}
@@ -39,27 +39,27 @@ module _ {F T A : Type 0} where
   -- the poll has answered Pending, and whether the task was found closed
   pub data AnswersPending (held : List (ℕ × Slot F T A)) (p q : Party F T A) : Bool → Type 0 where
     stays_pending : GoesWith (act AnswerPending ∷ []) Pending held p q → AnswersPending held p q false
-    clears : GoesWith (act AnswerPending ∷ act DropFuture ∷ []) Cleared held p q → AnswersPending held p q true
+    clears : GoesWith (act AnswerPending ∷ act DropFuture ∷ []) PendingFutureDropped held p q → AnswersPending held p q true
 
   -- a run has ended without an output, or has found the task closed
   pub data EndsPending (held : List (ℕ × Slot F T A)) (p q : Party F T A) : PendingEnd → Type 0 where
-    is_closed : GoesWith (act DropFuture ∷ []) Cleared held p q → EndsPending held p q Closed
+    is_closed : GoesWith (act DropFuture ∷ []) PendingFutureDropped held p q → EndsPending held p q Closed
     is_rescheduled : (w : State) → w.closed ≡ false → w.scheduled ≡ true → Goes (row Reschedule w ∷ []) (Deliverer true (ThenEnds (Ran true))) p q → EndsPending held p q Rescheduled
     is_idle : (w : State) → w.closed ≡ false → w.scheduled ≡ false → (nat_lt 1 w.references || w.task) ≡ true → Goes (row EndIdle w ∷ act EndCall ∷ []) (At Ended) p q → EndsPending held p q Idle
     is_orphaned : (w : State) → w.closed ≡ false → w.scheduled ≡ false → (nat_lt 1 w.references || w.task) ≡ false → Goes (row EndOrphaned w ∷ []) (Deliverer false (ThenEnds (Ran false))) p q → EndsPending held p q Orphaned
 
   -- the awaiter was taken that was due
-  pub data TakesDue (way : Way) (due : Bool) (p q : Party F T A) : Option A → Type 0 where
-    takes_none : (path : List Deed) → NotifyPath due false path → Goes path (goes_on None way) p q → TakesDue way due p q None
-    takes_one : (i : ℕ) (a : A) (path : List Deed) → NotifyPath due true path → Goes path (goes_on (Some i) way) p q → TakesDue way due p q (Some a)
+  pub data TakesDue (way : NotifyingCall) (due : Bool) (p q : Party F T A) : Option A → Type 0 where
+    takes_none : (path : List Deed) → NotifyPath due false path → Goes path (after_taking None way) p q → TakesDue way due p q None
+    takes_one : (i : ℕ) (a : A) (path : List Deed) → NotifyPath due true path → Goes path (after_taking (Some i) way) p q → TakesDue way due p q (Some a)
 
   -- a party that has what was taken, to be woken
-  pub data HasTaken (way : Way) (p : Party F T A) : Option A → Type 0 where
-    has_none : Stands (goes_off way) p → HasTaken way p None
+  pub data HasTaken (way : NotifyingCall) (p : Party F T A) : Option A → Type 0 where
+    has_none : Stands (after_waking way) p → HasTaken way p None
     has_one : (i : ℕ) (a : A) → Stands (AwaiterInHand i way) p → HasTaken way p (Some a)
 
-  abbrev pub Wakes : Type 0 → Way → Option A → Party F T A → Party F T A → Type 0
-  Wakes Woken way awaiter p q = (path : List Deed) × WakePath Woken (is_some awaiter) path × Goes path (goes_off way) p q
+  abbrev pub Wakes : Type 0 → NotifyingCall → Option A → Party F T A → Party F T A → Type 0
+  Wakes Woken way awaiter p q = (path : List Deed) × WakePath Woken (is_some awaiter) path × Goes path (after_waking way) p q
 
   -- a run has gone from its end step to the end of its call
   abbrev pub Rests : Type 0 → Bool → Party F T A → Party F T A → Type 0

@@ -1,11 +1,11 @@
 -- The paths of a run, of a closed run and of a Runnable's drop: what the party does, the oldest first.
 use Rattle.std.specs.Prelude.{◌≡◌, ◌||◌, nat_lt, Bool, true, false, List, [], ◌∷◌, ◌++◌}
 use Rattle.task_core.specs.Word.{State}
-use Rattle.task_core.specs.declared.moves.Act.TheVariants.{GiveUpReference, GiveUpLastReference, EmptySlots, DiscardOpen, DiscardClosed, DropFuture, Unschedule, MissNotify, BeginNotify, TakeAwaiter, EndNotify, WakeAwaiter, EndCall, AnswerReady, StoreOutput, Complete, CompleteDetached, DropOutput, AnswerPending, EndClosed, Reschedule, HandOver, EndIdle, EndOrphaned}
+use Rattle.task_core.specs.declared.acts.Act.TheVariants.{GiveUpReference, GiveUpLastReference, EmptySlots, DiscardOpen, DiscardClosed, DropFuture, Unschedule, MissNotify, BeginNotify, TakeAwaiter, EndNotify, WakeAwaiter, EndCall, AnswerReady, StoreOutput, Complete, CompleteDetached, DropOutput, AnswerPending, EndClosed, Reschedule, HandOver, EndIdle, EndOrphaned}
 use Rattle.task_steps.specs.declared.table.Deed.{Deed}
 use Rattle.task_steps.specs.Deeds.{row, act}
 use Rattle.task_cell.specs.Calls.{Fits}
-use Rattle.task_core.specs.declared.moves.Act.TheVariants.{TakeUpClosed, StartRun, StartPoll}
+use Rattle.task_core.specs.declared.acts.Act.TheVariants.{TakeUpClosed, StartRun, StartPoll}
 use Rattle.task_core.specs.declared.traits.Poll.{Poll}
 use Rattle.task_core.specs.declared.traits.Poll.TheVariants.{Pending, Ready}
 

@@ -2,8 +2,8 @@
 use Rattle.std.specs.Prelude.{◌≡◌, Bool, true, false, [], ◌∷◌}
 use Rattle.task_core.specs.Word.{State}
 use Rattle.task_laws.specs.declared.positions.Position.TheVariants.{FutureInHand, Polling}
-use Rattle.task_laws.specs.declared.positions.Closer.TheVariants.{ClosedRun}
-use Rattle.task_core.specs.declared.moves.Act.TheVariants.{TakeUpClosed, StartRun, StartPoll}
+use Rattle.task_laws.specs.declared.positions.WithoutPoll.TheVariants.{ClosedRun}
+use Rattle.task_core.specs.declared.acts.Act.TheVariants.{TakeUpClosed, StartRun, StartPoll}
 use Rattle.task_steps.specs.declared.table.Slot.{Slot}
 use Rattle.task_cell.specs.declared.cell.Party.{Party}
 use Rattle.task_steps.specs.Rule.{IsFuture}

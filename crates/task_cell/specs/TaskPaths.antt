@@ -1,12 +1,12 @@
 -- The paths of a cancel and of a detach, each with the words that its rows found and with what the foreign calls on it did.
 use Rattle.std.specs.Prelude.{◌≡◌, ℕ, Bool, true, false, List, [], ◌∷◌, ◌++◌, None}
 use Rattle.task_core.specs.Word.{State}
-use Rattle.task_laws.specs.Table.{cancels_after, notifies}
+use Rattle.task_laws.specs.Table.{after_cancelling, notifies}
 use Rattle.task_laws.specs.declared.positions.Answer.TheVariants.{Nothing}
-use Rattle.task_laws.specs.declared.positions.Way.TheVariants.{OfCancel}
-use Rattle.task_laws.specs.declared.positions.After.TheVariants.{ThenEnds}
+use Rattle.task_laws.specs.declared.positions.NotifyingCall.TheVariants.{OfCancel}
+use Rattle.task_laws.specs.declared.positions.OnceDelivered.TheVariants.{ThenEnds}
 use Rattle.task_laws.specs.declared.positions.Position.TheVariants.{Deliverer, Emptier, OutputCloser}
-use Rattle.task_core.specs.declared.moves.Act.TheVariants.{CancelOver, CancelBusy, CancelIdle, GiveUpOutput, DropOutput, DetachOrphan, DetachLast, Detach, EmptySlots, EndCall, HandOver, BeginNotify, MissNotify, TakeAwaiter, EndNotify, WakeAwaiter}
+use Rattle.task_core.specs.declared.acts.Act.TheVariants.{CancelOver, CancelBusy, CancelIdle, GiveUpOutput, DropOutput, DetachOrphan, DetachLast, Detach, EmptySlots, EndCall, HandOver, BeginNotify, MissNotify, TakeAwaiter, EndNotify, WakeAwaiter}
 use Rattle.task_steps.specs.declared.table.Slot.{Slot}
 use Rattle.task_steps.specs.declared.table.Deed.{Deed}
 use Rattle.task_cell.specs.declared.cell.Party.{Party}
@@ -46,7 +46,7 @@ module _ {F T A : Type 0} where
   abbrev pub Cancels : ℕ → Party F T A → Party F T A → Cancelled → Type 0
   Cancels n p q Over = (w : State) × Fits CancelOver w × Goes (row CancelOver w ∷ act EndCall ∷ []) (as_task n) p q
   Cancels n p q (Busy due) = (w : State) × (w.awaiter ≡ due) × Fits CancelBusy w × Goes (row CancelBusy w ∷ []) (notifies due (OfCancel n)) p q
-  Cancels n p q (Idle due) = (w : State) × (w.awaiter ≡ due) × Fits CancelIdle w × Goes (row CancelIdle w ∷ []) (Deliverer false (cancels_after due n)) p q
+  Cancels n p q (Idle due) = (w : State) × (w.awaiter ≡ due) × Fits CancelIdle w × Goes (row CancelIdle w ∷ []) (Deliverer false (after_cancelling due n)) p q
 
   -- the row by which a Task is given up
   abbrev pub Detaches : Party F T A → Party F T A → Detached → Type 0

@@ -227,7 +227,7 @@ claims same t = record {
 
 -- .. of another task: the clone of the caller's awaiter is stored, if there is one
 abbrev pub registers : {F T A : Type 0} → Option A → Local F T A → Answered F T A
-registers None t = record { answer = answer.NoMemory; effect = becomes t }
+registers None t = record { answer = answer.Refused; effect = becomes t }
 registers (Some clone) t = record { answer = answer.Pending; effect = record (becomes (record t { awaiter = Due clone })) { dropped = stored t.awaiter } }
 
 -- what can be seen of it

@@ -21,7 +21,7 @@ pub enum TaskPoll<T> {
     /// The answer. Polls of the handle end here.
     Ready(T),
     /// The awaiter refused to be cloned: nothing was registered, so nothing will be woken for this poll. Poll again.
-    NoMemory,
+    Refused,
 }
 
 /// What yields an output: the part of a future that knows no waker.

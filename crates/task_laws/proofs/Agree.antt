@@ -3,7 +3,7 @@ use Rattle.std.proofs.Common.{◌≡◌, ℕ, Bool, true, false, ◌||◌, cond,
 use Rattle.std.specs.Prelude.{if◌then◌else◌, slice_get, slice_set, nat_eq}
 use Rattle.std.proofs.lemmas.Bool.Decides.{nat_tests}
 use Rattle.task_laws.specs.Event.{Nothing}
-use Rattle.task_laws.specs.Position.{Rest, Position, At, Leaving, Deliverer, ThenEnds, Act, WakeIdle}
+use Rattle.task_laws.specs.Position.{Rest, Position, At, CallEnding, Deliverer, ThenEnds, Act, WakeIdle}
 use Rattle.task_laws.specs.Table.{Scene, Outcome, rule}
 use Rattle.task_laws.specs.Machine.{Machine, Step, opening, scene, after, step}
 use Rattle.task_laws.specs.Machine
@@ -106,14 +106,14 @@ keep_plain limit m stack cut moves i act p l e f g stays a =
     plain_step limit (at_whole m (i ∷ stack) cut moves) (does i act) p stack (rule (scene m) act p) g l e (opened_mid i p act (length m.parties) (i ∷ stack) f) stays
     (subst (λ (x : Move). GoesAfter limit m i p act stack (if cut then x ∷ moves else moves) (rule (scene m) act p)) (sym (move_mid p act f)) a)
 
-keep_hand : (limit : ℕ) (m : Machine) (stack : List ℕ) (moves : List Move) (i n : ℕ) (act : Act) (r : Rest) → m.limit ≡ limit → Handing limit m i r n stack moves → nat_eq i i ≡ true → Stays (after m i (Leaving Nothing r) (rule (scene m) act (Leaving Nothing r)))
-    → RunKeeps limit (stepped (at_whole m (i ∷ (n ∷ stack)) false moves) (does i act) (Some (Leaving Nothing r)) (after m i (Leaving Nothing r) (rule (scene m) act (Leaving Nothing r))))
+keep_hand : (limit : ℕ) (m : Machine) (stack : List ℕ) (moves : List Move) (i n : ℕ) (act : Act) (r : Rest) → m.limit ≡ limit → Handing limit m i r n stack moves → nat_eq i i ≡ true → Stays (after m i (CallEnding Nothing r) (rule (scene m) act (CallEnding Nothing r)))
+    → RunKeeps limit (stepped (at_whole m (i ∷ (n ∷ stack)) false moves) (does i act) (Some (CallEnding Nothing r)) (after m i (CallEnding Nothing r) (rule (scene m) act (CallEnding Nothing r))))
 keep_hand limit m stack moves i n act r l h g stays =
     only_ends limit m i r act
-    (λ (x : Option Machine). Stays x → RunKeeps limit (stepped (at_whole m (i ∷ (n ∷ stack)) false moves) (does i act) (Some (Leaving Nothing r)) x))
+    (λ (x : Option Machine). Stays x → RunKeeps limit (stepped (at_whole m (i ∷ (n ∷ stack)) false moves) (does i act) (Some (CallEnding Nothing r)) x))
     (λ y. tt)
     (λ y. let w = hands limit m i r n stack moves h in
-    let q : slice_get (slice_set m.parties i (At r) ++ []) i ≡ Some (At r) = get_append (slice_set m.parties i (At r)) [] i (At r) (get_put m.parties i (Leaving Nothing r) (At r) h.waker) in
+    let q : slice_get (slice_set m.parties i (At r) ++ []) i ≡ Some (At r) = get_append (slice_set m.parties i (At r)) [] i (At r) (get_put m.parties i (CallEnding Nothing r) (At r) h.waker) in
     rw (g, q) (record { invariant = y; limit_is = l; state = rw w.stands_at (true, (Deliverer false (ThenEnds Nothing), w)) }))
     stays
 
@@ -121,7 +121,7 @@ keep_hands : (limit : ℕ) (m : Machine) (stack : List ℕ) (moves : List Move) 
     → Stays (after m i p (rule (scene m) act p)) → Steps limit (at_whole m (i ∷ stack) false moves) (does i act) p (rule (scene m) act p)
 keep_hands limit m [] moves i act p l e w z stays = absurd w
 keep_hands limit m (n ∷ stack) moves i act p l e w z stays =
-    let same : Leaving Nothing w.0 ≡ p = (let k = w.1.waker in cc) in
+    let same : CallEnding Nothing w.0 ≡ p = (let k = w.1.waker in cc) in
     subst (λ (y : Position). Steps limit (at_whole m (i ∷ (n ∷ stack)) false moves) (does i act) y (rule (scene m) act y)) same
     (keep_hand limit m stack moves i n act w.0 l w.1 z (subst (λ (y : Position). Stays (after m i y (rule (scene m) act y))) (sym same) stays))
 

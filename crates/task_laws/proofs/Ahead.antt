@@ -2,11 +2,11 @@
 use Rattle.std.proofs.Common.{◌≡◌, ℕ, ◌+◌, Bool, true, false, not, ◌&&◌, ◌||◌, cond, List, [], ◌∷◌, ◌++◌, Option, Some, None}
 use Rattle.std.specs.Prelude.{nat_lt}
 use Rattle.task_core.specs.Word.{State}
-use Rattle.task_laws.specs.Event.{IsReady, HasOutput, Nothing, Ran, Event, FutureDropped, OutputDropped, HandedOver, Empties, CloneEnded, PollEnds}
-use Rattle.task_laws.specs.Position.{ClosedRun, DroppedRunnable, ThenEnds, Way, OfRun, OfDrop, OfCancel, OfPoll, OfClaim, Position, At, Leaving, Deliverer, Starting, Polling, Pending, Ready, Unstored, Stored, Cleared, FutureInHand, FutureGone, OutputInHand, GivingUp, Emptier, Notifier, Taker, Releaser, AwaiterInHand, OrphanHolder, Registrar, HasClone, Storing, Registered, TookBack, CloneInHand, Looking, Claiming, Claimer, OldAwaiterInHand, Answering, OutputCloser, Detacher, Act, WakeIdle}
-use Rattle.task_laws.specs.Table.{Slots, Scene, Outcome, goes_after, notifies}
+use Rattle.task_laws.specs.Event.{IsClosed, HasOutput, Nothing, Ran, Event, FutureDropped, OutputDropped, HandedOver, Empties, CloneEnded, TaskPollEnds}
+use Rattle.task_laws.specs.Position.{ClosedRun, DroppedRunnable, ThenEnds, NotifyingCall, OfRun, OfDrop, OfCancel, OfPoll, OfClaim, Position, At, CallEnding, Deliverer, Starting, Polling, Pending, Ready, ReadyFutureDropped, OutputStored, PendingFutureDropped, FutureInHand, FutureGone, OutputInHand, GivingUp, Emptier, Notifier, Taker, Releaser, AwaiterInHand, OrphanHolder, Registrar, HasClone, Storing, Registered, TookBack, CloneInHand, Looking, SawOutput, TookOutput, OldAwaiterInHand, Answering, OutputCloser, Detacher, Act, WakeIdle}
+use Rattle.task_laws.specs.Table.{Slots, Scene, Outcome, after_handing_over, notifies}
 use Rattle.task_core.specs.Local.{Phase, Idle, Queued, Polled, PolledAndWoken, Done, NoAwaiter, Due, orphaned, is_done}
-use Rattle.task_laws.specs.Abstract.{Cell, InPoll, RunDropped, DropDropped, ReadyDropped, PendingDropped, GivesUp, Ends, Clones, Stores, Looks, Detaches, Left, stops, ends, woken, ended, with_task, wakes_last, gives_up, after_taking, in_hand, cancel_takes, detaches, answers, asks, reads, looks, stores, wakes_first, begin, go}
+use Rattle.task_laws.specs.Abstract.{AbstractCell, InPoll, RunDropped, DropDropped, ReadyDropped, PendingDropped, GivesUp, Ends, Clones, Stores, Looks, Detaches, SegmentEnd, stops, ends, woken, ended, with_task, wakes_last, gives_up, takes_due, in_hand, cancel_takes, detaches, answers, asks, reads, looks, stores, wakes_first, begin, go}
 use Rattle.task_laws.specs.Whole.{is_at_rest, is_foreign, asks_foreign, call_of, says_yes, one_if, is_home, awaiter_of, frame_of, seen}
 use Rattle.task_laws.proofs.Census.{Census, plus, weigh, census, runs, closers}
 
@@ -17,7 +17,7 @@ phase_at w = cond w.running (cond w.scheduled PolledAndWoken Polled) (cond w.sch
 abbrev pub holders : Census → ℕ
 holders c = c.queued + runs c + closers c + c.finishing + c.outputs
 
-abbrev pub cell_at : State → Slots → Census → Cell
+abbrev pub cell_at : State → Slots → Census → AbstractCell
 cell_at w slots c = record {
   task = record {
     phase = phase_at w;
@@ -34,30 +34,30 @@ cell_at w slots c = record {
 }
 
 -- once an awaiter was taken, or was not
-abbrev pub ahead_with : Cell → Way → Option ℕ → Left
+abbrev pub ahead_with : AbstractCell → NotifyingCall → Option ℕ → SegmentEnd
 ahead_with c OfRun hand = gives_up c hand [] (Ran false)
 ahead_with c OfDrop hand = wakes_first c hand
 ahead_with c (OfCancel n) hand = cancel_takes c hand
-ahead_with c (OfPoll n) hand = asks c n IsReady hand
+ahead_with c (OfPoll n) hand = asks c n IsClosed hand
 ahead_with c (OfClaim n) hand = asks c n HasOutput hand
 
-abbrev pub nobody_stored : Cell → Cell
+abbrev pub nobody_stored : AbstractCell → AbstractCell
 nobody_stored c = with_task c (record (c.task) { awaiter = NoAwaiter })
 
-abbrev pub ahead_at : Cell → Slots → Way → Left
+abbrev pub ahead_at : AbstractCell → Slots → NotifyingCall → SegmentEnd
 ahead_at c slots (OfPoll n) = ahead_with (nobody_stored c) (OfPoll n) slots.awaiter
 ahead_at c slots (OfClaim n) = ahead_with (nobody_stored c) (OfClaim n) slots.awaiter
-ahead_at c slots way = ahead_with (after_taking c) way (in_hand c)
+ahead_at c slots way = ahead_with (takes_due c) way (in_hand c)
 
-abbrev pub ahead : Cell → Slots → Position → Left
-ahead c slots (Leaving answer r) = ends c [] answer
-ahead c slots (Deliverer woken next) = stops c (HandedOver woken ∷ []) (frame_of (goes_after next))
+abbrev pub ahead : AbstractCell → Slots → Position → SegmentEnd
+ahead c slots (CallEnding answer r) = ends c [] answer
+ahead c slots (Deliverer woken next) = stops c (HandedOver woken ∷ []) (frame_of (after_handing_over next))
 ahead c slots Starting = stops c [] InPoll
 ahead c slots Pending = go c InPoll false
 ahead c slots Ready = go c InPoll true
-ahead c slots Unstored = go c ReadyDropped false
-ahead c slots Stored = go c ReadyDropped false
-ahead c slots Cleared = go c PendingDropped false
+ahead c slots ReadyFutureDropped = go c ReadyDropped false
+ahead c slots OutputStored = go c ReadyDropped false
+ahead c slots PendingFutureDropped = go c PendingDropped false
 ahead c slots (FutureInHand ClosedRun) = stops c (FutureDropped ∷ []) RunDropped
 ahead c slots (FutureInHand DroppedRunnable) = stops c (FutureDropped ∷ []) DropDropped
 ahead c slots (FutureGone ClosedRun) = go c RunDropped false
@@ -81,15 +81,15 @@ ahead c slots (Registered i) = go c (Stores i) false
 ahead c slots (TookBack i) = stops (record c { storing = false; owed = false }) (woken i []) (Looks i)
 ahead c slots (CloneInHand i) = stops c (woken i []) (Looks i)
 ahead c slots (Looking i) = looks c i
-ahead c slots (Claiming i) = reads c i
-ahead c slots (Claimer i) = answers c [] i HasOutput
-ahead c slots (Answering i answer) = record { cell = c; told = PollEnds i answer ∷ []; frame = None }
+ahead c slots (SawOutput i) = reads c i
+ahead c slots (TookOutput i) = answers c [] i HasOutput
+ahead c slots (Answering i answer) = record { cell = c; told = TaskPollEnds i answer ∷ []; frame = None }
 ahead c slots OutputCloser = stops c (OutputDropped ∷ []) Detaches
 ahead c slots Detacher = detaches c []
 ahead c slots _ = stops c [] InPoll
 
 -- before a step: a call begins, an answer of foreign code is chosen, or the segment goes on
-abbrev pub before : ℕ → Cell → Slots → Position → Act → Left
+abbrev pub before : ℕ → AbstractCell → Slots → Position → Act → SegmentEnd
 before limit c slots (At r) act = begin limit c (call_of r act)
 before limit c slots Polling act = go c InPoll (says_yes act)
 before limit c slots (Registrar i) act = go c (Clones i) (says_yes act)
@@ -98,7 +98,7 @@ before limit c slots (AwaiterInHand j (OfClaim i)) act = go c (frame_of (Awaiter
 before limit c slots p act = ahead c slots p
 
 -- .. and after it: the segment has ended, or goes on
-abbrev pub landed : Cell → Slots → Bool → Position → Left
+abbrev pub landed : AbstractCell → Slots → Bool → Position → SegmentEnd
 landed c slots true q = stops c [] (frame_of q)
 landed c slots false q = ahead c slots q
 
@@ -106,16 +106,16 @@ abbrev pub queues : Act → Bool
 queues WakeIdle = true
 queues _ = false
 
-abbrev pub lands : Cell → Slots → Act → Position → Left
+abbrev pub lands : AbstractCell → Slots → Act → Position → SegmentEnd
 lands c slots act q =
     cond (is_at_rest q) (record { cell = c; told = []; frame = None })
     (cond (queues act) (ahead c slots (Deliverer false (ThenEnds Nothing))) (landed c slots (is_foreign act || asks_foreign q) q))
 
-abbrev pub prepend : List Event → Left → Left
+abbrev pub prepend : List Event → SegmentEnd → SegmentEnd
 prepend told l = record l { told = l.told ++ told }
 
 -- part by part
-pub record Same (a b : Left) : Type 0 where
+pub record Same (a b : SegmentEnd) : Type 0 where
   pub phase : a.cell.task.phase ≡ b.cell.task.phase
   pub closed : a.cell.task.closed ≡ b.cell.task.closed
   pub has_task : a.cell.task.has_task ≡ b.cell.task.has_task

@@ -1,8 +1,8 @@
 -- How many parties stand where in the handshake, and what they do with the clone of poll number i.
 use Rattle.std.proofs.Common.{◌≡◌, ℕ, ◌+◌, ◌≤◌, eqb, arith, List, [], ◌∷◌, Option, Some, None}
 use Rattle.task_core.specs.Word.{bit}
-use Rattle.task_laws.specs.Event.{PollAnswer, IsPending, IsReady, HasOutput, IsRefused}
-use Rattle.task_laws.specs.Position.{Rest, Task, Way, OfRun, OfDrop, OfCancel, OfPoll, OfClaim, After, ThenEnds, ThenTask, ThenNotifies, Position, At, Leaving, Deliverer, OutputInHand, GivingUp, Emptier, Notifier, Taker, Releaser, AwaiterInHand, Registrar, HasClone, RefusedClone, Storing, Registered, TookBack, CloneInHand, Looking, Claiming, Claimer, OldAwaiterInHand, Answering}
+use Rattle.task_laws.specs.Event.{PollAnswer, IsPending, IsClosed, HasOutput, IsRefused}
+use Rattle.task_laws.specs.Position.{Rest, Task, NotifyingCall, OfRun, OfDrop, OfCancel, OfPoll, OfClaim, OnceDelivered, ThenEnds, ThenTask, ThenNotifies, Position, At, CallEnding, Deliverer, OutputInHand, GivingUp, Emptier, Notifier, Taker, Releaser, AwaiterInHand, Registrar, HasClone, UnusedClone, Storing, Registered, TookBack, CloneInHand, Looking, SawOutput, TookOutput, OldAwaiterInHand, Answering}
 use Rattle.task_laws.proofs.Census.{Census, weigh, census, calls}
 
 pub record Awaiting : Type 0 where
@@ -37,13 +37,13 @@ abbrev pub await_rest : Rest → Awaiting
 await_rest (Task n) = record none { keepers = 1; numbered = 1; number = n }
 await_rest _ = none
 
-abbrev pub await_after : After → Awaiting
+abbrev pub await_after : OnceDelivered → Awaiting
 await_after (ThenEnds answer) = none
 await_after (ThenTask n) = await_rest (Task n)
 await_after (ThenNotifies n) = record none { keepers = 1; numbered = 1; number = n; lookouts = 1 }
 
 -- on its way, before and after the slot was held
-abbrev pub await_way : Way → Awaiting
+abbrev pub await_way : NotifyingCall → Awaiting
 await_way OfRun = none
 await_way OfDrop = none
 await_way (OfCancel n) = record none { keepers = 1; numbered = 1; number = n }
@@ -51,7 +51,7 @@ await_way (OfPoll n) = record none { ready_polls = 1; numbered = 1; number = n }
 await_way (OfClaim n) = record none { ready_polls = 1; numbered = 1; number = n }
 
 -- who holds the slot on that way
-abbrev pub takes : Way → Awaiting
+abbrev pub takes : NotifyingCall → Awaiting
 takes OfRun = record none { run_takers = 1 }
 takes OfDrop = record none { run_takers = 1 }
 takes (OfCancel n) = record none { task_takers = 1 }
@@ -59,12 +59,12 @@ takes (OfPoll n) = record none { task_takers = 1 }
 takes (OfClaim n) = record none { task_takers = 1 }
 
 -- the clone in hand is woken on that way
-abbrev pub will_be_woken : Way → ℕ
+abbrev pub will_be_woken : NotifyingCall → ℕ
 will_be_woken (OfPoll n) = 0
 will_be_woken (OfClaim n) = 0
 will_be_woken _ = 1
 
-abbrev pub scaled : ℕ → Option ℕ → Way → ℕ
+abbrev pub scaled : ℕ → Option ℕ → NotifyingCall → ℕ
 scaled i hand (OfPoll n) = 0
 scaled i hand (OfClaim n) = 0
 scaled i hand OfRun = held i hand
@@ -80,13 +80,13 @@ keeps_at IsRefused = 1
 keeps_at _ = 0
 
 abbrev pub ready_at : PollAnswer → ℕ
-ready_at IsReady = 1
+ready_at IsClosed = 1
 ready_at HasOutput = 1
 ready_at _ = 0
 
 abbrev pub await : ℕ → Position → Awaiting
 await i (At r) = await_rest r
-await i (Leaving answer r) = await_rest r
+await i (CallEnding answer r) = await_rest r
 await i (Deliverer woken next) = await_after next
 await i (OutputInHand due) = record none { lookouts = bit due }
 await i (GivingUp hand answer) = record none { to_wake = held i hand; hands = held i hand }
@@ -97,14 +97,14 @@ await i (Releaser hand way) = join (record none { releasers = 1; hands = held i 
 await i (AwaiterInHand j way) = join (record none { hands = bit (eqb i j); to_wake = scaled i (Some j) way }) (await_way way)
 await i (Registrar j) = record none { keepers = 1; registrars = 1; numbered = 1; number = j }
 await i (HasClone j) = record none { hands = bit (eqb i j); numbered = 1; number = j }
-await i (RefusedClone j) = record none { hands = bit (eqb i j); numbered = 1; number = j; looks = bit (eqb i j) }
+await i (UnusedClone j) = record none { hands = bit (eqb i j); numbered = 1; number = j; looks = bit (eqb i j) }
 await i (Storing j) = record none { hands = bit (eqb i j); numbered = 1; number = j; registering = 1 }
 await i (Registered j) = record none { registered = 1; numbered = 1; number = j; registering = 1 }
 await i (TookBack j) = record none { hands = bit (eqb i j); numbered = 1; number = j; registering = 1; takers_back = 1 }
 await i (CloneInHand j) = record none { hands = bit (eqb i j); numbered = 1; number = j }
 await i (Looking j) = record none { numbered = 1; number = j; looks = bit (eqb i j); lookouts = 1 }
-await i (Claiming j) = record none { numbered = 1; number = j; lookouts = 1 }
-await i (Claimer j) = record none { numbered = 1; number = j; ready_polls = 1 }
+await i (SawOutput j) = record none { numbered = 1; number = j; lookouts = 1 }
+await i (TookOutput j) = record none { numbered = 1; number = j; ready_polls = 1 }
 await i (OldAwaiterInHand j old) = record none { registered = 1; hands = bit (eqb i old); numbered = 1; number = j; registering = 1 }
 await i (Answering j answer) = record none { numbered = 1; number = j; looks = looks_at i j answer; keepers = keeps_at answer; ready_polls = ready_at answer }
 await i _ = none

@@ -1,6 +1,6 @@
 -- Each row leaves what its segment will leave: a clause for a row, in the table's order. A clause that stands below another of its act is checked in each case that it is left.
 use Rattle.std.proofs.Common.{Some, None, refl}
-use Rattle.task_laws.specs.Position.{Runnable, Waker, Lent, Task, ClosedRun, DroppedRunnable, OfRun, OfDrop, OfCancel, ThenEnds, At, Leaving, Deliverer, Starting, Polling, Pending, Ready, Unstored, Stored, Cleared, FutureInHand, FutureGone, OutputInHand, GivingUp, Emptier, Notifier, Taker, Releaser, AwaiterInHand, OrphanHolder, Registrar, HasClone, RefusedClone, Storing, Registered, TookBack, CloneInHand, Looking, Claiming, Claimer, OldAwaiterInHand, Answering, OutputCloser, Detacher, GainReference, FindLimit, DropWaker, DropLastWaker, OrphanTask, CloseOrphan, GiveUpReference, GiveUpLastReference, WakeOver, WakeScheduled, WakeRunning, WakeIdle, DiscardOpen, DiscardClosed, CancelOver, CancelBusy, CancelIdle, ClaimOutput, GiveUpOutput, DetachOrphan, DetachLast, Detach, TakeUpClosed, StartRun, Unschedule, Complete, CompleteDetached, EndClosed, Reschedule, EndIdle, EndOrphaned, BeginNotify, MissNotify, FindNotify, BeginRegister, EndNotify, EndRegister, EndRegisterNotified, Look, LookFinished, StartPoll, AnswerPending, AnswerReady, DropFuture, StoreOutput, DropOutput, HandOutOutput, CloneAwaiter, RefuseClone, StoreAwaiter, TakeAwaiter, WakeAwaiter, DropAwaiter, HandOver, EmptySlots, RefuseGain, EndCall, Position, Act}
+use Rattle.task_laws.specs.Position.{Runnable, Waker, Lent, Task, ClosedRun, DroppedRunnable, OfRun, OfDrop, OfCancel, ThenEnds, At, CallEnding, Deliverer, Starting, Polling, Pending, Ready, ReadyFutureDropped, OutputStored, PendingFutureDropped, FutureInHand, FutureGone, OutputInHand, GivingUp, Emptier, Notifier, Taker, Releaser, AwaiterInHand, OrphanHolder, Registrar, HasClone, UnusedClone, Storing, Registered, TookBack, CloneInHand, Looking, SawOutput, TookOutput, OldAwaiterInHand, Answering, OutputCloser, Detacher, GainReference, FindLimit, DropWaker, DropLastWaker, OrphanTask, CloseOrphan, GiveUpReference, GiveUpLastReference, WakeOver, WakeScheduled, WakeRunning, WakeIdle, DiscardOpen, DiscardClosed, CancelOver, CancelBusy, CancelIdle, ClaimOutput, GiveUpOutput, DetachOrphan, DetachLast, Detach, TakeUpClosed, StartRun, Unschedule, Complete, CompleteDetached, EndClosed, Reschedule, EndIdle, EndOrphaned, BeginNotify, MissNotify, FindNotify, BeginRegister, EndNotify, EndRegister, EndRegisterNotified, Look, LookFinished, StartPoll, AnswerPending, AnswerReady, DropFuture, StoreOutput, DropOutput, HandOutOutput, CloneAwaiter, RefuseClone, StoreAwaiter, TakeAwaiter, WakeAwaiter, DropAwaiter, HandOver, EmptySlots, RefuseGain, EndCall, Position, Act}
 use Rattle.task_laws.proofs.Scenes.{rules, InEach}
 use Rattle.task_laws.proofs.Calm.{Tracks, no_row}
 use Rattle.task_laws.proofs.PartRows.{last_waker_drops, last_waker_orphans, busy_task_is_cancelled, idle_task_is_cancelled, poll_claims, poll_claims_late, detach_gives_output_up, detach_orphans, detach_is_last, detach_leaves_handles, output_is_detached_last, unpolled_run_ends, dropped_runnable_ends, run_completes, waker_drops, output_is_detached, run_begins_to_notify, closed_run_ends, idle_run_ends, orphaned_run_ends, drop_begins_to_notify, cancel_begins_to_notify, run_misses_notify, poll_begins_to_register, poll_ends_its_registration, poll_looks_again, poll_stores_its_awaiter}
@@ -39,7 +39,7 @@ every_call CancelOver (At (Task n)) = grind rules
 every_call CancelBusy (At (Task n)) = busy_task_is_cancelled n
 every_call CancelIdle (At (Task n)) = idle_task_is_cancelled n
 every_call ClaimOutput (At (Task n)) = poll_claims n
-every_call ClaimOutput (Claiming n) = poll_claims_late n
+every_call ClaimOutput (SawOutput n) = poll_claims_late n
 every_call GiveUpOutput (At (Task n)) = detach_gives_output_up n
 every_call DetachOrphan (At (Task n)) = detach_orphans n
 every_call DetachLast (At (Task n)) = detach_is_last n
@@ -51,9 +51,9 @@ every_call TakeUpClosed (At Runnable) = grind rules
 every_call StartRun (At Runnable) = grind rules
 every_call Unschedule (FutureGone ClosedRun) = unpolled_run_ends
 every_call Unschedule (FutureGone DroppedRunnable) = dropped_runnable_ends
-every_call Complete Stored = run_completes
-every_call CompleteDetached Stored = grind rules
-every_call EndClosed Cleared = closed_run_ends
+every_call Complete OutputStored = run_completes
+every_call CompleteDetached OutputStored = grind rules
+every_call EndClosed PendingFutureDropped = closed_run_ends
 every_call Reschedule Pending = grind rules
 every_call EndIdle Pending = idle_run_ends
 every_call EndOrphaned Pending = orphaned_run_ends
@@ -84,10 +84,10 @@ every_call DropFuture Ready = grind rules
 every_call DropFuture Pending = grind rules
 every_call DropFuture (FutureInHand ClosedRun) = grind rules
 every_call DropFuture (FutureInHand closer) = grind rules
-every_call StoreOutput Unstored = grind rules
+every_call StoreOutput ReadyFutureDropped = grind rules
 every_call DropOutput (OutputInHand due) = grind rules
 every_call DropOutput OutputCloser = grind rules
-every_call HandOutOutput (Claimer i) = grind rules
+every_call HandOutOutput (TookOutput i) = grind rules
 every_call CloneAwaiter (Registrar i) = grind rules
 every_call RefuseClone (Registrar i) = grind rules
 every_call StoreAwaiter (Storing i) = poll_stores_its_awaiter i
@@ -98,7 +98,7 @@ every_call WakeAwaiter (CloneInHand i) = grind rules
 every_call WakeAwaiter (AwaiterInHand i OfRun) = grind rules
 every_call WakeAwaiter (AwaiterInHand i way) = grind rules
 every_call DropAwaiter (OldAwaiterInHand i old) = grind rules
-every_call DropAwaiter (RefusedClone i) = grind rules
+every_call DropAwaiter (UnusedClone i) = grind rules
 every_call DropAwaiter (AwaiterInHand i OfRun) = grind rules
 every_call DropAwaiter (AwaiterInHand i way) = grind rules
 every_call HandOver (At Runnable) = grind rules
@@ -106,7 +106,7 @@ every_call HandOver (Deliverer woken (ThenEnds answer)) = grind rules
 every_call HandOver (Deliverer woken next) = grind rules
 every_call EmptySlots (Emptier None answer) = grind rules
 every_call EmptySlots (Emptier (Some i) answer) = grind rules
-every_call EndCall (Leaving answer Runnable) = grind rules
-every_call EndCall (Leaving answer rest) = grind rules
+every_call EndCall (CallEnding answer Runnable) = grind rules
+every_call EndCall (CallEnding answer rest) = grind rules
 every_call EndCall (Answering i answer) = grind rules
 every_call act p = no_row act p (λ scene word. refl)

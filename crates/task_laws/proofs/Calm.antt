@@ -2,7 +2,7 @@
 use Rattle.std.proofs.Common.{◌≡◌, ℕ, zero, suc, ◌+◌, ◌≤◌, Bool, true, false, not, ◌||◌, ◌⊎◌, refl, sym, cond, subst, eqb, List, Option, Some, None, arith}
 use Rattle.task_core.specs.Word.{State, bit, is_open}
 use Rattle.task_laws.specs.Event.{HasOutput, Event}
-use Rattle.task_laws.specs.Position.{OfRun, OfDrop, OfCancel, OfPoll, OfClaim, ThenNotifies, Position, At, Leaving, Deliverer, Polling, Unstored, Stored, Cleared, FutureGone, OutputInHand, GivingUp, Notifier, Taker, Releaser, AwaiterInHand, Registrar, RefusedClone, Storing, Registered, TookBack, Looking, Claimer, OldAwaiterInHand, Answering, Detacher, Act}
+use Rattle.task_laws.specs.Position.{OfRun, OfDrop, OfCancel, OfPoll, OfClaim, ThenNotifies, Position, At, CallEnding, Deliverer, Polling, ReadyFutureDropped, OutputStored, PendingFutureDropped, FutureGone, OutputInHand, GivingUp, Notifier, Taker, Releaser, AwaiterInHand, Registrar, UnusedClone, Storing, Registered, TookBack, Looking, TookOutput, OldAwaiterInHand, Answering, Detacher, Act}
 use Rattle.task_core.specs.Rows.{found, written}
 use Rattle.task_laws.specs.Table.{Slots, Scene, Outcome, where_found, rule, goes}
 use Rattle.task_laws.specs.Laws.{count, is_emptying}
@@ -37,7 +37,7 @@ is_notifier (Notifier (OfCancel n)) = true
 is_notifier _ = false
 
 abbrev pub is_refused : Position → Bool
-is_refused (RefusedClone i) = true
+is_refused (UnusedClone i) = true
 is_refused _ = false
 
 abbrev pub is_registered : Position → Bool
@@ -55,7 +55,7 @@ drops_output (OutputInHand due) = true
 drops_output _ = false
 
 abbrev pub has_stored : Position → Bool
-has_stored Stored = true
+has_stored OutputStored = true
 has_stored _ = false
 
 abbrev pub is_storing : Position → Bool
@@ -113,19 +113,19 @@ abbrev pub stands : Bool → Option Position → Bool
 stands done None = false
 stands done (Some Polling) = true
 stands done (Some (FutureGone closer)) = true
-stands done (Some Unstored) = true
-stands done (Some Cleared) = true
+stands done (Some ReadyFutureDropped) = true
+stands done (Some PendingFutureDropped) = true
 stands done (Some (Notifier OfRun)) = done
 stands done (Some (Notifier (OfCancel n))) = true
 stands done (Some Detacher) = true
 stands done (Some (GivingUp None answer)) = true
-stands done (Some (Leaving answer r)) = true
+stands done (Some (CallEnding answer r)) = true
 stands done (Some (Registrar i)) = true
 stands done (Some (Registered i)) = true
 stands done (Some (Looking i)) = true
 stands done (Some (AwaiterInHand j (OfPoll i))) = true
 stands done (Some (AwaiterInHand j (OfClaim i))) = true
-stands done (Some (Claimer i)) = true
+stands done (Some (TookOutput i)) = true
 stands done (Some (Answering i HasOutput)) = false
 stands done (Some (Answering i answer)) = true
 stands done (Some p) = false

@@ -1,6 +1,6 @@
 -- Each row keeps the handshake calm: a clause for a row, in the table's order. A clause that stands below another of its act is checked in each case that it is left.
 use Rattle.std.proofs.Common.{Some, None, refl}
-use Rattle.task_laws.specs.Position.{Runnable, Waker, Lent, Task, ClosedRun, DroppedRunnable, OfRun, ThenEnds, At, Leaving, Deliverer, Starting, Polling, Pending, Ready, Unstored, Stored, Cleared, FutureInHand, FutureGone, OutputInHand, GivingUp, Emptier, Notifier, Taker, Releaser, AwaiterInHand, OrphanHolder, Registrar, HasClone, RefusedClone, Storing, Registered, TookBack, CloneInHand, Looking, Claiming, Claimer, OldAwaiterInHand, Answering, OutputCloser, Detacher, GainReference, FindLimit, DropWaker, DropLastWaker, OrphanTask, CloseOrphan, GiveUpReference, GiveUpLastReference, WakeOver, WakeScheduled, WakeRunning, WakeIdle, DiscardOpen, DiscardClosed, CancelOver, CancelBusy, CancelIdle, ClaimOutput, GiveUpOutput, DetachOrphan, DetachLast, Detach, TakeUpClosed, StartRun, Unschedule, Complete, CompleteDetached, EndClosed, Reschedule, EndIdle, EndOrphaned, BeginNotify, MissNotify, FindNotify, BeginRegister, EndNotify, EndRegister, EndRegisterNotified, Look, LookFinished, StartPoll, AnswerPending, AnswerReady, DropFuture, StoreOutput, DropOutput, HandOutOutput, CloneAwaiter, RefuseClone, StoreAwaiter, TakeAwaiter, WakeAwaiter, DropAwaiter, HandOver, EmptySlots, RefuseGain, EndCall, Position, Act}
+use Rattle.task_laws.specs.Position.{Runnable, Waker, Lent, Task, ClosedRun, DroppedRunnable, OfRun, ThenEnds, At, CallEnding, Deliverer, Starting, Polling, Pending, Ready, ReadyFutureDropped, OutputStored, PendingFutureDropped, FutureInHand, FutureGone, OutputInHand, GivingUp, Emptier, Notifier, Taker, Releaser, AwaiterInHand, OrphanHolder, Registrar, HasClone, UnusedClone, Storing, Registered, TookBack, CloneInHand, Looking, SawOutput, TookOutput, OldAwaiterInHand, Answering, OutputCloser, Detacher, GainReference, FindLimit, DropWaker, DropLastWaker, OrphanTask, CloseOrphan, GiveUpReference, GiveUpLastReference, WakeOver, WakeScheduled, WakeRunning, WakeIdle, DiscardOpen, DiscardClosed, CancelOver, CancelBusy, CancelIdle, ClaimOutput, GiveUpOutput, DetachOrphan, DetachLast, Detach, TakeUpClosed, StartRun, Unschedule, Complete, CompleteDetached, EndClosed, Reschedule, EndIdle, EndOrphaned, BeginNotify, MissNotify, FindNotify, BeginRegister, EndNotify, EndRegister, EndRegisterNotified, Look, LookFinished, StartPoll, AnswerPending, AnswerReady, DropFuture, StoreOutput, DropOutput, HandOutOutput, CloneAwaiter, RefuseClone, StoreAwaiter, TakeAwaiter, WakeAwaiter, DropAwaiter, HandOver, EmptySlots, RefuseGain, EndCall, Position, Act}
 use Rattle.task_laws.proofs.Scenes.{rules, InEach}
 use Rattle.task_laws.proofs.Calm.{KeepsCalm, no_calm_row}
 
@@ -38,7 +38,7 @@ every_calm CancelOver (At (Task n)) = grind rules
 every_calm CancelBusy (At (Task n)) = grind rules
 every_calm CancelIdle (At (Task n)) = grind rules
 every_calm ClaimOutput (At (Task n)) = grind rules
-every_calm ClaimOutput (Claiming n) = grind rules
+every_calm ClaimOutput (SawOutput n) = grind rules
 every_calm GiveUpOutput (At (Task n)) = grind rules
 every_calm DetachOrphan (At (Task n)) = grind rules
 every_calm DetachLast (At (Task n)) = grind rules
@@ -50,9 +50,9 @@ every_calm TakeUpClosed (At Runnable) = grind rules
 every_calm StartRun (At Runnable) = grind rules
 every_calm Unschedule (FutureGone ClosedRun) = grind rules
 every_calm Unschedule (FutureGone DroppedRunnable) = grind rules
-every_calm Complete Stored = grind rules
-every_calm CompleteDetached Stored = grind rules
-every_calm EndClosed Cleared = grind rules
+every_calm Complete OutputStored = grind rules
+every_calm CompleteDetached OutputStored = grind rules
+every_calm EndClosed PendingFutureDropped = grind rules
 every_calm Reschedule Pending = grind rules
 every_calm EndIdle Pending = grind rules
 every_calm EndOrphaned Pending = grind rules
@@ -81,10 +81,10 @@ every_calm DropFuture Ready = grind rules
 every_calm DropFuture Pending = grind rules
 every_calm DropFuture (FutureInHand ClosedRun) = grind rules
 every_calm DropFuture (FutureInHand closer) = grind rules
-every_calm StoreOutput Unstored = grind rules
+every_calm StoreOutput ReadyFutureDropped = grind rules
 every_calm DropOutput (OutputInHand due) = grind rules
 every_calm DropOutput OutputCloser = grind rules
-every_calm HandOutOutput (Claimer i) = grind rules
+every_calm HandOutOutput (TookOutput i) = grind rules
 every_calm CloneAwaiter (Registrar i) = grind rules
 every_calm RefuseClone (Registrar i) = grind rules
 every_calm StoreAwaiter (Storing i) = grind rules
@@ -95,7 +95,7 @@ every_calm WakeAwaiter (CloneInHand i) = grind rules
 every_calm WakeAwaiter (AwaiterInHand i OfRun) = grind rules
 every_calm WakeAwaiter (AwaiterInHand i way) = grind rules
 every_calm DropAwaiter (OldAwaiterInHand i old) = grind rules
-every_calm DropAwaiter (RefusedClone i) = grind rules
+every_calm DropAwaiter (UnusedClone i) = grind rules
 every_calm DropAwaiter (AwaiterInHand i OfRun) = grind rules
 every_calm DropAwaiter (AwaiterInHand i way) = grind rules
 every_calm HandOver (At Runnable) = grind rules
@@ -103,7 +103,7 @@ every_calm HandOver (Deliverer woken (ThenEnds answer)) = grind rules
 every_calm HandOver (Deliverer woken next) = grind rules
 every_calm EmptySlots (Emptier None answer) = grind rules
 every_calm EmptySlots (Emptier (Some i) answer) = grind rules
-every_calm EndCall (Leaving answer Runnable) = grind rules
-every_calm EndCall (Leaving answer rest) = grind rules
+every_calm EndCall (CallEnding answer Runnable) = grind rules
+every_calm EndCall (CallEnding answer rest) = grind rules
 every_calm EndCall (Answering i answer) = grind rules
 every_calm act p = no_calm_row act p (λ scene word. refl)

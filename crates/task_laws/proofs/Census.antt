@@ -1,6 +1,6 @@
 -- How many parties stand where.
 use Rattle.std.proofs.Common.{ℕ, ◌+◌, List, [], ◌∷◌}
-use Rattle.task_laws.specs.Position.{Rest, Runnable, Waker, Lent, Ended, Task, ClosedRun, DroppedRunnable, Way, OfRun, OfDrop, OfCancel, OfPoll, OfClaim, After, ThenEnds, ThenTask, ThenNotifies, Position, At, Leaving, Deliverer, Starting, Polling, Pending, Ready, Unstored, Stored, Cleared, FutureInHand, FutureGone, OutputInHand, GivingUp, Emptier, Notifier, Taker, Releaser, AwaiterInHand, OrphanHolder, Registrar, HasClone, RefusedClone, Storing, Registered, TookBack, CloneInHand, Looking, Claiming, Claimer, OldAwaiterInHand, Answering, OutputCloser, Detacher}
+use Rattle.task_laws.specs.Position.{Rest, Runnable, Waker, Lent, Ended, Task, ClosedRun, DroppedRunnable, NotifyingCall, OfRun, OfDrop, OfCancel, OfPoll, OfClaim, OnceDelivered, ThenEnds, ThenTask, ThenNotifies, Position, At, CallEnding, Deliverer, Starting, Polling, Pending, Ready, ReadyFutureDropped, OutputStored, PendingFutureDropped, FutureInHand, FutureGone, OutputInHand, GivingUp, Emptier, Notifier, Taker, Releaser, AwaiterInHand, OrphanHolder, Registrar, HasClone, UnusedClone, Storing, Registered, TookBack, CloneInHand, Looking, SawOutput, TookOutput, OldAwaiterInHand, Answering, OutputCloser, Detacher}
 
 -- each party of the first fourteen holds a reference
 pub record Census : Type 0 where
@@ -40,14 +40,14 @@ abbrev pub busy : Census → Census
 busy a = record a { others = 1 }
 
 -- on the way of a run or a drop a reference is held, on the way of a claim the output
-abbrev pub weigh_way : Way → Census
+abbrev pub weigh_way : NotifyingCall → Census
 weigh_way OfRun = record nobody { finishing = 1 }
 weigh_way OfDrop = record nobody { finishing = 1 }
 weigh_way (OfCancel n) = record nobody { tasks = 1; others = 1 }
 weigh_way (OfPoll n) = record nobody { tasks = 1; others = 1 }
 weigh_way (OfClaim n) = record nobody { tasks = 1; claims = 1 }
 
-abbrev pub weigh_after : After → Census
+abbrev pub weigh_after : OnceDelivered → Census
 weigh_after (ThenEnds answer) = nobody
 weigh_after (ThenTask n) = record nobody { tasks = 1 }
 weigh_after (ThenNotifies n) = record nobody { tasks = 1 }
@@ -57,15 +57,15 @@ task_at_work = record nobody { tasks = 1; others = 1 }
 
 abbrev pub weigh : Position → Census
 weigh (At r) = weigh_rest r
-weigh (Leaving answer r) = busy (weigh_rest r)
+weigh (CallEnding answer r) = busy (weigh_rest r)
 weigh (Deliverer woken next) = busy (plus (record nobody { queued = 1 }) (weigh_after next))
 weigh Starting = record nobody { starting = 1 }
 weigh Polling = record nobody { polling = 1 }
 weigh Pending = record nobody { pending = 1 }
 weigh Ready = record nobody { ready = 1 }
-weigh Unstored = record nobody { unstored = 1 }
-weigh Stored = record nobody { stored = 1 }
-weigh Cleared = record nobody { cleared = 1 }
+weigh ReadyFutureDropped = record nobody { unstored = 1 }
+weigh OutputStored = record nobody { stored = 1 }
+weigh PendingFutureDropped = record nobody { cleared = 1 }
 weigh (FutureInHand ClosedRun) = record nobody { in_hand = 1 }
 weigh (FutureInHand DroppedRunnable) = record nobody { in_hand = 1 }
 weigh (FutureGone closer) = record nobody { gone = 1 }
@@ -83,14 +83,14 @@ weigh (AwaiterInHand i (OfClaim n)) = record nobody { tasks = 1; claims = 1 }
 weigh OrphanHolder = record nobody { orphans = 1 }
 weigh (Registrar i) = task_at_work
 weigh (HasClone i) = task_at_work
-weigh (RefusedClone i) = task_at_work
+weigh (UnusedClone i) = task_at_work
 weigh (Storing i) = task_at_work
 weigh (Registered i) = task_at_work
 weigh (TookBack i) = task_at_work
 weigh (CloneInHand i) = task_at_work
 weigh (Looking i) = task_at_work
-weigh (Claiming i) = task_at_work
-weigh (Claimer i) = record nobody { tasks = 1; claims = 1 }
+weigh (SawOutput i) = task_at_work
+weigh (TookOutput i) = record nobody { tasks = 1; claims = 1 }
 weigh (OldAwaiterInHand i old) = task_at_work
 weigh (Answering i answer) = task_at_work
 weigh OutputCloser = record nobody { tasks = 1; claims = 1 }

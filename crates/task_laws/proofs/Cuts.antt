@@ -2,38 +2,38 @@
 use Rattle.std.proofs.Common.{◌≡◌, ℕ, zero, suc, Bool, true, false, List, [], ◌∷◌, ◌++◌, Some, None, refl, sym, ap, ◌∙◌, append_assoc, arith}
 use Rattle.std.specs.Prelude.{slice_get, slice_set, nat_eq, if◌then◌else◌}
 use Rattle.std.proofs.lemmas.Bool.Decides.{nat_tests}
-use Rattle.task_laws.specs.Event.{Event, PollAnswer, IsPending, IsReady, IsRefused, HasOutput}
-use Rattle.task_laws.specs.Position.{Position, At, Leaving, Polling, Unstored, Cleared, FutureGone, ClosedRun, DroppedRunnable, GivingUp, Notifier, AwaiterInHand, Registrar, Registered, Looking, Claimer, Answering, Detacher, OfRun, OfCancel, OfPoll, OfClaim, Act}
+use Rattle.task_laws.specs.Event.{Event, PollAnswer, IsPending, IsClosed, IsRefused, HasOutput}
+use Rattle.task_laws.specs.Position.{Position, At, CallEnding, Polling, ReadyFutureDropped, PendingFutureDropped, FutureGone, ClosedRun, DroppedRunnable, GivingUp, Notifier, AwaiterInHand, Registrar, Registered, Looking, TookOutput, Answering, Detacher, OfRun, OfCancel, OfPoll, OfClaim, Act}
 use Rattle.task_laws.specs.Table.{Slots}
 use Rattle.task_laws.specs.Machine.{begins}
-use Rattle.task_laws.specs.Abstract.{Cell, Frame, Left, go, follow}
+use Rattle.task_laws.specs.Abstract.{AbstractCell, Frame, SegmentEnd, go, follow}
 use Rattle.task_laws.specs.Whole.{says_yes, frame_of, seen, is_seen}
 use Rattle.task_laws.proofs.Ahead.{Same, before, prepend}
 use Rattle.task_laws.proofs.Calm.{stands}
 
 -- there the frame says what is left of the call
-pub goes_on_from : (limit : ℕ) (c : Cell) (slots : Slots) (done : Bool) (p : Position) (act : Act) → stands done (Some p) ≡ true → go c (frame_of p) (says_yes act) ≡ before limit c slots p act
+pub goes_on_from : (limit : ℕ) (c : AbstractCell) (slots : Slots) (done : Bool) (p : Position) (act : Act) → stands done (Some p) ≡ true → go c (frame_of p) (says_yes act) ≡ before limit c slots p act
 goes_on_from limit c slots done Polling act e = refl
 goes_on_from limit c slots done (FutureGone ClosedRun) act e = refl
 goes_on_from limit c slots done (FutureGone DroppedRunnable) act e = refl
-goes_on_from limit c slots done Unstored act e = refl
-goes_on_from limit c slots done Cleared act e = refl
+goes_on_from limit c slots done ReadyFutureDropped act e = refl
+goes_on_from limit c slots done PendingFutureDropped act e = refl
 goes_on_from limit c slots done (Notifier OfRun) act e = refl
 goes_on_from limit c slots done (Notifier (OfCancel n)) act e = refl
 goes_on_from limit c slots done Detacher act e = refl
 goes_on_from limit c slots done (GivingUp None answer) act e = refl
-goes_on_from limit c slots done (Leaving answer r) act e = refl
+goes_on_from limit c slots done (CallEnding answer r) act e = refl
 goes_on_from limit c slots done (Registrar i) act e = refl
 goes_on_from limit c slots done (Registered i) act e = refl
 goes_on_from limit c slots done (Looking i) act e = refl
 goes_on_from limit c slots done (AwaiterInHand j (OfPoll i)) act e = refl
 goes_on_from limit c slots done (AwaiterInHand j (OfClaim i)) act e = refl
-goes_on_from limit c slots done (Claimer i) act e = refl
+goes_on_from limit c slots done (TookOutput i) act e = refl
 goes_on_from limit c slots done (Answering i answer) act e = at_answer i answer e
   where
     at_answer : (i : ℕ) (answer : PollAnswer) → stands done (Some (Answering i answer)) ≡ true → go c (frame_of (Answering i answer)) (says_yes act) ≡ before limit c slots (Answering i answer) act
     at_answer i IsPending e = refl
-    at_answer i IsReady e = refl
+    at_answer i IsClosed e = refl
     at_answer i IsRefused e = refl
     at_answer i HasOutput e = cc
 goes_on_from limit c slots done p act e = cc
@@ -57,7 +57,7 @@ get_append (y ∷ ps) qs zero x e = e
 get_append (y ∷ ps) qs (suc j) x e = get_append ps qs j x e
 
 -- part by part is the whole
-pub same_is : (a b : Left) → Same a b → a ≡ b
+pub same_is : (a b : SegmentEnd) → Same a b → a ≡ b
 same_is a b s = λ i. record {
   cell = record {
     task = record { phase = s.phase i; closed = s.closed i; has_task = s.has_task i; wakers = s.wakers i; future = s.future i; output = s.output i; awaiter = s.awaiter i };
@@ -82,7 +82,7 @@ seen_begins (At r) t = refl
 seen_begins p t = refl
 
 -- A step: the segment before it, and the segment after it, leave the same.
-pub carried : (l b : Left) (fs : List Frame) (p : Position) (told t : List Event) → Same b (prepend (seen told) l) → follow b fs (seen t) ≡ follow l fs (seen (told ++ (begins p ++ t)))
+pub carried : (l b : SegmentEnd) (fs : List Frame) (p : Position) (told t : List Event) → Same b (prepend (seen told) l) → follow b fs (seen t) ≡ follow l fs (seen (told ++ (begins p ++ t)))
 carried l b fs p told t s =
-    ap (λ (x : Left). follow x fs (seen t)) (same_is b (prepend (seen told) l) s)
+    ap (λ (x : SegmentEnd). follow x fs (seen t)) (same_is b (prepend (seen told) l) s)
     ∙ ap (λ (x : List Event). record { cell = l.cell; frames = (follow l fs []).frames; told = x }) (append_assoc l.told (seen told) (seen t) ∙ ap (λ (x : List Event). l.told ++ x) (ap (λ (x : List Event). seen told ++ x) (sym (seen_begins p t)) ∙ sym (seen_append told (begins p ++ t))))

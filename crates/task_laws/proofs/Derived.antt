@@ -4,9 +4,9 @@ use Rattle.std.proofs.lemmas.Bool.Decides.{nat_tests}
 use Rattle.task_core.specs.Word.{State, bit, is_open}
 use Rattle.task_laws.specs.Event.{Event}
 use Rattle.task_laws.specs.Table.{Slots}
-use Rattle.task_laws.specs.Laws.{OnePoller, NoWakeLost, MakingsCounted, IsOver}
+use Rattle.task_laws.specs.Laws.{OnePoller, NoWakeLost, MakingsCounted, NobodyIsLeft}
 use Rattle.task_laws.specs.Laws.{count}
-use Rattle.task_laws.specs.Laws.{is_future_drop, is_emptying, is_output_end, is_ready}
+use Rattle.task_laws.specs.Laws.{is_future_drop, is_emptying, is_output_end, is_future_ready}
 use Rattle.task_laws.proofs.Census.{Census, calls, runs, closers}
 use Rattle.task_laws.proofs.Invariant.{Holds}
 
@@ -24,10 +24,11 @@ no_bit : (b : Bool) → bit b ≡ 0 → b ≡ false
 no_bit true e = cc
 no_bit false e = refl
 
-pub over_task : (limit : ℕ) (w : State) (slots : Slots) (t : List Event) (c : Census) → Holds limit w slots t c → IsOver t → w.task ≡ false
+pub over_task : (limit : ℕ) (w : State) (slots : Slots) (t : List Event) (c : Census) → Holds limit w slots t c → NobodyIsLeft t
+    → w.task ≡ false
 over_task limit w slots t c h over = no_bit w.task (omega (arith, h.task, h.task_left, over.task))
 
-pub over_busy : (limit : ℕ) (w : State) (slots : Slots) (t : List Event) (c : Census) → Holds limit w slots t c → IsOver t → (calls c ≡ 0) × (c.queued ≡ 0) × (w.references ≡ 0)
+pub over_busy : (limit : ℕ) (w : State) (slots : Slots) (t : List Event) (c : Census) → Holds limit w slots t c → NobodyIsLeft t → (calls c ≡ 0) × (c.queued ≡ 0) × (w.references ≡ 0)
 over_busy limit w slots t c h over = (omega (arith, h.calls_left, over.calls), omega (arith, h.made, over.runnables), omega (arith, h.calls_left, over.calls, h.made, over.runnables, h.wakers, over.wakers, h.references))
 
 pub over_still : (limit : ℕ) (w : State) (slots : Slots) (t : List Event) (c : Census) → Holds limit w slots t c → calls c ≡ 0 → c.queued ≡ 0 → (w.running ≡ false) × (w.scheduled ≡ false)
@@ -36,13 +37,13 @@ over_still limit w slots t c h busy queued = still w.running w.scheduled c busy 
     still : (r s : Bool) (c : Census) → calls c ≡ 0 → c.queued ≡ 0 → runs c ≡ bit r → c.queued + closers c ≡ cond r 0 (bit s) → (r ≡ false) × (s ≡ false)
     still r s c busy queued e f = grind arith
 
-pub over_emptied : (limit : ℕ) (w : State) (slots : Slots) (t : List Event) (c : Census) → Holds limit w slots t c → IsOver t → count is_emptying t ≡ 1
+pub over_emptied : (limit : ℕ) (w : State) (slots : Slots) (t : List Event) (c : Census) → Holds limit w slots t c → NobodyIsLeft t → count is_emptying t ≡ 1
 over_emptied limit w slots t c h over = emptied w.task w.references c (count is_emptying t) (over_task limit w slots t c h over) (over_busy limit w slots t c h over) h.emptied
   where
     emptied : (k : Bool) (n : ℕ) (c : Census) (m : ℕ) → k ≡ false → (calls c ≡ 0) × (c.queued ≡ 0) × (n ≡ 0) → m + c.emptiers + c.orphans ≡ cond k 0 (bit (eqb n 0)) → m ≡ 1
     emptied k n c m e b f = grind (arith, nat_tests)
 
-pub over_future : (limit : ℕ) (w : State) (slots : Slots) (t : List Event) (c : Census) → Holds limit w slots t c → IsOver t → count is_future_drop t ≡ 1
+pub over_future : (limit : ℕ) (w : State) (slots : Slots) (t : List Event) (c : Census) → Holds limit w slots t c → NobodyIsLeft t → count is_future_drop t ≡ 1
 over_future limit w slots t c h over =
     let b = over_busy limit w slots t c h over in
     future w (bit slots.future) c (count is_future_drop t) (count is_emptying t) b (over_still limit w slots t c h b.0 b.1) h.future h.dropped (over_emptied limit w slots t c h over) h.emptied_closed
@@ -52,9 +53,9 @@ over_future limit w slots t c h over =
         → d + f ≡ 1 → m ≡ 1 → (m + c.emptiers ≡ 0) ⊎ (is_open w ≡ false) → d ≡ 1
     future w f c d m b s e g k l = grind arith
 
-pub over_outputs : (limit : ℕ) (w : State) (slots : Slots) (t : List Event) (c : Census) → Holds limit w slots t c → IsOver t → count is_output_end t ≡ count is_ready t
+pub over_outputs : (limit : ℕ) (w : State) (slots : Slots) (t : List Event) (c : Census) → Holds limit w slots t c → NobodyIsLeft t → count is_output_end t ≡ count is_future_ready t
 over_outputs limit w slots t c h over =
-    outputs w (bit slots.output) c (count is_output_end t) (count is_ready t) (over_task limit w slots t c h over) (over_busy limit w slots t c h over).0 h.output h.outputs h.kept
+    outputs w (bit slots.output) c (count is_output_end t) (count is_future_ready t) (over_task limit w slots t c h over) (over_busy limit w slots t c h over).0 h.output h.outputs h.kept
   where
     outputs : (w : State) (o : ℕ) (c : Census) (e r : ℕ) → w.task ≡ false → calls c ≡ 0 → o ≡ c.stored + c.outputs + c.claims + bit (w.completed && not w.closed) → r ≡ e + o + c.ready + c.unstored
         → (w.completed ≡ true → w.closed ≡ false → w.task ≡ true) → e ≡ r
@@ -66,5 +67,5 @@ ends_future limit w slots t c h = omega (arith, h.dropped)
 pub ends_emptied : (limit : ℕ) (w : State) (slots : Slots) (t : List Event) (c : Census) → Holds limit w slots t c → count is_emptying t ≤ 1
 ends_emptied limit w slots t c h = grind (arith, nat_tests)
 
-pub ends_outputs : (limit : ℕ) (w : State) (slots : Slots) (t : List Event) (c : Census) → Holds limit w slots t c → count is_output_end t ≤ count is_ready t
+pub ends_outputs : (limit : ℕ) (w : State) (slots : Slots) (t : List Event) (c : Census) → Holds limit w slots t c → count is_output_end t ≤ count is_future_ready t
 ends_outputs limit w slots t c h = omega (arith, h.outputs)

@@ -7,8 +7,8 @@ use Rattle.task_laws.specs.Position.{Position, Act}
 use Rattle.task_laws.specs.Table.{Slots, Scene, Outcome, where_found, rule, goes}
 use Rattle.task_core.specs.Rows.{found, written}
 use Rattle.task_laws.specs.Machine.{begins}
-use Rattle.task_laws.specs.Laws.{count, is_start, is_answer}
-use Rattle.task_laws.specs.Laws.{Each, MayPoll, is_ready, is_future_drop, is_output_end, is_made, is_made_by_spawn, is_made_by_wake, is_made_by_closing, is_taking_up, is_end, is_completion, is_closing, is_emptying, is_gain, is_loss, is_loss_of_task, is_call, is_call_end, taken_up_closed, wake_is_due, woken_since_taking_up, fresh_wakes}
+use Rattle.task_laws.specs.Laws.{count, is_future_poll, is_future_answer}
+use Rattle.task_laws.specs.Laws.{Each, MayPoll, is_future_ready, is_future_drop, is_output_end, is_made, is_made_by_spawn, is_made_by_wake, is_made_by_closing, is_taking_up, is_run_end, is_completion, is_closing, is_emptying, is_waker_gained, is_waker_given_up, is_task_given_up, is_call_begun, is_call_end, taken_up_closed, wake_is_due, woken_since_taking_up, fresh_wakes}
 use Rattle.task_laws.proofs.Census.{Census, plus, weigh, census, runs, closers, calls}
 use Rattle.task_laws.proofs.Scenes.{InEach}
 
@@ -30,18 +30,18 @@ pub record Holds (limit : ℕ) (word : State) (slots : Slots) (trace : List Even
   pub output : bit slots.output ≡ parties.stored + parties.outputs + parties.claims + bit (word.completed && not word.closed)
   -- the trace
   pub made : count is_made trace ≡ count is_taking_up trace + parties.queued
-  pub taken : count is_taking_up trace ≡ count is_end trace + runs parties + closers parties
-  pub starts : count is_start trace ≡ count is_answer trace + parties.polling
+  pub taken : count is_taking_up trace ≡ count is_run_end trace + runs parties + closers parties
+  pub starts : count is_future_poll trace ≡ count is_future_answer trace + parties.polling
   pub dropped : count is_future_drop trace + bit slots.future ≡ 1
   pub closes : count is_closing trace ≡ bit word.closed
   pub completes : count is_completion trace ≡ bit word.completed
-  pub readies : count is_ready trace ≡ bit word.completed + parties.ready + parties.unstored + parties.stored
-  pub outputs : count is_ready trace ≡ count is_output_end trace + bit slots.output + parties.ready + parties.unstored
+  pub readies : count is_future_ready trace ≡ bit word.completed + parties.ready + parties.unstored + parties.stored
+  pub outputs : count is_future_ready trace ≡ count is_output_end trace + bit slots.output + parties.ready + parties.unstored
   pub emptied : count is_emptying trace + parties.emptiers + parties.orphans ≡ (if word.task then 0 else bit (nat_eq word.references 0))
   pub emptied_closed : (count is_emptying trace + parties.emptiers ≡ 0) ⊎ (is_open word ≡ false)
-  pub calls_left : count is_call trace ≡ count is_call_end trace + calls parties
-  pub wakers : count is_gain trace ≡ count is_loss trace + parties.wakers
-  pub task_left : count is_loss_of_task trace + parties.tasks ≡ 1
+  pub calls_left : count is_call_begun trace ≡ count is_call_end trace + calls parties
+  pub wakers : count is_waker_gained trace ≡ count is_waker_given_up trace + parties.wakers
+  pub task_left : count is_task_given_up trace + parties.tasks ≡ 1
   pub by_spawn : count is_made_by_spawn trace ≡ 1
   pub by_closing : count is_made_by_closing trace ≤ count is_closing trace
   pub by_wake : count is_made_by_wake trace + bit (word.running && word.scheduled) ≤ fresh_wakes trace

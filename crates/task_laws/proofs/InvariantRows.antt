@@ -1,6 +1,6 @@
 -- Each row of the table keeps the invariant: a clause for a row, in the table's order. A clause that stands below another of its act is checked in each case that it is left.
 use Rattle.std.proofs.Common.{Some, None, refl}
-use Rattle.task_laws.specs.Position.{Runnable, Waker, Lent, Task, ClosedRun, DroppedRunnable, OfRun, ThenEnds, At, Leaving, Deliverer, Starting, Polling, Pending, Ready, Unstored, Stored, Cleared, FutureInHand, FutureGone, OutputInHand, GivingUp, Emptier, Notifier, Taker, Releaser, AwaiterInHand, OrphanHolder, Registrar, HasClone, RefusedClone, Storing, Registered, TookBack, CloneInHand, Looking, Claiming, Claimer, OldAwaiterInHand, Answering, OutputCloser, Detacher, GainReference, FindLimit, DropWaker, DropLastWaker, OrphanTask, CloseOrphan, GiveUpReference, GiveUpLastReference, WakeOver, WakeScheduled, WakeRunning, WakeIdle, DiscardOpen, DiscardClosed, CancelOver, CancelBusy, CancelIdle, ClaimOutput, GiveUpOutput, DetachOrphan, DetachLast, Detach, TakeUpClosed, StartRun, Unschedule, Complete, CompleteDetached, EndClosed, Reschedule, EndIdle, EndOrphaned, BeginNotify, MissNotify, FindNotify, BeginRegister, EndNotify, EndRegister, EndRegisterNotified, Look, LookFinished, StartPoll, AnswerPending, AnswerReady, DropFuture, StoreOutput, DropOutput, HandOutOutput, CloneAwaiter, RefuseClone, StoreAwaiter, TakeAwaiter, WakeAwaiter, DropAwaiter, HandOver, EmptySlots, RefuseGain, EndCall, Position, Act}
+use Rattle.task_laws.specs.Position.{Runnable, Waker, Lent, Task, ClosedRun, DroppedRunnable, OfRun, ThenEnds, At, CallEnding, Deliverer, Starting, Polling, Pending, Ready, ReadyFutureDropped, OutputStored, PendingFutureDropped, FutureInHand, FutureGone, OutputInHand, GivingUp, Emptier, Notifier, Taker, Releaser, AwaiterInHand, OrphanHolder, Registrar, HasClone, UnusedClone, Storing, Registered, TookBack, CloneInHand, Looking, SawOutput, TookOutput, OldAwaiterInHand, Answering, OutputCloser, Detacher, GainReference, FindLimit, DropWaker, DropLastWaker, OrphanTask, CloseOrphan, GiveUpReference, GiveUpLastReference, WakeOver, WakeScheduled, WakeRunning, WakeIdle, DiscardOpen, DiscardClosed, CancelOver, CancelBusy, CancelIdle, ClaimOutput, GiveUpOutput, DetachOrphan, DetachLast, Detach, TakeUpClosed, StartRun, Unschedule, Complete, CompleteDetached, EndClosed, Reschedule, EndIdle, EndOrphaned, BeginNotify, MissNotify, FindNotify, BeginRegister, EndNotify, EndRegister, EndRegisterNotified, Look, LookFinished, StartPoll, AnswerPending, AnswerReady, DropFuture, StoreOutput, DropOutput, HandOutOutput, CloneAwaiter, RefuseClone, StoreAwaiter, TakeAwaiter, WakeAwaiter, DropAwaiter, HandOver, EmptySlots, RefuseGain, EndCall, Position, Act}
 use Rattle.task_laws.proofs.Scenes.{rules, InEach, scheduled, running, completed, closed, task, awaiter, notifying, by_flag, by_references, by_slot}
 use Rattle.task_laws.proofs.Invariant.{Keeps, no_row}
 
@@ -38,7 +38,7 @@ every_row CancelOver (At (Task n)) = grind rules
 every_row CancelBusy (At (Task n)) = by_flag awaiter (grind rules) (grind rules)
 every_row CancelIdle (At (Task n)) = by_flag closed (grind rules) (by_flag awaiter (grind rules) (grind rules))
 every_row ClaimOutput (At (Task n)) = by_flag awaiter (grind rules) (grind rules)
-every_row ClaimOutput (Claiming n) = by_flag awaiter (grind rules) (grind rules)
+every_row ClaimOutput (SawOutput n) = by_flag awaiter (grind rules) (grind rules)
 every_row GiveUpOutput (At (Task n)) = grind rules
 every_row DetachOrphan (At (Task n)) = grind rules
 every_row DetachLast (At (Task n)) = grind rules
@@ -50,9 +50,9 @@ every_row TakeUpClosed (At Runnable) = grind rules
 every_row StartRun (At Runnable) = grind rules
 every_row Unschedule (FutureGone ClosedRun) = by_flag awaiter (grind rules) (grind rules)
 every_row Unschedule (FutureGone DroppedRunnable) = by_flag awaiter (grind rules) (grind rules)
-every_row Complete Stored = by_flag awaiter (grind rules) (grind rules)
-every_row CompleteDetached Stored = by_flag closed (grind rules) (grind rules)
-every_row EndClosed Cleared = by_flag awaiter (grind rules) (grind rules)
+every_row Complete OutputStored = by_flag awaiter (grind rules) (grind rules)
+every_row CompleteDetached OutputStored = by_flag closed (grind rules) (grind rules)
+every_row EndClosed PendingFutureDropped = by_flag awaiter (grind rules) (grind rules)
 every_row Reschedule Pending = grind rules
 every_row EndIdle Pending = grind rules
 every_row EndOrphaned Pending = grind rules
@@ -85,10 +85,10 @@ every_row DropFuture Ready = grind rules
 every_row DropFuture Pending = by_flag closed (grind rules) (grind rules)
 every_row DropFuture (FutureInHand ClosedRun) = grind rules
 every_row DropFuture (FutureInHand closer) = grind rules
-every_row StoreOutput Unstored = grind rules
+every_row StoreOutput ReadyFutureDropped = grind rules
 every_row DropOutput (OutputInHand due) = grind rules
 every_row DropOutput OutputCloser = grind rules
-every_row HandOutOutput (Claimer i) = grind rules
+every_row HandOutOutput (TookOutput i) = grind rules
 every_row CloneAwaiter (Registrar i) = grind rules
 every_row RefuseClone (Registrar i) = grind rules
 every_row StoreAwaiter (Storing i) = by_slot (grind rules) (λ old. grind rules)
@@ -99,7 +99,7 @@ every_row WakeAwaiter (CloneInHand i) = grind rules
 every_row WakeAwaiter (AwaiterInHand i OfRun) = grind rules
 every_row WakeAwaiter (AwaiterInHand i way) = grind rules
 every_row DropAwaiter (OldAwaiterInHand i old) = grind rules
-every_row DropAwaiter (RefusedClone i) = grind rules
+every_row DropAwaiter (UnusedClone i) = grind rules
 every_row DropAwaiter (AwaiterInHand i OfRun) = grind rules
 every_row DropAwaiter (AwaiterInHand i way) = grind rules
 every_row HandOver (At Runnable) = grind rules
@@ -107,7 +107,7 @@ every_row HandOver (Deliverer woken (ThenEnds answer)) = grind rules
 every_row HandOver (Deliverer woken next) = grind rules
 every_row EmptySlots (Emptier None answer) = by_slot (grind rules) (λ old. grind rules)
 every_row EmptySlots (Emptier (Some i) answer) = by_slot (grind rules) (λ old. grind rules)
-every_row EndCall (Leaving answer Runnable) = grind rules
-every_row EndCall (Leaving answer rest) = grind rules
+every_row EndCall (CallEnding answer Runnable) = grind rules
+every_row EndCall (CallEnding answer rest) = grind rules
 every_row EndCall (Answering i answer) = grind rules
 every_row act p = no_row act p (λ scene word. refl)

@@ -2,7 +2,7 @@
 use Rattle.std.proofs.Common.{Bool, true, false, Option, Some, None, subst}
 use Rattle.task_core.specs.Word.{State}
 use Rattle.task_core.specs.Rows.{found, written}
-use Rattle.task_laws.specs.Position.{Runnable, Waker, Lent, Task, ClosedRun, DroppedRunnable, At, Leaving, Deliverer, Starting, Polling, Pending, Ready, Unstored, Stored, Cleared, FutureInHand, FutureGone, OutputInHand, GivingUp, Emptier, Notifier, Taker, Releaser, AwaiterInHand, OrphanHolder, Registrar, HasClone, RefusedClone, Storing, Registered, TookBack, CloneInHand, Looking, Claiming, Claimer, OldAwaiterInHand, Answering, OutputCloser, Detacher, GainReference, FindLimit, DropWaker, DropLastWaker, OrphanTask, CloseOrphan, GiveUpReference, GiveUpLastReference, WakeOver, WakeScheduled, WakeRunning, WakeIdle, DiscardOpen, DiscardClosed, CancelOver, CancelBusy, CancelIdle, ClaimOutput, GiveUpOutput, DetachOrphan, DetachLast, Detach, TakeUpClosed, StartRun, Unschedule, Complete, CompleteDetached, EndClosed, Reschedule, EndIdle, EndOrphaned, BeginNotify, MissNotify, FindNotify, BeginRegister, EndNotify, EndRegister, EndRegisterNotified, Look, LookFinished, StartPoll, AnswerPending, AnswerReady, DropFuture, StoreOutput, DropOutput, HandOutOutput, CloneAwaiter, RefuseClone, StoreAwaiter, TakeAwaiter, WakeAwaiter, DropAwaiter, HandOver, EmptySlots, RefuseGain, EndCall, Position, Act}
+use Rattle.task_laws.specs.Position.{Runnable, Waker, Lent, Task, ClosedRun, DroppedRunnable, At, CallEnding, Deliverer, Starting, Polling, Pending, Ready, ReadyFutureDropped, OutputStored, PendingFutureDropped, FutureInHand, FutureGone, OutputInHand, GivingUp, Emptier, Notifier, Taker, Releaser, AwaiterInHand, OrphanHolder, Registrar, HasClone, UnusedClone, Storing, Registered, TookBack, CloneInHand, Looking, SawOutput, TookOutput, OldAwaiterInHand, Answering, OutputCloser, Detacher, GainReference, FindLimit, DropWaker, DropLastWaker, OrphanTask, CloseOrphan, GiveUpReference, GiveUpLastReference, WakeOver, WakeScheduled, WakeRunning, WakeIdle, DiscardOpen, DiscardClosed, CancelOver, CancelBusy, CancelIdle, ClaimOutput, GiveUpOutput, DetachOrphan, DetachLast, Detach, TakeUpClosed, StartRun, Unschedule, Complete, CompleteDetached, EndClosed, Reschedule, EndIdle, EndOrphaned, BeginNotify, MissNotify, FindNotify, BeginRegister, EndNotify, EndRegister, EndRegisterNotified, Look, LookFinished, StartPoll, AnswerPending, AnswerReady, DropFuture, StoreOutput, DropOutput, HandOutOutput, CloneAwaiter, RefuseClone, StoreAwaiter, TakeAwaiter, WakeAwaiter, DropAwaiter, HandOver, EmptySlots, RefuseGain, EndCall, Position, Act}
 use Rattle.task_laws.specs.Table.{Scene, Outcome, where_found, goes}
 use Rattle.task_laws.specs.Theorem.{ChangesItsOwn, OwnersAct}
 use Rattle.task_laws.proofs.Scenes.{rules}
@@ -34,7 +34,7 @@ owned CancelOver (At (Task n)) s v = grind rules
 owned CancelBusy (At (Task n)) s v = grind rules
 owned CancelIdle (At (Task n)) s v = grind rules
 owned ClaimOutput (At (Task n)) s v = grind rules
-owned ClaimOutput (Claiming n) s v = grind rules
+owned ClaimOutput (SawOutput n) s v = grind rules
 owned GiveUpOutput (At (Task n)) s v = grind rules
 owned DetachOrphan (At (Task n)) s v = grind rules
 owned DetachLast (At (Task n)) s v = grind rules
@@ -46,9 +46,9 @@ owned TakeUpClosed (At Runnable) s v = grind rules
 owned StartRun (At Runnable) s v = grind rules
 owned Unschedule (FutureGone ClosedRun) s v = grind rules
 owned Unschedule (FutureGone DroppedRunnable) s v = grind rules
-owned Complete Stored s v = grind rules
-owned CompleteDetached Stored s v = grind rules
-owned EndClosed Cleared s v = grind rules
+owned Complete OutputStored s v = grind rules
+owned CompleteDetached OutputStored s v = grind rules
+owned EndClosed PendingFutureDropped s v = grind rules
 owned Reschedule Pending s v = grind rules
 owned EndIdle Pending s v = grind rules
 owned EndOrphaned Pending s v = grind rules
@@ -73,16 +73,16 @@ owned DropFuture Ready s v = grind rules
 owned DropFuture Pending s v = grind rules
 owned DropFuture (FutureInHand ClosedRun) s v = grind rules
 owned DropFuture (FutureInHand DroppedRunnable) s v = grind rules
-owned StoreOutput Unstored s v = grind rules
+owned StoreOutput ReadyFutureDropped s v = grind rules
 owned DropOutput (OutputInHand due) s v = grind rules
 owned DropOutput OutputCloser s v = grind rules
-owned HandOutOutput (Claimer i) s v = grind rules
+owned HandOutOutput (TookOutput i) s v = grind rules
 owned CloneAwaiter (Registrar i) s v = grind rules
 owned RefuseClone (Registrar i) s v = grind rules
 owned StoreAwaiter (Storing i) s v = grind rules
 owned WakeAwaiter (CloneInHand i) s v = grind rules
 owned DropAwaiter (OldAwaiterInHand i old) s v = grind rules
-owned DropAwaiter (RefusedClone i) s v = grind rules
+owned DropAwaiter (UnusedClone i) s v = grind rules
 owned TakeAwaiter (Registered i) s v = grind rules
 owned TakeAwaiter (Taker way) s v = grind rules
 owned WakeAwaiter (AwaiterInHand i way) s v = grind rules
@@ -90,7 +90,7 @@ owned DropAwaiter (AwaiterInHand i way) s v = grind rules
 owned HandOver (At Runnable) s v = grind rules
 owned HandOver (Deliverer woken next) s v = grind rules
 owned EmptySlots (Emptier hand answer) s v = grind rules
-owned EndCall (Leaving answer rest) s v = grind rules
+owned EndCall (CallEnding answer rest) s v = grind rules
 owned EndCall (Answering i answer) s v = grind rules
 -- what the table does not allow
 owned act p s v = tt

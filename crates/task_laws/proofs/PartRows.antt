@@ -1,7 +1,7 @@
 -- Rows of `CallRows` that are shown by themselves, since one declaration has one limit of steps: part by part, or by the flags that they split on.
 use Rattle.std.proofs.Common.{◌≡◌, ℕ, ◌+◌, ◌≤◌, true, false, None, refl}
 use Rattle.task_core.specs.Word.{is_open}
-use Rattle.task_laws.specs.Position.{At, Waker, Task, ClosedRun, DroppedRunnable, FutureGone, Claiming, Stored, DropLastWaker, OrphanTask, CancelBusy, CancelIdle, ClaimOutput, GiveUpOutput, DetachOrphan, DetachLast, Unschedule, Complete, Notifier, OfRun, OfDrop, OfCancel, Detacher, Cleared, Pending, HasClone, Registered, Looking, Storing, DropWaker, Detach, BeginNotify, EndClosed, EndIdle, EndOrphaned, MissNotify, BeginRegister, EndRegister, Look, StoreAwaiter}
+use Rattle.task_laws.specs.Position.{At, Waker, Task, ClosedRun, DroppedRunnable, FutureGone, SawOutput, OutputStored, DropLastWaker, OrphanTask, CancelBusy, CancelIdle, ClaimOutput, GiveUpOutput, DetachOrphan, DetachLast, Unschedule, Complete, Notifier, OfRun, OfDrop, OfCancel, Detacher, PendingFutureDropped, Pending, HasClone, Registered, Looking, Storing, DropWaker, Detach, BeginNotify, EndClosed, EndIdle, EndOrphaned, MissNotify, BeginRegister, EndRegister, Look, StoreAwaiter}
 use Rattle.task_core.specs.Rows.{found, written}
 use Rattle.task_laws.specs.Table.{Scene, goes}
 use Rattle.task_laws.proofs.Census.{Census, plus, weigh}
@@ -84,7 +84,7 @@ idle_task_is_cancelled n = by_flag completed (grind rules) (by_flag awaiter (gri
 pub poll_claims : (n : ℕ) → InEach (Tracks ClaimOutput (At (Task n)))
 poll_claims n = by_flag awaiter (grind rules) (grind rules)
 
-pub poll_claims_late : (n : ℕ) → InEach (Tracks ClaimOutput (Claiming n))
+pub poll_claims_late : (n : ℕ) → InEach (Tracks ClaimOutput (SawOutput n))
 poll_claims_late n = by_flag awaiter (grind rules) (grind rules)
 
 pub detach_gives_output_up : (n : ℕ) → InEach (Tracks GiveUpOutput (At (Task n)))
@@ -108,10 +108,10 @@ unpolled_run_ends = by_flag awaiter (by_flag task (grind rules) (grind rules)) (
 pub dropped_runnable_ends : InEach (Tracks Unschedule (FutureGone DroppedRunnable))
 dropped_runnable_ends = by_flag awaiter (grind rules) (grind rules)
 
-pub run_completes : InEach (Tracks Complete Stored)
+pub run_completes : InEach (Tracks Complete OutputStored)
 run_completes = by_flag closed (by_flag awaiter (grind rules) (grind rules)) (by_flag awaiter (grind rules) (grind rules))
 
-pub closed_run_ends : InEach (Tracks EndClosed Cleared)
+pub closed_run_ends : InEach (Tracks EndClosed PendingFutureDropped)
 closed_run_ends = by_flag awaiter (by_flag completed (grind rules) (grind rules)) (by_flag completed (grind rules) (grind rules))
 
 pub idle_run_ends : InEach (Tracks EndIdle Pending)

@@ -4,12 +4,12 @@ use Rattle.std.specs.Prelude.{slice_get, slice_set, nat_eq}
 use Rattle.std.proofs.lemmas.Bool.Decides.{nat_tests}
 use Rattle.std.proofs.lemmas.Option.{slice_get_within}
 use Rattle.task_core.specs.Word.{State, is_open}
-use Rattle.task_laws.specs.Event.{Nothing, CallBegins, Made, ByWake, Wakes}
-use Rattle.task_laws.specs.Position.{Rest, Runnable, Waker, Lent, Ended, Task, Position, At, Leaving, Deliverer, ThenEnds, WakeIdle}
+use Rattle.task_laws.specs.Event.{Nothing, CallBegins, Made, ByWake, WakeStep}
+use Rattle.task_laws.specs.Position.{Rest, Runnable, Waker, Lent, Ended, Task, Position, At, CallEnding, Deliverer, ThenEnds, WakeIdle}
 use Rattle.task_core.specs.Rows.{found, written}
 use Rattle.task_laws.specs.Table.{Slots, Scene, Outcome, where_found, is_held, rule}
 use Rattle.task_laws.specs.Machine.{Machine, scene, begins}
-use Rattle.task_laws.specs.Abstract.{Cell, Frame, Abstract, Move, Begin, begin, follow, then_moved, all_moved}
+use Rattle.task_laws.specs.Abstract.{AbstractCell, Frame, Abstract, Move, Begin, begin, follow, then_moved, all_moved}
 use Rattle.task_laws.specs.Whole.{call_of, frames, seen}
 use Rattle.task_laws.proofs.Census.{weigh, census, plus}
 use Rattle.task_laws.proofs.Runs.{Invariant, others, split, put_born}
@@ -19,7 +19,7 @@ use Rattle.task_laws.proofs.Cuts.{get_put, get_append, carried}
 use Rattle.task_laws.proofs.WholeRuns.{IsAnother, OpenCallsStand, AtCut, tracked_here, calm_here, Handing, cell_of, moved_on, calm_at, flags, counted, fresh_at_rest, open_calls_stand, frames_stay, stands_somewhere}
 
 abbrev pub queued_by : Scene → Rest → Outcome
-queued_by s r = record { word = written WakeIdle s.word; slots = s.slots; next = Leaving Nothing r; born = Deliverer false (ThenEnds Nothing) ∷ []; told = CallBegins ∷ Made ByWake ∷ Wakes ∷ [] }
+queued_by s r = record { word = written WakeIdle s.word; slots = s.slots; next = CallEnding Nothing r; born = Deliverer false (ThenEnds Nothing) ∷ []; told = CallBegins ∷ Made ByWake ∷ WakeStep ∷ [] }
 
 pub queues_or_refused : (s : Scene) (r : Rest) (P : Option Outcome → Type 0) → P None → P (Some (queued_by s r)) → P (rule s WakeIdle (At r))
 queues_or_refused s Runnable P a b = a
@@ -57,7 +57,7 @@ fresh_born done ps [] g = tt
 fresh_born done ps (j ∷ stack) g =
     (let x = stands_somewhere done (slice_get ps j) g.0 in above j (length ps) (slice_get_within ps j x.0 x.1), fresh_born done ps stack g.2)
 
-to_deliverer : (w : State) (slots : Slots) (r : Rest) → Calm w slots false (Leaving Nothing r) → Calm w slots false (Deliverer false (ThenEnds Nothing))
+to_deliverer : (w : State) (slots : Slots) (r : Rest) → Calm w slots false (CallEnding Nothing r) → Calm w slots false (Deliverer false (ThenEnds Nothing))
 to_deliverer w slots r k = record {
   notifying = k.notifying;
   taking = k.taking;
@@ -86,21 +86,21 @@ queues_so limit m i r stack moves e fresh good a landed calm done =
     let o = queued_by (scene m) r in
     let d = Deliverer false (ThenEnds Nothing) in
     let rest = census (others m.parties i) in
-    let ps : List Position = slice_set m.parties i (Leaving Nothing r) ++ (d ∷ []) in
+    let ps : List Position = slice_set m.parties i (CallEnding Nothing r) ++ (d ∷ []) in
     let was : cell_of m ≡ cell_at m.word m.slots (plus (weigh (At r)) rest) = ap (cell_at m.word m.slots) (split m.parties i (At r) e) in
-    let now : cell_at o.word m.slots (census ps) ≡ cell_at o.word m.slots (plus (census (Leaving Nothing r ∷ (d ∷ []))) rest) = ap (cell_at o.word m.slots) (put_born m.parties i (At r) (Leaving Nothing r) (d ∷ []) e) in
+    let now : cell_at o.word m.slots (census ps) ≡ cell_at o.word m.slots (plus (census (CallEnding Nothing r ∷ (d ∷ []))) rest) = ap (cell_at o.word m.slots) (put_born m.parties i (At r) (CallEnding Nothing r) (d ∷ []) e) in
     let same : Same (before m.limit (cell_of m) m.slots (At r) WakeIdle) (prepend (seen o.told) (ahead (cell_at o.word m.slots (census ps)) m.slots d)) =
-    subst (λ (c : Cell). Same (before m.limit c m.slots (At r) WakeIdle) (prepend (seen o.told) (ahead (cell_at o.word m.slots (census ps)) m.slots d))) (sym was)
-    (subst (λ (c : Cell). Same (before m.limit (cell_at m.word m.slots (plus (weigh (At r)) rest)) m.slots (At r) WakeIdle) (prepend (seen o.told) (ahead c m.slots d))) (sym now) landed) in
+    subst (λ (c : AbstractCell). Same (before m.limit c m.slots (At r) WakeIdle) (prepend (seen o.told) (ahead (cell_at o.word m.slots (census ps)) m.slots d))) (sym was)
+    (subst (λ (c : AbstractCell). Same (before m.limit (cell_at m.word m.slots (plus (weigh (At r)) rest)) m.slots (At r) WakeIdle) (prepend (seen o.told) (ahead c m.slots d))) (sym now) landed) in
     let told = carried (ahead (cell_at o.word m.slots (census ps)) m.slots d) (before m.limit (cell_of m) m.slots (At r) WakeIdle) (frames m.parties stack) (At r) o.told m.trace same in
-    let kept = frames_stay m.word.completed m.parties (d ∷ []) i (Leaving Nothing r) stack fresh good in
+    let kept = frames_stay m.word.completed m.parties (d ∷ []) i (CallEnding Nothing r) stack fresh good in
     record {
-      waker = get_append (slice_set m.parties i (Leaving Nothing r)) (d ∷ []) i (Leaving Nothing r) (get_put m.parties i (At r) (Leaving Nothing r) e);
-      deliverer = get_last m.parties i (Leaving Nothing r) d;
+      waker = get_append (slice_set m.parties i (CallEnding Nothing r)) (d ∷ []) i (CallEnding Nothing r) (get_put m.parties i (At r) (CallEnding Nothing r) e);
+      deliverer = get_last m.parties i (CallEnding Nothing r) d;
       apart = below i (length m.parties) (slice_get_within m.parties i (At r) e);
       fresh = fresh;
       fresh_deliverer = fresh_born m.word.completed m.parties stack good;
-      good = open_calls_stand m.word.completed o.word.completed m.parties (d ∷ []) i (Leaving Nothing r) stack done fresh good;
+      good = open_calls_stand m.word.completed o.word.completed m.parties (d ∷ []) i (CallEnding Nothing r) stack done fresh good;
       calm = to_deliverer o.word m.slots r calm.0;
       agreed = a ∙ ap Some (told ∙ ap (λ (fs : List Frame). follow (ahead (cell_at o.word m.slots (census ps)) m.slots d) fs (seen (o.told ++ (begins (At r) ++ m.trace)))) (sym kept));
     }

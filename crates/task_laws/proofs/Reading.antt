@@ -5,10 +5,10 @@ use Rattle.std.proofs.lemmas.Bool.Decides.{nat_tests}
 use Rattle.task_core.specs.Word.{State, bit, is_open}
 use Rattle.task_laws.specs.Position.{Ended, Position, At}
 use Rattle.task_laws.specs.Machine.{Machine, how_many}
-use Rattle.task_laws.specs.Laws.{count, is_closing, is_future_drop, is_loss_of_task, woken_since_taking_up}
+use Rattle.task_laws.specs.Laws.{count, is_closing, is_future_drop, is_task_given_up, woken_since_taking_up}
 use Rattle.task_laws.specs.Theorem.{is_runner}
 use Rattle.task_core.specs.Local.{Idle, Queued, Polled, PolledAndWoken, Done, is_done}
-use Rattle.task_laws.specs.Abstract.{Cell}
+use Rattle.task_laws.specs.Abstract.{AbstractCell}
 use Rattle.task_laws.specs.Whole.{is_queued, is_polling, phase_of, is_home, one_if, awaiter_of, reading, frames, seen, WholeRunsAgree}
 use Rattle.task_laws.proofs.Census.{Census, weigh, census, runs, closers}
 use Rattle.task_laws.proofs.Runs.{Invariant}
@@ -61,7 +61,7 @@ reading_is m h k =
     (gone m.word m.slots.future (census m.parties) (count is_future_drop m.trace) h.holds.dropped h.holds.scheduled h.holds.running h.holds.future) in
     let closed = bits m.word.closed (count is_closing m.trace) h.holds.closes in
     let output = output_is m.word m.slots.output (census m.parties) h.holds.completed h.holds.output (k.output refl) in
-    let task = tasks m.word.task (count is_loss_of_task m.trace) (census m.parties).tasks h.holds.task_left h.holds.task in
+    let task = tasks m.word.task (count is_task_given_up m.trace) (census m.parties).tasks h.holds.task_left h.holds.task in
     let held : holders (census m.parties) ≡ how_many is_runner m.parties = sym (runners m.parties) in
     λ i. record {
       task = record {
@@ -82,4 +82,4 @@ pub whole_runs_agree : WholeRunsAgree
 whole_runs_agree limit steps w e c =
     let h = whole_holds limit steps w e in
     let a : AtCut limit w.machine w.stack w.moves = rw c at h.state in
-    a.agreed ∙ ap (λ (x : Cell). Some (record { cell = x; frames = frames w.machine.parties w.stack; told = seen w.machine.trace })) (reading_is w.machine h.invariant a.calm)
+    a.agreed ∙ ap (λ (x : AbstractCell). Some (record { cell = x; frames = frames w.machine.parties w.stack; told = seen w.machine.trace })) (reading_is w.machine h.invariant a.calm)

@@ -7,7 +7,7 @@ use Rattle.task_laws.specs.Position.{Position}
 use Rattle.task_laws.specs.Table.{Slots}
 use Rattle.task_laws.specs.Machine.{Machine, how_many}
 use Rattle.task_laws.specs.Laws.{count}
-use Rattle.task_laws.specs.Laws.{IsOver, no_call_is_left, is_loss_of_task, pending_poll, is_completion, is_future_drop, was_woken, is_clone_of, is_end_of_clone, is_emptying}
+use Rattle.task_laws.specs.Laws.{NobodyIsLeft, no_call_is_left, is_task_given_up, pending_poll, is_completion, is_future_drop, was_woken, is_clone_of, is_end_of_clone, is_emptying}
 use Rattle.task_laws.specs.Theorem.{is_waker, is_runner, owns_future, owns_output, owns_awaiter, Laws, LawsHold}
 use Rattle.task_laws.proofs.Census.{Census, weigh, census, calls, runs, closers}
 use Rattle.task_laws.proofs.Invariant.{Holds}
@@ -65,7 +65,7 @@ one_awaiter limit i w slots t c b h k f = owner w c b (count is_emptying t) h.re
 
 -- no awaiter is forgotten
 woken_now : (limit i : ℕ) (w : State) (slots : Slots) (t : List Event) (c : Census) (b : Awaiting) → Holds limit w slots t c → HandshakeHolds i w slots t b → Fits c b
-    → no_call_is_left t → count is_loss_of_task t ≡ 0 → pending_poll t ≡ Some i → (1 ≤ count is_completion t) ⊎ (1 ≤ count is_future_drop t) → was_woken i t ≡ true
+    → no_call_is_left t → count is_task_given_up t ≡ 0 → pending_poll t ≡ Some i → (1 ≤ count is_completion t) ⊎ (1 ≤ count is_future_drop t) → was_woken i t ≡ true
 woken_now limit i w slots t c b h k f idle task p over =
     let busy : calls c ≡ 0 = omega (arith, h.calls_left, idle) in
     let tasks : c.tasks ≡ 1 = omega (arith, h.task_left, task) in
@@ -90,13 +90,14 @@ no_bit : (x : Bool) → bit x ≡ 0 → x ≡ false
 no_bit true e = cc
 no_bit false e = refl
 
-over_awaiter : (m : Machine) → Invariant m → IsOver m.trace → m.slots.awaiter ≡ None
+over_awaiter : (m : Machine) → Invariant m → NobodyIsLeft m.trace → m.slots.awaiter ≡ None
 over_awaiter m h over = left (count is_emptying m.trace) m.slots (over_emptied m.limit m.word m.slots m.trace (census m.parties) h.holds over) (h.shakes 0).left_empty
   where
     left : (n : ℕ) (slots : Slots) → n ≡ 1 → (n ≡ 0) ⊎ (slots.awaiter ≡ None) → slots.awaiter ≡ None
     left n slots e f = grind arith
 
-over_clones : (m : Machine) → Invariant m → IsOver m.trace → (i : ℕ) → count (is_end_of_clone i) m.trace ≡ count (is_clone_of i) m.trace
+over_clones : (m : Machine) → Invariant m → NobodyIsLeft m.trace → (i : ℕ)
+    → count (is_end_of_clone i) m.trace ≡ count (is_clone_of i) m.trace
 over_clones m h over i =
     let e = rw (over_awaiter m h over) at (h.shakes i).clones in
     omega (arith, e, (over_busy m.limit m.word m.slots m.trace (census m.parties) h.holds over).0, (fits i m.parties).hands)
@@ -104,7 +105,7 @@ over_clones m h over i =
 all_gone : (slots : Slots) → slots.future ≡ false → slots.output ≡ false → slots.awaiter ≡ None → slots ≡ record { future = false; output = false; awaiter = None }
 all_gone slots e f g = λ i. record { future = e i; output = f i; awaiter = g i }
 
-over_slots : (m : Machine) → Invariant m → IsOver m.trace → m.slots ≡ record { future = false; output = false; awaiter = None }
+over_slots : (m : Machine) → Invariant m → NobodyIsLeft m.trace → m.slots ≡ record { future = false; output = false; awaiter = None }
 over_slots m h over =
     let future : m.slots.future ≡ false = no_bit m.slots.future (omega (arith, h.holds.dropped, over_future m.limit m.word m.slots m.trace (census m.parties) h.holds over)) in
     let output : m.slots.output ≡ false = no_bit m.slots.output (omega (arith, h.holds.outputs, over_outputs m.limit m.word m.slots m.trace (census m.parties) h.holds over)) in

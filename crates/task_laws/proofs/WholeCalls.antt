@@ -3,7 +3,7 @@ use Rattle.std.proofs.Common.{◌≡◌, ℕ, ◌⊎◌, inl, inr, Bool, true, L
 use Rattle.task_laws.specs.Event.{Event}
 use Rattle.task_laws.specs.Machine.{Step, opening, step}
 use Rattle.std.specs.Prelude.{slice_get}
-use Rattle.task_laws.specs.Abstract.{Cell, Frame, Abstract, Move, Begin, Go, begin, go, follow, put, then_moved, all_moved}
+use Rattle.task_laws.specs.Abstract.{AbstractCell, Frame, Abstract, Move, Begin, Go, begin, go, follow, put, then_moved, all_moved}
 use Rattle.task_laws.specs.Whole.{Whole, whole_from, stepped, reading, frames, read}
 use Rattle.task_laws.specs.WholeCalls.{alone, made, takes_all, WholeCallsAgree}
 use Rattle.task_laws.proofs.Reading.{whole_runs_agree}
@@ -16,7 +16,7 @@ whole_append None (s ∷ steps) (s2 ∷ more) = refl
 whole_append (Some w) (s ∷ steps) more = whole_append (stepped w s (slice_get w.machine.parties s.party) (step w.machine s)) steps more
 
 -- the moves of a call, over those before it
-goes_alone : (limit : ℕ) (below : List Frame) (earlier : List Event) (moves : List Move) (cell : Cell) (told : List Event) (frame : Option Frame) (answers : List Bool)
+goes_alone : (limit : ℕ) (below : List Frame) (earlier : List Event) (moves : List Move) (cell : AbstractCell) (told : List Event) (frame : Option Frame) (answers : List Bool)
     → all_moved limit moves ≡ Some (record { cell = cell; frames = put frame below; told = told ++ earlier }) → takes_all (record { cell = cell; told = told; frame = frame }) answers ≡ true
     → all_moved limit (made answers moves) ≡ Some (follow (alone (record { cell = cell; told = told; frame = frame }) answers) below earlier)
 goes_alone limit below earlier moves cell told frame [] so_far takes = so_far
@@ -32,7 +32,7 @@ none_made limit moves [] none = none
 none_made limit moves (answer ∷ answers) none = none_made limit (Go answer ∷ moves) answers (ap (λ (x : Option Abstract). then_moved limit x (Go answer)) none)
 
 -- where no call is open below it, a call that has ended goes on with nothing
-takes_its_own : (limit : ℕ) (earlier : List Event) (moves : List Move) (cell : Cell) (told : List Event) (frame : Option Frame) (answers : List Bool) (a : Abstract)
+takes_its_own : (limit : ℕ) (earlier : List Event) (moves : List Move) (cell : AbstractCell) (told : List Event) (frame : Option Frame) (answers : List Bool) (a : Abstract)
     → all_moved limit moves ≡ Some (record { cell = cell; frames = put frame []; told = told ++ earlier }) → all_moved limit (made answers moves) ≡ Some a → takes_all (record { cell = cell; told = told; frame = frame }) answers ≡ true
 takes_its_own limit earlier moves cell told frame [] a so_far reached = refl
 takes_its_own limit earlier moves cell told None (answer ∷ answers) a so_far reached =

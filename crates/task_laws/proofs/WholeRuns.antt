@@ -4,11 +4,11 @@ use Rattle.std.specs.Prelude.{slice_get, slice_set, nat_lt, nat_eq}
 use Rattle.std.proofs.lemmas.Bool.Decides.{nat_tests}
 use Rattle.task_core.specs.Word.{State, bit}
 use Rattle.task_laws.specs.Event.{Event, Nothing, CallEnds}
-use Rattle.task_laws.specs.Position.{Rest, Ended, Position, At, Leaving, Deliverer, ThenEnds, Polling, Registrar, AwaiterInHand, OfPoll, OfClaim, Act, WakeIdle, EndCall}
+use Rattle.task_laws.specs.Position.{Rest, Ended, Position, At, CallEnding, Deliverer, ThenEnds, Polling, Registrar, AwaiterInHand, OfPoll, OfClaim, Act, WakeIdle, EndCall}
 use Rattle.task_laws.specs.Table.{Slots, Outcome, rule}
 use Rattle.task_laws.specs.Machine.{Machine, scene, begins, after, moves}
 use Rattle.task_core.specs.Local.{is_done}
-use Rattle.task_laws.specs.Abstract.{Cell, Frame, Left, Abstract, Move, Begin, Go, begin, go, follow, then_moved, all_moved}
+use Rattle.task_laws.specs.Abstract.{AbstractCell, Frame, SegmentEnd, Abstract, Move, Begin, Go, begin, go, follow, then_moved, all_moved}
 use Rattle.task_laws.specs.Whole.{one_if, is_home, awaiter_of, opened, is_deliverer, innermost, move_of, call_of, says_yes, frames, frame_at, seen, is_at_rest, is_foreign, asks_foreign}
 use Rattle.task_laws.proofs.Census.{Census, weigh, census, plus}
 use Rattle.task_laws.proofs.Awaiting.{Awaiting, await, awaiting, fits}
@@ -67,7 +67,7 @@ pub fresh_at_rest : (done : Bool) (ps : List Position) (i : ℕ) (r : Rest) (sta
 fresh_at_rest done ps i r [] e g = tt
 fresh_at_rest done ps i r (j ∷ stack) e g = (apart done ps i j r e g.0, fresh_at_rest done ps i r stack e g.2)
 
-abbrev pub cell_of : Machine → Cell
+abbrev pub cell_of : Machine → AbstractCell
 cell_of m = cell_at m.word m.slots (census m.parties)
 
 -- at a cut
@@ -119,7 +119,7 @@ mark_flags : (done : Bool) (q : Position) → stands done (Some q) ≡ true → 
 mark_flags done q e = grind arith
 
 -- the segment has ended, at rest or at a cut, or goes on
-abbrev LandsAt : Bool → Bool → Bool → Cell → Slots → Position → Left
+abbrev LandsAt : Bool → Bool → Bool → AbstractCell → Slots → Position → SegmentEnd
 LandsAt r u w c slots q = cond r (record { cell = c; told = []; frame = None }) (cond u (ahead c slots (Deliverer false (ThenEnds Nothing))) (landed c slots w q))
 
 abbrev GoesAt : Bool → Bool → ℕ → Machine → ℕ → Position → List ℕ → List Move → Type 0
@@ -151,8 +151,8 @@ goes limit m i p act stack moves o e u fresh good a landed calm done =
     let new : census (slice_set m.parties i o.next ++ o.born) ≡ plus (census (o.next ∷ o.born)) rest = put_born m.parties i p o.next o.born e in
     let now : cell_at o.word o.slots (census (slice_set m.parties i o.next ++ o.born)) ≡ cell_at o.word o.slots (plus (census (o.next ∷ o.born)) rest) = ap (cell_at o.word o.slots) new in
     let same : Same (before m.limit (cell_of m) m.slots p act) (prepend (seen o.told) (lands (cell_at o.word o.slots (census (slice_set m.parties i o.next ++ o.born))) o.slots act o.next)) =
-    subst (λ (c : Cell). Same (before m.limit c m.slots p act) (prepend (seen o.told) (lands (cell_at o.word o.slots (census (slice_set m.parties i o.next ++ o.born))) o.slots act o.next))) (sym was)
-    (subst (λ (c : Cell). Same (before m.limit (cell_at m.word m.slots (plus (weigh p) rest)) m.slots p act) (prepend (seen o.told) (lands c o.slots act o.next))) (sym now) landed) in
+    subst (λ (c : AbstractCell). Same (before m.limit c m.slots p act) (prepend (seen o.told) (lands (cell_at o.word o.slots (census (slice_set m.parties i o.next ++ o.born))) o.slots act o.next))) (sym was)
+    (subst (λ (c : AbstractCell). Same (before m.limit (cell_at m.word m.slots (plus (weigh p) rest)) m.slots p act) (prepend (seen o.told) (lands c o.slots act o.next))) (sym now) landed) in
     let told = carried (lands (cell_at o.word o.slots (census (slice_set m.parties i o.next ++ o.born))) o.slots act o.next) (before m.limit (cell_of m) m.slots p act) (frames m.parties stack) p o.told m.trace same in
     let kept = frames_stay m.word.completed m.parties o.born i o.next stack fresh good in
     finish limit (moved_on m i p o) i o.next stack moves (is_at_rest o.next) (queues act) (is_foreign act || asks_foreign o.next) u refl (get_append (slice_set m.parties i o.next) o.born i o.next (get_put m.parties i p o.next e)) fresh
@@ -239,7 +239,7 @@ calm_at w slots p f k c = record {
         → ((not w.registering || false) ≡ true → (o ≡ None) ⊎ ((w.task ≡ false) × (w.closed ≡ true) × (w.completed ≡ false) × (w.running ≡ false))) → o ≡ None
     want w o a b c d = grind arith
 
-one_way_is : (limit : ℕ) (c : Cell) (slots : Slots) (p : Position) (act : Act) → goes_one_way p ≡ true → ahead c slots p ≡ before limit c slots p act
+one_way_is : (limit : ℕ) (c : AbstractCell) (slots : Slots) (p : Position) (act : Act) → goes_one_way p ≡ true → ahead c slots p ≡ before limit c slots p act
 one_way_is limit c slots (At r) act e = cc
 one_way_is limit c slots Polling act e = cc
 one_way_is limit c slots (Registrar i) act e = cc
@@ -304,7 +304,7 @@ goes_on_here limit m i p act stack moves e u h c =
     step_goes limit m i p act stack (Go (says_yes act) ∷ moves) true e u h (calm_at m.word m.slots p (flags m.word.completed p (rw s (or_right (is_at_rest p)))) c.calm (counted m i p e h)) c.good.1 c.good.2
     (ap (λ (x : Option Abstract). then_moved limit x (Go (says_yes act))) c.agreed
     ∙ (ap (λ (o : Option Position). Some (follow (go (cell_of m) (frame_at o) (says_yes act)) (frames m.parties stack) (seen m.trace))) e
-    ∙ ap (λ (x : Left). Some (follow x (frames m.parties stack) (seen m.trace))) (goes_on_from m.limit (cell_of m) m.slots m.word.completed p act s)))
+    ∙ ap (λ (x : SegmentEnd). Some (follow x (frames m.parties stack) (seen m.trace))) (goes_on_from m.limit (cell_of m) m.slots m.word.completed p act s)))
   where
     or_right : (b : Bool) → (b || true) ≡ true
     or_right true = refl
@@ -314,7 +314,7 @@ goes_on_here limit m i p act stack moves e u h c =
 pub goes_within : (limit : ℕ) (m : Machine) (i : ℕ) (p : Position) (act : Act) (stack : List ℕ) (moves : List Move) → queues act ≡ false → Invariant m → Within limit m i p stack moves → GoesAfter limit m i p act stack moves (rule (scene m) act p)
 goes_within limit m i p act stack moves u h c =
     step_goes limit m i p act stack moves false c.stands_at u h c.calm c.fresh c.good
-    (c.agreed ∙ ap (λ (x : Left). Some (follow x (frames m.parties stack) (seen m.trace))) (one_way_is m.limit (cell_of m) m.slots p act c.one_way))
+    (c.agreed ∙ ap (λ (x : SegmentEnd). Some (follow x (frames m.parties stack) (seen m.trace))) (one_way_is m.limit (cell_of m) m.slots p act c.one_way))
 
 pub no_deliverer : (done : Bool) (o : Option Position) → stands done o ≡ true → not (is_deliverer o) ≡ true
 no_deliverer done o e = grind arith
@@ -340,7 +340,7 @@ same_number x y e = grind (arith, nat_tests)
 
 -- A WAKE THAT QUEUES: its deliverer n stands below the waker i, which has only to end
 pub record Handing (limit : ℕ) (m : Machine) (i : ℕ) (r : Rest) (n : ℕ) (stack : List ℕ) (moves : List Move) : Type 0 where
-  pub waker : slice_get m.parties i ≡ Some (Leaving Nothing r)
+  pub waker : slice_get m.parties i ≡ Some (CallEnding Nothing r)
   pub deliverer : slice_get m.parties n ≡ Some (Deliverer false (ThenEnds Nothing))
   pub apart : nat_eq i n ≡ false
   pub fresh : IsAnother i stack
@@ -352,10 +352,10 @@ pub record Handing (limit : ℕ) (m : Machine) (i : ℕ) (r : Rest) (n : ℕ) (s
 abbrev pub ended : Machine → ℕ → Rest → Machine
 ended m i r = record { limit = m.limit; word = m.word; slots = m.slots; parties = slice_set m.parties i (At r) ++ []; trace = CallEnds Nothing ∷ m.trace }
 
-end_weighs : (r : Rest) (rest : Census) → (plus (weigh (Leaving Nothing r)) rest).wakers ≡ (plus (census (At r ∷ [])) rest).wakers
+end_weighs : (r : Rest) (rest : Census) → (plus (weigh (CallEnding Nothing r)) rest).wakers ≡ (plus (census (At r ∷ [])) rest).wakers
 end_weighs r rest = grind arith
 
-end_holds : (r : Rest) (rest : Census) → holders (plus (weigh (Leaving Nothing r)) rest) ≡ holders (plus (census (At r ∷ [])) rest)
+end_holds : (r : Rest) (rest : Census) → holders (plus (weigh (CallEnding Nothing r)) rest) ≡ holders (plus (census (At r ∷ [])) rest)
 end_holds r rest = grind arith
 
 end_cell : (w : State) (slots : Slots) (a b : Census) → a.wakers ≡ b.wakers → holders a ≡ holders b → cell_at w slots a ≡ cell_at w slots b
@@ -370,19 +370,19 @@ end_cell w slots a b e f = λ i. record {
 pub hands : (limit : ℕ) (m : Machine) (i : ℕ) (r : Rest) (n : ℕ) (stack : List ℕ) (moves : List Move) → Handing limit m i r n stack moves → Within limit (ended m i r) n (Deliverer false (ThenEnds Nothing)) stack moves
 hands limit m i r n stack moves h =
     let rest = census (others m.parties i) in
-    let cell : cell_of m ≡ cell_of (ended m i r) = ap (cell_at m.word m.slots) (split m.parties i (Leaving Nothing r) h.waker) ∙ (end_cell m.word m.slots (plus (weigh (Leaving Nothing r)) rest) (plus (census (At r ∷ [])) rest) (end_weighs r rest) (end_holds r rest)
-    ∙ ap (cell_at m.word m.slots) (sym (put_born m.parties i (Leaving Nothing r) (At r) [] h.waker))) in
+    let cell : cell_of m ≡ cell_of (ended m i r) = ap (cell_at m.word m.slots) (split m.parties i (CallEnding Nothing r) h.waker) ∙ (end_cell m.word m.slots (plus (weigh (CallEnding Nothing r)) rest) (plus (census (At r ∷ [])) rest) (end_weighs r rest) (end_holds r rest)
+    ∙ ap (cell_at m.word m.slots) (sym (put_born m.parties i (CallEnding Nothing r) (At r) [] h.waker))) in
     record {
       stands_at = get_append (slice_set m.parties i (At r)) [] n (Deliverer false (ThenEnds Nothing)) (get_other m.parties i n (At r) h.apart ∙ h.deliverer);
       one_way = refl;
       fresh = h.fresh_deliverer;
       good = open_calls_stand m.word.completed m.word.completed m.parties [] i (At r) stack (λ e. e) h.fresh h.good;
       calm = h.calm;
-      agreed = h.agreed ∙ (ap (λ (c : Cell). Some (follow (ahead c m.slots (Deliverer false (ThenEnds Nothing))) (frames m.parties stack) (seen m.trace))) cell
+      agreed = h.agreed ∙ (ap (λ (c : AbstractCell). Some (follow (ahead c m.slots (Deliverer false (ThenEnds Nothing))) (frames m.parties stack) (seen m.trace))) cell
           ∙ ap (λ (fs : List Frame). Some (follow (ahead (cell_of (ended m i r)) m.slots (Deliverer false (ThenEnds Nothing))) fs (seen m.trace))) (sym (frames_stay m.word.completed m.parties [] i (At r) stack h.fresh h.good)));
     }
 
 -- nothing else is allowed to it
-pub only_ends : (limit : ℕ) (m : Machine) (i : ℕ) (r : Rest) (act : Act) (P : Option Machine → Type 0) → P None → P (Some (ended m i r)) → P (after m i (Leaving Nothing r) (rule (scene m) act (Leaving Nothing r)))
+pub only_ends : (limit : ℕ) (m : Machine) (i : ℕ) (r : Rest) (act : Act) (P : Option Machine → Type 0) → P None → P (Some (ended m i r)) → P (after m i (CallEnding Nothing r) (rule (scene m) act (CallEnding Nothing r)))
 only_ends limit m i r EndCall P a b = b
 only_ends limit m i r act P a b = a

@@ -1,7 +1,7 @@
 -- The abstract task of a cell, and its calls, in segments that end where foreign code may make calls.
 use Rattle.std.specs.Prelude.{ℕ, ◌+◌, Bool, true, false, not, ◌&&◌, nat_lt, if◌then◌else◌, List, [], ◌∷◌, ◌++◌, Option, Some, None}
 use Rattle.task_core.specs.Word.{bit}
-use Rattle.task_laws.specs.Event.{PollAnswer, IsPending, IsReady, HasOutput, IsRefused, Answer, Nothing, Ran, Gained, Finished, Event, FutureDropped, OutputTaken, OutputDropped, HandedOver, Empties, PollEnds, Woken, CloneEnded, CallEnds}
+use Rattle.task_laws.specs.Event.{PollAnswer, IsPending, IsClosed, HasOutput, IsRefused, Answer, Nothing, Ran, Gained, Finished, Event, FutureDropped, OutputTaken, OutputDropped, HandedOver, Empties, TaskPollEnds, Woken, CloneEnded, CallEnds}
 use Rattle.task_core.specs.Local.{Done, NoAwaiter, Due, Local, Effect, becomes, due, stored, without_due, none_left, empties_if, polls, dropped_unpolled, settles_ready, settles_pending, wakes, loses_waker, cancels_at, detaches_at, is_done, gives_output, finished, opening_task}
 
 -- the abstract task of a cell: future and output are tokens, an awaiter is the number of its poll
@@ -12,7 +12,7 @@ abbrev pub PlainEffect : Type 0
 PlainEffect = Effect (Unit {0}) (Unit {0}) ℕ
 
 -- the task as a cell has it, also in the middle of a call
-pub record Cell : Type 0 where
+pub record AbstractCell : Type 0 where
   pub task : PlainTask
   pub held : Bool  -- a Runnable, or the run or the drop that took it up, has not given up its reference
   pub storing : Bool  -- the open poll of the Task drops the old awaiter
@@ -40,13 +40,13 @@ pub data Frame : Type 0 where
   Answers : ℕ → PollAnswer → Frame
 
 -- a segment: the cell after it, what is told of it, newest first, and what is left of the call
-pub record Left : Type 0 where
-  pub cell : Cell
+pub record SegmentEnd : Type 0 where
+  pub cell : AbstractCell
   pub told : List Event
   pub frame : Option Frame
 
 -- a segment ends at a mark
-abbrev pub stops : Cell → List Event → Frame → Left
+abbrev pub stops : AbstractCell → List Event → Frame → SegmentEnd
 stops c told f = record { cell = c; told = told; frame = Some f }
 
 -- .. or with its call; a call that answers nothing tells nothing
@@ -54,10 +54,10 @@ abbrev pub answered : Answer → List Event → List Event
 answered Nothing told = told
 answered answer told = CallEnds answer ∷ told
 
-abbrev pub ends : Cell → List Event → Answer → Left
+abbrev pub ends : AbstractCell → List Event → Answer → SegmentEnd
 ends c told answer = record { cell = c; told = answered answer told; frame = None }
 
-abbrev pub with_task : Cell → PlainTask → Cell
+abbrev pub with_task : AbstractCell → PlainTask → AbstractCell
 with_task c t = record c { task = t }
 
 -- an awaiter's clone ended by its wake
@@ -72,38 +72,38 @@ ended None told = told
 abbrev pub told_emptied : PlainEffect → List Event → List Event
 told_emptied r told = if r.emptied then Empties ∷ ended r.dropped told else told
 
-abbrev pub emptied : Cell → PlainEffect
+abbrev pub emptied : AbstractCell → PlainEffect
 emptied c = empties_if (none_left c.held c.task) (becomes c.task)
 
-abbrev pub empties : Cell → List Event → Answer → Left
+abbrev pub empties : AbstractCell → List Event → Answer → SegmentEnd
 empties c told answer = ends (with_task c (emptied c).task) (told_emptied (emptied c) told) answer
 
 -- .. and an awaiter in hand is woken then
-abbrev pub wakes_last : Cell → Option ℕ → List Event → Answer → Left
+abbrev pub wakes_last : AbstractCell → Option ℕ → List Event → Answer → SegmentEnd
 wakes_last c (Some i) told answer = stops c (woken i told) (Ends answer)
 wakes_last c None told answer = ends c told answer
 
-abbrev pub gives_up_held : Cell → Option ℕ → List Event → Answer → Left
+abbrev pub gives_up_held : AbstractCell → Option ℕ → List Event → Answer → SegmentEnd
 gives_up_held c hand told answer = wakes_last (with_task c (emptied c).task) hand (told_emptied (emptied c) told) answer
 
 -- the Runnable's handle is given up
-abbrev pub gives_up : Cell → Option ℕ → List Event → Answer → Left
+abbrev pub gives_up : AbstractCell → Option ℕ → List Event → Answer → SegmentEnd
 gives_up c hand told answer = gives_up_held (record c { held = false }) hand told answer
 
 -- a due awaiter is taken, or its wake is owed by the Task
-abbrev pub after_taking : Cell → Cell
-after_taking c = if c.storing then record c { owed = true } else record c { task = record (c.task) { awaiter = without_due c.task.awaiter } }
+abbrev pub takes_due : AbstractCell → AbstractCell
+takes_due c = if c.storing then record c { owed = true } else record c { task = record (c.task) { awaiter = without_due c.task.awaiter } }
 
 -- .. and is in hand, to be woken
-abbrev pub in_hand : Cell → Option ℕ
+abbrev pub in_hand : AbstractCell → Option ℕ
 in_hand c = if c.storing then None else due c.task.awaiter
 
 -- the end of a run: the awaiter is taken, the handle given up, the awaiter woken
-abbrev pub takes_and_gives_up : Cell → List Event → Left
-takes_and_gives_up c told = gives_up (after_taking c) (in_hand c) told (Ran false)
+abbrev pub takes_and_gives_up : AbstractCell → List Event → SegmentEnd
+takes_and_gives_up c told = gives_up (takes_due c) (in_hand c) told (Ran false)
 
 -- a row that may queue the task: its Runnable is handed over
-abbrev pub hands_over : Cell → PlainEffect → Option Bool → List Event → Frame → Left → Left
+abbrev pub hands_over : AbstractCell → PlainEffect → Option Bool → List Event → Frame → SegmentEnd → SegmentEnd
 hands_over c r (Some woken) told f otherwise = stops (record c { task = r.task; held = true }) (HandedOver woken ∷ told) f
 hands_over c r None told f otherwise = otherwise
 
@@ -112,44 +112,44 @@ abbrev pub is_due : Option ℕ → Bool
 is_due (Some i) = true
 is_due None = false
 
-abbrev pub cancel_takes : Cell → Option ℕ → Left
+abbrev pub cancel_takes : AbstractCell → Option ℕ → SegmentEnd
 cancel_takes c (Some i) = stops c (woken i []) (Ends Nothing)
 cancel_takes c None = ends c [] Nothing
 
-abbrev pub cancels : Cell → Left
+abbrev pub cancels : AbstractCell → SegmentEnd
 cancels c =
     if finished c.task then ends c [] Nothing
     else (let r = cancels_at c.task.phase c.task in
-    hands_over c r r.queue [] (if is_due (due c.task.awaiter) then TakesOfCancel else Ends Nothing) (cancel_takes (after_taking (with_task c r.task)) (in_hand c)))
+    hands_over c r r.queue [] (if is_due (due c.task.awaiter) then TakesOfCancel else Ends Nothing) (cancel_takes (takes_due (with_task c r.task)) (in_hand c)))
 
 -- `detach`, once an output was dropped
-abbrev pub detaches : Cell → List Event → Left
+abbrev pub detaches : AbstractCell → List Event → SegmentEnd
 detaches c told = let r = detaches_at c.task.phase c.task in hands_over c r r.queue told (Ends Nothing) (empties (with_task c r.task) told Nothing)
 
 -- a poll of the Task answers
 abbrev pub answer_events : ℕ → PollAnswer → List Event
-answer_events i HasOutput = PollEnds i HasOutput ∷ OutputTaken ∷ []
-answer_events i answer = PollEnds i answer ∷ []
+answer_events i HasOutput = TaskPollEnds i HasOutput ∷ OutputTaken ∷ []
+answer_events i answer = TaskPollEnds i answer ∷ []
 
-abbrev pub answers : Cell → List Event → ℕ → PollAnswer → Left
+abbrev pub answers : AbstractCell → List Event → ℕ → PollAnswer → SegmentEnd
 answers c told i answer = record { cell = c; told = answer_events i answer ++ told; frame = None }
 
 -- .. where an awaiter was stored, `will_wake` is asked first
-abbrev pub asks : Cell → ℕ → PollAnswer → Option ℕ → Left
+abbrev pub asks : AbstractCell → ℕ → PollAnswer → Option ℕ → SegmentEnd
 asks c i answer (Some j) = stops c [] (Asks i answer j)
 asks c i answer None = answers c [] i answer
 
 -- a poll of a task that is done
-abbrev pub reads : Cell → ℕ → Left
+abbrev pub reads : AbstractCell → ℕ → SegmentEnd
 reads c i =
-    asks (with_task c (record ((gives_output c.task).task) { awaiter = NoAwaiter })) i (if c.task.closed then IsReady else HasOutput) (stored c.task.awaiter)
+    asks (with_task c (record ((gives_output c.task).task) { awaiter = NoAwaiter })) i (if c.task.closed then IsClosed else HasOutput) (stored c.task.awaiter)
 
 -- a poll that has registered looks again
-abbrev pub looks : Cell → ℕ → Left
+abbrev pub looks : AbstractCell → ℕ → SegmentEnd
 looks c i = if is_done c.task.phase then reads c i else answers c [] i IsPending
 
 -- the clone is stored, and an older awaiter dropped
-abbrev pub stores : Cell → ℕ → Option ℕ → Left
+abbrev pub stores : AbstractCell → ℕ → Option ℕ → SegmentEnd
 stores c i (Some old) = stops (record c { storing = true }) (CloneEnded old ∷ []) (Stores i)
 stores c i None = looks c i
 
@@ -158,11 +158,11 @@ is_again (Some woken) = woken
 is_again None = false
 
 -- a run that answered Pending ends
-abbrev pub settles : Cell → PlainEffect → Left
+abbrev pub settles : AbstractCell → PlainEffect → SegmentEnd
 settles c r = hands_over c r r.queue [] (Ends (Ran (is_again r.queue))) (ends (record c { task = r.task; held = false }) [] (Ran false))
 
 -- a call begins
-abbrev pub begin : ℕ → Cell → Call → Left
+abbrev pub begin : ℕ → AbstractCell → Call → SegmentEnd
 begin limit c Run = if c.task.closed then stops c (FutureDropped ∷ []) RunDropped else stops (with_task c (polls c.task)) [] InPoll
 begin limit c DropRunnable = stops (with_task c (record (c.task) { closed = true })) (FutureDropped ∷ []) DropDropped
 begin limit c Schedule = stops c (HandedOver false ∷ []) (Ends Nothing)
@@ -178,16 +178,16 @@ begin limit c IsFinished = ends c [] (Finished (finished c.task))
 begin limit c (Poll i) = if is_done c.task.phase then reads c i else stops c [] (Clones i)
 
 -- the drop of a Runnable wakes before it gives up
-abbrev pub wakes_first : Cell → Option ℕ → Left
+abbrev pub wakes_first : AbstractCell → Option ℕ → SegmentEnd
 wakes_first c (Some i) = stops c (woken i []) (GivesUp Nothing)
 wakes_first c None = gives_up c None [] Nothing
 
 -- a call goes on, by what the foreign code answered: Ready, a clone, or that the wake is wanted
-abbrev pub go : Cell → Frame → Bool → Left
+abbrev pub go : AbstractCell → Frame → Bool → SegmentEnd
 go c InPoll true = stops c (FutureDropped ∷ []) ReadyDropped
 go c InPoll false = if c.task.closed then stops c (FutureDropped ∷ []) PendingDropped else settles c (settles_pending tt c.task)
 go c RunDropped _ = takes_and_gives_up (with_task c (dropped_unpolled c.task).task) []
-go c DropDropped _ = let d = with_task c (dropped_unpolled c.task).task in wakes_first (after_taking d) (in_hand d)
+go c DropDropped _ = let d = with_task c (dropped_unpolled c.task).task in wakes_first (takes_due d) (in_hand d)
 go c ReadyDropped _ =
     let r = settles_ready tt c.task in
     if c.task.has_task && not c.task.closed then takes_and_gives_up (with_task c r.task) []
@@ -196,7 +196,7 @@ go c PendingDropped _ = takes_and_gives_up (with_task c (record (c.task) { phase
 go c Takes _ = takes_and_gives_up c []
 go c Detaches _ = detaches c []
 go c (GivesUp answer) _ = gives_up c None [] answer
-go c TakesOfCancel _ = cancel_takes (after_taking c) (in_hand c)
+go c TakesOfCancel _ = cancel_takes (takes_due c) (in_hand c)
 go c (Ends answer) _ = ends c [] answer
 go c (Clones i) false = answers c [] i IsRefused
 go c (Clones i) true = stores (with_task c (record (c.task) { awaiter = Due i })) i (stored c.task.awaiter)
@@ -213,7 +213,7 @@ pub data Move : Type 0 where
   Go : Bool → Move
 
 pub record Abstract : Type 0 where
-  pub cell : Cell
+  pub cell : AbstractCell
   pub frames : List Frame
   pub told : List Event
 
@@ -222,19 +222,19 @@ abbrev pub put : Option Frame → List Frame → List Frame
 put (Some f) frames = f ∷ frames
 put None frames = frames
 
-abbrev pub follow : Left → List Frame → List Event → Abstract
+abbrev pub follow : SegmentEnd → List Frame → List Event → Abstract
 follow l frames told = record { cell = l.cell; frames = put l.frame frames; told = l.told ++ told }
 
-abbrev pub goes_on : Cell → List Frame → List Event → Bool → Option Abstract
-goes_on c [] told answer = None
-goes_on c (f ∷ frames) told answer = Some (follow (go c f answer) frames told)
+abbrev pub continues : AbstractCell → List Frame → List Event → Bool → Option Abstract
+continues c [] told answer = None
+continues c (f ∷ frames) told answer = Some (follow (go c f answer) frames told)
 
 abbrev pub moved : ℕ → Abstract → Move → Option Abstract
 moved limit a (Begin call) = Some (follow (begin limit a.cell call) a.frames a.told)
-moved limit a (Go answer) = goes_on a.cell a.frames a.told answer
+moved limit a (Go answer) = continues a.cell a.frames a.told answer
 
 -- the cell after a spawn
-abbrev pub opening_cell : Cell
+abbrev pub opening_cell : AbstractCell
 opening_cell = record {
   task = opening_task tt;
   held = true;

@@ -3,10 +3,10 @@ use Rattle.std.specs.Prelude.{◌≡◌, ℕ, Bool, true, false, not, ◌&&◌, 
 use Rattle.task_core.specs.declared.traits.Poll.TheVariants.{Pending, Ready}
 use Rattle.task_core.specs.declared.traits.TaskPoll.{TaskPoll}
 use Rattle.task_core.specs.declared.traits.TaskPoll.TheVariants as answer
-use Rattle.task_laws.specs.Event.{IsPending, IsReady, HasOutput, IsRefused, PollAnswer, Ran, Gained, Finished, Event, FutureDropped, OutputDropped, HandedOver, Empties, CallEnds}
+use Rattle.task_laws.specs.Event.{IsPending, IsClosed, HasOutput, IsRefused, PollAnswer, Ran, Gained, Finished, Event, FutureDropped, OutputDropped, HandedOver, Empties, CallEnds}
 use Rattle.task_core.specs.Local.{Queued, holds_reference, is_done, finished}
 use Rattle.task_core.specs.Local
-use Rattle.task_laws.specs.Abstract.{PlainTask, PlainEffect, Cell, Call, InPoll, Left, ended, woken, is_again, answer_events, begin, go}
+use Rattle.task_laws.specs.Abstract.{PlainTask, PlainEffect, AbstractCell, Call, InPoll, SegmentEnd, ended, woken, is_again, answer_events, begin, go}
 use Rattle.task_laws.specs.Abstract
 use Rattle.task_laws.specs.Whole.{one_if}
 use Rattle.task_laws.specs.WholeCalls.{alone}
@@ -16,7 +16,7 @@ abbrev pub PlainAnswered : Type 0
 PlainAnswered = Local.Answered (Unit {0}) (Unit {0}) ℕ
 
 -- the task, as a cell at which no call is open
-abbrev pub cell_of : PlainTask → Cell
+abbrev pub cell_of : PlainTask → AbstractCell
 cell_of t = record { task = t; held = holds_reference t.phase; storing = false; owed = false }
 
 -- what is handed out, as events: each function adds to what was told before
@@ -57,14 +57,14 @@ abbrev pub in_order : Answers → List Bool
 in_order a = a.first ∷ (a.second ∷ (a.third ∷ (a.fourth ∷ [])))
 
 -- a call that is made alone, and one call after another
-abbrev pub made_alone : ℕ → PlainTask → Call → Answers → Left
+abbrev pub made_alone : ℕ → PlainTask → Call → Answers → SegmentEnd
 made_alone limit t call a = alone (begin limit (cell_of t) call) (in_order a)
 
-abbrev pub after_another : ℕ → Left → Call → Answers → Left
+abbrev pub after_another : ℕ → SegmentEnd → Call → Answers → SegmentEnd
 after_another limit l call a = let next = alone (begin limit l.cell call) (in_order a) in record next { told = next.told ++ l.told }
 
 -- the call has ended with this task, and this was told of it
-abbrev pub leaves : PlainTask → List Event → Left
+abbrev pub leaves : PlainTask → List Event → SegmentEnd
 leaves t told = record { cell = cell_of t; told = told; frame = None }
 
 -- the poll of number i: where the task is done the caller's awaiter may be compared, else it is cloned or refused
@@ -74,9 +74,9 @@ polled wanted i t = if is_done t.phase then Local.claims (not wanted) t else Loc
 -- what a row answers, as the trace tells it
 abbrev pub told_answer : TaskPoll (Option (Unit {0})) → PollAnswer
 told_answer (answer.Ready (Some output)) = HasOutput
-told_answer (answer.Ready None) = IsReady
+told_answer (answer.Ready None) = IsClosed
 told_answer answer.Pending = IsPending
-told_answer answer.NoMemory = IsRefused
+told_answer answer.Refused = IsRefused
 
 abbrev pub tells_poll : ℕ → PlainAnswered → List Event
 tells_poll i r = answer_events i (told_answer r.answer) ++ tells r.effect

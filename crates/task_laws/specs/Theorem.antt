@@ -1,28 +1,28 @@
 -- What holds of the machine after every list of steps that it allows.
 use Rattle.std.specs.Prelude.{◌≡◌, ◌≢◌, ℕ, ◌+◌, ◌≤◌, Bool, true, false, List, Some, None}
-use Rattle.task_laws.specs.Position.{Runnable, Waker, OfClaim, Position, At, Leaving, Deliverer, Starting, Polling, Pending, Ready, Unstored, Stored, Cleared, FutureInHand, FutureGone, OutputInHand, GivingUp, Emptier, Notifier, Taker, Releaser, AwaiterInHand, Storing, Registered, TookBack, Claimer, OldAwaiterInHand, OutputCloser, OfRun, OfDrop, Act}
+use Rattle.task_laws.specs.Position.{Runnable, Waker, OfClaim, Position, At, CallEnding, Deliverer, Starting, Polling, Pending, Ready, ReadyFutureDropped, OutputStored, PendingFutureDropped, FutureInHand, FutureGone, OutputInHand, GivingUp, Emptier, Notifier, Taker, Releaser, AwaiterInHand, Storing, Registered, TookBack, TookOutput, OldAwaiterInHand, OutputCloser, OfRun, OfDrop, Act}
 use Rattle.task_laws.specs.Table.{Scene, Outcome, rule}
 use Rattle.task_laws.specs.Machine.{Machine, Step, run, how_many}
-use Rattle.task_laws.specs.Laws.{OnePoller, EachEndsOnce, IsOver, AllEnded, NoWakeLost, NoAwaiterLost, MakingsCounted}
+use Rattle.task_laws.specs.Laws.{OnePoller, EachEndsOnce, NobodyIsLeft, AllEnded, NoWakeLost, NoAwaiterLost, MakingsCounted}
 
 -- a waker, which holds a reference
 abbrev pub is_waker : Position → Bool
 is_waker (At Waker) = true
-is_waker (Leaving answer Waker) = true
+is_waker (CallEnding answer Waker) = true
 is_waker _ = false
 
 -- a Runnable, a run, or the rest of a closing call, which holds one
 abbrev pub is_runner : Position → Bool
 is_runner (At Runnable) = true
-is_runner (Leaving answer Runnable) = true
+is_runner (CallEnding answer Runnable) = true
 is_runner (Deliverer woken next) = true
 is_runner Starting = true
 is_runner Polling = true
 is_runner Pending = true
 is_runner Ready = true
-is_runner Unstored = true
-is_runner Stored = true
-is_runner Cleared = true
+is_runner ReadyFutureDropped = true
+is_runner OutputStored = true
+is_runner PendingFutureDropped = true
 is_runner (FutureInHand closer) = true
 is_runner (FutureGone closer) = true
 is_runner (OutputInHand due) = true
@@ -46,15 +46,15 @@ owns_future (FutureInHand closer) = true
 owns_future _ = false
 
 abbrev pub owns_output : Position → Bool
-owns_output Unstored = true
-owns_output Stored = true
+owns_output ReadyFutureDropped = true
+owns_output OutputStored = true
 owns_output (OutputInHand due) = true
 owns_output OutputCloser = true
 owns_output (Notifier (OfClaim n)) = true
 owns_output (Taker (OfClaim n)) = true
 owns_output (Releaser hand (OfClaim n)) = true
 owns_output (AwaiterInHand i (OfClaim n)) = true
-owns_output (Claimer n) = true
+owns_output (TookOutput n) = true
 owns_output _ = false
 
 abbrev pub owns_awaiter : Position → Bool
@@ -71,7 +71,7 @@ pub record Laws (m : Machine) : Type 0 where
   -- of what happened
   pub one_poller : OnePoller m.trace
   pub ends : EachEndsOnce m.trace
-  pub all_ended : IsOver m.trace → AllEnded m.trace
+  pub all_ended : NobodyIsLeft m.trace → AllEnded m.trace
   pub wakes : NoWakeLost m.trace
   pub awaiters : NoAwaiterLost m.trace
   pub makings : MakingsCounted m.trace
@@ -82,7 +82,7 @@ pub record Laws (m : Machine) : Type 0 where
   pub future : how_many owns_future m.parties ≤ 1
   pub output : how_many owns_output m.parties ≤ 1
   pub awaiter : how_many owns_awaiter m.parties ≤ 1
-  pub empty : IsOver m.trace → m.slots ≡ record { future = false; output = false; awaiter = None }
+  pub empty : NobodyIsLeft m.trace → m.slots ≡ record { future = false; output = false; awaiter = None }
 
 -- for every limit and every list of steps that is allowed
 abbrev pub LawsHold : Type 0

@@ -1,13 +1,13 @@
 -- Whole runs of the machine, and the abstract task that stands where they are cut.
 use Rattle.std.specs.Prelude.{◌≡◌, ℕ, ◌+◌, Bool, true, false, not, ◌&&◌, ◌||◌, nat_eq, nat_lt, if◌then◌else◌, List, [], ◌∷◌, Option, Some, None, slice_get, length}
 use Rattle.task_core.specs.Word.{State}
-use Rattle.task_laws.specs.Event.{IsReady, HasOutput, Nothing, Event, FutureDropped, OutputTaken, OutputDropped, HandedOver, Empties, PollEnds, Woken, CloneEnded, CallEnds}
-use Rattle.task_laws.specs.Position.{Rest, Runnable, Lent, Task, ClosedRun, DroppedRunnable, OfCancel, OfPoll, OfClaim, Position, At, Leaving, Deliverer, Starting, Polling, Pending, Ready, Unstored, Stored, Cleared, FutureInHand, FutureGone, GivingUp, Notifier, AwaiterInHand, Registrar, Registered, Looking, Claimer, Answering, Detacher, Act, GainReference, FindLimit, DropWaker, DropLastWaker, OrphanTask, WakeOver, WakeScheduled, WakeRunning, WakeIdle, DiscardOpen, DiscardClosed, CancelOver, CancelBusy, CancelIdle, GiveUpOutput, DetachOrphan, DetachLast, Detach, TakeUpClosed, StartRun, LookFinished, StartPoll, AnswerReady, DropFuture, DropOutput, CloneAwaiter, WakeAwaiter, DropAwaiter, HandOver, RefuseGain}
+use Rattle.task_laws.specs.Event.{IsClosed, HasOutput, Nothing, Event, FutureDropped, OutputTaken, OutputDropped, HandedOver, Empties, TaskPollEnds, Woken, CloneEnded, CallEnds}
+use Rattle.task_laws.specs.Position.{Rest, Runnable, Lent, Task, ClosedRun, DroppedRunnable, OfCancel, OfPoll, OfClaim, Position, At, CallEnding, Deliverer, Starting, Polling, Pending, Ready, ReadyFutureDropped, OutputStored, PendingFutureDropped, FutureInHand, FutureGone, GivingUp, Notifier, AwaiterInHand, Registrar, Registered, Looking, TookOutput, Answering, Detacher, Act, GainReference, FindLimit, DropWaker, DropLastWaker, OrphanTask, WakeOver, WakeScheduled, WakeRunning, WakeIdle, DiscardOpen, DiscardClosed, CancelOver, CancelBusy, CancelIdle, GiveUpOutput, DetachOrphan, DetachLast, Detach, TakeUpClosed, StartRun, LookFinished, StartPoll, AnswerReady, DropFuture, DropOutput, CloneAwaiter, WakeAwaiter, DropAwaiter, HandOver, RefuseGain}
 use Rattle.task_laws.specs.Machine.{Machine, Step, opening, step, how_many}
-use Rattle.task_laws.specs.Laws.{count, is_closing, is_future_drop, is_loss_of_task, woken_since_taking_up}
+use Rattle.task_laws.specs.Laws.{count, is_closing, is_future_drop, is_task_given_up, woken_since_taking_up}
 use Rattle.task_laws.specs.Theorem.{is_waker, is_runner}
 use Rattle.task_core.specs.Local.{Phase, Idle, Queued, Polled, PolledAndWoken, Done, Awaiter, NoAwaiter, Due, Forgotten}
-use Rattle.task_laws.specs.Abstract.{Call, Cell, Frame, InPoll, RunDropped, DropDropped, ReadyDropped, PendingDropped, Takes, Detaches, GivesUp, TakesOfCancel, Ends, Clones, Stores, Looks, Asks, Answers, Move, Begin, Go, Abstract, all_moved}
+use Rattle.task_laws.specs.Abstract.{Call, AbstractCell, Frame, InPoll, RunDropped, DropDropped, ReadyDropped, PendingDropped, Takes, Detaches, GivesUp, TakesOfCancel, Ends, Clones, Stores, Looks, Asks, Answers, Move, Begin, Go, Abstract, all_moved}
 use Rattle.task_laws.specs.Abstract
 
 -- A run is cut after the acts in which foreign code runs ..
@@ -138,7 +138,7 @@ whole limit steps = whole_from (Some (record { machine = opening limit; stack = 
 -- a Runnable exists, or was taken up without a poll, and its end step is to come
 abbrev pub is_queued : Position → Bool
 is_queued (At Runnable) = true
-is_queued (Leaving answer Runnable) = true
+is_queued (CallEnding answer Runnable) = true
 is_queued (Deliverer woken next) = true
 is_queued (FutureInHand closer) = true
 is_queued (FutureGone closer) = true
@@ -150,9 +150,9 @@ is_polling Starting = true
 is_polling Polling = true
 is_polling Pending = true
 is_polling Ready = true
-is_polling Unstored = true
-is_polling Stored = true
-is_polling Cleared = true
+is_polling ReadyFutureDropped = true
+is_polling OutputStored = true
+is_polling PendingFutureDropped = true
 is_polling _ = false
 
 -- a wake was accepted since the taking up, or it was not; else the future was dropped, or stands at home
@@ -177,12 +177,12 @@ awaiter_of w None = NoAwaiter
 awaiter_of w (Some i) = if w.awaiter || w.registering then Due i else Forgotten i
 
 -- The output is the one in its slot, unless the task is closed: then it is about to be handed out or dropped. The future goes by the phase, not by its slot: a poll leaves it there, and where it is dropped unpolled the slot is empty while the abstract row is still to come.
-abbrev pub reading : Machine → Cell
+abbrev pub reading : Machine → AbstractCell
 reading m = record {
   task = record {
     phase = phase_of m.parties m.trace;
     closed = nat_lt 0 (count is_closing m.trace);
-    has_task = nat_eq (count is_loss_of_task m.trace) 0;
+    has_task = nat_eq (count is_task_given_up m.trace) 0;
     wakers = how_many is_waker m.parties;
     future = one_if (is_home (phase_of m.parties m.trace));
     output = one_if (m.slots.output && not m.word.closed);
@@ -198,19 +198,19 @@ abbrev pub frame_of : Position → Frame
 frame_of Polling = InPoll
 frame_of (FutureGone ClosedRun) = RunDropped
 frame_of (FutureGone DroppedRunnable) = DropDropped
-frame_of Unstored = ReadyDropped
-frame_of Cleared = PendingDropped
+frame_of ReadyFutureDropped = ReadyDropped
+frame_of PendingFutureDropped = PendingDropped
 frame_of (Notifier (OfCancel n)) = TakesOfCancel
 frame_of (Notifier way) = Takes
 frame_of Detacher = Detaches
 frame_of (GivingUp hand answer) = GivesUp answer
-frame_of (Leaving answer rest) = Ends answer
+frame_of (CallEnding answer rest) = Ends answer
 frame_of (Registrar i) = Clones i
 frame_of (Registered i) = Stores i
 frame_of (Looking i) = Looks i
-frame_of (AwaiterInHand j (OfPoll i)) = Asks i IsReady j
+frame_of (AwaiterInHand j (OfPoll i)) = Asks i IsClosed j
 frame_of (AwaiterInHand j (OfClaim i)) = Asks i HasOutput j
-frame_of (Claimer i) = Answers i HasOutput
+frame_of (TookOutput i) = Answers i HasOutput
 frame_of (Answering i answer) = Answers i answer
 frame_of p = InPoll
 
@@ -229,7 +229,7 @@ is_seen OutputTaken = true
 is_seen OutputDropped = true
 is_seen (HandedOver woken) = true
 is_seen Empties = true
-is_seen (PollEnds i answer) = true
+is_seen (TaskPollEnds i answer) = true
 is_seen (Woken i) = true
 is_seen (CloneEnded i) = true
 is_seen (CallEnds Nothing) = false

@@ -1,16 +1,16 @@
 -- A call that is made whole, with no call inside.
 use Rattle.std.specs.Prelude.{◌≡◌, ℕ, ◌⊎◌, Bool, true, false, ◌&&◌, List, [], ◌∷◌, ◌++◌, Option, Some, None}
 use Rattle.task_laws.specs.Machine.{Step}
-use Rattle.task_laws.specs.Abstract.{Call, Frame, Left, begin, go, follow, Move, Begin, Go}
+use Rattle.task_laws.specs.Abstract.{Call, Frame, SegmentEnd, begin, go, follow, Move, Begin, Go}
 use Rattle.task_laws.specs.Whole.{Whole, whole, whole_from, reading, read}
 
 -- the call goes on to the next mark, or has ended
-abbrev pub to_next : Left → Option Frame → Bool → Left
+abbrev pub to_next : SegmentEnd → Option Frame → Bool → SegmentEnd
 to_next l None answer = l
 to_next l (Some f) answer = let next = go l.cell f answer in record next { told = next.told ++ l.told }
 
 -- .. with an answer of foreign code at each mark
-abbrev pub alone : Left → List Bool → Left
+abbrev pub alone : SegmentEnd → List Bool → SegmentEnd
 alone l [] = l
 alone l (answer ∷ answers) = alone (to_next l l.frame answer) answers
 
@@ -23,7 +23,7 @@ abbrev pub is_some : Option Frame → Bool
 is_some (Some f) = true
 is_some None = false
 
-abbrev pub takes_all : Left → List Bool → Bool
+abbrev pub takes_all : SegmentEnd → List Bool → Bool
 takes_all l [] = true
 takes_all l (answer ∷ answers) = is_some l.frame && takes_all (to_next l l.frame answer) answers
 

@@ -6,7 +6,7 @@ pub enum PollAnswer {
     /// The task is not over, or its future is still held by a Runnable.
     IsPending,
     /// The task is closed, and has no output.
-    IsReady,
+    IsClosed,
     /// The task is completed, and its output is handed out.
     HasOutput,
     /// The awaiter's clone was refused.
@@ -43,7 +43,7 @@ pub enum Rest {
 
 /// Who took the future over without a poll.
 #[derive(Clone, Copy, Debug, PartialEq, Eq)]
-pub enum Closer {
+pub enum WithoutPoll {
     /// A run of a task that was closed before it was taken up.
     ClosedRun,
     /// A Runnable that is dropped.
@@ -52,7 +52,7 @@ pub enum Closer {
 
 /// In which call an awaiter is taken.
 #[derive(Clone, Copy, Debug, PartialEq, Eq)]
-pub enum Way {
+pub enum NotifyingCall {
     /// In a run.
     OfRun,
     /// In the drop of a Runnable.
@@ -67,7 +67,7 @@ pub enum Way {
 
 /// What a deliverer does when it has handed the Runnable over.
 #[derive(Clone, Copy, Debug, PartialEq, Eq)]
-pub enum After {
+pub enum OnceDelivered {
     /// Its call ends with this answer, and the party with it.
     ThenEnds(Answer),
     /// Its call ends, and the party is the Task that has begun so many polls.
@@ -82,9 +82,9 @@ pub enum Position {
     /// Between two calls.
     At(Rest),
     /// The call is about to end with this answer.
-    Leaving(Answer, Rest),
+    CallEnding(Answer, Rest),
     /// About to hand a Runnable over, with `woken_while_running` as told.
-    Deliverer(bool, After),
+    Deliverer(bool, OnceDelivered),
     /// A run that has started, before its poll.
     Starting,
     /// A run that polls the future.
@@ -94,15 +94,15 @@ pub enum Position {
     /// A run whose poll answered Ready.
     Ready,
     /// .. which has dropped the future,
-    Unstored,
+    ReadyFutureDropped,
     /// .. and has stored the output.
-    Stored,
+    OutputStored,
     /// A run whose poll answered Pending, and which has dropped the future of a closed task.
-    Cleared,
+    PendingFutureDropped,
     /// The future is in hand, to be dropped.
-    FutureInHand(Closer),
+    FutureInHand(WithoutPoll),
     /// The future was dropped.
-    FutureGone(Closer),
+    FutureGone(WithoutPoll),
     /// A run after its end step, with the output to be dropped; whether an awaiter is to be taken then.
     OutputInHand(bool),
     /// About to give the reference up, with the awaiter that was taken.
@@ -110,13 +110,13 @@ pub enum Position {
     /// The last party, about to empty the slots.
     Emptier(Option<u64>, Answer),
     /// An awaiter is to be taken.
-    Notifier(Way),
+    Notifier(NotifyingCall),
     /// The awaiter slot is owned, to be emptied.
-    Taker(Way),
+    Taker(NotifyingCall),
     /// The awaiter slot was emptied, and is to be released.
-    Releaser(Option<u64>, Way),
+    Releaser(Option<u64>, NotifyingCall),
     /// The awaiter that was taken is in hand, to be woken or dropped.
-    AwaiterInHand(u64, Way),
+    AwaiterInHand(u64, NotifyingCall),
     /// The last waker of a detached open task has given its reference up.
     OrphanHolder,
     /// A poll that is to clone the caller's awaiter.
@@ -124,7 +124,7 @@ pub enum Position {
     /// A poll with the clone in hand.
     HasClone(u64),
     /// A poll that found a notifier and has woken the caller, with the clone to be dropped.
-    RefusedClone(u64),
+    UnusedClone(u64),
     /// A poll that owns the awaiter slot.
     Storing(u64),
     /// A poll that has stored its clone.
@@ -136,9 +136,9 @@ pub enum Position {
     /// A poll that has registered, and is to look at the word again.
     Looking(u64),
     /// A poll that found the task completed and open.
-    Claiming(u64),
+    SawOutput(u64),
     /// A poll that has the output.
-    Claimer(u64),
+    TookOutput(u64),
     /// A poll that has stored its clone, with the awaiter of an older poll in hand.
     OldAwaiterInHand(u64, u64),
     /// A poll that is about to answer.

@@ -3,14 +3,14 @@ use Rattle.std.proofs.Common.{◌≡◌, ℕ, ◌+◌, ◌≤◌, ◌⊎◌, zer
 use Rattle.std.specs.Prelude.{slice_get, slice_set}
 use Rattle.std.proofs.lemmas.Bool.Decides.{nat_tests}
 use Rattle.task_core.specs.Word.{State, bit, is_open}
-use Rattle.task_laws.specs.Event.{Started, TakenUp, CallBegins}
+use Rattle.task_laws.specs.Event.{FuturePollBegins, TakenUp, CallBegins}
 use Rattle.task_laws.specs.declared.positions.Rest.TheVariants.{Runnable}
 use Rattle.task_laws.specs.declared.positions.Position.{Position}
 use Rattle.task_laws.specs.declared.positions.Position.TheVariants.{At, Starting, Polling}
-use Rattle.task_core.specs.declared.moves.Act.TheVariants.{StartRun, StartPoll}
+use Rattle.task_core.specs.declared.acts.Act.TheVariants.{StartRun, StartPoll}
 use Rattle.task_laws.specs.Table.{Outcome, when}
 use Rattle.task_laws.specs.Machine.{Machine, after, moves, step, run_from, how_many}
-use Rattle.task_laws.specs.Laws.{count, no_call_is_left, is_future_drop, is_output_end, is_ready, is_emptying, is_completion, is_loss_of_task, wake_is_due}
+use Rattle.task_laws.specs.Laws.{count, no_call_is_left, is_future_drop, is_output_end, is_future_ready, is_emptying, is_completion, is_task_given_up, wake_is_due}
 use Rattle.task_laws.proofs.Census.{Census, weigh, census, runs, closers, calls}
 use Rattle.task_laws.proofs.Awaiting.{Awaiting, awaiting, fits}
 use Rattle.task_laws.proofs.Runs.{Invariant, Stays, always}
@@ -110,8 +110,8 @@ is_at_rest m h none_in_progress none =
       no_wake_due = not_due m.word (wake_is_due m.trace) h.holds.due scheduled;
       waits = λ opened. subst (λ (n : ℕ). (1 ≤ n) ⊎ (m.word.task ≡ true)) (sym (wakers m.parties)) (kept m.word c (count is_emptying m.trace) idle queued h.holds.references h.holds.emptied h.holds.emptied_closed opened);
       future = gone;
-      output = λ over. output_gone m.word (bit m.slots.output) c (count is_output_end m.trace) (count is_ready m.trace) idle h.holds.output h.holds.outputs h.holds.kept;
-      awaiter = λ over task i pending. (laws_of m h).awaiters.woken i left (task_there m.word c (count is_loss_of_task m.trace) h.holds.task h.holds.task_left task) pending (dropped_some (count is_completion m.trace) (count is_future_drop m.trace) (gone over));
+      output = λ over. output_gone m.word (bit m.slots.output) c (count is_output_end m.trace) (count is_future_ready m.trace) idle h.holds.output h.holds.outputs h.holds.kept;
+      awaiter = λ over task i pending. (laws_of m h).awaiters.woken i left (task_there m.word c (count is_task_given_up m.trace) h.holds.task h.holds.task_left task) pending (dropped_some (count is_completion m.trace) (count is_future_drop m.trace) (gone over));
     }
 
 pub without_work_at_rest : WithoutWorkAtRest
@@ -147,7 +147,7 @@ polls_next m i e opened =
     let m1 : Machine = record { limit = m.limit; word = o.word; slots = m.slots; parties = slice_set m.parties i Starting ++ []; trace = TakenUp ∷ CallBegins ∷ m.trace } in
     let one : step m (record { party = i; act = StartRun }) ≡ Some m1 = ap (moves m i StartRun) e ∙ ap (λ b. after m i (At Runnable) (when (not b) o)) opened in
     let there : slice_get m1.parties i ≡ Some Starting = get_put m.parties i (At Runnable) Starting [] e in
-    let m2 : Machine = record { limit = m.limit; word = m1.word; slots = m1.slots; parties = slice_set m1.parties i Polling ++ []; trace = Started ∷ TakenUp ∷ CallBegins ∷ m.trace } in
+    let m2 : Machine = record { limit = m.limit; word = m1.word; slots = m1.slots; parties = slice_set m1.parties i Polling ++ []; trace = FuturePollBegins ∷ TakenUp ∷ CallBegins ∷ m.trace } in
     let two : step m1 (record { party = i; act = StartPoll }) ≡ Some m2 = ap (moves m1 i StartPoll) there in
     record {
       party = i;

@@ -5,7 +5,7 @@ use Rattle.std.proofs.lemmas.Bool.Decides.{nat_tests}
 use Rattle.task_core.specs.Word.{State, bit, number_of}
 use Rattle.task_core.specs.Rows.{written}
 use Rattle.task_laws.specs.declared.positions.Position.{Position}
-use Rattle.task_core.specs.declared.moves.Act.{Act}
+use Rattle.task_core.specs.declared.acts.Act.{Act}
 use Rattle.task_laws.specs.Table.{Outcome, rule}
 use Rattle.task_laws.specs.Machine.{Machine, Step, scene, after, moves, step, run_from}
 use Rattle.task_progress.specs.StepsLeft.{writes_word, writes_in}

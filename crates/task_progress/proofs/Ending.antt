@@ -4,10 +4,10 @@ use Rattle.std.specs.Prelude.{is_some, slice_get, slice_set}
 use Rattle.task_laws.specs.declared.positions.Rest.{Rest}
 use Rattle.task_laws.specs.declared.positions.Position.{Position}
 use Rattle.task_laws.specs.declared.positions.Position.TheVariants.{At}
-use Rattle.task_core.specs.declared.moves.Act.{Act}
+use Rattle.task_core.specs.declared.acts.Act.{Act}
 use Rattle.task_laws.specs.Table.{Outcome, rule}
 use Rattle.task_laws.specs.Machine.{Machine, scene, begins, after, moves, step, run_from}
-use Rattle.task_laws.specs.Laws.{count, is_call}
+use Rattle.task_laws.specs.Laws.{count, is_call_begun}
 use Rattle.task_progress.specs.StepsLeft.{total, in_call, steps_left}
 use Rattle.task_progress.specs.Waiting.{next_act}
 use Rattle.task_progress.specs.Ending.{alone, EndsCall, EachEndsAlone, NoCallInProgress, CallsEnd, AllCallsEnd, HasStep, NeverStuck}
@@ -38,7 +38,7 @@ pub record Moved (m : Machine) (i : ℕ) (p : Position) (now : Machine) : Type 0
   pub at : slice_get now.parties i ≡ Some next
   pub nearer : steps_left next + 1 ≤ steps_left p
   pub all_nearer : total steps_left now.parties + 1 ≤ total steps_left m.parties
-  pub begun : count is_call now.trace ≡ count is_call m.trace
+  pub begun : count is_call_begun now.trace ≡ count is_call_begun m.trace
 
 abbrev MovedTo : Machine → ℕ → Position → Option Machine → Type 0
 MovedTo m i p None = Unit {0}
@@ -57,7 +57,7 @@ after_moved m i act p (Some o) e busy near =
       at = get_put m.parties i p o.next o.born e;
       nearer = omega (arith, near.steps, none);
       all_nearer = omega (arith, near.steps, none, total_put steps_left m.parties i p o.next o.born e);
-      begun = omega (arith, none, told is_call o.told (begins p) m.trace);
+      begun = omega (arith, none, told is_call_begun o.told (begins p) m.trace);
     }
 
 moves_moved : (m : Machine) (i : ℕ) (act : Act) (at : Option Position) (p : Position) → slice_get m.parties i ≡ at → at ≡ Some p → in_call p ≡ 1

@@ -4,7 +4,7 @@ use Rattle.task_core.specs.Word.{State, is_open}
 use Rattle.task_core.specs.Rows.{found, written}
 use Rattle.task_laws.specs.Event.{Event}
 use Rattle.task_laws.specs.declared.positions.Position.{Position}
-use Rattle.task_core.specs.declared.moves.Act.{Act}
+use Rattle.task_core.specs.declared.acts.Act.{Act}
 use Rattle.task_laws.specs.Table.{Scene, Outcome, where_found, rule, goes}
 use Rattle.task_laws.specs.Laws.{wake_is_due}
 use Rattle.task_laws.proofs.Census.{Census, plus, weigh}

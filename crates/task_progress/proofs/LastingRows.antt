@@ -1,13 +1,13 @@
 -- No row takes back what lasts: a clause for a row, in the table's order.
 use Rattle.std.proofs.Common.{Some, None, refl}
 use Rattle.task_laws.specs.declared.positions.Rest.TheVariants.{Runnable, Waker, Lent, Task}
-use Rattle.task_laws.specs.declared.positions.Closer.TheVariants.{ClosedRun, DroppedRunnable}
-use Rattle.task_laws.specs.declared.positions.Way.TheVariants.{OfRun}
-use Rattle.task_laws.specs.declared.positions.After.TheVariants.{ThenEnds}
+use Rattle.task_laws.specs.declared.positions.WithoutPoll.TheVariants.{ClosedRun, DroppedRunnable}
+use Rattle.task_laws.specs.declared.positions.NotifyingCall.TheVariants.{OfRun}
+use Rattle.task_laws.specs.declared.positions.OnceDelivered.TheVariants.{ThenEnds}
 use Rattle.task_laws.specs.declared.positions.Position.{Position}
-use Rattle.task_laws.specs.declared.positions.Position.TheVariants.{At, Leaving, Deliverer, Starting, Polling, Pending, Ready, Unstored, Stored, Cleared, FutureInHand, FutureGone, OutputInHand, GivingUp, Emptier, Notifier, Taker, Releaser, AwaiterInHand, OrphanHolder, Registrar, HasClone, RefusedClone, Storing, Registered, TookBack, CloneInHand, Looking, Claiming, Claimer, OldAwaiterInHand, Answering, OutputCloser, Detacher}
-use Rattle.task_core.specs.declared.moves.Act.{Act}
-use Rattle.task_core.specs.declared.moves.Act.TheVariants.{GainReference, FindLimit, DropWaker, DropLastWaker, OrphanTask, CloseOrphan, GiveUpReference, GiveUpLastReference, WakeOver, WakeScheduled, WakeRunning, WakeIdle, DiscardOpen, DiscardClosed, CancelOver, CancelBusy, CancelIdle, ClaimOutput, GiveUpOutput, DetachOrphan, DetachLast, Detach, TakeUpClosed, StartRun, Unschedule, Complete, CompleteDetached, EndClosed, Reschedule, EndIdle, EndOrphaned, BeginNotify, MissNotify, FindNotify, BeginRegister, EndNotify, EndRegister, EndRegisterNotified, Look, LookFinished, StartPoll, AnswerPending, AnswerReady, DropFuture, StoreOutput, DropOutput, HandOutOutput, CloneAwaiter, RefuseClone, StoreAwaiter, TakeAwaiter, WakeAwaiter, DropAwaiter, HandOver, EmptySlots, RefuseGain, EndCall}
+use Rattle.task_laws.specs.declared.positions.Position.TheVariants.{At, CallEnding, Deliverer, Starting, Polling, Pending, Ready, ReadyFutureDropped, OutputStored, PendingFutureDropped, FutureInHand, FutureGone, OutputInHand, GivingUp, Emptier, Notifier, Taker, Releaser, AwaiterInHand, OrphanHolder, Registrar, HasClone, UnusedClone, Storing, Registered, TookBack, CloneInHand, Looking, SawOutput, TookOutput, OldAwaiterInHand, Answering, OutputCloser, Detacher}
+use Rattle.task_core.specs.declared.acts.Act.{Act}
+use Rattle.task_core.specs.declared.acts.Act.TheVariants.{GainReference, FindLimit, DropWaker, DropLastWaker, OrphanTask, CloseOrphan, GiveUpReference, GiveUpLastReference, WakeOver, WakeScheduled, WakeRunning, WakeIdle, DiscardOpen, DiscardClosed, CancelOver, CancelBusy, CancelIdle, ClaimOutput, GiveUpOutput, DetachOrphan, DetachLast, Detach, TakeUpClosed, StartRun, Unschedule, Complete, CompleteDetached, EndClosed, Reschedule, EndIdle, EndOrphaned, BeginNotify, MissNotify, FindNotify, BeginRegister, EndNotify, EndRegister, EndRegisterNotified, Look, LookFinished, StartPoll, AnswerPending, AnswerReady, DropFuture, StoreOutput, DropOutput, HandOutOutput, CloneAwaiter, RefuseClone, StoreAwaiter, TakeAwaiter, WakeAwaiter, DropAwaiter, HandOver, EmptySlots, RefuseGain, EndCall}
 use Rattle.task_laws.proofs.Scenes.{rules, InEach, scheduled, running, completed, closed, awaiter, notifying, by_flag, by_slot}
 use Rattle.task_progress.proofs.Lasting.{KeepsLasting, no_lasting_row}
 
@@ -45,7 +45,7 @@ every_lasting_row CancelOver (At (Task n)) = grind rules
 every_lasting_row CancelBusy (At (Task n)) = by_flag awaiter (grind rules) (grind rules)
 every_lasting_row CancelIdle (At (Task n)) = by_flag closed (grind rules) (by_flag awaiter (grind rules) (grind rules))
 every_lasting_row ClaimOutput (At (Task n)) = by_flag awaiter (grind rules) (grind rules)
-every_lasting_row ClaimOutput (Claiming n) = by_flag awaiter (grind rules) (grind rules)
+every_lasting_row ClaimOutput (SawOutput n) = by_flag awaiter (grind rules) (grind rules)
 every_lasting_row GiveUpOutput (At (Task n)) = grind rules
 every_lasting_row DetachOrphan (At (Task n)) = grind rules
 every_lasting_row DetachLast (At (Task n)) = grind rules
@@ -57,9 +57,9 @@ every_lasting_row TakeUpClosed (At Runnable) = grind rules
 every_lasting_row StartRun (At Runnable) = grind rules
 every_lasting_row Unschedule (FutureGone ClosedRun) = by_flag awaiter (grind rules) (grind rules)
 every_lasting_row Unschedule (FutureGone DroppedRunnable) = by_flag awaiter (grind rules) (grind rules)
-every_lasting_row Complete Stored = by_flag awaiter (grind rules) (grind rules)
-every_lasting_row CompleteDetached Stored = by_flag closed (grind rules) (grind rules)
-every_lasting_row EndClosed Cleared = by_flag awaiter (grind rules) (grind rules)
+every_lasting_row Complete OutputStored = by_flag awaiter (grind rules) (grind rules)
+every_lasting_row CompleteDetached OutputStored = by_flag closed (grind rules) (grind rules)
+every_lasting_row EndClosed PendingFutureDropped = by_flag awaiter (grind rules) (grind rules)
 every_lasting_row Reschedule Pending = grind rules
 every_lasting_row EndIdle Pending = grind rules
 every_lasting_row EndOrphaned Pending = grind rules
@@ -92,10 +92,10 @@ every_lasting_row DropFuture Ready = grind rules
 every_lasting_row DropFuture Pending = by_flag closed (grind rules) (grind rules)
 every_lasting_row DropFuture (FutureInHand ClosedRun) = grind rules
 every_lasting_row DropFuture (FutureInHand closer) = grind rules
-every_lasting_row StoreOutput Unstored = grind rules
+every_lasting_row StoreOutput ReadyFutureDropped = grind rules
 every_lasting_row DropOutput (OutputInHand due) = grind rules
 every_lasting_row DropOutput OutputCloser = grind rules
-every_lasting_row HandOutOutput (Claimer i) = grind rules
+every_lasting_row HandOutOutput (TookOutput i) = grind rules
 every_lasting_row CloneAwaiter (Registrar i) = grind rules
 every_lasting_row RefuseClone (Registrar i) = grind rules
 every_lasting_row StoreAwaiter (Storing i) = by_slot (grind rules) (λ old. grind rules)
@@ -106,7 +106,7 @@ every_lasting_row WakeAwaiter (CloneInHand i) = grind rules
 every_lasting_row WakeAwaiter (AwaiterInHand i OfRun) = grind rules
 every_lasting_row WakeAwaiter (AwaiterInHand i way) = grind rules
 every_lasting_row DropAwaiter (OldAwaiterInHand i old) = grind rules
-every_lasting_row DropAwaiter (RefusedClone i) = grind rules
+every_lasting_row DropAwaiter (UnusedClone i) = grind rules
 every_lasting_row DropAwaiter (AwaiterInHand i OfRun) = grind rules
 every_lasting_row DropAwaiter (AwaiterInHand i way) = grind rules
 every_lasting_row HandOver (At Runnable) = grind rules
@@ -114,7 +114,7 @@ every_lasting_row HandOver (Deliverer woken (ThenEnds answer)) = grind rules
 every_lasting_row HandOver (Deliverer woken next) = grind rules
 every_lasting_row EmptySlots (Emptier None answer) = by_slot (grind rules) (λ old. grind rules)
 every_lasting_row EmptySlots (Emptier (Some i) answer) = by_slot (grind rules) (λ old. grind rules)
-every_lasting_row EndCall (Leaving answer Runnable) = grind rules
-every_lasting_row EndCall (Leaving answer rest) = grind rules
+every_lasting_row EndCall (CallEnding answer Runnable) = grind rules
+every_lasting_row EndCall (CallEnding answer rest) = grind rules
 every_lasting_row EndCall (Answering i answer) = grind rules
 every_lasting_row act p = no_lasting_row act p (λ scene word. refl)

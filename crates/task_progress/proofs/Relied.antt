@@ -4,8 +4,8 @@ use Rattle.std.specs.Prelude.{if◌then◌else◌}
 use Rattle.task_core.specs.Word.{State, bit, is_open}
 use Rattle.task_core.specs.Rows.{found, written}
 use Rattle.task_laws.specs.declared.positions.Position.{Position}
-use Rattle.task_laws.specs.declared.positions.Position.TheVariants.{TookBack, Claiming, OutputCloser, Detacher}
-use Rattle.task_core.specs.declared.moves.Act.{Act}
+use Rattle.task_laws.specs.declared.positions.Position.TheVariants.{TookBack, SawOutput, OutputCloser, Detacher}
+use Rattle.task_core.specs.declared.acts.Act.{Act}
 use Rattle.task_laws.specs.Table.{Scene, Outcome, where_found, rule, goes}
 use Rattle.task_laws.proofs.Census.{Census, plus, weigh, census, runs, closers}
 use Rattle.task_laws.proofs.Awaiting.{Awaiting, join, await, awaiting}
@@ -18,7 +18,7 @@ takes_back (TookBack i) = 1
 takes_back _ = 0
 
 abbrev pub claims : Position → ℕ
-claims (Claiming i) = 1
+claims (SawOutput i) = 1
 claims _ = 0
 
 abbrev pub detaches : Position → ℕ

@@ -3,7 +3,7 @@ use Rattle.std.proofs.Common.{◌≡◌, ℕ, Bool, true, false, refl, sym, subs
 use Rattle.task_core.specs.Word.{State, bit}
 use Rattle.task_core.specs.Rows.{found, written}
 use Rattle.task_laws.specs.declared.positions.Position.{Position}
-use Rattle.task_core.specs.declared.moves.Act.{Act}
+use Rattle.task_core.specs.declared.acts.Act.{Act}
 use Rattle.task_laws.specs.Table.{Scene, Outcome, where_found, rule, goes}
 use Rattle.task_laws.proofs.Census.{Census, plus, weigh}
 use Rattle.task_laws.proofs.Awaiting.{Awaiting, join, await}

@@ -3,7 +3,7 @@ use Rattle.std.proofs.Common.{◌≡◌, ℕ, ◌∙◌, false, sym, ap, subst, 
 use Rattle.std.specs.Prelude.{slice_get}
 use Rattle.task_core.specs.Word.{State, bit}
 use Rattle.task_laws.specs.declared.positions.Position.{Position}
-use Rattle.task_core.specs.declared.moves.Act.{Act}
+use Rattle.task_core.specs.declared.acts.Act.{Act}
 use Rattle.task_laws.specs.Table.{Outcome, rule}
 use Rattle.task_laws.specs.Machine.{Machine, scene, after, moves}
 use Rattle.task_laws.proofs.Census.{census}

@@ -2,10 +2,10 @@
 use Rattle.std.proofs.Common.{◌≡◌, ℕ, ◌+◌, zero, suc, true, false, refl, sym, subst, List, [], ◌∷◌, ◌++◌, Option, Some, None, arith}
 use Rattle.std.specs.Prelude.{is_some, slice_get, slice_set}
 use Rattle.task_core.specs.Word.{State}
-use Rattle.task_laws.specs.declared.positions.Closer.TheVariants.{ClosedRun, DroppedRunnable}
+use Rattle.task_laws.specs.declared.positions.WithoutPoll.TheVariants.{ClosedRun, DroppedRunnable}
 use Rattle.task_laws.specs.declared.positions.Position.{Position}
-use Rattle.task_laws.specs.declared.positions.Position.TheVariants.{At, Leaving, Deliverer, Starting, Polling, Pending, Ready, Unstored, Stored, Cleared, FutureInHand, FutureGone, OutputInHand, GivingUp, Emptier, Notifier, Taker, Releaser, AwaiterInHand, OrphanHolder, Registrar, HasClone, RefusedClone, Storing, Registered, TookBack, CloneInHand, Looking, Claiming, Claimer, OldAwaiterInHand, Answering, OutputCloser, Detacher}
-use Rattle.task_core.specs.declared.moves.Act.{Act}
+use Rattle.task_laws.specs.declared.positions.Position.TheVariants.{At, CallEnding, Deliverer, Starting, Polling, Pending, Ready, ReadyFutureDropped, OutputStored, PendingFutureDropped, FutureInHand, FutureGone, OutputInHand, GivingUp, Emptier, Notifier, Taker, Releaser, AwaiterInHand, OrphanHolder, Registrar, HasClone, UnusedClone, Storing, Registered, TookBack, CloneInHand, Looking, SawOutput, TookOutput, OldAwaiterInHand, Answering, OutputCloser, Detacher}
+use Rattle.task_core.specs.declared.acts.Act.{Act}
 use Rattle.task_laws.specs.Table.{Slots, Scene, Outcome, rule}
 use Rattle.task_laws.specs.Machine.{Machine, Step, opening, scene, after, moves, step, run_from, run}
 use Rattle.task_laws.specs.Event.{Event}
@@ -98,15 +98,15 @@ Makes p scene = (rest : Census) (back claimed detached : ℕ)
 
 makes_row : (p : Position) → InEach (Makes p)
 makes_row (At r) = grind rules
-makes_row (Leaving answer r) = grind rules
+makes_row (CallEnding answer r) = grind rules
 makes_row (Deliverer woken next) = grind rules
 makes_row Starting = grind rules
 makes_row Polling = grind rules
 makes_row Pending = by_flag closed (grind rules) (by_flag scheduled (grind rules) (by_flag task (grind rules) (grind rules)))
 makes_row Ready = grind rules
-makes_row Unstored = grind rules
-makes_row Stored = by_flag task (grind rules) (grind rules)
-makes_row Cleared = by_flag closed (grind rules) (grind rules)
+makes_row ReadyFutureDropped = grind rules
+makes_row OutputStored = by_flag task (grind rules) (grind rules)
+makes_row PendingFutureDropped = by_flag closed (grind rules) (grind rules)
 makes_row (FutureInHand ClosedRun) = grind rules
 makes_row (FutureInHand DroppedRunnable) = grind rules
 makes_row (FutureGone ClosedRun) = grind rules
@@ -121,15 +121,15 @@ makes_row (AwaiterInHand i way) = grind rules
 makes_row OrphanHolder = grind rules
 makes_row (Registrar i) = grind rules
 makes_row (HasClone i) = by_flag notifying (grind rules) (grind rules)
-makes_row (RefusedClone i) = grind rules
+makes_row (UnusedClone i) = grind rules
 makes_row (Storing i) = grind rules
 makes_row (OldAwaiterInHand i old) = grind rules
 makes_row (Registered i) = by_flag notifying (grind rules) (grind rules)
 makes_row (TookBack i) = by_flag notifying (grind rules) (grind rules)
 makes_row (CloneInHand i) = grind rules
 makes_row (Looking i) = grind rules
-makes_row (Claiming i) = by_flag completed (by_flag closed (grind rules) (grind rules)) (by_flag closed (grind rules) (grind rules))
-makes_row (Claimer i) = grind rules
+makes_row (SawOutput i) = by_flag completed (by_flag closed (grind rules) (grind rules)) (by_flag closed (grind rules) (grind rules))
+makes_row (TookOutput i) = grind rules
 makes_row (Answering i answer) = grind rules
 makes_row OutputCloser = grind rules
 makes_row Detacher = by_flag closed (by_flag completed (grind rules) (grind rules)) (grind rules)

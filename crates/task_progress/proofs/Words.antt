@@ -3,13 +3,13 @@ use Rattle.std.proofs.Common.{◌≡◌, Bool, true, false, Option, Some, None, 
 use Rattle.task_core.specs.Word.{State}
 use Rattle.task_core.specs.Rows.{found, written}
 use Rattle.task_laws.specs.declared.positions.Rest.TheVariants.{Runnable, Waker, Lent, Task}
-use Rattle.task_laws.specs.declared.positions.Closer.TheVariants.{ClosedRun, DroppedRunnable}
-use Rattle.task_laws.specs.declared.positions.Way.TheVariants.{OfRun, OfDrop, OfCancel, OfPoll, OfClaim}
-use Rattle.task_laws.specs.declared.positions.After.TheVariants.{ThenEnds, ThenTask, ThenNotifies}
+use Rattle.task_laws.specs.declared.positions.WithoutPoll.TheVariants.{ClosedRun, DroppedRunnable}
+use Rattle.task_laws.specs.declared.positions.NotifyingCall.TheVariants.{OfRun, OfDrop, OfCancel, OfPoll, OfClaim}
+use Rattle.task_laws.specs.declared.positions.OnceDelivered.TheVariants.{ThenEnds, ThenTask, ThenNotifies}
 use Rattle.task_laws.specs.declared.positions.Position.{Position}
-use Rattle.task_laws.specs.declared.positions.Position.TheVariants.{At, Leaving, Deliverer, Starting, Polling, Pending, Ready, Unstored, Stored, Cleared, FutureInHand, FutureGone, OutputInHand, GivingUp, Emptier, Notifier, Taker, Releaser, AwaiterInHand, OrphanHolder, Registrar, HasClone, RefusedClone, Storing, Registered, TookBack, CloneInHand, Looking, Claiming, Claimer, OldAwaiterInHand, Answering, OutputCloser, Detacher}
-use Rattle.task_core.specs.declared.moves.Act.{Act}
-use Rattle.task_core.specs.declared.moves.Act.TheVariants.{GainReference, FindLimit, DropWaker, DropLastWaker, OrphanTask, CloseOrphan, GiveUpReference, GiveUpLastReference, WakeOver, WakeScheduled, WakeRunning, WakeIdle, DiscardOpen, DiscardClosed, CancelOver, CancelBusy, CancelIdle, ClaimOutput, GiveUpOutput, DetachOrphan, DetachLast, Detach, TakeUpClosed, StartRun, Unschedule, Complete, CompleteDetached, EndClosed, Reschedule, EndIdle, EndOrphaned, BeginNotify, MissNotify, FindNotify, BeginRegister, EndNotify, EndRegister, EndRegisterNotified, Look, LookFinished, StartPoll, AnswerPending, AnswerReady, DropFuture, StoreOutput, DropOutput, HandOutOutput, CloneAwaiter, RefuseClone, StoreAwaiter, TakeAwaiter, WakeAwaiter, DropAwaiter, HandOver, EmptySlots, RefuseGain, EndCall}
+use Rattle.task_laws.specs.declared.positions.Position.TheVariants.{At, CallEnding, Deliverer, Starting, Polling, Pending, Ready, ReadyFutureDropped, OutputStored, PendingFutureDropped, FutureInHand, FutureGone, OutputInHand, GivingUp, Emptier, Notifier, Taker, Releaser, AwaiterInHand, OrphanHolder, Registrar, HasClone, UnusedClone, Storing, Registered, TookBack, CloneInHand, Looking, SawOutput, TookOutput, OldAwaiterInHand, Answering, OutputCloser, Detacher}
+use Rattle.task_core.specs.declared.acts.Act.{Act}
+use Rattle.task_core.specs.declared.acts.Act.TheVariants.{GainReference, FindLimit, DropWaker, DropLastWaker, OrphanTask, CloseOrphan, GiveUpReference, GiveUpLastReference, WakeOver, WakeScheduled, WakeRunning, WakeIdle, DiscardOpen, DiscardClosed, CancelOver, CancelBusy, CancelIdle, ClaimOutput, GiveUpOutput, DetachOrphan, DetachLast, Detach, TakeUpClosed, StartRun, Unschedule, Complete, CompleteDetached, EndClosed, Reschedule, EndIdle, EndOrphaned, BeginNotify, MissNotify, FindNotify, BeginRegister, EndNotify, EndRegister, EndRegisterNotified, Look, LookFinished, StartPoll, AnswerPending, AnswerReady, DropFuture, StoreOutput, DropOutput, HandOutOutput, CloneAwaiter, RefuseClone, StoreAwaiter, TakeAwaiter, WakeAwaiter, DropAwaiter, HandOver, EmptySlots, RefuseGain, EndCall}
 use Rattle.task_laws.specs.Table.{Scene, Outcome, when, where_found, goes, rule}
 use Rattle.task_progress.specs.StepsLeft.{writes_word}
 
@@ -51,7 +51,7 @@ word_row CancelOver (At (Task n)) s v = record { is = refl }
 word_row CancelBusy (At (Task n)) s v = record { is = refl }
 word_row CancelIdle (At (Task n)) s v = record { is = refl }
 word_row ClaimOutput (At (Task n)) s v = record { is = refl }
-word_row ClaimOutput (Claiming n) s v = record { is = refl }
+word_row ClaimOutput (SawOutput n) s v = record { is = refl }
 word_row GiveUpOutput (At (Task n)) s v = record { is = refl }
 word_row DetachOrphan (At (Task n)) s v = record { is = refl }
 word_row DetachLast (At (Task n)) s v = record { is = refl }
@@ -62,9 +62,9 @@ word_row TakeUpClosed (At Runnable) s v = record { is = refl }
 word_row StartRun (At Runnable) s v = record { is = refl }
 word_row Unschedule (FutureGone ClosedRun) s v = record { is = refl }
 word_row Unschedule (FutureGone DroppedRunnable) s v = record { is = refl }
-word_row Complete Stored s v = record { is = refl }
-word_row CompleteDetached Stored s v = record { is = refl }
-word_row EndClosed Cleared s v = record { is = refl }
+word_row Complete OutputStored s v = record { is = refl }
+word_row CompleteDetached OutputStored s v = record { is = refl }
+word_row EndClosed PendingFutureDropped s v = record { is = refl }
 word_row Reschedule Pending s v = record { is = refl }
 word_row EndIdle Pending s v = record { is = refl }
 word_row EndOrphaned Pending s v = record { is = refl }
@@ -99,17 +99,17 @@ word_row DropFuture Ready s v = record { is = refl }
 word_row DropFuture Pending s v = word_when _ _ _ (record { is = refl })
 word_row DropFuture (FutureInHand ClosedRun) s v = record { is = refl }
 word_row DropFuture (FutureInHand DroppedRunnable) s v = record { is = refl }
-word_row StoreOutput Unstored s v = record { is = refl }
+word_row StoreOutput ReadyFutureDropped s v = record { is = refl }
 word_row DropOutput (OutputInHand true) s v = record { is = refl }
 word_row DropOutput (OutputInHand false) s v = record { is = refl }
 word_row DropOutput OutputCloser s v = record { is = refl }
-word_row HandOutOutput (Claimer i) s v = record { is = refl }
+word_row HandOutOutput (TookOutput i) s v = record { is = refl }
 word_row CloneAwaiter (Registrar i) s v = record { is = refl }
 word_row RefuseClone (Registrar i) s v = record { is = refl }
 word_row StoreAwaiter (Storing i) s v = record { is = refl }
 word_row WakeAwaiter (CloneInHand i) s v = record { is = refl }
 word_row DropAwaiter (OldAwaiterInHand i old) s v = record { is = refl }
-word_row DropAwaiter (RefusedClone i) s v = record { is = refl }
+word_row DropAwaiter (UnusedClone i) s v = record { is = refl }
 word_row TakeAwaiter (Registered i) s v = word_when _ _ _ (record { is = refl })
 word_row TakeAwaiter (Taker way) s v = record { is = refl }
 word_row WakeAwaiter (AwaiterInHand i OfRun) s v = record { is = refl }
@@ -128,7 +128,7 @@ word_row HandOver (Deliverer woken (ThenTask n)) s v = record { is = refl }
 word_row HandOver (Deliverer woken (ThenNotifies n)) s v = record { is = refl }
 word_row EmptySlots (Emptier None answer) s v = record { is = refl }
 word_row EmptySlots (Emptier (Some i) answer) s v = record { is = refl }
-word_row EndCall (Leaving answer rest) s v = record { is = refl }
+word_row EndCall (CallEnding answer rest) s v = record { is = refl }
 word_row EndCall (Answering i answer) s v = record { is = refl }
 word_row act p s v = record { is = tt }
 

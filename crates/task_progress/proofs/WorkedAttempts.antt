@@ -1,6 +1,6 @@
 -- Attempts that are allowed, and some that are not.
 use Rattle.std.specs.Prelude.{◌≡◌, ℕ, true, false, List, [], ◌∷◌, ◌++◌, Some, None, is_some, refl}
-use Rattle.task_core.specs.declared.moves.Act.TheVariants.{GainReference, DropWaker, CancelBusy, TakeUpClosed, EndCall}
+use Rattle.task_core.specs.declared.acts.Act.TheVariants.{GainReference, DropWaker, CancelBusy, TakeUpClosed, EndCall}
 use Rattle.task_laws.specs.Machine.{opening}
 use Rattle.task_progress.specs.Attempts.{Attempt, Looks, Makes, Misses, WithSeen, attempts_from, misses_of}
 

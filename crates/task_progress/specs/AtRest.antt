@@ -1,13 +1,13 @@
 -- Where calls lead: a due wake to a poll, and every task to rest, where no call is in progress and no Runnable exists.
 use Rattle.std.specs.Prelude.{◌≡◌, ℕ, ◌+◌, ◌≤◌, ◌⊎◌, Bool, true, false, List, [], ◌∷◌, length, Some, slice_get}
 use Rattle.task_core.specs.Word.{is_open}
-use Rattle.task_laws.specs.Event.{Started, TakenUp, CallBegins}
+use Rattle.task_laws.specs.Event.{FuturePollBegins, TakenUp, CallBegins}
 use Rattle.task_laws.specs.declared.positions.Rest.TheVariants.{Runnable}
 use Rattle.task_laws.specs.declared.positions.Position.{Position}
-use Rattle.task_laws.specs.declared.positions.Position.TheVariants.{At, Leaving, Deliverer}
-use Rattle.task_core.specs.declared.moves.Act.TheVariants.{StartRun, StartPoll}
+use Rattle.task_laws.specs.declared.positions.Position.TheVariants.{At, CallEnding, Deliverer}
+use Rattle.task_core.specs.declared.acts.Act.TheVariants.{StartRun, StartPoll}
 use Rattle.task_laws.specs.Machine.{Machine, Step, run_from, run, how_many}
-use Rattle.task_laws.specs.Laws.{count, is_call, is_start, is_future_drop, is_output_end, is_ready, wake_is_due, pending_poll, was_woken}
+use Rattle.task_laws.specs.Laws.{count, is_call_begun, is_future_poll, is_future_drop, is_output_end, is_future_ready, wake_is_due, pending_poll, was_woken}
 use Rattle.task_laws.specs.Theorem.{is_waker}
 use Rattle.task_progress.specs.StepsLeft.{total, steps_left}
 use Rattle.task_progress.specs.Ending.{NoCallInProgress}
@@ -30,7 +30,7 @@ pub record IsAtRest (m : Machine) : Type 0 where
   -- one that is over has dropped its future once, has ended its outputs unless the Task may claim one, and has woken its awaiter
   pub future : is_open m.word ≡ false → count is_future_drop m.trace ≡ 1
   pub output : is_open m.word ≡ false
-      → (count is_output_end m.trace ≡ count is_ready m.trace) ⊎ ((m.word.completed ≡ true) × (m.word.closed ≡ false) × (m.word.task ≡ true))
+      → (count is_output_end m.trace ≡ count is_future_ready m.trace) ⊎ ((m.word.completed ≡ true) × (m.word.closed ≡ false) × (m.word.task ≡ true))
   pub awaiter : is_open m.word ≡ false → m.word.task ≡ true → (i : ℕ) → pending_poll m.trace ≡ Some i → was_woken i m.trace ≡ true
 
 -- after every list of steps, where no call is in progress and no Runnable exists
@@ -44,7 +44,7 @@ pub record PollsNext (m : Machine) : Type 0 where
   pub now : Machine
   pub at : slice_get m.parties party ≡ Some (At Runnable)
   pub leads : run_from (Some m) (record { party = party; act = StartRun } ∷ record { party = party; act = StartPoll } ∷ []) ≡ Some now
-  pub told : now.trace ≡ Started ∷ TakenUp ∷ CallBegins ∷ m.trace
+  pub told : now.trace ≡ FuturePollBegins ∷ TakenUp ∷ CallBegins ∷ m.trace
 
 -- after every list of steps, where no call is in progress and a wake is due: one Runnable exists, and its run polls
 abbrev pub DueWakesArePolled : Type 0
@@ -57,12 +57,12 @@ pub record ComesToRest (m : Machine) : Type 0 where
   pub now : Machine
   pub leads : run_from (Some m) steps ≡ Some now
   pub short : length steps ≤ total steps_left m.parties + 24
-  pub begun : count is_call now.trace ≤ count is_call m.trace + 2
+  pub begun : count is_call_begun now.trace ≤ count is_call_begun m.trace + 2
   pub none_in_progress : NoCallInProgress now
   pub no_runnable : how_many is_runnable now.parties ≡ 0
   pub at_rest : IsAtRest now
   -- a wake that was due is followed by a poll, or the task is over
-  pub polled : wake_is_due m.trace ≡ true → (count is_start m.trace + 1 ≤ count is_start now.trace) ⊎ (is_open now.word ≡ false)
+  pub polled : wake_is_due m.trace ≡ true → (count is_future_poll m.trace + 1 ≤ count is_future_poll now.trace) ⊎ (is_open now.word ≡ false)
 
 -- after every list of steps
 abbrev pub AllComeToRest : Type 0
@@ -76,12 +76,12 @@ pub record StaysDue (now : Machine) : Type 0 where
 -- after every list of steps, where a wake is due: whatever the calls in progress do until a call begins
 abbrev pub DueWakesStay : Type 0
 DueWakesStay = (limit : ℕ) (steps : List Step) (m : Machine) → run limit steps ≡ Some m → wake_is_due m.trace ≡ true
-    → (later : List Step) (now : Machine) → run_from (Some m) later ≡ Some now → count is_call now.trace ≡ count is_call m.trace → StaysDue now
+    → (later : List Step) (now : Machine) → run_from (Some m) later ≡ Some now → count is_call_begun now.trace ≡ count is_call_begun m.trace → StaysDue now
 
 -- a Runnable, or a party that is about to hand one over
 abbrev pub has_runnable : Position → Bool
 has_runnable (At Runnable) = true
-has_runnable (Leaving answer Runnable) = true
+has_runnable (CallEnding answer Runnable) = true
 has_runnable (Deliverer woken next) = true
 has_runnable _ = false
 
@@ -94,7 +94,7 @@ ClosedMakesNoRunnable = (limit : ℕ) (steps : List Step) (m : Machine) → run 
 -- once a run has started, whatever is done until a call begins: where no call is in progress any more, the task is at rest, or closed
 abbrev pub RunsLeadToRest : Type 0
 RunsLeadToRest = (limit : ℕ) (steps : List Step) (m : Machine) → run limit steps ≡ Some m → m.word.scheduled ≡ false
-    → (later : List Step) (now : Machine) → run_from (Some m) later ≡ Some now → count is_call now.trace ≡ count is_call m.trace
+    → (later : List Step) (now : Machine) → run_from (Some m) later ≡ Some now → count is_call_begun now.trace ≡ count is_call_begun m.trace
     → NoCallInProgress now → IsAtRest now ⊎ (now.word.closed ≡ true)
 
 -- once the Runnable of a closed task was taken up, whatever is done: whenever no call is in progress, the task is at rest

@@ -1,15 +1,15 @@
 -- How many steps are left to each call, and how many of them write the word.
 use Rattle.std.specs.Prelude.{◌≡◌, ℕ, ◌+◌, ◌*◌, ◌≤◌, Bool, true, false, List, [], ◌∷◌, length, Option, Some, None}
 use Rattle.task_core.specs.Word.{bit}
-use Rattle.task_laws.specs.declared.positions.Way.{Way}
-use Rattle.task_laws.specs.declared.positions.Way.TheVariants.{OfRun, OfDrop, OfCancel, OfPoll, OfClaim}
-use Rattle.task_laws.specs.declared.positions.After.TheVariants.{ThenEnds, ThenTask, ThenNotifies}
+use Rattle.task_laws.specs.declared.positions.NotifyingCall.{NotifyingCall}
+use Rattle.task_laws.specs.declared.positions.NotifyingCall.TheVariants.{OfRun, OfDrop, OfCancel, OfPoll, OfClaim}
+use Rattle.task_laws.specs.declared.positions.OnceDelivered.TheVariants.{ThenEnds, ThenTask, ThenNotifies}
 use Rattle.task_laws.specs.declared.positions.Position.{Position}
-use Rattle.task_laws.specs.declared.positions.Position.TheVariants.{At, Leaving, Deliverer, Starting, Polling, Pending, Ready, Unstored, Stored, Cleared, FutureInHand, FutureGone, OutputInHand, GivingUp, Emptier, Notifier, Taker, Releaser, AwaiterInHand, OrphanHolder, Registrar, HasClone, RefusedClone, Storing, Registered, TookBack, CloneInHand, Looking, Claiming, Claimer, OldAwaiterInHand, Answering, OutputCloser, Detacher}
-use Rattle.task_core.specs.declared.moves.Act.{Act}
-use Rattle.task_core.specs.declared.moves.Act.TheVariants.{GainReference, DropWaker, DropLastWaker, OrphanTask, CloseOrphan, GiveUpReference, GiveUpLastReference, WakeRunning, WakeIdle, DiscardOpen, CancelBusy, CancelIdle, ClaimOutput, GiveUpOutput, DetachOrphan, DetachLast, Detach, StartRun, Unschedule, Complete, CompleteDetached, EndClosed, Reschedule, EndIdle, EndOrphaned, BeginNotify, MissNotify, BeginRegister, EndNotify, EndRegister, EndRegisterNotified}
+use Rattle.task_laws.specs.declared.positions.Position.TheVariants.{At, CallEnding, Deliverer, Starting, Polling, Pending, Ready, ReadyFutureDropped, OutputStored, PendingFutureDropped, FutureInHand, FutureGone, OutputInHand, GivingUp, Emptier, Notifier, Taker, Releaser, AwaiterInHand, OrphanHolder, Registrar, HasClone, UnusedClone, Storing, Registered, TookBack, CloneInHand, Looking, SawOutput, TookOutput, OldAwaiterInHand, Answering, OutputCloser, Detacher}
+use Rattle.task_core.specs.declared.acts.Act.{Act}
+use Rattle.task_core.specs.declared.acts.Act.TheVariants.{GainReference, DropWaker, DropLastWaker, OrphanTask, CloseOrphan, GiveUpReference, GiveUpLastReference, WakeRunning, WakeIdle, DiscardOpen, CancelBusy, CancelIdle, ClaimOutput, GiveUpOutput, DetachOrphan, DetachLast, Detach, StartRun, Unschedule, Complete, CompleteDetached, EndClosed, Reschedule, EndIdle, EndOrphaned, BeginNotify, MissNotify, BeginRegister, EndNotify, EndRegister, EndRegisterNotified}
 use Rattle.task_laws.specs.Machine.{Machine, Step, run_from}
-use Rattle.task_laws.specs.Laws.{count, is_call, is_call_end}
+use Rattle.task_laws.specs.Laws.{count, is_call_begun, is_call_end}
 
 -- a number of each party, summed
 abbrev pub total : (Position → ℕ) → List Position → ℕ
@@ -27,7 +27,7 @@ awaiters_in_hand None = 0
 awaiters_in_hand (Some i) = 1
 
 -- steps left on a way once no awaiter is in hand
-abbrev pub steps_on : Way → ℕ
+abbrev pub steps_on : NotifyingCall → ℕ
 steps_on OfRun = 3
 steps_on OfDrop = 3
 steps_on (OfCancel n) = 1
@@ -35,7 +35,7 @@ steps_on (OfPoll n) = 1
 steps_on (OfClaim n) = 2
 
 -- .. and once the awaiter in hand was woken or dropped
-abbrev pub steps_off : Way → ℕ
+abbrev pub steps_off : NotifyingCall → ℕ
 steps_off OfRun = 1
 steps_off OfDrop = 3
 steps_off (OfCancel n) = 1
@@ -45,7 +45,7 @@ steps_off (OfClaim n) = 2
 -- how many steps a party makes at most until its call ends
 abbrev pub steps_left : Position → ℕ
 steps_left (At r) = 0
-steps_left (Leaving answer r) = 1
+steps_left (CallEnding answer r) = 1
 steps_left (Deliverer woken (ThenEnds answer)) = 2
 steps_left (Deliverer woken (ThenTask n)) = 2
 steps_left (Deliverer woken (ThenNotifies n)) = 6
@@ -53,9 +53,9 @@ steps_left Starting = 13
 steps_left Polling = 12
 steps_left Pending = 9
 steps_left Ready = 11
-steps_left Unstored = 10
-steps_left Stored = 9
-steps_left Cleared = 8
+steps_left ReadyFutureDropped = 10
+steps_left OutputStored = 9
+steps_left PendingFutureDropped = 8
 steps_left (FutureInHand closer) = 9
 steps_left (FutureGone closer) = 8
 steps_left (OutputInHand due) = 8
@@ -68,15 +68,15 @@ steps_left (AwaiterInHand i way) = 1 + steps_off way
 steps_left OrphanHolder = 3
 steps_left (Registrar i) = 15
 steps_left (HasClone i) = 14
-steps_left (RefusedClone i) = 9
+steps_left (UnusedClone i) = 9
 steps_left (Storing i) = 13
 steps_left (OldAwaiterInHand i old) = 12
 steps_left (Registered i) = 11
 steps_left (TookBack i) = 10
 steps_left (CloneInHand i) = 9
 steps_left (Looking i) = 8
-steps_left (Claiming i) = 7
-steps_left (Claimer i) = 2
+steps_left (SawOutput i) = 7
+steps_left (TookOutput i) = 2
 steps_left (Answering i answer) = 1
 steps_left OutputCloser = 4
 steps_left Detacher = 3
@@ -117,7 +117,7 @@ writes_word EndRegisterNotified = true
 writes_word _ = false
 
 -- writes left on a way once no awaiter is in hand: a run or a drop has still its reference to give up
-abbrev pub writes_on : Way → ℕ
+abbrev pub writes_on : NotifyingCall → ℕ
 writes_on OfRun = 1
 writes_on OfDrop = 1
 writes_on (OfCancel n) = 0
@@ -125,7 +125,7 @@ writes_on (OfPoll n) = 0
 writes_on (OfClaim n) = 0
 
 -- .. and once the awaiter in hand was woken or dropped
-abbrev pub writes_off : Way → ℕ
+abbrev pub writes_off : NotifyingCall → ℕ
 writes_off OfDrop = 1
 writes_off _ = 0
 
@@ -136,9 +136,9 @@ writes_left Starting = 4
 writes_left Polling = 4
 writes_left Pending = 4
 writes_left Ready = 4
-writes_left Unstored = 4
-writes_left Stored = 4
-writes_left Cleared = 4
+writes_left ReadyFutureDropped = 4
+writes_left OutputStored = 4
+writes_left PendingFutureDropped = 4
 writes_left (FutureInHand closer) = 4
 writes_left (FutureGone closer) = 4
 writes_left (OutputInHand due) = 3
@@ -150,14 +150,14 @@ writes_left (AwaiterInHand i way) = writes_off way
 writes_left OrphanHolder = 1
 writes_left (Registrar i) = 5
 writes_left (HasClone i) = 5
-writes_left (RefusedClone i) = 3
+writes_left (UnusedClone i) = 3
 writes_left (Storing i) = 4
 writes_left (OldAwaiterInHand i old) = 4
 writes_left (Registered i) = 4
 writes_left (TookBack i) = 4
 writes_left (CloneInHand i) = 3
 writes_left (Looking i) = 3
-writes_left (Claiming i) = 3
+writes_left (SawOutput i) = 3
 writes_left OutputCloser = 1
 writes_left Detacher = 1
 writes_left _ = 0
@@ -169,11 +169,11 @@ writes_in (s ∷ steps) = bit (writes_word s.act) + writes_in steps
 
 -- Steps from m to now, with those left at its end, are at most those left at its start and 16 for each call begun; five of them are writes.
 pub record BoundedByCalls (m : Machine) (made : List Step) (now : Machine) : Type 0 where
-  pub steps : length made + total steps_left now.parties + 16 * count is_call m.trace ≤ total steps_left m.parties + 16 * count is_call now.trace
-  pub writes : writes_in made + total writes_left now.parties + 5 * count is_call m.trace ≤ total writes_left m.parties + 5 * count is_call now.trace
+  pub steps : length made + total steps_left now.parties + 16 * count is_call_begun m.trace ≤ total steps_left m.parties + 16 * count is_call_begun now.trace
+  pub writes : writes_in made + total writes_left now.parties + 5 * count is_call_begun m.trace ≤ total writes_left m.parties + 5 * count is_call_begun now.trace
   -- a call that has begun is open until it ends
-  pub calls : total in_call now.parties + count is_call_end now.trace + count is_call m.trace
-      ≡ total in_call m.parties + count is_call_end m.trace + count is_call now.trace
+  pub calls : total in_call now.parties + count is_call_end now.trace + count is_call_begun m.trace
+      ≡ total in_call m.parties + count is_call_end m.trace + count is_call_begun now.trace
 
 -- from every machine, reachable or not, for every list of steps that it allows
 abbrev pub StepsAreBounded : Type 0

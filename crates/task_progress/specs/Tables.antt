@@ -3,11 +3,11 @@ use Rattle.std.specs.Prelude.{◌≡◌, ℕ, ◌+◌, ◌*◌, ◌≤◌, true,
 use Rattle.task_core.specs.Rows.{found, written}
 use Rattle.task_laws.specs.declared.positions.Position.{Position}
 use Rattle.task_laws.specs.declared.positions.Position.TheVariants.{Notifier}
-use Rattle.task_core.specs.declared.moves.Act.{Act}
-use Rattle.task_core.specs.declared.moves.Act.TheVariants.{MissNotify, FindNotify}
-use Rattle.task_laws.specs.Table.{Scene, Outcome, steps, where_found, rule}
+use Rattle.task_core.specs.declared.acts.Act.{Act}
+use Rattle.task_core.specs.declared.acts.Act.TheVariants.{MissNotify, FindNotify}
+use Rattle.task_laws.specs.Table.{Scene, Outcome, leaves_slots, where_found, rule}
 use Rattle.task_laws.specs.Machine.{Machine, Step, opening, scene, after, run}
-use Rattle.task_laws.specs.Laws.{count, is_call, is_call_end}
+use Rattle.task_laws.specs.Laws.{count, is_call_begun, is_call_end}
 use Rattle.task_laws.specs.Theorem.{Laws}
 use Rattle.task_progress.specs.StepsLeft.{total, in_call}
 use Rattle.task_progress.specs.Ending.{alone}
@@ -18,7 +18,7 @@ Table = Scene → Act → Position → Option Outcome
 
 -- a notifier that misses looks again, until the registration or the other notifier has ended
 abbrev pub looks_again : Table
-looks_again s MissNotify (Notifier way) = where_found (found s.limit MissNotify s.word) (Some (steps s (written MissNotify s.word) (Notifier way) [] []))
+looks_again s MissNotify (Notifier way) = where_found (found s.limit MissNotify s.word) (Some (leaves_slots s (written MissNotify s.word) (Notifier way) [] []))
 looks_again s act p = rule s act p
 
 -- a poll gives its registration up only where no notifier is found, so it waits for one that is
@@ -53,7 +53,7 @@ FallsBy table left = (s : Scene) (act : Act) (p : Position) (o : Outcome) → in
 -- .. and with one number for each call begun it bounds the steps, as `steps_left` and 16 do
 abbrev pub AreBoundedBy : Table → (Position → ℕ) → ℕ → Type 0
 AreBoundedBy table left each = (m : Machine) (steps : List Step) (now : Machine) → run_from_by table (Some m) steps ≡ Some now
-    → length steps + total left now.parties + each * count is_call m.trace ≤ total left m.parties + each * count is_call now.trace
+    → length steps + total left now.parties + each * count is_call_begun m.trace ≤ total left m.parties + each * count is_call_begun now.trace
 
 -- party i has an act that it may make now
 pub record HasAct (table : Table) (m : Machine) (i : ℕ) : Type 0 where
@@ -84,7 +84,7 @@ pub record GoesOn (table : Table) (limit n : ℕ) : Type 0 where
   pub now : Machine
   pub leads : run_from_by table (Some before) (alone party acts) ≡ Some now
   pub long : length acts ≡ n
-  pub begun : count is_call now.trace ≡ count is_call before.trace
+  pub begun : count is_call_begun now.trace ≡ count is_call_begun before.trace
   pub ended : count is_call_end now.trace ≡ count is_call_end before.trace
 
 -- A state that the machine reaches, and the table too, in which a party in a call has no act by the table.

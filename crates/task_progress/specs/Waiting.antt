@@ -2,13 +2,13 @@
 use Rattle.std.specs.Prelude.{◌≡◌, ℕ, Bool, true, false, ◌||◌, if◌then◌else◌, nat_eq, nat_lt, List, Some, is_some, slice_get}
 use Rattle.task_core.specs.Word.{State}
 use Rattle.task_laws.specs.declared.positions.Rest.TheVariants.{Task}
-use Rattle.task_laws.specs.declared.positions.Way.{Way}
-use Rattle.task_laws.specs.declared.positions.Way.TheVariants.{OfRun, OfDrop, OfCancel, OfPoll, OfClaim}
-use Rattle.task_laws.specs.declared.positions.After.TheVariants.{ThenTask, ThenNotifies}
+use Rattle.task_laws.specs.declared.positions.NotifyingCall.{NotifyingCall}
+use Rattle.task_laws.specs.declared.positions.NotifyingCall.TheVariants.{OfRun, OfDrop, OfCancel, OfPoll, OfClaim}
+use Rattle.task_laws.specs.declared.positions.OnceDelivered.TheVariants.{ThenTask, ThenNotifies}
 use Rattle.task_laws.specs.declared.positions.Position.{Position}
-use Rattle.task_laws.specs.declared.positions.Position.TheVariants.{At, Leaving, Deliverer, Starting, Polling, Pending, Ready, Unstored, Stored, Cleared, FutureInHand, FutureGone, OutputInHand, GivingUp, Emptier, Notifier, Taker, Releaser, AwaiterInHand, OrphanHolder, Registrar, HasClone, RefusedClone, Storing, Registered, TookBack, CloneInHand, Looking, Claiming, Claimer, OldAwaiterInHand, Answering, OutputCloser, Detacher}
-use Rattle.task_core.specs.declared.moves.Act.{Act}
-use Rattle.task_core.specs.declared.moves.Act.TheVariants.{CloseOrphan, GiveUpReference, GiveUpLastReference, ClaimOutput, DetachLast, Detach, Unschedule, Complete, CompleteDetached, EndClosed, Reschedule, EndIdle, EndOrphaned, BeginNotify, MissNotify, FindNotify, BeginRegister, EndNotify, EndRegister, EndRegisterNotified, Look, StartPoll, AnswerPending, DropFuture, StoreOutput, DropOutput, HandOutOutput, CloneAwaiter, StoreAwaiter, TakeAwaiter, WakeAwaiter, DropAwaiter, HandOver, EmptySlots, EndCall}
+use Rattle.task_laws.specs.declared.positions.Position.TheVariants.{At, CallEnding, Deliverer, Starting, Polling, Pending, Ready, ReadyFutureDropped, OutputStored, PendingFutureDropped, FutureInHand, FutureGone, OutputInHand, GivingUp, Emptier, Notifier, Taker, Releaser, AwaiterInHand, OrphanHolder, Registrar, HasClone, UnusedClone, Storing, Registered, TookBack, CloneInHand, Looking, SawOutput, TookOutput, OldAwaiterInHand, Answering, OutputCloser, Detacher}
+use Rattle.task_core.specs.declared.acts.Act.{Act}
+use Rattle.task_core.specs.declared.acts.Act.TheVariants.{CloseOrphan, GiveUpReference, GiveUpLastReference, ClaimOutput, DetachLast, Detach, Unschedule, Complete, CompleteDetached, EndClosed, Reschedule, EndIdle, EndOrphaned, BeginNotify, MissNotify, FindNotify, BeginRegister, EndNotify, EndRegister, EndRegisterNotified, Look, StartPoll, AnswerPending, DropFuture, StoreOutput, DropOutput, HandOutOutput, CloneAwaiter, StoreAwaiter, TakeAwaiter, WakeAwaiter, DropAwaiter, HandOver, EmptySlots, EndCall}
 use Rattle.task_laws.specs.Machine.{Machine, Step, step, run}
 use Rattle.task_progress.specs.StepsLeft.{in_call}
 
@@ -19,9 +19,9 @@ next_act w Starting = StartPoll
 next_act w Polling = AnswerPending
 next_act w Pending = if w.closed then DropFuture else (if w.scheduled then Reschedule else (if nat_lt 1 w.references || w.task then EndIdle else EndOrphaned))
 next_act w Ready = DropFuture
-next_act w Unstored = StoreOutput
-next_act w Stored = if w.task then Complete else CompleteDetached
-next_act w Cleared = EndClosed
+next_act w ReadyFutureDropped = StoreOutput
+next_act w OutputStored = if w.task then Complete else CompleteDetached
+next_act w PendingFutureDropped = EndClosed
 next_act w (FutureInHand closer) = DropFuture
 next_act w (FutureGone closer) = Unschedule
 next_act w (OutputInHand due) = DropOutput
@@ -34,15 +34,15 @@ next_act w (AwaiterInHand i way) = WakeAwaiter
 next_act w OrphanHolder = CloseOrphan
 next_act w (Registrar i) = CloneAwaiter
 next_act w (HasClone i) = if w.notifying then FindNotify else BeginRegister
-next_act w (RefusedClone i) = DropAwaiter
+next_act w (UnusedClone i) = DropAwaiter
 next_act w (Storing i) = StoreAwaiter
 next_act w (OldAwaiterInHand i old) = DropAwaiter
 next_act w (Registered i) = if w.notifying then TakeAwaiter else EndRegister
 next_act w (TookBack i) = EndRegisterNotified
 next_act w (CloneInHand i) = WakeAwaiter
 next_act w (Looking i) = Look
-next_act w (Claiming i) = ClaimOutput
-next_act w (Claimer i) = HandOutOutput
+next_act w (SawOutput i) = ClaimOutput
+next_act w (TookOutput i) = HandOutOutput
 next_act w OutputCloser = DropOutput
 next_act w Detacher = if nat_eq w.references 0 then DetachLast else Detach
 next_act w _ = EndCall
@@ -53,7 +53,7 @@ NoCallWaits = (limit : ℕ) (steps : List Step) (m : Machine) → run limit step
     → is_some (step m (record { party = i; act = next_act m.word p })) ≡ true
 
 -- a way in a call of the Task
-abbrev pub of_task : Way → Bool
+abbrev pub of_task : NotifyingCall → Bool
 of_task OfRun = false
 of_task OfDrop = false
 of_task (OfCancel n) = true
@@ -63,7 +63,7 @@ of_task (OfClaim n) = true
 -- the Task, in a call or between two
 abbrev pub is_task : Position → Bool
 is_task (At (Task n)) = true
-is_task (Leaving answer (Task n)) = true
+is_task (CallEnding answer (Task n)) = true
 is_task (Deliverer woken (ThenTask n)) = true
 is_task (Deliverer woken (ThenNotifies n)) = true
 is_task (Notifier way) = of_task way
@@ -72,15 +72,15 @@ is_task (Releaser hand way) = of_task way
 is_task (AwaiterInHand i way) = of_task way
 is_task (Registrar i) = true
 is_task (HasClone i) = true
-is_task (RefusedClone i) = true
+is_task (UnusedClone i) = true
 is_task (Storing i) = true
 is_task (OldAwaiterInHand i old) = true
 is_task (Registered i) = true
 is_task (TookBack i) = true
 is_task (CloneInHand i) = true
 is_task (Looking i) = true
-is_task (Claiming i) = true
-is_task (Claimer i) = true
+is_task (SawOutput i) = true
+is_task (TookOutput i) = true
 is_task (Answering i answer) = true
 is_task OutputCloser = true
 is_task Detacher = true

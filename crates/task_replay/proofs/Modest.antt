@@ -4,19 +4,19 @@ use Rattle.std.specs.Prelude.{if◌then◌else◌}
 use Rattle.task_core.specs.Word.{State}
 use Rattle.task_laws.specs.Event.{Event, Closes}
 use Rattle.task_laws.specs.declared.positions.Rest.TheVariants.{Runnable, Waker, Lent, Task}
-use Rattle.task_laws.specs.declared.positions.Closer.TheVariants.{ClosedRun, DroppedRunnable}
+use Rattle.task_laws.specs.declared.positions.WithoutPoll.TheVariants.{ClosedRun, DroppedRunnable}
 use Rattle.task_laws.specs.declared.positions.Position.{Position}
-use Rattle.task_laws.specs.declared.positions.Position.TheVariants.{At, Leaving, Deliverer, Starting, Polling, Pending, Ready, Unstored, Stored, Cleared, FutureInHand, FutureGone, OutputInHand, GivingUp, Emptier, Notifier, Taker, Releaser, AwaiterInHand, OrphanHolder, Registrar, HasClone, RefusedClone, Storing, Registered, TookBack, CloneInHand, Looking, Claiming, Claimer, OldAwaiterInHand, Answering, OutputCloser, Detacher}
-use Rattle.task_core.specs.declared.moves.Act.{Act}
-use Rattle.task_core.specs.declared.moves.Act.TheVariants.{GainReference, FindLimit, DropWaker, DropLastWaker, OrphanTask, CloseOrphan, GiveUpReference, GiveUpLastReference, WakeOver, WakeScheduled, WakeRunning, WakeIdle, DiscardOpen, DiscardClosed, CancelOver, CancelBusy, CancelIdle, ClaimOutput, GiveUpOutput, DetachOrphan, DetachLast, Detach, TakeUpClosed, StartRun, Unschedule, Complete, CompleteDetached, EndClosed, Reschedule, EndIdle, EndOrphaned, BeginNotify, MissNotify, FindNotify, BeginRegister, EndNotify, EndRegister, EndRegisterNotified, Look, LookFinished, StartPoll, AnswerPending, AnswerReady, DropFuture, StoreOutput, DropOutput, HandOutOutput, CloneAwaiter, RefuseClone, StoreAwaiter, TakeAwaiter, WakeAwaiter, DropAwaiter, HandOver, EmptySlots, RefuseGain, EndCall}
+use Rattle.task_laws.specs.declared.positions.Position.TheVariants.{At, CallEnding, Deliverer, Starting, Polling, Pending, Ready, ReadyFutureDropped, OutputStored, PendingFutureDropped, FutureInHand, FutureGone, OutputInHand, GivingUp, Emptier, Notifier, Taker, Releaser, AwaiterInHand, OrphanHolder, Registrar, HasClone, UnusedClone, Storing, Registered, TookBack, CloneInHand, Looking, SawOutput, TookOutput, OldAwaiterInHand, Answering, OutputCloser, Detacher}
+use Rattle.task_core.specs.declared.acts.Act.{Act}
+use Rattle.task_core.specs.declared.acts.Act.TheVariants.{GainReference, FindLimit, DropWaker, DropLastWaker, OrphanTask, CloseOrphan, GiveUpReference, GiveUpLastReference, WakeOver, WakeScheduled, WakeRunning, WakeIdle, DiscardOpen, DiscardClosed, CancelOver, CancelBusy, CancelIdle, ClaimOutput, GiveUpOutput, DetachOrphan, DetachLast, Detach, TakeUpClosed, StartRun, Unschedule, Complete, CompleteDetached, EndClosed, Reschedule, EndIdle, EndOrphaned, BeginNotify, MissNotify, FindNotify, BeginRegister, EndNotify, EndRegister, EndRegisterNotified, Look, LookFinished, StartPoll, AnswerPending, AnswerReady, DropFuture, StoreOutput, DropOutput, HandOutOutput, CloneAwaiter, RefuseClone, StoreAwaiter, TakeAwaiter, WakeAwaiter, DropAwaiter, HandOver, EmptySlots, RefuseGain, EndCall}
 use Rattle.task_core.specs.Rows.{found, written}
 use Rattle.task_laws.specs.Table.{Scene, Outcome, when, where_found, goes, rule, closing, ended_clone}
-use Rattle.task_laws.specs.Laws.{count, is_poll}
+use Rattle.task_laws.specs.Laws.{count, is_task_poll}
 use Rattle.task_replay.specs.Replay.{first_of, listed}
 
 abbrev pub polls_told : Option Outcome → ℕ
 polls_told None = 0
-polls_told (Some o) = count is_poll o.told
+polls_told (Some o) = count is_task_poll o.told
 
 abbrev pub added_by : Option Outcome → List Position
 added_by None = []
@@ -37,14 +37,14 @@ modest_found : (b : Bool) (left : Option Outcome) → Modest left → Modest (wh
 modest_found b None modest = modest
 modest_found b (Some o) modest = modest_when b o modest
 
-closing_tells : (w : State) (told : List Event) → count is_poll told ≤ 1 → count is_poll (closing w told) ≤ 1
+closing_tells : (w : State) (told : List Event) → count is_task_poll told ≤ 1 → count is_task_poll (closing w told) ≤ 1
 closing_tells w told few = by_flag w.closed
   where
-    by_flag : (flag : Bool) → count is_poll (if flag then told else Closes ∷ told) ≤ 1
+    by_flag : (flag : Bool) → count is_task_poll (if flag then told else Closes ∷ told) ≤ 1
     by_flag true = few
     by_flag false = omega arith
 
-ended_tells : (slot : Option ℕ) → count is_poll (ended_clone slot) ≤ 1
+ended_tells : (slot : Option ℕ) → count is_task_poll (ended_clone slot) ≤ 1
 ended_tells None = lit≤ tt
 ended_tells (Some i) = lit≤ tt
 
@@ -68,7 +68,7 @@ modest_row CancelOver (At (Task n)) s v = record { polls = lit≤ tt; parties = 
 modest_row CancelBusy (At (Task n)) s v = record { polls = lit≤ tt; parties = refl }
 modest_row CancelIdle (At (Task n)) s v = record { polls = lit≤ tt; parties = refl }
 modest_row ClaimOutput (At (Task n)) s v = record { polls = lit≤ tt; parties = refl }
-modest_row ClaimOutput (Claiming n) s v = record { polls = lit≤ tt; parties = refl }
+modest_row ClaimOutput (SawOutput n) s v = record { polls = lit≤ tt; parties = refl }
 modest_row GiveUpOutput (At (Task n)) s v = record { polls = lit≤ tt; parties = refl }
 modest_row DetachOrphan (At (Task n)) s v = record { polls = lit≤ tt; parties = refl }
 modest_row DetachLast (At (Task n)) s v = record { polls = lit≤ tt; parties = refl }
@@ -79,9 +79,9 @@ modest_row TakeUpClosed (At Runnable) s v = record { polls = lit≤ tt; parties 
 modest_row StartRun (At Runnable) s v = record { polls = lit≤ tt; parties = refl }
 modest_row Unschedule (FutureGone ClosedRun) s v = record { polls = lit≤ tt; parties = refl }
 modest_row Unschedule (FutureGone DroppedRunnable) s v = record { polls = lit≤ tt; parties = refl }
-modest_row Complete Stored s v = record { polls = lit≤ tt; parties = refl }
-modest_row CompleteDetached Stored s v = record { polls = closing_tells s.word _ (lit≤ tt); parties = refl }
-modest_row EndClosed Cleared s v = record { polls = lit≤ tt; parties = refl }
+modest_row Complete OutputStored s v = record { polls = lit≤ tt; parties = refl }
+modest_row CompleteDetached OutputStored s v = record { polls = closing_tells s.word _ (lit≤ tt); parties = refl }
+modest_row EndClosed PendingFutureDropped s v = record { polls = lit≤ tt; parties = refl }
 modest_row Reschedule Pending s v = record { polls = lit≤ tt; parties = refl }
 modest_row EndIdle Pending s v = record { polls = lit≤ tt; parties = refl }
 modest_row EndOrphaned Pending s v = record { polls = lit≤ tt; parties = refl }
@@ -103,16 +103,16 @@ modest_row DropFuture Ready s v = record { polls = lit≤ tt; parties = refl }
 modest_row DropFuture Pending s v = modest_when _ _ (record { polls = lit≤ tt; parties = refl })
 modest_row DropFuture (FutureInHand ClosedRun) s v = record { polls = lit≤ tt; parties = refl }
 modest_row DropFuture (FutureInHand DroppedRunnable) s v = record { polls = lit≤ tt; parties = refl }
-modest_row StoreOutput Unstored s v = record { polls = lit≤ tt; parties = refl }
+modest_row StoreOutput ReadyFutureDropped s v = record { polls = lit≤ tt; parties = refl }
 modest_row DropOutput (OutputInHand due) s v = record { polls = lit≤ tt; parties = refl }
 modest_row DropOutput OutputCloser s v = record { polls = lit≤ tt; parties = refl }
-modest_row HandOutOutput (Claimer i) s v = record { polls = lit≤ tt; parties = refl }
+modest_row HandOutOutput (TookOutput i) s v = record { polls = lit≤ tt; parties = refl }
 modest_row CloneAwaiter (Registrar i) s v = record { polls = lit≤ tt; parties = refl }
 modest_row RefuseClone (Registrar i) s v = record { polls = lit≤ tt; parties = refl }
 modest_row StoreAwaiter (Storing i) s v = record { polls = lit≤ tt; parties = refl }
 modest_row WakeAwaiter (CloneInHand i) s v = record { polls = lit≤ tt; parties = refl }
 modest_row DropAwaiter (OldAwaiterInHand i old) s v = record { polls = lit≤ tt; parties = refl }
-modest_row DropAwaiter (RefusedClone i) s v = record { polls = lit≤ tt; parties = refl }
+modest_row DropAwaiter (UnusedClone i) s v = record { polls = lit≤ tt; parties = refl }
 modest_row TakeAwaiter (Registered i) s v = modest_when _ _ (record { polls = lit≤ tt; parties = refl })
 modest_row TakeAwaiter (Taker way) s v = record { polls = lit≤ tt; parties = refl }
 modest_row WakeAwaiter (AwaiterInHand i way) s v = record { polls = lit≤ tt; parties = refl }
@@ -120,7 +120,7 @@ modest_row DropAwaiter (AwaiterInHand i way) s v = modest_when _ _ (record { pol
 modest_row HandOver (At Runnable) s v = record { polls = lit≤ tt; parties = refl }
 modest_row HandOver (Deliverer woken next) s v = record { polls = lit≤ tt; parties = refl }
 modest_row EmptySlots (Emptier hand answer) s v = record { polls = omega (arith, ended_tells s.slots.awaiter); parties = refl }
-modest_row EndCall (Leaving answer rest) s v = record { polls = lit≤ tt; parties = refl }
+modest_row EndCall (CallEnding answer rest) s v = record { polls = lit≤ tt; parties = refl }
 modest_row EndCall (Answering i answer) s v = record { polls = lit≤ tt; parties = refl }
 modest_row act p s v = modest_none
 

@@ -22,9 +22,9 @@ pub played_more : (now next : Standing) (s : Step) (count : ℕ) → StepsTo now
 played_more now next s count does (steps, (is_count, ends)) =
     let known = shown (run now.limit steps) now ends in
     let more = length-append steps (s ∷ []) in
-    let goes_on : stands (run now.limit (steps ++ s ∷ [])) ≡ Some next = ap stands (run_then (Some (opening now.limit)) steps s ∙ ap (λ m. then_step m s) known.is) ∙ does known.machine known.stands_so in
-    let same_limit = limit_stays now.limit (steps ++ s ∷ []) next goes_on in
-    (steps ++ s ∷ [], (omega (arith, more, is_count), subst (λ limit. stands (run limit (steps ++ s ∷ [])) ≡ Some next) (sym same_limit) goes_on))
+    let after_taking : stands (run now.limit (steps ++ s ∷ [])) ≡ Some next = ap stands (run_then (Some (opening now.limit)) steps s ∙ ap (λ m. then_step m s) known.is) ∙ does known.machine known.stands_so in
+    let same_limit = limit_stays now.limit (steps ++ s ∷ []) next after_taking in
+    (steps ++ s ∷ [], (omega (arith, more, is_count), subst (λ limit. stands (run limit (steps ++ s ∷ [])) ≡ Some next) (sym same_limit) after_taking))
 
 -- .. and leaves the limit
 limit_kept : (now next : Standing) (s : Step) (count : ℕ) → StepsTo now s (Some next) → Played now count → next.limit ≡ now.limit

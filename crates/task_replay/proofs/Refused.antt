@@ -2,13 +2,13 @@
 use Rattle.std.proofs.Common.{◌≡◌, ℕ, ◌∙◌, true, false, Option, Some, None, refl, sym, ap, subst}
 use Rattle.std.specs.Prelude.{IsSome, is_some, slice_get}
 use Rattle.task_core.specs.Word.{State}
-use Rattle.task_laws.specs.declared.positions.Way.TheVariants.{OfClaim, OfPoll}
+use Rattle.task_laws.specs.declared.positions.NotifyingCall.TheVariants.{OfClaim, OfPoll}
 use Rattle.task_laws.specs.declared.positions.Rest.TheVariants.{Lent, Runnable, Waker, Task}
-use Rattle.task_laws.specs.declared.positions.Closer.TheVariants.{ClosedRun, DroppedRunnable}
+use Rattle.task_laws.specs.declared.positions.WithoutPoll.TheVariants.{ClosedRun, DroppedRunnable}
 use Rattle.task_laws.specs.declared.positions.Position.{Position}
-use Rattle.task_laws.specs.declared.positions.Position.TheVariants.{At, Leaving, Deliverer, Starting, Polling, Pending, Ready, Unstored, Stored, Cleared, FutureInHand, FutureGone, OutputInHand, GivingUp, Emptier, Notifier, Taker, Releaser, AwaiterInHand, OrphanHolder, Registrar, HasClone, RefusedClone, Storing, Registered, TookBack, CloneInHand, Looking, Claiming, Claimer, OldAwaiterInHand, Answering, OutputCloser, Detacher}
-use Rattle.task_core.specs.declared.moves.Act.{Act}
-use Rattle.task_core.specs.declared.moves.Act.TheVariants.{GainReference, FindLimit, DropWaker, DropLastWaker, OrphanTask, CloseOrphan, GiveUpReference, GiveUpLastReference, WakeOver, WakeScheduled, WakeRunning, WakeIdle, DiscardOpen, DiscardClosed, CancelOver, CancelBusy, CancelIdle, ClaimOutput, GiveUpOutput, DetachOrphan, DetachLast, Detach, TakeUpClosed, StartRun, Unschedule, Complete, CompleteDetached, EndClosed, Reschedule, EndIdle, EndOrphaned, BeginNotify, MissNotify, FindNotify, BeginRegister, EndNotify, EndRegister, EndRegisterNotified, Look, LookFinished, StartPoll, AnswerPending, AnswerReady, DropFuture, StoreOutput, DropOutput, HandOutOutput, CloneAwaiter, RefuseClone, StoreAwaiter, TakeAwaiter, WakeAwaiter, DropAwaiter, HandOver, EmptySlots, RefuseGain, EndCall}
+use Rattle.task_laws.specs.declared.positions.Position.TheVariants.{At, CallEnding, Deliverer, Starting, Polling, Pending, Ready, ReadyFutureDropped, OutputStored, PendingFutureDropped, FutureInHand, FutureGone, OutputInHand, GivingUp, Emptier, Notifier, Taker, Releaser, AwaiterInHand, OrphanHolder, Registrar, HasClone, UnusedClone, Storing, Registered, TookBack, CloneInHand, Looking, SawOutput, TookOutput, OldAwaiterInHand, Answering, OutputCloser, Detacher}
+use Rattle.task_core.specs.declared.acts.Act.{Act}
+use Rattle.task_core.specs.declared.acts.Act.TheVariants.{GainReference, FindLimit, DropWaker, DropLastWaker, OrphanTask, CloseOrphan, GiveUpReference, GiveUpLastReference, WakeOver, WakeScheduled, WakeRunning, WakeIdle, DiscardOpen, DiscardClosed, CancelOver, CancelBusy, CancelIdle, ClaimOutput, GiveUpOutput, DetachOrphan, DetachLast, Detach, TakeUpClosed, StartRun, Unschedule, Complete, CompleteDetached, EndClosed, Reschedule, EndIdle, EndOrphaned, BeginNotify, MissNotify, FindNotify, BeginRegister, EndNotify, EndRegister, EndRegisterNotified, Look, LookFinished, StartPoll, AnswerPending, AnswerReady, DropFuture, StoreOutput, DropOutput, HandOutOutput, CloneAwaiter, RefuseClone, StoreAwaiter, TakeAwaiter, WakeAwaiter, DropAwaiter, HandOver, EmptySlots, RefuseGain, EndCall}
 use Rattle.task_core.specs.Rows.{found, written}
 use Rattle.task_laws.specs.Table.{Slots, Scene, Outcome, where_found, goes, rule}
 use Rattle.task_laws.specs.Machine.{Step, moves, step}
@@ -53,7 +53,7 @@ never_goes CancelOver (At (Task n)) s v limit slots u h = absurd (cc)
 never_goes CancelBusy (At (Task n)) s v limit slots u h = absurd (cc)
 never_goes CancelIdle (At (Task n)) s v limit slots u h = absurd (cc)
 never_goes ClaimOutput (At (Task n)) s v limit slots u h = absurd (cc)
-never_goes ClaimOutput (Claiming n) s v limit slots u h = absurd (cc)
+never_goes ClaimOutput (SawOutput n) s v limit slots u h = absurd (cc)
 never_goes GiveUpOutput (At (Task n)) s v limit slots u h = absurd (cc)
 never_goes DetachOrphan (At (Task n)) s v limit slots u h = absurd (cc)
 never_goes DetachLast (At (Task n)) s v limit slots u h = absurd (cc)
@@ -64,9 +64,9 @@ never_goes TakeUpClosed (At Runnable) s v limit slots u h = absurd (cc)
 never_goes StartRun (At Runnable) s v limit slots u h = absurd (cc)
 never_goes Unschedule (FutureGone ClosedRun) s v limit slots u h = absurd (cc)
 never_goes Unschedule (FutureGone DroppedRunnable) s v limit slots u h = absurd (cc)
-never_goes Complete Stored s v limit slots u h = absurd (cc)
-never_goes CompleteDetached Stored s v limit slots u h = absurd (cc)
-never_goes EndClosed Cleared s v limit slots u h = absurd (cc)
+never_goes Complete OutputStored s v limit slots u h = absurd (cc)
+never_goes CompleteDetached OutputStored s v limit slots u h = absurd (cc)
+never_goes EndClosed PendingFutureDropped s v limit slots u h = absurd (cc)
 never_goes Reschedule Pending s v limit slots u h = absurd (cc)
 never_goes EndIdle Pending s v limit slots u h = absurd (cc)
 never_goes EndOrphaned Pending s v limit slots u h = absurd (cc)
@@ -88,16 +88,16 @@ never_goes DropFuture Ready s v limit slots u h = absurd (cc)
 never_goes DropFuture Pending s v limit slots u h = absurd (cc)
 never_goes DropFuture (FutureInHand ClosedRun) s v limit slots u h = absurd (cc)
 never_goes DropFuture (FutureInHand DroppedRunnable) s v limit slots u h = absurd (cc)
-never_goes StoreOutput Unstored s v limit slots u h = absurd (cc)
+never_goes StoreOutput ReadyFutureDropped s v limit slots u h = absurd (cc)
 never_goes DropOutput (OutputInHand due) s v limit slots u h = absurd (cc)
 never_goes DropOutput OutputCloser s v limit slots u h = absurd (cc)
-never_goes HandOutOutput (Claimer i) s v limit slots u h = absurd (cc)
+never_goes HandOutOutput (TookOutput i) s v limit slots u h = absurd (cc)
 never_goes CloneAwaiter (Registrar i) s v limit slots u h = absurd (cc)
 never_goes RefuseClone (Registrar i) s v limit slots u h = absurd (cc)
 never_goes StoreAwaiter (Storing i) s v limit slots u h = absurd (cc)
 never_goes WakeAwaiter (CloneInHand i) s v limit slots u h = absurd (cc)
 never_goes DropAwaiter (OldAwaiterInHand i old) s v limit slots u h = absurd (cc)
-never_goes DropAwaiter (RefusedClone i) s v limit slots u h = absurd (cc)
+never_goes DropAwaiter (UnusedClone i) s v limit slots u h = absurd (cc)
 never_goes TakeAwaiter (Registered i) s v limit slots u h = absurd (cc)
 never_goes TakeAwaiter (Taker way) s v limit slots u h = absurd (cc)
 never_goes WakeAwaiter (AwaiterInHand i way) s v limit slots u h = absurd (cc)
@@ -106,7 +106,7 @@ never_goes DropAwaiter (AwaiterInHand i (OfClaim n)) s v limit slots u h = absur
 never_goes HandOver (At Runnable) s v limit slots u h = absurd (cc)
 never_goes HandOver (Deliverer woken next) s v limit slots u h = absurd (cc)
 never_goes EmptySlots (Emptier hand answer) s v limit slots u h = absurd (cc)
-never_goes EndCall (Leaving answer rest) s v limit slots u h = absurd (cc)
+never_goes EndCall (CallEnding answer rest) s v limit slots u h = absurd (cc)
 never_goes EndCall (Answering i answer) s v limit slots u h = absurd (cc)
 never_goes act p s v limit slots u h = refl
 

@@ -4,13 +4,13 @@ use Rattle.std.proofs.lemmas.List.{set-append_left}
 use Rattle.std.specs.Prelude.{if◌then◌else◌, slice_get, slice_set, IsSome}
 use Rattle.task_core.specs.Word.{State}
 use Rattle.task_laws.specs.declared.positions.Position.{Position}
-use Rattle.task_core.specs.declared.moves.Act.{Act}
+use Rattle.task_core.specs.declared.acts.Act.{Act}
 use Rattle.task_laws.specs.declared.positions.Position.TheVariants.{At}
 use Rattle.task_laws.specs.declared.positions.Rest.TheVariants.{Task}
 use Rattle.task_core.specs.Rows.{found, written, row}
 use Rattle.task_laws.specs.Table.{Scene, Outcome, where_found, goes, rule}
 use Rattle.task_laws.specs.Machine.{Machine, Step, opening, scene, begins, after, moves, step, run_from, run}
-use Rattle.task_laws.specs.Laws.{count, is_poll}
+use Rattle.task_laws.specs.Laws.{count, is_task_poll}
 use Rattle.task_replay.specs.Replay.{Standing, standing, stands, scene_at, listed, begun, slots_of, effect_of}
 use Rattle.task_replay.specs.declared.machine.Slots.{Slots as SlotsHeld}
 use Rattle.task_replay.specs.declared.table.Effect.{Effect}
@@ -103,15 +103,15 @@ plays limit i steps s now next h e e' does =
 -- the limit stays, and a step tells of one poll at most
 abbrev pub Bounded : ℕ → Option Machine → ℕ → Type 0
 Bounded limit None n = Unit {0}
-Bounded limit (Some m) n = (m.limit ≡ limit) × (count is_poll m.trace ≤ n)
+Bounded limit (Some m) n = (m.limit ≡ limit) × (count is_task_poll m.trace ≤ n)
 
-no_poll : (p : Position) → count is_poll (begins p) ≡ 0
+no_poll : (p : Position) → count is_task_poll (begins p) ≡ 0
 no_poll (At r) = refl
 no_poll p = refl
 
 after_bounded : (limit : ℕ) (m : Machine) (i n : ℕ) (p : Position) (o : Option Outcome) → Modest o → Bounded limit (Some m) n → Bounded limit (after m i p o) (n + 1)
 after_bounded limit m i n p None modest bound = tt
-after_bounded limit m i n p (Some o) modest bound = (bound.0, omega (arith, bound.1, count-append is_poll o.told (begins p ++ m.trace), count-append is_poll (begins p) m.trace, no_poll p, modest.polls))
+after_bounded limit m i n p (Some o) modest bound = (bound.0, omega (arith, bound.1, count-append is_task_poll o.told (begins p ++ m.trace), count-append is_task_poll (begins p) m.trace, no_poll p, modest.polls))
 
 moves_bounded : (limit : ℕ) (m : Machine) (i n : ℕ) (act : Act) (at : Option Position) → Bounded limit (Some m) n → Bounded limit (moves m i act at) (n + 1)
 moves_bounded limit m i n act None bound = tt
@@ -139,13 +139,13 @@ begun_await : (p : Position) → (begun p ≡ 0) ⊎ (((await 0 p).numbered ≡ 
 begun_await (At (Task n)) = inr (refl, refl)
 begun_await p = inl refl
 
-begun_told : (m : Machine) (i : ℕ) (p : Position) → slice_get m.parties i ≡ Some p → Invariant m → begun p ≤ count is_poll m.trace
+begun_told : (m : Machine) (i : ℕ) (p : Position) → slice_get m.parties i ≡ Some p → Invariant m → begun p ≤ count is_task_poll m.trace
 begun_told m i p e h = by_number (begun_await p) (h.shakes 0).numbers
   where
     parts : awaiting 0 m.parties ≡ join (await 0 p) (awaiting 0 (others m.parties i))
     parts = split_awaiting 0 m.parties i p e
 
-    by_number : (begun p ≡ 0) ⊎ (((await 0 p).numbered ≡ 1) × ((await 0 p).number ≡ begun p)) → ((awaiting 0 m.parties).numbered ≡ 0) ⊎ ((awaiting 0 m.parties).number ≡ count is_poll m.trace) → begun p ≤ count is_poll m.trace
+    by_number : (begun p ≡ 0) ⊎ (((await 0 p).numbered ≡ 1) × ((await 0 p).number ≡ begun p)) → ((awaiting 0 m.parties).numbered ≡ 0) ⊎ ((awaiting 0 m.parties).number ≡ count is_task_poll m.trace) → begun p ≤ count is_task_poll m.trace
     by_number (inl none) numbers = omega arith
     by_number (inr one) (inl no_number) = omega (arith, one.0, one.1, ap (λ (a : Awaiting). a.numbered) parts)
     by_number (inr one) (inr is_number) = omega (arith, one.0, one.1, ap (λ (a : Awaiting). a.number) parts)

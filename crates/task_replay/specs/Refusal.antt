@@ -2,7 +2,7 @@
 use Rattle.std.specs.Prelude.{◌≡◌, Option, Some, None, IsSome, IfSome}
 use Rattle.task_core.specs.Word.{State}
 use Rattle.task_laws.specs.declared.positions.Position.{Position}
-use Rattle.task_core.specs.declared.moves.Act.{Act}
+use Rattle.task_core.specs.declared.acts.Act.{Act}
 use Rattle.task_laws.specs.Table.{Scene, goes, rule}
 use Rattle.task_replay.specs.declared.refusal.Refusal.{Refusal}
 use Rattle.task_replay.specs.declared.refusal.Refusal.TheVariants.{NoParty, NeverThere, UnfitWord}

@@ -2,7 +2,7 @@
 ghost use Rattle.std.specs.Prelude.{◌≡◌};
 ghost use Rattle.task_replay.specs.Replay.{kind_of};
 
-use task_core::moves::Act;
+use task_core::acts::Act;
 
 /// A group of acts in the table of moves.
 #[derive(Clone, Copy)]

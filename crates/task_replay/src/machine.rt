@@ -12,7 +12,7 @@ use crate::player::Player;
 use crate::table::{Scene, rule_of_act};
 use std::alloc::{AllocError, Allocator, Global};
 use std::marker::Model;
-use task_core::moves::Act;
+use task_core::acts::Act;
 use task_core::word::{LIMIT, REFERENCE, SCHEDULED, TASK, Word};
 use task_laws::positions::{Position, Rest};
 

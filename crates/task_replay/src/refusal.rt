@@ -11,7 +11,7 @@ use crate::machine::{Slots, Step};
 use crate::player::Player;
 use crate::table::{Scene, moves_of_act, rule_of_act};
 use std::alloc::Allocator;
-use task_core::moves::Act;
+use task_core::acts::Act;
 use task_core::word::{CLOSED, LIMIT, NOTIFYING, REFERENCE, TASK, Word};
 use task_laws::positions::Position;
 

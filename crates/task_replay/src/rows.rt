@@ -4,8 +4,8 @@ ghost use Rattle.task_core.specs.Rows.{row};
 ghost use Rattle.task_replay.specs.Replay.{kind_of};
 
 use crate::kind::{Kind, kind_of_act};
-use task_core::moves::Act;
-use task_core::moves::Act::*;
+use task_core::acts::Act;
+use task_core::acts::Act::*;
 use task_core::word::Word;
 
 /// The word that an act writes where it finds this one, and the word found where it writes nothing. `None` where the word found does not fit.

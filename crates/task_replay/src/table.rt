@@ -8,20 +8,20 @@ use crate::kind::{Kind, kind_of_act};
 use crate::machine::Slots;
 use crate::rows::row_of_act;
 use crate::ways::{
-    after_giving_up, after_storing, cancels_after, first_look, goes_after, goes_off, goes_on,
-    may_ask, may_drop, may_gain, may_wake, notifies, second_look,
+    after_cancelling, after_giving_up, after_handing_over, after_storing, after_taking,
+    after_waking, first_look, may_ask, may_drop, may_gain, may_wake, notifies, second_look,
 };
-use task_core::moves::Act;
-use task_core::moves::Act::*;
+use task_core::acts::Act;
+use task_core::acts::Act::*;
 use task_core::word::Word;
-use task_laws::positions::After::*;
 use task_laws::positions::Answer::*;
-use task_laws::positions::Closer::*;
+use task_laws::positions::NotifyingCall::*;
+use task_laws::positions::OnceDelivered::*;
 use task_laws::positions::PollAnswer::*;
 use task_laws::positions::Position;
 use task_laws::positions::Position::*;
 use task_laws::positions::Rest::*;
-use task_laws::positions::Way::*;
+use task_laws::positions::WithoutPoll::*;
 
 /// What a party finds.
 #[derive(Clone, Copy)]
@@ -48,10 +48,10 @@ pub(crate) struct Effect {
 }
 
 // A step that touches no slot.
-fn steps(scene: Scene, written: Word, next: Position) -> Effect
+fn leaves(scene: Scene, written: Word, next: Position) -> Effect
     ensures { result ≡ record { word = written; slots = scene.slots; next = next; added = None } }
 {
-    keeps(written, scene.slots, next)
+    changes(written, scene.slots, next)
 }
 
 // A step that touches no slot, and adds a party.
@@ -67,7 +67,7 @@ fn adds(scene: Scene, written: Word, next: Position, added: Position) -> Effect
 }
 
 // An act on the slots.
-fn keeps(written: Word, slots: Slots, next: Position) -> Effect
+fn changes(written: Word, slots: Slots, next: Position) -> Effect
     ensures { result ≡ record { word = written; slots = slots; next = next; added = None } }
 {
     Effect {
@@ -121,10 +121,10 @@ fn gains(scene: Scene, written: Word, act: Act, position: Position) -> Option<Ef
     match (act, position) {
         (GainReference, At(rest)) => {
             let may = may_gain(&scene, rest);
-            may.then_some(adds(scene, written, Leaving(Gained(true), rest), At(Waker)))
+            may.then_some(adds(scene, written, CallEnding(Gained(true), rest), At(Waker)))
         }
         (FindLimit | RefuseGain, At(rest)) => {
-            may_ask(rest).then_some(steps(scene, written, Leaving(Gained(false), rest)))
+            may_ask(rest).then_some(leaves(scene, written, CallEnding(Gained(false), rest)))
         }
         _ => None,
     }
@@ -135,7 +135,7 @@ fn gives_up(scene: Scene, written: Word, act: Act, position: Position) -> Option
     ensures { result ≡ effect_of (goes (scene_of scene) written act position) }
 {
     let next = match (act, position) {
-        (DropWaker, At(Waker)) => Leaving(Nothing, Ended),
+        (DropWaker, At(Waker)) => CallEnding(Nothing, Ended),
         (DropLastWaker, At(Waker)) => Emptier(None, Nothing),
         (OrphanTask, At(Waker)) => OrphanHolder,
         (CloseOrphan, OrphanHolder) => Deliverer(false, ThenEnds(Nothing)),
@@ -143,7 +143,7 @@ fn gives_up(scene: Scene, written: Word, act: Act, position: Position) -> Option
         (GiveUpLastReference, GivingUp(hand, answer)) => Emptier(hand, answer),
         _ => return None,
     };
-    Some(steps(scene, written, next))
+    Some(leaves(scene, written, next))
 }
 
 fn wakes(scene: Scene, written: Word, act: Act, position: Position) -> Option<Effect>
@@ -154,11 +154,11 @@ fn wakes(scene: Scene, written: Word, act: Act, position: Position) -> Option<Ef
         (WakeIdle, At(rest)) => {
             let may = may_wake(&scene, rest);
             let deliverer = Deliverer(false, ThenEnds(Nothing));
-            may.then_some(adds(scene, written, Leaving(Nothing, rest), deliverer))
+            may.then_some(adds(scene, written, CallEnding(Nothing, rest), deliverer))
         }
         (WakeOver | WakeScheduled | WakeRunning, At(rest)) => {
             let may = may_wake(&scene, rest);
-            may.then_some(steps(scene, written, Leaving(Nothing, rest)))
+            may.then_some(leaves(scene, written, CallEnding(Nothing, rest)))
         }
         _ => None,
     }
@@ -172,18 +172,18 @@ fn closes(scene: Scene, written: Word, act: Act, position: Position) -> Option<E
     let awaiter = scene.word.awaiter();
     let next = match (act, position) {
         (DiscardOpen | DiscardClosed, At(Runnable)) => FutureInHand(DroppedRunnable),
-        (CancelOver, At(Task(n))) => Leaving(Nothing, Task(n)),
+        (CancelOver, At(Task(n))) => CallEnding(Nothing, Task(n)),
         (CancelBusy, At(Task(n))) => notifies(awaiter, OfCancel(n)),
-        (CancelIdle, At(Task(n))) => Deliverer(false, cancels_after(awaiter, n)),
+        (CancelIdle, At(Task(n))) => Deliverer(false, after_cancelling(awaiter, n)),
         (ClaimOutput, At(Task(n))) => notifies(awaiter, OfClaim(n + 1)),
-        (ClaimOutput, Claiming(n)) => notifies(awaiter, OfClaim(n)),
+        (ClaimOutput, SawOutput(n)) => notifies(awaiter, OfClaim(n)),
         (GiveUpOutput, At(Task(_))) => OutputCloser,
         (DetachOrphan, At(Task(_))) => Deliverer(false, ThenEnds(Nothing)),
         (DetachLast, At(Task(_)) | Detacher) => Emptier(None, Nothing),
-        (Detach, At(Task(_)) | Detacher) => Leaving(Nothing, Ended),
+        (Detach, At(Task(_)) | Detacher) => CallEnding(Nothing, Ended),
         _ => return None,
     };
-    Some(steps(scene, written, next))
+    Some(leaves(scene, written, next))
 }
 
 fn run_starts(scene: Scene, written: Word, act: Act, position: Position) -> Option<Effect>
@@ -191,8 +191,8 @@ fn run_starts(scene: Scene, written: Word, act: Act, position: Position) -> Opti
     ensures { result ≡ effect_of (goes (scene_of scene) written act position) }
 {
     match (act, position) {
-        (TakeUpClosed, At(Runnable)) => Some(steps(scene, written, FutureInHand(ClosedRun))),
-        (StartRun, At(Runnable)) => Some(steps(scene, written, Starting)),
+        (TakeUpClosed, At(Runnable)) => Some(leaves(scene, written, FutureInHand(ClosedRun))),
+        (StartRun, At(Runnable)) => Some(leaves(scene, written, Starting)),
         _ => None,
     }
 }
@@ -205,16 +205,16 @@ fn run_ends(scene: Scene, written: Word, act: Act, position: Position) -> Option
     let next = match (act, position) {
         (Unschedule, FutureGone(ClosedRun)) => notifies(awaiter, OfRun),
         (Unschedule, FutureGone(DroppedRunnable)) => notifies(awaiter, OfDrop),
-        (Complete, Stored) if scene.word.closed() => OutputInHand(awaiter),
-        (Complete, Stored) => notifies(awaiter, OfRun),
-        (CompleteDetached, Stored) => OutputInHand(awaiter),
-        (EndClosed, Cleared) => notifies(awaiter, OfRun),
+        (Complete, OutputStored) if scene.word.closed() => OutputInHand(awaiter),
+        (Complete, OutputStored) => notifies(awaiter, OfRun),
+        (CompleteDetached, OutputStored) => OutputInHand(awaiter),
+        (EndClosed, PendingFutureDropped) => notifies(awaiter, OfRun),
         (Reschedule, Pending) => Deliverer(true, ThenEnds(Ran(true))),
-        (EndIdle, Pending) => Leaving(Ran(false), Ended),
+        (EndIdle, Pending) => CallEnding(Ran(false), Ended),
         (EndOrphaned, Pending) => Deliverer(false, ThenEnds(Ran(false))),
         _ => return None,
     };
-    Some(steps(scene, written, next))
+    Some(leaves(scene, written, next))
 }
 
 fn handshake_begins(scene: Scene, written: Word, act: Act, position: Position) -> Option<Effect>
@@ -223,12 +223,12 @@ fn handshake_begins(scene: Scene, written: Word, act: Act, position: Position) -
 {
     let next = match (act, position) {
         (BeginNotify, Notifier(way)) => Taker(way),
-        (MissNotify, Notifier(way)) => goes_on(None, way),
-        (FindNotify, HasClone(i)) => RefusedClone(i),
+        (MissNotify, Notifier(way)) => after_taking(None, way),
+        (FindNotify, HasClone(i)) => UnusedClone(i),
         (BeginRegister, HasClone(i)) => Storing(i),
         _ => return None,
     };
-    Some(steps(scene, written, next))
+    Some(leaves(scene, written, next))
 }
 
 fn handshake_ends(scene: Scene, written: Word, act: Act, position: Position) -> Option<Effect>
@@ -236,12 +236,12 @@ fn handshake_ends(scene: Scene, written: Word, act: Act, position: Position) -> 
     ensures { result ≡ effect_of (goes (scene_of scene) written act position) }
 {
     let next = match (act, position) {
-        (EndNotify, Releaser(hand, way)) => goes_on(hand, way),
+        (EndNotify, Releaser(hand, way)) => after_taking(hand, way),
         (EndRegister, Registered(i)) => Looking(i),
         (EndRegisterNotified, TookBack(i)) => CloneInHand(i),
         _ => return None,
     };
-    Some(steps(scene, written, next))
+    Some(leaves(scene, written, next))
 }
 
 fn loads(scene: Scene, written: Word, act: Act, position: Position) -> Option<Effect>
@@ -254,13 +254,13 @@ fn loads(scene: Scene, written: Word, act: Act, position: Position) -> Option<Ef
         (Look, At(Lent)) => Some(adds(scene, written, At(Lent), At(Lent))),
         (Look, At(Task(n))) => {
             let has_output = word.completed() && !word.closed();
-            let looks = steps(scene, written, first_look(word, n + 1));
+            let looks = leaves(scene, written, first_look(word, n + 1));
             (!has_output).then_some(looks)
         }
-        (Look, Looking(i)) => Some(steps(scene, written, second_look(word, i))),
+        (Look, Looking(i)) => Some(leaves(scene, written, second_look(word, i))),
         (LookFinished, At(Task(n))) => {
-            let next = Leaving(Finished(word.is_over()), Task(n));
-            Some(steps(scene, written, next))
+            let next = CallEnding(Finished(word.is_over()), Task(n));
+            Some(leaves(scene, written, next))
         }
         _ => None,
     }
@@ -283,19 +283,19 @@ fn values(scene: Scene, written: Word, act: Act, position: Position) -> Option<E
         ..scene.slots
     };
     match (act, position) {
-        (StartPoll, Starting) => Some(steps(scene, written, Polling)),
-        (AnswerPending, Polling) => Some(steps(scene, written, Pending)),
-        (AnswerReady, Polling) => Some(steps(scene, written, Ready)),
-        (DropFuture, Ready) => Some(keeps(written, dropped, Unstored)),
+        (StartPoll, Starting) => Some(leaves(scene, written, Polling)),
+        (AnswerPending, Polling) => Some(leaves(scene, written, Pending)),
+        (AnswerReady, Polling) => Some(leaves(scene, written, Ready)),
+        (DropFuture, Ready) => Some(changes(written, dropped, ReadyFutureDropped)),
         (DropFuture, Pending) => {
             let may = scene.word.closed();
-            may.then_some(keeps(written, dropped, Cleared))
+            may.then_some(changes(written, dropped, PendingFutureDropped))
         }
-        (DropFuture, FutureInHand(closer)) => Some(keeps(written, dropped, FutureGone(closer))),
-        (StoreOutput, Unstored) => Some(keeps(written, stored, Stored)),
-        (DropOutput, OutputInHand(due)) => Some(keeps(written, taken, notifies(due, OfRun))),
-        (DropOutput, OutputCloser) => Some(keeps(written, taken, Detacher)),
-        (HandOutOutput, Claimer(i)) => Some(keeps(written, taken, Answering(i, HasOutput))),
+        (DropFuture, FutureInHand(closer)) => Some(changes(written, dropped, FutureGone(closer))),
+        (StoreOutput, ReadyFutureDropped) => Some(changes(written, stored, OutputStored)),
+        (DropOutput, OutputInHand(due)) => Some(changes(written, taken, notifies(due, OfRun))),
+        (DropOutput, OutputCloser) => Some(changes(written, taken, Detacher)),
+        (HandOutOutput, TookOutput(i)) => Some(changes(written, taken, Answering(i, HasOutput))),
         _ => None,
     }
 }
@@ -305,15 +305,15 @@ fn awaiters(scene: Scene, written: Word, act: Act, position: Position) -> Option
     ensures { result ≡ effect_of (goes (scene_of scene) written act position) }
 {
     match (act, position) {
-        (CloneAwaiter, Registrar(i)) => Some(steps(scene, written, HasClone(i))),
-        (RefuseClone, Registrar(i)) => Some(steps(scene, written, Answering(i, IsRefused))),
+        (CloneAwaiter, Registrar(i)) => Some(leaves(scene, written, HasClone(i))),
+        (RefuseClone, Registrar(i)) => Some(leaves(scene, written, Answering(i, IsRefused))),
         (StoreAwaiter, Storing(i)) => Some(stores(scene, written, i)),
-        (WakeAwaiter, CloneInHand(i)) => Some(steps(scene, written, Looking(i))),
-        (WakeAwaiter, AwaiterInHand(_, way)) => Some(steps(scene, written, goes_off(way))),
-        (DropAwaiter, OldAwaiterInHand(i, _)) => Some(steps(scene, written, Registered(i))),
-        (DropAwaiter, RefusedClone(i)) => Some(steps(scene, written, Looking(i))),
+        (WakeAwaiter, CloneInHand(i)) => Some(leaves(scene, written, Looking(i))),
+        (WakeAwaiter, AwaiterInHand(_, way)) => Some(leaves(scene, written, after_waking(way))),
+        (DropAwaiter, OldAwaiterInHand(i, _)) => Some(leaves(scene, written, Registered(i))),
+        (DropAwaiter, UnusedClone(i)) => Some(leaves(scene, written, Looking(i))),
         (DropAwaiter, AwaiterInHand(_, way)) => {
-            may_drop(way).then_some(steps(scene, written, goes_off(way)))
+            may_drop(way).then_some(leaves(scene, written, after_waking(way)))
         }
         (TakeAwaiter, Registered(i)) => {
             let may = scene.word.notifying();
@@ -334,7 +334,7 @@ fn stores(scene: Scene, written: Word, poll: u64) -> Effect
         awaiter: Some(poll),
         ..scene.slots
     };
-    keeps(written, stored, after_storing(poll, scene.slots.awaiter))
+    changes(written, stored, after_storing(poll, scene.slots.awaiter))
 }
 
 // The awaiter's slot is emptied.
@@ -345,7 +345,7 @@ fn takes(scene: Scene, written: Word, next: Position) -> Effect
         awaiter: None,
         ..scene.slots
     };
-    keeps(written, emptied, next)
+    changes(written, emptied, next)
 }
 
 fn endings(scene: Scene, written: Word, act: Act, position: Position) -> Option<Effect>
@@ -354,16 +354,16 @@ fn endings(scene: Scene, written: Word, act: Act, position: Position) -> Option<
 {
     match (act, position) {
         (HandOver, At(Runnable)) => {
-            Some(adds(scene, written, Leaving(Nothing, Ended), At(Runnable)))
+            Some(adds(scene, written, CallEnding(Nothing, Ended), At(Runnable)))
         }
         (HandOver, Deliverer(_, next)) => {
-            Some(adds(scene, written, goes_after(next), At(Runnable)))
+            Some(adds(scene, written, after_handing_over(next), At(Runnable)))
         }
         (EmptySlots, Emptier(hand, answer)) => {
             Some(takes(scene, written, after_giving_up(hand, answer)))
         }
-        (EndCall, Leaving(_, rest)) => Some(steps(scene, written, At(rest))),
-        (EndCall, Answering(i, _)) => Some(steps(scene, written, At(Task(i)))),
+        (EndCall, CallEnding(_, rest)) => Some(leaves(scene, written, At(rest))),
+        (EndCall, Answering(i, _)) => Some(leaves(scene, written, At(Task(i)))),
         _ => None,
     }
 }

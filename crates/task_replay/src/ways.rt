@@ -5,7 +5,7 @@ ghost use Rattle.task_replay.specs.Replay.{scene_of};
 
 use crate::table::Scene;
 use task_core::word::Word;
-use task_laws::positions::{After, Answer, PollAnswer, Position, Rest, Way};
+use task_laws::positions::{Answer, NotifyingCall, OnceDelivered, PollAnswer, Position, Rest};
 
 /// Whether the task has a handle: the Task, or one that holds a reference.
 pub(crate) fn is_held(word: Word) -> bool
@@ -46,69 +46,69 @@ pub(crate) fn may_wake(scene: &Scene, rest: Rest) -> bool
 }
 
 /// The way on once an awaiter was taken, or was not.
-pub(crate) fn goes_on(hand: Option<u64>, way: Way) -> Position
-    ensures { result ≡ table.goes_on hand way }
+pub(crate) fn after_taking(hand: Option<u64>, way: NotifyingCall) -> Position
+    ensures { result ≡ table.after_taking hand way }
 {
     match way {
-        Way::OfRun => Position::GivingUp(hand, Answer::Ran(false)),
+        NotifyingCall::OfRun => Position::GivingUp(hand, Answer::Ran(false)),
         _ => match hand {
             Some(i) => Position::AwaiterInHand(i, way),
-            None => goes_off(way),
+            None => after_waking(way),
         },
     }
 }
 
 /// An awaiter is to be taken where AWAITER was found.
-pub(crate) fn notifies(awaiter: bool, way: Way) -> Position
+pub(crate) fn notifies(awaiter: bool, way: NotifyingCall) -> Position
     ensures { result ≡ table.notifies awaiter way }
 {
     if awaiter {
         Position::Notifier(way)
     } else {
-        goes_on(None, way)
+        after_taking(None, way)
     }
 }
 
 /// What follows the handing over of a cancel by a Task that has begun so many polls.
-pub(crate) fn cancels_after(awaiter: bool, polls: u64) -> After
-    ensures { result ≡ table.cancels_after awaiter polls }
+pub(crate) fn after_cancelling(awaiter: bool, polls: u64) -> OnceDelivered
+    ensures { result ≡ table.after_cancelling awaiter polls }
 {
     if awaiter {
-        After::ThenNotifies(polls)
+        OnceDelivered::ThenNotifies(polls)
     } else {
-        After::ThenTask(polls)
+        OnceDelivered::ThenTask(polls)
     }
 }
 
 /// The way on once the Runnable was handed over.
-pub(crate) fn goes_after(after: After) -> Position
-    ensures { result ≡ table.goes_after after }
+pub(crate) fn after_handing_over(after: OnceDelivered) -> Position
+    ensures { result ≡ table.after_handing_over after }
 {
     match after {
-        After::ThenEnds(answer) => Position::Leaving(answer, Rest::Ended),
-        After::ThenTask(n) => Position::Leaving(Answer::Nothing, Rest::Task(n)),
-        After::ThenNotifies(n) => Position::Notifier(Way::OfCancel(n)),
+        OnceDelivered::ThenEnds(answer) => Position::CallEnding(answer, Rest::Ended),
+        OnceDelivered::ThenTask(n) => Position::CallEnding(Answer::Nothing, Rest::Task(n)),
+        OnceDelivered::ThenNotifies(n) => Position::Notifier(NotifyingCall::OfCancel(n)),
     }
 }
 
 /// The way on once the awaiter in hand was woken or dropped.
-pub(crate) fn goes_off(way: Way) -> Position
-    ensures { result ≡ table.goes_off way }
+pub(crate) fn after_waking(way: NotifyingCall) -> Position
+    ensures { result ≡ table.after_waking way }
 {
     match way {
-        Way::OfRun => Position::Leaving(Answer::Ran(false), Rest::Ended),
-        Way::OfDrop => Position::GivingUp(None, Answer::Nothing),
-        Way::OfCancel(n) => Position::Leaving(Answer::Nothing, Rest::Task(n)),
-        Way::OfPoll(n) => Position::Answering(n, PollAnswer::IsReady),
-        Way::OfClaim(n) => Position::Claimer(n),
+        NotifyingCall::OfRun => Position::CallEnding(Answer::Ran(false), Rest::Ended),
+        NotifyingCall::OfDrop => Position::GivingUp(None, Answer::Nothing),
+        NotifyingCall::OfCancel(n) => Position::CallEnding(Answer::Nothing, Rest::Task(n)),
+        NotifyingCall::OfPoll(n) => Position::Answering(n, PollAnswer::IsClosed),
+        NotifyingCall::OfClaim(n) => Position::TookOutput(n),
     }
 }
 
 /// Whether the awaiter in hand may be dropped in place of being woken.
-pub(crate) fn may_drop(way: Way) -> bool
+pub(crate) fn may_drop(way: NotifyingCall) -> bool
     ensures { result ≡ table.may_drop way }
 {
-    matches!(way, Way::OfPoll(_) | Way::OfClaim(_))
+    matches!(way, NotifyingCall::OfPoll(_) | NotifyingCall::OfClaim(_))
 }
 
 /// The way on once the reference was given up, with that awaiter in hand.
@@ -116,8 +116,8 @@ pub(crate) fn after_giving_up(hand: Option<u64>, answer: Answer) -> Position
     ensures { result ≡ table.after_giving_up hand answer }
 {
     match hand {
-        Some(i) => Position::AwaiterInHand(i, Way::OfRun),
-        None => Position::Leaving(answer, Rest::Ended),
+        Some(i) => Position::AwaiterInHand(i, NotifyingCall::OfRun),
+        None => Position::CallEnding(answer, Rest::Ended),
     }
 }
 
@@ -127,7 +127,7 @@ pub(crate) fn first_look(word: Word, poll: u64) -> Position
 {
     let is_held = word.scheduled() || word.running();
     if word.closed() && !is_held {
-        Position::Notifier(Way::OfPoll(poll))
+        Position::Notifier(NotifyingCall::OfPoll(poll))
     } else {
         Position::Registrar(poll)
     }
@@ -139,9 +139,9 @@ pub(crate) fn second_look(word: Word, poll: u64) -> Position
 {
     let is_held = word.scheduled() || word.running();
     if word.closed() && !is_held {
-        Position::Notifier(Way::OfPoll(poll))
+        Position::Notifier(NotifyingCall::OfPoll(poll))
     } else if word.completed() && !word.closed() {
-        Position::Claiming(poll)
+        Position::SawOutput(poll)
     } else {
         Position::Answering(poll, PollAnswer::IsPending)
     }

@@ -3,26 +3,26 @@ use Rattle.std.proofs.Common.{◌≡◌, ℕ, ◌+◌, ◌<◌, Bool, true, fals
 use Rattle.task_core.specs.Word.{State, bit, is_open}
 use Rattle.task_laws.specs.Event.{Event}
 use Rattle.task_laws.specs.declared.positions.Position.{Position}
-use Rattle.task_core.specs.declared.moves.Act.{Act}
-use Rattle.task_core.specs.declared.moves.Act.TheVariants.{GainReference, WakeIdle, WakeOver, WakeRunning, WakeScheduled}
+use Rattle.task_core.specs.declared.acts.Act.{Act}
+use Rattle.task_core.specs.declared.acts.Act.TheVariants.{GainReference, WakeIdle, WakeOver, WakeRunning, WakeScheduled}
 use Rattle.task_laws.specs.declared.positions.Position.TheVariants.{At}
 use Rattle.task_laws.specs.declared.positions.Rest.TheVariants.{Lent}
 use Rattle.task_core.specs.Rows.{found, written, row}
-use Rattle.task_laws.specs.Table.{Slots, Scene, Outcome, when, is_held, steps, goes, rule}
+use Rattle.task_laws.specs.Table.{Slots, Scene, Outcome, when, is_held, leaves_slots, goes, rule}
 use Rattle.task_laws.specs.Machine.{Machine, begins, scene, how_many}
 use Rattle.task_laws.specs.Laws.{count, is_emptying}
 use Rattle.task_steps.specs.declared.table.Deed.{Deed}
 use Rattle.task_steps.specs.declared.table.Member.{Member}
 use Rattle.task_steps.specs.declared.table.View.{View}
-use Rattle.task_steps.specs.Rule.{deed, member, view, fresh, found_by, Entry, Told}
+use Rattle.task_steps.specs.Rule.{deed, member, view, fresh, found_by, Entry, Explains}
 use Rattle.task_steps.specs.Steps.{then_leaves, and_then, spot, is_lent, held_word, leaves_by, all_fit, noted}
-use Rattle.task_steps.proofs.Told.{tells, next_machine}
+use Rattle.task_steps.proofs.Explains.{tells, next_machine}
 use Rattle.task_steps.proofs.Facts.{many_next}
 use Rattle.task_steps.proofs.Written.{found_is, found_so, rule_word}
 
 -- what acts in a row leave where each row finds its word
 abbrev pub leads : Scene → List Act → Position → Option Outcome
-leads s [] p = Some (steps s s.word p [] [])
+leads s [] p = Some (leaves_slots s s.word p [] [])
 leads s (a ∷ more) p = and_then (rule s a p) (λ o. leads (spot s.limit o.word o.slots) more o.next)
 
 when_so : (b : Bool) (x o : Outcome) → when b x ≡ Some o → Some x ≡ Some o
@@ -121,7 +121,7 @@ fresh_append (p ∷ s) t = ap (λ l. fresh p ∷ l) (fresh_append s t)
 pub record Followed (limit : ℕ) (views : List View) (seat l : ℕ) (p : Position) (ds : List Deed) (us : List Member) (acts : List Act) (m : Machine) (o : Outcome) : Type 0 where
   pub machine : Machine
   pub log : List Entry
-  pub told : Told limit (set views seat (view l (member o.next (noted m.word acts ds) ∷ (us ++ map fresh o.born)))) log machine
+  pub told : Explains limit (set views seat (view l (member o.next (noted m.word acts ds) ∷ (us ++ map fresh o.born)))) log machine
   pub word_is : machine.word ≡ o.word
   pub slots_is : machine.slots ≡ o.slots
   pub limit_is : machine.limit ≡ m.limit
@@ -133,11 +133,11 @@ FollowedBy limit views seat l p ds us acts m None = Unit {0}
 FollowedBy limit views seat l p ds us acts m (Some x) = Followed limit views seat l p ds us acts m x
 
 pub follows : (limit : ℕ) (views : List View) (seat l : ℕ) (acts : List Act) (p : Position) (ds : List Deed) (us : List Member) (log : List Entry) (m : Machine) (o : Outcome)
-    → Told limit (set views seat (view l (member p ds ∷ us))) log m → seat < length views → leads (scene m) acts p ≡ Some o → Followed limit views seat l p ds us acts m o
+    → Explains limit (set views seat (view l (member p ds ∷ us))) log m → seat < length views → leads (scene m) acts p ≡ Some o → Followed limit views seat l p ds us acts m o
 follows limit views seat l [] p ds us log m o t lt e = subst (λ (x : Option Outcome). FollowedBy limit views seat l p ds us [] m x) e (record {
   machine = m;
   log = log;
-  told = subst (λ (r : List Member). Told limit (set views seat (view l (member p ds ∷ r))) log m) (sym (append-nil us)) t;
+  told = subst (λ (r : List Member). Explains limit (set views seat (view l (member p ds ∷ r))) log m) (sym (append-nil us)) t;
   word_is = refl;
   slots_is = refl;
   limit_is = refl;
@@ -152,7 +152,7 @@ follows limit views seat l (a ∷ more) p ds us log m o t lt e = let j = joined 
     subst (λ (y : Option Outcome). FollowedBy limit views seat l p ds us (a ∷ more) m y) j.is (record {
       machine = rec.machine;
       log = rec.log;
-      told = subst (λ (z : State × List Member). Told limit (set views seat (view l (member o2.next (noted z.0 more (deed a (found_by a m.word) ∷ ds)) ∷ z.1))) rec.log rec.machine)
+      told = subst (λ (z : State × List Member). Explains limit (set views seat (view l (member o2.next (noted z.0 more (deed a (found_by a m.word) ∷ ds)) ∷ z.1))) rec.log rec.machine)
           (λ i. (rule_word (scene m) a p o1 j.one i, (append_assoc us (map fresh o1.born) (map fresh o2.born) ∙ ap (λ r. us ++ r) (sym (fresh_append o1.born o2.born))) i)) rec.told;
       word_is = rec.word_is;
       slots_is = rec.slots_is;

@@ -7,7 +7,7 @@ use Rattle.atomic_table.specs.Table.{State as Board, Me, Act as Move, keeps, tak
 use Rattle.atomic_table.proofs.Lists as lists
 use Rattle.task_core.specs.Word.{bit, number_of, is_open}
 use Rattle.task_laws.specs.declared.positions.Position.{Position}
-use Rattle.task_core.specs.declared.moves.Act.{Act}
+use Rattle.task_core.specs.declared.acts.Act.{Act}
 use Rattle.task_laws.specs.Table.{Outcome}
 use Rattle.task_laws.specs.Machine.{Machine, scene, how_many}
 use Rattle.task_laws.specs.Laws.{count, is_emptying}
@@ -18,7 +18,7 @@ use Rattle.task_steps.specs.declared.table.Deed.{Deed}
 use Rattle.task_steps.specs.declared.table.Member.{Member}
 use Rattle.task_steps.specs.declared.table.View.{View}
 use Rattle.task_steps.specs.PollScripts.{has_ended}
-use Rattle.task_steps.specs.Rule.{has_work, IsFuture, IsOutput, Waits, AtHome, Housed, Ruled}
+use Rattle.task_steps.specs.Rule.{has_work, IsFuture, IsOutput, Waits, AtHome, HomesAgree, RuleHolds}
 use Rattle.task_steps.specs.Steps.{future_first, output_first, TakesFuture, TakesOutput, Works, Awaits, Carries, Carried, saw_over, saw_closed, saw_ended}
 use Rattle.task_steps.proofs.Acts.{leads}
 
@@ -71,7 +71,7 @@ module _ (F T A : Type 0) (limit : ℕ) where
   B = Board (Slot F T A) View
 
   abbrev pub Rule : B → Type 0
-  Rule = Ruled {F = F} {T = T} {A = A} limit
+  Rule = RuleHolds {F = F} {T = T} {A = A} limit
 
   abbrev pub now : B → ℕ
   now s = get_or s.words 0 0
@@ -83,7 +83,7 @@ module _ (F T A : Type 0) (limit : ℕ) where
   pub record Places (b : Bool) (m : Machine) (p : Position) (o : Outcome) (s : B) (l : List (ℕ × Slot F T A)) (q : Machine) : Type 0 where
     pub move : Move (Slot F T A)
     pub valid : Valid s.homes l move
-    pub housed : Housed b q (homes_after s.homes l move)
+    pub housed : HomesAgree b q (homes_after s.homes l move)
     pub still : has_work o.next ≡ has_work p → get_elem? (homes_after s.homes l move) 0 ≡ get_elem? s.homes 0
     pub carried : Carried p o.next l (carried_after l move)
 
@@ -109,7 +109,7 @@ module _ (F T A : Type 0) (limit : ℕ) where
   SameHomes homes homes' = (get_elem? homes' 0 ≡ get_elem? homes 0) × (get_elem? homes' 1 ≡ get_elem? homes 1)
 
   -- the work stays where it is
-  pub same_work : (b : Bool) (m : Machine) (p : Position) (o : Outcome) (q : Machine) (homes homes' : List (maybe.Option (Slot F T A))) → After m p o q → Housed b m homes → has_work o.next ≡ has_work p → (has_work p ≡ true) ⊎ SameWork m o
+  pub same_work : (b : Bool) (m : Machine) (p : Position) (o : Outcome) (q : Machine) (homes homes' : List (maybe.Option (Slot F T A))) → After m p o q → HomesAgree b m homes → has_work o.next ≡ has_work p → (has_work p ≡ true) ⊎ SameWork m o
       → SameHomes homes homes' → how_many has_work q.parties ≡ 0 → (b ≡ true → AtHome homes' 0 (λ y. q.slots.future ≡ true → IsFuture y)) × AtHome homes' 1 (λ z. q.slots.output ≡ true → IsOutput z)
   same_work b m p o q homes homes' a h e kept at nobody = ⊎_elim
       (λ (z : has_work p ≡ true). absurd (let x = a.works in let y = a.here in let b = bit_is (has_work o.next) (has_work p) e in let c : bit (has_work p) ≡ 1 = ap bit z in omega arith))
@@ -120,7 +120,7 @@ module _ (F T A : Type 0) (limit : ℕ) where
       ))
       kept
 
-  pub same_awaiter : (b : Bool) (m : Machine) (p : Position) (o : Outcome) (q : Machine) (homes homes' : List (maybe.Option (Slot F T A))) → After m p o q → Housed b m homes → owns_awaiter o.next ≡ owns_awaiter p → (owns_awaiter p ≡ true) ⊎ SameAwaiter m o
+  pub same_awaiter : (b : Bool) (m : Machine) (p : Position) (o : Outcome) (q : Machine) (homes homes' : List (maybe.Option (Slot F T A))) → After m p o q → HomesAgree b m homes → owns_awaiter o.next ≡ owns_awaiter p → (owns_awaiter p ≡ true) ⊎ SameAwaiter m o
       → get_elem? homes' 2 ≡ get_elem? homes 2 → how_many owns_awaiter q.parties ≡ 0 → count is_emptying q.trace ≡ 0 → AtHome homes' 2 (Waits q.slots.awaiter)
   same_awaiter b m p o q homes homes' a h e kept at nobody left = ⊎_elim
       (λ (z : owns_awaiter p ≡ true). absurd (let x = a.owners in let y = a.here_too in let b = bit_is (owns_awaiter o.next) (owns_awaiter p) e in let c : bit (owns_awaiter p) ≡ 1 = ap bit z in omega arith))
@@ -183,7 +183,7 @@ module _ (F T A : Type 0) (limit : ℕ) where
       ))
       has
 
-  pub places : (b : Bool) (m : Machine) (p : Position) (o : Outcome) (s : B) (l : List (ℕ × Slot F T A)) (q : Machine) → After m p o q → Housed b m s.homes → (has_work p ≡ false → has_work o.next ≡ true → b ≡ true) → length s.homes ≡ 3
+  pub places : (b : Bool) (m : Machine) (p : Position) (o : Outcome) (s : B) (l : List (ℕ × Slot F T A)) (q : Machine) → After m p o q → HomesAgree b m s.homes → (has_work p ≡ false → has_work o.next ≡ true → b ≡ true) → length s.homes ≡ 3
       → Placing m p o l → Places b m p o s l q
   places b m p o s l q a h ready three (stays e f w z) = record {
     move = keeps;

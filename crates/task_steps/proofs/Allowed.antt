@@ -9,7 +9,7 @@ use Rattle.task_core.specs.Word.{State, state_of, number_of}
 use Rattle.task_laws.specs.declared.positions.Position.{Position}
 use Rattle.task_laws.specs.declared.positions.Position.TheVariants.{At}
 use Rattle.task_laws.specs.declared.positions.Rest.TheVariants.{Runnable}
-use Rattle.task_core.specs.declared.moves.Act.{Act}
+use Rattle.task_core.specs.declared.acts.Act.{Act}
 use Rattle.task_laws.specs.Table.{Outcome}
 use Rattle.task_laws.specs.Machine.{Machine, scene, how_many}
 use Rattle.task_laws.specs.Theorem.{owns_awaiter}
@@ -21,9 +21,9 @@ use Rattle.task_steps.specs.declared.table.Member.{Member}
 use Rattle.task_steps.specs.declared.table.Stage.{Stage}
 use Rattle.task_steps.specs.declared.table.Stage.TheVariants.{Laid, Filling, Spawned}
 use Rattle.task_steps.specs.declared.table.View.{View}
-use Rattle.task_steps.specs.Rule.{member, view, fresh, opening_at, Entry, Told, has_work, AtHome, IsEmpty, Unfilled, Running, Ruled}
+use Rattle.task_steps.specs.Rule.{member, view, fresh, opening_at, Entry, Explains, has_work, AtHome, IsEmpty, Unfilled, Running, RuleHolds}
 use Rattle.task_steps.specs.Steps.{head_of, leaves_by, all_fit, noted, acted, next_of, born_of, Carried, Makes}
-use Rattle.task_steps.proofs.Told.{inside}
+use Rattle.task_steps.proofs.Explains.{inside}
 use Rattle.task_steps.proofs.Facts.{law, is_clear, many_at, queued, one_work}
 use Rattle.task_steps.proofs.Acts.{leads_leave, leads_fit, follows}
 use Rattle.task_steps.proofs.Seen.{over_stays, closed_stays, ended_stays}
@@ -37,7 +37,7 @@ module _ (F T A : Type 0) (limit : ℕ) where
   B = Board (Slot F T A) View
 
   abbrev Rule : B → Type 0
-  Rule = Ruled {F = F} {T = T} {A = A} limit
+  Rule = RuleHolds {F = F} {T = T} {A = A} limit
 
   abbrev now : B → ℕ
   now s = get_or s.words 0 0
@@ -61,7 +61,7 @@ module _ (F T A : Type 0) (limit : ℕ) where
   set_apart views id w ne = lists.set_else views id 0 w (λ z. ne (sym z))
 
   -- until then its Runnable waits, so nobody has the places of future and output
-  pub no_work : (views : List View) (log : List Entry) (m : Machine) (stage : Stage) → Told limit views log m → get_elem? views 0 ≡ some (opening_at stage limit) → how_many has_work m.parties ≡ 0
+  pub no_work : (views : List View) (log : List Entry) (m : Machine) (stage : Stage) → Explains limit views log m → get_elem? views 0 ≡ some (opening_at stage limit) → how_many has_work m.parties ≡ 0
   no_work views log m stage t first = let k = t.each 0 0 (opening_at stage limit) (fresh (At Runnable)) first refl in (queued m k.0 (law limit log m t.reaches) k.1.at).home
 
   -- what the first party of a seat finds
@@ -83,7 +83,7 @@ module _ (F T A : Type 0) (limit : ℕ) where
       → Result F T A limit s id me new (Makes acts r.machine.word me)
   advance s c r id me l p ds us acts new at is three x = let m : Machine = r.machine in let o : Outcome = x.outcome in let v : View = view l (member p ds ∷ us) in
       let lt = inside s.views id me.0 at in
-      let t0 = subst (λ vs. Told limit vs r.log m) (sym (ap (λ z. set s.views id z) (sym is) ∙ lists.set_again s.views id me.0 at)) r.told in
+      let t0 = subst (λ vs. Explains limit vs r.log m) (sym (ap (λ z. set s.views id z) (sym is) ∙ lists.set_again s.views id me.0 at)) r.told in
       let f = follows limit s.views id l acts p ds us r.log m o t0 lt x.leads_to in let q : Machine = f.machine in
       let i = law limit f.log q f.told.reaches in let k = (finds s c r id me.0 l p ds us at is) in
       let a : After F T A limit m p o q = record {

@@ -7,18 +7,18 @@ use Rattle.atomic_table.proofs.Lists as lists
 use Rattle.task_core.specs.Word.{State, bit, state_of, number_of}
 use Rattle.task_core.proofs.Bits.{state_of_number_of}
 use Rattle.task_laws.specs.declared.positions.Position.{Position}
-use Rattle.task_core.specs.declared.moves.Act.{Act}
+use Rattle.task_core.specs.declared.acts.Act.{Act}
 use Rattle.task_laws.specs.Machine.{Machine}
 use Rattle.task_steps.specs.declared.table.Slot.{Slot}
 use Rattle.task_steps.specs.declared.table.Deed.{Deed}
 use Rattle.task_steps.specs.declared.table.Tries.{Tries}
 use Rattle.task_steps.specs.declared.table.Member.{Member}
 use Rattle.task_steps.specs.declared.table.View.{View}
-use Rattle.task_steps.specs.Rule.{view, member, trying, differ, Entry, Tried, Told, Ruled}
+use Rattle.task_steps.specs.Rule.{view, member, trying, differ, Entry, Tried, Explains, RuleHolds}
 use Rattle.task_steps.specs.Steps.{Makes}
 use Rattle.task_steps.specs.Knows.{Knows}
 use Rattle.task_steps.specs.Attempts.{looked, missed, Names, observed, attempted, MayTry}
-use Rattle.task_steps.proofs.Told.{inside, retries}
+use Rattle.task_steps.proofs.Explains.{inside, retries}
 use Rattle.task_steps.proofs.Advance.{Finds, Steps, Result}
 use Rattle.task_steps.proofs.Allowed.{OwesEnd, result, not_first, set_apart}
 use Rattle.task_steps.proofs.Seats.{retold}
@@ -52,7 +52,7 @@ module _ (F T A : Type 0) (limit : ℕ) where
   B = Board (Slot F T A) View
 
   abbrev Rule : B → Type 0
-  Rule = Ruled {F = F} {T = T} {A = A} limit
+  Rule = RuleHolds {F = F} {T = T} {A = A} limit
 
   abbrev now : B → ℕ
   now s = get_or s.words 0 0
@@ -65,7 +65,7 @@ module _ (F T A : Type 0) (limit : ℕ) where
   reseen : (s : B) (id : ℕ) (l : ℕ) (p : Position) (ds : List Deed) (t new : Option Tries) (us : List Member) (c : Rule s) → get_elem? s.views id ≡ some (view l (trying p ds t ∷ us))
       → ((k : ℕ) → Tried k c.running.log c.running.machine.word t → Tried k c.running.log c.running.machine.word new) → Rule (viewing s id (view l (trying p ds new ∷ us)))
   reseen s id l p ds t new us c at shows = let r = c.running in let v : View = view l (trying p ds t ∷ us) in let w : View = view l (trying p ds new ∷ us) in let lt = inside s.views id v at in
-      let t0 = subst (λ vs. Told limit vs r.log r.machine) (sym (lists.set_again s.views id v at)) r.told in
+      let t0 = subst (λ vs. Explains limit vs r.log r.machine) (sym (lists.set_again s.views id v at)) r.told in
       retold F T A limit s c.capped r (set s.views id w) r.log r.machine (retries limit s.views id l p ds t new us r.log r.machine t0 lt shows) refl r.limited r.housed
       (λ early. set_apart F T A limit s.views id w (not_first F T A limit s r id v l (trying p ds t ∷ us) at refl early))
       (λ j y ne e. ⊎_elim (λ (h : (j ≡ id) × (w ≡ y)). ap (λ (u : View). u.stage) (sym h.1)) (λ (h : (j ≢ id) × (get_elem? s.views j ≡ some y)). r.staged j y ne h.1) (lists.at_set s.views id j w y e))

@@ -7,11 +7,11 @@ use Rattle.task_core.specs.Word.{State, state_of, number_of}
 use Rattle.task_laws.specs.Event.{Event, CallEnds, CloneEnded, Woken}
 use Rattle.task_laws.specs.declared.positions.Answer.{Answer}
 use Rattle.task_laws.specs.declared.positions.Rest.{Rest}
-use Rattle.task_laws.specs.declared.positions.Way.{Way}
-use Rattle.task_laws.specs.declared.positions.Way.TheVariants.{OfRun, OfDrop, OfCancel, OfPoll, OfClaim}
-use Rattle.task_laws.specs.declared.positions.Position.TheVariants.{At, Leaving, Notifier, Releaser, AwaiterInHand}
-use Rattle.task_core.specs.declared.moves.Act.TheVariants.{MissNotify, BeginNotify, TakeAwaiter}
-use Rattle.task_laws.specs.Table.{Slots, steps, keeps, goes_on, goes_off, may_drop}
+use Rattle.task_laws.specs.declared.positions.NotifyingCall.{NotifyingCall}
+use Rattle.task_laws.specs.declared.positions.NotifyingCall.TheVariants.{OfRun, OfDrop, OfCancel, OfPoll, OfClaim}
+use Rattle.task_laws.specs.declared.positions.Position.TheVariants.{At, CallEnding, Notifier, Releaser, AwaiterInHand}
+use Rattle.task_core.specs.declared.acts.Act.TheVariants.{MissNotify, BeginNotify, TakeAwaiter}
+use Rattle.task_laws.specs.Table.{Slots, leaves_slots, changes_slots, after_taking, after_waking, may_drop}
 use Rattle.task_laws.specs.Machine.{scene}
 use Rattle.task_laws.specs.Laws.{count, is_emptying}
 use Rattle.task_laws.specs.Theorem.{owns_awaiter}
@@ -24,29 +24,27 @@ use Rattle.task_steps.specs.declared.table.Deed.{Deed}
 use Rattle.task_steps.specs.declared.table.Member.{Member}
 use Rattle.task_steps.specs.Rule.{has_work, IsEmpty, Waits}
 use Rattle.task_steps.specs.Scripts.{ending, taking_awaiter, releasing_awaiter, waking, dropping}
+use Rattle.task_steps.proofs.Bools.{never}
 use Rattle.task_steps.proofs.Leads.{leads_first, counted, releasing_at}
 use Rattle.task_steps.proofs.Advance.{stays, takes_awaiter, gives_awaiter, Steps}
 use Rattle.task_steps.proofs.Allowed.{Owes}
 
-never : {P : Type 0} → false ≡ true → P
-never e = absurd (cc)
-
 -- what a way leaves of the places
-off_work : (i : ℕ) (way : Way) → has_work (goes_off way) ≡ has_work (AwaiterInHand i way)
+off_work : (i : ℕ) (way : NotifyingCall) → has_work (after_waking way) ≡ has_work (AwaiterInHand i way)
 off_work i OfRun = refl
 off_work i OfDrop = refl
 off_work i (OfCancel n) = refl
 off_work i (OfPoll n) = refl
 off_work i (OfClaim n) = refl
 
-off_free : (way : Way) → owns_awaiter (goes_off way) ≡ false
+off_free : (way : NotifyingCall) → owns_awaiter (after_waking way) ≡ false
 off_free OfRun = refl
 off_free OfDrop = refl
 off_free (OfCancel n) = refl
 off_free (OfPoll n) = refl
 off_free (OfClaim n) = refl
 
-pub on_work : (hand : Option ℕ) (way : Way) → has_work (goes_on hand way) ≡ has_work (Notifier way)
+pub on_work : (hand : Option ℕ) (way : NotifyingCall) → has_work (after_taking hand way) ≡ has_work (Notifier way)
 on_work hand OfRun = refl
 on_work (Some i) OfDrop = refl
 on_work None OfDrop = refl
@@ -57,7 +55,7 @@ on_work None (OfPoll n) = refl
 on_work (Some i) (OfClaim n) = refl
 on_work None (OfClaim n) = refl
 
-pub on_free : (hand : Option ℕ) (way : Way) → owns_awaiter (goes_on hand way) ≡ false
+pub on_free : (hand : Option ℕ) (way : NotifyingCall) → owns_awaiter (after_taking hand way) ≡ false
 on_free hand OfRun = refl
 on_free (Some i) OfDrop = refl
 on_free None OfDrop = refl
@@ -68,7 +66,7 @@ on_free None (OfPoll n) = refl
 on_free (Some i) (OfClaim n) = refl
 on_free None (OfClaim n) = refl
 
-pub same_way : (hand : Option ℕ) (way : Way) → has_work (Releaser hand way) ≡ has_work (Notifier way)
+pub same_way : (hand : Option ℕ) (way : NotifyingCall) → has_work (Releaser hand way) ≡ has_work (Notifier way)
 same_way hand OfRun = refl
 same_way hand OfDrop = refl
 same_way hand (OfCancel n) = refl
@@ -76,7 +74,7 @@ same_way hand (OfPoll n) = refl
 same_way hand (OfClaim n) = refl
 
 -- a notifier has a reference or is the Task, so the slots were not emptied
-has_share : (way : Way) → 1 ≤ (weigh (Notifier way)).finishing + (weigh (Notifier way)).tasks
+has_share : (way : NotifyingCall) → 1 ≤ (weigh (Notifier way)).finishing + (weigh (Notifier way)).tasks
 has_share OfRun = omega arith
 has_share OfDrop = omega arith
 has_share (OfCancel n) = omega arith
@@ -90,7 +88,7 @@ pub not_emptied : (limit : ℕ) (w : State) (slots : Slots) (t : List Event) (c 
 not_emptied limit w slots t c h e = grind (arith, nat_tests)
 
 -- a releaser has emptied the awaiter slot
-releases : (i : ℕ) (hand : Option ℕ) (way : Way) → 1 ≤ (await i (Releaser hand way)).releasers
+releases : (i : ℕ) (hand : Option ℕ) (way : NotifyingCall) → 1 ≤ (await i (Releaser hand way)).releasers
 releases i hand OfRun = omega arith
 releases i hand OfDrop = omega arith
 releases i hand (OfCancel n) = omega arith
@@ -106,44 +104,44 @@ neither false true e = never (sym e)
 neither false false e = refl
 
 module _ (F T A : Type 0) (limit : ℕ) where
-  pub ends : (answer : Answer) (r : Rest) (ds : List Deed) (us : List Member) (l : List (ℕ × Slot F T A)) → Owes F T A limit ending (λ n. n) (Leaving answer r) ds us l
+  pub ends : (answer : Answer) (r : Rest) (ds : List Deed) (us : List Member) (l : List (ℕ × Slot F T A)) → Owes F T A limit ending (λ n. n) (CallEnding answer r) ds us l
   ends answer r ds us l m f x e lt = record {
-    outcome = steps (scene m) m.word (At r) [] (CallEnds answer ∷ []);
+    outcome = leaves_slots (scene m) m.word (At r) [] (CallEnds answer ∷ []);
     leads_to = refl;
     writes = e;
     idle = (refl, refl);
     placing = stays refl refl (inr (refl, refl)) (inr (refl, refl));
   }
 
-  pub wakes : (i : ℕ) (way : Way) (ds : List Deed) (us : List Member) (l : List (ℕ × Slot F T A)) → Owes F T A limit waking (λ n. n) (AwaiterInHand i way) ds us l
+  pub wakes : (i : ℕ) (way : NotifyingCall) (ds : List Deed) (us : List Member) (l : List (ℕ × Slot F T A)) → Owes F T A limit waking (λ n. n) (AwaiterInHand i way) ds us l
   wakes i way ds us l m f x e lt = record {
-    outcome = steps (scene m) m.word (goes_off way) [] (CloneEnded i ∷ Woken i ∷ []);
+    outcome = leaves_slots (scene m) m.word (after_waking way) [] (CloneEnded i ∷ Woken i ∷ []);
     leads_to = refl;
     writes = e;
     idle = (refl, refl);
     placing = stays (off_work i way) (off_free way) (inr (refl, refl)) (inr (refl, refl));
   }
 
-  pub drops : (i : ℕ) (way : Way) (ds : List Deed) (us : List Member) (l : List (ℕ × Slot F T A)) → may_drop way ≡ true → Owes F T A limit dropping (λ n. n) (AwaiterInHand i way) ds us l
+  pub drops : (i : ℕ) (way : NotifyingCall) (ds : List Deed) (us : List Member) (l : List (ℕ × Slot F T A)) → may_drop way ≡ true → Owes F T A limit dropping (λ n. n) (AwaiterInHand i way) ds us l
   drops i OfRun ds us l may m f x e lt = never may
   drops i OfDrop ds us l may m f x e lt = never may
   drops i (OfCancel n) ds us l may m f x e lt = never may
   drops i (OfPoll n) ds us l may m f x e lt = record {
-    outcome = steps (scene m) m.word (goes_off (OfPoll n)) [] (CloneEnded i ∷ []);
+    outcome = leaves_slots (scene m) m.word (after_waking (OfPoll n)) [] (CloneEnded i ∷ []);
     leads_to = refl;
     writes = e;
     idle = (refl, refl);
     placing = stays refl refl (inr (refl, refl)) (inr (refl, refl));
   }
   drops i (OfClaim n) ds us l may m f x e lt = record {
-    outcome = steps (scene m) m.word (goes_off (OfClaim n)) [] (CloneEnded i ∷ []);
+    outcome = leaves_slots (scene m) m.word (after_waking (OfClaim n)) [] (CloneEnded i ∷ []);
     leads_to = refl;
     writes = e;
     idle = (refl, refl);
     placing = stays refl refl (inl refl) (inr (refl, refl));
   }
 
-  pub takes : (way : Way) (ds : List Deed) (us : List Member) (l : List (ℕ × Slot F T A)) → Owes F T A limit taking_awaiter (λ n. bit_or n 128) (Notifier way) ds us l
+  pub takes : (way : NotifyingCall) (ds : List Deed) (us : List Member) (l : List (ℕ × Slot F T A)) → Owes F T A limit taking_awaiter (λ n. bit_or n 128) (Notifier way) ds us l
   takes way ds us l m f x e lt = by (m.word.notifying || m.word.registering) refl
     where
       sets : bit_or x 128 ≡ number_of (record (m.word) { notifying = true })
@@ -151,14 +149,14 @@ module _ (F T A : Type 0) (limit : ℕ) where
 
       by : (b : Bool) → (m.word.notifying || m.word.registering) ≡ b → Steps m (Notifier way) (if b then MissNotify ∷ [] else BeginNotify ∷ TakeAwaiter ∷ []) (bit_or x 128) l
       by true h = record {
-        outcome = steps (scene m) (record (m.word) { notifying = true }) (goes_on None way) [] [];
+        outcome = leaves_slots (scene m) (record (m.word) { notifying = true }) (after_taking None way) [] [];
         leads_to = leads_first (scene m) MissNotify [] (Notifier way) _ h refl;
         writes = sets;
         idle = (refl, refl);
         placing = stays (on_work None way) (on_free None way) (inr (refl, refl)) (inr (refl, refl));
       }
       by false h = record {
-        outcome = keeps (scene m) (record (m.word) { notifying = true }) (record (m.slots) { awaiter = None }) (Releaser m.slots.awaiter way) [];
+        outcome = changes_slots (scene m) (record (m.word) { notifying = true }) (record (m.slots) { awaiter = None }) (Releaser m.slots.awaiter way) [];
         leads_to = leads_first (scene m) BeginNotify (TakeAwaiter ∷ []) (Notifier way) _ (neither m.word.notifying m.word.registering h) refl;
         writes = sets;
         idle = (refl, refl);
@@ -169,10 +167,10 @@ module _ (F T A : Type 0) (limit : ℕ) where
           left = let here : 1 ≤ (census m.parties).finishing + (census m.parties).tasks = omega (arith, has_share way, counted (λ c. c.finishing + c.tasks) share_sum m.parties f.number (Notifier way) f.stands) in
               not_emptied m.limit m.word m.slots m.trace (census m.parties) f.invariant.holds here
 
-  pub releases_awaiter : (hand : Option ℕ) (way : Way) (ds : List Deed) (us : List Member) (y : Slot F T A) (l : List (ℕ × Slot F T A)) → l ≡ (2, y) ∷ rest l → IsEmpty y
+  pub releases_awaiter : (hand : Option ℕ) (way : NotifyingCall) (ds : List Deed) (us : List Member) (y : Slot F T A) (l : List (ℕ × Slot F T A)) → l ≡ (2, y) ∷ rest l → IsEmpty y
       → Owes F T A limit releasing_awaiter (λ n. bit_and n 18446744073709551455) (Releaser hand way) ds us l
   releases_awaiter hand way ds us y l has empty m f x e lt = record {
-    outcome = steps (scene m) (record (m.word) { notifying = false; awaiter = false }) (goes_on hand way) [] [];
+    outcome = leaves_slots (scene m) (record (m.word) { notifying = false; awaiter = false }) (after_taking hand way) [] [];
     leads_to = refl;
     writes = fetch_and-awaiter_notifying x lt ∙ ap (λ (w : State). number_of (record w { awaiter = false; notifying = false })) (ap state_of e ∙ state_of_number_of m.word);
     idle = (refl, refl);

@@ -13,7 +13,7 @@ use Rattle.task_laws.proofs.Census.{Census, weigh, census, runs, closers}
 use Rattle.task_laws.proofs.Invariant.{Holds}
 use Rattle.task_laws.proofs.Runs.{Invariant, Stays, always}
 use Rattle.task_steps.specs.Rule.{Entry, Reaches, steps_of, has_work}
-use Rattle.task_steps.proofs.Told as told
+use Rattle.task_steps.proofs.Explains as told
 
 pub law : (limit : ℕ) (log : List Entry) (m : Machine) → Reaches limit log m → Invariant m
 law limit log m r = subst Stays (told.runs limit log m r) (always limit (steps_of log))

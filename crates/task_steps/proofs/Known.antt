@@ -5,14 +5,14 @@ use lib.ListN.{get_elem?}
 use Rattle.atomic_table.specs.Table.{State as Board, Me, Allows}
 use Rattle.task_core.specs.Word.{State, state_of}
 use Rattle.task_laws.specs.declared.positions.Position.{Position}
-use Rattle.task_core.specs.declared.moves.Act.{Act}
+use Rattle.task_core.specs.declared.acts.Act.{Act}
 use Rattle.task_core.proofs.Bits.{state_of_number_of}
 use Rattle.task_steps.specs.declared.table.Slot.{Slot}
 use Rattle.task_steps.specs.declared.table.Deed.{Deed}
 use Rattle.task_steps.specs.declared.table.Member.{Member}
 use Rattle.task_steps.specs.declared.table.View.{View}
 use Rattle.task_steps.specs.declared.table.Tries.{Tries}
-use Rattle.task_steps.specs.Rule.{member, trying, view, Running, Ruled}
+use Rattle.task_steps.specs.Rule.{member, trying, view, Running, RuleHolds}
 use Rattle.task_steps.specs.Steps.{head_of, Makes}
 use Rattle.task_steps.specs.Knows.{Knows}
 use Rattle.task_steps.proofs.Facts.{law, low}
@@ -36,7 +36,7 @@ module _ (F T A : Type 0) (limit : ℕ) where
     room = (let h = low r.machine (law limit r.log r.machine r.told.reaches) in let e = r.limited in omega arith);
   }
 
-  pub knows_now : (s : B) (id : ℕ) (me : M) (l : ℕ) (p : Position) (ds : List Deed) (t : Option Tries) (us : List Member) → me.0 ≡ view l (trying p ds t ∷ us) → Ruled {F = F} {T = T} {A = A} limit s → get_elem? s.views id ≡ some me.0
+  pub knows_now : (s : B) (id : ℕ) (me : M) (l : ℕ) (p : Position) (ds : List Deed) (t : Option Tries) (us : List Member) → me.0 ≡ view l (trying p ds t ∷ us) → RuleHolds {F = F} {T = T} {A = A} limit s → get_elem? s.views id ≡ some me.0
       → Knows (head_of me.0.members).deeds (state_of (get_or s.words 0 0))
   knows_now s id me l p ds t us is r at = let run = r.running in
       let same : run.machine.word ≡ state_of (get_or s.words 0 0) = sym (ap state_of run.word_is ∙ state_of_number_of run.machine.word) in
@@ -45,6 +45,6 @@ module _ (F T A : Type 0) (limit : ℕ) where
   -- a load, a fetch or a store that tells it
   pub steps_knowing : (slots id : ℕ) (me : M) (l : ℕ) (p : Position) (ds : List Deed) (us : List Member) (acts : State → List Act) (write : ℕ → ℕ) → slots ≡ 3
       → me.0 ≡ view l (member p ds ∷ us) → Owes F T A limit acts write p ds us me.1
-      → Allows (Ruled {F = F} {T = T} {A = A} limit) slots id me 0 write (λ r m. Makes (acts (state_of r)) (state_of r) me m × Knows (head_of me.0.members).deeds (state_of r))
+      → Allows (RuleHolds {F = F} {T = T} {A = A} limit) slots id me 0 write (λ r m. Makes (acts (state_of r)) (state_of r) me m × Knows (head_of me.0.members).deeds (state_of r))
   steps_knowing slots id me l p ds us acts write three is owes s r deep at fits = let o = steps_always F T A limit slots id me l p ds us acts write three is owes s r deep at fits in
       (o.0, o.1, o.2, o.3, (o.4, knows_now s id me l p ds None us is r at))

@@ -11,12 +11,12 @@ use Rattle.task_steps.specs.declared.table.Slot.TheVariants.{Empty}
 use Rattle.task_steps.specs.declared.table.Member.{Member}
 use Rattle.task_steps.specs.declared.table.Stage.TheVariants.{Laid}
 use Rattle.task_steps.specs.declared.table.View.{View}
-use Rattle.task_steps.specs.Rule.{fresh, laid_view, lender, DidLast, Tried, Told, Ruled}
-use Rattle.task_steps.proofs.Told.{did_nothing}
+use Rattle.task_steps.specs.Rule.{fresh, laid_view, lender, DidLast, Tried, Explains, RuleHolds}
+use Rattle.task_steps.proofs.Explains.{did_nothing}
 use Rattle.task_steps.proofs.Seats.{just}
 
 -- the Runnable and the Task of the opening seat have done nothing
-laid_told : (limit : ℕ) → Told limit (laid_view limit ∷ []) [] (opening_machine limit)
+laid_told : (limit : ℕ) → Explains limit (laid_view limit ∷ []) [] (opening_machine limit)
 laid_told limit = record {
   holder = λ k. (0, k);
   reaches = refl;
@@ -33,8 +33,8 @@ laid_told limit = record {
 
 module _ (F T A : Type 0) (limit : ℕ) where
   -- three empty places, and the opening word
-  pub laid : (xs : List (Slot F T A)) → limit < 36028797018963968 → xs ≡ Empty ∷ Empty ∷ Empty ∷ [] → Ruled {F = F} {T = T} {A = A} limit (opening (273 ∷ []) xs (laid_view limit))
-  laid xs capped are = subst (λ (l : List (Slot F T A)). Ruled {F = F} {T = T} {A = A} limit (opening (273 ∷ []) l (laid_view limit))) (sym are) (record {
+  pub laid : (xs : List (Slot F T A)) → limit < 36028797018963968 → xs ≡ Empty ∷ Empty ∷ Empty ∷ [] → RuleHolds {F = F} {T = T} {A = A} limit (opening (273 ∷ []) xs (laid_view limit))
+  laid xs capped are = subst (λ (l : List (Slot F T A)). RuleHolds {F = F} {T = T} {A = A} limit (opening (273 ∷ []) l (laid_view limit))) (sym are) (record {
     capped = capped;
     running = record {
       log = [];

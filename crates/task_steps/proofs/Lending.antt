@@ -8,14 +8,14 @@ use Rattle.task_laws.specs.Event.{CallEnds}
 use Rattle.task_laws.specs.declared.positions.Answer.TheVariants.{Nothing}
 use Rattle.task_laws.specs.declared.positions.Position.TheVariants.{At}
 use Rattle.task_laws.specs.declared.positions.Rest.TheVariants.{Lent}
-use Rattle.task_core.specs.declared.moves.Act.TheVariants.{Look}
-use Rattle.task_laws.specs.Table.{Outcome, steps}
+use Rattle.task_core.specs.declared.acts.Act.TheVariants.{Look}
+use Rattle.task_laws.specs.Table.{Outcome, leaves_slots}
 use Rattle.task_laws.specs.Machine.{Machine, scene}
 use Rattle.task_laws.specs.Theorem.{owns_awaiter}
 use Rattle.task_steps.specs.declared.table.Slot.{Slot}
 use Rattle.task_steps.specs.declared.table.View.{View}
-use Rattle.task_steps.specs.Rule.{deed, view, fresh, found_by, opening_at, lender, has_work, Housed, Ruled}
-use Rattle.task_steps.proofs.Told.{next_machine, at_append, joined_by}
+use Rattle.task_steps.specs.Rule.{deed, view, fresh, found_by, opening_at, lender, has_work, HomesAgree, RuleHolds}
+use Rattle.task_steps.proofs.Explains.{next_machine, at_append, joined_by}
 use Rattle.task_core.specs.Word.{State, state_of}
 use Rattle.task_core.proofs.Bits.{state_of_number_of}
 use Rattle.task_steps.proofs.Facts.{law, low, many_next}
@@ -23,20 +23,20 @@ use Rattle.task_steps.proofs.Seats.{just, retold}
 
 -- the lender stays at rest, and adds a lent waker
 abbrev lent_by : Machine → Outcome
-lent_by m = steps (scene m) m.word (At Lent) (At Lent ∷ []) (CallEnds Nothing ∷ [])
+lent_by m = leaves_slots (scene m) m.word (At Lent) (At Lent ∷ []) (CallEnds Nothing ∷ [])
 
 module _ (F T A : Type 0) (limit : ℕ) where
   abbrev B : Type 0
   B = Board (Slot F T A) View
 
   abbrev Rule : B → Type 0
-  Rule = Ruled {F = F} {T = T} {A = A} limit
+  Rule = RuleHolds {F = F} {T = T} {A = A} limit
 
   abbrev came : View → Me (Slot F T A) View
   came w = (w, [])
 
   -- no place changes
-  still_housed : (b : Bool) (m : Machine) (homes : List _) → get_elem? m.parties lender ≡ some (At Lent) → Housed {F = F} {T = T} {A = A} b m homes → Housed {F = F} {T = T} {A = A} b (next_machine m lender (At Lent) (lent_by m)) homes
+  still_housed : (b : Bool) (m : Machine) (homes : List _) → get_elem? m.parties lender ≡ some (At Lent) → HomesAgree {F = F} {T = T} {A = A} b m homes → HomesAgree {F = F} {T = T} {A = A} b (next_machine m lender (At Lent) (lent_by m)) homes
   still_housed b m homes lent h = let works = many_next has_work m.parties lender (At Lent) (At Lent) (At Lent ∷ []) lent in let owners = many_next owns_awaiter m.parties lender (At Lent) (At Lent) (At Lent ∷ []) lent in record {
     future = λ f n. h.future f (omega arith);
     output = λ n. h.output (omega arith);

@@ -1,6 +1,7 @@
 pub mod Numbers
+pub mod Bools
 pub mod Written
-pub mod Told
+pub mod Explains
 pub mod Facts
 pub mod Acts
 pub mod Seen

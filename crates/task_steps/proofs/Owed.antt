@@ -10,10 +10,10 @@ use Rattle.task_laws.specs.declared.positions.Answer.TheVariants.{Finished}
 use Rattle.task_laws.specs.declared.positions.Position.{Position}
 use Rattle.task_laws.specs.declared.positions.Position.TheVariants.{At, FutureInHand}
 use Rattle.task_laws.specs.declared.positions.Rest.TheVariants.{Task}
-use Rattle.task_laws.specs.declared.positions.Closer.TheVariants.{ClosedRun, DroppedRunnable}
-use Rattle.task_laws.specs.declared.positions.Closer.{Closer}
-use Rattle.task_laws.specs.declared.positions.Way.TheVariants.{OfRun, OfDrop}
-use Rattle.task_laws.specs.Table.{Slots, steps, notifies}
+use Rattle.task_laws.specs.declared.positions.WithoutPoll.TheVariants.{ClosedRun, DroppedRunnable}
+use Rattle.task_laws.specs.declared.positions.WithoutPoll.{WithoutPoll}
+use Rattle.task_laws.specs.declared.positions.NotifyingCall.TheVariants.{OfRun, OfDrop}
+use Rattle.task_laws.specs.Table.{Slots, leaves_slots, notifies}
 use Rattle.task_laws.specs.Machine.{scene}
 use Rattle.task_laws.proofs.Census.{Census, census, weigh, plus, closers}
 use Rattle.task_laws.specs.Theorem.{owns_awaiter}
@@ -26,11 +26,9 @@ use Rattle.task_steps.specs.Rule.{has_work}
 use Rattle.task_steps.specs.Steps.{future_first}
 use Rattle.task_steps.specs.TaskScripts.{looking_finished}
 use Rattle.task_steps.specs.RunScripts.{unscheduling}
+use Rattle.task_steps.proofs.Bools.{never}
 use Rattle.task_steps.proofs.Advance.{stays, gives_work}
 use Rattle.task_steps.proofs.Allowed.{Owes}
-
-never : {P : Type 0} → false ≡ true → P
-never e = absurd (cc)
 
 -- the rest of a run or a drop has no place of the table
 idle_run : (b : Bool) → (has_work (notifies b OfRun) ≡ false) × (owns_awaiter (notifies b OfRun) ≡ false)
@@ -51,7 +49,7 @@ module _ (F T A : Type 0) (limit : ℕ) where
   -- a step without acts
   pub does_nothing : (at : Position) (ds : List Deed) (us : List Member) (l : List (ℕ × Slot F T A)) → Owes F T A limit (λ _. []) (λ n. n) at ds us l
   does_nothing at ds us l m f number x lt = record {
-    outcome = steps (scene m) m.word at [] [];
+    outcome = leaves_slots (scene m) m.word at [] [];
     leads_to = refl;
     writes = x;
     idle = (refl, refl);
@@ -60,7 +58,7 @@ module _ (F T A : Type 0) (limit : ℕ) where
 
   pub looks_finished : (n : ℕ) (ds : List Deed) (us : List Member) (l : List (ℕ × Slot F T A)) → Owes F T A limit looking_finished (λ n. n) (At (Task n)) ds us l
   looks_finished n ds us l m f x e lt = record {
-    outcome = steps (scene m) m.word (At (Task n)) [] (CallEnds (Finished (not (is_open m.word))) ∷ []);
+    outcome = leaves_slots (scene m) m.word (At (Task n)) [] (CallEnds (Finished (not (is_open m.word))) ∷ []);
     leads_to = refl;
     writes = e;
     idle = (refl, refl);
@@ -74,7 +72,7 @@ module _ (F T A : Type 0) (limit : ℕ) where
   no_output : (limit : ℕ) (w : State) (slots : Slots) (t : List Event) (c : Census) → Holds limit w slots t c → 1 ≤ closers c → slots.output ≡ false
   no_output limit w slots t c h e = grind arith
 
-  pub unschedules : (closer : Closer) (ds : List Deed) (us : List Member) (y z : Slot F T A) (l : List (ℕ × Slot F T A)) → l ≡ future_first y z (rest (rest l)) → Owes F T A limit unscheduling (λ n. bit_and n 18446744073709551614) (FutureInHand closer) ds us l
+  pub unschedules : (closer : WithoutPoll) (ds : List Deed) (us : List Member) (y z : Slot F T A) (l : List (ℕ × Slot F T A)) → l ≡ future_first y z (rest (rest l)) → Owes F T A limit unscheduling (λ n. bit_and n 18446744073709551614) (FutureInHand closer) ds us l
   unschedules ClosedRun ds us y z l has m f x e lt = let i = idle_run m.word.awaiter in let none = no_output m.limit m.word m.slots m.trace (census m.parties) f.invariant.holds (counted_at closers (λ a b. closers_sum a b) m.parties f.number (FutureInHand ClosedRun) f.stands) in record {
     outcome = record { word = record (m.word) { scheduled = false }; slots = record (m.slots) { future = false }; next = notifies m.word.awaiter OfRun; born = []; told = RunEnded ∷ FutureDropped ∷ [] };
     leads_to = refl;

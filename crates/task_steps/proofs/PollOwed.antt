@@ -6,18 +6,18 @@ use lib.ListN.{get_elem?}
 use Rattle.atomic_table.specs.Table.{rest}
 use Rattle.task_core.specs.Word.{State, state_of, number_of}
 use Rattle.task_core.specs.Rows.{found, written, row}
-use Rattle.task_laws.specs.Event.{Event, Polls, PollEnds, Closes, OutputTaken, Cloned, Woken, CloneEnded}
+use Rattle.task_laws.specs.Event.{Event, TaskPollBegins, TaskPollEnds, Closes, OutputTaken, Cloned, Woken, CloneEnded}
 use Rattle.task_laws.specs.declared.positions.PollAnswer.{PollAnswer}
 use Rattle.task_laws.specs.declared.positions.PollAnswer.TheVariants.{IsPending, HasOutput, IsRefused}
 use Rattle.task_laws.specs.declared.positions.Position.{Position}
-use Rattle.task_laws.specs.declared.positions.Way.TheVariants.{OfPoll, OfClaim}
-use Rattle.task_laws.specs.declared.positions.Position.TheVariants.{At, Notifier, Looking, Claiming, Claimer, Answering, Registrar, HasClone, RefusedClone, Storing, Registered, OldAwaiterInHand, TookBack, CloneInHand}
+use Rattle.task_laws.specs.declared.positions.NotifyingCall.TheVariants.{OfPoll, OfClaim}
+use Rattle.task_laws.specs.declared.positions.Position.TheVariants.{At, Notifier, Looking, SawOutput, TookOutput, Answering, Registrar, HasClone, UnusedClone, Storing, Registered, OldAwaiterInHand, TookBack, CloneInHand}
 use Rattle.task_laws.specs.declared.positions.Rest.TheVariants.{Task}
-use Rattle.task_core.specs.declared.moves.Act.{Act}
-use Rattle.task_core.specs.declared.moves.Act.TheVariants.{Look, ClaimOutput, CloneAwaiter, StoreAwaiter, TakeAwaiter, BeginRegister, EndRegister, EndRegisterNotified, EndCall}
-use Rattle.task_laws.specs.Table.{Slots, steps, keeps, when, where_found, notifies, first_look, second_look, after_storing}
+use Rattle.task_core.specs.declared.acts.Act.{Act}
+use Rattle.task_core.specs.declared.acts.Act.TheVariants.{Look, ClaimOutput, CloneAwaiter, StoreAwaiter, TakeAwaiter, BeginRegister, EndRegister, EndRegisterNotified, EndCall}
+use Rattle.task_laws.specs.Table.{Slots, leaves_slots, changes_slots, when, where_found, notifies, first_look, second_look, after_storing}
 use Rattle.task_laws.specs.Machine.{Machine, scene}
-use Rattle.task_laws.specs.Laws.{count, is_emptying, is_poll}
+use Rattle.task_laws.specs.Laws.{count, is_emptying, is_task_poll}
 use Rattle.task_laws.specs.Theorem.{owns_awaiter}
 use Rattle.task_laws.proofs.Census.{Census, census, plus}
 use Rattle.task_laws.proofs.Awaiting.{Awaiting, awaiting, await}
@@ -32,13 +32,11 @@ use Rattle.task_steps.specs.Rule.{has_work, IsEmpty, IsAwaiter, Waits}
 use Rattle.task_steps.specs.Steps.{and_then, spot, output_first, TakesOutput, Works, Awaits}
 use Rattle.task_steps.specs.Scripts.{ending, waking, dropping}
 use Rattle.task_steps.specs.PollScripts.{has_output, has_ended, has_to_wait, looking, looking_again, handing_out, refusing, finding_notifier, taking_back, ending_notified}
+use Rattle.task_steps.proofs.Bools.{never}
 use Rattle.task_steps.proofs.Acts.{leads}
 use Rattle.task_steps.proofs.Advance.{Finds, stays, takes_output, gives_work, takes_awaiter, gives_awaiter, Steps}
 use Rattle.task_steps.proofs.Allowed.{Owes, OwesEnd}
 use Rattle.task_steps.proofs.Owed.{counted_at}
-
-never : {P : Type 0} → false ≡ true → P
-never e = absurd (cc)
 
 -- a position that has no place of the table
 abbrev pub Free : Position → Type 0
@@ -52,9 +50,9 @@ pub first_free : (w : State) (i : ℕ) → Free (first_look w i)
 first_free w i = free_if (has_ended w) (Notifier (OfPoll i)) (Registrar i) (refl, refl) (refl, refl)
 
 pub second_free : (w : State) (i : ℕ) → Free (second_look w i)
-second_free w i = free_if w.closed (if w.scheduled || w.running then Answering i IsPending else Notifier (OfPoll i)) (if w.completed then Claiming i else Answering i IsPending)
+second_free w i = free_if w.closed (if w.scheduled || w.running then Answering i IsPending else Notifier (OfPoll i)) (if w.completed then SawOutput i else Answering i IsPending)
     (free_if (w.scheduled || w.running) (Answering i IsPending) (Notifier (OfPoll i)) (refl, refl) (refl, refl))
-    (free_if w.completed (Claiming i) (Answering i IsPending) (refl, refl) (refl, refl))
+    (free_if w.completed (SawOutput i) (Answering i IsPending) (refl, refl) (refl, refl))
 
 -- .. and one that has the output
 claim_works : (b : Bool) (i : ℕ) → (has_work (notifies b (OfClaim i)) ≡ true) × (owns_awaiter (notifies b (OfClaim i)) ≡ false)
@@ -62,7 +60,7 @@ claim_works true i = (refl, refl)
 claim_works false i = (refl, refl)
 
 -- a look that has to wait answers so
-waits : (i : ℕ) (closed busy completed : Bool) → (if closed then busy else not completed) ≡ true → (if closed then (if busy then Answering i IsPending else Notifier (OfPoll i)) else (if completed then Claiming i else Answering i IsPending)) ≡ Answering i IsPending
+waits : (i : ℕ) (closed busy completed : Bool) → (if closed then busy else not completed) ≡ true → (if closed then (if busy then Answering i IsPending else Notifier (OfPoll i)) else (if completed then SawOutput i else Answering i IsPending)) ≡ Answering i IsPending
 waits i true true completed e = refl
 waits i true false completed e = never e
 waits i false busy true e = never e
@@ -72,10 +70,10 @@ pub has_waited : (w : State) (i : ℕ) → has_to_wait w ≡ true → second_loo
 has_waited w i e = waits i w.closed (w.scheduled || w.running) w.completed e
 
 -- .. and one that finds the output claims it
-pub sees_output : (w : State) (i : ℕ) → has_output w ≡ true → second_look w i ≡ Claiming i
+pub sees_output : (w : State) (i : ℕ) → has_output w ≡ true → second_look w i ≡ SawOutput i
 sees_output w i e = claims_there i w.closed (w.scheduled || w.running) w.completed e
   where
-    claims_there : (i : ℕ) (closed busy completed : Bool) → (completed && not closed) ≡ true → (if closed then (if busy then Answering i IsPending else Notifier (OfPoll i)) else (if completed then Claiming i else Answering i IsPending)) ≡ Claiming i
+    claims_there : (i : ℕ) (closed busy completed : Bool) → (completed && not closed) ≡ true → (if closed then (if busy then Answering i IsPending else Notifier (OfPoll i)) else (if completed then SawOutput i else Answering i IsPending)) ≡ SawOutput i
     claims_there i true busy true e = never e
     claims_there i true busy false e = never e
     claims_there i false busy true e = refl
@@ -136,14 +134,14 @@ taken_back_at i (x ∷ xs) (suc k) p e = let h = taken_back_at i xs k p e in ome
 was_taken_back : (i : ℕ) (w : State) (slots : Slots) (t : List Event) (b : Awaiting) → HandshakeHolds i w slots t b → 1 ≤ b.takers_back → (w.notifying ≡ true) × (slots.awaiter ≡ None)
 was_taken_back i w slots t b h e = ⊎_elim (λ (z : b.takers_back ≡ 0). absurd (omega arith)) (λ z. z) h.taken_back
 
-clone_stored : (i : ℕ) (w : State) (slots : Slots) (t : List Event) (b : Awaiting) → HandshakeHolds i w slots t b → 1 ≤ b.registered → slots.awaiter ≡ Some (count is_poll t)
+clone_stored : (i : ℕ) (w : State) (slots : Slots) (t : List Event) (b : Awaiting) → HandshakeHolds i w slots t b → 1 ≤ b.registered → slots.awaiter ≡ Some (count is_task_poll t)
 clone_stored i w slots t b h e = ⊎_elim (λ (z : b.registered ≡ 0). absurd (omega arith)) (λ z. z) h.own
 
 module _ (F T A : Type 0) (limit : ℕ) where
   pub looks : (n : ℕ) (ds : List Deed) (us : List Member) (l : List (ℕ × Slot F T A)) → OwesEnd F T A limit (λ w. not (has_output w)) looking (At (Task n)) ds us l
   looks n ds us l m f number x lt e = let f = first_free m.word (n + 1) in record {
-    outcome = steps (scene m) m.word (first_look m.word (n + 1)) [] (Polls (n + 1) ∷ []);
-    leads_to = ap (λ (b : Bool). and_then (where_found true (when b (steps (scene m) m.word (first_look m.word (n + 1)) [] (Polls (n + 1) ∷ [])))) (λ o. leads (spot m.limit o.word o.slots) [] o.next)) e;
+    outcome = leaves_slots (scene m) m.word (first_look m.word (n + 1)) [] (TaskPollBegins (n + 1) ∷ []);
+    leads_to = ap (λ (b : Bool). and_then (where_found true (when b (leaves_slots (scene m) m.word (first_look m.word (n + 1)) [] (TaskPollBegins (n + 1) ∷ [])))) (λ o. leads (spot m.limit o.word o.slots) [] o.next)) e;
     writes = x;
     idle = (refl, refl);
     placing = stays f.0 f.1 (inr (refl, refl)) (inr (refl, refl));
@@ -151,14 +149,14 @@ module _ (F T A : Type 0) (limit : ℕ) where
 
   looks_again_by : (m : Machine) (i number : ℕ) (l : List (ℕ × Slot F T A)) (b : Bool) → has_to_wait m.word ≡ b → number ≡ number_of m.word → Steps m (Looking i) (if b then Look ∷ EndCall ∷ [] else Look ∷ []) number l
   looks_again_by m i number l true e x = record {
-    outcome = steps (scene m) m.word (At (Task i)) [] (PollEnds i IsPending ∷ []);
-    leads_to = ap (λ (p : Position). and_then (Some (steps (scene m) m.word p [] [])) (λ o. leads (spot m.limit o.word o.slots) (EndCall ∷ []) o.next)) (has_waited m.word i e);
+    outcome = leaves_slots (scene m) m.word (At (Task i)) [] (TaskPollEnds i IsPending ∷ []);
+    leads_to = ap (λ (p : Position). and_then (Some (leaves_slots (scene m) m.word p [] [])) (λ o. leads (spot m.limit o.word o.slots) (EndCall ∷ []) o.next)) (has_waited m.word i e);
     writes = x;
     idle = (refl, refl);
     placing = stays refl refl (inr (refl, refl)) (inr (refl, refl));
   }
   looks_again_by m i number l false e x = let f = second_free m.word i in record {
-    outcome = steps (scene m) m.word (second_look m.word i) [] [];
+    outcome = leaves_slots (scene m) m.word (second_look m.word i) [] [];
     leads_to = refl;
     writes = x;
     idle = (refl, refl);
@@ -170,7 +168,7 @@ module _ (F T A : Type 0) (limit : ℕ) where
 
   pub ends_poll : (i : ℕ) (answer : PollAnswer) (ds : List Deed) (us : List Member) (l : List (ℕ × Slot F T A)) → Owes F T A limit ending (λ n. n) (Answering i answer) ds us l
   ends_poll i answer ds us l m f number x lt = record {
-    outcome = steps (scene m) m.word (At (Task i)) [] (PollEnds i answer ∷ []);
+    outcome = leaves_slots (scene m) m.word (At (Task i)) [] (TaskPollEnds i answer ∷ []);
     leads_to = refl;
     writes = x;
     idle = (refl, refl);
@@ -179,7 +177,7 @@ module _ (F T A : Type 0) (limit : ℕ) where
 
   pub refuses : (i : ℕ) (ds : List Deed) (us : List Member) (l : List (ℕ × Slot F T A)) → Owes F T A limit refusing (λ n. n) (Registrar i) ds us l
   refuses i ds us l m f number x lt = record {
-    outcome = steps (scene m) m.word (At (Task i)) [] (PollEnds i IsRefused ∷ []);
+    outcome = leaves_slots (scene m) m.word (At (Task i)) [] (TaskPollEnds i IsRefused ∷ []);
     leads_to = refl;
     writes = x;
     idle = (refl, refl);
@@ -187,11 +185,11 @@ module _ (F T A : Type 0) (limit : ℕ) where
   }
 
   claims_by : (m : Machine) (p : Position) (acts : List Act) (i : ℕ) (told : List Event) (new : ℕ) (l : List (ℕ × Slot F T A)) → Free p → count is_emptying told ≡ 0 → Fits ClaimOutput m.word new
-      → leads (scene m) acts p ≡ and_then (when (found 0 ClaimOutput m.word) (steps (scene m) (written ClaimOutput m.word) (notifies m.word.awaiter (OfClaim i)) [] told)) (λ o. leads (spot m.limit o.word o.slots) [] o.next)
+      → leads (scene m) acts p ≡ and_then (when (found 0 ClaimOutput m.word) (leaves_slots (scene m) (written ClaimOutput m.word) (notifies m.word.awaiter (OfClaim i)) [] told)) (λ o. leads (spot m.limit o.word o.slots) [] o.next)
       → m.slots.output ≡ true → Steps m p acts new l
   claims_by m p acts i told new l free told_none fit is there = let f = claim_works m.word.awaiter i in record {
-    outcome = steps (scene m) (written ClaimOutput m.word) (notifies m.word.awaiter (OfClaim i)) [] told;
-    leads_to = is ∙ ap (λ (b : Bool). and_then (when b (steps (scene m) (written ClaimOutput m.word) (notifies m.word.awaiter (OfClaim i)) [] told)) (λ o. leads (spot m.limit o.word o.slots) [] o.next)) fit.finds;
+    outcome = leaves_slots (scene m) (written ClaimOutput m.word) (notifies m.word.awaiter (OfClaim i)) [] told;
+    leads_to = is ∙ ap (λ (b : Bool). and_then (when b (leaves_slots (scene m) (written ClaimOutput m.word) (notifies m.word.awaiter (OfClaim i)) [] told)) (λ o. leads (spot m.limit o.word o.slots) [] o.next)) fit.finds;
     writes = fit.writes;
     idle = (refl, refl);
     placing = takes_output free.0 f.0 (f.1 ∙ sym free.1) (inr (refl, told_none)) there (works m.word.awaiter);
@@ -201,9 +199,9 @@ module _ (F T A : Type 0) (limit : ℕ) where
       works true l' h = h
       works false l' h = h
 
-  pub hands_out : (i : ℕ) (ds : List Deed) (us : List Member) (y z : Slot F T A) (l : List (ℕ × Slot F T A)) → l ≡ output_first y z (rest (rest l)) → Owes F T A limit handing_out (λ n. n) (Claimer i) ds us l
-  hands_out i ds us y z l has m f number x lt = let none = future_gone m.limit m.word m.slots m.trace (census m.parties) f.invariant.holds (counted_at (λ c. c.claims) (λ a b. claims_sum a b) m.parties f.number (Claimer i) f.stands) in record {
-    outcome = record { word = m.word; slots = record (m.slots) { output = false }; next = At (Task i); born = []; told = PollEnds i HasOutput ∷ OutputTaken ∷ [] };
+  pub hands_out : (i : ℕ) (ds : List Deed) (us : List Member) (y z : Slot F T A) (l : List (ℕ × Slot F T A)) → l ≡ output_first y z (rest (rest l)) → Owes F T A limit handing_out (λ n. n) (TookOutput i) ds us l
+  hands_out i ds us y z l has m f number x lt = let none = future_gone m.limit m.word m.slots m.trace (census m.parties) f.invariant.holds (counted_at (λ c. c.claims) (λ a b. claims_sum a b) m.parties f.number (TookOutput i) f.stands) in record {
+    outcome = record { word = m.word; slots = record (m.slots) { output = false }; next = At (Task i); born = []; told = TaskPollEnds i HasOutput ∷ OutputTaken ∷ [] };
     leads_to = refl;
     writes = x;
     idle = (refl, refl);
@@ -212,16 +210,16 @@ module _ (F T A : Type 0) (limit : ℕ) where
 
   pub finds_notifier : (i : ℕ) (ds : List Deed) (us : List Member) (l : List (ℕ × Slot F T A)) → OwesEnd F T A limit (λ w. w.notifying) finding_notifier (Registrar i) ds us l
   finds_notifier i ds us l m f number x lt e = record {
-    outcome = steps (scene m) m.word (RefusedClone i) [] (Woken i ∷ Cloned i ∷ []);
-    leads_to = ap (λ (b : Bool). and_then (Some (steps (scene m) m.word (HasClone i) [] (Cloned i ∷ []))) (λ o. and_then (when b (steps (spot m.limit o.word o.slots) o.word (RefusedClone i) [] (Woken i ∷ []))) (λ o. leads (spot m.limit o.word o.slots) [] o.next))) e;
+    outcome = leaves_slots (scene m) m.word (UnusedClone i) [] (Woken i ∷ Cloned i ∷ []);
+    leads_to = ap (λ (b : Bool). and_then (Some (leaves_slots (scene m) m.word (HasClone i) [] (Cloned i ∷ []))) (λ o. and_then (when b (leaves_slots (spot m.limit o.word o.slots) o.word (UnusedClone i) [] (Woken i ∷ []))) (λ o. leads (spot m.limit o.word o.slots) [] o.next))) e;
     writes = x;
     idle = (refl, refl);
     placing = stays refl refl (inr (refl, refl)) (inr (refl, refl));
   }
 
-  pub drops_clone : (i : ℕ) (ds : List Deed) (us : List Member) (l : List (ℕ × Slot F T A)) → Owes F T A limit dropping (λ n. n) (RefusedClone i) ds us l
+  pub drops_clone : (i : ℕ) (ds : List Deed) (us : List Member) (l : List (ℕ × Slot F T A)) → Owes F T A limit dropping (λ n. n) (UnusedClone i) ds us l
   drops_clone i ds us l m f number x lt = record {
-    outcome = steps (scene m) m.word (Looking i) [] (CloneEnded i ∷ []);
+    outcome = leaves_slots (scene m) m.word (Looking i) [] (CloneEnded i ∷ []);
     leads_to = refl;
     writes = x;
     idle = (refl, refl);
@@ -230,7 +228,7 @@ module _ (F T A : Type 0) (limit : ℕ) where
 
   drops_old : (i old : ℕ) (ds : List Deed) (us : List Member) (l : List (ℕ × Slot F T A)) → Owes F T A limit dropping (λ n. n) (OldAwaiterInHand i old) ds us l
   drops_old i old ds us l m f number x lt = record {
-    outcome = steps (scene m) m.word (Registered i) [] (CloneEnded old ∷ []);
+    outcome = leaves_slots (scene m) m.word (Registered i) [] (CloneEnded old ∷ []);
     leads_to = refl;
     writes = x;
     idle = (refl, refl);
@@ -244,7 +242,7 @@ module _ (F T A : Type 0) (limit : ℕ) where
 
   pub wakes_clone : (i : ℕ) (ds : List Deed) (us : List Member) (l : List (ℕ × Slot F T A)) → Owes F T A limit waking (λ n. n) (CloneInHand i) ds us l
   wakes_clone i ds us l m f number x lt = record {
-    outcome = steps (scene m) m.word (Looking i) [] (CloneEnded i ∷ Woken i ∷ []);
+    outcome = leaves_slots (scene m) m.word (Looking i) [] (CloneEnded i ∷ Woken i ∷ []);
     leads_to = refl;
     writes = x;
     idle = (refl, refl);
@@ -265,8 +263,8 @@ module _ (F T A : Type 0) (limit : ℕ) where
   begins_register i ds us l m new f fit = let s = stored_free i m.slots.awaiter in
       let none = not_emptied m.limit m.word m.slots m.trace (census m.parties) f.invariant.holds (counted_at (λ c. c.tasks) (λ a b. tasks_sum a b) m.parties f.number (Registrar i) f.stands) in record {
         outcome = record { word = written BeginRegister m.word; slots = record (m.slots) { awaiter = Some i }; next = after_storing i m.slots.awaiter; born = []; told = Cloned i ∷ [] };
-        leads_to = ap (λ (b : Bool). and_then (Some (steps (scene m) m.word (HasClone i) [] (Cloned i ∷ [])))
-            (λ o. and_then (when b (steps (spot m.limit o.word o.slots) (written BeginRegister o.word) (Storing i) [] [])) (λ o. leads (spot m.limit o.word o.slots) (StoreAwaiter ∷ []) o.next))) fit.finds;
+        leads_to = ap (λ (b : Bool). and_then (Some (leaves_slots (scene m) m.word (HasClone i) [] (Cloned i ∷ [])))
+            (λ o. and_then (when b (leaves_slots (spot m.limit o.word o.slots) (written BeginRegister o.word) (Storing i) [] [])) (λ o. leads (spot m.limit o.word o.slots) (StoreAwaiter ∷ []) o.next))) fit.finds;
         writes = fit.writes;
         idle = (refl, refl);
         placing = takes_awaiter refl s.1 s.0 (inr (refl, refl)) none (stored_awaits i m.slots.awaiter);
@@ -275,8 +273,8 @@ module _ (F T A : Type 0) (limit : ℕ) where
   pub ends_register : (i : ℕ) (ds : List Deed) (us : List Member) (y : Slot F T A) (l : List (ℕ × Slot F T A)) (m : Machine) (new : ℕ) → Finds limit (Registered i) ds us m → l ≡ (2, y) ∷ rest l → IsAwaiter y → Fits EndRegister m.word new
       → Steps m (Registered i) (EndRegister ∷ []) new l
   ends_register i ds us y l m new f has is fit = let stored = clone_stored i m.word m.slots m.trace (awaiting i m.parties) (f.invariant.shakes i) (registered_at i m.parties f.number (Registered i) f.stands) in record {
-    outcome = steps (scene m) (written EndRegister m.word) (Looking i) [] [];
-    leads_to = ap (λ (b : Bool). and_then (when b (steps (scene m) (written EndRegister m.word) (Looking i) [] [])) (λ o. leads (spot m.limit o.word o.slots) [] o.next)) fit.finds;
+    outcome = leaves_slots (scene m) (written EndRegister m.word) (Looking i) [] [];
+    leads_to = ap (λ (b : Bool). and_then (when b (leaves_slots (scene m) (written EndRegister m.word) (Looking i) [] [])) (λ o. leads (spot m.limit o.word o.slots) [] o.next)) fit.finds;
     writes = fit.writes;
     idle = (refl, refl);
     placing = gives_awaiter y refl refl refl (inr (refl, refl)) has (λ _. subst (λ (hand : Option ℕ). Waits hand y) (sym stored) is);
@@ -285,8 +283,8 @@ module _ (F T A : Type 0) (limit : ℕ) where
   -- the clone is taken back while its place is still the poll's
   pub takes_back : (i : ℕ) (ds : List Deed) (us : List Member) (l : List (ℕ × Slot F T A)) → OwesEnd F T A limit (λ w. w.notifying) taking_back (Registered i) ds us l
   takes_back i ds us l m f number x lt e = record {
-    outcome = keeps (scene m) m.word (record (m.slots) { awaiter = None }) (TookBack i) [];
-    leads_to = ap (λ (b : Bool). and_then (where_found true (when b (keeps (scene m) m.word (record (m.slots) { awaiter = None }) (TookBack i) []))) (λ o. leads (spot m.limit o.word o.slots) [] o.next)) e;
+    outcome = changes_slots (scene m) m.word (record (m.slots) { awaiter = None }) (TookBack i) [];
+    leads_to = ap (λ (b : Bool). and_then (where_found true (when b (changes_slots (scene m) m.word (record (m.slots) { awaiter = None }) (TookBack i) []))) (λ o. leads (spot m.limit o.word o.slots) [] o.next)) e;
     writes = x;
     idle = (refl, refl);
     placing = stays refl refl (inr (refl, refl)) (inl refl);
@@ -294,8 +292,8 @@ module _ (F T A : Type 0) (limit : ℕ) where
 
   pub ends_notified : (i : ℕ) (ds : List Deed) (us : List Member) (y : Slot F T A) (l : List (ℕ × Slot F T A)) → l ≡ (2, y) ∷ rest l → IsEmpty y → Owes F T A limit ending_notified (λ n. bit_and n 18446744073709551391) (TookBack i) ds us l
   ends_notified i ds us y l has is m f n e lt = let t = was_taken_back i m.word m.slots m.trace (awaiting i m.parties) (f.invariant.shakes i) (taken_back_at i m.parties f.number (TookBack i) f.stands) in record {
-    outcome = steps (scene m) (written EndRegisterNotified m.word) (CloneInHand i) [] [];
-    leads_to = ap (λ (b : Bool). and_then (when b (steps (scene m) (written EndRegisterNotified m.word) (CloneInHand i) [] [])) (λ o. leads (spot m.limit o.word o.slots) [] o.next)) t.0;
+    outcome = leaves_slots (scene m) (written EndRegisterNotified m.word) (CloneInHand i) [] [];
+    leads_to = ap (λ (b : Bool). and_then (when b (leaves_slots (scene m) (written EndRegisterNotified m.word) (CloneInHand i) [] [])) (λ o. leads (spot m.limit o.word o.slots) [] o.next)) t.0;
     writes = fetch_and-awaiter_registering_notifying n lt ∙ ap (λ (w : State). number_of (record w { awaiter = false; registering = false; notifying = false })) (ap state_of e ∙ state_of_number_of m.word);
     idle = (refl, refl);
     placing = gives_awaiter y refl refl refl (inr (refl, refl)) has (λ _. subst (λ (hand : Option ℕ). Waits hand y) (sym t.1) is);
@@ -303,15 +301,15 @@ module _ (F T A : Type 0) (limit : ℕ) where
 
   -- the output is taken at once, or by a poll that has registered
   pub claims : (n : ℕ) (ds : List Deed) (us : List Member) (l : List (ℕ × Slot F T A)) (m : Machine) (new : ℕ) → Finds limit (At (Task n)) ds us m → Fits ClaimOutput m.word new → Steps m (At (Task n)) (ClaimOutput ∷ []) new l
-  claims n ds us l m new f fit = claims_by m (At (Task n)) (ClaimOutput ∷ []) (n + 1) (Closes ∷ Polls (n + 1) ∷ []) new l (refl, refl) refl fit refl (output_there m.limit m.word m.slots m.trace (census m.parties) f.invariant.holds fit.finds)
+  claims n ds us l m new f fit = claims_by m (At (Task n)) (ClaimOutput ∷ []) (n + 1) (Closes ∷ TaskPollBegins (n + 1) ∷ []) new l (refl, refl) refl fit refl (output_there m.limit m.word m.slots m.trace (census m.parties) f.invariant.holds fit.finds)
 
   pub claims_again : (i : ℕ) (ds : List Deed) (us : List Member) (l : List (ℕ × Slot F T A)) (m : Machine) (new : ℕ) → Finds limit (Looking i) ds us m → Fits ClaimOutput m.word new → Steps m (Looking i) (Look ∷ ClaimOutput ∷ []) new l
   claims_again i ds us l m new f fit = claims_by m (Looking i) (Look ∷ ClaimOutput ∷ []) i (Closes ∷ []) new l (refl, refl) refl fit
-      (ap (λ (p : Position). and_then (Some (steps (scene m) m.word p [] [])) (λ o. leads (spot m.limit o.word o.slots) (ClaimOutput ∷ []) o.next)) (sees_output m.word i fit.finds)
-        ∙ again (found 0 ClaimOutput m.word))
+      (ap (λ (p : Position). and_then (Some (leaves_slots (scene m) m.word p [] [])) (λ o. leads (spot m.limit o.word o.slots) (ClaimOutput ∷ []) o.next)) (sees_output m.word i fit.finds)
+      ∙ again (found 0 ClaimOutput m.word))
       (output_there m.limit m.word m.slots m.trace (census m.parties) f.invariant.holds fit.finds)
     where
-      again : (b : Bool) → and_then (Some (steps (scene m) m.word (Claiming i) [] [])) (λ o. and_then (when b (steps (spot m.limit o.word o.slots) (written ClaimOutput o.word) (notifies o.word.awaiter (OfClaim i)) [] (Closes ∷ []))) (λ o. leads (spot m.limit o.word o.slots) [] o.next))
-          ≡ and_then (when b (steps (scene m) (written ClaimOutput m.word) (notifies m.word.awaiter (OfClaim i)) [] (Closes ∷ []))) (λ o. leads (spot m.limit o.word o.slots) [] o.next)
+      again : (b : Bool) → and_then (Some (leaves_slots (scene m) m.word (SawOutput i) [] [])) (λ o. and_then (when b (leaves_slots (spot m.limit o.word o.slots) (written ClaimOutput o.word) (notifies o.word.awaiter (OfClaim i)) [] (Closes ∷ []))) (λ o. leads (spot m.limit o.word o.slots) [] o.next))
+          ≡ and_then (when b (leaves_slots (scene m) (written ClaimOutput m.word) (notifies m.word.awaiter (OfClaim i)) [] (Closes ∷ []))) (λ o. leads (spot m.limit o.word o.slots) [] o.next)
       again true = refl
       again false = refl

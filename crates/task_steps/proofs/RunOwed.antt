@@ -5,17 +5,17 @@ use Rattle.std.specs.Option.{option_or}
 use Rattle.std.proofs.lemmas.Bool.Decides.{nat_tests}
 use Rattle.atomic_table.specs.Table.{rest}
 use Rattle.task_core.specs.Word.{State, state_of, number_of}
-use Rattle.task_laws.specs.Event.{Event, ByWake, ByClosing, Empties, Closes, TakenUp, AnsweredReady, AnsweredPending, FutureDropped, Completes, RunEnded, OutputDropped, Made, CallEnds}
+use Rattle.task_laws.specs.Event.{Event, ByWake, ByClosing, Empties, Closes, TakenUp, FutureReady, FuturePending, FutureDropped, Completes, RunEnded, OutputDropped, Made, CallEnds}
 use Rattle.task_laws.specs.declared.positions.Answer.{Answer}
 use Rattle.task_laws.specs.declared.positions.Answer.TheVariants.{Ran}
 use Rattle.task_laws.specs.declared.positions.Rest.TheVariants.{Runnable, Ended}
-use Rattle.task_laws.specs.declared.positions.Way.TheVariants.{OfRun}
-use Rattle.task_laws.specs.declared.positions.After.TheVariants.{ThenEnds}
-use Rattle.task_laws.specs.declared.positions.Closer.TheVariants.{DroppedRunnable}
-use Rattle.task_laws.specs.declared.positions.Position.TheVariants.{At, Leaving, Deliverer, GivingUp, Emptier, FutureInHand, Polling, Pending, Ready, Unstored, Stored, Cleared, OutputInHand}
-use Rattle.task_core.specs.declared.moves.Act.TheVariants.{GiveUpReference, GiveUpLastReference, DiscardOpen, DiscardClosed, DropFuture, StoreOutput, Complete, CompleteDetached, AnswerPending, Reschedule, EndIdle, EndOrphaned, EndClosed, EndCall}
+use Rattle.task_laws.specs.declared.positions.NotifyingCall.TheVariants.{OfRun}
+use Rattle.task_laws.specs.declared.positions.OnceDelivered.TheVariants.{ThenEnds}
+use Rattle.task_laws.specs.declared.positions.WithoutPoll.TheVariants.{DroppedRunnable}
+use Rattle.task_laws.specs.declared.positions.Position.TheVariants.{At, CallEnding, Deliverer, GivingUp, Emptier, FutureInHand, Polling, Pending, Ready, ReadyFutureDropped, OutputStored, PendingFutureDropped, OutputInHand}
+use Rattle.task_core.specs.declared.acts.Act.TheVariants.{GiveUpReference, GiveUpLastReference, DiscardOpen, DiscardClosed, DropFuture, StoreOutput, Complete, CompleteDetached, AnswerPending, Reschedule, EndIdle, EndOrphaned, EndClosed, EndCall}
 use Rattle.task_core.specs.Rows.{written}
-use Rattle.task_laws.specs.Table.{Slots, steps, keeps, notifies, after_giving_up, ended_clone, closing}
+use Rattle.task_laws.specs.Table.{Slots, leaves_slots, changes_slots, notifies, after_giving_up, ended_clone, closing}
 use Rattle.task_laws.specs.Machine.{Machine, scene}
 use Rattle.task_laws.specs.Laws.{count, is_emptying}
 use Rattle.task_laws.specs.Theorem.{owns_awaiter}
@@ -30,15 +30,13 @@ use Rattle.task_steps.specs.Rule.{has_work, IsFuture, IsOutput}
 use Rattle.task_steps.specs.Steps.{then_leaves, spot, future_first, output_first}
 use Rattle.task_steps.specs.Scripts.{dropping_output}
 use Rattle.task_steps.specs.RunScripts.{giving_up, emptying, discarding, answering_ready, completing, answering_pending, ending_pending, finding_closed, ending_closed, completed_word, after_pending}
+use Rattle.task_steps.proofs.Bools.{never}
 use Rattle.task_steps.proofs.Numbers.{same_word}
 use Rattle.task_steps.proofs.Facts.{queued}
 use Rattle.task_steps.proofs.Leads.{leads_first, counted}
 use Rattle.task_steps.proofs.AwaiterOwed.{not_emptied}
 use Rattle.task_steps.proofs.Advance.{Finds, Placing, stays, takes_future, gives_work, takes_awaiter, gives_awaiter, Steps}
 use Rattle.task_steps.proofs.Allowed.{Owes, OwesEnd}
-
-never : {P : Type 0} → false ≡ true → P
-never e = absurd (cc)
 
 -- after a reference was given up, no place is held
 pub given_work : (hand : Option ℕ) (answer : Answer) → has_work (after_giving_up hand answer) ≡ false
@@ -120,14 +118,14 @@ module _ (F T A : Type 0) (limit : ℕ) where
 
       by : (b : Bool) → (nat_lt 1 m.word.references || m.word.task) ≡ b → Steps m (GivingUp hand answer) (if b then GiveUpReference ∷ [] else GiveUpLastReference ∷ []) ((x + (2 ^ 64 - 256)) % 2 ^ 64) l
       by true h = record {
-        outcome = steps (scene m) (record (m.word) { references = m.word.references - 1 }) (after_giving_up hand answer) [] [];
+        outcome = leaves_slots (scene m) (record (m.word) { references = m.word.references - 1 }) (after_giving_up hand answer) [] [];
         leads_to = leads_first (scene m) GiveUpReference [] (GivingUp hand answer) _ h refl;
         writes = fewer;
         idle = (refl, refl);
         placing = stays (given_work hand answer) (given_free hand answer) (inr (refl, refl)) (inr (refl, refl));
       }
       by false h = record {
-        outcome = steps (scene m) (record (m.word) { references = m.word.references - 1 }) (Emptier hand answer) [] [];
+        outcome = leaves_slots (scene m) (record (m.word) { references = m.word.references - 1 }) (Emptier hand answer) [] [];
         leads_to = leads_first (scene m) GiveUpLastReference [] (GivingUp hand answer) _ (is_last m.word.references m.word.task some h) refl;
         writes = fewer;
         idle = (refl, refl);
@@ -136,7 +134,7 @@ module _ (F T A : Type 0) (limit : ℕ) where
 
   pub empties : (hand : Option ℕ) (answer : Answer) (ds : List Deed) (us : List Member) (l : List (ℕ × Slot F T A)) → l ≡ (2, Empty) ∷ rest l → Owes F T A limit emptying (λ n. n) (Emptier hand answer) ds us l
   empties hand answer ds us l has m f x e lt = record {
-    outcome = keeps (scene m) m.word (record (m.slots) { awaiter = None }) (after_giving_up hand answer) (Empties ∷ ended_clone (m.slots.awaiter));
+    outcome = changes_slots (scene m) m.word (record (m.slots) { awaiter = None }) (after_giving_up hand answer) (Empties ∷ ended_clone (m.slots.awaiter));
     leads_to = refl;
     writes = e;
     idle = (refl, refl);
@@ -154,14 +152,14 @@ module _ (F T A : Type 0) (limit : ℕ) where
 
       by : (b : Bool) → m.word.closed ≡ b → Steps m (At Runnable) (if b then DiscardClosed ∷ [] else DiscardOpen ∷ []) (bit_or x 8) l
       by true h = record {
-        outcome = steps (scene m) m.word (FutureInHand DroppedRunnable) [] (TakenUp ∷ []);
+        outcome = leaves_slots (scene m) m.word (FutureInHand DroppedRunnable) [] (TakenUp ∷ []);
         leads_to = leads_first (scene m) DiscardClosed [] (At Runnable) _ h refl;
         writes = sets ∙ ap number_of (closed_already m.word h);
         idle = (refl, refl);
         placing = takes_future refl refl refl (inr (refl, refl)) there (λ _ h. h);
       }
       by false h = record {
-        outcome = steps (scene m) (record (m.word) { closed = true }) (FutureInHand DroppedRunnable) [] (Closes ∷ TakenUp ∷ []);
+        outcome = leaves_slots (scene m) (record (m.word) { closed = true }) (FutureInHand DroppedRunnable) [] (Closes ∷ TakenUp ∷ []);
         leads_to = leads_first (scene m) DiscardOpen [] (At Runnable) _ (ap not h) refl;
         writes = sets;
         idle = (refl, refl);
@@ -170,7 +168,7 @@ module _ (F T A : Type 0) (limit : ℕ) where
 
   pub answers_ready : (ds : List Deed) (us : List Member) (l : List (ℕ × Slot F T A)) → Owes F T A limit answering_ready (λ n. n) Polling ds us l
   answers_ready ds us l m f x e lt = record {
-    outcome = steps (scene m) m.word Ready [] (AnsweredReady ∷ []);
+    outcome = leaves_slots (scene m) m.word Ready [] (FutureReady ∷ []);
     leads_to = refl;
     writes = e;
     idle = (refl, refl);
@@ -182,16 +180,17 @@ module _ (F T A : Type 0) (limit : ℕ) where
     where
       by : (b : Bool) → m.word.closed ≡ b → Steps m Polling (if b then AnswerPending ∷ DropFuture ∷ [] else AnswerPending ∷ []) x l
       by true h = record {
-        outcome = keeps (scene m) m.word (record (m.slots) { future = false }) Cleared (FutureDropped ∷ AnsweredPending ∷ []);
-        leads_to = ap (then_leaves (steps (scene m) m.word Pending [] (AnsweredPending ∷ [])))
-            (leads_first (spot m.limit m.word m.slots) DropFuture [] Pending (keeps (scene m) m.word (record (m.slots) { future = false }) Cleared (FutureDropped ∷ [])) refl
-            (ap (λ b. if b then Some (keeps (scene m) m.word (record (m.slots) { future = false }) Cleared (FutureDropped ∷ [])) else None) h));
+        outcome =
+            changes_slots (scene m) m.word (record (m.slots) { future = false }) PendingFutureDropped (FutureDropped ∷ FuturePending ∷ []);
+        leads_to = ap (then_leaves (leaves_slots (scene m) m.word Pending [] (FuturePending ∷ [])))
+            (leads_first (spot m.limit m.word m.slots) DropFuture [] Pending (changes_slots (scene m) m.word (record (m.slots) { future = false }) PendingFutureDropped (FutureDropped ∷ [])) refl
+            (ap (λ b. if b then Some (changes_slots (scene m) m.word (record (m.slots) { future = false }) PendingFutureDropped (FutureDropped ∷ [])) else None) h));
         writes = e;
         idle = (refl, refl);
         placing = stays refl refl (inl refl) (inr (refl, refl));
       }
       by false h = record {
-        outcome = steps (scene m) m.word Pending [] (AnsweredPending ∷ []);
+        outcome = leaves_slots (scene m) m.word Pending [] (FuturePending ∷ []);
         leads_to = refl;
         writes = e;
         idle = (refl, refl);
@@ -201,29 +200,30 @@ module _ (F T A : Type 0) (limit : ℕ) where
   -- the task was closed meanwhile, and its future is dropped next
   pub finds_closed : (ds : List Deed) (us : List Member) (l : List (ℕ × Slot F T A)) → OwesEnd F T A limit (λ w. w.closed) finding_closed Pending ds us l
   finds_closed ds us l m f x e lt h = record {
-    outcome = keeps (scene m) m.word (record (m.slots) { future = false }) Cleared (FutureDropped ∷ []);
-    leads_to = leads_first (scene m) DropFuture [] Pending (keeps (scene m) m.word (record (m.slots) { future = false }) Cleared (FutureDropped ∷ [])) refl
-        (ap (λ b. if b then Some (keeps (scene m) m.word (record (m.slots) { future = false }) Cleared (FutureDropped ∷ [])) else None) h);
+    outcome = changes_slots (scene m) m.word (record (m.slots) { future = false }) PendingFutureDropped (FutureDropped ∷ []);
+    leads_to = leads_first (scene m) DropFuture [] Pending (changes_slots (scene m) m.word (record (m.slots) { future = false }) PendingFutureDropped (FutureDropped ∷ [])) refl
+        (ap (λ b. if b then Some (changes_slots (scene m) m.word (record (m.slots) { future = false }) PendingFutureDropped (FutureDropped ∷ [])) else None) h);
     writes = e;
     idle = (refl, refl);
     placing = stays refl refl (inl refl) (inr (refl, refl));
   }
 
-  pub ends_closed : (ds : List Deed) (us : List Member) (y z : Slot F T A) (l : List (ℕ × Slot F T A)) → l ≡ future_first y z (rest (rest l)) → Owes F T A limit ending_closed (λ n. bit_and n 18446744073709551612) Cleared ds us l
+  pub ends_closed : (ds : List Deed) (us : List Member) (y z : Slot F T A) (l : List (ℕ × Slot F T A)) → l ≡ future_first y z (rest (rest l)) → Owes F T A limit ending_closed (λ n. bit_and n 18446744073709551612) PendingFutureDropped ds us l
   ends_closed ds us y z l has m f x e lt = record {
-    outcome = steps (scene m) (record (m.word) { running = false; scheduled = false }) (notifies m.word.awaiter OfRun) [] (RunEnded ∷ []);
-    leads_to = leads_first (scene m) EndClosed [] Cleared _ gone.2 refl;
+    outcome =
+        leaves_slots (scene m) (record (m.word) { running = false; scheduled = false }) (notifies m.word.awaiter OfRun) [] (RunEnded ∷ []);
+    leads_to = leads_first (scene m) EndClosed [] PendingFutureDropped _ gone.2 refl;
     writes = fetch_and-scheduled_running x lt ∙ ap (λ (w : State). number_of (record w { scheduled = false; running = false })) (ap state_of e ∙ state_of_number_of m.word);
     idle = (refl, refl);
     placing = gives_work y z refl (due_work m.word.awaiter) (due_free m.word.awaiter) (inr (refl, refl)) (inl has) (λ e. never (sym gone.0 ∙ e)) (λ e. never (sym gone.1 ∙ e));
   }
     where
       gone : (m.slots.future ≡ false) × (m.slots.output ≡ false) × (m.word.closed ≡ true)
-      gone = cleared_facts m.limit m.word m.slots m.trace (census m.parties) f.invariant.holds (counted (λ c. c.cleared) (λ a b. refl) m.parties f.number Cleared f.stands)
+      gone = cleared_facts m.limit m.word m.slots m.trace (census m.parties) f.invariant.holds (counted (λ c. c.cleared) (λ a b. refl) m.parties f.number PendingFutureDropped f.stands)
 
   pub drops_output : (due : Bool) (ds : List Deed) (us : List Member) (y z : Slot F T A) (l : List (ℕ × Slot F T A)) → l ≡ output_first y z (rest (rest l)) → Owes F T A limit dropping_output (λ n. n) (OutputInHand due) ds us l
   drops_output due ds us y z l has m f x e lt = record {
-    outcome = keeps (scene m) m.word (record (m.slots) { output = false }) (notifies due OfRun) (OutputDropped ∷ []);
+    outcome = changes_slots (scene m) m.word (record (m.slots) { output = false }) (notifies due OfRun) (OutputDropped ∷ []);
     leads_to = refl;
     writes = e;
     idle = (refl, refl);
@@ -255,16 +255,16 @@ module _ (F T A : Type 0) (limit : ℕ) where
       by : (b : Bool) → m.word.task ≡ b → Steps m Ready (if b then DropFuture ∷ StoreOutput ∷ Complete ∷ [] else DropFuture ∷ StoreOutput ∷ CompleteDetached ∷ []) (number_of (completed_word w)) l
       by true h = record {
         outcome = record { word = written Complete m.word; slots = stored; next = if m.word.closed then OutputInHand m.word.awaiter else notifies m.word.awaiter OfRun; born = []; told = Completes ∷ RunEnded ∷ FutureDropped ∷ [] };
-        leads_to = ap (λ x. then_leaves (keeps (scene m) m.word gone Unstored (FutureDropped ∷ [])) (then_leaves (keeps (spot m.limit m.word gone) m.word stored Stored []) x))
-            (leads_first (spot m.limit m.word stored) Complete [] Stored (steps (spot m.limit m.word stored) (written Complete m.word) (if m.word.closed then OutputInHand m.word.awaiter else notifies m.word.awaiter OfRun) [] (Completes ∷ RunEnded ∷ [])) h refl);
+        leads_to = ap (λ x. then_leaves (changes_slots (scene m) m.word gone ReadyFutureDropped (FutureDropped ∷ [])) (then_leaves (changes_slots (spot m.limit m.word gone) m.word stored OutputStored []) x))
+            (leads_first (spot m.limit m.word stored) Complete [] OutputStored (leaves_slots (spot m.limit m.word stored) (written Complete m.word) (if m.word.closed then OutputInHand m.word.awaiter else notifies m.word.awaiter OfRun) [] (Completes ∷ RunEnded ∷ [])) h refl);
         writes = ap number_of (ap completed_word (same_word w m.word _ e refl) ∙ ap (λ b. if b then written Complete m.word else written CompleteDetached m.word) h);
         idle = (refl, refl);
         placing = placed m.word.closed m.word.awaiter (written Complete m.word) (Completes ∷ RunEnded ∷ FutureDropped ∷ []) refl;
       }
       by false h = record {
         outcome = record { word = written CompleteDetached m.word; slots = stored; next = OutputInHand m.word.awaiter; born = []; told = (closing m.word (Completes ∷ RunEnded ∷ []) ++ []) ++ FutureDropped ∷ [] };
-        leads_to = ap (λ x. then_leaves (keeps (scene m) m.word gone Unstored (FutureDropped ∷ [])) (then_leaves (keeps (spot m.limit m.word gone) m.word stored Stored []) x))
-            (leads_first (spot m.limit m.word stored) CompleteDetached [] Stored (steps (spot m.limit m.word stored) (written CompleteDetached m.word) (OutputInHand m.word.awaiter) [] (closing m.word (Completes ∷ RunEnded ∷ []))) (ap not h) refl);
+        leads_to = ap (λ x. then_leaves (changes_slots (scene m) m.word gone ReadyFutureDropped (FutureDropped ∷ [])) (then_leaves (changes_slots (spot m.limit m.word gone) m.word stored OutputStored []) x))
+            (leads_first (spot m.limit m.word stored) CompleteDetached [] OutputStored (leaves_slots (spot m.limit m.word stored) (written CompleteDetached m.word) (OutputInHand m.word.awaiter) [] (closing m.word (Completes ∷ RunEnded ∷ []))) (ap not h) refl);
         writes = ap number_of (ap completed_word (same_word w m.word _ e refl) ∙ ap (λ b. if b then written Complete m.word else written CompleteDetached m.word) h);
         idle = (refl, refl);
         placing = stays refl refl (inl refl) (inr (refl, told_closing m.word.closed));
@@ -292,21 +292,22 @@ module _ (F T A : Type 0) (limit : ℕ) where
 
       by : (b d : Bool) → m.word.scheduled ≡ b → shared ≡ d → Steps m Pending (if b then Reschedule ∷ [] else (if d then EndIdle ∷ EndCall ∷ [] else EndOrphaned ∷ [])) (number_of (after_pending w)) l
       by true d h k = record {
-        outcome = steps (scene m) (written Reschedule m.word) (Deliverer true (ThenEnds (Ran true))) [] (Made ByWake ∷ RunEnded ∷ []);
+        outcome =
+            leaves_slots (scene m) (written Reschedule m.word) (Deliverer true (ThenEnds (Ran true))) [] (Made ByWake ∷ RunEnded ∷ []);
         leads_to = leads_first (scene m) Reschedule [] Pending _ (both (ap not not_closed) h) refl;
         writes = ap number_of (wrote ∙ ap (λ b. if b then written Reschedule m.word else (if shared then written EndIdle m.word else written EndOrphaned m.word)) h);
         idle = (refl, refl);
         placing = gives_work y z refl refl refl (inr (refl, refl)) (inl has) (λ e. is) (λ e. never (sym facts.1 ∙ e));
       }
       by false true h k = record {
-        outcome = steps (scene m) (written EndIdle m.word) (At Ended) [] (CallEnds (Ran false) ∷ RunEnded ∷ []);
-        leads_to = leads_first (scene m) EndIdle (EndCall ∷ []) Pending (steps (scene m) (written EndIdle m.word) (Leaving (Ran false) Ended) [] (RunEnded ∷ [])) (three m.word.closed m.word.scheduled shared not_closed h k) refl;
+        outcome = leaves_slots (scene m) (written EndIdle m.word) (At Ended) [] (CallEnds (Ran false) ∷ RunEnded ∷ []);
+        leads_to = leads_first (scene m) EndIdle (EndCall ∷ []) Pending (leaves_slots (scene m) (written EndIdle m.word) (CallEnding (Ran false) Ended) [] (RunEnded ∷ [])) (three m.word.closed m.word.scheduled shared not_closed h k) refl;
         writes = ap number_of (wrote ∙ (ap (λ b. if b then written Reschedule m.word else (if shared then written EndIdle m.word else written EndOrphaned m.word)) h ∙ ap (λ b. if b then written EndIdle m.word else written EndOrphaned m.word) k));
         idle = (refl, refl);
         placing = gives_work y z refl refl refl (inr (refl, refl)) (inl has) (λ e. is) (λ e. never (sym facts.1 ∙ e));
       }
       by false false h k = record {
-        outcome = steps (scene m) (written EndOrphaned m.word) (Deliverer false (ThenEnds (Ran false))) [] (Made ByClosing ∷ Closes ∷ RunEnded ∷ []);
+        outcome = leaves_slots (scene m) (written EndOrphaned m.word) (Deliverer false (ThenEnds (Ran false))) [] (Made ByClosing ∷ Closes ∷ RunEnded ∷ []);
         leads_to = leads_first (scene m) EndOrphaned [] Pending _ (four m.word.closed m.word.scheduled (nat_eq m.word.references 1) m.word.task not_closed h (is_last m.word.references m.word.task facts.0 k)) refl;
         writes = ap number_of (wrote ∙ (ap (λ b. if b then written Reschedule m.word else (if shared then written EndIdle m.word else written EndOrphaned m.word)) h ∙ ap (λ b. if b then written EndIdle m.word else written EndOrphaned m.word) k));
         idle = (refl, refl);

@@ -9,13 +9,13 @@ use Rattle.task_core.specs.Word.{number_of}
 use Rattle.task_laws.specs.Event.{Event, HandedOver}
 use Rattle.task_laws.specs.Laws.{count, is_emptying}
 use Rattle.task_laws.specs.declared.positions.Position.{Position}
-use Rattle.task_laws.specs.declared.positions.After.{After}
-use Rattle.task_laws.specs.declared.positions.Position.TheVariants.{At, Deliverer, Leaving}
+use Rattle.task_laws.specs.declared.positions.OnceDelivered.{OnceDelivered}
+use Rattle.task_laws.specs.declared.positions.Position.TheVariants.{At, Deliverer, CallEnding}
 use Rattle.task_laws.specs.declared.positions.Rest.TheVariants.{Runnable, Ended}
-use Rattle.task_core.specs.declared.moves.Act.TheVariants.{HandOver}
-use Rattle.task_laws.specs.declared.positions.After.TheVariants.{ThenEnds, ThenTask, ThenNotifies}
+use Rattle.task_core.specs.declared.acts.Act.TheVariants.{HandOver}
+use Rattle.task_laws.specs.declared.positions.OnceDelivered.TheVariants.{ThenEnds, ThenTask, ThenNotifies}
 use Rattle.task_laws.specs.declared.positions.Answer.TheVariants.{Nothing}
-use Rattle.task_laws.specs.Table.{Outcome, steps, goes_after}
+use Rattle.task_laws.specs.Table.{Outcome, leaves_slots, after_handing_over}
 use Rattle.task_laws.specs.Machine.{Machine, scene}
 use Rattle.task_laws.specs.Theorem.{owns_awaiter}
 use Rattle.task_laws.proofs.Theorem.{laws_of}
@@ -24,10 +24,10 @@ use Rattle.task_steps.specs.declared.table.Deed.{Deed}
 use Rattle.task_steps.specs.declared.table.Member.{Member}
 use Rattle.task_steps.specs.declared.table.Stage.TheVariants.{Spawned}
 use Rattle.task_steps.specs.declared.table.View.{View}
-use Rattle.task_steps.specs.Rule.{deed, member, view, fresh, opening_at, Entry, Told, has_work, Housed, Running, Ruled}
+use Rattle.task_steps.specs.Rule.{deed, member, view, fresh, opening_at, Entry, Explains, has_work, HomesAgree, Running, RuleHolds}
 use Rattle.task_steps.specs.Standing.{hands_over, handed_over}
 use Rattle.task_steps.specs.Seats.{handing_over, runnable_of}
-use Rattle.task_steps.proofs.Told.{inside, at_append, regroups}
+use Rattle.task_steps.proofs.Explains.{inside, at_append, regroups}
 use Rattle.task_steps.proofs.Facts.{law, many_at, one_work}
 use Rattle.task_steps.proofs.Acts.{follows, leads}
 use Rattle.task_steps.proofs.Advance.{After as Afterwards, same_work, same_awaiter}
@@ -50,8 +50,8 @@ moved_not id q new s j (yes d) (yes e) (inr y) = absurd (y e)
 moved_not id q new s j (yes d) (no e) x = refl
 moved_not id q new s j (no d) e x = refl
 
-pub leaves : (limit : ℕ) (views : List View) (seat l : ℕ) (log : List Entry) (m : Machine) (ms ns : List Member) (b : Member) (q : ℕ) → Told limit (set views seat (view l ms)) log m → seat < length views → get_elem? ms q ≡ some b
-    → ((j : ℕ) (u : Member) → get_elem? ns j ≡ some u → (get_elem? ms j ≡ some u) × (j ≢ q)) → Told limit (set views seat (view l ns) ++ view l (b ∷ []) ∷ []) log m
+pub leaves : (limit : ℕ) (views : List View) (seat l : ℕ) (log : List Entry) (m : Machine) (ms ns : List Member) (b : Member) (q : ℕ) → Explains limit (set views seat (view l ms)) log m → seat < length views → get_elem? ms q ≡ some b
+    → ((j : ℕ) (u : Member) → get_elem? ns j ≡ some u → (get_elem? ms j ≡ some u) × (j ≢ q)) → Explains limit (set views seat (view l ns) ++ view l (b ∷ []) ∷ []) log m
 leaves limit views seat l log m ms ns b q t lt there from = let here = set_here views seat (view l ms) lt in let new : ℕ = length views in
     let V : List View = set views seat (view l ns) in let to : ℕ × ℕ → ℕ × ℕ = (λ p. moved seat q new p.0 p.1 (ℕ_discrete p.0 seat) (ℕ_discrete p.1 q)) in
     regroups limit (set views seat (view l ms)) (V ++ view l (b ∷ []) ∷ []) log m to t
@@ -87,10 +87,10 @@ module _ (F T A : Type 0) (limit : ℕ) where
   B = Board (Slot F T A) View
 
   abbrev Rule : B → Type 0
-  Rule = Ruled {F = F} {T = T} {A = A} limit
+  Rule = RuleHolds {F = F} {T = T} {A = A} limit
 
   -- the rule once the views tell of this machine, where the opening seat of a task that was not spawned stays
-  pub retold : (s : B) (c : limit < 36028797018963968) (r : Running {F = F} {T = T} {A = A} limit s) (views : List View) (log : List Entry) (m : Machine) → Told limit views log m → m.word ≡ r.machine.word → m.limit ≡ limit → Housed r.filled m s.homes
+  pub retold : (s : B) (c : limit < 36028797018963968) (r : Running {F = F} {T = T} {A = A} limit s) (views : List View) (log : List Entry) (m : Machine) → Explains limit views log m → m.word ≡ r.machine.word → m.limit ≡ limit → HomesAgree r.filled m s.homes
       → (r.filled ≡ false → get_elem? views 0 ≡ get_elem? s.views 0) → ((j : ℕ) (v : View) → (r.filled ≡ false → j ≢ 0) → get_elem? views j ≡ some v → v.stage ≡ Spawned) → Rule record { words = s.words; homes = s.homes; views = views }
   retold s c r views log m t is limited housed first staged = record {
     capped = c;
@@ -120,25 +120,25 @@ module _ (F T A : Type 0) (limit : ℕ) where
   first_more s r id u v w l ms at is early = let first = (r.unfilled early).first in let ne = not_first F T A limit s r id u l ms at is early in
       at_longer (set s.views id v) (w ∷ []) 0 (opening_at (r.unfilled early).stage limit) (set_apart F T A limit s.views id v ne ∙ first) ∙ sym first
 
-  no_work_after : (next : After) → has_work (goes_after next) ≡ false
+  no_work_after : (next : OnceDelivered) → has_work (after_handing_over next) ≡ false
   no_work_after (ThenEnds answer) = refl
   no_work_after (ThenTask n) = refl
   no_work_after (ThenNotifies n) = refl
 
-  no_awaiter_after : (next : After) → owns_awaiter (goes_after next) ≡ false
+  no_awaiter_after : (next : OnceDelivered) → owns_awaiter (after_handing_over next) ≡ false
   no_awaiter_after (ThenEnds answer) = refl
   no_awaiter_after (ThenTask n) = refl
   no_awaiter_after (ThenNotifies n) = refl
 
   -- a party hands a Runnable over
   hands_over_at : (id : ℕ) (v : View) (l : ℕ) (ds : List Deed) (p q : Position) (told : List Event) → v ≡ view l (member p ds ∷ [])
-      → ((m : Machine) → leads (scene m) (HandOver ∷ []) p ≡ Some (steps (scene m) m.word q (At Runnable ∷ []) told)) → handed_over p ≡ q
+      → ((m : Machine) → leads (scene m) (HandOver ∷ []) p ≡ Some (leaves_slots (scene m) m.word q (At Runnable ∷ []) told)) → handed_over p ≡ q
       → has_work p ≡ false → has_work q ≡ false → owns_awaiter p ≡ false → owns_awaiter q ≡ false → count is_emptying told ≡ 0
       → Splits Rule id v (handing_over v) (runnable_of v)
   hands_over_at id v l ds p q told is allows there w0 w1 a0 a1 quiet s r at =
       let run = r.running in let m : Machine = run.machine in let lt = inside s.views id v at in
-      let t0 = subst (λ vs. Told limit vs run.log m) (sym (ap (λ z. set s.views id z) (sym is) ∙ set_again s.views id v at)) run.told in
-      let o : Outcome = steps (scene m) m.word q (At Runnable ∷ []) told in
+      let t0 = subst (λ vs. Explains limit vs run.log m) (sym (ap (λ z. set s.views id z) (sym is) ∙ set_again s.views id v at)) run.told in
+      let o : Outcome = leaves_slots (scene m) m.word q (At Runnable ∷ []) told in
       let f = follows limit s.views id l (HandOver ∷ []) p ds [] run.log m o t0 lt (allows m) in
       let k = finds F T A limit s r.capped run id v l p ds [] at is in
       let i = law limit f.log f.machine f.told.reaches in
@@ -154,7 +154,7 @@ module _ (F T A : Type 0) (limit : ℕ) where
       } in
       let u : Member = member q (deed HandOver None ∷ ds) in let n : Member = fresh (At Runnable) in
       let t1 = leaves limit s.views id l f.log f.machine (u ∷ n ∷ []) (u ∷ []) n 1 f.told lt refl (only u n) in
-      let housed : Housed run.filled f.machine s.homes = record {
+      let housed : HomesAgree run.filled f.machine s.homes = record {
         future = λ b z. (same_work F T A limit run.filled m p o f.machine s.homes s.homes a run.housed (w1 ∙ sym w0) (inr (refl, refl)) (refl, refl) z).0 b;
         output = λ z. (same_work F T A limit run.filled m p o f.machine s.homes s.homes a run.housed (w1 ∙ sym w0) (inr (refl, refl)) (refl, refl) z).1;
         awaiter = λ z. same_awaiter F T A limit run.filled m p o f.machine s.homes s.homes a run.housed (a1 ∙ sym a0) (inr (refl, quiet)) refl z;
@@ -169,6 +169,6 @@ module _ (F T A : Type 0) (limit : ℕ) where
       only u n (suc j) x e = absurd (some-ne-none x (sym e))
 
   pub splits : (id : ℕ) (v : View) (l : ℕ) (ds : List Deed) (p : Position) → hands_over p ≡ true → v ≡ view l (member p ds ∷ []) → Splits Rule id v (handing_over v) (runnable_of v)
-  splits id v l ds (Deliverer woken next) e is = hands_over_at id v l ds (Deliverer woken next) (goes_after next) (HandedOver woken ∷ []) is (λ m. refl) refl refl (no_work_after next) refl (no_awaiter_after next) refl
-  splits id v l ds (At Runnable) e is = hands_over_at id v l ds (At Runnable) (Leaving Nothing Ended) (HandedOver false ∷ []) is (λ m. refl) refl refl refl refl refl refl
+  splits id v l ds (Deliverer woken next) e is = hands_over_at id v l ds (Deliverer woken next) (after_handing_over next) (HandedOver woken ∷ []) is (λ m. refl) refl refl (no_work_after next) refl (no_awaiter_after next) refl
+  splits id v l ds (At Runnable) e is = hands_over_at id v l ds (At Runnable) (CallEnding Nothing Ended) (HandedOver false ∷ []) is (λ m. refl) refl refl refl refl refl refl
   splits id v l ds _ e is = absurd (cc)

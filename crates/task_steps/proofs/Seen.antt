@@ -6,8 +6,8 @@ use lib.ListN.{get_elem?}
 use Rattle.task_core.specs.Word.{State, is_open}
 use Rattle.task_laws.specs.declared.positions.Position.{Position}
 use Rattle.task_laws.specs.declared.positions.Position.TheVariants.{OrphanHolder}
-use Rattle.task_core.specs.declared.moves.Act.{Act}
-use Rattle.task_core.specs.declared.moves.Act.TheVariants.{WakeRunning, WakeIdle, DiscardOpen, CancelBusy, CancelIdle, ClaimOutput, GiveUpOutput, DetachOrphan, CloseOrphan, StartRun, Unschedule, Complete, CompleteDetached, EndClosed, Reschedule, EndIdle, EndOrphaned}
+use Rattle.task_core.specs.declared.acts.Act.{Act}
+use Rattle.task_core.specs.declared.acts.Act.TheVariants.{WakeRunning, WakeIdle, DiscardOpen, CancelBusy, CancelIdle, ClaimOutput, GiveUpOutput, DetachOrphan, CloseOrphan, StartRun, Unschedule, Complete, CompleteDetached, EndClosed, Reschedule, EndIdle, EndOrphaned}
 use Rattle.task_core.specs.Rows.{found, written}
 use Rattle.task_laws.specs.Table.{Slots, Scene, Outcome, goes, rule}
 use Rattle.task_laws.specs.Event.{Event}
@@ -22,7 +22,7 @@ use Rattle.task_steps.specs.Steps.{leaves_such, saw, saw_over, saw_closed, saw_e
 use Rattle.task_steps.proofs.Written.{rule_word, found_is}
 use Rattle.task_steps.proofs.Facts.{law}
 use Rattle.task_steps.proofs.Leads.{counted}
-use Rattle.task_steps.proofs.Told.{next_machine}
+use Rattle.task_steps.proofs.Explains.{next_machine}
 
 -- a step of the machine, taken apart: where its party stood, and what the table says
 record Stepped (n m : Machine) (s : Step) : Type 0 where

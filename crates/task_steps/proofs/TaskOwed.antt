@@ -9,12 +9,12 @@ use Rattle.task_laws.specs.declared.positions.Answer.TheVariants.{Nothing}
 use Rattle.task_laws.specs.declared.positions.Position.{Position}
 use Rattle.task_laws.specs.declared.positions.Position.TheVariants.{At, Deliverer, Emptier, OutputCloser, Detacher}
 use Rattle.task_laws.specs.declared.positions.Rest.TheVariants.{Task, Ended}
-use Rattle.task_laws.specs.declared.positions.After.TheVariants.{ThenEnds}
-use Rattle.task_laws.specs.declared.positions.Way.TheVariants.{OfCancel}
-use Rattle.task_core.specs.declared.moves.Act.{Act}
-use Rattle.task_core.specs.declared.moves.Act.TheVariants.{CancelOver, CancelBusy, CancelIdle, GiveUpOutput, DetachOrphan, DetachLast, Detach, EndCall}
+use Rattle.task_laws.specs.declared.positions.OnceDelivered.TheVariants.{ThenEnds}
+use Rattle.task_laws.specs.declared.positions.NotifyingCall.TheVariants.{OfCancel}
+use Rattle.task_core.specs.declared.acts.Act.{Act}
+use Rattle.task_core.specs.declared.acts.Act.TheVariants.{CancelOver, CancelBusy, CancelIdle, GiveUpOutput, DetachOrphan, DetachLast, Detach, EndCall}
 use Rattle.task_core.specs.Rows.{found, written}
-use Rattle.task_laws.specs.Table.{Slots, Outcome, steps, keeps, goes, where_found, notifies, cancels_after}
+use Rattle.task_laws.specs.Table.{Slots, Outcome, leaves_slots, changes_slots, goes, where_found, notifies, after_cancelling}
 use Rattle.task_laws.specs.Machine.{Machine, scene}
 use Rattle.task_laws.specs.Laws.{count, is_emptying}
 use Rattle.task_laws.specs.Theorem.{owns_awaiter}
@@ -29,13 +29,11 @@ use Rattle.task_steps.specs.Steps.{saw_closed, output_first, and_then, spot}
 use Rattle.task_steps.specs.Scripts.{dropping_output}
 use Rattle.task_steps.specs.WakerScripts.{is_over}
 use Rattle.task_steps.specs.TaskScripts.{finding_cancelled, cancelling, cancelled, detaching, detached, giving_task_up}
+use Rattle.task_steps.proofs.Bools.{never}
 use Rattle.task_steps.proofs.Acts.{leads, both}
 use Rattle.task_steps.proofs.Advance.{Finds, stays, gives_work, takes_output, takes_awaiter, Steps}
 use Rattle.task_steps.proofs.Allowed.{Owes, OwesEnd}
 use Rattle.task_steps.proofs.Owed.{counted_at}
-
-never : {P : Type 0} → false ≡ true → P
-never e = absurd (cc)
 
 -- acts in a row, by whether the first finds its word
 abbrev leads_if : Machine → Position → Act → List Act → Bool → Option Outcome
@@ -79,7 +77,7 @@ no_future limit w slots t c h e = grind arith
 module _ (F T A : Type 0) (limit : ℕ) where
   pub finds_over : (n : ℕ) (ds : List Deed) (us : List Member) (l : List (ℕ × Slot F T A)) → OwesEnd F T A limit (is_over limit) finding_cancelled (At (Task n)) ds us l
   finds_over n ds us l m f x e lt is = record {
-    outcome = steps (scene m) m.word (At (Task n)) [] (CallEnds Nothing ∷ []);
+    outcome = leaves_slots (scene m) m.word (At (Task n)) [] (CallEnds Nothing ∷ []);
     leads_to = finds_it m (At (Task n)) CancelOver (EndCall ∷ []) is;
     writes = e;
     idle = (refl, refl);
@@ -99,14 +97,14 @@ module _ (F T A : Type 0) (limit : ℕ) where
       closes : (b : Bool) → (m.word.scheduled || m.word.running) ≡ b
           → Steps m (At (Task n)) (if b then CancelBusy ∷ [] else CancelIdle ∷ []) (number_of (if b then record (m.word) { closed = true } else record (m.word) { scheduled = true; closed = true; references = m.word.references + 1 })) l
       closes true is = let i = idle_cancel m.word.awaiter n in record {
-        outcome = steps (scene m) (record (m.word) { closed = true }) (notifies m.word.awaiter (OfCancel n)) [] (Closes ∷ []);
+        outcome = leaves_slots (scene m) (record (m.word) { closed = true }) (notifies m.word.awaiter (OfCancel n)) [] (Closes ∷ []);
         leads_to = finds_it m (At (Task n)) CancelBusy [] (both (is_open m.word) (m.word.scheduled || m.word.running) now is);
         writes = refl;
         idle = (refl, refl);
         placing = stays i.0 i.1 (inr (refl, refl)) (inr (refl, refl));
       }
       closes false is = record {
-        outcome = steps (scene m) (record (m.word) { scheduled = true; closed = true; references = m.word.references + 1 }) (Deliverer false (cancels_after m.word.awaiter n)) [] (Made ByClosing ∷ Closes ∷ []);
+        outcome = leaves_slots (scene m) (record (m.word) { scheduled = true; closed = true; references = m.word.references + 1 }) (Deliverer false (after_cancelling m.word.awaiter n)) [] (Made ByClosing ∷ Closes ∷ []);
         leads_to = finds_it m (At (Task n)) CancelIdle [] (neither (is_open m.word) m.word.scheduled m.word.running now is);
         writes = refl;
         idle = (refl, refl);
@@ -115,10 +113,10 @@ module _ (F T A : Type 0) (limit : ℕ) where
 
   -- the row of a Task that is given up, from here on
   gives_reference : (p : Position) (m : Machine) (x : ℕ) (l : List (ℕ × Slot F T A)) → has_work p ≡ false → owns_awaiter p ≡ false
-      → leads_if m p Detach (EndCall ∷ []) true ≡ Some (steps (scene m) (record (m.word) { task = false }) (At Ended) [] (CallEnds Nothing ∷ TaskGivenUp ∷ []))
+      → leads_if m p Detach (EndCall ∷ []) true ≡ Some (leaves_slots (scene m) (record (m.word) { task = false }) (At Ended) [] (CallEnds Nothing ∷ TaskGivenUp ∷ []))
       → x ≡ number_of (record (m.word) { task = false }) → nat_lt 0 m.word.references ≡ true → (m.word.completed && not m.word.closed) ≡ false → Steps m p (Detach ∷ EndCall ∷ []) x l
   gives_reference p m x l free bare goes e counted claimed = record {
-    outcome = steps (scene m) (record (m.word) { task = false }) (At Ended) [] (CallEnds Nothing ∷ TaskGivenUp ∷ []);
+    outcome = leaves_slots (scene m) (record (m.word) { task = false }) (At Ended) [] (CallEnds Nothing ∷ TaskGivenUp ∷ []);
     leads_to = finds_it m p Detach (EndCall ∷ []) (both (nat_lt 0 m.word.references) (not (m.word.completed && not m.word.closed)) counted (over (m.word.completed && not m.word.closed) claimed)) ∙ goes;
     writes = e;
     idle = (refl, refl);
@@ -126,10 +124,10 @@ module _ (F T A : Type 0) (limit : ℕ) where
   }
 
   gives_last : (p : Position) (ds : List Deed) (us : List Member) (m : Machine) → Finds limit p ds us m → (x : ℕ) (l : List (ℕ × Slot F T A)) → has_work p ≡ false → owns_awaiter p ≡ false → 1 ≤ (weigh p).tasks
-      → leads_if m p DetachLast [] true ≡ Some (steps (scene m) (record (m.word) { task = false }) (Emptier None Nothing) [] (TaskGivenUp ∷ []))
+      → leads_if m p DetachLast [] true ≡ Some (leaves_slots (scene m) (record (m.word) { task = false }) (Emptier None Nothing) [] (TaskGivenUp ∷ []))
       → x ≡ number_of (record (m.word) { task = false }) → nat_lt 0 m.word.references ≡ false → m.word.closed ≡ true → Steps m p (DetachLast ∷ []) x l
   gives_last p ds us m f x l free bare one goes e none closed = let left = unemptied m.limit m.word m.slots m.trace (census m.parties) f.invariant.holds (let h = counted_at (λ c. c.tasks) (λ a b. refl) m.parties f.number p f.stands in omega arith) in record {
-    outcome = steps (scene m) (record (m.word) { task = false }) (Emptier None Nothing) [] (TaskGivenUp ∷ []);
+    outcome = leaves_slots (scene m) (record (m.word) { task = false }) (Emptier None Nothing) [] (TaskGivenUp ∷ []);
     leads_to = finds_it m p DetachLast [] (both (nat_eq m.word.references 0) m.word.closed (none_left m.word.references none) closed) ∙ goes;
     writes = e;
     idle = (refl, refl);
@@ -147,7 +145,7 @@ module _ (F T A : Type 0) (limit : ℕ) where
           → Steps m (At (Task n)) (if a then GiveUpOutput ∷ [] else (if b then Detach ∷ EndCall ∷ [] else (if c then DetachLast ∷ [] else DetachOrphan ∷ [])))
           (number_of (if a then record (m.word) { closed = true } else (if b || c then record (m.word) { task = false } else orphan_word))) l
       gives true b c claimed counted closed = record {
-        outcome = steps (scene m) (record (m.word) { closed = true }) OutputCloser [] (Closes ∷ []);
+        outcome = leaves_slots (scene m) (record (m.word) { closed = true }) OutputCloser [] (Closes ∷ []);
         leads_to = finds_it m (At (Task n)) GiveUpOutput [] claimed;
         writes = refl;
         idle = (refl, refl);
@@ -156,7 +154,7 @@ module _ (F T A : Type 0) (limit : ℕ) where
       gives false true c claimed counted closed = gives_reference (At (Task n)) m (number_of (record (m.word) { task = false })) l refl refl refl refl counted claimed
       gives false false true claimed counted closed = gives_last (At (Task n)) ds us m f (number_of (record (m.word) { task = false })) l refl refl (omega arith) refl refl counted closed
       gives false false false claimed counted closed = record {
-        outcome = steps (scene m) orphan_word (Deliverer false (ThenEnds Nothing)) [] (Made ByClosing ∷ Closes ∷ TaskGivenUp ∷ []);
+        outcome = leaves_slots (scene m) orphan_word (Deliverer false (ThenEnds Nothing)) [] (Made ByClosing ∷ Closes ∷ TaskGivenUp ∷ []);
         leads_to = finds_it m (At (Task n)) DetachOrphan [] (last_orphan m.word.references m.word.completed m.word.closed counted claimed closed);
         writes = refl;
         idle = (refl, refl);
@@ -165,7 +163,7 @@ module _ (F T A : Type 0) (limit : ℕ) where
 
   pub drops_output : (ds : List Deed) (us : List Member) (y z : Slot F T A) (l : List (ℕ × Slot F T A)) → l ≡ output_first y z (rest (rest l)) → Owes F T A limit dropping_output (λ n. n) OutputCloser ds us l
   drops_output ds us y z l has m f x e lt = let none = no_future m.limit m.word m.slots m.trace (census m.parties) f.invariant.holds (counted_at (λ c. c.claims) (λ a b. refl) m.parties f.number OutputCloser f.stands) in record {
-    outcome = keeps (scene m) m.word (record (m.slots) { output = false }) Detacher (OutputDropped ∷ []);
+    outcome = changes_slots (scene m) m.word (record (m.slots) { output = false }) Detacher (OutputDropped ∷ []);
     leads_to = refl;
     writes = e;
     idle = (refl, refl);

@@ -7,9 +7,9 @@ use Rattle.atomic_table.proofs.Lists.{at_longer, set_again}
 use Rattle.task_steps.specs.declared.table.Slot.{Slot}
 use Rattle.task_steps.specs.declared.table.Member.{Member}
 use Rattle.task_steps.specs.declared.table.View.{View}
-use Rattle.task_steps.specs.Rule.{view, Told, Ruled}
+use Rattle.task_steps.specs.Rule.{view, Explains, RuleHolds}
 use Rattle.task_steps.specs.Beside.{others, newest_of, without_newest, newest}
-use Rattle.task_steps.proofs.Told.{inside, at_second}
+use Rattle.task_steps.proofs.Explains.{inside, at_second}
 use Rattle.task_steps.proofs.Seats.{leaves, retold, staged_more, first_more}
 
 pub others_are : (u n : Member) (us : List Member) → others (u ∷ (us ++ n ∷ [])) ≡ u ∷ us
@@ -25,12 +25,12 @@ module _ (F T A : Type 0) (limit : ℕ) where
   B = Board (Slot F T A) View
 
   abbrev Rule : B → Type 0
-  Rule = Ruled {F = F} {T = T} {A = A} limit
+  Rule = RuleHolds {F = F} {T = T} {A = A} limit
 
   -- the newest party gets a seat of its own
   pub parts_newest : (id : ℕ) (v : View) (l : ℕ) (u n : Member) (us : List Member) → v ≡ view l (u ∷ (us ++ n ∷ [])) → Splits Rule id v (without_newest v) (newest v)
   parts_newest id v l u n us is s r at = let ms : List Member = u ∷ (us ++ n ∷ []) in let run = r.running in
-      let t0 = subst (λ vs. Told limit vs run.log run.machine) (sym (ap (λ z. set s.views id z) (sym is) ∙ set_again s.views id v at)) run.told in
+      let t0 = subst (λ vs. Explains limit vs run.log run.machine) (sym (ap (λ z. set s.views id z) (sym is) ∙ set_again s.views id v at)) run.told in
       let t1 = leaves limit s.views id l run.log run.machine ms (u ∷ us) n (length (u ∷ us)) t0 (inside s.views id v at) last kept in
       let left : view l (u ∷ us) ≡ without_newest v = ap (view l) (sym (others_are u n us)) ∙ ap without_newest (sym is) in
       let right : view l (n ∷ []) ≡ newest v = ap (view l) (sym (newest_is u n us)) ∙ ap newest (sym is) in

@@ -3,13 +3,13 @@ use Rattle.std.proofs.Common.{◌≡◌, ℕ, ◌+◌, ◌≤◌, Bool, true, fa
 use native.Mathlib.Decide.{ℕ_discrete}
 use Rattle.task_core.specs.Word.{State, bit, number_of, is_open}
 use Rattle.task_laws.specs.declared.positions.Position.{Position}
-use Rattle.task_core.specs.declared.moves.Act.{Act}
-use Rattle.task_core.specs.declared.moves.Act.TheVariants.{AnswerPending, AnswerReady, BeginNotify, BeginRegister, CancelBusy, CancelIdle, CancelOver, ClaimOutput, CloneAwaiter, CloseOrphan, Complete, CompleteDetached, Detach, DetachLast, DetachOrphan, DiscardClosed, DiscardOpen, DropAwaiter, DropFuture, DropLastWaker, DropOutput, DropWaker, EmptySlots, EndCall, EndClosed, EndIdle, EndNotify, EndOrphaned, EndRegister, EndRegisterNotified, FindLimit, FindNotify, GainReference, GiveUpLastReference, GiveUpOutput, GiveUpReference, HandOutOutput, HandOver, Look, LookFinished, MissNotify, OrphanTask, RefuseClone, RefuseGain, Reschedule, StartPoll, StartRun, StoreAwaiter, StoreOutput, TakeAwaiter, TakeUpClosed, Unschedule, WakeAwaiter, WakeIdle, WakeOver, WakeRunning, WakeScheduled}
-use Rattle.task_laws.specs.declared.positions.Position.TheVariants.{Answering, At, AwaiterInHand, Claimer, Claiming, Cleared, CloneInHand, Deliverer, Detacher, Emptier, FutureGone, FutureInHand, GivingUp, HasClone, Leaving, Looking, Notifier, OldAwaiterInHand, OrphanHolder, OutputCloser, OutputInHand, Pending, Polling, Ready, RefusedClone, Registered, Registrar, Releaser, Starting, Stored, Storing, Taker, TookBack, Unstored}
-use Rattle.task_laws.specs.declared.positions.Closer.TheVariants.{ClosedRun, DroppedRunnable}
+use Rattle.task_core.specs.declared.acts.Act.{Act}
+use Rattle.task_core.specs.declared.acts.Act.TheVariants.{AnswerPending, AnswerReady, BeginNotify, BeginRegister, CancelBusy, CancelIdle, CancelOver, ClaimOutput, CloneAwaiter, CloseOrphan, Complete, CompleteDetached, Detach, DetachLast, DetachOrphan, DiscardClosed, DiscardOpen, DropAwaiter, DropFuture, DropLastWaker, DropOutput, DropWaker, EmptySlots, EndCall, EndClosed, EndIdle, EndNotify, EndOrphaned, EndRegister, EndRegisterNotified, FindLimit, FindNotify, GainReference, GiveUpLastReference, GiveUpOutput, GiveUpReference, HandOutOutput, HandOver, Look, LookFinished, MissNotify, OrphanTask, RefuseClone, RefuseGain, Reschedule, StartPoll, StartRun, StoreAwaiter, StoreOutput, TakeAwaiter, TakeUpClosed, Unschedule, WakeAwaiter, WakeIdle, WakeOver, WakeRunning, WakeScheduled}
+use Rattle.task_laws.specs.declared.positions.Position.TheVariants.{Answering, At, AwaiterInHand, TookOutput, SawOutput, PendingFutureDropped, CloneInHand, Deliverer, Detacher, Emptier, FutureGone, FutureInHand, GivingUp, HasClone, CallEnding, Looking, Notifier, OldAwaiterInHand, OrphanHolder, OutputCloser, OutputInHand, Pending, Polling, Ready, UnusedClone, Registered, Registrar, Releaser, Starting, OutputStored, Storing, Taker, TookBack, ReadyFutureDropped}
+use Rattle.task_laws.specs.declared.positions.WithoutPoll.TheVariants.{ClosedRun, DroppedRunnable}
 use Rattle.task_laws.specs.declared.positions.Rest.TheVariants.{Ended, Lent, Runnable, Task, Waker}
-use Rattle.task_laws.specs.declared.positions.Way.TheVariants.{OfCancel, OfClaim, OfDrop, OfPoll, OfRun}
-use Rattle.task_laws.specs.declared.positions.After.TheVariants.{ThenEnds, ThenNotifies, ThenTask}
+use Rattle.task_laws.specs.declared.positions.NotifyingCall.TheVariants.{OfCancel, OfClaim, OfDrop, OfPoll, OfRun}
+use Rattle.task_laws.specs.declared.positions.OnceDelivered.TheVariants.{ThenEnds, ThenNotifies, ThenTask}
 use Rattle.task_core.specs.Rows.{found, written}
 use Rattle.task_steps.specs.Rule.{is_private, found_by, differ, writes}
 use Rattle.task_laws.specs.Table.{Scene, Outcome, when, where_found, is_held, goes, rule}
@@ -63,14 +63,14 @@ goes_word s v GiveUpOutput (At (Task n)) = refl
 goes_word s v DetachOrphan (At (Task n)) = refl
 goes_word s v DetachLast (At (Task n)) = refl
 goes_word s v Detach (At (Task n)) = refl
-goes_word s v ClaimOutput (Claiming n) = refl
+goes_word s v ClaimOutput (SawOutput n) = refl
 goes_word s v DetachLast Detacher = refl
 goes_word s v Detach Detacher = refl
 goes_word s v Unschedule (FutureGone ClosedRun) = refl
 goes_word s v Unschedule (FutureGone DroppedRunnable) = refl
-goes_word s v Complete Stored = refl
-goes_word s v CompleteDetached Stored = refl
-goes_word s v EndClosed Cleared = refl
+goes_word s v Complete OutputStored = refl
+goes_word s v CompleteDetached OutputStored = refl
+goes_word s v EndClosed PendingFutureDropped = refl
 goes_word s v Reschedule Pending = refl
 goes_word s v EndIdle Pending = refl
 goes_word s v EndOrphaned Pending = refl
@@ -120,21 +120,21 @@ goes_word s v AnswerReady Polling = refl
 goes_word s v DropFuture Ready = refl
 goes_word s v DropFuture (FutureInHand ClosedRun) = refl
 goes_word s v DropFuture (FutureInHand DroppedRunnable) = refl
-goes_word s v StoreOutput Unstored = refl
+goes_word s v StoreOutput ReadyFutureDropped = refl
 goes_word s v DropOutput (OutputInHand notifies) = refl
 goes_word s v DropOutput OutputCloser = refl
-goes_word s v HandOutOutput (Claimer i) = refl
+goes_word s v HandOutOutput (TookOutput i) = refl
 goes_word s v CloneAwaiter (Registrar i) = refl
 goes_word s v RefuseClone (Registrar i) = refl
 goes_word s v StoreAwaiter (Storing i) = refl
 goes_word s v DropAwaiter (OldAwaiterInHand i old) = refl
-goes_word s v DropAwaiter (RefusedClone i) = refl
+goes_word s v DropAwaiter (UnusedClone i) = refl
 goes_word s v HandOver (At Runnable) = refl
-goes_word s v EndCall (Leaving answer Runnable) = refl
-goes_word s v EndCall (Leaving answer Waker) = refl
-goes_word s v EndCall (Leaving answer Lent) = refl
-goes_word s v EndCall (Leaving answer Ended) = refl
-goes_word s v EndCall (Leaving answer (Task n)) = refl
+goes_word s v EndCall (CallEnding answer Runnable) = refl
+goes_word s v EndCall (CallEnding answer Waker) = refl
+goes_word s v EndCall (CallEnding answer Lent) = refl
+goes_word s v EndCall (CallEnding answer Ended) = refl
+goes_word s v EndCall (CallEnding answer (Task n)) = refl
 goes_word s v EndCall (Answering i answer) = refl
 goes_word s v HandOver (Deliverer woken (ThenEnds answer)) = refl
 goes_word s v HandOver (Deliverer woken (ThenTask n)) = refl

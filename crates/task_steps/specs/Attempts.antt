@@ -4,11 +4,11 @@ use mathlib.Core.Option.{none}
 use prog.Atomic.{either}
 use Rattle.atomic_table.specs.Table.{Me, Step, step, Allows}
 use Rattle.task_core.specs.Word.{State, state_of, number_of}
-use Rattle.task_core.specs.declared.moves.Act.{Act}
+use Rattle.task_core.specs.declared.acts.Act.{Act}
 use Rattle.task_steps.specs.declared.table.Slot.{Slot}
 use Rattle.task_steps.specs.declared.table.Tries.{Tries}
 use Rattle.task_steps.specs.declared.table.View.{View}
-use Rattle.task_steps.specs.Rule.{view, trying, Ruled}
+use Rattle.task_steps.specs.Rule.{view, trying, RuleHolds}
 use Rattle.task_steps.specs.Steps.{head_of, tail_of, Makes}
 use Rattle.task_steps.specs.Knows.{Knows}
 
@@ -47,9 +47,9 @@ module _ {F T A : Type 0} where
 
   -- the rule allows each load and each exchange of an attempt, whatever the party has seen
   pub record MayTry (limit slots id : ℕ) (me : Me (Slot F T A) View) (writes : ℕ → State → Option State) (ends : ℕ → State → Bool) (acts told : State → List Act) : Type 0 where
-    pub loads : (t : Option Tries) → Allows (Ruled {F = F} {T = T} {A = A} limit) slots id (having_seen t me.0, me.1) 0 (λ n. n) (observed ends told (step slots 0 0 0 none) (having_seen t me.0, me.1))
+    pub loads : (t : Option Tries) → Allows (RuleHolds {F = F} {T = T} {A = A} limit) slots id (having_seen t me.0, me.1) 0 (λ n. n) (observed ends told (step slots 0 0 0 none) (having_seen t me.0, me.1))
     pub exchanges : (t : Option Tries) (w v : State) → writes limit w ≡ Some v → Names w t
-        → Allows (Ruled {F = F} {T = T} {A = A} limit) slots id (having_seen t me.0, me.1) 0 (λ n. either (n == number_of w) (number_of v) n) (attempted acts (step slots 0 (number_of w) (number_of v) none) (having_seen t me.0, me.1))
+        → Allows (RuleHolds {F = F} {T = T} {A = A} limit) slots id (having_seen t me.0, me.1) 0 (λ n. either (n == number_of w) (number_of v) n) (attempted acts (step slots 0 (number_of w) (number_of v) none) (having_seen t me.0, me.1))
 
   -- an attempt has made its change on this word
   pub record HasChanged (limit : ℕ) (writes : ℕ → State → Option State) (acts : State → List Act) (w : State) (me me' : Me (Slot F T A) View) : Type 0 where

@@ -1,7 +1,7 @@
 -- What a party does, as a list of deeds.
 use Rattle.std.specs.Prelude.{List, [], ◌∷◌, Some, None}
 use Rattle.task_core.specs.Word.{State}
-use Rattle.task_core.specs.declared.moves.Act.{Act}
+use Rattle.task_core.specs.declared.acts.Act.{Act}
 use Rattle.task_steps.specs.declared.table.Deed.{Deed}
 
 -- a row or a load, with the word that it found

@@ -2,7 +2,7 @@
 use Rattle.std.specs.Prelude.{◌≡◌, ℕ, ◌<◌, true, false, List}
 use Rattle.atomic_table.specs.Table.{Me, Step}
 use Rattle.task_core.specs.Word.{State, state_of, is_open}
-use Rattle.task_core.specs.declared.moves.Act.{Act}
+use Rattle.task_core.specs.declared.acts.Act.{Act}
 use Rattle.task_steps.specs.declared.table.Slot.{Slot}
 use Rattle.task_steps.specs.declared.table.Deed.{Deed}
 use Rattle.task_steps.specs.declared.table.View.{View}

@@ -8,10 +8,10 @@ use Rattle.task_core.specs.Word.{State, bit, number_of}
 use Rattle.task_core.specs.Rows.{written}
 use Rattle.task_laws.specs.declared.positions.Rest.TheVariants.{Runnable, Task, Lent}
 use Rattle.task_laws.specs.declared.positions.Position.{Position}
-use Rattle.task_laws.specs.declared.positions.Way.TheVariants.{OfClaim}
-use Rattle.task_laws.specs.declared.positions.Position.TheVariants.{At, Starting, Polling, Pending, Ready, Unstored, Stored, Cleared, FutureInHand, FutureGone, OutputInHand, Notifier, Taker, Releaser, AwaiterInHand, Claimer, OutputCloser}
-use Rattle.task_core.specs.declared.moves.Act.{Act}
-use Rattle.task_core.specs.declared.moves.Act.TheVariants.{StartPoll, AnswerPending, AnswerReady, DropFuture, StoreOutput, DropOutput, HandOutOutput, CloneAwaiter, RefuseClone, StoreAwaiter, TakeAwaiter, WakeAwaiter, DropAwaiter, HandOver, EmptySlots, RefuseGain, EndCall}
+use Rattle.task_laws.specs.declared.positions.NotifyingCall.TheVariants.{OfClaim}
+use Rattle.task_laws.specs.declared.positions.Position.TheVariants.{At, Starting, Polling, Pending, Ready, ReadyFutureDropped, OutputStored, PendingFutureDropped, FutureInHand, FutureGone, OutputInHand, Notifier, Taker, Releaser, AwaiterInHand, TookOutput, OutputCloser}
+use Rattle.task_core.specs.declared.acts.Act.{Act}
+use Rattle.task_core.specs.declared.acts.Act.TheVariants.{StartPoll, AnswerPending, AnswerReady, DropFuture, StoreOutput, DropOutput, HandOutOutput, CloneAwaiter, RefuseClone, StoreAwaiter, TakeAwaiter, WakeAwaiter, DropAwaiter, HandOver, EmptySlots, RefuseGain, EndCall}
 use Rattle.task_laws.specs.Machine.{Machine, Step, opening, step, how_many}
 use Rattle.task_laws.specs.Laws.{count, is_emptying}
 use Rattle.task_laws.specs.Theorem.{owns_awaiter}
@@ -132,7 +132,7 @@ Tried k log w None = Unit {0}
 Tried k log w (Some t) = t.misses + bit (differ t.seen w) ≤ written_since k log
 
 -- in this interleaving party k did last what is known of it, and it is this member of this seat
-pub record Fared (m : Machine) (log : List Entry) (holder : ℕ → ℕ × ℕ) (seat index : ℕ) (u : Member) (k : ℕ) : Type 0 where
+pub record IsParty (m : Machine) (log : List Entry) (holder : ℕ → ℕ × ℕ) (seat index : ℕ) (u : Member) (k : ℕ) : Type 0 where
   pub seated : holder k ≡ (seat, index)
   pub apart : k ≢ lender
   pub at : get_elem? m.parties k ≡ some u.at
@@ -140,12 +140,12 @@ pub record Fared (m : Machine) (log : List Entry) (holder : ℕ → ℕ × ℕ) 
   pub tried : Tried k log m.word u.tries
 
 -- an interleaving in which, under some numbering, each party of a seat did what the seat knows, and the lender is at rest
-pub record Told (limit : ℕ) (views : List View) (log : List Entry) (m : Machine) : Type 0 where
+pub record Explains (limit : ℕ) (views : List View) (log : List Entry) (m : Machine) : Type 0 where
   pub holder : ℕ → ℕ × ℕ
   pub reaches : Reaches limit log m
   pub lends : get_elem? m.parties lender ≡ some (At Lent)
   pub limited : (seat index : ℕ) (v : View) (u : Member) → get_elem? views seat ≡ some v → get_elem? v.members index ≡ some u → v.limit ≡ limit
-  pub each : (seat index : ℕ) (v : View) (u : Member) → get_elem? views seat ≡ some v → get_elem? v.members index ≡ some u → (k : ℕ) × Fared m log holder seat index u k
+  pub each : (seat index : ℕ) (v : View) (u : Member) → get_elem? views seat ≡ some v → get_elem? v.members index ≡ some u → (k : ℕ) × IsParty m log holder seat index u k
 
 -- the party has the places of future and output
 abbrev pub has_work : Position → Bool
@@ -153,14 +153,14 @@ has_work Starting = true
 has_work Polling = true
 has_work Pending = true
 has_work Ready = true
-has_work Unstored = true
-has_work Stored = true
-has_work Cleared = true
+has_work ReadyFutureDropped = true
+has_work OutputStored = true
+has_work PendingFutureDropped = true
 has_work (FutureInHand closer) = true
 has_work (FutureGone closer) = true
 has_work (OutputInHand due) = true
 has_work OutputCloser = true
-has_work (Claimer n) = true
+has_work (TookOutput n) = true
 has_work (Notifier (OfClaim n)) = true
 has_work (Taker (OfClaim n)) = true
 has_work (Releaser hand (OfClaim n)) = true
@@ -202,7 +202,7 @@ module _ {F T A : Type 0} where
   AtHome homes k Is = (y : Slot F T A) × (get_elem? homes k ≡ some (some y)) × Is y
 
   -- a place that no party has is at home, with what the machine says: 0 is the future's, once it was put in, 1 the output's, 2 the awaiter's
-  pub record Housed (filled : Bool) (m : Machine) (homes : List (maybe.Option (Slot F T A))) : Type 0 where
+  pub record HomesAgree (filled : Bool) (m : Machine) (homes : List (maybe.Option (Slot F T A))) : Type 0 where
     pub future : filled ≡ true → how_many has_work m.parties ≡ 0 → AtHome homes 0 (λ y. m.slots.future ≡ true → IsFuture y)
     pub output : how_many has_work m.parties ≡ 0 → AtHome homes 1 (λ z. m.slots.output ≡ true → IsOutput z)
     pub awaiter : how_many owns_awaiter m.parties ≡ 0 → count is_emptying m.trace ≡ 0 → AtHome homes 2 (Waits m.slots.awaiter)
@@ -219,13 +219,13 @@ module _ {F T A : Type 0} where
     pub machine : Machine
     pub filled : Bool
     pub limited : machine.limit ≡ limit
-    pub told : Told limit s.views log machine
+    pub told : Explains limit s.views log machine
     pub wide : length s.words ≡ 1
     pub word_is : slice_index s.words 0 ≡ number_of machine.word
-    pub housed : Housed filled machine s.homes
+    pub housed : HomesAgree filled machine s.homes
     pub unfilled : filled ≡ false → Unfilled limit s
     pub staged : (seat : ℕ) (v : View) → (filled ≡ false → seat ≢ 0) → get_elem? s.views seat ≡ some v → v.stage ≡ Spawned
 
-  pub record Ruled (limit : ℕ) (s : Board (Slot F T A) View) : Type 0 where
+  pub record RuleHolds (limit : ℕ) (s : Board (Slot F T A) View) : Type 0 where
     pub capped : limit < 36028797018963968
     pub running : Running limit s

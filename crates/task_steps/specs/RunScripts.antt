@@ -3,8 +3,8 @@ use Rattle.std.specs.Prelude.{◌||◌, nat_lt, if◌then◌else◌, List, [], �
 use Rattle.std.specs.Option.{option_or}
 use Rattle.task_core.specs.Word.{State}
 use Rattle.task_core.specs.Rows.{written, row}
-use Rattle.task_core.specs.declared.moves.Act.{Act}
-use Rattle.task_core.specs.declared.moves.Act.TheVariants.{Unschedule, DropFuture, GiveUpReference, GiveUpLastReference, EmptySlots, DiscardOpen, DiscardClosed, AnswerReady, StoreOutput, Complete, CompleteDetached, AnswerPending, Reschedule, EndIdle, EndOrphaned, EndCall, EndClosed}
+use Rattle.task_core.specs.declared.acts.Act.{Act}
+use Rattle.task_core.specs.declared.acts.Act.TheVariants.{Unschedule, DropFuture, GiveUpReference, GiveUpLastReference, EmptySlots, DiscardOpen, DiscardClosed, AnswerReady, StoreOutput, Complete, CompleteDetached, AnswerPending, Reschedule, EndIdle, EndOrphaned, EndCall, EndClosed}
 
 -- SCHEDULED is cleared, after the future was dropped
 abbrev pub unscheduling : State → List Act

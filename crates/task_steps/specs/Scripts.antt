@@ -1,8 +1,8 @@
 -- The acts that the steps make which several calls have.
 use Rattle.std.specs.Prelude.{◌||◌, if◌then◌else◌, List, [], ◌∷◌}
 use Rattle.task_core.specs.Word.{State}
-use Rattle.task_core.specs.declared.moves.Act.{Act}
-use Rattle.task_core.specs.declared.moves.Act.TheVariants.{EndCall, BeginNotify, MissNotify, TakeAwaiter, EndNotify, WakeAwaiter, DropAwaiter, DropOutput}
+use Rattle.task_core.specs.declared.acts.Act.{Act}
+use Rattle.task_core.specs.declared.acts.Act.TheVariants.{EndCall, BeginNotify, MissNotify, TakeAwaiter, EndNotify, WakeAwaiter, DropAwaiter, DropOutput}
 
 -- the call ends
 abbrev pub ending : State → List Act

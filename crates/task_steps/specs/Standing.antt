@@ -1,14 +1,14 @@
 -- Where a party stands: between two calls, as a handle, and within one.
 use Rattle.std.specs.Prelude.{ℕ, ◌+◌, Bool, true, false}
 use Rattle.task_laws.specs.declared.positions.Position.{Position}
-use Rattle.task_laws.specs.declared.positions.Position.TheVariants.{At, Deliverer, Leaving, Answering, FutureInHand, Notifier, AwaiterInHand, Looking, Claiming, Claimer, Registrar, RefusedClone, Registered, OldAwaiterInHand, TookBack, CloneInHand}
+use Rattle.task_laws.specs.declared.positions.Position.TheVariants.{At, Deliverer, CallEnding, Answering, FutureInHand, Notifier, AwaiterInHand, Looking, SawOutput, TookOutput, Registrar, UnusedClone, Registered, OldAwaiterInHand, TookBack, CloneInHand}
 use Rattle.task_laws.specs.declared.positions.Rest.TheVariants.{Task, Runnable, Waker, Lent, Ended}
-use Rattle.task_laws.specs.Table.{goes_after}
+use Rattle.task_laws.specs.Table.{after_handing_over}
 use Rattle.task_laws.specs.declared.positions.Answer.TheVariants.{Nothing}
-use Rattle.task_laws.specs.declared.positions.After.TheVariants.{ThenEnds}
-use Rattle.task_laws.specs.declared.positions.Way.{Way}
-use Rattle.task_laws.specs.declared.positions.Way.TheVariants.{OfRun, OfDrop, OfPoll, OfClaim}
-use Rattle.task_laws.specs.declared.positions.Closer.TheVariants.{DroppedRunnable}
+use Rattle.task_laws.specs.declared.positions.OnceDelivered.TheVariants.{ThenEnds}
+use Rattle.task_laws.specs.declared.positions.NotifyingCall.{NotifyingCall}
+use Rattle.task_laws.specs.declared.positions.NotifyingCall.TheVariants.{OfRun, OfDrop, OfPoll, OfClaim}
+use Rattle.task_laws.specs.declared.positions.WithoutPoll.TheVariants.{DroppedRunnable}
 
 -- the positions of a handle between two calls
 abbrev pub as_runnable : Position
@@ -42,24 +42,24 @@ hands_over p = false
 
 -- where it stands once it has handed the Runnable over
 abbrev pub handed_over : Position → Position
-handed_over (At Runnable) = Leaving Nothing Ended
-handed_over (Deliverer woken next) = goes_after next
+handed_over (At Runnable) = CallEnding Nothing Ended
+handed_over (Deliverer woken next) = after_handing_over next
 handed_over p = p
 
 -- in which call the awaiter is taken that stands when a future is dropped unpolled
-abbrev pub closing_way : Position → Way
+abbrev pub closing_way : Position → NotifyingCall
 closing_way (FutureInHand DroppedRunnable) = OfDrop
 closing_way _ = OfRun
 
 -- the call in which a notifier takes the awaiter, or has it
-abbrev pub way_of : Position → Way
+abbrev pub way_of : Position → NotifyingCall
 way_of (Notifier way) = way
 way_of (AwaiterInHand i way) = way
 way_of _ = OfRun
 
 -- where a party stands once its call has ended
 abbrev pub rest_of : Position → Position
-rest_of (Leaving answer r) = At r
+rest_of (CallEnding answer r) = At r
 rest_of (Answering i answer) = At (Task i)
 rest_of p = p
 
@@ -69,13 +69,13 @@ poll_number (At (Task n)) = n + 1
 poll_number (Notifier (OfPoll i)) = i
 poll_number (Notifier (OfClaim i)) = i
 poll_number (Registrar i) = i
-poll_number (RefusedClone i) = i
+poll_number (UnusedClone i) = i
 poll_number (OldAwaiterInHand i old) = i
 poll_number (Registered i) = i
 poll_number (TookBack i) = i
 poll_number (CloneInHand i) = i
 poll_number (Looking i) = i
-poll_number (Claiming i) = i
-poll_number (Claimer i) = i
+poll_number (SawOutput i) = i
+poll_number (TookOutput i) = i
 poll_number (Answering i answer) = i
 poll_number p = 0

@@ -1,8 +1,8 @@
 -- The acts that the steps make by which a run starts.
 use Rattle.std.specs.Prelude.{List, [], ◌∷◌}
 use Rattle.task_core.specs.Word.{State}
-use Rattle.task_core.specs.declared.moves.Act.{Act}
-use Rattle.task_core.specs.declared.moves.Act.TheVariants.{TakeUpClosed, StartRun, StartPoll}
+use Rattle.task_core.specs.declared.acts.Act.{Act}
+use Rattle.task_core.specs.declared.acts.Act.TheVariants.{TakeUpClosed, StartRun, StartPoll}
 
 -- a closed task is taken up, to drop its future
 abbrev pub taking_up_closed : State → List Act

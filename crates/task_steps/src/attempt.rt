@@ -1,7 +1,7 @@
 //! Changes of the word that are tried until they are made, by compare and exchange.
 ghost use Rattle.std.specs.Prelude.{ℕ, ◌≡◌, ◌<◌, Bool, List, Option};
 ghost use Rattle.task_core.specs.Word.{State};
-ghost use Rattle.task_core.specs.declared.moves.Act.{Act};
+ghost use Rattle.task_core.specs.declared.acts.Act.{Act};
 ghost use Rattle.task_steps.specs.Attempts.{observed, attempted};
 
 use crate::table::{Slot, View};

@@ -1,7 +1,7 @@
 //! Steps of a poll of the Task.
 ghost use Rattle.std.specs.Prelude.{not};
 ghost use Rattle.task_core.specs.Rows.{row};
-ghost use Rattle.task_core.specs.declared.moves.Act.TheVariants.{BeginRegister, EndRegister, ClaimOutput};
+ghost use Rattle.task_core.specs.declared.acts.Act.TheVariants.{BeginRegister, EndRegister, ClaimOutput};
 ghost use Rattle.task_steps.specs.PollScripts.{has_output, looking, looking_again, claiming, claiming_again, handing_out, refusing, finding_notifier, beginning_register, ending_register, taking_back, ending_notified};
 
 use crate::attempt::Change;

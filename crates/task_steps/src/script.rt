@@ -2,7 +2,7 @@
 ghost use Rattle.task_steps.specs.Steps.{made};
 ghost use Rattle.std.specs.Prelude.{List};
 ghost use Rattle.task_core.specs.Word.{State};
-ghost use Rattle.task_core.specs.declared.moves.Act.{Act};
+ghost use Rattle.task_core.specs.declared.acts.Act.{Act};
 
 use crate::table::{Slot, View};
 use atomic_table::Play;

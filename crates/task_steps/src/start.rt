@@ -1,6 +1,6 @@
 //! Steps by which a run starts.
 ghost use Rattle.task_core.specs.Rows.{row};
-ghost use Rattle.task_core.specs.declared.moves.Act.TheVariants.{StartRun};
+ghost use Rattle.task_core.specs.declared.acts.Act.TheVariants.{StartRun};
 ghost use Rattle.task_steps.specs.StartScripts.{taking_up_closed, starting_run};
 
 use crate::attempt::Change;

@@ -7,7 +7,7 @@ ghost use Rattle.task_steps.specs.Seats.{is_spent};
 use atomic_table::{Refused, Seat, Table, TableRule};
 use std::alloc::{AllocError, Allocator};
 use std::collections::LinkedList;
-use task_core::moves::Act;
+use task_core::acts::Act;
 use task_core::word::{REFERENCE, SCHEDULED, TASK, Word};
 use task_core::{Future, Poll, Yields};
 use task_laws::positions::Position;
@@ -83,9 +83,9 @@ pub struct View {
 pub struct Law;
 
 impl<F, T, A> TableRule<Slot<F, T, A>, View, u64> for Law {
-    ghost use Rattle.task_steps.specs.Rule.{Ruled, laid_view};
+    ghost use Rattle.task_steps.specs.Rule.{RuleHolds, laid_view};
 
-    ghost holds = { Ruled };
+    ghost holds = { RuleHolds };
 
     ghost first = { laid_view };
 }

@@ -1,7 +1,7 @@
 //! What lines say, and what is expected where one cannot be read.
 
 use std::test::Fail;
-use task_core::moves::Act;
+use task_core::acts::Act;
 use task_replay::machine::Step;
 use trace_table::line::{Expected, content, is_blank, read_limit, read_step};
 use trace_table::names::{ACTS, name};

@@ -1,15 +1,15 @@
 //! How far each party is in its call: how many steps it has left at most, and an act that it may make now.
 
 use std::test::Fail;
-use task_core::moves::Act;
-use task_core::moves::Act::*;
+use task_core::acts::Act;
+use task_core::acts::Act::*;
 use task_core::word::Word;
-use task_laws::positions::After::*;
 use task_laws::positions::Answer::*;
-use task_laws::positions::Closer::*;
+use task_laws::positions::NotifyingCall::*;
+use task_laws::positions::OnceDelivered::*;
 use task_laws::positions::PollAnswer::*;
 use task_laws::positions::Position::*;
-use task_laws::positions::Way::*;
+use task_laws::positions::WithoutPoll::*;
 use task_laws::positions::{Position, Rest};
 use trace_table::progress::{act_there, steps_left};
 use trace_table::row::Shown;
@@ -37,12 +37,12 @@ const READY_ROWS: &str = "\
 | 1 | 0 start-run | 0x112 | RUNNING TASK | 1 | party 0 | empty | empty | 0 Starting (13 left, may start-poll), 1 At(Task(0)), 2 At(Lent) |
 | 2 | 0 start-poll | 0x112 | RUNNING TASK | 1 | party 0 | empty | empty | 0 Polling (12 left, may answer-pending), 1 At(Task(0)), 2 At(Lent) |
 | 3 | 0 answer-ready | 0x112 | RUNNING TASK | 1 | party 0 | empty | empty | 0 Ready (11 left, may drop-future), 1 At(Task(0)), 2 At(Lent) |
-| 4 | 0 drop-future | 0x112 | RUNNING TASK | 1 | empty | empty | empty | 0 Unstored (10 left, may store-output), 1 At(Task(0)), 2 At(Lent) |
-| 5 | 0 store-output | 0x112 | RUNNING TASK | 1 | empty | party 0 | empty | 0 Stored (9 left, may complete), 1 At(Task(0)), 2 At(Lent) |
+| 4 | 0 drop-future | 0x112 | RUNNING TASK | 1 | empty | empty | empty | 0 ReadyFutureDropped (10 left, may store-output), 1 At(Task(0)), 2 At(Lent) |
+| 5 | 0 store-output | 0x112 | RUNNING TASK | 1 | empty | party 0 | empty | 0 OutputStored (9 left, may complete), 1 At(Task(0)), 2 At(Lent) |
 | 6 | 0 complete | 0x114 | COMPLETED TASK | 1 | empty | cell | empty | 0 GivingUp(None, Ran(false)) (3 left, may give-up-reference), 1 At(Task(0)), 2 At(Lent) |
-| 7 | 0 give-up-reference | 0x014 | COMPLETED TASK | 0 | empty | cell | empty | 0 Leaving(Ran(false), Ended) (1 left, may end-call), 1 At(Task(0)), 2 At(Lent) |
+| 7 | 0 give-up-reference | 0x014 | COMPLETED TASK | 0 | empty | cell | empty | 0 CallEnding(Ran(false), Ended) (1 left, may end-call), 1 At(Task(0)), 2 At(Lent) |
 | 8 | 0 end-call | 0x014 | COMPLETED TASK | 0 | empty | cell | empty | 1 At(Task(0)), 2 At(Lent) |
-| 9 | 1 claim-output | 0x01C | COMPLETED CLOSED TASK | 0 | empty | party 1 | empty | 1 Claimer(1) (2 left, may hand-out-output), 2 At(Lent) |
+| 9 | 1 claim-output | 0x01C | COMPLETED CLOSED TASK | 0 | empty | party 1 | empty | 1 TookOutput(1) (2 left, may hand-out-output), 2 At(Lent) |
 ";
 
 // A second poll registers while the Runnable is dropped: the notifier goes on, and the Task takes its clone back.
@@ -102,17 +102,17 @@ fn a_row_shows_how_far_each_party_is(rt: HostRuntime) -> Result<(), Fail> {
 const LEFT: [(Position, u64); 52] = [
     (At(Rest::Runnable), 0),
     (At(Rest::Task(1)), 0),
-    (Leaving(Nothing, Rest::Waker), 1),
+    (CallEnding(Nothing, Rest::Waker), 1),
     (Deliverer(false, ThenNotifies(1)), 6),
     (Deliverer(true, ThenEnds(Ran(true))), 2),
     (Deliverer(false, ThenTask(1)), 2),
     (Starting, 13),
     (Polling, 12),
     (Ready, 11),
-    (Unstored, 10),
-    (Stored, 9),
+    (ReadyFutureDropped, 10),
+    (OutputStored, 9),
     (Pending, 9),
-    (Cleared, 8),
+    (PendingFutureDropped, 8),
     (FutureInHand(ClosedRun), 9),
     (FutureGone(DroppedRunnable), 8),
     (OutputInHand(true), 8),
@@ -143,11 +143,11 @@ const LEFT: [(Position, u64); 52] = [
     (OldAwaiterInHand(2, 1), 12),
     (Registered(1), 11),
     (TookBack(1), 10),
-    (RefusedClone(1), 9),
+    (UnusedClone(1), 9),
     (CloneInHand(1), 9),
     (Looking(1), 8),
-    (Claiming(1), 7),
-    (Claimer(1), 2),
+    (SawOutput(1), 7),
+    (TookOutput(1), 2),
     (Answering(1, IsPending), 1),
     (OutputCloser, 4),
     (Detacher, 3),
@@ -163,7 +163,7 @@ fn each_position_has_its_steps_left(rt: HostRuntime) {
 
 // A word, where a party stands, and its act: each row asks for such a word.
 const ACTS: [(u64, Position, Act); 30] = [
-    (0x112, Leaving(Nothing, Rest::Waker), EndCall),
+    (0x112, CallEnding(Nothing, Rest::Waker), EndCall),
     (0x112, Starting, StartPoll),
     (0x112, Polling, AnswerPending),
     (0x11A, Pending, DropFuture),
@@ -171,9 +171,9 @@ const ACTS: [(u64, Position, Act); 30] = [
     (0x112, Pending, EndIdle),
     (0x202, Pending, EndIdle),
     (0x102, Pending, EndOrphaned),
-    (0x112, Stored, Complete),
-    (0x102, Stored, CompleteDetached),
-    (0x11A, Cleared, EndClosed),
+    (0x112, OutputStored, Complete),
+    (0x102, OutputStored, CompleteDetached),
+    (0x11A, PendingFutureDropped, EndClosed),
     (0x119, FutureInHand(ClosedRun), DropFuture),
     (0x119, FutureGone(ClosedRun), Unschedule),
     (0x114, OutputInHand(false), DropOutput),
@@ -189,7 +189,7 @@ const ACTS: [(u64, Position, Act); 30] = [
     (0x171, Registered(2), EndRegister),
     (0x1F8, Registered(2), TakeAwaiter),
     (0x1F8, TookBack(2), EndRegisterNotified),
-    (0x114, Claiming(1), ClaimOutput),
+    (0x114, SawOutput(1), ClaimOutput),
     (0x118, Detacher, Detach),
     (0x018, Detacher, DetachLast),
     (0x109, Deliverer(false, ThenEnds(Nothing)), HandOver),

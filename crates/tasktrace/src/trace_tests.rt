@@ -51,12 +51,12 @@ const READY_ROWS: &str = "\
 | 1 | 0 start-run | 0x112 | RUNNING TASK | 1 | party 0 | empty | empty | 0 Starting, 1 At(Task(0)), 2 At(Lent) |
 | 2 | 0 start-poll | 0x112 | RUNNING TASK | 1 | party 0 | empty | empty | 0 Polling, 1 At(Task(0)), 2 At(Lent) |
 | 3 | 0 answer-ready | 0x112 | RUNNING TASK | 1 | party 0 | empty | empty | 0 Ready, 1 At(Task(0)), 2 At(Lent) |
-| 4 | 0 drop-future | 0x112 | RUNNING TASK | 1 | empty | empty | empty | 0 Unstored, 1 At(Task(0)), 2 At(Lent) |
-| 5 | 0 store-output | 0x112 | RUNNING TASK | 1 | empty | party 0 | empty | 0 Stored, 1 At(Task(0)), 2 At(Lent) |
+| 4 | 0 drop-future | 0x112 | RUNNING TASK | 1 | empty | empty | empty | 0 ReadyFutureDropped, 1 At(Task(0)), 2 At(Lent) |
+| 5 | 0 store-output | 0x112 | RUNNING TASK | 1 | empty | party 0 | empty | 0 OutputStored, 1 At(Task(0)), 2 At(Lent) |
 | 6 | 0 complete | 0x114 | COMPLETED TASK | 1 | empty | cell | empty | 0 GivingUp(None, Ran(false)), 1 At(Task(0)), 2 At(Lent) |
-| 7 | 0 give-up-reference | 0x014 | COMPLETED TASK | 0 | empty | cell | empty | 0 Leaving(Ran(false), Ended), 1 At(Task(0)), 2 At(Lent) |
+| 7 | 0 give-up-reference | 0x014 | COMPLETED TASK | 0 | empty | cell | empty | 0 CallEnding(Ran(false), Ended), 1 At(Task(0)), 2 At(Lent) |
 | 8 | 0 end-call | 0x014 | COMPLETED TASK | 0 | empty | cell | empty | 1 At(Task(0)), 2 At(Lent) |
-| 9 | 1 claim-output | 0x01C | COMPLETED CLOSED TASK | 0 | empty | party 1 | empty | 1 Claimer(1), 2 At(Lent) |
+| 9 | 1 claim-output | 0x01C | COMPLETED CLOSED TASK | 0 | empty | party 1 | empty | 1 TookOutput(1), 2 At(Lent) |
 ";
 
 // A wake of an idle task, and the hand-over of the Runnable that it makes.
@@ -79,14 +79,14 @@ limit 4
 const IDLE_ROWS: &str = "\
 | 1 | 0 start-run | 0x112 | RUNNING TASK | 1 | party 0 | empty | empty | 0 Starting, 1 At(Task(0)), 2 At(Lent) |
 | 2 | 0 start-poll | 0x112 | RUNNING TASK | 1 | party 0 | empty | empty | 0 Polling, 1 At(Task(0)), 2 At(Lent) |
-| 3 | 2 gain-reference | 0x212 | RUNNING TASK | 2 | party 0 | empty | empty | 0 Polling, 1 At(Task(0)), 2 Leaving(Gained(true), Lent), 3 At(Waker) |
+| 3 | 2 gain-reference | 0x212 | RUNNING TASK | 2 | party 0 | empty | empty | 0 Polling, 1 At(Task(0)), 2 CallEnding(Gained(true), Lent), 3 At(Waker) |
 | 4 | 2 end-call | 0x212 | RUNNING TASK | 2 | party 0 | empty | empty | 0 Polling, 1 At(Task(0)), 2 At(Lent), 3 At(Waker) |
 | 5 | 0 answer-pending | 0x212 | RUNNING TASK | 2 | party 0 | empty | empty | 0 Pending, 1 At(Task(0)), 2 At(Lent), 3 At(Waker) |
-| 6 | 0 end-idle | 0x110 | TASK | 1 | cell | empty | empty | 0 Leaving(Ran(false), Ended), 1 At(Task(0)), 2 At(Lent), 3 At(Waker) |
+| 6 | 0 end-idle | 0x110 | TASK | 1 | cell | empty | empty | 0 CallEnding(Ran(false), Ended), 1 At(Task(0)), 2 At(Lent), 3 At(Waker) |
 | 7 | 0 end-call | 0x110 | TASK | 1 | cell | empty | empty | 1 At(Task(0)), 2 At(Lent), 3 At(Waker) |
-| 8 | 3 wake-idle | 0x211 | SCHEDULED TASK | 2 | cell | empty | empty | 1 At(Task(0)), 2 At(Lent), 3 Leaving(Nothing, Waker), 4 Deliverer(false, ThenEnds(Nothing)) |
+| 8 | 3 wake-idle | 0x211 | SCHEDULED TASK | 2 | cell | empty | empty | 1 At(Task(0)), 2 At(Lent), 3 CallEnding(Nothing, Waker), 4 Deliverer(false, ThenEnds(Nothing)) |
 | 9 | 3 end-call | 0x211 | SCHEDULED TASK | 2 | cell | empty | empty | 1 At(Task(0)), 2 At(Lent), 3 At(Waker), 4 Deliverer(false, ThenEnds(Nothing)) |
-| 10 | 4 hand-over | 0x211 | SCHEDULED TASK | 2 | cell | empty | empty | 1 At(Task(0)), 2 At(Lent), 3 At(Waker), 4 Leaving(Nothing, Ended), 5 At(Runnable) |
+| 10 | 4 hand-over | 0x211 | SCHEDULED TASK | 2 | cell | empty | empty | 1 At(Task(0)), 2 At(Lent), 3 At(Waker), 4 CallEnding(Nothing, Ended), 5 At(Runnable) |
 | 11 | 4 end-call | 0x211 | SCHEDULED TASK | 2 | cell | empty | empty | 1 At(Task(0)), 2 At(Lent), 3 At(Waker), 5 At(Runnable) |
 ";
 
@@ -132,14 +132,14 @@ fn a_row_is_printed_for_each_step(rt: HostRuntime) -> Result<(), Fail> {
 const IDLE_CHANGES: &str = "\
 | 1 | 0 start-run | 0x112 | RUNNING TASK | 1 | party 0 | empty | empty | 0 Starting |
 | 2 | 0 start-poll | 0x112 | RUNNING TASK | 1 | party 0 | empty | empty | 0 Polling |
-| 3 | 2 gain-reference | 0x212 | RUNNING TASK | 2 | party 0 | empty | empty | 2 Leaving(Gained(true), Lent), 3 At(Waker) |
+| 3 | 2 gain-reference | 0x212 | RUNNING TASK | 2 | party 0 | empty | empty | 2 CallEnding(Gained(true), Lent), 3 At(Waker) |
 | 4 | 2 end-call | 0x212 | RUNNING TASK | 2 | party 0 | empty | empty | 2 At(Lent) |
 | 5 | 0 answer-pending | 0x212 | RUNNING TASK | 2 | party 0 | empty | empty | 0 Pending |
-| 6 | 0 end-idle | 0x110 | TASK | 1 | cell | empty | empty | 0 Leaving(Ran(false), Ended) |
+| 6 | 0 end-idle | 0x110 | TASK | 1 | cell | empty | empty | 0 CallEnding(Ran(false), Ended) |
 | 7 | 0 end-call | 0x110 | TASK | 1 | cell | empty | empty | 0 At(Ended) |
-| 8 | 3 wake-idle | 0x211 | SCHEDULED TASK | 2 | cell | empty | empty | 3 Leaving(Nothing, Waker), 4 Deliverer(false, ThenEnds(Nothing)) |
+| 8 | 3 wake-idle | 0x211 | SCHEDULED TASK | 2 | cell | empty | empty | 3 CallEnding(Nothing, Waker), 4 Deliverer(false, ThenEnds(Nothing)) |
 | 9 | 3 end-call | 0x211 | SCHEDULED TASK | 2 | cell | empty | empty | 3 At(Waker) |
-| 10 | 4 hand-over | 0x211 | SCHEDULED TASK | 2 | cell | empty | empty | 4 Leaving(Nothing, Ended), 5 At(Runnable) |
+| 10 | 4 hand-over | 0x211 | SCHEDULED TASK | 2 | cell | empty | empty | 4 CallEnding(Nothing, Ended), 5 At(Runnable) |
 | 11 | 4 end-call | 0x211 | SCHEDULED TASK | 2 | cell | empty | empty | 4 At(Ended) |
 ";
 
@@ -154,9 +154,9 @@ const BY_REFERENCE: &str = "limit 4
 
 const BY_REFERENCE_CHANGES: &str = "\
 | 1 | 2 look | 0x111 | SCHEDULED TASK | 1 | cell | empty | empty | 2 At(Lent), 3 At(Lent) |
-| 2 | 3 gain-reference | 0x211 | SCHEDULED TASK | 2 | cell | empty | empty | 3 Leaving(Gained(true), Lent), 4 At(Waker) |
+| 2 | 3 gain-reference | 0x211 | SCHEDULED TASK | 2 | cell | empty | empty | 3 CallEnding(Gained(true), Lent), 4 At(Waker) |
 | 3 | 3 end-call | 0x211 | SCHEDULED TASK | 2 | cell | empty | empty | 3 At(Lent) |
-| 4 | 3 wake-scheduled | 0x211 | SCHEDULED TASK | 2 | cell | empty | empty | 3 Leaving(Nothing, Lent) |
+| 4 | 3 wake-scheduled | 0x211 | SCHEDULED TASK | 2 | cell | empty | empty | 3 CallEnding(Nothing, Lent) |
 | 5 | 3 end-call | 0x211 | SCHEDULED TASK | 2 | cell | empty | empty | 3 At(Lent) |
 ";
 

@@ -4,7 +4,7 @@ ghost use Rattle.task_laws.specs.Theorem as theorem;
 
 use std::alloc::Allocator;
 use std::fmt;
-use task_laws::positions::{Position, Way};
+use task_laws::positions::{NotifyingCall, Position};
 use task_replay::machine::Machine;
 
 /// One of the three slots.
@@ -87,11 +87,12 @@ fn has_output(position: Position) -> bool
     ensures { result ≡ theorem.owns_output position }
 {
     match position {
-        Position::Unstored | Position::Stored | Position::OutputInHand(_) => true,
-        Position::OutputCloser | Position::Claimer(_) => true,
-        Position::Notifier(Way::OfClaim(_)) | Position::Taker(Way::OfClaim(_)) => true,
-        Position::Releaser(_, Way::OfClaim(_)) => true,
-        Position::AwaiterInHand(_, Way::OfClaim(_)) => true,
+        Position::ReadyFutureDropped | Position::OutputStored | Position::OutputInHand(_) => true,
+        Position::OutputCloser | Position::TookOutput(_) => true,
+        Position::Notifier(NotifyingCall::OfClaim(_))
+        | Position::Taker(NotifyingCall::OfClaim(_)) => true,
+        Position::Releaser(_, NotifyingCall::OfClaim(_)) => true,
+        Position::AwaiterInHand(_, NotifyingCall::OfClaim(_)) => true,
         _ => false,
     }
 }

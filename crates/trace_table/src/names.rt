@@ -2,11 +2,11 @@
 ghost use Rattle.std.specs.Prelude.{◌≡◌, Some, IfSome};
 ghost use Rattle.std.specs.List.{find};
 ghost use Rattle.std.specs.Str.{bytes_eq};
-ghost use Rattle.task_core.specs.declared.moves.Act.{Act};
+ghost use Rattle.task_core.specs.declared.acts.Act.{Act};
 ghost use Rattle.trace_table.specs.Names.{name_of};
 
-use task_core::moves::Act;
-use task_core::moves::Act::*;
+use task_core::acts::Act;
+use task_core::acts::Act::*;
 
 /// Every act, in the order of the table of moves.
 pub const ACTS: [Act; 57] = [

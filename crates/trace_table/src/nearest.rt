@@ -3,7 +3,7 @@
 use crate::names::{ACTS, name};
 use std::alloc::{AllocError, Global};
 use strsim::levenshtein;
-use task_core::moves::Act;
+use task_core::acts::Act;
 
 // A name that is more edits away is not meant.
 const EDITS: usize = 3;

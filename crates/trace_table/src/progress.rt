@@ -6,10 +6,10 @@ ghost use Rattle.task_replay.specs.Replay.{Standing, StepsTo};
 ghost use Rattle.trace_table.specs.Progress.{act_at, act_of};
 
 use std::alloc::Allocator;
-use task_core::moves::Act;
-use task_core::moves::Act::*;
+use task_core::acts::Act;
+use task_core::acts::Act::*;
 use task_core::word::Word;
-use task_laws::positions::{After, Position, Way};
+use task_laws::positions::{NotifyingCall, OnceDelivered, Position};
 use task_replay::player::Player;
 
 /// How many steps a party there makes at most until its call ends, whatever the others do. None is left between two calls.
@@ -18,17 +18,17 @@ pub fn steps_left(position: Position) -> u64
 {
     match position {
         Position::At(_) => 0,
-        Position::Leaving(_, _) | Position::Answering(_, _) => 1,
-        Position::Deliverer(_, After::ThenNotifies(_)) => 6,
-        Position::Deliverer(_, _) | Position::Claimer(_) => 2,
+        Position::CallEnding(_, _) | Position::Answering(_, _) => 1,
+        Position::Deliverer(_, OnceDelivered::ThenNotifies(_)) => 6,
+        Position::Deliverer(_, _) | Position::TookOutput(_) => 2,
         Position::OrphanHolder | Position::Detacher => 3,
         Position::OutputCloser => 4,
-        Position::Claiming(_) => 7,
-        Position::Cleared | Position::FutureGone(_) => 8,
+        Position::SawOutput(_) => 7,
+        Position::PendingFutureDropped | Position::FutureGone(_) => 8,
         Position::OutputInHand(_) | Position::Looking(_) => 8,
-        Position::Pending | Position::Stored | Position::FutureInHand(_) => 9,
-        Position::RefusedClone(_) | Position::CloneInHand(_) => 9,
-        Position::Unstored | Position::TookBack(_) => 10,
+        Position::Pending | Position::OutputStored | Position::FutureInHand(_) => 9,
+        Position::UnusedClone(_) | Position::CloneInHand(_) => 9,
+        Position::ReadyFutureDropped | Position::TookBack(_) => 10,
         Position::Ready | Position::Registered(_) => 11,
         Position::Polling | Position::OldAwaiterInHand(_, _) => 12,
         Position::Starting | Position::Storing(_) => 13,
@@ -55,26 +55,26 @@ fn awaiters_in_hand(hand: Option<u64>) -> u64
 }
 
 // The steps that are left on a way once no awaiter is in hand.
-fn steps_on(way: Way) -> u64
+fn steps_on(way: NotifyingCall) -> u64
     ensures number { result ≡ bound.steps_on way }
     ensures few { result ≤ 3 }
 {
     match way {
-        Way::OfRun | Way::OfDrop => 3,
-        Way::OfCancel(_) | Way::OfPoll(_) => 1,
-        Way::OfClaim(_) => 2,
+        NotifyingCall::OfRun | NotifyingCall::OfDrop => 3,
+        NotifyingCall::OfCancel(_) | NotifyingCall::OfPoll(_) => 1,
+        NotifyingCall::OfClaim(_) => 2,
     }
 }
 
 // .. and once the awaiter in hand was woken or dropped.
-fn steps_off(way: Way) -> u64
+fn steps_off(way: NotifyingCall) -> u64
     ensures number { result ≡ bound.steps_off way }
     ensures few { result ≤ 3 }
 {
     match way {
-        Way::OfDrop => 3,
-        Way::OfRun | Way::OfCancel(_) | Way::OfPoll(_) => 1,
-        Way::OfClaim(_) => 2,
+        NotifyingCall::OfDrop => 3,
+        NotifyingCall::OfRun | NotifyingCall::OfCancel(_) | NotifyingCall::OfPoll(_) => 1,
+        NotifyingCall::OfClaim(_) => 2,
     }
 }
 
@@ -110,9 +110,9 @@ fn act_in_call(word: Word, position: Position) -> Act
         Position::Polling => AnswerPending,
         Position::Pending => act_of_pending(word),
         Position::Ready | Position::FutureInHand(_) => DropFuture,
-        Position::Unstored => StoreOutput,
-        Position::Stored => either(word.task(), Complete, CompleteDetached),
-        Position::Cleared => EndClosed,
+        Position::ReadyFutureDropped => StoreOutput,
+        Position::OutputStored => either(word.task(), Complete, CompleteDetached),
+        Position::PendingFutureDropped => EndClosed,
         Position::FutureGone(_) => Unschedule,
         Position::OutputInHand(_) | Position::OutputCloser => DropOutput,
         Position::GivingUp(_, _) => either(is_shared(word), GiveUpReference, GiveUpLastReference),
@@ -124,15 +124,15 @@ fn act_in_call(word: Word, position: Position) -> Act
         Position::OrphanHolder => CloseOrphan,
         Position::Registrar(_) => CloneAwaiter,
         Position::HasClone(_) => either(word.notifying(), FindNotify, BeginRegister),
-        Position::RefusedClone(_) | Position::OldAwaiterInHand(_, _) => DropAwaiter,
+        Position::UnusedClone(_) | Position::OldAwaiterInHand(_, _) => DropAwaiter,
         Position::Storing(_) => StoreAwaiter,
         Position::Registered(_) => either(word.notifying(), TakeAwaiter, EndRegister),
         Position::TookBack(_) => EndRegisterNotified,
         Position::Looking(_) => Look,
-        Position::Claiming(_) => ClaimOutput,
-        Position::Claimer(_) => HandOutOutput,
+        Position::SawOutput(_) => ClaimOutput,
+        Position::TookOutput(_) => HandOutOutput,
         Position::Detacher => either(word.references() == 0, DetachLast, Detach),
-        Position::At(_) | Position::Leaving(_, _) | Position::Answering(_, _) => EndCall,
+        Position::At(_) | Position::CallEnding(_, _) | Position::Answering(_, _) => EndCall,
     }
 }
 

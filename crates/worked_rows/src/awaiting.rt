@@ -57,7 +57,7 @@ pub fn refused_clone<R: Wait + Drop + Copy>(fixture: &Fixture<R>) -> Result<Outc
     refusing.refuse_next_clone();
     let (runnable, mut task) = fixture.spawn(Behaviour::Ready(1))?;
     let waits = matches!(task.poll(&stored), TaskPoll::Pending);
-    let refused = matches!(task.poll(&refusing), TaskPoll::NoMemory) && stored.wakes() == 0;
+    let refused = matches!(task.poll(&refusing), TaskPoll::Refused) && stored.wakes() == 0;
     let unchanged = fixture.shows(&task, 0x131)?;
     runnable.run();
     let woken = stored.wakes() == 1 && refusing.wakes() == 0;

@@ -68,7 +68,7 @@ pub fn cancel_refused<R: Wait + Drop + Copy>(fixture: &Fixture<R>) -> Result<Out
     flag.refuse_next_clone();
     let (runnable, task) = fixture.spawn(Behaviour::Ready(1))?;
     let mut cancel = task.cancel();
-    let refused = matches!(cancel.poll(&flag), TaskPoll::NoMemory);
+    let refused = matches!(cancel.poll(&flag), TaskPoll::Refused);
     let closed = fixture.shows(&runnable, 0x119)?;
     let finished = cancel.is_finished();
     let rescheduled = runnable.run();

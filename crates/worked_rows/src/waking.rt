@@ -38,10 +38,10 @@ pub fn clone<R: Wait + Drop + Copy>(fixture: &Fixture<R>) -> Result<Outcome, All
     let Some(first) = surroundings.take_kept() else {
         return Ok(fixture.give_up());
     };
-    let second = first.clone().ok_or(AllocError)?;
+    let second = first.try_clone().ok_or(AllocError)?;
     drop(first);
-    let third = second.clone().ok_or(AllocError)?;
-    let fourth = third.clone().ok_or(AllocError)?;
+    let third = second.try_clone().ok_or(AllocError)?;
+    let fourth = third.try_clone().ok_or(AllocError)?;
     fourth.wake();
     let ran = surroundings.run_next() == Some(false);
     let completed = fixture.counts() == Counts::new(2, 1, 1, 0);
@@ -126,7 +126,7 @@ pub fn limit<R: Wait + Drop + Copy>(fixture: &Fixture<R>) -> Result<Outcome, All
     waker.wake_by_ref();
     let queued = fixture.surroundings.queued() == 1;
     let full_again = fixture.shows(&task, 0x211)?;
-    let refused_again = waker.clone().is_none();
+    let refused_again = waker.try_clone().is_none();
     let unchanged = fixture.shows(&task, 0x211)?;
     let limited = refused && full && refused_again && unchanged;
     let agrees = limited && !rescheduled && idle && queued && full_again;

@@ -142,7 +142,7 @@ pub fn clone_and_drop<R: Wait + Drop + Copy, B: Allocator + Copy>(
     let (runnable, task) = queue.spawn(Pending)?;
     let waker = runnable.waker().ok_or(AllocError)?;
     for _ in 0..count {
-        drop(waker.clone().ok_or(Failure::Unexpected)?);
+        drop(waker.try_clone().ok_or(Failure::Unexpected)?);
     }
     drop((runnable, task, waker));
     Ok(())

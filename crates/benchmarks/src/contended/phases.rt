@@ -137,6 +137,6 @@ fn wake_often<R: Wait + Drop + Copy>(waker: &QueueWaker<'_, R, Pending>) {
 
 fn clone_often<R: Wait + Drop + Copy>(waker: &QueueWaker<'_, R, Pending>) {
     for _ in 0..BATCH {
-        drop(waker.clone());
+        drop(waker.try_clone());
     }
 }

@@ -90,7 +90,7 @@ fn started(rt: &impl Abort, task: &mut Task) -> Answer {
             Polls
         }
         super::Start::Ended(settled) => Ends(left_of(rt, settled)),
-        super::Start::Idle => Idle,
+        super::Start::NotDue => Idle,
     }
 }
 
@@ -106,7 +106,7 @@ fn polled(rt: &impl Abort, task: &mut Task, awaiter: Awaiter) -> Answer {
     match answer {
         TaskPoll::Pending => Pends(left),
         TaskPoll::Ready(output) => Readies(output, left),
-        TaskPoll::NoMemory => {
+        TaskPoll::Refused => {
             assert_eq!(rt; left, NOTHING);
             Refuses
         }

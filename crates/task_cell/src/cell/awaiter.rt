@@ -1,11 +1,11 @@
 //! The stored awaiter: taken out by whoever ends or closes the task.
 ghost use Rattle.std.specs.Prelude.{◌≡◌, ℕ, ◌∷◌, [], List, true};
-ghost use Rattle.task_laws.specs.declared.positions.Way.{Way};
+ghost use Rattle.task_laws.specs.declared.positions.NotifyingCall.{NotifyingCall};
 ghost use Rattle.task_laws.specs.declared.positions.Rest.{Rest};
-ghost use Rattle.task_laws.specs.declared.positions.Position.TheVariants.{Notifier, AwaiterInHand, Leaving};
-ghost use Rattle.task_core.specs.declared.moves.Act.TheVariants.{WakeAwaiter, DropAwaiter, EndCall};
+ghost use Rattle.task_laws.specs.declared.positions.Position.TheVariants.{Notifier, AwaiterInHand, CallEnding};
+ghost use Rattle.task_core.specs.declared.acts.Act.TheVariants.{WakeAwaiter, DropAwaiter, EndCall};
 ghost use Rattle.task_laws.specs.declared.positions.Answer.{Answer};
-ghost use Rattle.task_laws.specs.Table.{goes_off, may_drop, notifies};
+ghost use Rattle.task_laws.specs.Table.{after_waking, may_drop, notifies};
 ghost use Rattle.task_steps.specs.declared.table.Slot.{Slot};
 ghost use Rattle.task_cell.specs.RunCalls.{TakesDue, HasTaken, Wakes};
 ghost use Rattle.task_cell.specs.Calls.{Stands, StandsWith, Goes, GoesWith, Notifies, position, holds};
@@ -26,7 +26,7 @@ impl<R: Drop, F: Yields, Q: Drop, M: Drop, A: Drop, B: Allocator> Cell<R, F, Q, 
     // Takes the stored awaiter, unless another party is at it. Both steps are single fetches, never tried again.
     pub(crate) fn notify(&self, party: &mut Party<F, Kept<F>, A>) -> Option<Held<A>>
         requires cell { party.old.seat.table_id ≡ self.now.table.shared.table_id }
-        requires party { (way : Way) × (held : List (ℕ × Slot F _ A)) × StandsWith (Notifier way) held party.old }
+        requires party { (way : NotifyingCall) × (held : List (ℕ × Slot F _ A)) × StandsWith (Notifier way) held party.old }
         ensures { Notifies party.old party.new (held result) }
     {
         let shared = &self.table.shared;
@@ -43,8 +43,8 @@ impl<R: Drop, F: Yields, Q: Drop, M: Drop, A: Drop, B: Allocator> Cell<R, F, Q, 
     // Takes the stored awaiter where AWAITER was found.
     pub(crate) fn take_due(&self, party: &mut Party<F, Kept<F>, A>, due: bool) -> Option<Held<A>>
         requires cell { party.old.seat.table_id ≡ self.now.table.shared.table_id }
-        requires party { (way : Way) × Stands (notifies due way) party.old }
-        ensures { (way : Way) → Stands (notifies due way) party.old → TakesDue way due party.old party.new (held result) }
+        requires party { (way : NotifyingCall) × Stands (notifies due way) party.old }
+        ensures { (way : NotifyingCall) → Stands (notifies due way) party.old → TakesDue way due party.old party.new (held result) }
     {
         if due { self.notify(party) } else { None }
     }
@@ -52,8 +52,8 @@ impl<R: Drop, F: Yields, Q: Drop, M: Drop, A: Drop, B: Allocator> Cell<R, F, Q, 
     // Writes down that the awaiter in hand was woken. One load.
     pub(crate) fn note_woken(&self, party: &mut Party<F, Kept<F>, A>)
         requires cell { party.old.seat.table_id ≡ self.now.table.shared.table_id }
-        requires party { (i : ℕ) × (way : Way) × (held : List (ℕ × Slot F _ A)) × StandsWith (AwaiterInHand i way) held party.old }
-        ensures { GoesWith (act WakeAwaiter ∷ []) (goes_off (way_of (position party.old))) (holds party.old) party.old party.new }
+        requires party { (i : ℕ) × (way : NotifyingCall) × (held : List (ℕ × Slot F _ A)) × StandsWith (AwaiterInHand i way) held party.old }
+        ensures { GoesWith (act WakeAwaiter ∷ []) (after_waking (way_of (position party.old))) (holds party.old) party.old party.new }
     {
         self.table.shared.load::<Always<Waking>>(&mut party.seat, 0);
     }
@@ -61,8 +61,8 @@ impl<R: Drop, F: Yields, Q: Drop, M: Drop, A: Drop, B: Allocator> Cell<R, F, Q, 
     // Writes down that the awaiter in hand was dropped. One load.
     pub(crate) fn note_dropped(&self, party: &mut Party<F, Kept<F>, A>)
         requires cell { party.old.seat.table_id ≡ self.now.table.shared.table_id }
-        requires party { (i : ℕ) × (way : Way) × (held : List (ℕ × Slot F _ A)) × StandsWith (AwaiterInHand i way) held party.old × (may_drop way ≡ true) }
-        ensures { GoesWith (act DropAwaiter ∷ []) (goes_off (way_of (position party.old))) (holds party.old) party.old party.new }
+        requires party { (i : ℕ) × (way : NotifyingCall) × (held : List (ℕ × Slot F _ A)) × StandsWith (AwaiterInHand i way) held party.old × (may_drop way ≡ true) }
+        ensures { GoesWith (act DropAwaiter ∷ []) (after_waking (way_of (position party.old))) (holds party.old) party.old party.new }
     {
         self.table
             .shared
@@ -72,7 +72,7 @@ impl<R: Drop, F: Yields, Q: Drop, M: Drop, A: Drop, B: Allocator> Cell<R, F, Q, 
     // Writes down that the call has ended. One load.
     pub(crate) fn end(&self, party: &mut Party<F, Kept<F>, A>)
         requires cell { party.old.seat.table_id ≡ self.now.table.shared.table_id }
-        requires party { (answer : Answer) × (r : Rest) × Stands (Leaving answer r) party.old }
+        requires party { (answer : Answer) × (r : Rest) × Stands (CallEnding answer r) party.old }
         ensures { Goes (act EndCall ∷ []) (rest_of (position party.old)) party.old party.new }
     {
         self.table.shared.load::<Always<Ending>>(&mut party.seat, 0);
@@ -83,8 +83,8 @@ impl<R: Drop, F: Yields, Q: Drop, M: Drop, A: Wake, B: Allocator> Cell<R, F, Q, 
     // Wakes the awaiter that was taken.
     pub(crate) fn wake_taken(&self, party: &mut Party<F, Kept<F>, A>, awaiter: Option<Held<A>>)
         requires cell { party.old.seat.table_id ≡ self.now.table.shared.table_id }
-        requires party { (way : Way) × HasTaken way party.old (held awaiter) }
-        ensures { (way : Way) → HasTaken way party.old (held awaiter) → Wakes ((a : A) × A.woken a) way (held awaiter) party.old party.new }
+        requires party { (way : NotifyingCall) × HasTaken way party.old (held awaiter) }
+        ensures { (way : NotifyingCall) → HasTaken way party.old (held awaiter) → Wakes ((a : A) × A.woken a) way (held awaiter) party.old party.new }
     {
         if let Some(awaiter) = awaiter {
             awaiter.wake();

@@ -2,8 +2,8 @@
 ghost use Rattle.std.specs.Prelude.{◌≡◌, ℕ, ◌<◌, List, [], ◌∷◌, ◌++◌, Some, false};
 ghost use Rattle.std.specs.Arc.{arc_value};
 ghost use Rattle.task_laws.specs.Table.{notifies};
-ghost use Rattle.task_laws.specs.declared.positions.Way.TheVariants.{OfCancel};
-ghost use Rattle.task_core.specs.declared.moves.Act.TheVariants.{EndCall};
+ghost use Rattle.task_laws.specs.declared.positions.NotifyingCall.TheVariants.{OfCancel};
+ghost use Rattle.task_core.specs.declared.acts.Act.TheVariants.{EndCall};
 ghost use Rattle.task_steps.specs.declared.table.Deed.{Deed};
 ghost use Rattle.task_cell.specs.TaskPaths.{Cancels, Notice, CancelPath};
 ghost use Rattle.task_cell.specs.Handed.{HandedOver};

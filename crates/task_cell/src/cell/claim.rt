@@ -1,10 +1,10 @@
 //! The output of a completed task, which a look of a poll has taken: handed out.
 ghost use Rattle.std.specs.Prelude.{◌≡◌, ℕ, ◌∷◌, ◌++◌, [], List, true};
-ghost use Rattle.task_laws.specs.declared.positions.Way.{Way};
-ghost use Rattle.task_laws.specs.declared.positions.Way.TheVariants.{OfClaim};
-ghost use Rattle.task_laws.specs.declared.positions.Position.TheVariants.{Notifier, Claimer};
-ghost use Rattle.task_core.specs.declared.moves.Act.TheVariants.{HandOutOutput, EndCall};
-ghost use Rattle.task_laws.specs.Table.{notifies, goes_off, may_drop};
+ghost use Rattle.task_laws.specs.declared.positions.NotifyingCall.{NotifyingCall};
+ghost use Rattle.task_laws.specs.declared.positions.NotifyingCall.TheVariants.{OfClaim};
+ghost use Rattle.task_laws.specs.declared.positions.Position.TheVariants.{Notifier, TookOutput};
+ghost use Rattle.task_core.specs.declared.acts.Act.TheVariants.{HandOutOutput, EndCall};
+ghost use Rattle.task_laws.specs.Table.{notifies, after_waking, may_drop};
 ghost use Rattle.task_steps.specs.declared.table.Slot.{Slot};
 ghost use Rattle.task_steps.specs.declared.table.Deed.{Deed};
 ghost use Rattle.task_steps.specs.Rule.{IsOutput};
@@ -28,7 +28,7 @@ impl<R: Drop, F: Yields, Q: Drop, M: Drop, A: Drop, B: Allocator> Cell<R, F, Q, 
     // Hands the output out, and ends the poll. One load.
     fn hand_out(&self, party: &mut Party<F, Kept<F>, A>) -> Held<Kept<F>>
         requires cell { party.old.seat.table_id ≡ self.now.table.shared.table_id }
-        requires party { (i : ℕ) × (y : Slot F _ A) × (z : Slot F _ A) × StandsWith (Claimer i) (output_first y z []) party.old × IsOutput z }
+        requires party { (i : ℕ) × (y : Slot F _ A) × (z : Slot F _ A) × StandsWith (TookOutput i) (output_first y z []) party.old × IsOutput z }
         ensures { Goes (act HandOutOutput ∷ act EndCall ∷ []) (as_task (poll_number (position party.old))) party.old party.new }
     {
         let shared = &self.table.shared;
@@ -42,8 +42,8 @@ impl<R: Wait + Drop, F: Yields, Q: Drop, M: Drop, A: Wake, B: Allocator> Cell<R,
     // Takes the stored awaiter, and wakes it, unless its wake wakes the caller.
     pub(crate) fn take_awaiter(&self, party: &mut Party<F, Kept<F>, A>, awaiter: &A)
         requires cell { party.old.seat.table_id ≡ self.now.table.shared.table_id }
-        requires party { (way : Way) × (held : List (ℕ × Slot F _ A)) × StandsWith (Notifier way) held party.old × (may_drop way ≡ true) }
-        ensures { (path : List Deed) × TakePath A.woken A.compared awaiter.now path × GoesWith path (goes_off (way_of (position party.old))) (holds party.old) party.old party.new }
+        requires party { (way : NotifyingCall) × (held : List (ℕ × Slot F _ A)) × StandsWith (Notifier way) held party.old × (may_drop way ≡ true) }
+        ensures { (path : List Deed) × TakePath A.woken A.compared awaiter.now path × GoesWith path (after_waking (way_of (position party.old))) (holds party.old) party.old party.new }
     {
         if let Some(taken) = self.notify(party) {
             if taken.will_wake(awaiter) {
@@ -60,7 +60,7 @@ impl<R: Wait + Drop, F: Yields, Q: Drop, M: Drop, A: Wake, B: Allocator> Cell<R,
     fn take_awaiter_of(&self, party: &mut Party<F, Kept<F>, A>, awaiter: &A, found: Word)
         requires cell { party.old.seat.table_id ≡ self.now.table.shared.table_id }
         requires party { (i : ℕ) × (held : List (ℕ × Slot F _ A)) × StandsWith (notifies found.awaiter (OfClaim i)) held party.old }
-        ensures { (path : List Deed) × TakePathIf A.woken A.compared awaiter.now found.awaiter path × GoesWith path (Claimer (poll_number (position party.old))) (holds party.old) party.old party.new }
+        ensures { (path : List Deed) × TakePathIf A.woken A.compared awaiter.now found.awaiter path × GoesWith path (TookOutput (poll_number (position party.old))) (holds party.old) party.old party.new }
     {
         if found.awaiter() {
             self.take_awaiter(party, awaiter);

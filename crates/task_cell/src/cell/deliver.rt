@@ -2,7 +2,7 @@
 ghost use Rattle.std.specs.Prelude.{◌≡◌, ◌∷◌, [], true, false};
 ghost use Rattle.std.specs.Arc.{arc_value};
 ghost use Rattle.task_laws.specs.declared.positions.Position.{Position};
-ghost use Rattle.task_core.specs.declared.moves.Act.TheVariants.{HandOver, EndCall};
+ghost use Rattle.task_core.specs.declared.acts.Act.TheVariants.{HandOver, EndCall};
 ghost use Rattle.task_cell.specs.Handed.{HandedOver};
 ghost use Rattle.task_cell.specs.Calls.{Stands, Goes, IsNew, position, limit_of};
 ghost use Rattle.task_steps.specs.Deeds.{act};

@@ -2,7 +2,7 @@
 ghost use Rattle.std.specs.Prelude.{◌≡◌, ℕ, List, [], ◌∷◌, true, false};
 ghost use Rattle.std.specs.Arc.{arc_value};
 ghost use Rattle.task_laws.specs.declared.positions.Position.TheVariants.{OutputCloser, Detacher};
-ghost use Rattle.task_core.specs.declared.moves.Act.TheVariants.{DropOutput};
+ghost use Rattle.task_core.specs.declared.acts.Act.TheVariants.{DropOutput};
 ghost use Rattle.task_steps.specs.declared.table.Deed.{Deed};
 ghost use Rattle.task_steps.specs.declared.table.Slot.{Slot};
 ghost use Rattle.task_steps.specs.Rule.{IsEmpty};

@@ -1,7 +1,7 @@
 //! A Runnable that is dropped.
 ghost use Rattle.std.specs.Prelude.{◌≡◌, ℕ, ◌∷◌, [], List};
 ghost use Rattle.task_laws.specs.declared.positions.Position.TheVariants.{FutureInHand};
-ghost use Rattle.task_laws.specs.declared.positions.Closer.TheVariants.{DroppedRunnable};
+ghost use Rattle.task_laws.specs.declared.positions.WithoutPoll.TheVariants.{DroppedRunnable};
 ghost use Rattle.task_steps.specs.declared.table.Slot.{Slot};
 ghost use Rattle.task_steps.specs.declared.table.Deed.{Deed};
 ghost use Rattle.task_cell.specs.Calls.{Stands, GoesWith};

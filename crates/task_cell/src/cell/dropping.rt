@@ -3,7 +3,7 @@ ghost use Rattle.std.specs.Prelude.{◌≡◌, ℕ, [], ◌∷◌, List, false};
 ghost use Rattle.std.specs.Arc.{arc_value};
 ghost use Rattle.task_core.specs.Word.{State};
 ghost use Rattle.task_laws.specs.declared.positions.Position.TheVariants.{OrphanHolder};
-ghost use Rattle.task_core.specs.declared.moves.Act.TheVariants.{CloseOrphan};
+ghost use Rattle.task_core.specs.declared.acts.Act.TheVariants.{CloseOrphan};
 ghost use Rattle.task_steps.specs.declared.table.Deed.{Deed};
 ghost use Rattle.task_cell.specs.Handed.{HandedOver};
 ghost use Rattle.task_cell.specs.Calls.{Stands, Goes, limit_of};

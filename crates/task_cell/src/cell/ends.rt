@@ -1,8 +1,8 @@
 //! The ends of a run whose poll has answered.
 ghost use Rattle.std.specs.Prelude.{◌≡◌, ◌<◌, ℕ, ◌∷◌, [], List, Bool, true, false};
-ghost use Rattle.task_laws.specs.declared.positions.Position.TheVariants.{Polling, Ready, Pending, Cleared, OutputInHand};
-ghost use Rattle.task_laws.specs.declared.positions.Way.TheVariants.{OfRun};
-ghost use Rattle.task_core.specs.declared.moves.Act.TheVariants.{AnswerReady, DropOutput, EndClosed};
+ghost use Rattle.task_laws.specs.declared.positions.Position.TheVariants.{Polling, Ready, Pending, PendingFutureDropped, OutputInHand};
+ghost use Rattle.task_laws.specs.declared.positions.NotifyingCall.TheVariants.{OfRun};
+ghost use Rattle.task_core.specs.declared.acts.Act.TheVariants.{AnswerReady, DropOutput, EndClosed};
 ghost use Rattle.task_laws.specs.Table.{notifies};
 ghost use Rattle.task_steps.specs.declared.table.Slot.{Slot};
 ghost use Rattle.task_cell.specs.Calls.{StandsWith, Goes, GoesWith};
@@ -63,8 +63,8 @@ impl<R: Drop, F: Yields, Q: Drop, M: Drop, A: Drop, B: Allocator> Cell<R, F, Q, 
     // The end step of a run of a closed task, after its future was dropped: a single fetch, never tried again.
     pub(crate) fn end_closed(&self, party: &mut Party<F, Kept<F>, A>) -> Word
         requires cell { party.old.seat.table_id ≡ self.now.table.shared.table_id }
-        requires party { (y : Slot F _ A) × (z : Slot F _ A) × StandsWith Cleared (future_first y z []) party.old }
-        ensures { (y z : Slot F _ A) → StandsWith Cleared (future_first y z []) party.old → (result.closed ≡ true) × Goes (row EndClosed result ∷ []) (notifies result.awaiter OfRun) party.old party.new }
+        requires party { (y : Slot F _ A) × (z : Slot F _ A) × StandsWith PendingFutureDropped (future_first y z []) party.old }
+        ensures { (y z : Slot F _ A) → StandsWith PendingFutureDropped (future_first y z []) party.old → (result.closed ≡ true) × Goes (row EndClosed result ∷ []) (notifies result.awaiter OfRun) party.old party.new }
     {
         let shared = &self.table.shared;
         let found = shared.fetch_and::<Always<EndingClosed>>(

@@ -1,6 +1,6 @@
 //! Gaining a reference for a new waker.
 ghost use Rattle.std.specs.Prelude.{◌≡◌, ◌<◌, [], ◌∷◌};
-ghost use Rattle.task_core.specs.declared.moves.Act.TheVariants.{RefuseGain, EndCall};
+ghost use Rattle.task_core.specs.declared.acts.Act.TheVariants.{RefuseGain, EndCall};
 ghost use Rattle.task_cell.specs.Calls.{Stands, Goes, limit_of};
 ghost use Rattle.task_steps.specs.Deeds.{act};
 ghost use Rattle.task_steps.specs.Standing.{as_lent};

@@ -3,8 +3,8 @@ ghost use Rattle.std.specs.Prelude.{◌≡◌, ℕ, ◌∷◌, ◌++◌, [], Lis
 ghost use Rattle.task_core.specs.Word.{State};
 ghost use Rattle.task_laws.specs.declared.positions.PollAnswer.{PollAnswer};
 ghost use Rattle.task_laws.specs.declared.positions.Position.TheVariants.{Answering, Notifier, Looking as LookingAt};
-ghost use Rattle.task_laws.specs.declared.positions.Way.TheVariants.{OfPoll};
-ghost use Rattle.task_core.specs.declared.moves.Act.TheVariants.{EndCall};
+ghost use Rattle.task_laws.specs.declared.positions.NotifyingCall.TheVariants.{OfPoll};
+ghost use Rattle.task_core.specs.declared.acts.Act.TheVariants.{EndCall};
 ghost use Rattle.task_steps.specs.declared.table.Deed.{Deed};
 ghost use Rattle.task_cell.specs.PollPaths.{PollPath, AnswerPath, TakePath, Looks, LooksAgain};
 ghost use Rattle.task_steps.specs.Standing.{poll_number, as_task};
@@ -113,7 +113,7 @@ impl<R: Wait + Drop, F: Yields, Q: Drop, M: Drop, A: Wake, B: Allocator> Cell<R,
             return TaskPoll::Ready(None);
         }
         if !self.register(party, awaiter) {
-            return TaskPoll::NoMemory;
+            return TaskPoll::Refused;
         }
         self.answer(party, awaiter)
     }

@@ -2,10 +2,10 @@
 ghost use Rattle.std.specs.Prelude.{◌≡◌, ℕ, ◌∷◌, [], List, Option};
 ghost use Rattle.task_laws.specs.declared.positions.Position.{Position};
 ghost use Rattle.task_laws.specs.declared.positions.Position.TheVariants.{GivingUp, Emptier};
-ghost use Rattle.task_core.specs.declared.moves.Act.TheVariants.{EmptySlots};
+ghost use Rattle.task_core.specs.declared.acts.Act.TheVariants.{EmptySlots};
 ghost use Rattle.task_laws.specs.declared.positions.Answer.{Answer};
 ghost use Rattle.task_laws.specs.Table.{after_giving_up, notifies};
-ghost use Rattle.task_laws.specs.declared.positions.Way.TheVariants.{OfRun};
+ghost use Rattle.task_laws.specs.declared.positions.NotifyingCall.TheVariants.{OfRun};
 ghost use Rattle.task_steps.specs.declared.table.Slot.{Slot};
 ghost use Rattle.task_steps.specs.declared.table.Slot.TheVariants.{Empty};
 ghost use Rattle.task_cell.specs.Calls.{Stands, StandsWith, Goes, GoesWith};

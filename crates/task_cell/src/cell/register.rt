@@ -1,8 +1,8 @@
 //! The registering of a poll's awaiter, beside parties that notify.
 ghost use Rattle.std.specs.Prelude.{◌≡◌, ℕ, ◌∷◌, [], List, Bool, true, Option, None};
 ghost use Rattle.task_core.specs.Word.{State};
-ghost use Rattle.task_laws.specs.declared.positions.Position.TheVariants.{Registrar, RefusedClone, Registered, TookBack, CloneInHand, Looking};
-ghost use Rattle.task_core.specs.declared.moves.Act.TheVariants.{EndRegisterNotified, RefuseClone, EndCall, DropAwaiter, WakeAwaiter};
+ghost use Rattle.task_laws.specs.declared.positions.Position.TheVariants.{Registrar, UnusedClone, Registered, TookBack, CloneInHand, Looking};
+ghost use Rattle.task_core.specs.declared.acts.Act.TheVariants.{EndRegisterNotified, RefuseClone, EndCall, DropAwaiter, WakeAwaiter};
 ghost use Rattle.task_laws.specs.Table.{after_storing};
 ghost use Rattle.task_steps.specs.declared.table.Slot.{Slot};
 ghost use Rattle.task_steps.specs.declared.table.Slot.TheVariants.{Awaiter};
@@ -39,7 +39,7 @@ impl<R: Drop, F: Yields, Q: Drop, M: Drop, A: Drop, B: Allocator> Cell<R, F, Q, 
     // Writes down that the clone which a notifier made useless was dropped. One load.
     fn note_clone_dropped(&self, party: &mut Party<F, Kept<F>, A>)
         requires cell { party.old.seat.table_id ≡ self.now.table.shared.table_id }
-        requires party { (i : ℕ) × Stands (RefusedClone i) party.old }
+        requires party { (i : ℕ) × Stands (UnusedClone i) party.old }
         ensures { Goes (act DropAwaiter ∷ []) (Looking (poll_number (position party.old))) party.old party.new }
     {
         self.table

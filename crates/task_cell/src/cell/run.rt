@@ -2,11 +2,11 @@
 ghost use Rattle.std.specs.Prelude.{◌≡◌, ℕ, ◌∷◌, []};
 ghost use Rattle.std.specs.Arc.{arc_value};
 ghost use Rattle.task_laws.specs.declared.positions.Answer.{Answer};
-ghost use Rattle.task_laws.specs.declared.positions.After.TheVariants.{ThenEnds};
-ghost use Rattle.task_laws.specs.declared.positions.Closer.TheVariants.{ClosedRun};
-ghost use Rattle.task_laws.specs.declared.positions.Closer.{Closer};
-ghost use Rattle.task_laws.specs.declared.positions.Position.TheVariants.{FutureInHand, Ready, Cleared, Polling, Deliverer};
-ghost use Rattle.task_core.specs.declared.moves.Act.TheVariants.{DropFuture, Unschedule, HandOver, EndCall};
+ghost use Rattle.task_laws.specs.declared.positions.OnceDelivered.TheVariants.{ThenEnds};
+ghost use Rattle.task_laws.specs.declared.positions.WithoutPoll.TheVariants.{ClosedRun};
+ghost use Rattle.task_laws.specs.declared.positions.WithoutPoll.{WithoutPoll};
+ghost use Rattle.task_laws.specs.declared.positions.Position.TheVariants.{FutureInHand, Ready, PendingFutureDropped, Polling, Deliverer};
+ghost use Rattle.task_core.specs.declared.acts.Act.TheVariants.{DropFuture, Unschedule, HandOver, EndCall};
 ghost use Rattle.task_laws.specs.Table.{notifies};
 ghost use Rattle.task_steps.specs.declared.table.Slot.{Slot};
 ghost use Rattle.task_cell.specs.Handed.{HandedOver};
@@ -32,7 +32,7 @@ impl<R: Drop, F: Yields, Q: Drop, M: Drop, A: Drop, B: Allocator> Cell<R, F, Q, 
     // SCHEDULED is cleared, after the future was dropped: a single fetch, never tried again.
     pub(crate) fn unschedule(&self, party: &mut Party<F, Kept<F>, A>) -> Word
         requires cell { party.old.seat.table_id ≡ self.now.table.shared.table_id }
-        requires party { (closer : Closer) × (y : Slot F _ A) × (z : Slot F _ A) × StandsWith (FutureInHand closer) (future_first y z []) party.old × IsEmpty y }
+        requires party { (closer : WithoutPoll) × (y : Slot F _ A) × (z : Slot F _ A) × StandsWith (FutureInHand closer) (future_first y z []) party.old × IsEmpty y }
         ensures { Goes (act DropFuture ∷ row Unschedule result ∷ []) (notifies result.awaiter (closing_way (position party.old))) party.old party.new }
     {
         let found = self
@@ -78,7 +78,7 @@ impl<R: Drop, F: Yields, Q: Drop, M: Drop, A: Wake, B: Allocator> Cell<R, F, Q, 
     // A run of a task that was closed meanwhile, from where its poll answered Pending.
     pub(crate) fn finish_cleared(&self, party: &mut Party<F, Kept<F>, A>)
         requires cell { party.old.seat.table_id ≡ self.now.table.shared.table_id }
-        requires party { (y : Slot F _ A) × (z : Slot F _ A) × StandsWith Cleared (future_first y z []) party.old }
+        requires party { (y : Slot F _ A) × (z : Slot F _ A) × StandsWith PendingFutureDropped (future_first y z []) party.old }
         ensures { ClosesPending ((a : A) × A.woken a) party.old party.new }
     {
         self.clear(party, 0);

@@ -1,7 +1,7 @@
 //! Calls that only look at the word.
 ghost use Rattle.std.specs.Prelude.{◌≡◌, ℕ, ◌∷◌, [], not, true};
 ghost use Rattle.task_core.specs.Word.{State, is_open};
-ghost use Rattle.task_core.specs.declared.moves.Act.TheVariants.{LookFinished, EndCall};
+ghost use Rattle.task_core.specs.declared.acts.Act.TheVariants.{LookFinished, EndCall};
 ghost use Rattle.task_steps.specs.Steps.{saw_over};
 ghost use Rattle.task_cell.specs.Calls.{Stands, Goes, position, deeds};
 ghost use Rattle.task_steps.specs.Deeds.{row, act};

@@ -34,7 +34,7 @@ where
     }
 
     /// One more waker of the same task, which holds a reference. `None` where the count of references is at the limit, or where memory was refused; nothing has changed then.
-    pub fn clone(&self) -> Option<Self>
+    pub fn try_clone(&self) -> Option<Self>
         ensures cell { IfSome result (λ waker. arc_value waker.inner.share.cell ≡ arc_value self.now.inner.share.cell) }
         ensures around { IfSome result (λ waker. waker.around ≡ self.now.around) }
     {
@@ -111,7 +111,7 @@ where
     }
 
     fn try_clone(&self) -> Option<Self> {
-        TaskWaker::clone(self)
+        TaskWaker::try_clone(self)
     }
 
     fn will_wake(&self, other: &Self) -> bool {

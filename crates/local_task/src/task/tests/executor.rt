@@ -140,7 +140,7 @@ impl Executor {
                 self.settle(rt, number, future, polled)
             }
             Start::Ended(settled) => self.act(number, settled),
-            Start::Idle => Ok(()),
+            Start::NotDue => Ok(()),
         }
     }
 

@@ -12,9 +12,9 @@ pub returns-in-Pending-clause-path : goal.returns-in-Pending-clause-path
 returns-in-Pending-clause-path g c = polls_as (λ (kept : Kept g.row.F.Denot g.row.F-Output.Denot g.F.Yields). kept.output)
     g.A.Wake.cloned g.A.Wake.woken g.A.Wake.woken_by_ref g.A.Wake.compared c.args.awaiter.now c.args.self.now.party c.poll.new.party c.poll.result _ c.in-Pending.is c.poll.ensures.path
 
-pub returns-in-NoMemory-clause-path : goal.returns-in-NoMemory-clause-path
-returns-in-NoMemory-clause-path g c = polls_as (λ (kept : Kept g.row.F.Denot g.row.F-Output.Denot g.F.Yields). kept.output)
-    g.A.Wake.cloned g.A.Wake.woken g.A.Wake.woken_by_ref g.A.Wake.compared c.args.awaiter.now c.args.self.now.party c.poll.new.party c.poll.result _ c.in-NoMemory.is c.poll.ensures.path
+pub returns-in-Refused-clause-path : goal.returns-in-Refused-clause-path
+returns-in-Refused-clause-path g c = polls_as (λ (kept : Kept g.row.F.Denot g.row.F-Output.Denot g.F.Yields). kept.output)
+    g.A.Wake.cloned g.A.Wake.woken g.A.Wake.woken_by_ref g.A.Wake.compared c.args.awaiter.now c.args.self.now.party c.poll.new.party c.poll.result _ c.in-Refused.is c.poll.ensures.path
 
 pub returns-in-Ready-Some-clause-path : goal.returns-in-Ready-Some-clause-path
 returns-in-Ready-Some-clause-path g c = polls_as (λ (kept : Kept g.row.F.Denot g.row.F-Output.Denot g.F.Yields). kept.output)

@@ -1,8 +1,8 @@
 use Rattle.std.proofs.Common.{◌∷◌, [], sym, ◌∙◌, refl}
 use Rattle.std.specs.Prelude.{Ok, Err}
-use Rattle.task_laws.specs.declared.positions.Way.TheVariants.{OfPoll}
+use Rattle.task_laws.specs.declared.positions.NotifyingCall.TheVariants.{OfPoll}
 use Rattle.task_laws.specs.declared.positions.Position.TheVariants.{Notifier}
-use Rattle.task_core.specs.declared.moves.Act.TheVariants.{Look, ClaimOutput, EndCall}
+use Rattle.task_core.specs.declared.acts.Act.TheVariants.{Look, ClaimOutput, EndCall}
 use Rattle.task_cell.specs.Calls.{position}
 use Rattle.task_steps.specs.Deeds.{row, act}
 use Rattle.task_cell.specs.PollPaths.{waits}

@@ -1,6 +1,6 @@
-use Rattle.task_laws.specs.declared.positions.PollAnswer.TheVariants.{IsReady}
+use Rattle.task_laws.specs.declared.positions.PollAnswer.TheVariants.{IsClosed}
 use Rattle.std.proofs.Common.{[], refl}
-use Rattle.task_laws.specs.declared.positions.Way.TheVariants.{OfPoll}
+use Rattle.task_laws.specs.declared.positions.NotifyingCall.TheVariants.{OfPoll}
 use Rattle.task_laws.specs.declared.positions.Position.TheVariants.{Answering}
 use Rattle.task_cell.proofs.Moved.{stands}
 use Rattle.task_cell.proofs.PollWays.{is_answering, ended_closed}
@@ -11,7 +11,7 @@ take_awaiter-requires-clause-party g c = let s = c.requires.party in (OfPoll s.0
 
 pub end_poll-requires-clause-party : goal.end_poll-requires-clause-party
 end_poll-requires-clause-party g c = let s = c.requires.party in let t = c.take_awaiter.ensures in
-    (s.0, IsReady, stands c.args.party.now c.take_awaiter.new.party t.0 (Answering s.0 IsReady) _ (is_answering s.0 t.0 c.args.party.now c.take_awaiter.new.party s.1 t.2))
+    (s.0, IsClosed, stands c.args.party.now c.take_awaiter.new.party t.0 (Answering s.0 IsClosed) _ (is_answering s.0 t.0 c.args.party.now c.take_awaiter.new.party s.1 t.2))
 
 pub returns : goal.returns
 returns g c = let s = c.requires.party in let t = c.take_awaiter.ensures in

@@ -1,8 +1,8 @@
 use Rattle.std.proofs.Common.{◌∙◌, sym, subst, ◌∷◌, []}
-use Rattle.task_laws.specs.declared.positions.Way.TheVariants.{OfRun}
-use Rattle.task_laws.specs.declared.positions.Closer.TheVariants.{ClosedRun}
+use Rattle.task_laws.specs.declared.positions.NotifyingCall.TheVariants.{OfRun}
+use Rattle.task_laws.specs.declared.positions.WithoutPoll.TheVariants.{ClosedRun}
 use Rattle.task_laws.specs.declared.positions.Position.TheVariants.{FutureInHand}
-use Rattle.task_core.specs.declared.moves.Act.TheVariants.{DropFuture, Unschedule}
+use Rattle.task_core.specs.declared.acts.Act.TheVariants.{DropFuture, Unschedule}
 use Rattle.task_laws.specs.Table.{notifies}
 use Rattle.task_steps.specs.declared.table.Slot.TheVariants.{Empty}
 use Rattle.task_cell.specs.Calls.{Stands}

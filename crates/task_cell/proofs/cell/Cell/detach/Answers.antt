@@ -1,9 +1,9 @@
 use Rattle.std.proofs.Common.{◌∷◌, ◌∙◌, ap, sym, [], false, refl}
 use Rattle.task_laws.specs.declared.positions.Answer.TheVariants.{Nothing}
 use Rattle.task_laws.specs.declared.positions.Rest.TheVariants.{Ended}
-use Rattle.task_laws.specs.declared.positions.After.TheVariants.{ThenEnds}
-use Rattle.task_laws.specs.declared.positions.Position.TheVariants.{Deliverer, Leaving}
-use Rattle.task_core.specs.declared.moves.Act.TheVariants.{GiveUpOutput, DropOutput, DetachLast, EmptySlots}
+use Rattle.task_laws.specs.declared.positions.OnceDelivered.TheVariants.{ThenEnds}
+use Rattle.task_laws.specs.declared.positions.Position.TheVariants.{Deliverer, CallEnding}
+use Rattle.task_core.specs.declared.acts.Act.TheVariants.{GiveUpOutput, DropOutput, DetachLast, EmptySlots}
 use Rattle.task_steps.specs.Deeds.{row, act}
 use Rattle.task_cell.proofs.Moved.{stands}
 use Rattle.task_cell.proofs.TaskCalls.{unclaimed_last, last_emptied, detaches_unclaimed_last, detaches_unclaimed, detaches_shared, detaches_last, detaches_orphaned}
@@ -15,7 +15,7 @@ end-requires-clause-cell g c = let x = unclaimed_last c.args.party.now c.give_ta
 
 pub end-requires-clause-party : goal.end-requires-clause-party
 end-requires-clause-party g c = let x = unclaimed_last c.args.party.now c.give_task_up.new.party c.drop_unclaimed.new.party c.empty.new.party c.drop_unclaimed.result c.if-drop_unclaimed.true c.in-Unclaimed.ensures c.drop_unclaimed.ensures c.empty.ensures in
-    (Nothing, Ended, stands c.args.party.now c.empty.new.party (row GiveUpOutput x.0 ∷ act DropOutput ∷ row DetachLast x.1 ∷ act EmptySlots ∷ []) (Leaving Nothing Ended) [] x.4)
+    (Nothing, Ended, stands c.args.party.now c.empty.new.party (row GiveUpOutput x.0 ∷ act DropOutput ∷ row DetachLast x.1 ∷ act EmptySlots ∷ []) (CallEnding Nothing Ended) [] x.4)
 
 pub end-requires-in-Last-clause-cell : goal.end-requires-in-Last-clause-cell
 end-requires-in-Last-clause-cell g c = let x = last_emptied c.args.party.now c.give_task_up.new.party c.empty-in-Last.new.party c.in-Last.ensures c.empty-in-Last.ensures in
@@ -23,7 +23,7 @@ end-requires-in-Last-clause-cell g c = let x = last_emptied c.args.party.now c.g
 
 pub end-requires-in-Last-clause-party : goal.end-requires-in-Last-clause-party
 end-requires-in-Last-clause-party g c = let x = last_emptied c.args.party.now c.give_task_up.new.party c.empty-in-Last.new.party c.in-Last.ensures c.empty-in-Last.ensures in
-    (Nothing, Ended, stands c.args.party.now c.empty-in-Last.new.party _ (Leaving Nothing Ended) [] x)
+    (Nothing, Ended, stands c.args.party.now c.empty-in-Last.new.party _ (CallEnding Nothing Ended) [] x)
 
 pub deliver-requires-clause-party : goal.deliver-requires-clause-party
 deliver-requires-clause-party g c = let x = c.in-Orphaned.ensures in (Deliverer false (ThenEnds Nothing), refl, stands c.args.party.now c.give_task_up.new.party _ (Deliverer false (ThenEnds Nothing)) [] x.2)

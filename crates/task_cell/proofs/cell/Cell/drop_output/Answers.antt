@@ -2,8 +2,8 @@ use Rattle.std.proofs.Common.{rules, ap, ◌∷◌, []}
 use Rattle.task_core.specs.Word.{state_of}
 use Rattle.task_steps.proofs.Allowed.{steps_always}
 use Rattle.task_laws.specs.declared.positions.Position.TheVariants.{OutputInHand}
-use Rattle.task_laws.specs.declared.positions.Way.TheVariants.{OfRun}
-use Rattle.task_core.specs.declared.moves.Act.TheVariants.{DropOutput}
+use Rattle.task_laws.specs.declared.positions.NotifyingCall.TheVariants.{OfRun}
+use Rattle.task_core.specs.declared.acts.Act.TheVariants.{DropOutput}
 use Rattle.task_laws.specs.Table.{notifies}
 use Rattle.task_steps.specs.Steps.{output_first}
 use Rattle.task_steps.specs.Deeds.{act}

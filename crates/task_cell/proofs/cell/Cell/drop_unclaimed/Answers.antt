@@ -2,7 +2,7 @@ use Rattle.std.proofs.Common.{rules, ap, ◌∷◌, [], sym, ◌∙◌, subst}
 use Rattle.std.specs.Prelude.{nat_eq}
 use Rattle.task_core.specs.Word.{State}
 use Rattle.task_laws.specs.declared.positions.Position.TheVariants.{OutputCloser, Detacher}
-use Rattle.task_core.specs.declared.moves.Act.TheVariants.{DropOutput}
+use Rattle.task_core.specs.declared.acts.Act.TheVariants.{DropOutput}
 use Rattle.task_steps.specs.declared.table.Slot.TheVariants.{Empty}
 use Rattle.task_steps.specs.Steps.{head_of, saw_closed, output_first}
 use Rattle.task_steps.specs.Deeds.{act}

@@ -1,8 +1,8 @@
 use Rattle.std.proofs.Common.{false, ◌∙◌, ap, sym, []}
 use Rattle.task_laws.specs.declared.positions.Answer.TheVariants.{Nothing}
 use Rattle.task_laws.specs.declared.positions.Rest.TheVariants.{Ended}
-use Rattle.task_laws.specs.declared.positions.After.TheVariants.{ThenEnds}
-use Rattle.task_laws.specs.declared.positions.Position.TheVariants.{Deliverer, Leaving}
+use Rattle.task_laws.specs.declared.positions.OnceDelivered.TheVariants.{ThenEnds}
+use Rattle.task_laws.specs.declared.positions.Position.TheVariants.{Deliverer, CallEnding}
 use Rattle.task_cell.proofs.Moved.{stands}
 use Rattle.task_cell.proofs.WakerCalls.{drops_shared, last_emptied, drops_last, orphan_closed, drops_orphaned}
 use Rattle.task_cell.proofs.cell.Cell.drop_waker.Goals as goal
@@ -13,7 +13,7 @@ end-requires-clause-cell g c = let x = last_emptied c.args.party.now c.drop_refe
 
 pub end-requires-clause-party : goal.end-requires-clause-party
 end-requires-clause-party g c = let x = last_emptied c.args.party.now c.drop_reference.new.party c.empty.new.party c.in-Last.ensures c.empty.ensures in
-    (Nothing, Ended, stands c.args.party.now c.empty.new.party _ (Leaving Nothing Ended) [] x)
+    (Nothing, Ended, stands c.args.party.now c.empty.new.party _ (CallEnding Nothing Ended) [] x)
 
 pub hand_on-requires-clause-party : goal.hand_on-requires-clause-party
 hand_on-requires-clause-party g c = let x = orphan_closed c.args.party.now c.drop_reference.new.party c.close_orphan.new.party c.in-Orphaned.ensures c.close_orphan.ensures in

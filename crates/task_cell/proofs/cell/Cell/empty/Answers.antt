@@ -3,7 +3,7 @@ use Rattle.task_core.specs.Word.{state_of}
 use Rattle.task_steps.proofs.Allowed.{steps_always}
 use Rattle.task_laws.specs.declared.positions.Position.TheVariants.{Emptier}
 use Rattle.task_steps.specs.declared.table.Slot.TheVariants.{Empty}
-use Rattle.task_core.specs.declared.moves.Act.TheVariants.{EmptySlots}
+use Rattle.task_core.specs.declared.acts.Act.TheVariants.{EmptySlots}
 use Rattle.task_laws.specs.Table.{after_giving_up}
 use Rattle.task_steps.specs.Deeds.{act}
 use Rattle.task_steps.proofs.RunOwed.{empties}

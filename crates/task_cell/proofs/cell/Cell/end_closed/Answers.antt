@@ -1,9 +1,9 @@
 use Rattle.std.proofs.Common.{◌≡◌, true, rules, ap, sym, subst, ◌∷◌, []}
 use Rattle.task_core.specs.Word.{state_of}
 use Rattle.task_steps.proofs.Allowed.{steps_always}
-use Rattle.task_laws.specs.declared.positions.Position.TheVariants.{Cleared}
-use Rattle.task_laws.specs.declared.positions.Way.TheVariants.{OfRun}
-use Rattle.task_core.specs.declared.moves.Act.TheVariants.{EndClosed}
+use Rattle.task_laws.specs.declared.positions.Position.TheVariants.{PendingFutureDropped}
+use Rattle.task_laws.specs.declared.positions.NotifyingCall.TheVariants.{OfRun}
+use Rattle.task_core.specs.declared.acts.Act.TheVariants.{EndClosed}
 use Rattle.task_laws.specs.Table.{notifies}
 use Rattle.task_cell.specs.Calls.{Goes}
 use Rattle.task_steps.specs.Deeds.{row}
@@ -14,7 +14,7 @@ use Rattle.task_cell.proofs.cell.Cell.end_closed.Goals as goal
 
 pub fetch_and-found-requires : goal.fetch_and-found-requires
 fetch_and-found-requires g c = let s = c.requires.party in
-    (search rules, search rules, steps_always _ _ _ _ _ _ _ _ _ _ _ _ _ (search rules) (ap (λ m. m.0) s.2) (ends_closed _ _ _ _ _ _ _ _ _ (future_held c.args.party.now Cleared s.0 s.1 s.2)))
+    (search rules, search rules, steps_always _ _ _ _ _ _ _ _ _ _ _ _ _ (search rules) (ap (λ m. m.0) s.2) (ends_closed _ _ _ _ _ _ _ _ _ (future_held c.args.party.now PendingFutureDropped s.0 s.1 s.2)))
 
 pub returns : goal.returns
 returns g c = λ y z s. let l = c.fetch_and-found.ensures in

@@ -1,8 +1,8 @@
 use Rattle.std.proofs.Common.{◌∙◌, [], false}
-use Rattle.task_laws.specs.declared.positions.Way.TheVariants.{OfRun}
+use Rattle.task_laws.specs.declared.positions.NotifyingCall.TheVariants.{OfRun}
 use Rattle.task_laws.specs.declared.positions.Answer.TheVariants.{Ran}
 use Rattle.task_laws.specs.declared.positions.Rest.TheVariants.{Ended}
-use Rattle.task_laws.specs.declared.positions.Position.TheVariants.{Leaving}
+use Rattle.task_laws.specs.declared.positions.Position.TheVariants.{CallEnding}
 use Rattle.task_cell.proofs.Moved.{stands}
 use Rattle.task_cell.proofs.RunRest.{run_gives_up, due_cell, run_has, rested, ended_call}
 use Rattle.task_cell.proofs.cell.Cell.finish.Goals as goal
@@ -30,7 +30,7 @@ end-requires-clause-cell g c = let d = c.take_due-awaiter.ensures OfRun c.requir
 pub end-requires-clause-party : goal.end-requires-clause-party
 end-requires-clause-party g c = let d = c.take_due-awaiter.ensures OfRun c.requires.party in
     let k = c.wake_taken.ensures OfRun (run_has c.args.due c.args.party.now c.take_due-awaiter.new.party c.release.new.party (held c.take_due-awaiter.result) d c.release.ensures) in
-    (Ran false, Ended, stands c.release.new.party c.wake_taken.new.party k.0 (Leaving (Ran false) Ended) [] k.2)
+    (Ran false, Ended, stands c.release.new.party c.wake_taken.new.party k.0 (CallEnding (Ran false) Ended) [] k.2)
 
 pub returns : goal.returns
 returns g c = rested _ c.args.due c.args.party.now c.take_due-awaiter.new.party c.release.new.party c.wake_taken.new.party c.end.new.party (held c.take_due-awaiter.result) (c.take_due-awaiter.ensures OfRun c.requires.party) c.release.ensures c.wake_taken.ensures

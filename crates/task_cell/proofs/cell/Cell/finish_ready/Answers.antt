@@ -1,7 +1,7 @@
 use Rattle.std.proofs.Common.{◌∙◌, sym, subst, ◌∷◌, []}
-use Rattle.task_laws.specs.declared.positions.Way.TheVariants.{OfRun}
+use Rattle.task_laws.specs.declared.positions.NotifyingCall.TheVariants.{OfRun}
 use Rattle.task_laws.specs.declared.positions.Position.TheVariants.{Ready}
-use Rattle.task_core.specs.declared.moves.Act.TheVariants.{AnswerReady}
+use Rattle.task_core.specs.declared.acts.Act.TheVariants.{AnswerReady}
 use Rattle.task_laws.specs.Table.{notifies}
 use Rattle.task_steps.specs.declared.table.Slot.TheVariants.{Empty}
 use Rattle.task_cell.specs.Calls.{Stands}

@@ -5,7 +5,7 @@ use Rattle.task_steps.proofs.RunOwed.{gives_up}
 use Rattle.task_cell.proofs.RunGoes.{gave_up, none_left}
 use Rattle.task_cell.specs.RunCalls.{GivesUp}
 use Rattle.task_core.specs.Rows.{row}
-use Rattle.task_core.specs.declared.moves.Act.TheVariants.{GiveUpReference}
+use Rattle.task_core.specs.declared.acts.Act.TheVariants.{GiveUpReference}
 use Rattle.task_cell.proofs.cell.Cell.give_up.Goals as goal
 
 pub fetch_sub-found-requires : goal.fetch_sub-found-requires

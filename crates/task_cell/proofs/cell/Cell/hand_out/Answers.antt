@@ -1,5 +1,5 @@
 use Rattle.std.proofs.Common.{rules, ap, ◌∷◌, [], refl}
-use Rattle.task_laws.specs.declared.positions.Position.TheVariants.{Claimer}
+use Rattle.task_laws.specs.declared.positions.Position.TheVariants.{TookOutput}
 use Rattle.task_steps.specs.declared.table.Slot.TheVariants.{Empty}
 use Rattle.task_steps.specs.Steps.{output_first}
 use Rattle.task_steps.proofs.Allowed.{steps_always}
@@ -11,6 +11,6 @@ use Rattle.task_cell.proofs.cell.Cell.hand_out.Goals as goal
 
 pub load-requires : goal.load-requires
 load-requires g c = let s = c.requires.party in let e = c.take_out.ensures in
-    let x = exchanges c.args.party.now c.args.party.now (record { seat = c.take_out.new.seat }) [] (Claimer s.0) 1 s.2 c.take_out.result.slot Empty ((0, s.1) ∷ []) (at_rest (Claimer s.0) (output_first s.1 s.2 []) c.args.party.now c.args.party.now s.3 refl refl) e.0 e.2 e.3 in
-    let at = stands c.args.party.now (record { seat = c.take_out.new.seat }) [] (Claimer s.0) (output_first s.1 Empty []) x.1 in
-    (search rules, search rules, steps_always _ _ _ _ _ _ _ _ _ _ _ _ _ (search rules) (ap (λ m. m.0) at) (hands_out _ _ _ _ s.0 _ _ _ _ _ (output_held (record { seat = c.take_out.new.seat }) (Claimer s.0) s.1 Empty at)))
+    let x = exchanges c.args.party.now c.args.party.now (record { seat = c.take_out.new.seat }) [] (TookOutput s.0) 1 s.2 c.take_out.result.slot Empty ((0, s.1) ∷ []) (at_rest (TookOutput s.0) (output_first s.1 s.2 []) c.args.party.now c.args.party.now s.3 refl refl) e.0 e.2 e.3 in
+    let at = stands c.args.party.now (record { seat = c.take_out.new.seat }) [] (TookOutput s.0) (output_first s.1 Empty []) x.1 in
+    (search rules, search rules, steps_always _ _ _ _ _ _ _ _ _ _ _ _ _ (search rules) (ap (λ m. m.0) at) (hands_out _ _ _ _ s.0 _ _ _ _ _ (output_held (record { seat = c.take_out.new.seat }) (TookOutput s.0) s.1 Empty at)))

@@ -1,6 +1,6 @@
 use Rattle.std.proofs.Common.{[], subst}
-use Rattle.task_laws.specs.declared.positions.Way.TheVariants.{OfClaim}
-use Rattle.task_laws.specs.declared.positions.Position.TheVariants.{Claimer}
+use Rattle.task_laws.specs.declared.positions.NotifyingCall.TheVariants.{OfClaim}
+use Rattle.task_laws.specs.declared.positions.Position.TheVariants.{TookOutput}
 use Rattle.task_laws.specs.Table.{notifies}
 use Rattle.task_cell.specs.Calls.{position, holds, StandsWith}
 use Rattle.task_steps.specs.Standing.{poll_number}
@@ -14,7 +14,7 @@ take_awaiter_of-requires-clause-party g c = let s = c.requires.party in (s.0, ou
 
 pub hand_out-requires-clause-party : goal.hand_out-requires-clause-party
 hand_out-requires-clause-party g c = let s = c.requires.party in let p = c.args.party.now in let q = c.take_awaiter_of.new.party in let n = poll_number (position p) in let t = c.take_awaiter_of.ensures in
-    (n, s.1, s.2, subst (λ held. StandsWith (Claimer n) held q) (held_is p (notifies c.args.found.awaiter (OfClaim s.0)) (output_first s.1 s.2 []) s.3) (stands p q t.0 (Claimer n) (holds p) t.2), s.4)
+    (n, s.1, s.2, subst (λ held. StandsWith (TookOutput n) held q) (held_is p (notifies c.args.found.awaiter (OfClaim s.0)) (output_first s.1 s.2 []) s.3) (stands p q t.0 (TookOutput n) (holds p) t.2), s.4)
 
 pub returns : goal.returns
 returns g c = let t = c.take_awaiter_of.ensures in (t.0, t.1, handed_out t.0 c.args.party.now c.take_awaiter_of.new.party c.hand_out.new.party t.2 c.hand_out.ensures)

@@ -8,7 +8,7 @@ use Rattle.atomic_table.proofs.Lists.{at_set, set_here, set_else, at_longer}
 use Rattle.task_laws.specs.declared.positions.Position.{Position}
 use Rattle.task_laws.specs.declared.positions.Position.TheVariants.{At}
 use Rattle.task_laws.specs.declared.positions.Rest.TheVariants.{Lent}
-use Rattle.task_core.specs.declared.moves.Act.{Act}
+use Rattle.task_core.specs.declared.acts.Act.{Act}
 use Rattle.task_core.specs.Word.{State, bit}
 use Rattle.task_core.specs.Rows.{written}
 use Rattle.task_laws.specs.Table.{Outcome, rule}
@@ -17,7 +17,7 @@ use Rattle.task_steps.specs.declared.table.Deed.{Deed}
 use Rattle.task_steps.specs.declared.table.Tries.{Tries}
 use Rattle.task_steps.specs.declared.table.Member.{Member}
 use Rattle.task_steps.specs.declared.table.View.{View}
-use Rattle.task_steps.specs.Rule.{deed, member, view, fresh, found_by, Entry, Reaches, steps_of, noted_if, deeds_of, DidLast, lender, differ, writes, written_since, Tried, trying, Fared, Told}
+use Rattle.task_steps.specs.Rule.{deed, member, view, fresh, found_by, Entry, Reaches, steps_of, noted_if, deeds_of, DidLast, lender, differ, writes, written_since, Tried, trying, IsParty, Explains}
 use Rattle.task_steps.proofs.Written.{stale_by, rule_word}
 
 module _ {A : Type 0} where
@@ -137,7 +137,7 @@ module _ (limit : ℕ) (log : List Entry) (m : Machine) (h : ℕ → ℕ × ℕ)
   tried_still None l ne h = tt
   tried_still (Some t) l ne h = subst (λ (z : Bool × State). t.misses + bit (differ t.seen z.1) ≤ cond z.0 0 (bit (writes a (found_by a m.word)) + written_since l log)) (λ i. (sym ne i, sym wrote i)) (omega (arith, stale_by t.seen m.word a))
 
-  other : (s j : ℕ) (x : Member) (l : ℕ) → l ≢ k → Fared m log h s j x l → Fared M (E ∷ log) H s j x l
+  other : (s j : ℕ) (x : Member) (l : ℕ) → l ≢ k → IsParty m log h s j x l → IsParty M (E ∷ log) H s j x l
   other s j x l ne f = record {
     seated = pick_old h Q seat n l (dec_le Q l) (inside m.parties l x.at f.at) ∙ f.seated;
     apart = f.apart;
@@ -146,7 +146,7 @@ module _ (limit : ℕ) (log : List Entry) (m : Machine) (h : ℕ → ℕ × ℕ)
     tried = tried_still x.tries l (ne_eqb k l (λ e. ne (sym e))) f.tried;
   }
 
-  own : (i : ℕ) (u : Member) → Fared m log h seat i u k → Fared M (E ∷ log) H seat i (member o.next (deed a (found_by a m.word) ∷ u.deeds)) k
+  own : (i : ℕ) (u : Member) → IsParty m log h seat i u k → IsParty M (E ∷ log) H seat i (member o.next (deed a (found_by a m.word) ∷ u.deeds)) k
   own i u mine = record {
     seated = pick_old h Q seat n k (dec_le Q k) (inside m.parties k u.at mine.at) ∙ mine.seated;
     apart = mine.apart;
@@ -155,7 +155,7 @@ module _ (limit : ℕ) (log : List Entry) (m : Machine) (h : ℕ → ℕ × ℕ)
     tried = tt;
   }
 
-  born : (j : ℕ) (p : Position) → get_elem? o.born j ≡ some p → Fared M (E ∷ log) H seat (n + j) (fresh p) (Q + j)
+  born : (j : ℕ) (p : Position) → get_elem? o.born j ≡ some p → IsParty M (E ∷ log) H seat (n + j) (fresh p) (Q + j)
   born j p e = record {
     seated = pick_new h Q seat n j (dec_le Q (Q + j));
     apart = λ z. let g = inside m.parties lender (At Lent) lent in omega arith;
@@ -169,24 +169,24 @@ still_lent : (m : Machine) (k : ℕ) (p : Position) (o : Outcome) → get_elem? 
 still_lent m k p o lent apart = at_longer (set m.parties k o.next) o.born lender (At Lent) (set_else m.parties k lender o.next (λ e. apart (sym e)) ∙ lent)
 
 -- an act of one of the seat's parties that the machine allows
-pub tells : (limit : ℕ) (views : List View) (seat : ℕ) (v : View) (i : ℕ) (u : Member) (a : Act) (o : Outcome) (log : List Entry) (m : Machine) → Told limit (set views seat v) log m → seat < length views
+pub tells : (limit : ℕ) (views : List View) (seat : ℕ) (v : View) (i : ℕ) (u : Member) (a : Act) (o : Outcome) (log : List Entry) (m : Machine) → Explains limit (set views seat v) log m → seat < length views
     → get_elem? v.members i ≡ some u → rule (scene m) a u.at ≡ Some o
-    → (k : ℕ) × (get_elem? m.parties k ≡ some u.at) × (e : Entry) × Told limit (set views seat (grown v i a m u o)) (e ∷ log) (next_machine m k u.at o)
+    → (k : ℕ) × (get_elem? m.parties k ≡ some u.at) × (e : Entry) × Explains limit (set views seat (grown v i a m u o)) (e ∷ log) (next_machine m k u.at o)
 tells limit views seat v i u a o log m t lt is allowed = let wrote = rule_word (scene m) a u.at o allowed in let here = set_here views seat v lt in let mine = t.each seat i v u here is in let k : ℕ = mine.0 in let n : ℕ = length v.members in
     let w : View = grown v i a m u o in let e : Entry = record { party = k; deed = deed a (found_by a m.word) } in let M : Machine = next_machine m k u.at o in
     let H = renamed t.holder (length m.parties) seat n in
-    let keep : (s j : ℕ) (x : Member) → ((s, j) ≢ (seat, i)) → ((l : ℕ) × Fared m log t.holder s j x l) → (l : ℕ) × Fared M (e ∷ log) H s j x l =
+    let keep : (s j : ℕ) (x : Member) → ((s, j) ≢ (seat, i)) → ((l : ℕ) × IsParty m log t.holder s j x l) → (l : ℕ) × IsParty M (e ∷ log) H s j x l =
     (λ s j x ne f. (f.0, other limit log m t.holder t.reaches t.lends k seat n a u.at o wrote s j x f.0 (λ z. ne (sym f.1.seated ∙ (ap t.holder z ∙ mine.1.seated))) f.1)) in
-    let within : (j : ℕ) (x : Member) → get_elem? w.members j ≡ some x → (l : ℕ) × Fared M (e ∷ log) H seat j x l =
+    let within : (j : ℕ) (x : Member) → get_elem? w.members j ≡ some x → (l : ℕ) × IsParty M (e ∷ log) H seat j x l =
     (λ j x f. ⊎_elim
     (λ (g : get_elem? (set v.members i (member o.next (deed a (found_by a m.word) ∷ u.deeds))) j ≡ some x). ⊎_elim
-    (λ (y : (j ≡ i) × (member o.next (deed a (found_by a m.word) ∷ u.deeds) ≡ x)). (k, subst (λ (z : ℕ × Member). Fared M (e ∷ log) H seat z.0 z.1 k) (λ q. (sym y.0 q, y.1 q)) (own limit log m t.holder t.reaches t.lends k seat n a u.at o wrote i u mine.1)))
+    (λ (y : (j ≡ i) × (member o.next (deed a (found_by a m.word) ∷ u.deeds) ≡ x)). (k, subst (λ (z : ℕ × Member). IsParty M (e ∷ log) H seat z.0 z.1 k) (λ q. (sym y.0 q, y.1 q)) (own limit log m t.holder t.reaches t.lends k seat n a u.at o wrote i u mine.1)))
     (λ (y : (j ≢ i) × (get_elem? v.members j ≡ some x)). keep seat j x (λ z. y.0 (ap (λ (p : ℕ × ℕ). p.1) z)) (t.each seat j v x here y.1))
     (at_set v.members i j (member o.next (deed a (found_by a m.word) ∷ u.deeds)) x g))
     (λ (g : (b : ℕ) × (j ≡ length (set v.members i (member o.next (deed a (found_by a m.word) ∷ u.deeds))) + b) × (get_elem? (map fresh o.born) b ≡ some x)).
     let p = at_mapped fresh o.born g.0 x g.2 in
     let is : j ≡ n + g.0 = g.1 ∙ ap (λ (q : ℕ). q + g.0) (length-set v.members i (member o.next (deed a (found_by a m.word) ∷ u.deeds))) in
-    (length m.parties + g.0, subst (λ (z : ℕ × Member). Fared M (e ∷ log) H seat z.0 z.1 (length m.parties + g.0)) (λ q. (sym is q, p.2 q)) (born limit log m t.holder t.reaches t.lends k seat n a u.at o wrote g.0 p.0 p.1)))
+    (length m.parties + g.0, subst (λ (z : ℕ × Member). IsParty M (e ∷ log) H seat z.0 z.1 (length m.parties + g.0)) (λ q. (sym is q, p.2 q)) (born limit log m t.holder t.reaches t.lends k seat n a u.at o wrote g.0 p.0 p.1)))
     (at_append (set v.members i (member o.next (deed a (found_by a m.word) ∷ u.deeds))) (map fresh o.born) j x f)) in (
       k,
       mine.1.at,
@@ -197,15 +197,15 @@ tells limit views seat v i u a o log m t lt is allowed = let wrote = rule_word (
         lends = still_lent m k u.at o t.lends mine.1.apart;
         limited = λ s j x y f g. ⊎_elim (λ (z : (s ≡ seat) × (w ≡ x)). sym (ap (λ (q : View). q.limit) z.1) ∙ t.limited seat i v u here is) (λ (z : (s ≢ seat) × (get_elem? views s ≡ some x)). t.limited s j x y (set_else views seat s v z.0 ∙ z.1) g) (at_set views seat s w x f);
         each = λ s j x y f g. ⊎_elim
-            (λ (z : (s ≡ seat) × (w ≡ x)). subst (λ (q : ℕ). (l : ℕ) × Fared M (e ∷ log) H q j y l) (sym z.0) (within j y (ap (λ (q : View). get_elem? q.members j) z.1 ∙ g)))
+            (λ (z : (s ≡ seat) × (w ≡ x)). subst (λ (q : ℕ). (l : ℕ) × IsParty M (e ∷ log) H q j y l) (sym z.0) (within j y (ap (λ (q : View). get_elem? q.members j) z.1 ∙ g)))
             (λ (z : (s ≢ seat) × (get_elem? views s ≡ some x)). keep s j y (λ q. z.0 (ap (λ (p : ℕ × ℕ). p.0) q)) (t.each s j x y (set_else views seat s v z.0 ∙ z.1) g))
             (at_set views seat s w x f);
       },
     )
 
 -- an act of the lender by which it comes back to where it stood: what it adds is a new seat's
-pub joined_by : (limit : ℕ) (views : List View) (log : List Entry) (m : Machine) (a : Act) (born : Position) (o : Outcome) → Told limit views log m → rule (scene m) a (At Lent) ≡ Some o → o.next ≡ At Lent → o.born ≡ born ∷ []
-    → Told limit (views ++ view limit (fresh born ∷ []) ∷ []) (record { party = lender; deed = deed a (found_by a m.word) } ∷ log) (next_machine m lender (At Lent) o)
+pub joined_by : (limit : ℕ) (views : List View) (log : List Entry) (m : Machine) (a : Act) (born : Position) (o : Outcome) → Explains limit views log m → rule (scene m) a (At Lent) ≡ Some o → o.next ≡ At Lent → o.born ≡ born ∷ []
+    → Explains limit (views ++ view limit (fresh born ∷ []) ∷ []) (record { party = lender; deed = deed a (found_by a m.word) } ∷ log) (next_machine m lender (At Lent) o)
 joined_by limit views log m a b o t allowed back one = let wrote = rule_word (scene m) a (At Lent) o allowed in let e : Entry = record { party = lender; deed = deed a (found_by a m.word) } in let M : Machine = next_machine m lender (At Lent) o in let seat : ℕ = length views in
     let w : View = view limit (fresh b ∷ []) in let H = renamed t.holder (length m.parties) seat 0 in record {
       holder = H;
@@ -216,7 +216,7 @@ joined_by limit views log m a b o t allowed back one = let wrote = rule_word (sc
           (λ (z : get_elem? views s ≡ some x). let k = t.each s j x y z g in (k.0, other limit log m t.holder t.reaches t.lends lender seat 0 a (At Lent) o wrote s j y k.0 k.1.apart k.1))
           (λ (z : (n : ℕ) × (s ≡ length views + n) × (get_elem? (w ∷ []) n ≡ some x)). let p = only w z.0 x z.2 in let q = only (fresh b) j y (ap (λ (v : View). get_elem? v.members j) p.1 ∙ g) in
           let there : seat ≡ s = (let c = z.1 in let d = p.0 in omega arith) in
-          (length m.parties + 0, subst (λ (c : ℕ × ℕ × Member). Fared M (e ∷ log) H c.0 c.1 c.2 (length m.parties + 0)) (λ i. (there i, sym q.0 i, q.1 i)) (born limit log m t.holder t.reaches t.lends lender seat 0 a (At Lent) o wrote 0 b (ap (λ l. get_elem? l 0) one))))
+          (length m.parties + 0, subst (λ (c : ℕ × ℕ × Member). IsParty M (e ∷ log) H c.0 c.1 c.2 (length m.parties + 0)) (λ i. (there i, sym q.0 i, q.1 i)) (born limit log m t.holder t.reaches t.lends lender seat 0 a (At Lent) o wrote 0 b (ap (λ l. get_elem? l 0) one))))
           (at_append views (w ∷ []) s x f);
     }
   where
@@ -225,10 +225,10 @@ joined_by limit views log m a b o t allowed back one = let wrote = rule_word (sc
     only v (suc n) x e = absurd (some-ne-none x (sym e))
 
 -- parties change their seats
-pub regroups : (limit : ℕ) (views views' : List View) (log : List Entry) (m : Machine) (to : ℕ × ℕ → ℕ × ℕ) → Told limit views log m
+pub regroups : (limit : ℕ) (views views' : List View) (log : List Entry) (m : Machine) (to : ℕ × ℕ → ℕ × ℕ) → Explains limit views log m
     → ((seat index : ℕ) (v : View) (u : Member) → get_elem? views' seat ≡ some v → get_elem? v.members index ≡ some u
     → (s j : ℕ) × (w : View) × (get_elem? views s ≡ some w) × (get_elem? w.members j ≡ some u) × (to (s, j) ≡ (seat, index)) × (v.limit ≡ w.limit))
-    → Told limit views' log m
+    → Explains limit views' log m
 regroups limit views views' log m to t from = record {
   holder = λ k. to (t.holder k);
   reaches = t.reaches;
@@ -238,20 +238,20 @@ regroups limit views views' log m to t from = record {
 }
 
 -- a party looks, or misses, and nothing else changes: what its tries say is to be shown of the party that it is
-pub retries : (limit : ℕ) (views : List View) (seat l : ℕ) (p : Position) (ds : List Deed) (t new : Option Tries) (us : List Member) (log : List Entry) (m : Machine) → Told limit (set views seat (view l (trying p ds t ∷ us))) log m → seat < length views
-    → ((k : ℕ) → Tried k log m.word t → Tried k log m.word new) → Told limit (set views seat (view l (trying p ds new ∷ us))) log m
+pub retries : (limit : ℕ) (views : List View) (seat l : ℕ) (p : Position) (ds : List Deed) (t new : Option Tries) (us : List Member) (log : List Entry) (m : Machine) → Explains limit (set views seat (view l (trying p ds t ∷ us))) log m → seat < length views
+    → ((k : ℕ) → Tried k log m.word t → Tried k log m.word new) → Explains limit (set views seat (view l (trying p ds new ∷ us))) log m
 retries limit views seat l p ds t new us log m told lt shows = let v : View = view l (trying p ds t ∷ us) in let w : View = view l (trying p ds new ∷ us) in let here = set_here views seat v lt in record {
   holder = told.holder;
   reaches = told.reaches;
   lends = told.lends;
   limited = λ s j x y f g. ⊎_elim (λ (z : (s ≡ seat) × (w ≡ x)). ap (λ (q : View). q.limit) (sym z.1) ∙ told.limited seat 0 v (trying p ds t) here refl) (λ (z : (s ≢ seat) × (get_elem? views s ≡ some x)). told.limited s j x y (set_else views seat s v z.0 ∙ z.1) g) (at_set views seat s w x f);
   each = λ s j x y f g. ⊎_elim
-      (λ (z : (s ≡ seat) × (w ≡ x)). subst (λ (q : ℕ). (k : ℕ) × Fared m log told.holder q j y k) (sym z.0) (mine j y (ap (λ (q : View). get_elem? q.members j) z.1 ∙ g)))
+      (λ (z : (s ≡ seat) × (w ≡ x)). subst (λ (q : ℕ). (k : ℕ) × IsParty m log told.holder q j y k) (sym z.0) (mine j y (ap (λ (q : View). get_elem? q.members j) z.1 ∙ g)))
       (λ (z : (s ≢ seat) × (get_elem? views s ≡ some x)). told.each s j x y (set_else views seat s v z.0 ∙ z.1) g)
       (at_set views seat s w x f);
 }
   where
-    mine : (j : ℕ) (y : Member) → get_elem? (trying p ds new ∷ us) j ≡ some y → (k : ℕ) × Fared m log told.holder seat j y k
+    mine : (j : ℕ) (y : Member) → get_elem? (trying p ds new ∷ us) j ≡ some y → (k : ℕ) × IsParty m log told.holder seat j y k
     mine zero y e = let k = told.each seat 0 (view l (trying p ds t ∷ us)) (trying p ds t) (set_here views seat (view l (trying p ds t ∷ us)) lt) refl in
-        (k.0, subst (λ (u : Member). Fared m log told.holder seat 0 u k.0) (some-injective (trying p ds new) y e) (record { seated = k.1.seated; apart = k.1.apart; at = k.1.at; did = k.1.did; tried = shows k.0 k.1.tried }))
+        (k.0, subst (λ (u : Member). IsParty m log told.holder seat 0 u k.0) (some-injective (trying p ds new) y e) (record { seated = k.1.seated; apart = k.1.apart; at = k.1.at; did = k.1.did; tried = shows k.0 k.1.tried }))
     mine (suc j) y e = told.each seat (suc j) (view l (trying p ds t ∷ us)) y (set_here views seat (view l (trying p ds t ∷ us)) lt) e
