@@ -64,7 +64,6 @@ has_room flags posted n lt m d h =
     let le = fits (slice_set flags n true) (posted ++ n ∷ []) (marked_post flags posted n lt m) (distinct_post posted n d h) in
     grind (arith, common_steps)
 
-
 -- the flag that was read says that the number does not wait
 pub not_waiting : (flags : List Bool) (posted : List ℕ) (n : ℕ) (b : Bool) → IsMarked flags posted → b ≡ slice_index_or flags n b → b ≡ false → list_any (nat_eq n) posted ≡ false
 not_waiting flags posted n b m k g = sym (m n) ∙ (sym (ap (slice_index_or flags n) g) ∙ (sym k ∙ g))

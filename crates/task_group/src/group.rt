@@ -66,11 +66,7 @@ where
     /// An empty group with room for `room` tasks at a time, or a few more. All its memory is taken here.
     ///
     /// `rt` is what `next` waits by, `alloc` where the memory comes from. An `Err` says that memory was refused; nothing stays allocated then.
-    pub fn new(
-        rt: R,
-        alloc: Global,
-        room: usize,
-    ) -> Result<TaskGroup<R, F, Q, M, X, B>, AllocError>
+    pub fn new(rt: R, alloc: Global, room: usize) -> Result<TaskGroup<R, F, Q, M, X, B>, AllocError>
         ensures empty { IfOk result (λ group. slab_len group.members ≡ 0) }
         ensures room { IfOk result (λ group. room ≤ group.members.capacity) }
     {

@@ -5,9 +5,9 @@ use Rattle.awaiters.proofs.blocking.block_on.Given as goal
 
 abbrev pub invariant-loop : goal.invariant-loop
 invariant-loop g l = record {
-    can_next : (goal.iterator-loop g).can_next l.iterator';
-    is_finite : (goal.iterator-loop g).is_finite l.iterator';
-    ended : saw_ended (deeds l.fn.task.inner.party) ≡ true → saw_ended (deeds l.task.inner.party) ≡ true;
-    cell : l.task.inner.share ≡ l.fn.task.inner.share;
-    around : l.task.around ≡ l.fn.task.around
+  can_next : (goal.iterator-loop g).can_next l.iterator';
+  is_finite : (goal.iterator-loop g).is_finite l.iterator';
+  ended : saw_ended (deeds l.fn.task.inner.party) ≡ true → saw_ended (deeds l.task.inner.party) ≡ true;
+  cell : l.task.inner.share ≡ l.fn.task.inner.share;
+  around : l.task.around ≡ l.fn.task.around;
 }
