@@ -51,7 +51,9 @@ fn a_chain_of_tasks_that_await_one_another(rt: HostRuntime) {
 fn run_ring<R: Wait + Drop + Copy>(rt: R, alloc: Global) -> Result<[bool; 2], AllocError> {
     let line = Line::new(rt, alloc, 2)?;
     for number in 0..2usize {
-        let task = line.spawn(number, Errand::Await(1 - number)).ok_or(AllocError)?;
+        let task = line
+            .spawn(number, Errand::Await(1 - number))
+            .ok_or(AllocError)?;
         line.keep_task(number, task);
     }
     line.run();

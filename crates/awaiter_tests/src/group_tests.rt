@@ -44,7 +44,10 @@ fn in_order<R: Wait + Drop + Copy>(
 #[test]
 fn members_come_out_in_the_order_in_which_they_end(rt: HostRuntime) {
     let seen = in_order(rt, rt.alloc());
-    assert_eq!(rt; seen, Ok([Some((1, 11)), Some((2, 12)), Some((0, 10)), None]));
+    assert_eq!(rt;
+        seen,
+        Ok([Some((1, 11)), Some((2, 12)), Some((0, 10)), None])
+    );
 }
 
 // How a group lets its tasks go.
@@ -92,6 +95,10 @@ fn an_abort_and_a_drop_cancel_what_a_detach_lets_go_on(rt: HostRuntime) {
     let dropped = let_go(rt, rt.alloc(), LetGo::Drop);
     assert_eq!(rt;
         (aborted, detached, dropped),
-        (Ok([true, true, false]), Ok([true, true, true]), Ok([true, false, false]))
+        (
+            Ok([true, true, false]),
+            Ok([true, true, true]),
+            Ok([true, false, false])
+        )
     );
 }

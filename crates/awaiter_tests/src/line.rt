@@ -66,7 +66,10 @@ impl<'x, R: Wait + Drop + Copy> Schedule<LineRunnable<'x, R>> for ToLine {
 
     fn schedule(&self, runnable: LineRunnable<'x, R>, _info: ScheduleInfo) {
         let line = runnable.around();
-        let pushed = line.queue.lock(&line.rt).push_back(runnable.with_around(()));
+        let pushed = line
+            .queue
+            .lock(&line.rt)
+            .push_back(runnable.with_around(()));
         drop(pushed);
     }
 }

@@ -1,6 +1,6 @@
 //! The mailbox: order, numbers that wait already, and the room.
-use awaiters::{Awaiter, Mailbox};
 use async_task::Wake;
+use awaiters::{Awaiter, Mailbox};
 use std::alloc::{AllocError, Global};
 use std::sync::Wait;
 
@@ -26,5 +26,8 @@ fn post_and_take<R: Wait + Drop + Copy>(
 #[test]
 fn a_mailbox_keeps_the_order_and_each_number_once(rt: HostRuntime) {
     let seen = post_and_take(rt, rt.alloc());
-    assert_eq!(rt; seen, Ok(([true, true, false], [Some(2), Some(0), None, Some(0)])));
+    assert_eq!(rt;
+        seen,
+        Ok(([true, true, false], [Some(2), Some(0), None, Some(0)]))
+    );
 }

@@ -1,8 +1,8 @@
 -- The flags of the numbers that wait: what a post and a take do to them.
-use Rattle.std.proofs.Common.{zero, suc, ◌≡◌, ◌≢◌, ℕ, ◌+◌, ◌<◌, ◌≤◌, ◌⊎◌, inl, inr, Bool, true, false, not, ◌||◌, List, [], ◌∷◌, ◌++◌, length, eqb, eqb-true, eq-eqb, refl, sym, ap, ◌∙◌, subst, arith, get_or, set, replicate}
+use Rattle.std.proofs.Common.{zero, suc, ◌≡◌, ℕ, ◌<◌, ◌≤◌, Bool, true, false, ◌||◌, List, [], ◌∷◌, ◌++◌, length, eq-eqb, refl, sym, ap, ◌∙◌, subst, arith, replicate}
 use Rattle.std.specs.Prelude.{nat_eq, slice_index_or, slice_set}
 use Rattle.std.specs.List.{IsDistinct, list_any, AllByRecursion}
-use Rattle.std.proofs.lemmas.List.{get_or_past, get_or-replicate, get_or-set_same, get_or-set_other}
+use Rattle.std.proofs.lemmas.List.{get_or_past}
 use Rattle.std.proofs.lemmas.List.Folds.{list_any-append}
 use Rattle.std.proofs.lemmas.Bool.Decides.{nat_tests}
 use Rattle.std.proofs.lemmas.Grind.{common_steps}

@@ -1,7 +1,6 @@
-use Rattle.std.proofs.Common.{◌≡◌, ◌≤◌, ℕ, [], List, Bool, length, sym, subst, arith, rules}
+use Rattle.std.proofs.Common.{◌≡◌, [], sym, subst, arith}
 use Rattle.std.specs.Prelude.{nat_eq}
 use Rattle.std.specs.List.{IsDistinct}
-use Rattle.std.specs.VecDeque.{deque_capacity}
 use Rattle.std.proofs.lemmas.Grind.{common_steps}
 use Rattle.awaiters.specs.Numbers.{IsMarked}
 use Rattle.awaiters.proofs.numbers.Numbers.new.Goals as goal

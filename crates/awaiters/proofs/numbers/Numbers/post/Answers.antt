@@ -1,7 +1,7 @@
-use Rattle.std.proofs.Common.{◌≡◌, ◌≤◌, ◌<◌, ◌++◌, ◌∷◌, [], ℕ, List, true, false, sym, subst, length, arith, rules}
-use Rattle.std.specs.Prelude.{nat_eq, slice_index_or, slice_set}
-use Rattle.std.specs.List.{IsDistinct, list_any}
-use Rattle.std.specs.VecDeque.{deque_capacity, deque_len}
+use Rattle.std.proofs.Common.{◌≤◌, ℕ, List, true, sym, subst, length, arith}
+use Rattle.std.specs.Prelude.{nat_eq, slice_set}
+use Rattle.std.specs.List.{IsDistinct}
+use Rattle.std.specs.VecDeque.{deque_capacity}
 use Rattle.std.proofs.lemmas.Grind.{common_steps}
 use Rattle.awaiters.specs.Numbers.{IsMarked}
 use Rattle.awaiters.proofs.numbers.Numbers.post.Goals as goal

@@ -1,4 +1,4 @@
-use Rattle.std.proofs.Common.{◌≡◌, ◌≤◌, ◌<◌, ◌∷◌, false, subst, length, arith, rules}
+use Rattle.std.proofs.Common.{◌≤◌, subst, length, arith}
 use Rattle.std.specs.Prelude.{nat_eq}
 use Rattle.std.specs.List.{IsDistinct}
 use Rattle.std.specs.VecDeque.{deque_capacity}
