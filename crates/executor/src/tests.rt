@@ -146,17 +146,24 @@ fn spawn_all<'d, R: Wait + Drop + Copy>(
     true
 }
 
+fn works<'d, R: Wait + Drop + Copy>(pool: &Pool<R, Job<'d>, Nobody>, worker: usize) -> bool {
+    pool.run(worker).is_ok()
+}
+
+fn works_at_waits<'d, R: Wait + Drop + Copy>(
+    pool: &Pool<R, Waits<'d, R>, Nobody>,
+    worker: usize,
+) -> bool {
+    pool.run(worker).is_ok()
+}
+
 // Runs all workers of the pool, each on a thread of its own, until the pool is shut down. False where one could not begin.
 fn run_all<'d, R>(rt: R, alloc: Global, pool: &Pool<R, Job<'d>, Nobody>) -> bool
 where
     R: Wait + Threads + Drop + Copy + Send + Sync,
 {
-    let Ok(began) = thread::map_indices(
-        &rt,
-        alloc,
-        pool.workers(),
-        &|worker| pool.run(worker).is_ok(),
-    ) else {
+    let Ok(began) = thread::map_indices(&rt, alloc, pool.workers(), &|worker| works(pool, worker))
+    else {
         return false;
     };
     began.iter().all(|began| *began)
@@ -212,7 +219,8 @@ impl<'x, 'd, R: Wait + Drop + Copy> Future<PoolWaker<'x, R, Waits<'d, R>, Nobody
         self.key = place_for_waker(pool);
         if let Some(key) = &self.key {
             if keep_waker(waker, key) {
-                self.number.store(key.number() as u64 + 1, Ordering::SeqCst);
+                self.number
+                    .store((key.number() as u64).wrapping_add(1), Ordering::SeqCst);
             }
         }
         Poll::Pending
@@ -275,7 +283,7 @@ where
             &rt,
             alloc,
             pool.workers(),
-            &|worker| pool.run(worker).is_ok(),
+            &|worker| works_at_waits(pool, worker),
         )
         .is_ok(),
         || wake_once(rt, pool, number),
