@@ -1,7 +1,7 @@
 -- What the looks of a poll and the steps of a registering come to for the party that made them.
 use Rattle.std.proofs.Common.{◌≡◌, ℕ, ◌+◌, Bool, true, false, not, ◌&&◌, ◌||◌, Option, Some, None, List, [], ◌∷◌, refl, sym, ap, ◌∙◌, subst, map, is_some}
 use Rattle.std.specs.Prelude.{if◌then◌else◌, Result, Ok, Err, IfOk, IfErr}
-use Rattle.atomic_table.specs.Table.{Me, rest}
+use Rattle.atomic_table.specs.Table.{Me}
 use Rattle.task_core.specs.Word.{State, number_of}
 use Rattle.task_core.specs.Rows.{written, row as row_of}
 use Rattle.task_laws.specs.declared.positions.Position.{Position}

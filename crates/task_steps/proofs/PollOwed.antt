@@ -14,7 +14,7 @@ use Rattle.task_laws.specs.declared.positions.NotifyingCall.TheVariants.{OfPoll,
 use Rattle.task_laws.specs.declared.positions.Position.TheVariants.{At, Notifier, Looking, SawOutput, TookOutput, Answering, Registrar, HasClone, UnusedClone, Storing, Registered, OldAwaiterInHand, TookBack, CloneInHand}
 use Rattle.task_laws.specs.declared.positions.Rest.TheVariants.{Task}
 use Rattle.task_core.specs.declared.acts.Act.{Act}
-use Rattle.task_core.specs.declared.acts.Act.TheVariants.{Look, ClaimOutput, CloneAwaiter, StoreAwaiter, TakeAwaiter, BeginRegister, EndRegister, EndRegisterNotified, EndCall}
+use Rattle.task_core.specs.declared.acts.Act.TheVariants.{Look, ClaimOutput, CloneAwaiter, StoreAwaiter, BeginRegister, EndRegister, EndRegisterNotified, EndCall}
 use Rattle.task_laws.specs.Table.{Slots, leaves_slots, changes_slots, when, where_found, notifies, first_look, second_look, after_storing}
 use Rattle.task_laws.specs.Machine.{Machine, scene}
 use Rattle.task_laws.specs.Laws.{count, is_emptying, is_task_poll}

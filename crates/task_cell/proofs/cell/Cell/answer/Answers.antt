@@ -1,4 +1,4 @@
-use Rattle.std.proofs.Common.{◌∷◌, [], sym, ◌∙◌, refl}
+use Rattle.std.proofs.Common.{◌∷◌, [], sym, ◌∙◌}
 use Rattle.std.specs.Prelude.{Ok, Err}
 use Rattle.task_laws.specs.declared.positions.NotifyingCall.TheVariants.{OfPoll}
 use Rattle.task_laws.specs.declared.positions.Position.TheVariants.{Notifier}
