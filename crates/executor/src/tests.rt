@@ -5,11 +5,11 @@ use crate::kept::{keep_waker, place_for_waker, wake_kept};
 use crate::pool::{Pool, PoolWaker};
 use async_task::{Future, Poll, TaskPoll, Wake, Yields};
 use handle_store::Key;
-use std::alloc::Global;
-use std::sync::Wait;
+use std::alloc::{AllocError, Global};
 use std::sync::atomic::{AtomicU64, Ordering};
+use std::sync::{Arc, Wait};
 use std::test::Fail;
-use std::thread::{self, Threads};
+use std::thread;
 
 /// An awaiter that wakes nobody.
 #[derive(Drop)]
@@ -37,29 +37,30 @@ impl Wake for Nobody {
     }
 }
 
-/// What the tasks of a program count together, and when it is over.
+/// What the tasks of a program count together, and when it is over. A child that was refused memory counts as `refused`.
 #[derive(Drop)]
 struct Counts {
     done: AtomicU64,
+    refused: AtomicU64,
     wanted: u64,
 }
 
 /// A future that gives way `left` times, spawns two more of `depth` less, counts one, and ends the pool with the last.
 #[derive(Drop)]
-struct Job<'d> {
+struct Job {
     left: u64,
     depth: u64,
-    counts: &'d Counts,
+    counts: Arc<Counts>,
 }
 
-impl<'d> Yields for Job<'d> {
+impl Yields for Job {
     type Output = u64;
 }
 
-impl<'x, 'd, R: Wait + Drop + Copy> Future<PoolWaker<'x, R, Job<'d>, Nobody>> for Job<'d> {
+impl<'x, R: Wait + Drop + Copy> Future<PoolWaker<'x, R, Job, Nobody>> for Job {
     ghost polled = { λ _ _ _ _. ⊤ };
 
-    fn poll(&mut self, waker: &PoolWaker<'x, R, Job<'d>, Nobody>) -> Poll<u64> {
+    fn poll(&mut self, waker: &PoolWaker<'x, R, Job, Nobody>) -> Poll<u64> {
         if self.left > 0 {
             self.left -= 1;
             waker.wake_by_ref();
@@ -68,13 +69,9 @@ impl<'x, 'd, R: Wait + Drop + Copy> Future<PoolWaker<'x, R, Job<'d>, Nobody>> fo
         let (pool, worker) = waker.around();
         if self.depth > 0 {
             for _ in 0..2 {
-                let child = Job {
-                    left: 1,
-                    depth: self.depth - 1,
-                    counts: self.counts,
-                };
-                if let Ok(task) = pool.spawn_on(worker, child) {
-                    task.detach();
+                if !spawn_child(pool, worker, self.depth - 1, &self.counts) {
+                    self.counts.refused.fetch_add(1, Ordering::SeqCst);
+                    pool.shutdown();
                 }
             }
         }
@@ -86,53 +83,59 @@ impl<'x, 'd, R: Wait + Drop + Copy> Future<PoolWaker<'x, R, Job<'d>, Nobody>> fo
     }
 }
 
-// What so many tasks counted, each of which gives way so often and is the root of a tree of tasks.
-fn counted<R>(
-    rt: R,
-    alloc: Global,
-    threads: usize,
-    tasks: u64,
-    left: u64,
+// False where there was no memory for the task.
+fn spawn_child<R: Wait + Drop + Copy>(
+    pool: &Pool<R, Job, Nobody>,
+    worker: usize,
     depth: u64,
-) -> Option<u64>
-where
-    R: Wait + Threads + Drop + Copy + Send + Sync,
-{
+    counts: &Arc<Counts>,
+) -> bool {
+    let Ok(counts) = Arc::try_clone(counts) else {
+        return false;
+    };
+    let child = Job {
+        left: 1,
+        depth,
+        counts,
+    };
+    match pool.spawn_on(worker, child) {
+        Ok(task) => {
+            task.detach();
+            true
+        }
+        Err(_) => false,
+    }
+}
+
+// What so many tasks count together, each of which is the root of a tree of tasks.
+fn counts_of(alloc: Global, tasks: u64, depth: u64) -> Option<Arc<Counts>> {
     let counts = Counts {
         done: AtomicU64::new(0),
+        refused: AtomicU64::new(0),
         wanted: tasks.wrapping_mul((2 << (depth % 32)) - 1),
     };
-    let ended = played(rt, alloc, threads, (tasks, left, depth), &counts);
-    if ended {
+    Arc::new(alloc, counts).ok()
+}
+
+// How many tasks have ended. `None` where one was refused memory.
+fn ended(counts: &Arc<Counts>) -> Option<u64> {
+    if counts.refused.load(Ordering::SeqCst) == 0 {
         Some(counts.done.load(Ordering::SeqCst))
     } else {
         None
     }
 }
 
-fn played<'d, R>(
-    rt: R,
-    alloc: Global,
-    threads: usize,
+fn spawn_all<R: Wait + Drop + Copy>(
+    pool: &Pool<R, Job, Nobody>,
     size: (u64, u64, u64),
-    counts: &'d Counts,
-) -> bool
-where
-    R: Wait + Threads + Drop + Copy + Send + Sync,
-{
-    let Ok(pool) = Pool::<R, Job<'d>, Nobody>::new(rt, alloc, threads) else {
-        return false;
-    };
-    spawn_all(&pool, size, counts) && run_all(rt, alloc, &pool)
-}
-
-fn spawn_all<'d, R: Wait + Drop + Copy>(
-    pool: &Pool<R, Job<'d>, Nobody>,
-    size: (u64, u64, u64),
-    counts: &'d Counts,
+    counts: &Arc<Counts>,
 ) -> bool {
     let (tasks, left, depth) = size;
     for _ in 0..tasks {
+        let Ok(counts) = Arc::try_clone(counts) else {
+            return false;
+        };
         let job = Job {
             left,
             depth,
@@ -146,71 +149,86 @@ fn spawn_all<'d, R: Wait + Drop + Copy>(
     true
 }
 
-fn works<'d, R: Wait + Drop + Copy>(pool: &Pool<R, Job<'d>, Nobody>, worker: usize) -> bool {
-    pool.run(worker).is_ok()
-}
-
-fn works_at_waits<'d, R: Wait + Drop + Copy>(
-    pool: &Pool<R, Waits<'d, R>, Nobody>,
-    worker: usize,
-) -> bool {
-    pool.run(worker).is_ok()
-}
-
-// Runs all workers of the pool, each on a thread of its own, until the pool is shut down. False where one could not begin.
-fn run_all<'d, R>(rt: R, alloc: Global, pool: &Pool<R, Job<'d>, Nobody>) -> bool
-where
-    R: Wait + Threads + Drop + Copy + Send + Sync,
-{
-    let Ok(began) = thread::map_indices(&rt, alloc, pool.workers(), &|worker| works(pool, worker))
-    else {
-        return false;
-    };
-    began.iter().all(|began| *began)
-}
-
 #[test]
 fn every_task_ends_on_one_thread(rt: HostRuntime) -> Result<(), Fail> {
-    assert!(rt; counted(rt, rt.alloc(), 1, 100, 3, 0) == Some(100));
+    let counts = counts_of(rt.alloc(), 100, 0).ok_or(AllocError)?;
+    let pool = Pool::<_, Job, Nobody>::new(rt, rt.alloc(), 1)?;
+    let spawned = spawn_all(&pool, (100, 3, 0), &counts);
+    let began = thread::map_indices(
+        &rt,
+        rt.alloc(),
+        pool.workers(),
+        &|worker| { pool.run(worker).is_ok() },
+    )?;
+    assert!(rt; spawned && began.iter().all(|began| *began));
+    assert!(rt; ended(&counts) == Some(100));
     Ok(())
 }
 
 #[test]
 fn every_task_ends_on_two_threads(rt: HostRuntime) -> Result<(), Fail> {
-    assert!(rt; counted(rt, rt.alloc(), 2, 100, 3, 0) == Some(100));
+    let counts = counts_of(rt.alloc(), 100, 0).ok_or(AllocError)?;
+    let pool = Pool::<_, Job, Nobody>::new(rt, rt.alloc(), 2)?;
+    let spawned = spawn_all(&pool, (100, 3, 0), &counts);
+    let began = thread::map_indices(
+        &rt,
+        rt.alloc(),
+        pool.workers(),
+        &|worker| { pool.run(worker).is_ok() },
+    )?;
+    assert!(rt; spawned && began.iter().all(|began| *began));
+    assert!(rt; ended(&counts) == Some(100));
     Ok(())
 }
 
 #[test]
 fn every_task_ends_on_four_threads(rt: HostRuntime) -> Result<(), Fail> {
-    assert!(rt; counted(rt, rt.alloc(), 4, 1000, 10, 0) == Some(1000));
+    let counts = counts_of(rt.alloc(), 1000, 0).ok_or(AllocError)?;
+    let pool = Pool::<_, Job, Nobody>::new(rt, rt.alloc(), 4)?;
+    let spawned = spawn_all(&pool, (1000, 10, 0), &counts);
+    let began = thread::map_indices(
+        &rt,
+        rt.alloc(),
+        pool.workers(),
+        &|worker| { pool.run(worker).is_ok() },
+    )?;
+    assert!(rt; spawned && began.iter().all(|began| *began));
+    assert!(rt; ended(&counts) == Some(1000));
     Ok(())
 }
 
 #[test]
 fn a_task_spawns_tasks(rt: HostRuntime) -> Result<(), Fail> {
-    // A tree of depth 7 has 255 tasks.
-    assert!(rt; counted(rt, rt.alloc(), 1, 1, 0, 7) == Some(255));
-    assert!(rt; counted(rt, rt.alloc(), 4, 4, 2, 7) == Some(1020));
+    // Four trees of depth 7, of 255 tasks each.
+    let counts = counts_of(rt.alloc(), 4, 7).ok_or(AllocError)?;
+    let pool = Pool::<_, Job, Nobody>::new(rt, rt.alloc(), 4)?;
+    let spawned = spawn_all(&pool, (4, 2, 7), &counts);
+    let began = thread::map_indices(
+        &rt,
+        rt.alloc(),
+        pool.workers(),
+        &|worker| { pool.run(worker).is_ok() },
+    )?;
+    assert!(rt; spawned && began.iter().all(|began| *began));
+    assert!(rt; ended(&counts) == Some(1020));
     Ok(())
 }
 
-/// A future that waits until another thread wakes it, and then ends the pool. Dropped before, it counts one.
+/// A future that waits until another thread wakes it, and then ends the pool. `number` is one more than the number under which its waker is kept.
 #[derive(Drop)]
-struct Waits<'d, R: Wait + Drop + Copy> {
+struct Waits<R: Wait + Drop + Copy> {
     key: Option<Key<R>>,
-    number: &'d AtomicU64,
+    number: Arc<AtomicU64>,
 }
 
-impl<'d, R: Wait + Drop + Copy> Yields for Waits<'d, R> {
+impl<R: Wait + Drop + Copy> Yields for Waits<R> {
     type Output = u64;
 }
 
-impl<'x, 'd, R: Wait + Drop + Copy> Future<PoolWaker<'x, R, Waits<'d, R>, Nobody>>
-    for Waits<'d, R> {
+impl<'x, R: Wait + Drop + Copy> Future<PoolWaker<'x, R, Waits<R>, Nobody>> for Waits<R> {
     ghost polled = { λ _ _ _ _. ⊤ };
 
-    fn poll(&mut self, waker: &PoolWaker<'x, R, Waits<'d, R>, Nobody>) -> Poll<u64> {
+    fn poll(&mut self, waker: &PoolWaker<'x, R, Waits<R>, Nobody>) -> Poll<u64> {
         let (pool, _) = waker.around();
         if self.key.is_some() {
             pool.shutdown();
@@ -227,73 +245,9 @@ impl<'x, 'd, R: Wait + Drop + Copy> Future<PoolWaker<'x, R, Waits<'d, R>, Nobody
     }
 }
 
-// What a task answers that another thread wakes once it waits.
-fn woken<R>(rt: R, alloc: Global, threads: usize) -> Option<u64>
-where
-    R: Wait + Threads + Drop + Copy + Send + Sync,
-{
-    let number = AtomicU64::new(0);
-    woken_at(rt, alloc, threads, &number)
-}
-
-fn woken_at<'d, R>(rt: R, alloc: Global, threads: usize, number: &'d AtomicU64) -> Option<u64>
-where
-    R: Wait + Threads + Drop + Copy + Send + Sync,
-{
-    let Ok(pool) = Pool::<R, Waits<'d, R>, Nobody>::new(rt, alloc, threads) else {
-        return None;
-    };
-    answer_of(rt, alloc, &pool, number)
-}
-
-fn answer_of<'d, R>(
+fn wake_once<R: Wait + Drop + Copy>(
     rt: R,
-    alloc: Global,
-    pool: &Pool<R, Waits<'d, R>, Nobody>,
-    number: &'d AtomicU64,
-) -> Option<u64>
-where
-    R: Wait + Threads + Drop + Copy + Send + Sync,
-{
-    let waits = Waits { key: None, number };
-    let Ok(mut task) = pool.spawn(waits) else {
-        return None;
-    };
-    if !run_beside_a_wake(rt, alloc, pool, number) {
-        return None;
-    }
-    match task.poll(&Nobody) {
-        TaskPoll::Ready(Ok(answer)) => Some(answer),
-        _ => None,
-    }
-}
-
-fn run_beside_a_wake<'d, R>(
-    rt: R,
-    alloc: Global,
-    pool: &Pool<R, Waits<'d, R>, Nobody>,
-    number: &AtomicU64,
-) -> bool
-where
-    R: Wait + Threads + Drop + Copy + Send + Sync,
-{
-    let (began, woke) = thread::join(
-        &rt,
-        || thread::map_indices(
-            &rt,
-            alloc,
-            pool.workers(),
-            &|worker| works_at_waits(pool, worker),
-        )
-        .is_ok(),
-        || wake_once(rt, pool, number),
-    );
-    began && woke
-}
-
-fn wake_once<'d, R: Wait + Drop + Copy>(
-    rt: R,
-    pool: &Pool<R, Waits<'d, R>, Nobody>,
+    pool: &Pool<R, Waits<R>, Nobody>,
     number: &AtomicU64,
 ) -> bool {
     for _ in rt.forever() {
@@ -308,7 +262,25 @@ fn wake_once<'d, R: Wait + Drop + Copy>(
 
 #[test]
 fn another_thread_wakes_a_kept_waker(rt: HostRuntime) -> Result<(), Fail> {
-    assert!(rt; woken(rt, rt.alloc(), 1) == Some(7));
-    assert!(rt; woken(rt, rt.alloc(), 4) == Some(7));
+    let number = Arc::new(rt.alloc(), AtomicU64::new(0))?;
+    let pool = Pool::<_, Waits<_>, Nobody>::new(rt, rt.alloc(), 4)?;
+    let waits = Waits {
+        key: None,
+        number: Arc::try_clone(&number)?,
+    };
+    let mut task = pool.spawn(waits).ok().ok_or(AllocError)?;
+    let (began, woke) = thread::join(
+        &rt,
+        || thread::map_indices(
+            &rt,
+            rt.alloc(),
+            pool.workers(),
+            &|worker| { pool.run(worker).is_ok() },
+        ),
+        || wake_once(rt, &pool, &number),
+    );
+    assert!(rt; began?.iter().all(|began| *began));
+    assert!(rt; woke);
+    assert!(rt; matches!(task.poll(&Nobody), TaskPoll::Ready(Ok(7))));
     Ok(())
 }
