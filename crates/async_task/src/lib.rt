@@ -1,4 +1,8 @@
-//! A task for executors: the builder that spawns it, its Task, and what the cell hands out.
+//! A task for executors: the builder that spawns it, its Task, and the handles of the cell.
+//! It stands on the cell of `task_cell`.
+//! A user calls all of it: `spawn` and `Builder`, `Task`, `FallibleTask` and `Cancel`, `Runnable` and `TaskWaker`, and their parked forms.
+//! No call is public only to carry a claim.
+//! The pages are docs/GUIDE.md, docs/API.md and docs/RULES.md.
 #![tactic(auto)]
 
 pub mod builder;
@@ -13,5 +17,5 @@ pub use cancel::Cancel;
 pub use fallible::FallibleTask;
 pub use parked::ParkedTask;
 pub use task::{Task, TaskClosed};
-pub use task_cell::{Cell, Kept, ParkedRunnable, ParkedWaker, Party, Runnable, Share, TaskWaker};
+pub use task_cell::{ParkedRunnable, ParkedWaker, Runnable, TaskWaker};
 pub use task_core::{Future, Poll, Schedule, ScheduleInfo, TaskPoll, Wake, WithInfo, Yields};

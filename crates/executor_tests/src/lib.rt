@@ -1,4 +1,5 @@
 //! The tests of tasks under schedule values and surroundings of other kinds: a queue by priority, a slot, a heap, threads.
+//! It stands on `fixtures`, `priority_heap` and `benchmarks`. Nothing is public. The page is docs/ROWS.md.
 #![tactic(auto)]
 
 #[cfg(test)]

@@ -1,6 +1,6 @@
 //! A test of the calls of the cell itself.
 
-use async_task::{Cell, Kept, Party};
+use task_cell::{Cell, Kept, Party};
 use fixtures::counters::Counters;
 use fixtures::flag::Flag;
 use fixtures::future::{Behaviour, RowFuture};

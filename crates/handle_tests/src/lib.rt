@@ -1,4 +1,5 @@
 //! The tests of handles that no worked row makes: of the builder, of Tasks and wakers, and of the cell under them.
+//! It stands on `fixtures`. Nothing is public. The page is docs/ROWS.md.
 #![tactic(auto)]
 
 #[cfg(test)]

@@ -1,4 +1,8 @@
 //! A heap of parked Runnables, which hands out the one of greatest priority first.
+//! It stands on the Runnable of `task_cell`.
+//! A user calls `PriorityHeap`.
+//! Nothing is public only to carry a claim.
+//! The page is docs/GUIDE.md.
 #![tactic(auto)]
 
 pub mod heap;

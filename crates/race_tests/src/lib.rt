@@ -1,4 +1,5 @@
 //! The tests in which threads race: what they do to one task, round after round, must come to the same end in whatever order they come.
+//! It stands on `fixtures`. Nothing is public. The page is docs/ROWS.md.
 #![tactic(auto)]
 
 #[cfg(test)]

@@ -1,4 +1,5 @@
 //! The tests of the machine as a program: lives of a task, replayed, and each reason to refuse a step.
+//! It stands on `task_replay`. Nothing is public. The page is docs/TRACES.md.
 #![tactic(auto)]
 
 #[cfg(test)]

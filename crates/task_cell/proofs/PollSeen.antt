@@ -59,9 +59,9 @@ not_both w e f = by w.closed w.completed (w.scheduled || w.running) e f
     by true false b e f = absurd (cc)
     by false d b e f = absurd (cc)
 
-abbrev wrong : State → Result State State
-wrong w = Err w
+abbrev as_error : State → Result State State
+as_error w = Err w
 
 -- .. and a look that finds it going on contradicts one that saw it ended
-pub still_ended : {P : Type 0} (w : State) → (v : State) × (wrong w ≡ wrong v) × (has_ended v ≡ true) → has_ended w ≡ false → P
+pub still_ended : {P : Type 0} (w : State) → (v : State) × (as_error w ≡ as_error v) × (has_ended v ≡ true) → has_ended w ≡ false → P
 still_ended w x f = absurd (cc)

@@ -4,7 +4,7 @@ use Rattle.std.specs.Prelude.{if◌then◌else◌}
 use Rattle.task_core.specs.Word.{State, bit, is_open}
 use Rattle.task_core.specs.Rows.{found, written}
 use Rattle.task_laws.specs.declared.positions.Position.{Position}
-use Rattle.task_laws.specs.declared.positions.Position.TheVariants.{TookBack, SawOutput, OutputCloser, Detacher}
+use Rattle.task_laws.specs.declared.positions.Position.TheVariants.{SawOutput, OutputCloser, Detacher}
 use Rattle.task_core.specs.declared.acts.Act.{Act}
 use Rattle.task_laws.specs.Table.{Scene, Outcome, where_found, rule, goes}
 use Rattle.task_laws.proofs.Census.{Census, plus, weigh, census, runs, closers}
@@ -12,11 +12,7 @@ use Rattle.task_laws.proofs.Awaiting.{Awaiting, join, await, awaiting}
 use Rattle.task_laws.proofs.Scenes.{InEach}
 use Rattle.task_progress.specs.StepsLeft.{total}
 
--- a poll that has taken its clone out again; one that found the output there; a detach after it closed the task
-abbrev pub takes_back : Position → ℕ
-takes_back (TookBack i) = 1
-takes_back _ = 0
-
+-- a poll that found the output there; a detach after it closed the task
 abbrev pub claims : Position → ℕ
 claims (SawOutput i) = 1
 claims _ = 0
@@ -26,8 +22,7 @@ detaches OutputCloser = 1
 detaches Detacher = 1
 detaches _ = 0
 
-pub record ReliedOn (w : State) (back claimed detached : ℕ) : Type 0 where
-  pub takes : back ≡ 0 ⊎ (w.notifying ≡ true)
+pub record ReliedOn (w : State) (claimed detached : ℕ) : Type 0 where
   pub claims : claimed ≡ 0 ⊎ ((w.completed ≡ true) × (w.closed ≡ false))
   pub detaches : detached ≡ 0 ⊎ (w.closed ≡ true)
 
@@ -42,40 +37,39 @@ pub record Around (w : State) (c : Census) (b : Awaiting) : Type 0 where
   pub taking : b.run_takers + b.task_takers ≡ (if w.registering then 0 else bit w.notifying)
 
 -- a party that such a claim is about is the Task
-pub record CountedAsTask (c : Census) (b : Awaiting) (back claimed detached : ℕ) : Type 0 where
-  pub registers : back ≤ b.registering
+pub record CountedAsTask (c : Census) (b : Awaiting) (claimed detached : ℕ) : Type 0 where
   pub tasks : b.registering + claimed + detached ≤ c.tasks
 
-counted_as_task_one : (p : Position) → CountedAsTask (weigh p) (await 0 p) (takes_back p) (claims p) (detaches p)
+counted_as_task_one : (p : Position) → CountedAsTask (weigh p) (await 0 p) (claims p) (detaches p)
 counted_as_task_one p = grind arith
 
-pub counted_as_task : (ps : List Position) → CountedAsTask (census ps) (awaiting 0 ps) (total takes_back ps) (total claims ps) (total detaches ps)
+pub counted_as_task : (ps : List Position) → CountedAsTask (census ps) (awaiting 0 ps) (total claims ps) (total detaches ps)
 counted_as_task [] = grind arith
 counted_as_task (p ∷ ps) = let a = counted_as_task_one p in let b = counted_as_task ps in omega (arith, a, b)
 
-abbrev pub ReliedAfter : ℕ → ℕ → ℕ → Option Outcome → Type 0
-ReliedAfter back claimed detached None = Unit {0}
-ReliedAfter back claimed detached (Some left) = ReliedOn left.word (total takes_back (left.next ∷ left.born) + back) (total claims (left.next ∷ left.born) + claimed) (total detaches (left.next ∷ left.born) + detached)
+abbrev pub ReliedAfter : ℕ → ℕ → Option Outcome → Type 0
+ReliedAfter claimed detached None = Unit {0}
+ReliedAfter claimed detached (Some left) = ReliedOn left.word (total claims (left.next ∷ left.born) + claimed) (total detaches (left.next ∷ left.born) + detached)
 
 abbrev pub KeepsRelied : Act → Position → Scene → Type 0
-KeepsRelied act p scene = (rest : Census) (others : Awaiting) (back claimed detached : ℕ) → CountedAsTask rest others back claimed detached
+KeepsRelied act p scene = (rest : Census) (others : Awaiting) (claimed detached : ℕ) → CountedAsTask rest others claimed detached
     → Around scene.word (plus (weigh p) rest) (join (await 0 p) others)
-    → ReliedOn scene.word (takes_back p + back) (claims p + claimed) (detaches p + detached) → found scene.limit act scene.word ≡ true
-    → ReliedAfter back claimed detached (goes scene (written act scene.word) act p)
+    → ReliedOn scene.word (claims p + claimed) (detaches p + detached) → found scene.limit act scene.word ≡ true
+    → ReliedAfter claimed detached (goes scene (written act scene.word) act p)
 
 pub no_relied_row : (act : Act) (p : Position) → ((scene : Scene) (word : State) → goes scene word act p ≡ None) → InEach (KeepsRelied act p)
 no_relied_row act p none = record {
-  at = λ scene rest others back claimed detached counted_as_task around relied is_found. subst (ReliedAfter back claimed detached) (sym (none scene (written act scene.word))) tt;
+  at = λ scene rest others claimed detached counted_as_task around relied is_found. subst (ReliedAfter claimed detached) (sym (none scene (written act scene.word))) tt;
 }
 
-if_found : (back claimed detached : ℕ) (is_found : Bool) (left : Option Outcome) → (is_found ≡ true → ReliedAfter back claimed detached left)
-    → ReliedAfter back claimed detached (where_found is_found left)
-if_found back claimed detached is_found None kept = tt
-if_found back claimed detached true (Some left) kept = kept refl
-if_found back claimed detached false (Some left) kept = tt
+if_found : (claimed detached : ℕ) (is_found : Bool) (left : Option Outcome) → (is_found ≡ true → ReliedAfter claimed detached left)
+    → ReliedAfter claimed detached (where_found is_found left)
+if_found claimed detached is_found None kept = tt
+if_found claimed detached true (Some left) kept = kept refl
+if_found claimed detached false (Some left) kept = tt
 
-pub relied_by_rule : (act : Act) (p : Position) → InEach (KeepsRelied act p) → (scene : Scene) (rest : Census) (others : Awaiting) (back claimed detached : ℕ)
-    → CountedAsTask rest others back claimed detached → Around scene.word (plus (weigh p) rest) (join (await 0 p) others)
-    → ReliedOn scene.word (takes_back p + back) (claims p + claimed) (detaches p + detached) → ReliedAfter back claimed detached (rule scene act p)
-relied_by_rule act p row scene rest others back claimed detached counted_as_task around relied =
-    if_found back claimed detached (found scene.limit act scene.word) (goes scene (written act scene.word) act p) (row.at scene rest others back claimed detached counted_as_task around relied)
+pub relied_by_rule : (act : Act) (p : Position) → InEach (KeepsRelied act p) → (scene : Scene) (rest : Census) (others : Awaiting) (claimed detached : ℕ)
+    → CountedAsTask rest others claimed detached → Around scene.word (plus (weigh p) rest) (join (await 0 p) others)
+    → ReliedOn scene.word (claims p + claimed) (detaches p + detached) → ReliedAfter claimed detached (rule scene act p)
+relied_by_rule act p row scene rest others claimed detached counted_as_task around relied =
+    if_found claimed detached (found scene.limit act scene.word) (goes scene (written act scene.word) act p) (row.at scene rest others claimed detached counted_as_task around relied)

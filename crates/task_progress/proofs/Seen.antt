@@ -19,13 +19,13 @@ KeptIn w None = Unit {0}
 KeptIn w (Some left) = StaysAsSeen w left.word
 
 abbrev pub KeepsSeen : Act → Position → Scene → Type 0
-KeepsSeen act p scene = (rest : Census) (others : Awaiting) (back claimed detached : ℕ) → CountedAsTask rest others back claimed detached → (weigh p).tasks ≡ 0
+KeepsSeen act p scene = (rest : Census) (others : Awaiting) (claimed detached : ℕ) → CountedAsTask rest others claimed detached → (weigh p).tasks ≡ 0
     → Around scene.word (plus (weigh p) rest) (join (await 0 p) others) → found scene.limit act scene.word ≡ true
     → KeptIn scene.word (goes scene (written act scene.word) act p)
 
 pub no_other : (act : Act) (p : Position) → ((scene : Scene) (word : State) → goes scene word act p ≡ None) → InEach (KeepsSeen act p)
 no_other act p none = record {
-  at = λ scene rest others back claimed detached counted_as_task not_task around is_found. subst (KeptIn scene.word) (sym (none scene (written act scene.word))) tt;
+  at = λ scene rest others claimed detached counted_as_task not_task around is_found. subst (KeptIn scene.word) (sym (none scene (written act scene.word))) tt;
 }
 
 if_found : (w : State) (is_found : Bool) (left : Option Outcome) → (is_found ≡ true → KeptIn w left) → KeptIn w (where_found is_found left)
@@ -33,8 +33,8 @@ if_found w is_found None kept = tt
 if_found w true (Some left) kept = kept refl
 if_found w false (Some left) kept = tt
 
-pub seen_by_rule : (act : Act) (p : Position) → InEach (KeepsSeen act p) → (scene : Scene) (rest : Census) (others : Awaiting) (back claimed detached : ℕ)
-    → CountedAsTask rest others back claimed detached → (weigh p).tasks ≡ 0
+pub seen_by_rule : (act : Act) (p : Position) → InEach (KeepsSeen act p) → (scene : Scene) (rest : Census) (others : Awaiting) (claimed detached : ℕ)
+    → CountedAsTask rest others claimed detached → (weigh p).tasks ≡ 0
     → Around scene.word (plus (weigh p) rest) (join (await 0 p) others) → KeptIn scene.word (rule scene act p)
-seen_by_rule act p row scene rest others back claimed detached counted_as_task not_task around =
-    if_found scene.word (found scene.limit act scene.word) (goes scene (written act scene.word) act p) (row.at scene rest others back claimed detached counted_as_task not_task around)
+seen_by_rule act p row scene rest others claimed detached counted_as_task not_task around =
+    if_found scene.word (found scene.limit act scene.word) (goes scene (written act scene.word) act p) (row.at scene rest others claimed detached counted_as_task not_task around)

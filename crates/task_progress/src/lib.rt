@@ -1,4 +1,8 @@
 //! Progress of the machine: how many steps calls make, that none waits for another, and where they lead.
+//! It stands on the machine of `task_laws`.
+//! A user calls nothing of it: the contract of `progress` is the theorem.
+//! `wrong_tables` is public to show that two tables which spin or wait are refused.
+//! The page is docs/PROOFS.md.
 #![tactic(auto)]
 
 ghost use Rattle.task_progress.specs.StepsLeft.{OpenCallsBoundSteps, StepsAreBounded};

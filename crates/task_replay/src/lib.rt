@@ -1,4 +1,8 @@
 //! The machine of moves as a program: it plays a list of steps, and says where it stands and why a step is not allowed.
+//! It stands on `task_laws`, whose machine its contracts name.
+//! A user calls `replay`, or steps a `player` and asks `refusal` for the reason.
+//! Nothing is public only to carry a claim.
+//! The page is docs/TRACES.md.
 #![tactic(auto)]
 
 mod kind;

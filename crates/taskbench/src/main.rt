@@ -1,4 +1,5 @@
 //! The program that prints how long the operations of the benchmarks take, or does them alone for those who count what they do.
+//! docs/PERFORMANCE.md says how.
 #![tactic(auto)]
 
 mod asked;

@@ -1,4 +1,4 @@
-//! The program that runs the worked rows.
+//! The program that runs the worked rows. docs/ROWS.md says what it prints.
 #![tactic(auto)]
 
 use row_table::rows::rows;

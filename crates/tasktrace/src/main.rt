@@ -1,4 +1,4 @@
-//! Plays the steps that it reads from standard input, and prints how the task stands after each.
+//! The program that plays the steps that it reads from standard input, and prints how the task stands after each. docs/TRACES.md says how.
 #![tactic(auto)]
 
 use std::io::{BufReader, BufWriter};
