@@ -41,9 +41,9 @@ pub fn keep_waker<'x, R: Wait + Drop + Copy, F: Yields, A: Wake>(
     let before = place
         .0
         .wakers
-        .put(&place.0.rt, key.number(), clone.park().unpark(()));
+        .put(&place.0.rt, key.number(), clone.with_around(()));
     if let Some(before) = before {
-        drop(before.park().unpark(place));
+        drop(before.with_around(place));
     }
     true
 }
@@ -55,7 +55,7 @@ pub fn wake_kept<'x, R: Wait + Drop + Copy, F: Yields, A: Wake>(
 ) -> bool {
     match place.0.wakers.take(&place.0.rt, number) {
         Some(waker) => {
-            waker.park().unpark(place).wake();
+            waker.with_around(place).wake();
             true
         }
         None => false,
@@ -78,9 +78,9 @@ pub fn keep_task<'x, R: Wait + Drop + Copy, F: Yields, A: Wake>(
     let before = place
         .0
         .tasks
-        .put(&place.0.rt, key.number(), task.park().unpark(()));
+        .put(&place.0.rt, key.number(), task.with_around(()));
     if let Some(before) = before {
-        drop(before.park().unpark(place));
+        drop(before.with_around(place));
     }
 }
 
@@ -91,7 +91,7 @@ pub fn poll_kept<'x, R: Wait + Drop + Copy, F: Yields, A: Wake>(
     awaiter: &A,
 ) -> Option<TaskPoll<Result<F::Output, async_task::TaskClosed>>> {
     let kept = place.0.tasks.take(&place.0.rt, key.number())?;
-    let mut task = kept.park().unpark(place);
+    let mut task = kept.with_around(place);
     let answer = task.poll(awaiter);
     if !matches!(answer, TaskPoll::Ready(_)) {
         keep_task(task, key);
@@ -109,7 +109,7 @@ fn collect_wakers<'x, R: Wait + Drop + Copy, F: Yields, A: Wake>(place: Place<'x
     let pool = place.0;
     for _ in pool.rt.forever() {
         match pool.wakers.collect(&pool.rt) {
-            Some(Some(waker)) => drop(waker.park().unpark(place)),
+            Some(Some(waker)) => drop(waker.with_around(place)),
             Some(None) => {}
             None => return,
         }
@@ -120,7 +120,7 @@ fn collect_tasks<'x, R: Wait + Drop + Copy, F: Yields, A: Wake>(place: Place<'x,
     let pool = place.0;
     for _ in pool.rt.forever() {
         match pool.tasks.collect(&pool.rt) {
-            Some(Some(task)) => drop(task.park().unpark(place)),
+            Some(Some(task)) => drop(task.with_around(place)),
             Some(None) => {}
             None => return,
         }

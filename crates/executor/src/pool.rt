@@ -48,20 +48,6 @@ pub struct Turns<R: Wait + Drop + Copy, F: Yields, A: Wake> {
 #[derive(Drop)]
 pub struct ToPool;
 
-// The Runnable as it carries another place. All changes of surroundings are made here.
-fn queued<R: Wait + Drop + Copy, F: Yields, A: Wake>(
-    runnable: PoolRunnable<'_, R, F, A>,
-) -> Queued<R, F, A> {
-    runnable.park().unpark(())
-}
-
-fn placed<'x, R: Wait + Drop + Copy, F: Yields, A: Wake>(
-    runnable: Queued<R, F, A>,
-    place: Place<'x, R, F, A>,
-) -> PoolRunnable<'x, R, F, A> {
-    runnable.park().unpark(place)
-}
-
 impl<'x, R: Wait + Drop + Copy, F: Yields, A: Wake> Schedule<PoolRunnable<'x, R, F, A>> for ToPool {
     ghost scheduled = { λ _ _ _. ⊤ };
 
@@ -72,7 +58,7 @@ impl<'x, R: Wait + Drop + Copy, F: Yields, A: Wake> Schedule<PoolRunnable<'x, R,
             drop(runnable);
             return;
         }
-        drop(pool.crew.push(&pool.rt, worker, queued(runnable)));
+        drop(pool.crew.push(&pool.rt, worker, runnable.with_around(())));
     }
 }
 
@@ -139,7 +125,7 @@ impl<R: Wait + Drop + Copy, F: Yields, A: Wake> Pool<R, F, A> {
     {
         match self.crew.find(&self.rt, &mut turns.worker) {
             Some(runnable) => {
-                placed(runnable, (self, turns.worker.number())).run();
+                runnable.with_around((self, turns.worker.number())).run();
                 true
             }
             None => false,

@@ -3,39 +3,14 @@ ghost use Rattle.std.specs.Prelude.{⊤};
 
 use crate::kept::{keep_waker, place_for_waker, wake_kept};
 use crate::pool::{Pool, PoolWaker};
-use async_task::{Future, Poll, TaskPoll, Wake, Yields};
+use async_task::{Future, Poll, TaskPoll, Yields};
+use awaiters::Nobody;
 use handle_store::Key;
 use std::alloc::{AllocError, Global};
 use std::sync::atomic::{AtomicU64, Ordering};
 use std::sync::{Arc, Wait};
 use std::test::Fail;
 use std::thread;
-
-/// An awaiter that wakes nobody.
-#[derive(Drop)]
-struct Nobody;
-
-impl Wake for Nobody {
-    ghost woken = { λ _. ⊤ };
-
-    ghost woken_by_ref = { λ _. ⊤ };
-
-    ghost cloned = { λ _ _. ⊤ };
-
-    ghost compared = { λ _ _ _. ⊤ };
-
-    fn wake(self) {}
-
-    fn wake_by_ref(&self) {}
-
-    fn try_clone(&self) -> Option<Nobody> {
-        Some(Nobody)
-    }
-
-    fn will_wake(&self, _other: &Nobody) -> bool {
-        true
-    }
-}
 
 /// What the tasks of a program count together, and when it is over. A child that was refused memory counts as `refused`.
 #[derive(Drop)]
