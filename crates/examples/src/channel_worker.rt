@@ -70,7 +70,7 @@ impl<R: Wait + Drop + Copy> Line<R> {
         }
     }
 
-    // Spawns a task, waits for its output, and ends the worker.
+    // Spawns a task, and waits for its output.
     fn ask(&self, alloc: Global, number: u64) -> Option<u64> {
         let future = Square {
             number,
@@ -79,7 +79,12 @@ impl<R: Wait + Drop + Copy> Line<R> {
         let (runnable, task) = spawn(self.rt, alloc, future, ToWorker, self).ok()?;
         let mut task: Task<_, _, _, _, Awaiter<R>, _> = task;
         runnable.schedule();
-        let answer = block_on(self.rt, alloc, &mut task).ok();
+        block_on(self.rt, alloc, &mut task).ok()
+    }
+
+    // Asks, and ends the worker, also where there was no answer.
+    fn ask_once(&self, alloc: Global, number: u64) -> Option<u64> {
+        let answer = self.ask(alloc, number);
         drop(self.sender.send(&self.rt, None));
         answer
     }
@@ -97,6 +102,6 @@ pub fn square_of<R: Wait + Threads + Drop + Copy + Send + Sync>(
         sender,
         receiver,
     };
-    let (_, answer) = thread::join(&rt, || line.work(), || line.ask(alloc, number));
+    let (_, answer) = thread::join(&rt, || line.work(), || line.ask_once(alloc, number));
     answer
 }
