@@ -1,0 +1,37 @@
+//! What users of the library look for, each in a file of its own: the program runs them in turn, and prints what they answer.
+#![tactic(auto)]
+
+mod borrowed;
+mod channel_worker;
+mod cleanup;
+mod last;
+mod new_thread;
+mod priorities;
+mod two_kinds;
+
+use std::io;
+use two_kinds::Kind;
+
+fn main(rt: HostRuntime) -> io::Result<()> {
+    let alloc = rt.alloc();
+    println!(rt; "borrowed: {:?}", borrowed::sum_of(rt, alloc, &[3, 5, 8]))?;
+    println!(rt; "cleanup: {:?}", cleanup::free_permits(rt, alloc))?;
+    println!(rt; "new_thread: {:?}", new_thread::primes_below(rt, alloc, 30))?;
+    println!(rt;
+        "channel_worker: {:?}",
+        channel_worker::square_of(rt, alloc, 12)
+    )?;
+    println!(rt;
+        "priorities: {:?}",
+        priorities::order_of(rt, alloc, [2, 9, 5])
+    )?;
+    println!(rt;
+        "two_kinds: {:?}",
+        two_kinds::answer_of(rt, alloc, Kind::Sum(20, 22))
+    )?;
+    println!(rt;
+        "two_kinds: {:?}",
+        two_kinds::answer_of(rt, alloc, Kind::Bytes("seven bytes"))
+    )?;
+    Ok(())
+}
