@@ -1,0 +1,81 @@
+//! The awaiter that wakes a task of the kit.
+ghost use Rattle.std.specs.Prelude.{⊤, ◌≡◌, false, IfSome};
+ghost use Rattle.std.specs.Arc.{arc_value};
+ghost use Rattle.futures.specs.Task.{Hears, IsArmed, Keeps};
+
+use async_task::Wake;
+use futures::spin;
+use futures::task::{Context, Poll, Source, Waker};
+use std::alloc::{AllocError, Global};
+use std::sync::{Arc, Mutex};
+
+// Where the kit's waker lies until the task is over.
+#[derive(Drop)]
+struct Slot {
+    source: Source,
+    waker: Mutex<Option<Waker>>,
+}
+
+/// An awaiter whose wake takes the kit's waker that was registered last, and wakes it.
+#[derive(Drop)]
+pub struct KitAwaiter {
+    slot: Arc<Slot>,
+}
+
+impl KitAwaiter {
+    /// An awaiter with no waker yet. An `Err` says that memory was refused; nothing stays allocated then.
+    pub fn new(alloc: Global) -> Result<KitAwaiter, AllocError> {
+        let slot = Slot {
+            source: Source::new(),
+            waker: Mutex::new(None),
+        };
+        let slot = Arc::new(alloc, slot)?;
+        Ok(KitAwaiter { slot })
+    }
+
+    // Leaves the waker of the task that polls. `None` where the lock was not had, which no run sees.
+    pub(crate) fn register<T: Drop>(&self, cx: &mut Context<'_>) -> Option<Poll<T>>
+        ensures pending { IfSome result (λ poll. poll ≡ Poll.Pending) }
+        ensures armed { IfSome result (λ _. IsArmed cx.new) }
+        ensures heard { IfSome result (λ _. Hears cx.new (arc_value self.now.slot).source.id) }
+        ensures kept { Keeps cx.old cx.new }
+    {
+        let mut waker = spin::lock(&self.slot.waker)?;
+        Some(cx.register(&self.slot.source, &mut *waker))
+    }
+}
+
+impl Wake for KitAwaiter {
+    ghost woken = { λ _. ⊤ };
+
+    ghost woken_by_ref = { λ _. ⊤ };
+
+    ghost cloned = { λ awaiter clone. IfSome clone (λ other. arc_value other.slot ≡ arc_value awaiter.slot) };
+
+    ghost compared = { λ _ _ answer. answer ≡ false };
+
+    fn wake(self) {
+        self.wake_by_ref();
+    }
+
+    // The waker is woken after the lock is given back.
+    fn wake_by_ref(&self) {
+        let taken = match spin::lock(&self.slot.waker) {
+            Some(mut waker) => waker.take(),
+            None => None,
+        };
+        if let Some(waker) = taken {
+            waker.wake();
+        }
+    }
+
+    fn try_clone(&self) -> Option<KitAwaiter> {
+        let slot = Arc::try_clone(&self.slot).ok()?;
+        Some(KitAwaiter { slot })
+    }
+
+    // Two shares of a slot cannot be told to be of one: a wake too many polls the kit's task once more.
+    fn will_wake(&self, _other: &KitAwaiter) -> bool {
+        false
+    }
+}

@@ -1,0 +1,83 @@
+//! A Task that the kit's executors and combinators poll.
+ghost use Rattle.std.specs.Prelude.{◌≡◌, IfOk, IfErr};
+ghost use Rattle.std.specs.Arc.{arc_value};
+
+use crate::awaiter::KitAwaiter;
+use async_task::{Runnable, Schedule, Task, TaskPoll, Yields};
+use futures::Future;
+use futures::task::{Context, Poll};
+use std::alloc::{Allocator, Global};
+use std::sync::Wait;
+
+/// Why an `Awaits` has no output.
+#[derive(Clone, Copy, Debug, PartialEq, Eq)]
+pub enum AwaitError {
+    /// The task is closed: no output will come.
+    Closed,
+    /// The awaiter was refused a share of itself. The Task is as it was but for its polls, and may be polled again.
+    Refused,
+}
+
+/// A Task as a future of the kit. Dropped, it drops the Task, which cancels the task.
+#[derive(Drop)]
+pub struct Awaits<R: Wait + Drop, F: Yields, Q: Drop, M: Drop, X: Copy, B: Allocator = Global>
+where
+    Q: Schedule<Runnable<R, F, Q, M, KitAwaiter, X, B>>,
+{
+    task: Task<R, F, Q, M, KitAwaiter, X, B>,
+    awaiter: KitAwaiter,
+}
+
+impl<R: Wait + Drop, F: Yields, Q: Drop, M: Drop, X: Copy, B: Allocator> Awaits<R, F, Q, M, X, B>
+where
+    Q: Schedule<Runnable<R, F, Q, M, KitAwaiter, X, B>>,
+{
+    /// Wraps a Task. Its memory is taken here, from `alloc`, and no poll asks for more of it.
+    ///
+    /// An `Err` says that memory was refused, and hands the Task back as it was.
+    pub fn new(
+        alloc: Global,
+        task: Task<R, F, Q, M, KitAwaiter, X, B>,
+    ) -> Result<Awaits<R, F, Q, M, X, B>, Task<R, F, Q, M, KitAwaiter, X, B>>
+        ensures task { IfOk result (λ awaits. awaits.task ≡ task) }
+        ensures returned { IfErr result (λ refused. refused ≡ task) }
+    {
+        match KitAwaiter::new(alloc) {
+            Ok(awaiter) => Ok(Awaits { task, awaiter }),
+            Err(_) => Err(task),
+        }
+    }
+
+    /// Gives the Task back. An awaiter that a poll registered stays registered until the Task is polled again.
+    pub fn into_task(self) -> Task<R, F, Q, M, KitAwaiter, X, B>
+        ensures { result ≡ self.task }
+    {
+        let Awaits { task, awaiter: _ } = self;
+        task
+    }
+}
+
+impl<R: Wait + Drop, F: Yields, Q: Drop, M: Drop, X: Copy, B: Allocator> Future
+    for Awaits<R, F, Q, M, X, B>
+where
+    Q: Schedule<Runnable<R, F, Q, M, KitAwaiter, X, B>>,
+{
+    type Output = Result<F::Output, AwaitError>;
+
+    ghost needs = { λ awaits source. source ≡ (arc_value awaits.awaiter.slot).source.id };
+
+    ghost gives = { λ _ answer. IfOk answer (λ output. ∥ F.Yields.meets output ∥₁) };
+
+    // The kit's waker is registered before the Task is polled, so an end in between wakes it.
+    fn poll(&mut self, cx: &mut Context<'_>) -> Poll<Result<F::Output, AwaitError>> {
+        let Some(registered) = self.awaiter.register(cx) else {
+            return Poll::Ready(Err(AwaitError::Refused));
+        };
+        match self.task.poll(&self.awaiter) {
+            TaskPoll::Ready(Ok(output)) => Poll::Ready(Ok(output)),
+            TaskPoll::Ready(Err(_)) => Poll::Ready(Err(AwaitError::Closed)),
+            TaskPoll::Refused => Poll::Ready(Err(AwaitError::Refused)),
+            TaskPoll::Pending => registered,
+        }
+    }
+}
