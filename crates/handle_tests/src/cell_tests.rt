@@ -1,6 +1,5 @@
 //! A test of the calls of the cell itself.
 
-use task_cell::{Cell, Kept, Party};
 use fixtures::counters::Counters;
 use fixtures::flag::Flag;
 use fixtures::future::{Behaviour, RowFuture};
@@ -8,6 +7,7 @@ use fixtures::surroundings::{BareRunnable, Scheduler};
 use std::alloc::Global;
 use std::sync::Arc;
 use std::test::Fail;
+use task_cell::{Cell, Kept, Party};
 
 // A cell of the tests, and a party of it.
 type TestCell<R> = Cell<R, RowFuture, Scheduler, (), Flag, Global>;

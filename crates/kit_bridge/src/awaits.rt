@@ -32,7 +32,7 @@ impl<R: Wait + Drop, F: Yields, Q: Drop, M: Drop, X: Copy, B: Allocator> Awaits<
 where
     Q: Schedule<Runnable<R, F, Q, M, KitAwaiter, X, B>>,
 {
-    /// Wraps a Task. Its memory is taken here, from `alloc`, and no poll asks for more of it.
+    /// Wraps a Task. The memory of its awaiter is taken here, from `alloc`.
     ///
     /// An `Err` says that memory was refused, and hands the Task back as it was.
     pub fn new(
