@@ -10,8 +10,9 @@ use std::sync::Wait;
 
 /// A future that sums a slice.
 #[derive(Drop)]
-struct SumOf<'x> {
-    numbers: &'x [u64],
+pub struct SumOf<'x> {
+    /// What is summed.
+    pub numbers: &'x [u64],
 }
 
 impl<'x> Yields for SumOf<'x> {

@@ -6,6 +6,7 @@ mod channel_worker;
 mod cleanup;
 mod last;
 mod new_thread;
+mod parallel_sum;
 mod priorities;
 mod two_kinds;
 
@@ -24,6 +25,10 @@ fn main(rt: HostRuntime) -> io::Result<()> {
     println!(rt;
         "priorities: {:?}",
         priorities::order_of(rt, alloc, [2, 9, 5])
+    )?;
+    println!(rt;
+        "parallel_sum: {:?}",
+        parallel_sum::sum_in_two(rt, alloc, &[1, 2, 3, 4, 5])
     )?;
     println!(rt;
         "two_kinds: {:?}",

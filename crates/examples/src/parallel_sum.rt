@@ -1,0 +1,39 @@
+//! A parallel sum with a group: each half of a slice is a task of its own, and runs on a thread of its own.
+//! The group hands the tasks out as they end; the sum is the same in whatever order that is.
+ghost use Rattle.std.specs.Prelude.{⊤};
+
+use crate::borrowed::SumOf;
+use crate::last::DropsRunnables;
+use async_task::spawn;
+use std::alloc::Global;
+use std::sync::Wait;
+use std::thread::{self, Threads};
+use task_group::TaskGroup;
+
+type Sums<'x, R> = TaskGroup<R, SumOf<'x>, DropsRunnables, (), ()>;
+
+// The sum of what both members of the group answer.
+fn total<R: Wait + Drop + Copy>(mut group: Sums<'_, R>) -> Option<u64> {
+    let mut total = 0u64;
+    for _ in 0..2 {
+        let ended = group.next().ok()??;
+        total = total.wrapping_add(ended.answer.ok()?);
+    }
+    Some(total)
+}
+
+/// The sum of these numbers, in two tasks. `None` where there is no memory.
+pub fn sum_in_two<R: Wait + Threads + Drop + Copy + Send + Sync>(
+    rt: R,
+    alloc: Global,
+    numbers: &[u64],
+) -> Option<u64> {
+    let (left, right) = numbers.split_at(numbers.len() / 2);
+    let mut group: Sums<'_, R> = TaskGroup::new(rt, alloc, 2).ok()?;
+    let (first, left) = spawn(rt, alloc, SumOf { numbers: left }, DropsRunnables, ()).ok()?;
+    let (second, right) = spawn(rt, alloc, SumOf { numbers: right }, DropsRunnables, ()).ok()?;
+    group.push(left).ok()?;
+    group.push(right).ok()?;
+    thread::join(&rt, move || first.run(), move || second.run());
+    total(group)
+}
