@@ -2,6 +2,7 @@
 ghost use Rattle.std.specs.Prelude.{⊤, ◌≡◌, false, IfSome};
 ghost use Rattle.std.specs.Arc.{arc_value};
 ghost use Rattle.futures.specs.Task.{Hears, IsArmed, Keeps};
+ghost use Rattle.kit_bridge.specs.Answers.{SharesSlot};
 
 use async_task::Wake;
 use futures::spin;
@@ -50,7 +51,7 @@ impl Wake for KitAwaiter {
 
     ghost woken_by_ref = { λ _. ⊤ };
 
-    ghost cloned = { λ awaiter clone. IfSome clone (λ other. arc_value other.slot ≡ arc_value awaiter.slot) };
+    ghost cloned = { SharesSlot };
 
     ghost compared = { λ _ _ answer. answer ≡ false };
 

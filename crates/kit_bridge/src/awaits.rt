@@ -1,6 +1,11 @@
 //! A Task that the kit's executors and combinators poll.
-ghost use Rattle.std.specs.Prelude.{◌≡◌, IfOk, IfErr};
+ghost use Rattle.std.specs.Prelude.{◌≡◌, ◌⊎◌, true, IfOk, IfErr};
 ghost use Rattle.std.specs.Arc.{arc_value};
+ghost use Rattle.futures.specs.Poll.{IfReady, OnPending};
+ghost use Rattle.futures.specs.Task.{Covers, Keeps};
+ghost use Rattle.task_steps.specs.Steps.{saw_ended};
+ghost use Rattle.task_cell.specs.Calls.{deeds};
+ghost use Rattle.kit_bridge.specs.Answers.{PollsTask};
 
 use crate::awaiter::KitAwaiter;
 use async_task::{Runnable, Schedule, Task, TaskPoll, Yields};
@@ -69,7 +74,17 @@ where
     ghost gives = { λ _ answer. IfOk answer (λ output. ∥ F.Yields.meets output ∥₁) };
 
     // The kit's waker is registered before the Task is polled, so an end in between wakes it.
-    fn poll(&mut self, cx: &mut Context<'_>) -> Poll<Result<F::Output, AwaitError>> {
+    fn poll(&mut self, cx: &mut Context<'_>) -> Poll<Result<F::Output, AwaitError>>
+        ensures value { IfReady result (λ answer. IfOk answer (λ output. ∥ F.Yields.meets output ∥₁)) }
+        ensures registered { OnPending result (Covers cx.new (λ source. source ≡ (arc_value self.new.awaiter.slot).source.id)) }
+        ensures kept { Keeps cx.old cx.new }
+        ensures answer { (result ≡ Poll.Ready (Err AwaitError.Refused)) ⊎ PollsTask self.old.awaiter self.old.task.inner.party self.new.task.inner.party result }
+        ensures ended { saw_ended (deeds self.old.task.inner.party) ≡ true → (result ≡ Poll.Ready (Err AwaitError.Closed)) ⊎ (result ≡ Poll.Ready (Err AwaitError.Refused)) }
+        ensures closed { result ≡ Poll.Ready (Err AwaitError.Closed) → saw_ended (deeds self.new.task.inner.party) ≡ true }
+        ensures awaiter { self.new.awaiter ≡ self.old.awaiter }
+        ensures cell { self.new.task.inner.share ≡ self.old.task.inner.share }
+        ensures around { self.new.task.around ≡ self.old.task.around }
+    {
         let Some(registered) = self.awaiter.register(cx) else {
             return Poll::Ready(Err(AwaitError::Refused));
         };

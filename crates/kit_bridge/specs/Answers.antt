@@ -1,0 +1,28 @@
+-- What a poll of an Awaits does, and answers by it.
+use Rattle.std.specs.Prelude.{◌≡◌, false, Option, Some, None, Result, Ok, Err, IfSome, ⊤}
+use Rattle.std.specs.Arc.{arc_value}
+use Rattle.futures.specs.declared.task.Poll.{Poll}
+use Rattle.futures.specs.declared.task.Poll.TheVariants.{Ready, Pending}
+use Rattle.task_core.specs.declared.traits.TaskPoll.{TaskPoll}
+use Rattle.task_core.specs.declared.traits.TaskPoll.TheVariants.{Pending as Waits, Ready as Ends, Refused as Refuses}
+use Rattle.task_cell.specs.declared.cell.Party.{Party}
+use Rattle.async_task.specs.HandlePaths.{PollsOnce}
+use Rattle.kit_bridge.specs.declared.awaiter.KitAwaiter.{KitAwaiter}
+use Rattle.kit_bridge.specs.declared.awaits.AwaitError.{AwaitError}
+use Rattle.kit_bridge.specs.declared.awaits.AwaitError.TheVariants.{Closed, Refused}
+
+-- a clone of an awaiter has its slot
+abbrev pub SharesSlot : KitAwaiter → Option KitAwaiter → Type 0
+SharesSlot awaiter clone = IfSome clone (λ other. arc_value other.slot ≡ arc_value awaiter.slot)
+
+-- the answer to the kit, by that of the Task, which is None where it is closed
+abbrev pub answered : {U : Type 0} → TaskPoll (Option U) → Poll (Result U AwaitError)
+answered (Ends (Some output)) = Ready (Ok output)
+answered (Ends None) = Ready (Err Closed)
+answered Refuses = Ready (Err Refused)
+answered Waits = Pending
+
+-- the Task is polled once with this awaiter, its party is p before and q after, and the kit is told the answer
+abbrev pub PollsTask : {F T U : Type 0} → KitAwaiter → Party F T KitAwaiter → Party F T KitAwaiter → Poll (Result U AwaitError) → Type 0
+PollsTask {U = U} awaiter p q answer =
+    (polled : TaskPoll (Option U)) × PollsOnce SharesSlot (λ _. ⊤) (λ _. ⊤) (λ _ _ same. same ≡ false) awaiter p q polled × (answer ≡ answered polled)
