@@ -78,7 +78,7 @@ where
         ensures value { IfReady result (λ answer. IfOk answer (λ output. ∥ F.Yields.meets output ∥₁)) }
         ensures registered { OnPending result (Covers cx.new (λ source. source ≡ (arc_value self.new.awaiter.slot).source.id)) }
         ensures kept { Keeps cx.old cx.new }
-        ensures answer { (result ≡ Poll.Ready (Err AwaitError.Refused)) ⊎ PollsTask self.old.awaiter self.old.task.inner.party self.new.task.inner.party result }
+        ensures answer { ((result ≡ Poll.Ready (Err AwaitError.Refused)) × (self.new.task ≡ self.old.task)) ⊎ PollsTask self.old.awaiter self.old.task.inner.party self.new.task.inner.party result }
         ensures ended { saw_ended (deeds self.old.task.inner.party) ≡ true → (result ≡ Poll.Ready (Err AwaitError.Closed)) ⊎ (result ≡ Poll.Ready (Err AwaitError.Refused)) }
         ensures closed { result ≡ Poll.Ready (Err AwaitError.Closed) → saw_ended (deeds self.new.task.inner.party) ≡ true }
         ensures awaiter { self.new.awaiter ≡ self.old.awaiter }
