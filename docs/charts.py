@@ -1,14 +1,12 @@
 #!/usr/bin/env python3
 """Draws word.svg, handshake.svg and life.svg from the table of moves. With --check it only compares them with the table.
 
-In both cases it compares the table of steps left in MACHINE.md with the definitions. These are read from the specs/ of crates/task_core, crates/task_laws
-and crates/task_progress and evaluated as they stand there. All that is stated here is where each state of the word stands in a picture, and who steps in a
-life of a task, and how.
+The definitions are read from the specs/ of crates/task_core, crates/task_laws and crates/task_progress and evaluated as they stand there. All that is
+stated here is where each state of the word stands in a picture, and who steps in a life of a task, and how.
 """
 
 import argparse
 import functools
-import itertools
 import math
 import operator
 import pathlib
@@ -17,10 +15,9 @@ import sys
 
 DOCUMENTS = pathlib.Path(__file__).resolve().parent
 CRATES = DOCUMENTS.parent / "crates"
-POSITION = "task_laws/specs/Position"
 FILES = (
-    "task_core/specs/Word", "task_core/specs/Rows", POSITION, "task_laws/specs/Table", "task_laws/specs/Machine",
-    "task_laws/specs/Theorem", "task_progress/specs/StepsLeft", "task_progress/specs/Waiting",
+    "task_core/specs/Word", "task_core/specs/Rows", "task_laws/specs/Position", "task_laws/specs/Table",
+    "task_laws/specs/Machine", "task_laws/specs/Theorem", "task_progress/specs/Waiting",
 )
 TOKEN = re.compile(r"0x[0-9a-fA-F_]+|\d+|\w+|\[\]|&&|\|\||\+\+|\S")
 PRECEDENCE = {"||": 1, "&&": 2, "∷": 3, "++": 3, "+": 4, "-": 4, "*": 5, "/": 5, "%": 5, "^": 6}
@@ -84,9 +81,6 @@ PRIMITIVES = {
 }
 # the limit for references, and how many polls the Task begins; limit 3 and 3 polls give the same arrows
 LIMIT, POLLS = 2, 2
-# the heads of the two tables of steps left, and the variables there of which no number depends
-POSITIONS, WAYS = "| Position | Steps left | Writes left |", "| `way` | Steps on the way | Steps off it | Writes on the way | Writes off it |"
-UNUSED = {"woken": False, "answer": 0, "i": 0, "n": 0}
 # sizes: a box, a letter and a line of text, how far opposite arrows bend, and the arrow to the start
 BOX, LETTER, LINE, BEND, MARK = (136, 96), 8.4, 17, 24, 36
 INK, OPEN, OVER = "#333333", "#dcebfa", "#e6e6e6"
@@ -605,49 +599,7 @@ class Life:
         return "\n".join([*lines, *self.below, *self.above, written((12, size[1] - 14), legend), "</svg>", ""])
 
 
-def rows_of(page, head):
-    """The cells of each row of the table of the page that has this head."""
-    lines = itertools.takewhile(lambda line: line.startswith("|"), page[page.index(head):].splitlines()[2:])
-    return [line.strip("| ").split(" | ") for line in lines]
-
-
-def agrees(definitions, kind, name, terms, way, numbers):
-    """Whether a sum of the table is what the definition comes to, on this way, with an awaiter in hand and without."""
-    for awaiters, hand in enumerate((("None",), ("Some", 1))):
-        position = definitions.evaluate(Parser(name).expression(), {**UNUSED, "way": way, "hand": hand})
-        values = {"hand": awaiters, "on": numbers[f"{kind}_on"], "off": numbers[f"{kind}_off"]}
-        number = sum(values[term] if term in values else int(term) for term in terms.split(" + "))
-        if definitions(f"{kind}_left", position) != number:
-            return False
-    return True
-
-
-def misstated(definitions, places):
-    """What the tables of steps left in MACHINE.md tell otherwise than the definitions, or do not tell of these positions and ways."""
-    page, ways = (DOCUMENTS / "MACHINE.md").read_text(encoding="utf-8"), {}
-    for names, *numbers in rows_of(page, WAYS):
-        for way in re.findall(r"`(\w+)[^`]*`", names):
-            ways[way, 0] = dict(zip(("steps_on", "steps_off", "writes_on", "writes_off"), map(int, numbers)))
-    told = {way[0] for way in ways}
-    for way, numbers in ways.items():
-        yield from (f"{name} of {way[0]}" for name, number in numbers.items() if definitions(name, way) != number)
-    for names, *columns in rows_of(page, POSITIONS):
-        names = re.findall(r"`([^`]*)`", names)
-        told.update(name.split()[0] for name in names)
-        for kind, column in zip(("steps", "writes"), columns):
-            sums = column.split(", ")
-            for name, terms in zip(names, sums if len(sums) > 1 else sums * len(names), strict=True):
-                if not all(agrees(definitions, kind, name, terms, *way) for way in ways.items()):
-                    yield f"{kind}_left of {name}"
-    yield from (f"{place} is missing" for place in sorted(set(places) - told))
-
-
-def variants(text, name):
-    """The constructors of this name that a file imports."""
-    return re.search(rf"\b{name}\.TheVariants\.\{{([^}}]*)\}}", text).group(1).split(", ")
-
-
-def pictures(definitions, acts):
+def pictures():
     """The text of each picture. Ends the program where a place has no state, a state no place, or a picture a fault."""
     texts = [(CRATES / f"{name}.antt").read_text(encoding="utf-8") for name in FILES]
     definitions = Definitions(texts)
@@ -668,16 +620,11 @@ def pictures(definitions, acts):
 
 
 def main():
-    """Writes the pictures, or compares them; compares the table of steps left."""
+    """Writes the pictures, or compares them."""
     arguments = argparse.ArgumentParser(description="Draws the charts of the word from the table of moves.")
     arguments.add_argument("--check", action="store_true", help="compare the charts, and write nothing")
     check, differs = arguments.parse_args().check, False
-    texts = [(CRATES / f"{name}.antt").read_text(encoding="utf-8") for name in FILES]
-    definitions, names = Definitions(texts), texts[FILES.index(POSITION)]
-    for fault in misstated(definitions, variants(names, "Position") + variants(names, "NotifyingCall")):
-        differs = True
-        print(f"MACHINE.md differs from the definitions: {fault}")
-    for path, text in list(pictures(definitions, variants(names, "Act"))):
+    for path, text in list(pictures()):
         if not check:
             path.write_text(text, encoding="utf-8")
         elif not path.exists() or path.read_text(encoding="utf-8") != text:

@@ -32,12 +32,12 @@ def agrees(path, typed):
 
 
 def lost_tests():
-    """The names in the last column of a table of API.md that are no test."""
+    """The names in the brackets at the end of a line of API.md that are no test."""
     texts = [path.read_text(encoding="utf-8") for path in (HERE / "crates").glob("*/src/**/*.rt")]
     tests = {name for text in texts for name in re.findall(r"#\[test\]\s+fn (\w+)", text)}
     lines = (HERE / "docs/API.md").read_text(encoding="utf-8").splitlines()
-    last = [line.split(" | ")[-1] for line in lines if line.startswith("| ")]
-    return [name for cell in last for name in re.findall(r"`(\w+)`", cell) if name not in tests]
+    last = [line.rsplit(" (", 1)[1] for line in lines if line.startswith("- ") and line.endswith(")")]
+    return [name for brackets in last for name in re.findall(r"`(\w+)`", brackets) if name not in tests]
 
 
 def main():
