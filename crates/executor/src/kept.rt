@@ -29,7 +29,7 @@ pub fn place_for_waker<R: Wait + Drop + Copy, F: Yields, A: Wake>(
     pool.wakers.reserve(pool.rt)
 }
 
-/// Keeps a clone of a waker at the place of a key, and drops what was there. False where the clone was refused; the place is as it was then.
+/// Keeps a clone of a waker at the place of a key, and drops what was there. False where the clone was refused; the place is as it was then. After a shutdown the waker is woken at once, which cancels its task.
 pub fn keep_waker<'x, R: Wait + Drop + Copy, F: Yields, A: Wake>(
     waker: &PoolWaker<'x, R, F, A>,
     key: &Key<R>,
@@ -44,6 +44,9 @@ pub fn keep_waker<'x, R: Wait + Drop + Copy, F: Yields, A: Wake>(
         .put(&place.0.rt, key.number(), clone.with_around(()));
     if let Some(before) = before {
         drop(before.with_around(place));
+    }
+    if place.0.is_shut_down() {
+        wake_kept(place, key.number());
     }
     true
 }
@@ -69,7 +72,7 @@ pub fn place_for_task<R: Wait + Drop + Copy, F: Yields, A: Wake>(
     pool.tasks.reserve(pool.rt)
 }
 
-/// Keeps a Task at the place of a key, and drops what was there, which cancels that task.
+/// Keeps a Task at the place of a key, and drops what was there, which cancels that task. After a shutdown the Task is dropped at once, too.
 pub fn keep_task<'x, R: Wait + Drop + Copy, F: Yields, A: Wake>(
     task: PoolTask<'x, R, F, A>,
     key: &Key<R>,
@@ -81,6 +84,9 @@ pub fn keep_task<'x, R: Wait + Drop + Copy, F: Yields, A: Wake>(
         .put(&place.0.rt, key.number(), task.with_around(()));
     if let Some(before) = before {
         drop(before.with_around(place));
+    }
+    if place.0.is_shut_down() {
+        drop_kept(place, key.number());
     }
 }
 
@@ -125,4 +131,27 @@ fn collect_tasks<'x, R: Wait + Drop + Copy, F: Yields, A: Wake>(place: Place<'x,
             None => return,
         }
     }
+}
+
+// Drops the Task at a place, which cancels its task.
+fn drop_kept<'x, R: Wait + Drop + Copy, F: Yields, A: Wake>(
+    place: Place<'x, R, F, A>,
+    number: usize,
+) {
+    if let Some(task) = place.0.tasks.take(&place.0.rt, number) {
+        drop(task.with_around(place));
+    }
+}
+
+// Cancels what is kept: after the shutdown a wake cancels its task.
+pub(crate) fn cancel_kept<'x, R: Wait + Drop + Copy, F: Yields, A: Wake>(
+    place: Place<'x, R, F, A>,
+) {
+    for number in 0..place.0.wakers.bound(&place.0.rt) {
+        wake_kept(place, number);
+    }
+    for number in 0..place.0.tasks.bound(&place.0.rt) {
+        drop_kept(place, number);
+    }
+    collect(place);
 }

@@ -1,7 +1,7 @@
 //! The pool: spawn, the turns of its workers, and the shutdown.
 ghost use Rattle.std.specs.Prelude.{⊤, ◌≡◌, IfOk, IfErr};
 
-use crate::kept::{KeptTask, KeptWaker, collect};
+use crate::kept::{KeptTask, KeptWaker, cancel_kept, collect};
 use async_task::{Future, Runnable, Schedule, ScheduleInfo, Task, TaskWaker, Wake, Yields, spawn};
 use handle_store::Store;
 use std::alloc::{AllocError, Global};
@@ -59,6 +59,10 @@ impl<'x, R: Wait + Drop + Copy, F: Yields, A: Wake> Schedule<PoolRunnable<'x, R,
             return;
         }
         drop(pool.crew.push(&pool.rt, worker, runnable.with_around(())));
+        // A shutdown meanwhile may have passed this queue already.
+        if pool.stopped.load(Ordering::SeqCst) {
+            pool.cancel_queue(worker);
+        }
     }
 }
 
@@ -107,10 +111,15 @@ impl<R: Wait + Drop + Copy, F: Yields, A: Wake> Pool<R, F, A> {
         }
     }
 
-    /// Ends the pool: each worker ends after the turn that it has, and Runnables are dropped from here on, which cancels their tasks.
+    /// Ends the pool: each worker ends after the turn that it has. From here on a task is cancelled where its Runnable is queued, or its waker or its Task is kept, and any other by its next wake.
     pub fn shutdown(&self) {
         self.stopped.store(true, Ordering::SeqCst);
         self.crew.bells().interrupt_all();
+        cancel_kept((self, self.workers()));
+        for queue in 0..self.workers() {
+            self.cancel_queue(queue);
+        }
+        self.cancel_queue(self.workers());
     }
 
     /// Whether the pool was shut down.
@@ -160,6 +169,16 @@ impl<R: Wait + Drop + Copy, F: Yields, A: Wake> Pool<R, F, A> {
     /// The bells of the workers. An awaiter may hold them, to have a sleeping worker look once more.
     pub fn bells(&self) -> &Arc<Bells> {
         self.crew.bells()
+    }
+
+    // Drops the Runnables of a queue, which cancels their tasks.
+    fn cancel_queue(&self, queue: usize) {
+        for _ in self.rt.forever() {
+            match self.crew.pop(&self.rt, queue) {
+                Some(runnable) => drop(runnable),
+                None => return,
+            }
+        }
     }
 
     fn cancel_all(&self, turns: &mut Turns<R, F, A>) {

@@ -259,3 +259,23 @@ fn another_thread_wakes_a_kept_waker(rt: HostRuntime) -> Result<(), Fail> {
     assert!(rt; matches!(task.poll(&Nobody), TaskPoll::Ready(Ok(7))));
     Ok(())
 }
+
+#[test]
+fn a_shutdown_cancels_a_task_that_waits(rt: HostRuntime) -> Result<(), Fail> {
+    let number = Arc::new(rt.alloc(), AtomicU64::new(0))?;
+    let pool = Pool::<_, Waits<_>, Nobody>::new(rt, rt.alloc(), 1)?;
+    let waits = Waits {
+        key: None,
+        number: Arc::try_clone(&number)?,
+    };
+    let mut task = pool.spawn(waits).ok().ok_or(AllocError)?;
+    let mut turns = pool.turns(0)?;
+    let ran = pool.tick(&mut turns);
+    let places = pool.wakers.len(&rt);
+    pool.shutdown();
+    let is_closed = matches!(task.poll(&Nobody), TaskPoll::Ready(Err(_)));
+    let left = (pool.wakers.len(&rt), Arc::strong_count(&number));
+    assert!(rt; ran && places == 1 && is_closed);
+    assert!(rt; left == (0, 1));
+    Ok(())
+}

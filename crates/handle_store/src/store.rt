@@ -95,6 +95,11 @@ impl<H: Drop> Store<H> {
         Some(places.try_remove(number).flatten())
     }
 
+    /// A number that is above those of all places there are.
+    pub fn bound<R: Wait>(&self, rt: &R) -> usize {
+        self.places.lock(rt).capacity()
+    }
+
     /// How many places have a key, or are not collected yet.
     pub fn len<R: Wait>(&self, rt: &R) -> usize {
         self.places.lock(rt).len()

@@ -96,7 +96,8 @@ impl<T> Crew<T> {
         Ok(())
     }
 
-    fn pop<R: Wait>(&self, rt: &R, queue: usize) -> Option<T> {
+    /// Takes the item at the front of a worker's queue, or, where there is no worker of this number, of the queue for what comes from outside. `None` where it is empty.
+    pub fn pop<R: Wait>(&self, rt: &R, queue: usize) -> Option<T> {
         let queue = queue.min(self.board.workers());
         let (item, woken) = self.board.pop(rt, queue);
         self.ring(woken);
