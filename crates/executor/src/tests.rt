@@ -1,7 +1,7 @@
 //! Programs of tasks on pools of one, two and four threads.
 ghost use Rattle.std.specs.Prelude.{⊤};
 
-use crate::kept::{keep_waker, place_for_waker, wake_kept};
+use crate::kept::{keep_task, keep_waker, place_for_task, place_for_waker, poll_kept, wake_kept};
 use crate::pool::{Pool, PoolWaker};
 use async_task::{Future, Poll, TaskPoll, Yields};
 use awaiters::Nobody;
@@ -277,5 +277,23 @@ fn a_shutdown_cancels_a_task_that_waits(rt: HostRuntime) -> Result<(), Fail> {
     let left = (pool.wakers.len(&rt), Arc::strong_count(&number));
     assert!(rt; ran && places == 1 && is_closed);
     assert!(rt; left == (0, 1));
+    Ok(())
+}
+
+#[test]
+fn a_shutdown_cancels_a_task_that_is_kept(rt: HostRuntime) -> Result<(), Fail> {
+    let number = Arc::new(rt.alloc(), AtomicU64::new(0))?;
+    let pool = Pool::<_, Waits<HostRuntime>, Nobody>::new(rt, rt.alloc(), 1)?;
+    let waits = Waits {
+        key: None,
+        number: Arc::try_clone(&number)?,
+    };
+    let task = pool.spawn(waits).ok().ok_or(AllocError)?;
+    let key = place_for_task(&pool).ok_or(AllocError)?;
+    keep_task(task, &key);
+    pool.shutdown();
+    let is_gone = poll_kept((&pool, 0), &key, &Nobody).is_none();
+    let left = Arc::strong_count(&number);
+    assert!(rt; is_gone && left == 1);
     Ok(())
 }
