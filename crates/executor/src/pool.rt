@@ -54,13 +54,13 @@ impl<'x, R: Wait + Drop + Copy, F: Yields, A: Wake> Schedule<PoolRunnable<'x, R,
     // A Runnable that no queue has memory for, or that comes after the shutdown, is dropped: its task is cancelled.
     fn schedule(&self, runnable: PoolRunnable<'x, R, F, A>, _info: ScheduleInfo) {
         let (pool, worker) = runnable.around();
-        if pool.stopped.load(Ordering::SeqCst) {
+        if pool.is_shut_down() {
             drop(runnable);
             return;
         }
         drop(pool.crew.push(&pool.rt, worker, runnable.with_around(())));
         // A shutdown meanwhile may have passed this queue already.
-        if pool.stopped.load(Ordering::SeqCst) {
+        if pool.is_shut_down() {
             pool.cancel_queue(worker);
         }
     }
@@ -116,10 +116,7 @@ impl<R: Wait + Drop + Copy, F: Yields, A: Wake> Pool<R, F, A> {
         self.stopped.store(true, Ordering::SeqCst);
         self.crew.bells().interrupt_all();
         cancel_kept((self, self.workers()));
-        for queue in 0..self.workers() {
-            self.cancel_queue(queue);
-        }
-        self.cancel_queue(self.workers());
+        self.cancel_queued();
     }
 
     /// Whether the pool was shut down.
@@ -151,7 +148,7 @@ impl<R: Wait + Drop + Copy, F: Yields, A: Wake> Pool<R, F, A> {
             let interruptions = self.crew.bells().interruptions();
             collect((self, worker));
             if self.is_shut_down() {
-                self.cancel_all(&mut turns);
+                self.cancel_queued();
                 break;
             }
             if !self.tick(&mut turns) {
@@ -181,12 +178,10 @@ impl<R: Wait + Drop + Copy, F: Yields, A: Wake> Pool<R, F, A> {
         }
     }
 
-    fn cancel_all(&self, turns: &mut Turns<R, F, A>) {
-        for _ in self.rt.forever() {
-            match self.crew.find(&self.rt, &mut turns.worker) {
-                Some(runnable) => drop(runnable),
-                None => return,
-            }
+    // .. and those of all queues. A worker does it once more as it ends, since it may have moved Runnables past the shutdown.
+    fn cancel_queued(&self) {
+        for queue in 0..=self.workers() {
+            self.cancel_queue(queue);
         }
     }
 }
