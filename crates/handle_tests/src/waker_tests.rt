@@ -178,18 +178,38 @@ fn spawn_awaited<'x, R: Wait + Drop + Copy>(
 // What was seen of a task that is awaited by a waker: whether it was pending and then ready, and what was queued before its run and after it.
 type Awaited = ([bool; 2], [usize; 2]);
 
+// Polls such a Task: whether it is pending.
+fn awaits<'x, R: Wait + Drop>(task: &mut AwaitedTask<'x, R>, waker: &RowWaker<'x, R>) -> bool {
+    matches!(task.poll(waker), TaskPoll::Pending)
+}
+
+// Polls such a Task: whether it is ready.
+fn has_awaited<'x, R: Wait + Drop>(task: &mut AwaitedTask<'x, R>, waker: &RowWaker<'x, R>) -> bool {
+    is_ready_with(&task.poll(waker), 5)
+}
+
+// Runs such a task.
+fn run_awaited<R: Wait + Drop>(runnable: AwaitedRunnable<'_, R>) {
+    runnable.run();
+}
+
+// Drops such a Task.
+fn drop_awaited<R: Wait + Drop>(task: AwaitedTask<'_, R>) {
+    drop(task);
+}
+
 fn await_by<'x, R: Wait + Drop>(
     surroundings: &'x Surroundings<R>,
     waker: &RowWaker<'x, R>,
     runnable: AwaitedRunnable<'x, R>,
     mut task: AwaitedTask<'x, R>,
 ) -> Awaited {
-    let waits = matches!(task.poll(waker), TaskPoll::Pending);
+    let waits = awaits(&mut task, waker);
     let before = surroundings.queued();
-    runnable.run();
+    run_awaited(runnable);
     let after = surroundings.queued();
-    let completed = is_ready_with(&task.poll(waker), 5);
-    drop(task);
+    let completed = has_awaited(&mut task, waker);
+    drop_awaited(task);
     ([waits, completed], [before, after])
 }
 
