@@ -34,22 +34,54 @@ const WAKE: Counts = Counts { wakes: 1, ..CLONE };
 
 const DROP: Counts = Counts { drops: 1, ..CLONE };
 
-// Nobody cloned it.
-const UNKNOWN: Counted = [NONE, NONE, NONE];
+const REFUSAL: Counts = Counts {
+    refusals: 1,
+    ..NONE
+};
 
-// It is in the task after the call.
-const KEPT: Counted = [CLONE, CLONE, DROP];
+const CLONES: Counts = Counts { clones: 2, ..NONE };
 
-// The call hands it out, to be woken.
-const WOKEN: Counted = [CLONE, WAKE, WAKE];
+const ONE_DROP: Counts = Counts { drops: 1, ..CLONES };
 
-// The call hands it out, to be dropped.
-const DROPPED: Counted = [CLONE, DROP, DROP];
+const TWO_DROPS: Counts = Counts { drops: 2, ..CLONES };
 
-// It had ended before the call.
-const WOKEN_BEFORE: Counted = [WAKE, WAKE, WAKE];
+// What becomes of an awaiter.
+#[derive(Clone, Copy)]
+enum Fate {
+    // Nobody cloned it.
+    Unknown,
+    // It is in the task after the call.
+    Kept,
+    // The call hands it out, to be woken.
+    Woken,
+    // The call hands it out, to be dropped.
+    Dropped,
+    // It had ended before the call.
+    WokenBefore,
+    DroppedBefore,
+    // A clone was asked for, and refused.
+    Refused,
+    // It was cloned anew, and the older clone is handed out, to be dropped.
+    Replaced,
+}
 
-const DROPPED_BEFORE: Counted = [DROP, DROP, DROP];
+use Fate::*;
+
+impl Fate {
+    // What is then counted of it.
+    fn counted(self) -> Counted {
+        match self {
+            Unknown => [NONE, NONE, NONE],
+            Kept => [CLONE, CLONE, DROP],
+            Woken => [CLONE, WAKE, WAKE],
+            Dropped => [CLONE, DROP, DROP],
+            WokenBefore => [WAKE, WAKE, WAKE],
+            DroppedBefore => [DROP, DROP, DROP],
+            Refused => [REFUSAL, REFUSAL, REFUSAL],
+            Replaced => [CLONES, ONE_DROP, TWO_DROPS],
+        }
+    }
+}
 
 // The counters of the two awaiters.
 #[derive(Drop)]
@@ -189,14 +221,18 @@ fn counted_from<'c>(
 }
 
 // .. of a new task with the calls `before` behind it.
-fn meets(rt: &impl Abort, before: &[Call], call: Call, first: Counted, second: Counted) {
+fn meets(rt: &impl Abort, before: &[Call], call: Call, first: Fate, second: Fate) {
     let pair = Pair::new();
     let task = task_after(rt, before, &pair);
     let counted = counted_from(rt, task, call, &pair);
-    assert_eq!(rt; counted, [first, second], "{before:?}, {call:?}");
+    assert_eq!(rt;
+        counted,
+        [first.counted(), second.counted()],
+        "{before:?}, {call:?}"
+    );
 }
 
 // .. where only the awaiter 1 is ever polled with.
-fn first_meets(rt: &impl Abort, before: &[Call], call: Call, first: Counted) {
-    meets(rt, before, call, first, UNKNOWN);
+fn first_meets(rt: &impl Abort, before: &[Call], call: Call, first: Fate) {
+    meets(rt, before, call, first, Unknown);
 }

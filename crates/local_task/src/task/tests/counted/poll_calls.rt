@@ -2,83 +2,63 @@
 
 use super::*;
 
-// A clone that was asked for and refused.
-const REFUSAL: Counts = Counts {
-    refusals: 1,
-    ..NONE
-};
-
-const REFUSED: Counted = [REFUSAL, REFUSAL, REFUSAL];
-
 #[test]
 fn a_new_task_knows_no_awaiter(rt: HostRuntime) {
-    first_meets(&rt, &[], Start, UNKNOWN);
+    first_meets(&rt, &[], Start, Unknown);
 }
 
 // Queued, polling, woken and idle, and the first three once more on a closed task.
 #[test]
 fn a_poll_stores_one_clone(rt: HostRuntime) {
-    first_meets(&rt, &[], Poll(1), KEPT);
-    first_meets(&rt, &[Start], Poll(1), KEPT);
-    first_meets(&rt, &[Start, Wake], Poll(1), KEPT);
-    first_meets(&rt, &[Start, Pending], Poll(1), KEPT);
-    first_meets(&rt, &[Cancel], Poll(1), KEPT);
-    first_meets(&rt, &[Start, Cancel], Poll(1), KEPT);
-    first_meets(&rt, &[Start, Wake, Cancel], Poll(1), KEPT);
+    first_meets(&rt, &[], Poll(1), Kept);
+    first_meets(&rt, &[Start], Poll(1), Kept);
+    first_meets(&rt, &[Start, Wake], Poll(1), Kept);
+    first_meets(&rt, &[Start, Pending], Poll(1), Kept);
+    first_meets(&rt, &[Cancel], Poll(1), Kept);
+    first_meets(&rt, &[Start, Cancel], Poll(1), Kept);
+    first_meets(&rt, &[Start, Wake, Cancel], Poll(1), Kept);
 }
 
 #[test]
 fn a_poll_hands_the_older_awaiter_out(rt: HostRuntime) {
-    meets(&rt, &[Poll(1)], Poll(2), DROPPED, KEPT);
-    meets(&rt, &[Poll(1), Start], Poll(2), DROPPED, KEPT);
-    meets(&rt, &[Poll(1), Start, Wake], Poll(2), DROPPED, KEPT);
-    meets(&rt, &[Poll(1), Start, Pending], Poll(2), DROPPED, KEPT);
-    meets(&rt, &[Cancel, Poll(1)], Poll(2), DROPPED, KEPT);
-    meets(&rt, &[Start, Cancel, Poll(1)], Poll(2), DROPPED, KEPT);
-    meets(&rt, &[Poll(1), Cancel], Poll(2), WOKEN_BEFORE, KEPT);
+    meets(&rt, &[Poll(1)], Poll(2), Dropped, Kept);
+    meets(&rt, &[Poll(1), Start], Poll(2), Dropped, Kept);
+    meets(&rt, &[Poll(1), Start, Wake], Poll(2), Dropped, Kept);
+    meets(&rt, &[Poll(1), Start, Pending], Poll(2), Dropped, Kept);
+    meets(&rt, &[Cancel, Poll(1)], Poll(2), Dropped, Kept);
+    meets(&rt, &[Start, Cancel, Poll(1)], Poll(2), Dropped, Kept);
+    meets(&rt, &[Poll(1), Cancel], Poll(2), WokenBefore, Kept);
 }
 
 // While the future is there, no awaiter is compared: the clone of the same awaiter takes the place of the older one.
 #[test]
 fn a_poll_by_the_stored_awaiter_clones_it_anew(rt: HostRuntime) {
-    let twice = Counts { clones: 2, ..NONE };
-    let replaced = [
-        twice,
-        Counts { drops: 1, ..twice },
-        Counts { drops: 2, ..twice },
-    ];
-    first_meets(&rt, &[Poll(1)], Poll(1), replaced);
-    first_meets(&rt, &[Poll(1), Start], Poll(1), replaced);
-    first_meets(&rt, &[Poll(1), Start, Pending], Poll(1), replaced);
-    first_meets(&rt, &[Cancel, Poll(1)], Poll(1), replaced);
+    first_meets(&rt, &[Poll(1)], Poll(1), Replaced);
+    first_meets(&rt, &[Poll(1), Start], Poll(1), Replaced);
+    first_meets(&rt, &[Poll(1), Start, Pending], Poll(1), Replaced);
+    first_meets(&rt, &[Cancel, Poll(1)], Poll(1), Replaced);
 }
 
 #[test]
 fn a_refused_clone_leaves_the_older_awaiter_there(rt: HostRuntime) {
-    meets(&rt, &[], RefusedPoll, UNKNOWN, REFUSED);
-    meets(&rt, &[Poll(1)], RefusedPoll, KEPT, REFUSED);
-    meets(&rt, &[Poll(1), Start], RefusedPoll, KEPT, REFUSED);
-    meets(&rt, &[Poll(1), Start, Pending], RefusedPoll, KEPT, REFUSED);
-    meets(&rt, &[Cancel, Poll(1)], RefusedPoll, KEPT, REFUSED);
-    meets(&rt, &[Poll(1), RefusedPoll], Discard, WOKEN, REFUSED);
+    meets(&rt, &[], RefusedPoll, Unknown, Refused);
+    meets(&rt, &[Poll(1)], RefusedPoll, Kept, Refused);
+    meets(&rt, &[Poll(1), Start], RefusedPoll, Kept, Refused);
+    meets(&rt, &[Poll(1), Start, Pending], RefusedPoll, Kept, Refused);
+    meets(&rt, &[Cancel, Poll(1)], RefusedPoll, Kept, Refused);
+    meets(&rt, &[Poll(1), RefusedPoll], Discard, Woken, Refused);
 }
 
 // Completed, claimed, and closed: nobody is asked for a clone, nor compared.
 #[test]
 fn a_poll_of_a_done_task_clones_nothing(rt: HostRuntime) {
-    first_meets(&rt, &[Start, Ready], Poll(1), UNKNOWN);
-    first_meets(&rt, &[Start, Ready, Poll(1)], Poll(1), UNKNOWN);
-    first_meets(&rt, &[Cancel, Start], Poll(1), UNKNOWN);
-    first_meets(&rt, &[Discard], Poll(1), UNKNOWN);
-    first_meets(&rt, &[Start, Ready], RefusedPoll, UNKNOWN);
-    first_meets(&rt, &[Poll(1), Start, Ready], Poll(1), WOKEN_BEFORE);
-    meets(
-        &rt,
-        &[Poll(1), Start, Ready],
-        Poll(2),
-        WOKEN_BEFORE,
-        UNKNOWN,
-    );
+    first_meets(&rt, &[Start, Ready], Poll(1), Unknown);
+    first_meets(&rt, &[Start, Ready, Poll(1)], Poll(1), Unknown);
+    first_meets(&rt, &[Cancel, Start], Poll(1), Unknown);
+    first_meets(&rt, &[Discard], Poll(1), Unknown);
+    first_meets(&rt, &[Start, Ready], RefusedPoll, Unknown);
+    first_meets(&rt, &[Poll(1), Start, Ready], Poll(1), WokenBefore);
+    meets(&rt, &[Poll(1), Start, Ready], Poll(2), WokenBefore, Unknown);
 }
 
 // A task that is done holds no awaiter: the awaiter 1 is put there to show what a poll would do. Each poll compares it once, by its own `will_wake`.
@@ -115,6 +95,10 @@ fn a_poll_of_a_done_task_hands_a_stored_awaiter_out(rt: HostRuntime) {
         task.awaiter = traits::Wake::try_clone(&stored);
         stored.go();
         let counted = counted_from(&rt, task, Poll(number), &pair);
-        assert_eq!(rt; counted, [expected, UNKNOWN], "{completed}, {number}");
+        assert_eq!(rt;
+            counted,
+            [expected, Unknown.counted()],
+            "{completed}, {number}"
+        );
     }
 }
