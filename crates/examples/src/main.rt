@@ -5,9 +5,11 @@ mod borrowed;
 mod channel_worker;
 mod cleanup;
 mod last;
+mod line;
 mod new_thread;
 mod parallel_sum;
 mod priorities;
+mod timer;
 mod two_kinds;
 
 use std::io;
@@ -37,6 +39,10 @@ fn main(rt: HostRuntime) -> io::Result<()> {
     println!(rt;
         "two_kinds: {:?}",
         two_kinds::answer_of(rt, alloc, Kind::Bytes("seven bytes"))
+    )?;
+    println!(rt;
+        "timer: {:?}",
+        timer::ends_of(rt, alloc, [(8, 1), (3, 2), (5, 1)])
     )?;
     Ok(())
 }
