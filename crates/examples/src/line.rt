@@ -48,7 +48,7 @@ impl<'x, R: Wait + Drop + Copy, F: Yields, S: Drop> Schedule<LineRunnable<'x, R,
     }
 }
 
-// Without a line there is no queue. Only a waker that is left when the line is dropped comes here, and its task is over then.
+// Without a line there is no queue: the Runnable is dropped, which cancels its task. Only the drop of a last waker leads here.
 impl<R: Wait + Drop + Copy, F: Yields> Schedule<Runnable<R, F, ToLine, (), Nobody, ()>> for ToLine {
     ghost scheduled = { λ _ _ _. ⊤ };
 

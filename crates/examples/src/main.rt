@@ -2,6 +2,7 @@
 #![tactic(auto)]
 
 mod borrowed;
+mod channel;
 mod channel_worker;
 mod cleanup;
 mod last;
@@ -44,5 +45,6 @@ fn main(rt: HostRuntime) -> io::Result<()> {
         "timer: {:?}",
         timer::ends_of(rt, alloc, [(8, 1), (3, 2), (5, 1)])
     )?;
+    println!(rt; "channel: {:?}", channel::digits_up_to(rt, alloc, 5))?;
     Ok(())
 }
