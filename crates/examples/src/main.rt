@@ -2,12 +2,17 @@
 #![tactic(auto)]
 
 mod borrowed;
+mod channel;
 mod channel_worker;
 mod cleanup;
+mod kit_futures;
 mod last;
+mod line;
 mod new_thread;
 mod parallel_sum;
+mod pipeline;
 mod priorities;
+mod timer;
 mod two_kinds;
 
 use std::io;
@@ -37,6 +42,20 @@ fn main(rt: HostRuntime) -> io::Result<()> {
     println!(rt;
         "two_kinds: {:?}",
         two_kinds::answer_of(rt, alloc, Kind::Bytes("seven bytes"))
+    )?;
+    println!(rt;
+        "timer: {:?}",
+        timer::ends_of(rt, alloc, [(8, 1), (3, 2), (5, 1)])
+    )?;
+    println!(rt; "channel: {:?}", channel::digits_up_to(rt, alloc, 5))?;
+    println!(rt; "pipeline: {:?}", pipeline::sum_of_squares(rt, alloc, 4))?;
+    println!(rt;
+        "kit_futures: {:?}",
+        kit_futures::joined(rt, alloc, [&[1, 2, 3], &[4, 5]])
+    )?;
+    println!(rt;
+        "kit_futures: {:?}",
+        kit_futures::selected(rt, alloc, [&[1, 2, 3], &[4, 5]])
     )?;
     Ok(())
 }
