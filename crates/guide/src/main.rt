@@ -154,7 +154,10 @@ impl<'x, R: Wait + Drop + Copy> Future<Waker<R, &'x Executor<R>>> for Delay {
         } else {
             waker.try_clone()
         };
-        let kept = clone.map(|clone| state.kept.push(clone.with_around(())));
+        let kept = match clone {
+            Some(clone) => Some(state.kept.push(clone.with_around(()))),
+            None => None,
+        };
         drop(state);
         if !matches!(kept, Some(Ok(()))) {
             waker.wake_by_ref();
