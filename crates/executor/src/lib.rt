@@ -5,13 +5,19 @@
 //! The page is docs/EXECUTOR_POOL.md.
 #![tactic(auto)]
 
+pub mod bell_awaiter;
 pub mod kept;
 pub mod pool;
+pub mod running;
+#[cfg(test)]
+mod storm_tests;
 #[cfg(test)]
 mod tests;
 
+pub use bell_awaiter::BellAwaiter;
 pub use kept::{
     KeptTask, KeptWaker, collect, keep_task, keep_waker, place_for_task, place_for_waker,
     poll_kept, wake_kept,
 };
 pub use pool::{Place, Pool, PoolRunnable, PoolTask, PoolWaker, ToPool, Turns};
+pub use running::BlockOnError;
