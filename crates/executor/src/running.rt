@@ -1,4 +1,4 @@
-//! The turns of workers: one worker, all workers on threads of their own, and a worker that waits for one Task.
+//! The turns of workers: one worker, what all workers need, and a worker that waits for one Task.
 ghost use Rattle.std.specs.Prelude.{⊤, ◌≡◌, ℕ, ◌<◌, true, IfOk, IsErr, vec_len};
 ghost use mathlib.Core.Option.{some};
 ghost use lib.ListN.{get_elem?};
@@ -11,7 +11,6 @@ use crate::pool::{Pool, PoolTask, PoolWaker, Turns};
 use async_task::{Future, TaskPoll, Wake, Yields};
 use std::alloc::AllocError;
 use std::sync::Wait;
-use std::thread::{self, Threads};
 
 /// Why `Pool::block_on` has no output.
 #[derive(Clone, Copy, Debug, PartialEq, Eq)]
@@ -63,8 +62,8 @@ impl<R: Wait + Drop + Copy, F: Yields, A: Wake> Pool<R, F, A> {
         Ok(())
     }
 
-    // What each of the workers keeps, in the order of their numbers.
-    fn all_turns(&self) -> Result<Vec<Turns<R, F, A>>, AllocError>
+    /// What each of the workers needs, in the order of their numbers, for a run of all of them with `work`. An error says that there was no memory.
+    pub fn all_turns(&self) -> Result<Vec<Turns<R, F, A>>, AllocError>
         ensures each { IfOk result (λ all. (i : ℕ) (turns : _) → get_elem? all.items i ≡ some turns → turns.worker.number ≡ i) }
     {
         let mut all = Vec::new(self.alloc);
@@ -72,22 +71,6 @@ impl<R: Wait + Drop + Copy, F: Yields, A: Wake> Pool<R, F, A> {
             all.push(self.turns(worker)?)?;
         }
         Ok(all)
-    }
-
-    /// Is all workers until the pool is shut down: the calling thread is one of them, and each other has a thread of its own. Where no thread can be made for a worker, the others do its work.
-    ///
-    /// An error says that there was no memory to begin; no task has been run then.
-    pub fn run_all<'x>(&'x self) -> Result<(), AllocError>
-    where
-        R: Threads + Send + Sync,
-        F: Future<PoolWaker<'x, R, F, A>> + Send,
-        F::Output: Send,
-        A: Send + Sync,
-    {
-        let mut all = self.all_turns()?;
-        let workers = all.len().max(1);
-        thread::for_each_mut(&self.rt, &mut all, workers, &|_, turns| self.work(turns));
-        Ok(())
     }
 }
 

@@ -1,7 +1,7 @@
 //! Storms of wakes by other threads: none is lost, and a shutdown in the middle leaves nothing.
 ghost use Rattle.std.specs.Prelude.{⊤};
 
-use crate::kept::{keep_waker, place_for_waker, wake_kept};
+use crate::kept::{collect, keep_waker, place_for_waker, wake_kept};
 use crate::pool::{Pool, PoolTask, PoolWaker};
 use async_task::{Future, Poll, TaskPoll, Yields};
 use awaiters::Nobody;
@@ -188,7 +188,12 @@ fn a_storm_loses_no_wake(rt: HostRuntime) -> Result<(), Fail> {
     let places = spawn_storm(&pool, rt.alloc(), &storm, 2 * ROUNDS, &mut tasks)?;
     let (ran, _) = thread::join(
         &rt,
-        || pool.run_all(),
+        || thread::map_indices(
+            &rt,
+            rt.alloc(),
+            pool.workers(),
+            &|worker| { pool.run(worker).is_ok() },
+        ),
         || thread::join(
             &rt,
             || wake_often(&pool, &storm, &places, pool.workers()),
@@ -197,13 +202,13 @@ fn a_storm_loses_no_wake(rt: HostRuntime) -> Result<(), Fail> {
     );
     let seen = taken_and_closed(tasks);
     let left = (pool.wakers.len(&rt), Arc::strong_count(&storm));
-    assert!(rt; ran.is_ok());
+    assert!(rt; ran?.iter().all(|ran| *ran));
     assert_eq!(rt; seen, (2 * ROUNDS * TASKS, 0));
     assert_eq!(rt; left, (0, 1));
     Ok(())
 }
 
-// One of two threads wakes to its end, the other shuts the pool down between. Each task wants one ticket more than there will be, so it is cancelled.
+// One of two threads wakes to its end, the other shuts the pool down between. Each task wants one ticket more than there will be, so it is cancelled: by a worker, or by a thread that wakes it, after which the workers may have ended.
 #[test]
 fn a_shutdown_in_a_storm_leaves_nothing(rt: HostRuntime) -> Result<(), Fail> {
     let storm = Storm::new(rt.alloc())?;
@@ -212,7 +217,12 @@ fn a_shutdown_in_a_storm_leaves_nothing(rt: HostRuntime) -> Result<(), Fail> {
     let places = spawn_storm(&pool, rt.alloc(), &storm, 2 * ROUNDS + 1, &mut tasks)?;
     let (ran, _) = thread::join(
         &rt,
-        || pool.run_all(),
+        || thread::map_indices(
+            &rt,
+            rt.alloc(),
+            pool.workers(),
+            &|worker| { pool.run(worker).is_ok() },
+        ),
         || thread::join(
             &rt,
             || wake_often(&pool, &storm, &places, 1),
@@ -220,8 +230,9 @@ fn a_shutdown_in_a_storm_leaves_nothing(rt: HostRuntime) -> Result<(), Fail> {
         ),
     );
     let seen = taken_and_closed(tasks);
+    collect((&pool, 0));
     let left = (pool.wakers.len(&rt), Arc::strong_count(&storm));
-    assert!(rt; ran.is_ok());
+    assert!(rt; ran?.iter().all(|ran| *ran));
     assert_eq!(rt; seen, (0, TASKS));
     assert_eq!(rt; left, (0, 1));
     Ok(())

@@ -129,8 +129,13 @@ fn every_task_ends_on_one_thread(rt: HostRuntime) -> Result<(), Fail> {
     let counts = counts_of(rt.alloc(), 100, 0).ok_or(AllocError)?;
     let pool = Pool::<_, Job, Nobody>::new(rt, rt.alloc(), 1)?;
     let spawned = spawn_all(&pool, (100, 3, 0), &counts);
-    pool.run_all()?;
-    assert!(rt; spawned);
+    let began = thread::map_indices(
+        &rt,
+        rt.alloc(),
+        pool.workers(),
+        &|worker| { pool.run(worker).is_ok() },
+    )?;
+    assert!(rt; spawned && began.iter().all(|began| *began));
     assert!(rt; ended(&counts) == Some(100));
     Ok(())
 }
@@ -140,8 +145,13 @@ fn every_task_ends_on_two_threads(rt: HostRuntime) -> Result<(), Fail> {
     let counts = counts_of(rt.alloc(), 100, 0).ok_or(AllocError)?;
     let pool = Pool::<_, Job, Nobody>::new(rt, rt.alloc(), 2)?;
     let spawned = spawn_all(&pool, (100, 3, 0), &counts);
-    pool.run_all()?;
-    assert!(rt; spawned);
+    let began = thread::map_indices(
+        &rt,
+        rt.alloc(),
+        pool.workers(),
+        &|worker| { pool.run(worker).is_ok() },
+    )?;
+    assert!(rt; spawned && began.iter().all(|began| *began));
     assert!(rt; ended(&counts) == Some(100));
     Ok(())
 }
@@ -151,8 +161,13 @@ fn every_task_ends_on_four_threads(rt: HostRuntime) -> Result<(), Fail> {
     let counts = counts_of(rt.alloc(), 1000, 0).ok_or(AllocError)?;
     let pool = Pool::<_, Job, Nobody>::new(rt, rt.alloc(), 4)?;
     let spawned = spawn_all(&pool, (1000, 10, 0), &counts);
-    pool.run_all()?;
-    assert!(rt; spawned);
+    let began = thread::map_indices(
+        &rt,
+        rt.alloc(),
+        pool.workers(),
+        &|worker| { pool.run(worker).is_ok() },
+    )?;
+    assert!(rt; spawned && began.iter().all(|began| *began));
     assert!(rt; ended(&counts) == Some(1000));
     Ok(())
 }
@@ -163,8 +178,13 @@ fn a_task_spawns_tasks(rt: HostRuntime) -> Result<(), Fail> {
     let counts = counts_of(rt.alloc(), 4, 7).ok_or(AllocError)?;
     let pool = Pool::<_, Job, Nobody>::new(rt, rt.alloc(), 4)?;
     let spawned = spawn_all(&pool, (4, 2, 7), &counts);
-    pool.run_all()?;
-    assert!(rt; spawned);
+    let began = thread::map_indices(
+        &rt,
+        rt.alloc(),
+        pool.workers(),
+        &|worker| { pool.run(worker).is_ok() },
+    )?;
+    assert!(rt; spawned && began.iter().all(|began| *began));
     assert!(rt; ended(&counts) == Some(1020));
     Ok(())
 }
@@ -224,8 +244,18 @@ fn another_thread_wakes_a_kept_waker(rt: HostRuntime) -> Result<(), Fail> {
         number: Arc::try_clone(&number)?,
     };
     let mut task = pool.spawn(waits).ok().ok_or(AllocError)?;
-    let (ran, woke) = thread::join(&rt, || pool.run_all(), || wake_once(rt, &pool, &number));
-    assert!(rt; ran.is_ok() && woke);
+    let (began, woke) = thread::join(
+        &rt,
+        || thread::map_indices(
+            &rt,
+            rt.alloc(),
+            pool.workers(),
+            &|worker| { pool.run(worker).is_ok() },
+        ),
+        || wake_once(rt, &pool, &number),
+    );
+    assert!(rt; began?.iter().all(|began| *began));
+    assert!(rt; woke);
     assert!(rt; matches!(task.poll(&Nobody), TaskPoll::Ready(Ok(7))));
     Ok(())
 }
