@@ -28,7 +28,6 @@ impl<R: Wait + Drop + Copy, F: Yields, A: Wake> Pool<R, F, A> {
     fn turn<'x>(&'x self, turns: &mut Turns<R, F, A>, interruptions: u64)
     where
         F: Future<PoolWaker<'x, R, F, A>>,
-        ensures { turns.new.worker.number ≡ turns.old.worker.number }
     {
         collect((self, turns.worker.number()));
         if !self.tick(turns) {
