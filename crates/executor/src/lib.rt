@@ -5,13 +5,27 @@
 //! The page is docs/EXECUTOR_POOL.md.
 #![tactic(auto)]
 
+pub mod bell_awaiter;
+#[cfg(test)]
+mod cancel_tests;
+#[cfg(test)]
+mod guest;
+#[cfg(test)]
+mod hostile_tests;
 pub mod kept;
 pub mod pool;
+pub mod running;
+#[cfg(test)]
+mod storm_tests;
 #[cfg(test)]
 mod tests;
+#[cfg(test)]
+mod waiting_tests;
 
+pub use bell_awaiter::BellAwaiter;
 pub use kept::{
     KeptTask, KeptWaker, collect, keep_task, keep_waker, place_for_task, place_for_waker,
     poll_kept, wake_kept,
 };
 pub use pool::{Place, Pool, PoolRunnable, PoolTask, PoolWaker, ToPool, Turns};
+pub use running::BlockOnError;

@@ -1,10 +1,11 @@
 //! The pool: spawn, the turns of its workers, and the shutdown.
-ghost use Rattle.std.specs.Prelude.{⊤, ◌≡◌, IfOk, IfErr};
+ghost use Rattle.std.specs.Prelude.{⊤, ◌≡◌, ◌-◌, ◌+◌, ◌<◌, [], drop, true, false, IfOk, IfErr, OnOk, vec_len, vec_capacity};
 
-use crate::kept::{KeptTask, KeptWaker, cancel_kept, collect};
+use crate::kept::{KeptTask, KeptWaker, cancel_kept};
 use async_task::{Future, Runnable, Schedule, ScheduleInfo, Task, TaskWaker, Wake, Yields, spawn};
 use handle_store::Store;
 use std::alloc::{AllocError, Global};
+use std::collections::VecDeque;
 use std::sync::atomic::{AtomicBool, Ordering};
 use std::sync::{Arc, Wait};
 use work_queues::{Bells, Crew, Worker};
@@ -31,7 +32,7 @@ type Queued<R, F, A> = Runnable<R, F, ToPool, (), A, ()>;
 #[derive(Drop)]
 pub struct Pool<R: Wait + Drop + Copy, F: Yields, A: Wake> {
     pub(crate) rt: R,
-    alloc: Global,
+    pub(crate) alloc: Global,
     crew: Crew<Queued<R, F, A>>,
     stopped: AtomicBool,
     pub(crate) wakers: Store<KeptWaker<R, F, A>>,
@@ -41,7 +42,7 @@ pub struct Pool<R: Wait + Drop + Copy, F: Yields, A: Wake> {
 /// What one worker keeps for its turns.
 #[derive(Drop)]
 pub struct Turns<R: Wait + Drop + Copy, F: Yields, A: Wake> {
-    worker: Worker<Queued<R, F, A>>,
+    pub(crate) worker: Worker<Queued<R, F, A>>,
 }
 
 /// The schedule value of a pool: a Runnable goes to the queue of the worker on which its task was woken, and else to that for what comes from outside.
@@ -85,7 +86,9 @@ impl<R: Wait + Drop + Copy, F: Yields, A: Wake> Pool<R, F, A> {
     }
 
     /// What a thread needs to be the worker of this number. An error says that there was no memory, or that there is no such worker. Two threads may not be one worker: both would sleep where one is woken.
-    pub fn turns(&self, worker: usize) -> Result<Turns<R, F, A>, AllocError> {
+    pub fn turns(&self, worker: usize) -> Result<Turns<R, F, A>, AllocError>
+        ensures { IfOk result (λ turns. turns.worker.number ≡ worker) }
+    {
         let worker = self.crew.worker(self.alloc, worker)?;
         Ok(Turns { worker })
     }
@@ -108,6 +111,53 @@ impl<R: Wait + Drop + Copy, F: Yields, A: Wake> Pool<R, F, A> {
                 Ok(task)
             }
             Err(refused) => Err(refused.maker),
+        }
+    }
+
+    /// Spawns futures from the front of `futures`, in their order, at the queue of a worker or, where there is no worker of this number, from outside. Their Tasks go to the back of `tasks`, in the same order.
+    ///
+    /// An error says that there was no memory: what was not spawned is still in `futures`, and a later call may go on with it.
+    pub fn spawn_many<'x>(
+        &'x self,
+        worker: usize,
+        futures: &mut VecDeque<F>,
+        tasks: &mut Vec<PoolTask<'x, R, F, A>>,
+    ) -> Result<(), AllocError>
+        ensures all { OnOk result (futures.new.items ≡ []) }
+        ensures left { futures.new.items ≡ drop (vec_len tasks.new - vec_len tasks.old) futures.old.items }
+    {
+        tasks.reserve(futures.len())?;
+        for _ in 0..futures.len() {
+            if !self.spawn_first(worker, futures, tasks) {
+                return Err(AllocError);
+            }
+        }
+        Ok(())
+    }
+
+    // Spawns the future at the front, for whose Task there is room. False where there was no memory: it is at the front again.
+    fn spawn_first<'x>(
+        &'x self,
+        worker: usize,
+        futures: &mut VecDeque<F>,
+        tasks: &mut Vec<PoolTask<'x, R, F, A>>,
+    ) -> bool
+        requires { vec_len tasks.old < vec_capacity tasks.old }
+        ensures spawned { result ≡ true → (futures.new.items ≡ drop 1 futures.old.items) × (vec_len tasks.new ≡ vec_len tasks.old + 1) × (vec_capacity tasks.new ≡ vec_capacity tasks.old) }
+        ensures refused { result ≡ false → (futures.new.items ≡ futures.old.items) × (vec_len tasks.new ≡ vec_len tasks.old) }
+    {
+        let Some(future) = futures.pop_front() else {
+            return false;
+        };
+        match self.spawn_on(worker, future) {
+            Ok(task) => {
+                tasks.push_reserved(task);
+                true
+            }
+            Err(future) => {
+                futures.push_front_reserved(future);
+                false
+            }
         }
     }
 
@@ -138,26 +188,6 @@ impl<R: Wait + Drop + Copy, F: Yields, A: Wake> Pool<R, F, A> {
         }
     }
 
-    /// Is the worker of this number until the pool is shut down, and sleeps where there is nothing to do. After it no Runnable is left that this worker can find. An error says that there was no memory to begin, or that there is no such worker.
-    pub fn run<'x>(&'x self, worker: usize) -> Result<(), AllocError>
-    where
-        F: Future<PoolWaker<'x, R, F, A>>,
-    {
-        let mut turns = self.turns(worker)?;
-        for _ in self.rt.forever() {
-            let interruptions = self.crew.bells().interruptions();
-            collect((self, worker));
-            if self.is_shut_down() {
-                self.cancel_queued();
-                break;
-            }
-            if !self.tick(&mut turns) {
-                self.rest(&turns, interruptions);
-            }
-        }
-        Ok(())
-    }
-
     /// Sleeps, if there is nothing for this worker to do and the bells counted no interruption since `interruptions`. It may also return for no reason. It is for loops of a user's own around `tick`.
     pub fn rest(&self, turns: &Turns<R, F, A>, interruptions: u64) {
         self.crew.rest(&self.rt, &turns.worker, interruptions);
@@ -179,7 +209,7 @@ impl<R: Wait + Drop + Copy, F: Yields, A: Wake> Pool<R, F, A> {
     }
 
     // .. and those of all queues. A worker does it once more as it ends, since it may have moved Runnables past the shutdown.
-    fn cancel_queued(&self) {
+    pub(crate) fn cancel_queued(&self) {
         for queue in 0..=self.workers() {
             self.cancel_queue(queue);
         }

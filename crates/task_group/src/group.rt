@@ -1,10 +1,10 @@
 //! The group: its members by number, and the mailbox that their awaiters post to.
-ghost use Rattle.std.specs.Prelude.{◌≡◌, ◌↔◌, ◌≤◌, true, IsTrue, IsErr, IfOk, IfErr, OnErr, OnOk};
+ghost use Rattle.std.specs.Prelude.{◌≡◌, ◌↔◌, ◌≤◌, ◌<◌, true, IsTrue, IsErr, IfOk, IfErr, OnErr, OnOk};
 ghost use Rattle.slab.specs.Slab.{slab_len};
 ghost use Rattle.task_group.specs.Members.{Joins, Leaves, SameMembers, IfNext, is_over};
 
 use crate::ended::Ended;
-use async_task::{Runnable, Schedule, Task, TaskPoll, Yields};
+use async_task::{Runnable, Schedule, SpawnError, Task, TaskPoll, Yields, spawn};
 use awaiters::{Awaiter, Mailbox};
 use slab::Slab;
 use std::alloc::{AllocError, Allocator, Global};
@@ -13,6 +13,17 @@ use std::sync::{Arc, Wait};
 /// A poll of a member was refused its awaiter. The member is still in the group, and is looked at again by the next call of `next`.
 #[derive(Clone, Copy, Debug, PartialEq, Eq)]
 pub struct AwaiterRefused;
+
+/// A spawn was refused: the group was full, or there was no memory for the task. The group is as it was, and no task was made.
+#[derive(Drop)]
+pub struct GroupSpawnError<F, Q> {
+    /// Whether the group was full.
+    pub is_full: bool,
+    /// The future that was not spawned.
+    pub future: F,
+    /// The schedule value that came with it.
+    pub schedule: Q,
+}
 
 // A member: its Task, or the answer that the Task gave as it was pushed.
 #[derive(Drop)]
@@ -117,9 +128,18 @@ where
         if self.is_full() {
             return Err(task);
         }
+        Ok(self.join(task))
+    }
+
+    // Puts a Task into a group that has room, and polls it once.
+    fn join(&mut self, task: Task<R, F, Q, M, Awaiter<R>, X, B>) -> usize
+        requires { slab_len self.old.members < self.old.members.capacity }
+        ensures joins { Joins self.old.members self.new.members result }
+        ensures room { self.new.members.capacity ≡ self.old.members.capacity }
+    {
         let number = self.members.vacant_key();
         let member = self.first_look(number, task);
-        Ok(self.members.insert_reserved(member))
+        self.members.insert_reserved(member)
     }
 
     /// Waits for the next member that ends, and takes it out of the group. `None` where the group is empty.
@@ -237,5 +257,61 @@ where
             }
         }
         self.members.clear();
+    }
+}
+
+impl<R: Wait + Drop + Copy, F: Yields, Q: Drop, X: Copy, B: Allocator + Copy> TaskGroup<
+    R,
+    F,
+    Q,
+    (),
+    X,
+    B,
+>
+where
+    Q: Schedule<Runnable<R, F, Q, (), Awaiter<R>, X, B>>,
+{
+    /// Spawns a task of the group, under a number that no other member has, and schedules it.
+    ///
+    /// `alloc` is where the memory of the task comes from, `schedule` what takes its Runnables, `around` what its handles carry.
+    /// An `Err` hands the future and the schedule value back, and says whether the group was full; otherwise there was no memory.
+    pub fn spawn(
+        &mut self,
+        alloc: B,
+        future: F,
+        schedule: Q,
+        around: X,
+    ) -> Result<usize, GroupSpawnError<F, Q>>
+        ensures full { slab_len self.old.members ≡ self.old.members.capacity → IsErr result }
+        ensures why { IfErr result (λ refused. IsTrue refused.is_full ↔ (slab_len self.old.members ≡ self.old.members.capacity)) }
+        ensures returned { IfErr result (λ refused. (refused.future ≡ future) × (refused.schedule ≡ schedule)) }
+        ensures unchanged { OnErr result (self.new ≡ self.old) }
+        ensures joins { IfOk result (λ number. Joins self.old.members self.new.members number) }
+        ensures room { self.new.members.capacity ≡ self.old.members.capacity }
+    {
+        let is_full = self.is_full();
+        if is_full {
+            return Err(GroupSpawnError {
+                is_full,
+                future,
+                schedule,
+            });
+        }
+        match spawn(self.rt, alloc, future, schedule, around) {
+            Ok((runnable, task)) => {
+                let number = self.join(task);
+                runnable.schedule();
+                Ok(number)
+            }
+            Err(SpawnError {
+                builder: _,
+                maker: future,
+                schedule,
+            }) => Err(GroupSpawnError {
+                is_full,
+                future,
+                schedule,
+            }),
+        }
     }
 }

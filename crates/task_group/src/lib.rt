@@ -1,6 +1,6 @@
 //! A group of tasks: Tasks are put in, and come out with their answers in the order in which their tasks end.
 //! It stands on the mailbox of `awaiters`, the Task of `async_task`, and the kit's `slab`.
-//! A user makes a `TaskGroup` and calls `push`, `next`, `abort_all` and `detach_all`; what comes out is an `Ended`.
+//! A user makes a `TaskGroup` and calls `spawn`, `push`, `next`, `abort_all` and `detach_all`; what comes out is an `Ended`.
 //! Nothing else is public; `Ended` has a ghost field by which its output meets what its future's type states.
 //! The page is docs/EXECUTORS.md.
 #![tactic(auto)]
@@ -9,4 +9,4 @@ mod ended;
 mod group;
 
 pub use ended::Ended;
-pub use group::{AwaiterRefused, TaskGroup};
+pub use group::{AwaiterRefused, GroupSpawnError, TaskGroup};

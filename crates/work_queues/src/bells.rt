@@ -50,6 +50,12 @@ impl Bells {
         }
     }
 
+    /// Has the worker of this number look once more, if there is one.
+    pub fn interrupt_worker(&self, worker: usize) {
+        self.interruptions.fetch_add(1, Ordering::SeqCst);
+        self.ring(worker);
+    }
+
     /// Has all workers look once more.
     pub fn interrupt_all(&self) {
         self.interruptions.fetch_add(1, Ordering::SeqCst);

@@ -1,0 +1,29 @@
+-- Lists that grow at the end by what has the next number, and lists that shrink at the front.
+use Rattle.std.proofs.Common.{◌≡◌, ℕ, zero, suc, ◌+◌, List, [], ◌∷◌, ◌++◌, length, drop, sym, refl, ap, ◌∙◌, subst}
+use mathlib.Core.Option.{some, some-injective, some-ne-none}
+use lib.ListN.{get_elem?}
+
+numbered : {A : Type 0} (P : ℕ → A → Type 0) (old : List A) (x : A) → ((i : ℕ) (a : A) → get_elem? old i ≡ some a → P i a) → P (length old) x → (i : ℕ) (a : A) → get_elem? (old ++ x ∷ []) i ≡ some a → P i a
+numbered P [] x each last zero a at = subst (P 0) (some-injective x a at) last
+numbered P [] x each last (suc i) a at = absurd (some-ne-none a (sym at))
+numbered P (y ∷ ys) x each last zero a at = each 0 a at
+numbered P (y ∷ ys) x each last (suc i) a at = numbered (λ k. P (suc k)) ys x (λ k b e. each (suc k) b e) last i a at
+
+-- one more at the end of a list, of each item of which P holds at its number
+pub numbered-more : {A : Type 0} (P : ℕ → A → Type 0) (old new : List A) (x : A) → new ≡ old ++ x ∷ [] → ((i : ℕ) (a : A) → get_elem? old i ≡ some a → P i a) → P (length old) x → (i : ℕ) (a : A) → get_elem? new i ≡ some a → P i a
+numbered-more {A} P old new x is each last i a at = numbered P old x each last i a (ap (λ (l : List A). get_elem? l i) (sym is) ∙ at)
+
+drop-nothing : {A : Type 0} (n : ℕ) → ◌≡◌ {A = List A} (drop n []) []
+drop-nothing zero = refl
+drop-nothing (suc n) = refl
+
+-- one dropped after n is n + 1 dropped
+pub drop-one : {A : Type 0} (n : ℕ) (l : List A) → drop 1 (drop n l) ≡ drop (n + 1) l
+drop-one n [] = ap (drop 1) (drop-nothing n) ∙ sym (drop-nothing (n + 1))
+drop-one zero (x ∷ l) = refl
+drop-one (suc n) (x ∷ l) = drop-one n l
+
+-- as many dropped as there are
+pub drop-all : {A : Type 0} (l : List A) → drop (length l) l ≡ []
+drop-all [] = refl
+drop-all (x ∷ l) = drop-all l

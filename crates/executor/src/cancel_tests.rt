@@ -1,0 +1,143 @@
+//! The cancel of a parent that keeps children and wakers: all children are cancelled, and all wakers freed.
+ghost use Rattle.std.specs.Prelude.{⊤};
+
+use crate::kept::{collect, keep_task, keep_waker, place_for_task, place_for_waker};
+use crate::pool::{Pool, PoolWaker};
+use async_task::{Future, Poll, Yields};
+use awaiters::Nobody;
+use handle_store::Key;
+use std::alloc::{AllocError, Global};
+use std::sync::atomic::{AtomicU64, Ordering};
+use std::sync::{Arc, Wait};
+use std::test::Fail;
+
+/// How many children a parent keeps. Each keeps one waker of its own.
+const CHILDREN: u64 = 10;
+
+/// How many wakers a parent keeps.
+const WAKERS: u64 = 3;
+
+/// The most turns that anything takes.
+const TURNS: u64 = 1000;
+
+/// Counts that it was dropped.
+struct Counted {
+    dropped: Arc<AtomicU64>,
+}
+
+impl Drop for Counted {
+    fn drop(self) {
+        let Counted { dropped } = self;
+        dropped.fetch_add(1, Ordering::SeqCst);
+    }
+}
+
+/// A future that never ends. As it is polled first, it keeps wakers of its own, and spawns and keeps children.
+#[derive(Drop)]
+struct Member<R: Wait + Drop + Copy> {
+    alloc: Global,
+    children: u64,
+    wakers: u64,
+    keys: Vec<Key<R>>,
+    counted: Counted,
+}
+
+impl<R: Wait + Drop + Copy> Yields for Member<R> {
+    type Output = u64;
+}
+
+impl<'x, R: Wait + Drop + Copy> Future<PoolWaker<'x, R, Member<R>, Nobody>> for Member<R> {
+    ghost polled = { λ _ _ _ _. ⊤ };
+
+    fn poll(&mut self, waker: &PoolWaker<'x, R, Member<R>, Nobody>) -> Poll<u64> {
+        for _ in 0..self.wakers {
+            if let Some(key) = kept_waker(waker) {
+                drop(self.keys.push(key));
+            }
+        }
+        for _ in 0..self.children {
+            if let Some(key) = kept_child(waker, self.alloc, &self.counted.dropped) {
+                drop(self.keys.push(key));
+            }
+        }
+        Poll::Pending
+    }
+}
+
+fn member_of<R: Wait + Drop + Copy>(
+    alloc: Global,
+    children: u64,
+    wakers: u64,
+    dropped: &Arc<AtomicU64>,
+) -> Result<Member<R>, AllocError> {
+    Ok(Member {
+        alloc,
+        children,
+        wakers,
+        keys: Vec::new(alloc),
+        counted: Counted {
+            dropped: Arc::try_clone(dropped)?,
+        },
+    })
+}
+
+// The key of a place with a clone of this waker.
+fn kept_waker<'x, R: Wait + Drop + Copy>(
+    waker: &PoolWaker<'x, R, Member<R>, Nobody>,
+) -> Option<Key<R>> {
+    let key = place_for_waker(waker.around().0)?;
+    keep_waker(waker, &key).then_some(key)
+}
+
+// The key of a place with the Task of a child.
+fn kept_child<'x, R: Wait + Drop + Copy>(
+    waker: &PoolWaker<'x, R, Member<R>, Nobody>,
+    alloc: Global,
+    dropped: &Arc<AtomicU64>,
+) -> Option<Key<R>> {
+    let (pool, worker) = waker.around();
+    let key = place_for_task(pool)?;
+    let child = member_of(alloc, 0, 1, dropped).ok()?;
+    keep_task(pool.spawn_on(worker, child).ok()?, &key);
+    Some(key)
+}
+
+// How many places for wakers and for Tasks are taken, and how many futures were dropped.
+fn seen<R: Wait + Drop + Copy>(
+    pool: &Pool<R, Member<R>, Nobody>,
+    dropped: &AtomicU64,
+) -> (u64, u64, u64) {
+    (
+        pool.wakers.len(&pool.rt) as u64,
+        pool.tasks.len(&pool.rt) as u64,
+        dropped.load(Ordering::SeqCst),
+    )
+}
+
+#[test]
+fn the_cancel_of_a_parent_leaves_nothing(rt: HostRuntime) -> Result<(), Fail> {
+    let dropped = Arc::new(rt.alloc(), AtomicU64::new(0))?;
+    let pool = Pool::<_, Member<_>, Nobody>::new(rt, rt.alloc(), 1)?;
+    let parent = member_of(rt.alloc(), CHILDREN, WAKERS, &dropped)?;
+    let task = pool.spawn(parent).ok().ok_or(AllocError)?;
+    let mut turns = pool.turns(0)?;
+    for _ in 0..TURNS {
+        collect((&pool, 0));
+        if !pool.tick(&mut turns) {
+            break;
+        }
+    }
+    let before = seen(&pool, &dropped);
+    drop(task);
+    for _ in 0..TURNS {
+        collect((&pool, 0));
+        if !pool.tick(&mut turns) {
+            break;
+        }
+    }
+    let after = seen(&pool, &dropped);
+    assert!(rt; before == (WAKERS + CHILDREN, CHILDREN, 0));
+    assert!(rt; after == (0, 0, CHILDREN + 1));
+    assert!(rt; Arc::strong_count(&dropped) == 1);
+    Ok(())
+}

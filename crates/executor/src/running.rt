@@ -1,0 +1,110 @@
+//! The turns of workers: one worker, what all workers need, and a worker that waits for one Task.
+ghost use Rattle.std.specs.Prelude.{⊤, ◌≡◌, ℕ, ◌<◌, true, IfOk, IsErr, vec_len};
+ghost use mathlib.Core.Option.{some};
+ghost use lib.ListN.{get_elem?};
+ghost use Rattle.task_steps.specs.Steps.{saw_ended};
+ghost use Rattle.task_cell.specs.Calls.{deeds};
+
+use crate::bell_awaiter::BellAwaiter;
+use crate::kept::collect;
+use crate::pool::{Pool, PoolTask, PoolWaker, Turns};
+use async_task::{Future, TaskPoll, Wake, Yields};
+use std::alloc::AllocError;
+use std::sync::Wait;
+
+/// Why `Pool::block_on` has no output.
+#[derive(Clone, Copy, Debug, PartialEq, Eq)]
+pub enum BlockOnError {
+    /// The task is closed: no output will come.
+    Closed,
+    /// The poll of the Task was refused its awaiter. The Task may be waited for again.
+    Refused,
+    /// The pool was shut down before the task had ended.
+    ShutDown,
+}
+
+impl<R: Wait + Drop + Copy, F: Yields, A: Wake> Pool<R, F, A> {
+    // Frees what keys left, and runs one task, or sleeps where there is none and the bells counted no interruption since `interruptions`.
+    fn turn<'x>(&'x self, turns: &mut Turns<R, F, A>, interruptions: u64)
+    where
+        F: Future<PoolWaker<'x, R, F, A>>,
+    {
+        collect((self, turns.worker.number()));
+        if !self.tick(turns) {
+            self.rest(turns, interruptions);
+        }
+    }
+
+    /// Is a worker until the pool is shut down, and sleeps where there is nothing to do. After it no Runnable is left that this worker can find.
+    pub fn work<'x>(&'x self, turns: &mut Turns<R, F, A>)
+    where
+        F: Future<PoolWaker<'x, R, F, A>>,
+    {
+        for _ in self.rt.forever() {
+            let interruptions = self.bells().interruptions();
+            if self.is_shut_down() {
+                break;
+            }
+            self.turn(turns, interruptions);
+        }
+        collect((self, turns.worker.number()));
+        self.cancel_queued();
+    }
+
+    /// Is the worker of this number until the pool is shut down, as `work` is. An error says that there was no memory to begin, or that there is no such worker.
+    pub fn run<'x>(&'x self, worker: usize) -> Result<(), AllocError>
+    where
+        F: Future<PoolWaker<'x, R, F, A>>,
+    {
+        let mut turns = self.turns(worker)?;
+        self.work(&mut turns);
+        Ok(())
+    }
+
+    /// What each of the workers needs, in the order of their numbers, for a run of all of them with `work`. An error says that there was no memory.
+    pub fn all_turns(&self) -> Result<Vec<Turns<R, F, A>>, AllocError>
+        ensures each { IfOk result (λ all. (i : ℕ) (turns : _) → get_elem? all.items i ≡ some turns → turns.worker.number ≡ i) }
+    {
+        let mut all = Vec::new(self.alloc);
+        for worker in 0..self.workers() {
+            all.push(self.turns(worker)?)?;
+        }
+        Ok(all)
+    }
+}
+
+impl<R: Wait + Drop + Copy, F: Yields> Pool<R, F, BellAwaiter> {
+    /// Is a worker until the task of this Task is over, and sleeps where there is nothing to do. Other workers may run meanwhile, or none.
+    ///
+    /// The output meets what the type of the future states.
+    pub fn block_on<'x>(
+        &'x self,
+        turns: &mut Turns<R, F, BellAwaiter>,
+        task: &mut PoolTask<'x, R, F, BellAwaiter>,
+    ) -> Result<F::Output, BlockOnError>
+    where
+        F: Future<PoolWaker<'x, R, F, BellAwaiter>>,
+        ensures meets { IfOk result (λ output. ∥ F.Yields.meets output ∥₁) }
+        ensures closed { result ≡ Err BlockOnError.Closed → saw_ended (deeds task.new.inner.party) ≡ true }
+        ensures ended { saw_ended (deeds task.old.inner.party) ≡ true → IsErr result }
+        ensures cell { task.new.inner.share ≡ task.old.inner.share }
+        ensures around { task.new.around ≡ task.old.around }
+    {
+        let worker = turns.worker.number();
+        let awaiter = BellAwaiter::new(self.bells(), worker).ok_or(BlockOnError::Refused)?;
+        for _ in self.rt.forever() {
+            let interruptions = self.bells().interruptions();
+            match task.poll(&awaiter) {
+                TaskPoll::Ready(Ok(output)) => return Ok(output),
+                TaskPoll::Ready(Err(_)) => return Err(BlockOnError::Closed),
+                TaskPoll::Refused => return Err(BlockOnError::Refused),
+                TaskPoll::Pending => {}
+            }
+            if self.is_shut_down() {
+                return Err(BlockOnError::ShutDown);
+            }
+            self.turn(turns, interruptions);
+        }
+        unreachable!()
+    }
+}
