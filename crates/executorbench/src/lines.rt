@@ -1,16 +1,5 @@
 //! What is measured, and on which executor.
 
-use crate::failure::Failure;
-use crate::on_pool::JobPool;
-use crate::tally::Measured;
-use crate::{on_futures, on_pool};
-use std::alloc::{AllocGlobal, Global};
-use std::fs::Files;
-use std::random::RandomSource;
-use std::rt::Clock;
-use std::sync::Wait;
-use std::thread::Threads;
-
 /// An executor.
 #[derive(Clone, Copy, Debug, PartialEq, Eq)]
 pub enum Executor {
@@ -110,28 +99,4 @@ pub struct Size {
     pub tasks: u64,
     /// How many threads run them. At least one.
     pub threads: usize,
-}
-
-/// Measures a line on an executor once. `workers` runs all workers of a pool until it is shut down.
-///
-/// An error says that not all tasks ended, or that there was no memory, or that the clock or an executor failed.
-pub fn measure<R, W>(
-    rt: R,
-    alloc: Global,
-    executor: Executor,
-    line: Line,
-    size: Size,
-    workers: &W,
-) -> Result<Measured, Failure>
-where
-    R: Clock + Files + RandomSource + AllocGlobal + Threads + Wait + Drop + Copy + Send + Sync,
-    W: Fn(&JobPool<R>) -> bool + Sync,
-    requires { W.IsAlwaysCallable workers.now }
-{
-    match (executor, line) {
-        (Executor::Pool, Line::Group) => on_pool::await_group(rt, alloc, size, workers),
-        (Executor::Pool, _) => on_pool::run(rt, alloc, line, size, workers),
-        (Executor::Futures, Line::Group) => on_futures::await_group(rt, alloc, size),
-        (Executor::Futures, _) => on_futures::run(rt, alloc, line, size),
-    }
 }

@@ -16,10 +16,13 @@ mod pool_tasks;
 mod report;
 mod tally;
 
+use failure::Failure;
+use lines::{Line, Size};
 use on_pool::JobPool;
 use report::Bench;
 use std::process::ExitCode;
-use std::{env, io, thread};
+use std::{env, io};
+use tally::Measured;
 
 fn main(rt: HostRuntime) -> io::Result<ExitCode> {
     let alloc = rt.alloc();
@@ -29,19 +32,26 @@ fn main(rt: HostRuntime) -> io::Result<ExitCode> {
     }
     let mut out = io::writer(&rt);
     let mut err = rt.stderr();
-    // The workers start here, where the runtime is known: a function that is generic in it cannot show that it outlives their pool.
-    let workers = |pool: &JobPool<_>| thread::map_indices(
-        &rt,
-        alloc,
-        pool.workers(),
-        &|worker| pool.run(worker).is_ok(),
-    )
-    .is_ok();
+    // The workers start here, where the runtime is known.
+    let on_pool = |line: Line, size: Size| -> Result<Measured, Failure> {
+        let pool = JobPool::new(rt, alloc, size.threads)?;
+        on_pool::measure(
+            rt,
+            alloc,
+            &pool,
+            line,
+            size,
+            &|worker| pool.run(worker).is_ok(),
+        )
+    };
     let bench = Bench {
         rt,
         alloc,
-        workers: &workers,
+        on_pool: &on_pool,
     };
     let status = bench.answer(args.as_slice(), &mut out, &mut err);
     Ok(ExitCode::from(status))
 }
+
+#[cfg(test)]
+mod tests;

@@ -19,15 +19,29 @@ use std::thread::Threads;
 
 type RemoteJob = Remote<Job, ()>;
 
-/// Spawns all tasks of a line, has the threads run them, and measures it.
-pub fn run<R>(rt: R, alloc: Global, line: Line, size: Size) -> Result<Measured, Failure>
+/// Measures a line once, on a set of its own.
+///
+/// An error says that not all tasks ended, or that there was no memory, or that the clock or the set failed.
+pub fn measure<R>(rt: R, alloc: Global, line: Line, size: Size) -> Result<Measured, Failure>
+where
+    R: Clock + Files + RandomSource + AllocGlobal + Threads + Wait + Drop + Copy + Send + Sync,
+{
+    if line == Line::Group {
+        await_group(rt, alloc, size)
+    } else {
+        run(rt, alloc, line, size)
+    }
+}
+
+// Spawns all tasks of a line, has the threads run them, and measures it.
+fn run<R>(rt: R, alloc: Global, line: Line, size: Size) -> Result<Measured, Failure>
 where
     R: Clock + Files + RandomSource + AllocGlobal + Threads + Wait + Drop + Copy + Send + Sync,
 {
     let tally = Tally::new(alloc, size.tasks)?;
     let row = Row::new(alloc, &tally, line == Line::Chain)?;
-    let start = Start::new(&rt, alloc)?;
     let tasks = TaskSet::new(&rt, Doorbell::parking(), size.threads)?;
+    let start = Start::new(&rt, alloc)?;
     if line.is_row() {
         spawn_row(alloc, &tasks, &row)?;
     } else {
@@ -98,14 +112,14 @@ fn oversee<R: Clock + Wait>(
     }
 }
 
-/// As `run`, of tasks that are ready at once, whose outputs this thread awaits in one set while the threads run them.
-pub fn await_group<R>(rt: R, alloc: Global, size: Size) -> Result<Measured, Failure>
+// As `run`, of tasks that are ready at once, whose outputs this thread awaits in one set while the threads run them.
+fn await_group<R>(rt: R, alloc: Global, size: Size) -> Result<Measured, Failure>
 where
     R: Clock + Files + RandomSource + AllocGlobal + Threads + Wait + Drop + Copy + Send + Sync,
 {
     let tally = Tally::new(alloc, size.tasks)?;
-    let start = Start::new(&rt, alloc)?;
     let tasks = TaskSet::new(&rt, Doorbell::parking(), size.threads)?;
+    let start = Start::new(&rt, alloc)?;
     let handles = spawn_remote(alloc, &tasks, &tally)?;
     let grown = start.grown(&rt, alloc);
     let ((), (elapsed, answered)) = thread::join(

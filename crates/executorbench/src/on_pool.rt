@@ -20,39 +20,73 @@ pub type JobPool<R> = Pool<R, Job<R>, Awaiter<R>>;
 // A group of their Tasks.
 type JobGroup<'x, R> = TaskGroup<R, Job<R>, ToPool, (), Place<'x, R, Job<R>, Awaiter<R>>>;
 
-/// Spawns all tasks of a line, has the workers run them, and measures it. `workers` runs all workers of a pool until it is shut down.
-pub fn run<R, W>(
+/// Measures a line once, on a pool that is empty. `worker` is the worker of a number of this pool until it is shut down: it is written where the
+/// runtime is known, since code that is generic in it cannot show that it outlives the pool.
+///
+/// An error says that not all tasks ended, or that there was no memory, or that the clock failed.
+pub fn measure<R, W>(
     rt: R,
     alloc: Global,
+    pool: &JobPool<R>,
     line: Line,
     size: Size,
-    workers: &W,
+    worker: &W,
 ) -> Result<Measured, Failure>
 where
     R: Clock + Files + Threads + Wait + Drop + Copy + Send + Sync,
-    W: Fn(&JobPool<R>) -> bool + Sync,
-    requires { W.IsAlwaysCallable workers.now }
+    W: Fn(usize) -> bool + Sync,
+    requires { W.IsAlwaysCallable worker.now }
+{
+    if line == Line::Group {
+        await_group(rt, alloc, pool, size, worker)
+    } else {
+        run(rt, alloc, pool, line, size, worker)
+    }
+}
+
+// Runs all workers, each on a thread.
+fn work<R, W>(rt: &R, alloc: Global, workers: usize, worker: &W)
+where
+    R: Threads + Sync,
+    W: Fn(usize) -> bool + Sync,
+    requires { W.IsAlwaysCallable worker.now }
+{
+    drop(thread::map_indices(rt, alloc, workers, worker));
+}
+
+// Spawns all tasks of a line, has the workers run them, and measures it.
+fn run<R, W>(
+    rt: R,
+    alloc: Global,
+    pool: &JobPool<R>,
+    line: Line,
+    size: Size,
+    worker: &W,
+) -> Result<Measured, Failure>
+where
+    R: Clock + Files + Threads + Wait + Drop + Copy + Send + Sync,
+    W: Fn(usize) -> bool + Sync,
+    requires { W.IsAlwaysCallable worker.now }
 {
     let tally = Tally::new(alloc, size.tasks)?;
     let row = Row::new(alloc, &tally, line == Line::Chain)?;
     let start = Start::new(&rt, alloc)?;
-    let pool = JobPool::new(rt, alloc, size.threads)?;
     if line.is_row() {
-        spawn_row(alloc, &pool, &row)?;
+        spawn_row(alloc, pool, &row)?;
     } else {
-        spawn_jobs(&pool, &tally, line.yields())?;
+        spawn_jobs(pool, &tally, line.yields())?;
     }
     let grown = start.grown(&rt, alloc);
     let hands_over = line == Line::Handoff;
     let (elapsed, ()) = thread::join(
         &rt,
         ||
-            requires { W.IsAlwaysCallable workers.now }
+            requires { W.IsAlwaysCallable worker.now }
         {
-            workers(&pool);
+            work(&rt, alloc, pool.workers(), worker);
             start.elapsed(&rt)
         },
-        || oversee(&rt, &pool, &tally, &row, hands_over),
+        || oversee(&rt, pool, &tally, &row, hands_over),
     );
     Measured::new(&tally, elapsed?, grown)
 }
@@ -116,19 +150,24 @@ fn oversee<R: Clock + Wait + Drop + Copy>(
     }
 }
 
-/// As `run`, of tasks that are ready at once, whose outputs this thread awaits in a group while the workers run them.
-pub fn await_group<R, W>(rt: R, alloc: Global, size: Size, workers: &W) -> Result<Measured, Failure>
+// As `run`, of tasks that are ready at once, whose outputs this thread awaits in a group while the workers run them.
+fn await_group<R, W>(
+    rt: R,
+    alloc: Global,
+    pool: &JobPool<R>,
+    size: Size,
+    worker: &W,
+) -> Result<Measured, Failure>
 where
     R: Clock + Files + Threads + Wait + Drop + Copy + Send + Sync,
-    W: Fn(&JobPool<R>) -> bool + Sync,
-    requires { W.IsAlwaysCallable workers.now }
+    W: Fn(usize) -> bool + Sync,
+    requires { W.IsAlwaysCallable worker.now }
 {
     let tally = Tally::new(alloc, size.tasks)?;
     let start = Start::new(&rt, alloc)?;
-    let pool = JobPool::new(rt, alloc, size.threads)?;
     let mut group = TaskGroup::new(rt, alloc, size.tasks as usize)?;
     for _ in 0..size.tasks {
-        let refused = group.push(spawn_job(&pool, &tally, 0)?).is_err();
+        let refused = group.push(spawn_job(pool, &tally, 0)?).is_err();
         if refused {
             return Err(Failure::NoMemory);
         }
@@ -137,10 +176,10 @@ where
     let (_, (elapsed, answered)) = thread::join(
         &rt,
         ||
-            requires { W.IsAlwaysCallable workers.now }
-        { workers(&pool) },
+            requires { W.IsAlwaysCallable worker.now }
+        { work(&rt, alloc, pool.workers(), worker) },
         || {
-            let answered = answers_of(&rt, &pool, &tally, &mut group);
+            let answered = answers_of(&rt, pool, &tally, &mut group);
             (start.elapsed(&rt), answered)
         },
     );

@@ -3,8 +3,9 @@ ghost use Rattle.std.specs.Prelude.{◌≡◌, ◌≤◌, [], IsErr};
 
 use crate::asked::{Request, asked};
 use crate::failure::Failure;
-use crate::lines::{Executor, Line, Size, measure};
-use crate::on_pool::JobPool;
+use crate::lines::{Executor, Line, Size};
+use crate::on_futures;
+use crate::tally::Measured;
 use std::alloc::{AllocGlobal, Global};
 use std::fs::Files;
 use std::io;
@@ -21,7 +22,7 @@ const HELP: &str = "
 Measures the pool beside the kit's futures: tasks a second, and bytes a task.
 
     check                               few tasks for each line, and no times: the tasks that ended
-    run [COUNT]                         all lines on 1, 2 and 4 threads; spawn has COUNT tasks, 10000 where it is left out, the others a tenth
+    run [COUNT]                         all lines on 1, 2 and 4 threads: COUNT tasks in spawn, or 10000, and a tenth in the others
     grow                                spawn and group with 10000, 100000 and 1000000 tasks
     one EXECUTOR LINE THREADS COUNT     one measurement
     --help                              this text
@@ -59,25 +60,26 @@ pub struct Bench<'a, R, W> {
     pub rt: R,
     /// Where memory comes from.
     pub alloc: Global,
-    /// It runs all workers of a pool until it is shut down.
-    pub workers: &'a W,
+    /// It measures a line on a pool of its own, once.
+    pub on_pool: &'a W,
 }
 
 impl<R, W> Bench<'_, R, W>
 where
     R: Clock + Files + RandomSource + AllocGlobal + Threads + Wait + Drop + Copy + Send + Sync,
-    W: Fn(&JobPool<R>) -> bool + Sync,
+    W: Fn(Line, Size) -> Result<Measured, Failure>,
 {
     /// Does what the arguments ask for, and answers the status.
     ///
-    /// The status is 0; 1 where a line or a writer failed, which is told on `err`; and 2, with a line on `err`, where it is not known what is asked for.
+    /// The status is 0; 1 where a line or a writer failed, which is told on `err`; and 2, with the usage on `err`, where it is not known
+    /// what is asked for.
     pub fn answer<O: io::Write, E: io::Write>(
         &self,
         args: &[String],
         out: &mut O,
         err: &mut E,
     ) -> u8
-        requires { W.IsAlwaysCallable self.now.workers.now }
+        requires { W.IsAlwaysCallable self.now.on_pool.now }
         ensures status { result ≤ 2 }
         ensures nothing { args.now ≡ [] → result ≡ 2 }
     {
@@ -93,7 +95,7 @@ where
     }
 
     fn print<O: io::Write>(&self, request: Request, out: &mut O) -> Result<(), Failure>
-        requires { W.IsAlwaysCallable self.now.workers.now }
+        requires { W.IsAlwaysCallable self.now.on_pool.now }
     {
         match request {
             Request::Help => print_help(out)?,
@@ -108,7 +110,7 @@ where
 
     // How many of few tasks ended, for each line on each number of threads.
     fn print_check<O: io::Write>(&self, out: &mut O) -> Result<(), Failure>
-        requires { W.IsAlwaysCallable self.now.workers.now }
+        requires { W.IsAlwaysCallable self.now.on_pool.now }
     {
         for line in Line::ALL {
             for threads in THREADS {
@@ -126,28 +128,12 @@ where
     }
 
     fn print_ended<O: io::Write>(&self, line: Line, size: Size, out: &mut O) -> Result<(), Failure>
-        requires { W.IsAlwaysCallable self.now.workers.now }
+        requires { W.IsAlwaysCallable self.now.on_pool.now }
     {
         let name = line.name();
         let threads = size.threads;
-        let pool = measure(
-            self.rt,
-            self.alloc,
-            Executor::Pool,
-            line,
-            size,
-            self.workers,
-        )?
-        .ended;
-        let futures = measure(
-            self.rt,
-            self.alloc,
-            Executor::Futures,
-            line,
-            size,
-            self.workers,
-        )?
-        .ended;
+        let pool = self.measure(Executor::Pool, line, size)?.ended;
+        let futures = self.measure(Executor::Futures, line, size)?.ended;
         writeln!(
             out,
             "{name} threads {threads} ended pool {pool} futures {futures}"
@@ -157,7 +143,7 @@ where
 
     // The table of all lines.
     fn print_run<O: io::Write>(&self, tasks: u64, out: &mut O) -> Result<(), Failure>
-        requires { W.IsAlwaysCallable self.now.workers.now }
+        requires { W.IsAlwaysCallable self.now.on_pool.now }
     {
         writeln!(out, "{HEAD}")?;
         for line in Line::ALL {
@@ -173,7 +159,7 @@ where
 
     // The table of what grows.
     fn print_growth<O: io::Write>(&self, out: &mut O) -> Result<(), Failure>
-        requires { W.IsAlwaysCallable self.now.workers.now }
+        requires { W.IsAlwaysCallable self.now.on_pool.now }
     {
         writeln!(out, "{HEAD}")?;
         for line in [Line::Spawn, Line::Group] {
@@ -186,7 +172,7 @@ where
 
     // A line of a table for each number of threads.
     fn print_rows<O: io::Write>(&self, line: Line, tasks: u64, out: &mut O) -> Result<(), Failure>
-        requires { W.IsAlwaysCallable self.now.workers.now }
+        requires { W.IsAlwaysCallable self.now.on_pool.now }
     {
         let name = line.name();
         for threads in THREADS {
@@ -214,9 +200,9 @@ where
         size: Size,
         out: &mut O,
     ) -> Result<(), Failure>
-        requires { W.IsAlwaysCallable self.now.workers.now }
+        requires { W.IsAlwaysCallable self.now.on_pool.now }
     {
-        let measured = measure(self.rt, self.alloc, executor, line, size, self.workers)?;
+        let measured = self.measure(executor, line, size)?;
         let rate = per_second(measured.ended, measured.elapsed);
         write!(out, "ended {} per_second {rate} bytes", measured.ended)?;
         print_bytes(bytes_of_one(measured.grown, size.tasks), out)?;
@@ -224,14 +210,23 @@ where
         Ok(())
     }
 
+    fn measure(&self, executor: Executor, line: Line, size: Size) -> Result<Measured, Failure>
+        requires { W.IsAlwaysCallable self.now.on_pool.now }
+    {
+        match executor {
+            Executor::Pool => (self.on_pool)(line, size),
+            Executor::Futures => on_futures::measure(self.rt, self.alloc, line, size),
+        }
+    }
+
     // Measures a line on an executor several times.
     fn summarize(&self, executor: Executor, line: Line, size: Size) -> Result<Summary, Failure>
-        requires { W.IsAlwaysCallable self.now.workers.now }
+        requires { W.IsAlwaysCallable self.now.on_pool.now }
     {
         let mut rates = Vec::new(self.alloc);
         let mut bytes = None;
         for _ in 0..REPETITIONS {
-            let measured = measure(self.rt, self.alloc, executor, line, size, self.workers)?;
+            let measured = self.measure(executor, line, size)?;
             rates.push(per_second(measured.ended, measured.elapsed))?;
             bytes = bytes.max(bytes_of_one(measured.grown, size.tasks));
         }
