@@ -20,8 +20,9 @@ pub type JobPool<R> = Pool<R, Job<R>, Awaiter<R>>;
 // A group of their Tasks.
 type JobGroup<'x, R> = TaskGroup<R, Job<R>, ToPool, (), Place<'x, R, Job<R>, Awaiter<R>>>;
 
-/// Measures a line once, on a pool that is empty. `worker` is the worker of a number of this pool until it is shut down: it is written where the
-/// runtime is known, since code that is generic in it cannot show that it outlives the pool.
+/// Measures a line once, on a pool that is empty. `worker` is the worker of a number of this pool until it is shut down.
+///
+/// It is written where the runtime is known, since code that is generic in it cannot show that it outlives the pool.
 ///
 /// An error says that not all tasks ended, or that there was no memory, or that the clock failed.
 pub fn measure<R, W>(
