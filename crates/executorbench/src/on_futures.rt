@@ -138,6 +138,7 @@ where
 }
 
 // Spawns jobs, and puts what gives their outputs into one set.
+#[tactic(auto, using(crate::proofs::Pollable::all_pollable))]
 fn spawn_remote(
     alloc: Global,
     tasks: &TaskSet<RemoteJob>,
@@ -154,6 +155,7 @@ fn spawn_remote(
 }
 
 // How many tasks gave an output. Another thread ends the set where a task is lost.
+#[tactic(auto, using(crate::proofs::Pollable::all_pollable))]
 fn answers_of<R>(
     rt: &R,
     alloc: Global,
