@@ -119,9 +119,11 @@ impl Job {
     }
 }
 
-impl Link {
+impl Future for Link {
+    type Output = ();
+
     // Registers the waker where the gate is shut. Once it is open, the task wakes the next where its row passes on.
-    fn poll(&self, cx: &mut Context<'_>) -> Poll<()> {
+    fn poll(&mut self, cx: &mut Context<'_>) -> Poll<()> {
         if let Some(gate) = self.row.gates.get(self.at) {
             let Some(mut guard) = spin::lock(&gate.state) else {
                 return cx.yield_now();
@@ -146,7 +148,7 @@ impl Future for Job {
             self.left -= 1;
             return cx.yield_now();
         }
-        if let Some(link) = &self.link {
+        if let Some(link) = &mut self.link {
             ready!(link.poll(cx));
         }
         self.tally.count();

@@ -1,4 +1,5 @@
 //! The count of the tasks that ended, the time that they took, and the memory that they have.
+ghost use Rattle.std.specs.Prelude.{◌≡◌, IfOk};
 
 use crate::failure::Failure;
 use crate::memory::resident;
@@ -48,7 +49,9 @@ impl Tally {
     }
 
     /// How many are to end.
-    pub fn wanted(&self) -> u64 {
+    pub fn wanted(&self) -> u64
+        ensures { result ≡ self.now.wanted }
+    {
         self.wanted
     }
 
