@@ -1,0 +1,225 @@
+//! The lines on the pool of `executor`.
+
+use crate::failure::Failure;
+use crate::lines::{Line, Size};
+use crate::pool_tasks::{Job, Row};
+use crate::tally::{Measured, Start, Tally};
+use awaiters::Awaiter;
+use executor::{Place, Pool, PoolTask, ToPool};
+use std::alloc::Global;
+use std::fs::Files;
+use std::rt::Clock;
+use std::sync::{Arc, Wait};
+use std::thread;
+use std::thread::Threads;
+use task_group::TaskGroup;
+
+/// A pool of these tasks.
+pub type JobPool<R> = Pool<R, Job<R>, Awaiter<R>>;
+
+// A group of their Tasks.
+type JobGroup<'x, R> = TaskGroup<R, Job<R>, ToPool, (), Place<'x, R, Job<R>, Awaiter<R>>>;
+
+/// Measures a line once, on a pool that is empty. `worker` is the worker of a number of this pool until it is shut down.
+///
+/// It is written where the runtime is known, since code that is generic in it cannot show that it outlives the pool.
+///
+/// An error says that not all tasks ended, or that there was no memory, or that the clock failed.
+pub fn measure<R, W>(
+    rt: R,
+    alloc: Global,
+    pool: &JobPool<R>,
+    line: Line,
+    size: Size,
+    worker: &W,
+) -> Result<Measured, Failure>
+where
+    R: Clock + Files + Threads + Wait + Drop + Copy + Send + Sync,
+    W: Fn(usize) -> bool + Sync,
+    requires { W.IsAlwaysCallable worker.now }
+{
+    if line == Line::Group {
+        await_group(rt, alloc, pool, size, worker)
+    } else {
+        run(rt, alloc, pool, line, size, worker)
+    }
+}
+
+// Runs all workers, each on a thread.
+fn work<R, W>(rt: &R, alloc: Global, workers: usize, worker: &W)
+where
+    R: Threads + Sync,
+    W: Fn(usize) -> bool + Sync,
+    requires { W.IsAlwaysCallable worker.now }
+{
+    drop(thread::map_indices(rt, alloc, workers, worker));
+}
+
+// Spawns all tasks of a line, has the workers run them, and measures it.
+fn run<R, W>(
+    rt: R,
+    alloc: Global,
+    pool: &JobPool<R>,
+    line: Line,
+    size: Size,
+    worker: &W,
+) -> Result<Measured, Failure>
+where
+    R: Clock + Files + Threads + Wait + Drop + Copy + Send + Sync,
+    W: Fn(usize) -> bool + Sync,
+    requires { W.IsAlwaysCallable worker.now }
+{
+    let tally = Tally::new(alloc, size.tasks)?;
+    let row = Row::new(alloc, &tally, line == Line::Chain)?;
+    let start = Start::new(&rt, alloc)?;
+    if line.is_row() {
+        spawn_row(alloc, pool, &row)?;
+    } else {
+        spawn_jobs(pool, &tally, line.yields())?;
+    }
+    let grown = start.grown(&rt, alloc);
+    let hands_over = line == Line::Handoff;
+    let (elapsed, ()) = thread::join(
+        &rt,
+        ||
+            requires { W.IsAlwaysCallable worker.now }
+        {
+            work(&rt, alloc, pool.workers(), worker);
+            start.elapsed(&rt)
+        },
+        || oversee(&rt, pool, &tally, &row, hands_over),
+    );
+    Measured::new(&tally, elapsed?, grown)
+}
+
+// Spawns jobs that give way so often.
+fn spawn_jobs<R: Wait + Drop + Copy>(
+    pool: &JobPool<R>,
+    tally: &Arc<Tally>,
+    left: u64,
+) -> Result<(), Failure> {
+    for _ in 0..tally.wanted() {
+        spawn_job(pool, tally, left)?.detach();
+    }
+    Ok(())
+}
+
+fn spawn_job<'x, R: Wait + Drop + Copy>(
+    pool: &'x JobPool<R>,
+    tally: &Arc<Tally>,
+    left: u64,
+) -> Result<PoolTask<'x, R, Job<R>, Awaiter<R>>, Failure> {
+    let job = Job::new(tally, left)?;
+    pool.spawn(job).ok().ok_or(Failure::NoMemory)
+}
+
+// Spawns the jobs of a row, the first one last: so the others wait by then. Where the row passes on, the first needs no wake.
+fn spawn_row<R: Wait + Drop + Copy>(
+    alloc: Global,
+    pool: &JobPool<R>,
+    row: &Arc<Row>,
+) -> Result<(), Failure> {
+    if row.passes_on() {
+        row.wake((pool, pool.workers()), 0);
+    }
+    for at in (0..row.len()).rev() {
+        let job = Job::in_row(alloc, row, at)?;
+        let spawned = pool.spawn(job);
+        spawned.ok().ok_or(Failure::NoMemory)?.detach();
+    }
+    Ok(())
+}
+
+// Wakes the tasks of the row where it hands over, and ends the pool where a task is lost.
+fn oversee<R: Clock + Wait + Drop + Copy>(
+    rt: &R,
+    pool: &JobPool<R>,
+    tally: &Tally,
+    row: &Row,
+    hands_over: bool,
+) {
+    if hands_over {
+        for at in 0..row.len() {
+            row.wake((pool, pool.workers()), at);
+            if !tally.passes(at as u64) {
+                break;
+            }
+        }
+    }
+    if !tally.wait(rt) {
+        pool.shutdown();
+    }
+}
+
+// As `run`, of tasks that are ready at once, whose outputs this thread awaits in a group while the workers run them.
+fn await_group<R, W>(
+    rt: R,
+    alloc: Global,
+    pool: &JobPool<R>,
+    size: Size,
+    worker: &W,
+) -> Result<Measured, Failure>
+where
+    R: Clock + Files + Threads + Wait + Drop + Copy + Send + Sync,
+    W: Fn(usize) -> bool + Sync,
+    requires { W.IsAlwaysCallable worker.now }
+{
+    let tally = Tally::new(alloc, size.tasks)?;
+    let start = Start::new(&rt, alloc)?;
+    let mut group = TaskGroup::new(rt, alloc, size.tasks as usize)?;
+    for _ in 0..size.tasks {
+        let refused = group.push(spawn_job(pool, &tally, 0)?).is_err();
+        if refused {
+            return Err(Failure::NoMemory);
+        }
+    }
+    let grown = start.grown(&rt, alloc);
+    let (_, (elapsed, answered)) = thread::join(
+        &rt,
+        ||
+            requires { W.IsAlwaysCallable worker.now }
+        { work(&rt, alloc, pool.workers(), worker) },
+        || {
+            let answered = answers_of(&rt, pool, &tally, &mut group);
+            (start.elapsed(&rt), answered)
+        },
+    );
+    if answered != size.tasks {
+        return Err(Failure::Unanswered(answered, size.tasks));
+    }
+    Measured::new(&tally, elapsed?, grown)
+}
+
+// How many tasks of a group gave an output. Another thread ends the pool where a task is lost.
+fn answers_of<'x, R: Clock + Threads + Wait + Drop + Copy + Send + Sync>(
+    rt: &R,
+    pool: &JobPool<R>,
+    tally: &Tally,
+    group: &mut JobGroup<'x, R>,
+) -> u64 {
+    let ((), answered) = thread::join(
+        rt,
+        || {
+            if !tally.wait(rt) {
+                pool.shutdown();
+            }
+        },
+        || count_answers(rt, group),
+    );
+    answered
+}
+
+fn count_answers<'x, R: Wait + Drop + Copy>(rt: &R, group: &mut JobGroup<'x, R>) -> u64 {
+    let mut answered = 0u64;
+    for _ in rt.forever() {
+        match group.next() {
+            Ok(Some(ended)) => {
+                if ended.answer.is_ok() {
+                    answered = answered.wrapping_add(1);
+                }
+            }
+            _ => return answered,
+        }
+    }
+    unreachable!()
+}
