@@ -604,7 +604,8 @@ def pictures():
     texts = [(CRATES / f"{name}.antt").read_text(encoding="utf-8") for name in FILES]
     definitions = Definitions(texts)
     yield DOCUMENTS / "life.svg", Life(definitions).text()
-    acts = re.search(r"Act\.TheVariants\.\{([^}]*)\}", texts[FILES.index("task_laws/specs/Position")]).group(1).split(", ")
+    imports = re.findall(r"Act\.TheVariants\.\{([^}]*)\}", texts[FILES.index("task_laws/specs/Position")])
+    acts = ", ".join(imports).split(", ")
     exploration = Exploration(definitions, acts)
     print(f"{len(exploration.seen)} states of the machine")
     for name, (flags, empty, size, places) in PICTURES.items():

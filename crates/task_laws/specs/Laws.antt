@@ -1,7 +1,10 @@
 -- The laws, of a trace alone.
 use Rattle.std.specs.Prelude.{◌≡◌, ℕ, ◌+◌, ◌≤◌, ◌⊎◌, Bool, true, false, not, ◌&&◌, ◌||◌, nat_lt, nat_eq, List, [], ◌∷◌, Option, Some, None}
 use Rattle.task_core.specs.Word.{bit}
-use Rattle.task_laws.specs.Event.{BySpawn, ByWake, ByClosing, IsPending, IsClosed, HasOutput, Event, FuturePollBegins, FuturePending, FutureReady, FutureDropped, OutputTaken, OutputDropped, Made, TakenUp, RunEnded, WakeStep, Completes, Closes, Empties, TaskPollBegins, TaskPollEnds, Cloned, Woken, CloneEnded, WakerGained, WakerGivenUp, TaskGivenUp, CallBegins, CallEnds}
+use Rattle.task_laws.specs.Event.{BySpawn, ByWake, ByClosing, IsPending, IsClosed, HasOutput, Event, FuturePollBegins, FuturePending}
+use Rattle.task_laws.specs.Event.{FutureReady, FutureDropped, OutputTaken, OutputDropped, Made, TakenUp, RunEnded, WakeStep, Completes}
+use Rattle.task_laws.specs.Event.{Closes, Empties, TaskPollBegins, TaskPollEnds, Cloned, Woken, CloneEnded, WakerGained, WakerGivenUp}
+use Rattle.task_laws.specs.Event.{TaskGivenUp, CallBegins, CallEnds}
 
 -- how many events of the trace pass
 abbrev pub count : (Event → Bool) → List Event → ℕ
@@ -122,7 +125,9 @@ taken_up_closed (TakenUp ∷ earlier) = nat_lt 0 (count is_closing earlier) || t
 taken_up_closed (_ ∷ earlier) = taken_up_closed earlier
 
 abbrev pub MayPoll : Event → List Event → Type 0
-MayPoll FuturePollBegins earlier = (count is_future_poll earlier ≡ count is_future_answer earlier) × (count is_future_ready earlier ≡ 0) × (count is_future_drop earlier ≡ 0) × (taken_up_closed earlier ≡ false)
+MayPoll FuturePollBegins earlier =
+    (count is_future_poll earlier ≡ count is_future_answer earlier) × (count is_future_ready earlier ≡ 0)
+    × (count is_future_drop earlier ≡ 0) × (taken_up_closed earlier ≡ false)
 MayPoll FuturePending earlier = count is_future_poll earlier ≡ count is_future_answer earlier + 1
 MayPoll FutureReady earlier = count is_future_poll earlier ≡ count is_future_answer earlier + 1
 MayPoll FutureDropped earlier = count is_future_poll earlier ≡ count is_future_answer earlier
@@ -204,7 +209,8 @@ woken_since_taking_up (WakeStep ∷ earlier) = is_open_after earlier || woken_si
 woken_since_taking_up (_ ∷ earlier) = woken_since_taking_up earlier
 
 abbrev pub is_fresh_after : List Event → Bool
-is_fresh_after earlier = is_open_after earlier && not (runnable_exists earlier) && not (is_unfinished earlier && woken_since_taking_up earlier)
+is_fresh_after earlier =
+    is_open_after earlier && not (runnable_exists earlier) && not (is_unfinished earlier && woken_since_taking_up earlier)
 
 abbrev pub fresh_wakes : List Event → ℕ
 fresh_wakes [] = 0

@@ -1,6 +1,9 @@
 -- What holds of the machine after every list of steps that it allows.
 use Rattle.std.specs.Prelude.{◌≡◌, ◌≢◌, ℕ, ◌+◌, ◌≤◌, Bool, true, false, List, Some, None}
-use Rattle.task_laws.specs.Position.{Runnable, Waker, OfClaim, Position, At, CallEnding, Deliverer, Starting, Polling, Pending, Ready, ReadyFutureDropped, OutputStored, PendingFutureDropped, FutureInHand, FutureGone, OutputInHand, GivingUp, Emptier, Notifier, Taker, Releaser, AwaiterInHand, Storing, Registered, TookBack, TookOutput, OldAwaiterInHand, OutputCloser, OfRun, OfDrop, Act}
+use Rattle.task_laws.specs.Position.{Runnable, Waker, OfClaim, Position, At, CallEnding, Deliverer, Starting, Polling, Pending, Ready}
+use Rattle.task_laws.specs.Position.{ReadyFutureDropped, OutputStored, PendingFutureDropped, FutureInHand, FutureGone, OutputInHand}
+use Rattle.task_laws.specs.Position.{GivingUp, Emptier, Notifier, Taker, Releaser, AwaiterInHand, Storing, Registered, TookBack, TookOutput}
+use Rattle.task_laws.specs.Position.{OldAwaiterInHand, OutputCloser, OfRun, OfDrop, Act}
 use Rattle.task_laws.specs.Table.{Scene, Outcome, rule}
 use Rattle.task_laws.specs.Machine.{Machine, Step, run, how_many}
 use Rattle.task_laws.specs.Laws.{OnePoller, EachEndsOnce, NobodyIsLeft, AllEnded, NoWakeLost, NoAwaiterLost, MakingsCounted}

@@ -1,13 +1,24 @@
 -- Whole runs of the machine, and the abstract task that stands where they are cut.
-use Rattle.std.specs.Prelude.{◌≡◌, ℕ, ◌+◌, Bool, true, false, not, ◌&&◌, ◌||◌, nat_eq, nat_lt, if◌then◌else◌, List, [], ◌∷◌, Option, Some, None, slice_get, length}
+use Rattle.std.specs.Prelude.{◌≡◌, ℕ, ◌+◌, Bool, true, false, not, ◌&&◌, ◌||◌, nat_eq, nat_lt, if◌then◌else◌, List, [], ◌∷◌, Option, Some}
+use Rattle.std.specs.Prelude.{None, slice_get, length}
 use Rattle.task_core.specs.Word.{State}
-use Rattle.task_laws.specs.Event.{IsClosed, HasOutput, Nothing, Event, FutureDropped, OutputTaken, OutputDropped, HandedOver, Empties, TaskPollEnds, Woken, CloneEnded, CallEnds}
-use Rattle.task_laws.specs.Position.{Rest, Runnable, Lent, Task, ClosedRun, DroppedRunnable, OfCancel, OfPoll, OfClaim, Position, At, CallEnding, Deliverer, Starting, Polling, Pending, Ready, ReadyFutureDropped, OutputStored, PendingFutureDropped, FutureInHand, FutureGone, GivingUp, Notifier, AwaiterInHand, Registrar, Registered, Looking, TookOutput, Answering, Detacher, Act, GainReference, FindLimit, DropWaker, DropLastWaker, OrphanTask, WakeOver, WakeScheduled, WakeRunning, WakeIdle, DiscardOpen, DiscardClosed, CancelOver, CancelBusy, CancelIdle, GiveUpOutput, DetachOrphan, DetachLast, Detach, TakeUpClosed, StartRun, LookFinished, StartPoll, AnswerReady, DropFuture, DropOutput, CloneAwaiter, WakeAwaiter, DropAwaiter, HandOver, RefuseGain}
+use Rattle.task_laws.specs.Event.{IsClosed, HasOutput, Nothing, Event, FutureDropped, OutputTaken, OutputDropped, HandedOver, Empties}
+use Rattle.task_laws.specs.Event.{TaskPollEnds, Woken, CloneEnded, CallEnds}
+use Rattle.task_laws.specs.Position.{Rest, Runnable, Lent, Task, ClosedRun, DroppedRunnable, OfCancel, OfPoll, OfClaim, Position, At}
+use Rattle.task_laws.specs.Position.{CallEnding, Deliverer, Starting, Polling, Pending, Ready, ReadyFutureDropped, OutputStored}
+use Rattle.task_laws.specs.Position.{PendingFutureDropped, FutureInHand, FutureGone, GivingUp, Notifier, AwaiterInHand, Registrar}
+use Rattle.task_laws.specs.Position.{Registered, Looking, TookOutput, Answering, Detacher, Act, GainReference, FindLimit, DropWaker}
+use Rattle.task_laws.specs.Position.{DropLastWaker, OrphanTask, WakeOver, WakeScheduled, WakeRunning, WakeIdle, DiscardOpen, DiscardClosed}
+use Rattle.task_laws.specs.Position.{CancelOver, CancelBusy, CancelIdle, GiveUpOutput, DetachOrphan, DetachLast, Detach, TakeUpClosed}
+use Rattle.task_laws.specs.Position.{StartRun, LookFinished, StartPoll, AnswerReady, DropFuture, DropOutput, CloneAwaiter, WakeAwaiter}
+use Rattle.task_laws.specs.Position.{DropAwaiter, HandOver, RefuseGain}
 use Rattle.task_laws.specs.Machine.{Machine, Step, opening, step, how_many}
 use Rattle.task_laws.specs.Laws.{count, is_closing, is_future_drop, is_task_given_up, woken_since_taking_up}
 use Rattle.task_laws.specs.Theorem.{is_waker, is_runner}
 use Rattle.task_core.specs.Local.{Phase, Idle, Queued, Polled, PolledAndWoken, Done, Awaiter, NoAwaiter, Due, Forgotten}
-use Rattle.task_laws.specs.Abstract.{Call, AbstractCell, Frame, InPoll, RunDropped, DropDropped, ReadyDropped, PendingDropped, Takes, Detaches, GivesUp, TakesOfCancel, Ends, Clones, Stores, Looks, Asks, Answers, Move, Begin, Go, Abstract, all_moved}
+use Rattle.task_laws.specs.Abstract.{Call, AbstractCell, Frame, InPoll, RunDropped, DropDropped, ReadyDropped, PendingDropped, Takes}
+use Rattle.task_laws.specs.Abstract.{Detaches, GivesUp, TakesOfCancel, Ends, Clones, Stores, Looks, Asks, Answers, Move, Begin, Go}
+use Rattle.task_laws.specs.Abstract.{Abstract, all_moved}
 use Rattle.task_laws.specs.Abstract
 
 -- A run is cut after the acts in which foreign code runs ..
@@ -176,7 +187,8 @@ abbrev pub awaiter_of : State → Option ℕ → Awaiter ℕ
 awaiter_of w None = NoAwaiter
 awaiter_of w (Some i) = if w.awaiter || w.registering then Due i else Forgotten i
 
--- The output is the one in its slot, unless the task is closed: then it is about to be handed out or dropped. The future goes by the phase, not by its slot: a poll leaves it there, and where it is dropped unpolled the slot is empty while the abstract row is still to come.
+-- The output is the one in its slot, unless the task is closed: then it is about to be handed out or dropped. The future goes by the phase,
+-- not by its slot: a poll leaves it there, and where it is dropped unpolled the slot is empty while the abstract row is still to come.
 abbrev pub reading : Machine → AbstractCell
 reading m = record {
   task = record {
@@ -245,4 +257,5 @@ read w = record { cell = reading w.machine; frames = frames w.machine.parties w.
 
 -- Wherever a whole run may be cut, the moves that it made are a run of the abstract task, which leads to the reading.
 abbrev pub WholeRunsAgree : Type 0
-WholeRunsAgree = (limit : ℕ) (steps : List Step) (w : Whole) → whole limit steps ≡ Some w → w.cut ≡ true → all_moved limit w.moves ≡ Some (read w)
+WholeRunsAgree =
+    (limit : ℕ) (steps : List Step) (w : Whole) → whole limit steps ≡ Some w → w.cut ≡ true → all_moved limit w.moves ≡ Some (read w)

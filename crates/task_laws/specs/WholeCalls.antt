@@ -27,7 +27,8 @@ abbrev pub takes_all : SegmentEnd → List Bool → Bool
 takes_all l [] = true
 takes_all l (answer ∷ answers) = is_some l.frame && takes_all (to_next l l.frame answer) answers
 
--- Wherever a whole run makes a call whole, with no call inside, it leads to the reading to which the abstract call leads. Where other calls are open below it, the last answers must be the call's own.
+-- Wherever a whole run makes a call whole, with no call inside, it leads to the reading to which the abstract call leads. Where other calls
+-- are open below it, the last answers must be the call's own.
 abbrev pub WholeCallsAgree : Type 0
 WholeCallsAgree = (limit : ℕ) (steps more : List Step) (w v : Whole) (call : Call) (answers : List Bool)
     → whole limit steps ≡ Some w → w.cut ≡ true → whole_from (Some w) more ≡ Some v → v.cut ≡ true
