@@ -17,7 +17,7 @@ DOCUMENTS = pathlib.Path(__file__).resolve().parent
 CRATES = DOCUMENTS.parent / "crates"
 FILES = (
     "task_core/specs/Word", "task_core/specs/Rows", "task_laws/specs/Position", "task_laws/specs/Table",
-    "task_laws/specs/Machine", "task_laws/specs/Theorem", "task_progress/specs/Waiting",
+    "task_laws/specs/Machine", "task_laws/specs/Holders", "task_progress/specs/Waiting",
 )
 TOKEN = re.compile(r"0x[0-9a-fA-F_]+|\d+|\w+|\[\]|&&|\|\||\+\+|\S")
 PRECEDENCE = {"||": 1, "&&": 2, "∷": 3, "++": 3, "+": 4, "-": 4, "*": 5, "/": 5, "%": 5, "^": 6}

@@ -1,4 +1,4 @@
--- What a party does, as the module `acts` declares it.
+-- 2 of 6: what a party does, as the module `acts` declares it.
 pub use Rattle.task_core.specs.declared.acts.Act.{Act}
 pub use Rattle.task_core.specs.declared.acts.Act.TheVariants.{GainReference, FindLimit, DropWaker, DropLastWaker, OrphanTask, CloseOrphan}
 pub use Rattle.task_core.specs.declared.acts.Act.TheVariants.{GiveUpReference, GiveUpLastReference, WakeOver, WakeScheduled, WakeRunning}

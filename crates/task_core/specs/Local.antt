@@ -1,4 +1,4 @@
--- The task of one thread: what each call makes of it, and what the call hands out.
+-- 5 of 6: the task of one thread, what each call makes of it, and what the call hands out.
 use Rattle.std.specs.Prelude.{ℕ, ◌+◌, ◌-◌, Bool, true, false, not, ◌&&◌, ◌||◌, nat_eq, nat_lt, if◌then◌else◌, Option, Some, None}
 use Rattle.task_core.specs.declared.traits.Poll.{Poll}
 use Rattle.task_core.specs.declared.traits.Poll.TheVariants.{Pending, Ready}

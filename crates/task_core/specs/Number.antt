@@ -1,4 +1,4 @@
--- A number in memory and the word that it is read as say the same.
+-- 4 of 6: a number in memory and the word that it is read as say the same.
 use Rattle.std.specs.Prelude.{◌≡◌, ℕ, ◌+◌, ◌*◌, ◌/◌, ◌%◌, ◌^◌, ◌<◌, nat_eq, refl}
 use Rattle.std.proofs.Common.{zero, suc, sym, ap, ◌∙◌, add_assoc}
 use Rattle.std.proofs.Math.Nat.{mul_assoc, mul-add, mod-add-div, div-one, not-suc-le-zero, le_of_suc-le-suc}

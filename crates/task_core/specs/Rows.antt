@@ -1,4 +1,4 @@
--- What each row finds, and what it writes.
+-- 3 of 6: what each row finds, and what it writes.
 use Rattle.std.specs.Prelude.{ℕ, ◌+◌, ◌-◌, Bool, true, false, not, ◌&&◌, ◌||◌, nat_lt, nat_le, nat_eq, if◌then◌else◌, Option, Some, None}
 use Rattle.task_core.specs.Word.{State, orphan_word, is_open}
 use Rattle.task_core.specs.Act.{Act, GainReference, FindLimit, DropWaker, DropLastWaker, OrphanTask, CloseOrphan, GiveUpReference}

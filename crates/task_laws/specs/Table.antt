@@ -1,4 +1,4 @@
--- The table of moves: from where a party steps, and where it goes.
+-- 4 of 11: the table of moves, from where a party steps, and where it goes.
 use Rattle.std.specs.Prelude.{ℕ, zero, suc, ◌+◌, Bool, true, false, not, ◌&&◌, ◌||◌, if◌then◌else◌, List, [], ◌∷◌, Option, Some, None}
 use Rattle.task_core.specs.Word.{State, is_open}
 use Rattle.task_core.specs.Rows.{found, written}

@@ -19,7 +19,8 @@ use Rattle.task_core.specs.declared.acts.Act.TheVariants.{Complete, CompleteDeta
 use Rattle.task_core.specs.declared.acts.Act.TheVariants.{BeginNotify, MissNotify, BeginRegister, EndNotify, EndRegister}
 use Rattle.task_core.specs.declared.acts.Act.TheVariants.{EndRegisterNotified}
 use Rattle.task_laws.specs.Machine.{Machine, Step, run_from}
-use Rattle.task_laws.specs.Laws.{count, is_call_begun, is_call_end}
+use Rattle.task_laws.specs.Event.{Event}
+use Rattle.task_laws.specs.Laws.{how_often, count, is_call_end}
 
 -- a number of each party, summed
 abbrev pub total : (Position → ℕ) → List Position → ℕ
@@ -179,13 +180,13 @@ writes_in (s ∷ steps) = bit (writes_word s.act) + writes_in steps
 
 -- Steps from m to now, with those left at its end, are at most those left at its start and 16 for each call begun; five of them are writes.
 pub record BoundedByCalls (m : Machine) (made : List Step) (now : Machine) : Type 0 where
-  pub steps : length made + total steps_left now.parties + 16 * count is_call_begun m.trace
-      ≤ total steps_left m.parties + 16 * count is_call_begun now.trace
-  pub writes : writes_in made + total writes_left now.parties + 5 * count is_call_begun m.trace
-      ≤ total writes_left m.parties + 5 * count is_call_begun now.trace
+  pub steps : length made + total steps_left now.parties + 16 * how_often Event.CallBegins m.trace
+      ≤ total steps_left m.parties + 16 * how_often Event.CallBegins now.trace
+  pub writes : writes_in made + total writes_left now.parties + 5 * how_often Event.CallBegins m.trace
+      ≤ total writes_left m.parties + 5 * how_often Event.CallBegins now.trace
   -- a call that has begun is open until it ends
-  pub calls : total in_call now.parties + count is_call_end now.trace + count is_call_begun m.trace
-      ≡ total in_call m.parties + count is_call_end m.trace + count is_call_begun now.trace
+  pub calls : total in_call now.parties + count is_call_end now.trace + how_often Event.CallBegins m.trace
+      ≡ total in_call m.parties + count is_call_end m.trace + how_often Event.CallBegins now.trace
 
 -- from every machine, reachable or not, for every list of steps that it allows
 abbrev pub StepsAreBounded : Type 0

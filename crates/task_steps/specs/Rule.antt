@@ -18,8 +18,9 @@ use Rattle.task_core.specs.declared.acts.Act.TheVariants.{StartPoll, AnswerPendi
 use Rattle.task_core.specs.declared.acts.Act.TheVariants.{HandOutOutput, CloneAwaiter, RefuseClone, StoreAwaiter, TakeAwaiter, WakeAwaiter}
 use Rattle.task_core.specs.declared.acts.Act.TheVariants.{DropAwaiter, HandOver, EmptySlots, RefuseGain, EndCall}
 use Rattle.task_laws.specs.Machine.{Machine, Step, opening, step, how_many}
-use Rattle.task_laws.specs.Laws.{count, is_emptying}
-use Rattle.task_laws.specs.Theorem.{owns_awaiter}
+use Rattle.task_laws.specs.Event.{Event}
+use Rattle.task_laws.specs.Laws.{how_often}
+use Rattle.task_laws.specs.Holders.{owns_awaiter}
 use Rattle.task_steps.specs.declared.table.Slot.{Slot}
 use Rattle.task_steps.specs.declared.table.Slot.TheVariants.{Empty, Future, Output, Awaiter}
 use Rattle.task_steps.specs.declared.table.Stage.{Stage}
@@ -215,7 +216,7 @@ module _ {F T A : Type 0} where
   pub record HomesAgree (filled : Bool) (m : Machine) (homes : List (maybe.Option (Slot F T A))) : Type 0 where
     pub future : filled ≡ true → how_many has_work m.parties ≡ 0 → AtHome homes 0 (λ y. m.slots.future ≡ true → IsFuture y)
     pub output : how_many has_work m.parties ≡ 0 → AtHome homes 1 (λ z. m.slots.output ≡ true → IsOutput z)
-    pub awaiter : how_many owns_awaiter m.parties ≡ 0 → count is_emptying m.trace ≡ 0 → AtHome homes 2 (Waits m.slots.awaiter)
+    pub awaiter : how_many owns_awaiter m.parties ≡ 0 → how_often Event.Empties m.trace ≡ 0 → AtHome homes 2 (Waits m.slots.awaiter)
 
   -- until the future was put in, its place is empty, or with the opening seat
   pub record Unfilled (limit : ℕ) (s : Board (Slot F T A) View) : Type 0 where

@@ -10,7 +10,7 @@ use Rattle.task_laws.specs.declared.positions.NotifyingCall.TheVariants.{OfClaim
 use Rattle.task_core.specs.declared.acts.Act.{Act}
 use Rattle.task_core.specs.Rows.{found, written}
 use Rattle.task_laws.specs.Table.{Slots, Scene, Outcome, leaves_slots, goes}
-use Rattle.task_laws.specs.Theorem.{owns_awaiter}
+use Rattle.task_laws.specs.Holders.{owns_awaiter}
 use Rattle.task_steps.specs.declared.table.Slot.{Slot}
 use Rattle.task_steps.specs.declared.table.Deed.{Deed}
 use Rattle.task_steps.specs.declared.table.Member.{Member}
