@@ -17,7 +17,7 @@ DOCUMENTS = pathlib.Path(__file__).resolve().parent
 CRATES = DOCUMENTS.parent / "crates"
 FILES = (
     "task_core/specs/Word", "task_core/specs/Rows", "task_laws/specs/Position", "task_laws/specs/Table",
-    "task_laws/specs/Machine", "task_laws/specs/Theorem", "task_progress/specs/Waiting",
+    "task_laws/specs/Machine", "task_laws/specs/Holders", "task_progress/specs/Waiting",
 )
 TOKEN = re.compile(r"0x[0-9a-fA-F_]+|\d+|\w+|\[\]|&&|\|\||\+\+|\S")
 PRECEDENCE = {"||": 1, "&&": 2, "∷": 3, "++": 3, "+": 4, "-": 4, "*": 5, "/": 5, "%": 5, "^": 6}
@@ -604,7 +604,8 @@ def pictures():
     texts = [(CRATES / f"{name}.antt").read_text(encoding="utf-8") for name in FILES]
     definitions = Definitions(texts)
     yield DOCUMENTS / "life.svg", Life(definitions).text()
-    acts = re.search(r"Act\.TheVariants\.\{([^}]*)\}", texts[FILES.index("task_laws/specs/Position")]).group(1).split(", ")
+    imports = re.findall(r"Act\.TheVariants\.\{([^}]*)\}", texts[FILES.index("task_laws/specs/Position")])
+    acts = ", ".join(imports).split(", ")
     exploration = Exploration(definitions, acts)
     print(f"{len(exploration.seen)} states of the machine")
     for name, (flags, empty, size, places) in PICTURES.items():

@@ -25,4 +25,5 @@ answered Waits = Pending
 -- the Task is polled once with this awaiter, its party is p before and q after, and the kit is told the answer
 abbrev pub PollsTask : {F T U : Type 0} → KitAwaiter → Party F T KitAwaiter → Party F T KitAwaiter → Poll (Result U AwaitError) → Type 0
 PollsTask {U = U} awaiter p q answer =
-    (polled : TaskPoll (Option U)) × PollsOnce SharesSlot (λ _. ⊤) (λ _. ⊤) (λ _ _ same. same ≡ false) awaiter p q polled × (answer ≡ answered polled)
+    (polled : TaskPoll (Option U)) × PollsOnce SharesSlot (λ _. ⊤) (λ _. ⊤) (λ _ _ same. same ≡ false) awaiter p q polled
+    × (answer ≡ answered polled)

@@ -1,7 +1,11 @@
--- Lists of calls of a task of one thread: each call makes the task into that of its row, and no call is made where its condition does not hold.
-use Rattle.std.specs.Prelude.{◌≡◌, ℕ, ◌≤◌, Bool, true, false, not, ◌&&◌, ◌||◌, nat_lt, if◌then◌else◌, List, [], ◌∷◌, Option, Some, None, is_some}
+-- Lists of calls of a task of one thread: each call makes the task into that of its row, and no call is made where its condition does not
+-- hold.
+use Rattle.std.specs.Prelude.{◌≡◌, ℕ, ◌≤◌, Bool, true, false, not, ◌&&◌, ◌||◌, nat_lt, if◌then◌else◌, List, [], ◌∷◌, Option, Some, None}
+use Rattle.std.specs.Prelude.{is_some}
 use Rattle.task_core.specs.declared.traits.Poll.{Poll}
-use Rattle.task_core.specs.Local.{Phase, Idle, Queued, Local, Effect, due, stored, opening_task, Started, IsPolled, IsEnded, IsNotDue, starts, settles, discards, wakes, gains_waker, drops_waker, cancels, detaches, claims, registers, is_done, is_queued, is_started, is_emptied}
+use Rattle.task_core.specs.Local.{Phase, Idle, Queued, Local, Effect, due, stored, opening_task, Started, IsPolled, IsEnded, IsNotDue}
+use Rattle.task_core.specs.Local.{starts, settles, discards, wakes, gains_waker, drops_waker, cancels, detaches, claims, registers, is_done}
+use Rattle.task_core.specs.Local.{is_queued, is_started, is_emptied}
 
 -- a call with its arguments; of a poll, what the clone of the caller's awaiter gave, and whether the stored one wakes the same
 pub data Call (F T A : Type 0) : Type 0 where
@@ -64,10 +68,12 @@ pub record IsSound (F T A : Type 0) (limit : ℕ) (t : Local F T A) : Type 0 whe
   pub open_idle : is_idle t.phase ≡ true → t.closed ≡ false
   pub wakeable : is_idle t.phase ≡ true → t.has_task || nat_lt 0 t.wakers ≡ true  -- somebody is left who may wake it
   pub notified : is_done t.phase ≡ true → is_some (due t.awaiter) ≡ false  -- no awaiter waits for what has come
-  pub remembered : t.has_task ≡ true → is_some (due t.awaiter) ≡ is_some (stored t.awaiter)  -- an awaiter is forgotten only where the Task has gone
+  -- an awaiter is forgotten only where the Task has gone
+  pub remembered : t.has_task ≡ true → is_some (due t.awaiter) ≡ is_some (stored t.awaiter)
   pub empty : is_emptied t ≡ true → is_some (stored t.awaiter) ≡ false
   pub within_limit : t.wakers ≤ limit
 
 -- every list of calls leads to such a task
 abbrev pub CallsAreSound : (F T A : Type 0) → ℕ → Type 0
-CallsAreSound F T A limit = (f : F) (calls : List (Call F T A)) (t : Local F T A) → all_called limit f calls ≡ Some t → IsSound F T A limit t
+CallsAreSound F T A limit =
+    (f : F) (calls : List (Call F T A)) (t : Local F T A) → all_called limit f calls ≡ Some t → IsSound F T A limit t

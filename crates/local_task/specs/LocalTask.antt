@@ -9,7 +9,8 @@ use Rattle.local_task.specs.declared.task.Stage.TheVariants as stage
 use Rattle.local_task.specs.declared.task.Settled.{Settled}
 use Rattle.local_task.specs.declared.task.Start.{Start}
 use Rattle.local_task.specs.declared.task.Start.TheVariants as start
-use Rattle.task_core.specs.Local.{Phase, Idle, Queued, Polled, PolledAndWoken, Done, Awaiter, NoAwaiter, Due, Forgotten, Local, Effect, becomes, stored, Started, IsPolled, IsEnded, IsNotDue, Answered, claims, registers}
+use Rattle.task_core.specs.Local.{Phase, Idle, Queued, Polled, PolledAndWoken, Done, Awaiter, NoAwaiter, Due, Forgotten, Local, Effect}
+use Rattle.task_core.specs.Local.{becomes, stored, Started, IsPolled, IsEnded, IsNotDue, Answered, claims, registers}
 
 abbrev pub phase_of : {F T : Type 0} → Stage F T → Phase
 phase_of (stage.Idle future) = Idle
@@ -56,7 +57,15 @@ info_of None = None
 
 -- the task after a call, and what the call answered
 abbrev pub effect_of : {F T A : Type 0} → Local F T A → Settled F T A → Effect F T A
-effect_of t s = record { task = t; future = s.future; output = s.output; queue = info_of s.queue; wake = s.wake; dropped = s.dropped; emptied = s.emptied }
+effect_of t s = record {
+  task = t;
+  future = s.future;
+  output = s.output;
+  queue = info_of s.queue;
+  wake = s.wake;
+  dropped = s.dropped;
+  emptied = s.emptied;
+}
 
 abbrev pub queued_of : {F T A : Type 0} → Local F T A → Option ScheduleInfo → Effect F T A
 queued_of t info = record (becomes t) { queue = info_of info }

@@ -10,7 +10,8 @@ use Rattle.row_table.specs.declared.table.Row.TheVariants.{Waker, WakerClone, Wa
 use Rattle.row_table.specs.declared.table.Row.TheVariants.{WakeDuringRun, CancelDuringRun}
 use Rattle.row_table.specs.declared.table.Row.TheVariants.{Limit, ClosedPoll, CancelFuture, Priorities, Local, RunAndCancel, DropInSchedule}
 use Rattle.row_table.specs.declared.table.Row.TheVariants.{WakeAndCancel, CancelAndWake, DetachDuringRun, DropDuringRun, PollDuringRun}
-use Rattle.row_table.specs.declared.table.Row.TheVariants.{CancelRefused, ClearQueue, WakeIntoDrop, DropInPoll, Priority, PriorityYield, PriorityFull}
+use Rattle.row_table.specs.declared.table.Row.TheVariants.{CancelRefused, ClearQueue, WakeIntoDrop, DropInPoll, Priority, PriorityYield}
+use Rattle.row_table.specs.declared.table.Row.TheVariants.{PriorityFull}
 
 -- the numbers that the table of the rows has for a row
 abbrev pub counts_of : Row → Counts

@@ -9,7 +9,7 @@ use Rattle.task_steps.specs.declared.table.Slot.{Slot}
 use Rattle.task_steps.specs.declared.table.Deed.{Deed}
 use Rattle.task_steps.specs.declared.table.View.{View}
 use Rattle.task_cell.specs.declared.cell.Party.{Party}
-use Rattle.task_laws.specs.Theorem.{owns_awaiter}
+use Rattle.task_laws.specs.Holders.{owns_awaiter}
 use Rattle.task_steps.specs.Rule.{member, view, has_work}
 use Rattle.task_steps.specs.Steps.{head_of, future_first, output_first, acted, Carries, Carried, Makes}
 use Rattle.task_cell.specs.Calls.{deeds, position, holds, limit_of, StandsWith, GoesWith}

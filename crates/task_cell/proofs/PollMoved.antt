@@ -12,7 +12,7 @@ use Rattle.task_laws.specs.declared.positions.Position.TheVariants.{Looking, Saw
 use Rattle.task_core.specs.declared.acts.Act.{Act}
 use Rattle.task_core.specs.declared.acts.Act.TheVariants.{Look, CloneAwaiter, StoreAwaiter, FindNotify, BeginRegister, EndRegister, EndRegisterNotified, TakeAwaiter, ClaimOutput, EndCall}
 use Rattle.task_laws.specs.Table.{Slots, Outcome, leaves_slots, changes_slots, when, notifies, first_look, after_storing}
-use Rattle.task_laws.specs.Theorem.{owns_awaiter}
+use Rattle.task_laws.specs.Holders.{owns_awaiter}
 use Rattle.task_steps.specs.declared.table.Slot.{Slot}
 use Rattle.task_steps.specs.declared.table.Deed.{Deed}
 use Rattle.task_steps.specs.declared.table.View.{View}

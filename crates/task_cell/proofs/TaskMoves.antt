@@ -13,7 +13,7 @@ use Rattle.task_laws.specs.declared.positions.OnceDelivered.TheVariants.{ThenEnd
 use Rattle.task_laws.specs.declared.positions.NotifyingCall.TheVariants.{OfCancel}
 use Rattle.task_core.specs.declared.acts.Act.TheVariants.{CancelOver, CancelBusy, CancelIdle, GiveUpOutput, DropOutput, DetachOrphan, DetachLast, Detach, EndCall}
 use Rattle.task_laws.specs.Table.{notifies, after_cancelling}
-use Rattle.task_laws.specs.Theorem.{owns_awaiter}
+use Rattle.task_laws.specs.Holders.{owns_awaiter}
 use Rattle.task_steps.specs.declared.table.Slot.{Slot}
 use Rattle.task_steps.specs.declared.table.Deed.{Deed}
 use Rattle.task_cell.specs.declared.cell.Party.{Party}

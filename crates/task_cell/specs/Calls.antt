@@ -56,9 +56,14 @@ module _ {F T A : Type 0} where
 
   -- a notifier: it finds another party at the awaiter, or takes it out
   pub data Notifies (p q : Party F T A) : Option A → Type 0 where
-    misses : (w : State) → Fits MissNotify w → GoesWith (row MissNotify w ∷ []) (after_taking None (way_of (position p))) (holds p) p q → Notifies p q None
-    finds_none : (w v : State) → Fits BeginNotify w → GoesWith (row BeginNotify w ∷ act TakeAwaiter ∷ row EndNotify v ∷ []) (after_taking None (way_of (position p))) (holds p) p q → Notifies p q None
-    takes_awaiter : (w v : State) (i : ℕ) (a : A) → Fits BeginNotify w → GoesWith (row BeginNotify w ∷ act TakeAwaiter ∷ row EndNotify v ∷ []) (after_taking (Some i) (way_of (position p))) (holds p) p q → Notifies p q (Some a)
+    misses : (w : State) → Fits MissNotify w → GoesWith (row MissNotify w ∷ []) (after_taking None (way_of (position p))) (holds p) p q
+        → Notifies p q None
+    finds_none : (w v : State) → Fits BeginNotify w
+        → GoesWith (row BeginNotify w ∷ act TakeAwaiter ∷ row EndNotify v ∷ []) (after_taking None (way_of (position p))) (holds p) p q
+        → Notifies p q None
+    takes_awaiter : (w v : State) (i : ℕ) (a : A) → Fits BeginNotify w
+        → GoesWith (row BeginNotify w ∷ act TakeAwaiter ∷ row EndNotify v ∷ []) (after_taking (Some i) (way_of (position p))) (holds p) p q
+        → Notifies p q (Some a)
 
 abbrev pub is_empty : {X : Type 0} → List X → Bool
 is_empty [] = true

@@ -11,11 +11,14 @@ use Rattle.task_cell.specs.declared.cell.waker.TaskWaker.{TaskWaker}
 module _ {R F Q M A X B O : Type 0} {G : Ghosts F O} where
   -- a Runnable of this cell was handed to its schedule value, which was told whether the task was woken while it ran
   abbrev pub HandedOver : (Q → Runnable R F Q M A X B O G → ScheduleInfo → Type 0) → Cell R F Q M A B O G → X → Bool → Type 0
-  HandedOver scheduled cell around woken = (n : Runnable R F Q M A X B O G) × (arc_value n.inner.share.cell ≡ cell) × (n.around ≡ around) × scheduled cell.schedule n (record { woken_while_running = woken })
+  HandedOver scheduled cell around woken =
+      (n : Runnable R F Q M A X B O G) × (arc_value n.inner.share.cell ≡ cell) × (n.around ≡ around)
+      × scheduled cell.schedule n (record { woken_while_running = woken })
 
   -- the future was polled, from f to g, with a waker of this cell
   abbrev pub LentTo : (F → TaskWaker R F Q M A X B O G → Poll O → F → Type 0) → Cell R F Q M A B O G → X → F → Poll O → F → Type 0
-  LentTo polled cell around f answer g = (w : TaskWaker R F Q M A X B O G) × (arc_value w.inner.share.cell ≡ cell) × (w.around ≡ around) × polled f w answer g
+  LentTo polled cell around f answer g =
+      (w : TaskWaker R F Q M A X B O G) × (arc_value w.inner.share.cell ≡ cell) × (w.around ≡ around) × polled f w answer g
 
   -- .. as a run does
   abbrev pub PolledOnce : (F → TaskWaker R F Q M A X B O G → Poll O → F → Type 0) → Cell R F Q M A B O G → X → Poll O → Type 0

@@ -9,7 +9,8 @@ use Rattle.task_cell.specs.declared.cell.Party.{Party}
 use Rattle.task_steps.specs.Rule.{Entry, Reaches, steps_of, DidLast}
 use Rattle.task_cell.specs.Calls.{deeds, position}
 
--- an interleaving of the machine ends in this word, all its laws hold of it, and in it the party did last what its list says and stands where it stands
+-- an interleaving of the machine ends in this word, all its laws hold of it, and in it the party did last what its list says and stands
+-- where it stands
 pub record IsLastWord {F T A : Type 0} (limit word : ℕ) (p : Party F T A) : Type 0 where
   pub machine : Machine
   pub log : List Entry

@@ -5,7 +5,9 @@ use Rattle.task_core.specs.declared.traits.TaskPoll.{TaskPoll}
 use Rattle.task_core.specs.declared.traits.TaskPoll.TheVariants.{Pending as Waits, Ready, Refused}
 use Rattle.task_laws.specs.declared.positions.NotifyingCall.TheVariants.{OfPoll, OfClaim}
 use Rattle.task_laws.specs.declared.positions.Position.TheVariants.{Notifier, Looking, UnusedClone, TookBack}
-use Rattle.task_core.specs.declared.acts.Act.TheVariants.{Look, ClaimOutput, HandOutOutput, CloneAwaiter, RefuseClone, StoreAwaiter, TakeAwaiter, FindNotify, BeginRegister, EndRegister, EndRegisterNotified, DropAwaiter, WakeAwaiter, EndCall, BeginNotify, MissNotify, EndNotify}
+use Rattle.task_core.specs.declared.acts.Act.TheVariants.{Look, ClaimOutput, HandOutOutput, CloneAwaiter, RefuseClone, StoreAwaiter}
+use Rattle.task_core.specs.declared.acts.Act.TheVariants.{TakeAwaiter, FindNotify, BeginRegister, EndRegister, EndRegisterNotified}
+use Rattle.task_core.specs.declared.acts.Act.TheVariants.{DropAwaiter, WakeAwaiter, EndCall, BeginNotify, MissNotify, EndNotify}
 use Rattle.task_laws.specs.Table.{notifies, first_look, after_storing}
 use Rattle.task_steps.specs.declared.table.Slot.{Slot}
 use Rattle.task_steps.specs.declared.table.Deed.{Deed}
@@ -26,9 +28,12 @@ module _ {A : Type 0} where
   -- the stored awaiter is taken: it is woken, or dropped where its wake wakes the caller
   pub data TakePath (woken : A → Type 0) (compared : A → A → Bool → Type 0) (awaiter : A) : List Deed → Type 0 where
     misses : (w : State) → Fits MissNotify w → TakePath woken compared awaiter (row MissNotify w ∷ [])
-    finds_none : (w v : State) → Fits BeginNotify w → TakePath woken compared awaiter (row BeginNotify w ∷ act TakeAwaiter ∷ row EndNotify v ∷ [])
-    wakes : (w v : State) (taken : A) → Fits BeginNotify w → compared taken awaiter false → woken taken → TakePath woken compared awaiter (row BeginNotify w ∷ act TakeAwaiter ∷ row EndNotify v ∷ act WakeAwaiter ∷ [])
-    drops : (w v : State) (taken : A) → Fits BeginNotify w → compared taken awaiter true → TakePath woken compared awaiter (row BeginNotify w ∷ act TakeAwaiter ∷ row EndNotify v ∷ act DropAwaiter ∷ [])
+    finds_none : (w v : State) → Fits BeginNotify w
+        → TakePath woken compared awaiter (row BeginNotify w ∷ act TakeAwaiter ∷ row EndNotify v ∷ [])
+    wakes : (w v : State) (taken : A) → Fits BeginNotify w → compared taken awaiter false → woken taken
+        → TakePath woken compared awaiter (row BeginNotify w ∷ act TakeAwaiter ∷ row EndNotify v ∷ act WakeAwaiter ∷ [])
+    drops : (w v : State) (taken : A) → Fits BeginNotify w → compared taken awaiter true
+        → TakePath woken compared awaiter (row BeginNotify w ∷ act TakeAwaiter ∷ row EndNotify v ∷ act DropAwaiter ∷ [])
 
   -- .. where the word found says that there is one
   abbrev pub TakePathIf : (A → Type 0) → (A → A → Bool → Type 0) → A → Bool → List Deed → Type 0
@@ -45,12 +50,17 @@ module _ {A : Type 0} where
     finds_notifier : (w : State) (clone : A) → w.notifying ≡ true → cloned awaiter (Some clone) → woken_by_ref awaiter
         → RegisterPath cloned woken woken_by_ref awaiter (act CloneAwaiter ∷ row FindNotify w ∷ act DropAwaiter ∷ [])
     registers : (w v : State) (stood : Bool) (clone : A) → w.notifying ≡ false → v.notifying ≡ false → cloned awaiter (Some clone)
-        → RegisterPath cloned woken woken_by_ref awaiter (act CloneAwaiter ∷ row BeginRegister w ∷ act StoreAwaiter ∷ dropped_if stood ++ (row EndRegister v ∷ []))
-    was_notified : (w v : State) (stood : Bool) (clone : A) → w.notifying ≡ false → v.notifying ≡ true → cloned awaiter (Some clone) → woken clone
-        → RegisterPath cloned woken woken_by_ref awaiter (act CloneAwaiter ∷ row BeginRegister w ∷ act StoreAwaiter ∷ dropped_if stood ++ (act TakeAwaiter ∷ row EndRegisterNotified v ∷ act WakeAwaiter ∷ []))
+        → RegisterPath cloned woken woken_by_ref awaiter
+        (act CloneAwaiter ∷ row BeginRegister w ∷ act StoreAwaiter ∷ dropped_if stood ++ (row EndRegister v ∷ []))
+    was_notified : (w v : State) (stood : Bool) (clone : A) → w.notifying ≡ false → v.notifying ≡ true → cloned awaiter (Some clone)
+        → woken clone
+        → RegisterPath cloned woken woken_by_ref awaiter
+        (act CloneAwaiter ∷ row BeginRegister w ∷ act StoreAwaiter ∷ dropped_if stood
+        ++ (act TakeAwaiter ∷ row EndRegisterNotified v ∷ act WakeAwaiter ∷ []))
 
   -- a poll that has registered looks again, and answers by what it finds
-  pub data AnswerPath {T : Type 0} (woken : A → Type 0) (compared : A → A → Bool → Type 0) (awaiter : A) : List Deed → TaskPoll (Option T) → Type 0 where
+  pub data AnswerPath {T : Type 0} (woken : A → Type 0) (compared : A → A → Bool → Type 0) (awaiter : A) : List Deed → TaskPoll (Option T)
+      → Type 0 where
     waits : (w : State) → has_to_wait w ≡ true → AnswerPath woken compared awaiter (row Look w ∷ act EndCall ∷ []) Waits
     has_ended_since : (w : State) (taken : List Deed) → has_ended w ≡ true → TakePath woken compared awaiter taken
         → AnswerPath woken compared awaiter (row Look w ∷ taken ++ (act EndCall ∷ [])) (Ready None)
@@ -58,8 +68,10 @@ module _ {A : Type 0} where
         → AnswerPath woken compared awaiter (row Look w ∷ path) (Ready (Some x))
 
   -- a poll, by what its first look found
-  pub data PollPath {T : Type 0} (cloned : A → Option A → Type 0) (woken woken_by_ref : A → Type 0) (compared : A → A → Bool → Type 0) (awaiter : A) : List Deed → TaskPoll (Option T) → Type 0 where
-    finds_output : (w : State) (path : List Deed) (x : T) → ClaimPath woken compared awaiter w path → PollPath cloned woken woken_by_ref compared awaiter path (Ready (Some x))
+  pub data PollPath {T : Type 0} (cloned : A → Option A → Type 0) (woken woken_by_ref : A → Type 0) (compared : A → A → Bool → Type 0)
+      (awaiter : A) : List Deed → TaskPoll (Option T) → Type 0 where
+    finds_output : (w : State) (path : List Deed) (x : T) → ClaimPath woken compared awaiter w path
+        → PollPath cloned woken woken_by_ref compared awaiter path (Ready (Some x))
     finds_ended : (w : State) (taken : List Deed) → has_ended w ≡ true → TakePath woken compared awaiter taken
         → PollPath cloned woken woken_by_ref compared awaiter (row Look w ∷ taken ++ (act EndCall ∷ [])) (Ready None)
     is_refused : (w : State) → has_output w ≡ false → has_ended w ≡ false → cloned awaiter None
@@ -86,26 +98,35 @@ module _ {F T A : Type 0} where
   -- the first look of a poll
   pub data Looks (p q : Party F T A) : Result State State → Type 0 where
     claims_output : (w : State) → ClaimsOutput w (row ClaimOutput w ∷ []) p q → Looks p q (Ok w)
-    sees_none : (w : State) → has_output w ≡ false → Goes (row Look w ∷ []) (first_look w (poll_number (position p))) p q → Looks p q (Err w)
+    sees_none : (w : State) → has_output w ≡ false → Goes (row Look w ∷ []) (first_look w (poll_number (position p))) p q
+        → Looks p q (Err w)
 
   -- .. and the one after it has registered
   pub data LooksAgain (p q : Party F T A) : Result State State → Type 0 where
     claims_output_now : (w : State) → ClaimsOutput w (row Look w ∷ row ClaimOutput w ∷ []) p q → LooksAgain p q (Ok w)
-    has_to_wait_on : (w : State) → has_to_wait w ≡ true → Goes (row Look w ∷ act EndCall ∷ []) (as_task (poll_number (position p))) p q → LooksAgain p q (Err w)
-    sees_end : (w : State) → has_to_wait w ≡ false → has_ended w ≡ true → Goes (row Look w ∷ []) (Notifier (OfPoll (poll_number (position p)))) p q → LooksAgain p q (Err w)
+    has_to_wait_on : (w : State) → has_to_wait w ≡ true → Goes (row Look w ∷ act EndCall ∷ []) (as_task (poll_number (position p))) p q
+        → LooksAgain p q (Err w)
+    sees_end : (w : State) → has_to_wait w ≡ false → has_ended w ≡ true
+        → Goes (row Look w ∷ []) (Notifier (OfPoll (poll_number (position p)))) p q → LooksAgain p q (Err w)
 
   -- the awaiter slot is taken, unless there is a notifier
   pub data BeginsRegister (p q : Party F T A) : Bool → Type 0 where
     begins : (w : State) (hand : Option ℕ) (y : Slot F T A) → w.notifying ≡ false → SlotWaits hand y
-        → GoesWith (act CloneAwaiter ∷ row BeginRegister w ∷ act StoreAwaiter ∷ []) (after_storing (poll_number (position p)) hand) ((2, y) ∷ []) p q → BeginsRegister p q true
-    finds_one : (w : State) → w.notifying ≡ true → Goes (act CloneAwaiter ∷ row FindNotify w ∷ []) (UnusedClone (poll_number (position p))) p q → BeginsRegister p q false
+        → GoesWith (act CloneAwaiter ∷ row BeginRegister w ∷ act StoreAwaiter ∷ []) (after_storing (poll_number (position p)) hand)
+        ((2, y) ∷ []) p q → BeginsRegister p q true
+    finds_one : (w : State) → w.notifying ≡ true
+        → Goes (act CloneAwaiter ∷ row FindNotify w ∷ []) (UnusedClone (poll_number (position p))) p q → BeginsRegister p q false
 
   -- the awaiter slot is given back with the clone in it, unless there is a notifier by then: then the clone is taken back
   pub data EndsRegister (p q : Party F T A) : Bool → Type 0 where
-    ends : (v : State) → v.notifying ≡ false → Goes (row EndRegister v ∷ []) (Looking (poll_number (position p))) p q → EndsRegister p q true
+    ends : (v : State) → v.notifying ≡ false → Goes (row EndRegister v ∷ []) (Looking (poll_number (position p))) p q
+        → EndsRegister p q true
     finds_notified : GoesWith (act TakeAwaiter ∷ []) (TookBack (poll_number (position p))) (holds p) p q → EndsRegister p q false
 
   -- the caller's awaiter is registered, unless its clone is refused
-  pub data Registers (cloned : A → Option A → Type 0) (woken woken_by_ref : A → Type 0) (awaiter : A) (p q : Party F T A) : Bool → Type 0 where
-    is_registered : (path : List Deed) → RegisterPath cloned woken woken_by_ref awaiter path → Goes path (Looking (poll_number (position p))) p q → Registers cloned woken woken_by_ref awaiter p q true
-    clone_refused : cloned awaiter None → Goes (act RefuseClone ∷ act EndCall ∷ []) (as_task (poll_number (position p))) p q → Registers cloned woken woken_by_ref awaiter p q false
+  pub data Registers (cloned : A → Option A → Type 0) (woken woken_by_ref : A → Type 0) (awaiter : A) (p q : Party F T A) : Bool
+      → Type 0 where
+    is_registered : (path : List Deed) → RegisterPath cloned woken woken_by_ref awaiter path
+        → Goes path (Looking (poll_number (position p))) p q → Registers cloned woken woken_by_ref awaiter p q true
+    clone_refused : cloned awaiter None → Goes (act RefuseClone ∷ act EndCall ∷ []) (as_task (poll_number (position p))) p q
+        → Registers cloned woken woken_by_ref awaiter p q false

@@ -2,8 +2,11 @@
 use Rattle.std.specs.Prelude.{◌≡◌, ℕ, ◌||◌, nat_lt, Bool, true, false, List, [], ◌∷◌, Option, Some, None, is_some}
 use Rattle.task_core.specs.Word.{State}
 use Rattle.task_laws.specs.declared.positions.Answer.{Answer}
-use Rattle.task_laws.specs.declared.positions.Position.TheVariants.{At, AwaiterInHand, Deliverer, Emptier, Pending, PendingFutureDropped, OutputInHand}
-use Rattle.task_core.specs.declared.acts.Act.TheVariants.{GiveUpReference, GiveUpLastReference, DropFuture, StoreOutput, Complete, CompleteDetached, AnswerPending, Reschedule, EndIdle, EndCall, EndOrphaned, EndClosed}
+use Rattle.task_laws.specs.declared.positions.Position.TheVariants.{At, AwaiterInHand, Deliverer, Emptier, Pending, PendingFutureDropped}
+use Rattle.task_laws.specs.declared.positions.Position.TheVariants.{OutputInHand}
+use Rattle.task_core.specs.declared.acts.Act.TheVariants.{GiveUpReference, GiveUpLastReference, DropFuture, StoreOutput, Complete}
+use Rattle.task_core.specs.declared.acts.Act.TheVariants.{CompleteDetached, AnswerPending, Reschedule, EndIdle, EndCall, EndOrphaned}
+use Rattle.task_core.specs.declared.acts.Act.TheVariants.{EndClosed}
 use Rattle.task_laws.specs.declared.positions.Answer.TheVariants.{Ran}
 use Rattle.task_laws.specs.declared.positions.Rest.TheVariants.{Ended}
 use Rattle.task_laws.specs.declared.positions.OnceDelivered.TheVariants.{ThenEnds}
@@ -18,13 +21,16 @@ use Rattle.task_steps.specs.declared.words.PendingEnd.TheVariants.{Closed, Resch
 use Rattle.task_steps.specs.Steps.{output_first}
 use Rattle.task_cell.specs.Calls.{Fits, Stands, Goes, GoesWith}
 use Rattle.task_steps.specs.Deeds.{row, act}
-use Rattle.task_cell.specs.RunPaths.{ReleasePath, NotifyPath, WakePath, RestPath, StorePath, ClosedRunPath, ReadyPath, PendingPath, DiscardPath}
+use Rattle.task_cell.specs.RunPaths.{ReleasePath, NotifyPath, WakePath, RestPath, StorePath, ClosedRunPath, ReadyPath, PendingPath}
+use Rattle.task_cell.specs.RunPaths.{DiscardPath}
 
 module _ {F T A : Type 0} where
   -- a reference was given up, and whether it was the last handle
   pub data GivesUp (hand : Option ℕ) (answer : Answer) (p q : Party F T A) : Bool → Type 0 where
-    not_last : (w : State) → Fits GiveUpReference w → Goes (row GiveUpReference w ∷ []) (after_giving_up hand answer) p q → GivesUp hand answer p q false
-    last : (w : State) (y : Slot F T A) → Fits GiveUpLastReference w → GoesWith (row GiveUpLastReference w ∷ []) (Emptier hand answer) ((2, y) ∷ []) p q → GivesUp hand answer p q true
+    not_last : (w : State) → Fits GiveUpReference w → Goes (row GiveUpReference w ∷ []) (after_giving_up hand answer) p q
+        → GivesUp hand answer p q false
+    last : (w : State) (y : Slot F T A) → Fits GiveUpLastReference w
+        → GoesWith (row GiveUpLastReference w ∷ []) (Emptier hand answer) ((2, y) ∷ []) p q → GivesUp hand answer p q true
 
   -- a reference was given up, and the places were emptied where it was the last handle
   abbrev pub Releases : Option ℕ → Answer → Party F T A → Party F T A → Type 0
@@ -32,9 +38,14 @@ module _ {F T A : Type 0} where
 
   -- a run has ended with its output, which stays where somebody may claim it
   pub data Completes (p q : Party F T A) (w : State) : Type 0 where
-    keeps : w.task ≡ true → w.closed ≡ false → Goes (act DropFuture ∷ act StoreOutput ∷ row Complete w ∷ []) (notifies w.awaiter OfRun) p q → Completes p q w
-    finds_closed : (y z : Slot F T A) → w.task ≡ true → w.closed ≡ true → GoesWith (act DropFuture ∷ act StoreOutput ∷ row Complete w ∷ []) (OutputInHand w.awaiter) (output_first y z []) p q → Completes p q w
-    finds_detached : (y z : Slot F T A) → w.task ≡ false → GoesWith (act DropFuture ∷ act StoreOutput ∷ row CompleteDetached w ∷ []) (OutputInHand w.awaiter) (output_first y z []) p q → Completes p q w
+    keeps : w.task ≡ true → w.closed ≡ false → Goes (act DropFuture ∷ act StoreOutput ∷ row Complete w ∷ []) (notifies w.awaiter OfRun) p q
+        → Completes p q w
+    finds_closed : (y z : Slot F T A) → w.task ≡ true → w.closed ≡ true
+        → GoesWith (act DropFuture ∷ act StoreOutput ∷ row Complete w ∷ []) (OutputInHand w.awaiter) (output_first y z []) p q
+        → Completes p q w
+    finds_detached : (y z : Slot F T A) → w.task ≡ false
+        → GoesWith (act DropFuture ∷ act StoreOutput ∷ row CompleteDetached w ∷ []) (OutputInHand w.awaiter) (output_first y z []) p q
+        → Completes p q w
 
   -- the poll has answered Pending, and whether the task was found closed
   pub data AnswersPending (held : List (ℕ × Slot F T A)) (p q : Party F T A) : Bool → Type 0 where
@@ -44,14 +55,18 @@ module _ {F T A : Type 0} where
   -- a run has ended without an output, or has found the task closed
   pub data EndsPending (held : List (ℕ × Slot F T A)) (p q : Party F T A) : PendingEnd → Type 0 where
     is_closed : GoesWith (act DropFuture ∷ []) PendingFutureDropped held p q → EndsPending held p q Closed
-    is_rescheduled : (w : State) → w.closed ≡ false → w.scheduled ≡ true → Goes (row Reschedule w ∷ []) (Deliverer true (ThenEnds (Ran true))) p q → EndsPending held p q Rescheduled
-    is_idle : (w : State) → w.closed ≡ false → w.scheduled ≡ false → (nat_lt 1 w.references || w.task) ≡ true → Goes (row EndIdle w ∷ act EndCall ∷ []) (At Ended) p q → EndsPending held p q Idle
-    is_orphaned : (w : State) → w.closed ≡ false → w.scheduled ≡ false → (nat_lt 1 w.references || w.task) ≡ false → Goes (row EndOrphaned w ∷ []) (Deliverer false (ThenEnds (Ran false))) p q → EndsPending held p q Orphaned
+    is_rescheduled : (w : State) → w.closed ≡ false → w.scheduled ≡ true
+        → Goes (row Reschedule w ∷ []) (Deliverer true (ThenEnds (Ran true))) p q → EndsPending held p q Rescheduled
+    is_idle : (w : State) → w.closed ≡ false → w.scheduled ≡ false → (nat_lt 1 w.references || w.task) ≡ true
+        → Goes (row EndIdle w ∷ act EndCall ∷ []) (At Ended) p q → EndsPending held p q Idle
+    is_orphaned : (w : State) → w.closed ≡ false → w.scheduled ≡ false → (nat_lt 1 w.references || w.task) ≡ false
+        → Goes (row EndOrphaned w ∷ []) (Deliverer false (ThenEnds (Ran false))) p q → EndsPending held p q Orphaned
 
   -- the awaiter was taken that was due
   pub data TakesDue (way : NotifyingCall) (due : Bool) (p q : Party F T A) : Option A → Type 0 where
     takes_none : (path : List Deed) → NotifyPath due false path → Goes path (after_taking None way) p q → TakesDue way due p q None
-    takes_one : (i : ℕ) (a : A) (path : List Deed) → NotifyPath due true path → Goes path (after_taking (Some i) way) p q → TakesDue way due p q (Some a)
+    takes_one : (i : ℕ) (a : A) (path : List Deed) → NotifyPath due true path → Goes path (after_taking (Some i) way) p q
+        → TakesDue way due p q (Some a)
 
   -- a party that has what was taken, to be woken
   pub data HasTaken (way : NotifyingCall) (p : Party F T A) : Option A → Type 0 where
@@ -71,7 +86,8 @@ module _ {F T A : Type 0} where
 
   -- the rest of a run of a closed task whose poll answered Pending
   abbrev pub ClosesPending : Type 0 → Party F T A → Party F T A → Type 0
-  ClosesPending Woken p q = (w : State) × (path : List Deed) × (w.closed ≡ true) × RestPath Woken w.awaiter path × Goes (row EndClosed w ∷ path) (At Ended) p q
+  ClosesPending Woken p q =
+      (w : State) × (path : List Deed) × (w.closed ≡ true) × RestPath Woken w.awaiter path × Goes (row EndClosed w ∷ path) (At Ended) p q
 
   -- a whole run of a closed task, after its first step
   abbrev pub Closes : Type 0 → Party F T A → Party F T A → Type 0

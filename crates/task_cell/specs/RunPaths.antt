@@ -1,7 +1,10 @@
 -- The paths of a run, of a closed run and of a Runnable's drop: what the party does, the oldest first.
 use Rattle.std.specs.Prelude.{◌≡◌, ◌||◌, nat_lt, Bool, true, false, List, [], ◌∷◌, ◌++◌}
 use Rattle.task_core.specs.Word.{State}
-use Rattle.task_core.specs.declared.acts.Act.TheVariants.{GiveUpReference, GiveUpLastReference, EmptySlots, DiscardOpen, DiscardClosed, DropFuture, Unschedule, MissNotify, BeginNotify, TakeAwaiter, EndNotify, WakeAwaiter, EndCall, AnswerReady, StoreOutput, Complete, CompleteDetached, DropOutput, AnswerPending, EndClosed, Reschedule, HandOver, EndIdle, EndOrphaned}
+use Rattle.task_core.specs.declared.acts.Act.TheVariants.{GiveUpReference, GiveUpLastReference, EmptySlots, DiscardOpen, DiscardClosed}
+use Rattle.task_core.specs.declared.acts.Act.TheVariants.{DropFuture, Unschedule, MissNotify, BeginNotify, TakeAwaiter, EndNotify}
+use Rattle.task_core.specs.declared.acts.Act.TheVariants.{WakeAwaiter, EndCall, AnswerReady, StoreOutput, Complete, CompleteDetached}
+use Rattle.task_core.specs.declared.acts.Act.TheVariants.{DropOutput, AnswerPending, EndClosed, Reschedule, HandOver, EndIdle, EndOrphaned}
 use Rattle.task_steps.specs.declared.table.Deed.{Deed}
 use Rattle.task_steps.specs.Deeds.{row, act}
 use Rattle.task_cell.specs.Calls.{Fits}
@@ -28,7 +31,8 @@ pub data WakePath (Woken : Type 0) : Bool → List Deed → Type 0 where
 
 -- the rest of a run, after its end step: the awaiter that was taken is woken last
 pub data RestPath (Woken : Type 0) : Bool → List Deed → Type 0 where
-  rests : (due taken : Bool) (n r k : List Deed) → NotifyPath due taken n → ReleasePath r → WakePath Woken taken k → RestPath Woken due (n ++ (r ++ (k ++ act EndCall ∷ [])))
+  rests : (due taken : Bool) (n r k : List Deed) → NotifyPath due taken n → ReleasePath r → WakePath Woken taken k
+      → RestPath Woken due (n ++ (r ++ (k ++ act EndCall ∷ [])))
 
 -- a run of a task that was closed, after it has taken the future over
 pub data ClosedRunPath (Woken : Type 0) : List Deed → Type 0 where
@@ -46,10 +50,14 @@ pub data ReadyPath (Woken : Type 0) : List Deed → Type 0 where
 
 -- a run after its poll answered Pending, and whether the task was woken meanwhile, which the run answers
 pub data PendingPath (Woken : Type 0) (Scheduled : Bool → Type 0) : Bool → List Deed → Type 0 where
-  closed_meanwhile : (w : State) (r : List Deed) → w.closed ≡ true → RestPath Woken w.awaiter r → PendingPath Woken Scheduled false (act AnswerPending ∷ act DropFuture ∷ row EndClosed w ∷ r)
-  woken_meanwhile : (w : State) → w.closed ≡ false → w.scheduled ≡ true → Scheduled true → PendingPath Woken Scheduled true (act AnswerPending ∷ row Reschedule w ∷ act HandOver ∷ act EndCall ∷ [])
-  idle : (w : State) → w.closed ≡ false → w.scheduled ≡ false → (nat_lt 1 w.references || w.task) ≡ true → PendingPath Woken Scheduled false (act AnswerPending ∷ row EndIdle w ∷ act EndCall ∷ [])
-  orphaned : (w : State) → w.closed ≡ false → w.scheduled ≡ false → (nat_lt 1 w.references || w.task) ≡ false → Scheduled false → PendingPath Woken Scheduled false (act AnswerPending ∷ row EndOrphaned w ∷ act HandOver ∷ act EndCall ∷ [])
+  closed_meanwhile : (w : State) (r : List Deed) → w.closed ≡ true → RestPath Woken w.awaiter r
+      → PendingPath Woken Scheduled false (act AnswerPending ∷ act DropFuture ∷ row EndClosed w ∷ r)
+  woken_meanwhile : (w : State) → w.closed ≡ false → w.scheduled ≡ true → Scheduled true
+      → PendingPath Woken Scheduled true (act AnswerPending ∷ row Reschedule w ∷ act HandOver ∷ act EndCall ∷ [])
+  idle : (w : State) → w.closed ≡ false → w.scheduled ≡ false → (nat_lt 1 w.references || w.task) ≡ true
+      → PendingPath Woken Scheduled false (act AnswerPending ∷ row EndIdle w ∷ act EndCall ∷ [])
+  orphaned : (w : State) → w.closed ≡ false → w.scheduled ≡ false → (nat_lt 1 w.references || w.task) ≡ false → Scheduled false
+      → PendingPath Woken Scheduled false (act AnswerPending ∷ row EndOrphaned w ∷ act HandOver ∷ act EndCall ∷ [])
 
 -- the first step of a Runnable's drop
 pub data DiscardStart : Deed → Type 0 where
@@ -58,11 +66,15 @@ pub data DiscardStart : Deed → Type 0 where
 
 -- a Runnable's drop: the awaiter that was taken is woken before the reference is given up
 pub data DiscardPath (Woken : Type 0) : List Deed → Type 0 where
-  discards : (d : Deed) (w : State) (taken : Bool) (n k r : List Deed) → DiscardStart d → NotifyPath w.awaiter taken n → WakePath Woken taken k → ReleasePath r
+  discards : (d : Deed) (w : State) (taken : Bool) (n k r : List Deed) → DiscardStart d → NotifyPath w.awaiter taken n
+      → WakePath Woken taken k → ReleasePath r
       → DiscardPath Woken (d ∷ act DropFuture ∷ row Unschedule w ∷ (n ++ (k ++ (r ++ act EndCall ∷ []))))
 
 -- a run, and what it answers: a task that was closed is not polled
 pub data RunPath {T : Type 0} (Polled : Poll T → Type 0) (Woken : Type 0) (Scheduled : Bool → Type 0) : Bool → List Deed → Type 0 where
-  finds_closed : (w : State) (path : List Deed) → w.closed ≡ true → ClosedRunPath Woken path → RunPath Polled Woken Scheduled false (row TakeUpClosed w ∷ path)
-  answers_ready : (w : State) (x : T) (path : List Deed) → w.closed ≡ false → Polled (Ready x) → ReadyPath Woken path → RunPath Polled Woken Scheduled false (row StartRun w ∷ act StartPoll ∷ path)
-  answers_pending : (w : State) (woken : Bool) (path : List Deed) → w.closed ≡ false → Polled Pending → PendingPath Woken Scheduled woken path → RunPath Polled Woken Scheduled woken (row StartRun w ∷ act StartPoll ∷ path)
+  finds_closed : (w : State) (path : List Deed) → w.closed ≡ true → ClosedRunPath Woken path
+      → RunPath Polled Woken Scheduled false (row TakeUpClosed w ∷ path)
+  answers_ready : (w : State) (x : T) (path : List Deed) → w.closed ≡ false → Polled (Ready x) → ReadyPath Woken path
+      → RunPath Polled Woken Scheduled false (row StartRun w ∷ act StartPoll ∷ path)
+  answers_pending : (w : State) (woken : Bool) (path : List Deed) → w.closed ≡ false → Polled Pending
+      → PendingPath Woken Scheduled woken path → RunPath Polled Woken Scheduled woken (row StartRun w ∷ act StartPoll ∷ path)

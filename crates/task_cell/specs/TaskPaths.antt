@@ -6,7 +6,9 @@ use Rattle.task_laws.specs.declared.positions.Answer.TheVariants.{Nothing}
 use Rattle.task_laws.specs.declared.positions.NotifyingCall.TheVariants.{OfCancel}
 use Rattle.task_laws.specs.declared.positions.OnceDelivered.TheVariants.{ThenEnds}
 use Rattle.task_laws.specs.declared.positions.Position.TheVariants.{Deliverer, Emptier, OutputCloser}
-use Rattle.task_core.specs.declared.acts.Act.TheVariants.{CancelOver, CancelBusy, CancelIdle, GiveUpOutput, DropOutput, DetachOrphan, DetachLast, Detach, EmptySlots, EndCall, HandOver, BeginNotify, MissNotify, TakeAwaiter, EndNotify, WakeAwaiter}
+use Rattle.task_core.specs.declared.acts.Act.TheVariants.{CancelOver, CancelBusy, CancelIdle, GiveUpOutput, DropOutput, DetachOrphan}
+use Rattle.task_core.specs.declared.acts.Act.TheVariants.{DetachLast, Detach, EmptySlots, EndCall, HandOver, BeginNotify, MissNotify}
+use Rattle.task_core.specs.declared.acts.Act.TheVariants.{TakeAwaiter, EndNotify, WakeAwaiter}
 use Rattle.task_steps.specs.declared.table.Slot.{Slot}
 use Rattle.task_steps.specs.declared.table.Deed.{Deed}
 use Rattle.task_cell.specs.declared.cell.Party.{Party}
@@ -25,18 +27,25 @@ pub data Notice (Woken : Type 0) : Bool → List Deed → Type 0 where
   not_due : Notice Woken false []
   missed : (w : State) → Fits MissNotify w → Notice Woken true (row MissNotify w ∷ [])
   found_none : (w v : State) → Fits BeginNotify w → Notice Woken true (row BeginNotify w ∷ act TakeAwaiter ∷ row EndNotify v ∷ [])
-  woke : (w v : State) → Fits BeginNotify w → Woken → Notice Woken true (row BeginNotify w ∷ act TakeAwaiter ∷ row EndNotify v ∷ act WakeAwaiter ∷ [])
+  woke : (w v : State) → Fits BeginNotify w → Woken
+      → Notice Woken true (row BeginNotify w ∷ act TakeAwaiter ∷ row EndNotify v ∷ act WakeAwaiter ∷ [])
 
--- a cancel: the task is over; or it is closed, and its Runnable or run will see it; or it is closed, and a Runnable is handed over that will see it
+-- a cancel: the task is over; or it is closed, and its Runnable or run will see it; or it is closed, and a Runnable is handed over that
+-- will see it
 pub data CancelPath (Scheduled Woken : Type 0) : List Deed → Type 0 where
   is_over : (w : State) → Fits CancelOver w → CancelPath Scheduled Woken (row CancelOver w ∷ act EndCall ∷ [])
-  is_busy : (w : State) (notice : List Deed) → Fits CancelBusy w → Notice Woken w.awaiter notice → CancelPath Scheduled Woken (row CancelBusy w ∷ (notice ++ act EndCall ∷ []))
-  is_idle : (w : State) (notice : List Deed) → Fits CancelIdle w → Scheduled → Notice Woken w.awaiter notice → CancelPath Scheduled Woken (row CancelIdle w ∷ act HandOver ∷ (notice ++ act EndCall ∷ []))
+  is_busy : (w : State) (notice : List Deed) → Fits CancelBusy w → Notice Woken w.awaiter notice
+      → CancelPath Scheduled Woken (row CancelBusy w ∷ (notice ++ act EndCall ∷ []))
+  is_idle : (w : State) (notice : List Deed) → Fits CancelIdle w → Scheduled → Notice Woken w.awaiter notice
+      → CancelPath Scheduled Woken (row CancelIdle w ∷ act HandOver ∷ (notice ++ act EndCall ∷ []))
 
--- a detach: an output that nobody has claimed is dropped before; the last handle of a closed task empties the slots, and that of an open one hands a Runnable over
+-- a detach: an output that nobody has claimed is dropped before; the last handle of a closed task empties the slots, and that of an open
+-- one hands a Runnable over
 pub data DetachPath (Scheduled : Type 0) : List Deed → Type 0 where
-  drops_output : (w v : State) → Fits GiveUpOutput w → Fits Detach v → DetachPath Scheduled (row GiveUpOutput w ∷ act DropOutput ∷ row Detach v ∷ act EndCall ∷ [])
-  drops_output_last : (w v : State) → Fits GiveUpOutput w → Fits DetachLast v → DetachPath Scheduled (row GiveUpOutput w ∷ act DropOutput ∷ row DetachLast v ∷ act EmptySlots ∷ act EndCall ∷ [])
+  drops_output : (w v : State) → Fits GiveUpOutput w → Fits Detach v
+      → DetachPath Scheduled (row GiveUpOutput w ∷ act DropOutput ∷ row Detach v ∷ act EndCall ∷ [])
+  drops_output_last : (w v : State) → Fits GiveUpOutput w → Fits DetachLast v
+      → DetachPath Scheduled (row GiveUpOutput w ∷ act DropOutput ∷ row DetachLast v ∷ act EmptySlots ∷ act EndCall ∷ [])
   is_shared : (w : State) → Fits Detach w → DetachPath Scheduled (row Detach w ∷ act EndCall ∷ [])
   is_last : (w : State) → Fits DetachLast w → DetachPath Scheduled (row DetachLast w ∷ act EmptySlots ∷ act EndCall ∷ [])
   is_orphaned : (w : State) → Fits DetachOrphan w → Scheduled → DetachPath Scheduled (row DetachOrphan w ∷ act HandOver ∷ act EndCall ∷ [])
@@ -45,17 +54,24 @@ module _ {F T A : Type 0} where
   -- the row of a cancel, by a Task that has begun n polls
   abbrev pub Cancels : ℕ → Party F T A → Party F T A → Cancelled → Type 0
   Cancels n p q Over = (w : State) × Fits CancelOver w × Goes (row CancelOver w ∷ act EndCall ∷ []) (as_task n) p q
-  Cancels n p q (Busy due) = (w : State) × (w.awaiter ≡ due) × Fits CancelBusy w × Goes (row CancelBusy w ∷ []) (notifies due (OfCancel n)) p q
-  Cancels n p q (Idle due) = (w : State) × (w.awaiter ≡ due) × Fits CancelIdle w × Goes (row CancelIdle w ∷ []) (Deliverer false (after_cancelling due n)) p q
+  Cancels n p q (Busy due) =
+      (w : State) × (w.awaiter ≡ due) × Fits CancelBusy w × Goes (row CancelBusy w ∷ []) (notifies due (OfCancel n)) p q
+  Cancels n p q (Idle due) =
+      (w : State) × (w.awaiter ≡ due) × Fits CancelIdle w × Goes (row CancelIdle w ∷ []) (Deliverer false (after_cancelling due n)) p q
 
   -- the row by which a Task is given up
   abbrev pub Detaches : Party F T A → Party F T A → Detached → Type 0
-  Detaches p q Unclaimed = (w : State) × (y : Slot F T A) × (z : Slot F T A) × Fits GiveUpOutput w × IsOutput z × GoesWith (row GiveUpOutput w ∷ []) OutputCloser (output_first y z []) p q
+  Detaches p q Unclaimed =
+      (w : State) × (y : Slot F T A) × (z : Slot F T A) × Fits GiveUpOutput w × IsOutput z
+      × GoesWith (row GiveUpOutput w ∷ []) OutputCloser (output_first y z []) p q
   Detaches p q Shared = (w : State) × Fits Detach w × Goes (row Detach w ∷ act EndCall ∷ []) as_ended p q
-  Detaches p q Last = (w : State) × (y : Slot F T A) × Fits DetachLast w × GoesWith (row DetachLast w ∷ []) (Emptier None Nothing) ((2, y) ∷ []) p q
+  Detaches p q Last =
+      (w : State) × (y : Slot F T A) × Fits DetachLast w × GoesWith (row DetachLast w ∷ []) (Emptier None Nothing) ((2, y) ∷ []) p q
   Detaches p q Orphaned = (w : State) × Fits DetachOrphan w × Goes (row DetachOrphan w ∷ []) (Deliverer false (ThenEnds Nothing)) p q
 
   -- the output that nobody claimed was dropped, and the Task given up; whether the slots are to be emptied
   abbrev pub GivesTaskUp : Party F T A → Party F T A → Bool → Type 0
   GivesTaskUp p q false = (w : State) × Fits Detach w × Goes (act DropOutput ∷ row Detach w ∷ act EndCall ∷ []) as_ended p q
-  GivesTaskUp p q true = (w : State) × (y : Slot F T A) × Fits DetachLast w × GoesWith (act DropOutput ∷ row DetachLast w ∷ []) (Emptier None Nothing) ((2, y) ∷ []) p q
+  GivesTaskUp p q true =
+      (w : State) × (y : Slot F T A) × Fits DetachLast w
+      × GoesWith (act DropOutput ∷ row DetachLast w ∷ []) (Emptier None Nothing) ((2, y) ∷ []) p q

@@ -1,9 +1,12 @@
--- The paths by which a waker is gained, wakes and is dropped, each with the words that its rows found and with what the foreign calls on it did.
+-- The paths by which a waker is gained, wakes and is dropped, each with the words that its rows found and with what the foreign calls on it
+-- did.
 use Rattle.std.specs.Prelude.{◌≡◌, ℕ, nat_lt, Bool, true, false, List, [], ◌∷◌, Option, Some, None}
 use Rattle.task_core.specs.Word.{State, is_open}
 use Rattle.task_laws.specs.declared.positions.Answer.TheVariants.{Nothing}
 use Rattle.task_laws.specs.declared.positions.Position.TheVariants.{Emptier, OrphanHolder}
-use Rattle.task_core.specs.declared.acts.Act.TheVariants.{GainReference, FindLimit, RefuseGain, DropWaker, DropLastWaker, OrphanTask, CloseOrphan, WakeOver, WakeScheduled, WakeRunning, WakeIdle, EmptySlots, HandOver, EndCall}
+use Rattle.task_core.specs.declared.acts.Act.TheVariants.{GainReference, FindLimit, RefuseGain, DropWaker, DropLastWaker, OrphanTask}
+use Rattle.task_core.specs.declared.acts.Act.TheVariants.{CloseOrphan, WakeOver, WakeScheduled, WakeRunning, WakeIdle, EmptySlots, HandOver}
+use Rattle.task_core.specs.declared.acts.Act.TheVariants.{EndCall}
 use Rattle.task_steps.specs.declared.table.Slot.{Slot}
 use Rattle.task_steps.specs.declared.table.Deed.{Deed}
 use Rattle.task_cell.specs.declared.cell.Party.{Party}
@@ -29,14 +32,17 @@ pub data TaskWakePath : Bool → List Deed → Type 0 where
 -- a waker's drop: the last one of a task that is over empties the slots, and that of an open task closes it and hands a Runnable over
 pub data WakerDropPath (Scheduled : Type 0) : List Deed → Type 0 where
   leaves_others : (w : State) → others_left w ≡ true → WakerDropPath Scheduled (row DropWaker w ∷ act EndCall ∷ [])
-  leaves_none : (w : State) → others_left w ≡ false → is_open w ≡ false → WakerDropPath Scheduled (row DropLastWaker w ∷ act EmptySlots ∷ act EndCall ∷ [])
-  leaves_orphan : (w v : State) → others_left w ≡ false → is_open w ≡ true → Scheduled → WakerDropPath Scheduled (row OrphanTask w ∷ row CloseOrphan v ∷ act HandOver ∷ act EndCall ∷ [])
+  leaves_none : (w : State) → others_left w ≡ false → is_open w ≡ false
+      → WakerDropPath Scheduled (row DropLastWaker w ∷ act EmptySlots ∷ act EndCall ∷ [])
+  leaves_orphan : (w v : State) → others_left w ≡ false → is_open w ≡ true → Scheduled
+      → WakerDropPath Scheduled (row OrphanTask w ∷ row CloseOrphan v ∷ act HandOver ∷ act EndCall ∷ [])
 
 module _ {F T A : Type 0} where
   -- a gain, and the new waker
   pub data Gains (limit : ℕ) (p q : Party F T A) : Option (Party F T A) → Type 0 where
     gains_none : (path : List Deed) → GainPath limit false path → Goes path as_lent p q → Gains limit p q None
-    gains_one : (path : List Deed) (waker : Party F T A) → GainPath limit true path → Goes path as_lent p q → IsNew as_waker p waker → Gains limit p q (Some waker)
+    gains_one : (path : List Deed) (waker : Party F T A) → GainPath limit true path → Goes path as_lent p q → IsNew as_waker p waker
+        → Gains limit p q (Some waker)
 
   -- a gain with a share of the cell: where the share was refused, no row was made
   pub data GainsShare (limit : ℕ) (p q : Party F T A) : Bool → Type 0 where
@@ -46,10 +52,13 @@ module _ {F T A : Type 0} where
   -- a wake, and the deliverer that is to hand the Runnable over
   pub data WakesTask (p q : Party F T A) : Option (Party F T A) → Type 0 where
     makes_none : (path : List Deed) → TaskWakePath false path → Goes path as_lent p q → WakesTask p q None
-    makes_one : (path : List Deed) (deliverer : Party F T A) → TaskWakePath true path → Goes path as_lent p q → IsNew as_deliverer p deliverer → WakesTask p q (Some deliverer)
+    makes_one : (path : List Deed) (deliverer : Party F T A) → TaskWakePath true path → Goes path as_lent p q
+        → IsNew as_deliverer p deliverer → WakesTask p q (Some deliverer)
 
   -- the row of a waker's drop
   abbrev pub DropsWaker : Party F T A → Party F T A → Dropped → Type 0
   DropsWaker p q Shared = (w : State) × (others_left w ≡ true) × Goes (row DropWaker w ∷ act EndCall ∷ []) as_ended p q
-  DropsWaker p q Last = (w : State) × (y : Slot F T A) × (others_left w ≡ false) × (is_open w ≡ false) × GoesWith (row DropLastWaker w ∷ []) (Emptier None Nothing) ((2, y) ∷ []) p q
+  DropsWaker p q Last =
+      (w : State) × (y : Slot F T A) × (others_left w ≡ false) × (is_open w ≡ false)
+      × GoesWith (row DropLastWaker w ∷ []) (Emptier None Nothing) ((2, y) ∷ []) p q
   DropsWaker p q Orphaned = (w : State) × (others_left w ≡ false) × (is_open w ≡ true) × Goes (row OrphanTask w ∷ []) OrphanHolder p q

@@ -1,4 +1,4 @@
--- The task of one thread: what each call makes of it, and what the call hands out.
+-- 5 of 6: the task of one thread, what each call makes of it, and what the call hands out.
 use Rattle.std.specs.Prelude.{ℕ, ◌+◌, ◌-◌, Bool, true, false, not, ◌&&◌, ◌||◌, nat_eq, nat_lt, if◌then◌else◌, Option, Some, None}
 use Rattle.task_core.specs.declared.traits.Poll.{Poll}
 use Rattle.task_core.specs.declared.traits.Poll.TheVariants.{Pending, Ready}
@@ -106,7 +106,8 @@ settles_ready out t =
 
 abbrev pub settles_open : {F T A : Type 0} → F → Local F T A → Effect F T A
 settles_open f t =
-    if t.has_task || nat_lt 0 t.wakers then becomes (record t { phase = Idle; future = Some f }) else orphaned (record t { future = Some f })
+    if t.has_task || nat_lt 0 t.wakers then becomes (record t { phase = Idle; future = Some f })
+    else orphaned (record t { future = Some f })
 
 abbrev pub queued_again : {F T A : Type 0} → F → Local F T A → Effect F T A
 queued_again f t = record (becomes (record t { phase = Queued; future = Some f })) { queue = Some true }
@@ -183,7 +184,8 @@ starts t = starts_at t.phase t
 -- `settle`: the poll of the future has answered
 abbrev pub settles : {F T A : Type 0} → F → Poll T → Local F T A → Effect F T A
 settles f (Ready output) t = empties (takes (record (settles_ready output t) { future = Some f }))
-settles f Pending t = if t.closed then empties (takes (record (becomes (record t { phase = Done })) { future = Some f })) else settles_pending f t
+settles f Pending t =
+    if t.closed then empties (takes (record (becomes (record t { phase = Done })) { future = Some f })) else settles_pending f t
 
 -- `add_waker`: where the references, of wakers and of the Runnable or its run, are below the limit
 abbrev pub references : {F T A : Type 0} → Local F T A → ℕ
@@ -215,7 +217,8 @@ pub record Answered (F T A : Type 0) : Type 0 where
   pub answer : TaskPoll (Option T)
   pub effect : Effect F T A
 
--- .. of a task that is done: its output, if nobody had it, and the stored awaiter is dropped where it wakes the same as the caller's, else woken
+-- .. of a task that is done: its output, if nobody had it, and the stored awaiter is dropped where it wakes the same as the caller's, else
+-- woken
 abbrev pub claims : {F T A : Type 0} → Bool → Local F T A → Answered F T A
 claims same t = record {
   answer = answer.Ready t.output;
@@ -228,7 +231,8 @@ claims same t = record {
 -- .. of another task: the clone of the caller's awaiter is stored, if there is one
 abbrev pub registers : {F T A : Type 0} → Option A → Local F T A → Answered F T A
 registers None t = record { answer = answer.Refused; effect = becomes t }
-registers (Some clone) t = record { answer = answer.Pending; effect = record (becomes (record t { awaiter = Due clone })) { dropped = stored t.awaiter } }
+registers (Some clone) t =
+    record { answer = answer.Pending; effect = record (becomes (record t { awaiter = Due clone })) { dropped = stored t.awaiter } }
 
 -- what can be seen of it
 abbrev pub is_queued : Phase → Bool

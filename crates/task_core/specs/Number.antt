@@ -1,4 +1,4 @@
--- A number in memory and the word that it is read as say the same.
+-- 4 of 6: a number in memory and the word that it is read as say the same.
 use Rattle.std.specs.Prelude.{◌≡◌, ℕ, ◌+◌, ◌*◌, ◌/◌, ◌%◌, ◌^◌, ◌<◌, nat_eq, refl}
 use Rattle.std.proofs.Common.{zero, suc, sym, ap, ◌∙◌, add_assoc}
 use Rattle.std.proofs.Math.Nat.{mul_assoc, mul-add, mod-add-div, div-one, not-suc-le-zero, le_of_suc-le-suc}
@@ -30,5 +30,6 @@ bit-above n k p x =
 -- read as a word and written again it is the same number
 pub number_of_state_of : (n : ℕ) → number_of (state_of n) ≡ n
 number_of_state_of n =
-    bit-above n 7 128 _ ∙ bit-above n 6 64 _ ∙ bit-above n 5 32 _ ∙ bit-above n 4 16 _ ∙ bit-above n 3 8 _ ∙ bit-above n 2 4 _ ∙ bit-above n 1 2 _
+    bit-above n 7 128 _ ∙ bit-above n 6 64 _ ∙ bit-above n 5 32 _ ∙ bit-above n 4 16 _ ∙ bit-above n 3 8 _ ∙ bit-above n 2 4 _
+    ∙ bit-above n 1 2 _
     ∙ ap (λ b. b + 2 * (n / 2)) (bit-flag n 0) ∙ ap (λ m. m % 2 + 2 * (n / 2)) (div-one n) ∙ mod-add-div n 2

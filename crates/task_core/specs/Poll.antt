@@ -1,4 +1,4 @@
--- What a poll of a future answered.
+-- 6 of 6: what a poll of a future answered.
 use Rattle.std.specs.Prelude.{⊤}
 use Rattle.task_core.specs.declared.traits.Poll.{Poll}
 use Rattle.task_core.specs.declared.traits.Poll.TheVariants.{Pending, Ready}

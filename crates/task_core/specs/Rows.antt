@@ -1,7 +1,11 @@
--- What each row finds, and what it writes.
+-- 3 of 6: what each row finds, and what it writes.
 use Rattle.std.specs.Prelude.{ℕ, ◌+◌, ◌-◌, Bool, true, false, not, ◌&&◌, ◌||◌, nat_lt, nat_le, nat_eq, if◌then◌else◌, Option, Some, None}
 use Rattle.task_core.specs.Word.{State, orphan_word, is_open}
-use Rattle.task_core.specs.Act.{Act, GainReference, FindLimit, DropWaker, DropLastWaker, OrphanTask, CloseOrphan, GiveUpReference, GiveUpLastReference, WakeOver, WakeScheduled, WakeRunning, WakeIdle, DiscardOpen, DiscardClosed, CancelOver, CancelBusy, CancelIdle, ClaimOutput, GiveUpOutput, DetachOrphan, DetachLast, Detach, TakeUpClosed, StartRun, Unschedule, Complete, CompleteDetached, EndClosed, Reschedule, EndIdle, EndOrphaned, BeginNotify, MissNotify, FindNotify, BeginRegister, EndNotify, EndRegister, EndRegisterNotified}
+use Rattle.task_core.specs.Act.{Act, GainReference, FindLimit, DropWaker, DropLastWaker, OrphanTask, CloseOrphan, GiveUpReference}
+use Rattle.task_core.specs.Act.{GiveUpLastReference, WakeOver, WakeScheduled, WakeRunning, WakeIdle, DiscardOpen, DiscardClosed, CancelOver}
+use Rattle.task_core.specs.Act.{CancelBusy, CancelIdle, ClaimOutput, GiveUpOutput, DetachOrphan, DetachLast, Detach, TakeUpClosed, StartRun}
+use Rattle.task_core.specs.Act.{Unschedule, Complete, CompleteDetached, EndClosed, Reschedule, EndIdle, EndOrphaned, BeginNotify}
+use Rattle.task_core.specs.Act.{MissNotify, FindNotify, BeginRegister, EndNotify, EndRegister, EndRegisterNotified}
 
 -- the word found by which a row may be made
 abbrev pub found : ℕ → Act → State → Bool

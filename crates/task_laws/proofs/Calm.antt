@@ -5,7 +5,7 @@ use Rattle.task_laws.specs.Event.{HasOutput, Event}
 use Rattle.task_laws.specs.Position.{OfRun, OfDrop, OfCancel, OfPoll, OfClaim, ThenNotifies, Position, At, CallEnding, Deliverer, Polling, ReadyFutureDropped, OutputStored, PendingFutureDropped, FutureGone, OutputInHand, GivingUp, Notifier, Taker, Releaser, AwaiterInHand, Registrar, UnusedClone, Storing, Registered, TookBack, Looking, TookOutput, OldAwaiterInHand, Answering, Detacher, Act}
 use Rattle.task_core.specs.Rows.{found, written}
 use Rattle.task_laws.specs.Table.{Slots, Scene, Outcome, where_found, rule, goes}
-use Rattle.task_laws.specs.Laws.{count, is_emptying}
+use Rattle.task_laws.specs.Laws.{how_often}
 use Rattle.task_laws.specs.Whole.{is_at_rest, is_foreign, asks_foreign}
 use Rattle.task_laws.proofs.Census.{Census, plus, weigh, runs, closers}
 use Rattle.task_laws.proofs.Invariant.{Holds}
@@ -257,5 +257,5 @@ placed scene trace rest p h =
       closed = where_here (closers (weigh p) + (weigh p).cleared) _ (λ here. closed_now w c h.closers_closed (omega (arith, here)));
       spent = where_here ((weigh p).finishing + (weigh p).outputs) _ (λ here. spent_now w c (omega (arith, h.one)) h.running h.scheduled h.spent_closed (omega (arith, here)));
       orphan = where_here ((weigh p).orphans) _ (λ here. orphan_now w c h.orphan (omega (arith, here)));
-      emptier = where_here ((weigh p).emptiers) _ (λ here. emptier_now w c (count is_emptying trace) h.emptied (omega (arith, here)));
+      emptier = where_here ((weigh p).emptiers) _ (λ here. emptier_now w c (how_often Event.Empties trace) h.emptied (omega (arith, here)));
     }

@@ -4,9 +4,8 @@ use Rattle.std.proofs.lemmas.Bool.Decides.{nat_tests}
 use Rattle.task_core.specs.Word.{State, bit, is_open}
 use Rattle.task_laws.specs.Event.{Event}
 use Rattle.task_laws.specs.Table.{Slots}
-use Rattle.task_laws.specs.Laws.{OnePoller, NoWakeLost, MakingsCounted, NobodyIsLeft}
-use Rattle.task_laws.specs.Laws.{count}
-use Rattle.task_laws.specs.Laws.{is_future_drop, is_emptying, is_output_end, is_future_ready}
+use Rattle.task_laws.specs.Laws.{how_often, count, OnePoller, NoWakeLost, MakingsCounted, NobodyIsLeft}
+use Rattle.task_laws.specs.Laws.{is_output_end}
 use Rattle.task_laws.proofs.Census.{Census, calls, runs, closers}
 use Rattle.task_laws.proofs.Invariant.{Holds}
 
@@ -37,35 +36,35 @@ over_still limit w slots t c h busy queued = still w.running w.scheduled c busy 
     still : (r s : Bool) (c : Census) → calls c ≡ 0 → c.queued ≡ 0 → runs c ≡ bit r → c.queued + closers c ≡ cond r 0 (bit s) → (r ≡ false) × (s ≡ false)
     still r s c busy queued e f = grind arith
 
-pub over_emptied : (limit : ℕ) (w : State) (slots : Slots) (t : List Event) (c : Census) → Holds limit w slots t c → NobodyIsLeft t → count is_emptying t ≡ 1
-over_emptied limit w slots t c h over = emptied w.task w.references c (count is_emptying t) (over_task limit w slots t c h over) (over_busy limit w slots t c h over) h.emptied
+pub over_emptied : (limit : ℕ) (w : State) (slots : Slots) (t : List Event) (c : Census) → Holds limit w slots t c → NobodyIsLeft t → how_often Event.Empties t ≡ 1
+over_emptied limit w slots t c h over = emptied w.task w.references c (how_often Event.Empties t) (over_task limit w slots t c h over) (over_busy limit w slots t c h over) h.emptied
   where
     emptied : (k : Bool) (n : ℕ) (c : Census) (m : ℕ) → k ≡ false → (calls c ≡ 0) × (c.queued ≡ 0) × (n ≡ 0) → m + c.emptiers + c.orphans ≡ cond k 0 (bit (eqb n 0)) → m ≡ 1
     emptied k n c m e b f = grind (arith, nat_tests)
 
-pub over_future : (limit : ℕ) (w : State) (slots : Slots) (t : List Event) (c : Census) → Holds limit w slots t c → NobodyIsLeft t → count is_future_drop t ≡ 1
+pub over_future : (limit : ℕ) (w : State) (slots : Slots) (t : List Event) (c : Census) → Holds limit w slots t c → NobodyIsLeft t → how_often Event.FutureDropped t ≡ 1
 over_future limit w slots t c h over =
     let b = over_busy limit w slots t c h over in
-    future w (bit slots.future) c (count is_future_drop t) (count is_emptying t) b (over_still limit w slots t c h b.0 b.1) h.future h.dropped (over_emptied limit w slots t c h over) h.emptied_closed
+    future w (bit slots.future) c (how_often Event.FutureDropped t) (how_often Event.Empties t) b (over_still limit w slots t c h b.0 b.1) h.future h.dropped (over_emptied limit w slots t c h over) h.emptied_closed
   where
     future : (w : State) (f : ℕ) (c : Census) (d m : ℕ) → (calls c ≡ 0) × (c.queued ≡ 0) × (w.references ≡ 0) → (w.running ≡ false) × (w.scheduled ≡ false)
         → f ≡ c.queued + c.starting + c.polling + c.pending + c.ready + c.in_hand + cond (w.running || w.scheduled) 0 (bit (is_open w))
         → d + f ≡ 1 → m ≡ 1 → (m + c.emptiers ≡ 0) ⊎ (is_open w ≡ false) → d ≡ 1
     future w f c d m b s e g k l = grind arith
 
-pub over_outputs : (limit : ℕ) (w : State) (slots : Slots) (t : List Event) (c : Census) → Holds limit w slots t c → NobodyIsLeft t → count is_output_end t ≡ count is_future_ready t
+pub over_outputs : (limit : ℕ) (w : State) (slots : Slots) (t : List Event) (c : Census) → Holds limit w slots t c → NobodyIsLeft t → count is_output_end t ≡ how_often Event.FutureReady t
 over_outputs limit w slots t c h over =
-    outputs w (bit slots.output) c (count is_output_end t) (count is_future_ready t) (over_task limit w slots t c h over) (over_busy limit w slots t c h over).0 h.output h.outputs h.kept
+    outputs w (bit slots.output) c (count is_output_end t) (how_often Event.FutureReady t) (over_task limit w slots t c h over) (over_busy limit w slots t c h over).0 h.output h.outputs h.kept
   where
     outputs : (w : State) (o : ℕ) (c : Census) (e r : ℕ) → w.task ≡ false → calls c ≡ 0 → o ≡ c.stored + c.outputs + c.claims + bit (w.completed && not w.closed) → r ≡ e + o + c.ready + c.unstored
         → (w.completed ≡ true → w.closed ≡ false → w.task ≡ true) → e ≡ r
     outputs w o c e r t b f g k = grind arith
 
-pub ends_future : (limit : ℕ) (w : State) (slots : Slots) (t : List Event) (c : Census) → Holds limit w slots t c → count is_future_drop t ≤ 1
+pub ends_future : (limit : ℕ) (w : State) (slots : Slots) (t : List Event) (c : Census) → Holds limit w slots t c → how_often Event.FutureDropped t ≤ 1
 ends_future limit w slots t c h = omega (arith, h.dropped)
 
-pub ends_emptied : (limit : ℕ) (w : State) (slots : Slots) (t : List Event) (c : Census) → Holds limit w slots t c → count is_emptying t ≤ 1
+pub ends_emptied : (limit : ℕ) (w : State) (slots : Slots) (t : List Event) (c : Census) → Holds limit w slots t c → how_often Event.Empties t ≤ 1
 ends_emptied limit w slots t c h = grind (arith, nat_tests)
 
-pub ends_outputs : (limit : ℕ) (w : State) (slots : Slots) (t : List Event) (c : Census) → Holds limit w slots t c → count is_output_end t ≤ count is_future_ready t
+pub ends_outputs : (limit : ℕ) (w : State) (slots : Slots) (t : List Event) (c : Census) → Holds limit w slots t c → count is_output_end t ≤ how_often Event.FutureReady t
 ends_outputs limit w slots t c h = omega (arith, h.outputs)

@@ -7,8 +7,8 @@ use Rattle.task_laws.specs.Position.{Position, Act}
 use Rattle.task_laws.specs.Table.{Slots, Scene, Outcome, when, where_found, rule, goes}
 use Rattle.task_core.specs.Rows.{found, written}
 use Rattle.task_laws.specs.Machine.{begins}
-use Rattle.task_laws.specs.Laws.{count}
-use Rattle.task_laws.specs.Laws.{Each, is_task_poll, is_emptying, is_clone_of, is_end_of_clone, pending_poll, was_woken, MayAnswer}
+use Rattle.task_laws.specs.Laws.{how_often, count}
+use Rattle.task_laws.specs.Laws.{Each, is_task_poll, pending_poll, was_woken, MayAnswer}
 use Rattle.task_laws.proofs.Census.{Census, plus, weigh}
 use Rattle.task_laws.proofs.Awaiting.{Awaiting, join, await, awaiting, held, Fits}
 use Rattle.task_laws.proofs.Invariant.{Holds}
@@ -23,7 +23,7 @@ pub record HandshakeHolds (i : ℕ) (word : State) (slots : Slots) (trace : List
   pub registering : awaiters.registering ≡ bit word.registering
   pub taking : awaiters.run_takers + awaiters.task_takers ≡ (if word.registering then 0 else bit word.notifying)
   pub emptied : awaiters.releasers ≡ 0 ⊎ (slots.awaiter ≡ None)
-  pub left_empty : count is_emptying trace ≡ 0 ⊎ (slots.awaiter ≡ None)
+  pub left_empty : how_often Event.Empties trace ≡ 0 ⊎ (slots.awaiter ≡ None)
   pub own : awaiters.registered ≡ 0 ⊎ (slots.awaiter ≡ Some (count is_task_poll trace))
   -- a poll that has taken its clone back was notified, and left the slot empty
   pub taken_back : awaiters.takers_back ≡ 0 ⊎ ((word.notifying ≡ true) × (slots.awaiter ≡ None))
@@ -33,10 +33,10 @@ pub record HandshakeHolds (i : ℕ) (word : State) (slots : Slots) (trace : List
   pub answers : Each MayAnswer trace
   -- the polls of the Task, in order
   pub numbers : awaiters.numbered ≡ 0 ⊎ (awaiters.number ≡ count is_task_poll trace)
-  pub unborn : count is_task_poll trace < i → (count (is_clone_of i) trace ≡ 0) × (was_woken i trace ≡ false)
-  pub unregistered : 1 ≤ awaiters.registrars → i ≡ count is_task_poll trace → count (is_clone_of i) trace ≡ 0
-  pub once : count (is_clone_of i) trace ≤ 1
-  pub clones : count (is_clone_of i) trace ≡ count (is_end_of_clone i) trace + awaiters.hands + held i slots.awaiter
+  pub unborn : count is_task_poll trace < i → (how_often (Event.Cloned i) trace ≡ 0) × (was_woken i trace ≡ false)
+  pub unregistered : 1 ≤ awaiters.registrars → i ≡ count is_task_poll trace → how_often (Event.Cloned i) trace ≡ 0
+  pub once : how_often (Event.Cloned i) trace ≤ 1
+  pub clones : how_often (Event.Cloned i) trace ≡ how_often (Event.CloneEnded i) trace + awaiters.hands + held i slots.awaiter
   pub answered : pending_poll trace ≡ Some i → i ≤ count is_task_poll trace
   pub kept : 1 ≤ awaiters.keepers → pending_poll trace ≡ Some i → IsCared i word slots trace awaiters
   pub looked : 1 ≤ awaiters.looks → IsCared i word slots trace awaiters

@@ -7,8 +7,9 @@ use Rattle.task_laws.specs.Position.{Position, Act}
 use Rattle.task_laws.specs.Table.{Slots, Scene, Outcome, where_found, rule, goes}
 use Rattle.task_core.specs.Rows.{found, written}
 use Rattle.task_laws.specs.Machine.{begins}
-use Rattle.task_laws.specs.Laws.{count, is_future_poll, is_future_answer}
-use Rattle.task_laws.specs.Laws.{Each, MayPoll, is_future_ready, is_future_drop, is_output_end, is_made, is_made_by_spawn, is_made_by_wake, is_made_by_closing, is_taking_up, is_run_end, is_completion, is_closing, is_emptying, is_waker_gained, is_waker_given_up, is_task_given_up, is_call_begun, is_call_end, taken_up_closed, wake_is_due, woken_since_taking_up, fresh_wakes}
+use Rattle.task_laws.specs.Event.{Maker}
+use Rattle.task_laws.specs.Laws.{how_often, count, is_future_answer}
+use Rattle.task_laws.specs.Laws.{Each, MayPoll, is_output_end, is_made, is_call_end, taken_up_closed, wake_is_due, woken_since_taking_up, fresh_wakes}
 use Rattle.task_laws.proofs.Census.{Census, plus, weigh, census, runs, closers, calls}
 use Rattle.task_laws.proofs.Scenes.{InEach}
 
@@ -29,22 +30,22 @@ pub record Holds (limit : ℕ) (word : State) (slots : Slots) (trace : List Even
   pub future : bit slots.future ≡ parties.queued + parties.starting + parties.polling + parties.pending + parties.ready + parties.in_hand + (if word.running || word.scheduled then 0 else bit (is_open word))
   pub output : bit slots.output ≡ parties.stored + parties.outputs + parties.claims + bit (word.completed && not word.closed)
   -- the trace
-  pub made : count is_made trace ≡ count is_taking_up trace + parties.queued
-  pub taken : count is_taking_up trace ≡ count is_run_end trace + runs parties + closers parties
-  pub starts : count is_future_poll trace ≡ count is_future_answer trace + parties.polling
-  pub dropped : count is_future_drop trace + bit slots.future ≡ 1
-  pub closes : count is_closing trace ≡ bit word.closed
-  pub completes : count is_completion trace ≡ bit word.completed
-  pub readies : count is_future_ready trace ≡ bit word.completed + parties.ready + parties.unstored + parties.stored
-  pub outputs : count is_future_ready trace ≡ count is_output_end trace + bit slots.output + parties.ready + parties.unstored
-  pub emptied : count is_emptying trace + parties.emptiers + parties.orphans ≡ (if word.task then 0 else bit (nat_eq word.references 0))
-  pub emptied_closed : (count is_emptying trace + parties.emptiers ≡ 0) ⊎ (is_open word ≡ false)
-  pub calls_left : count is_call_begun trace ≡ count is_call_end trace + calls parties
-  pub wakers : count is_waker_gained trace ≡ count is_waker_given_up trace + parties.wakers
-  pub task_left : count is_task_given_up trace + parties.tasks ≡ 1
-  pub by_spawn : count is_made_by_spawn trace ≡ 1
-  pub by_closing : count is_made_by_closing trace ≤ count is_closing trace
-  pub by_wake : count is_made_by_wake trace + bit (word.running && word.scheduled) ≤ fresh_wakes trace
+  pub made : count is_made trace ≡ how_often Event.TakenUp trace + parties.queued
+  pub taken : how_often Event.TakenUp trace ≡ how_often Event.RunEnded trace + runs parties + closers parties
+  pub starts : how_often Event.FuturePollBegins trace ≡ count is_future_answer trace + parties.polling
+  pub dropped : how_often Event.FutureDropped trace + bit slots.future ≡ 1
+  pub closes : how_often Event.Closes trace ≡ bit word.closed
+  pub completes : how_often Event.Completes trace ≡ bit word.completed
+  pub readies : how_often Event.FutureReady trace ≡ bit word.completed + parties.ready + parties.unstored + parties.stored
+  pub outputs : how_often Event.FutureReady trace ≡ count is_output_end trace + bit slots.output + parties.ready + parties.unstored
+  pub emptied : how_often Event.Empties trace + parties.emptiers + parties.orphans ≡ (if word.task then 0 else bit (nat_eq word.references 0))
+  pub emptied_closed : (how_often Event.Empties trace + parties.emptiers ≡ 0) ⊎ (is_open word ≡ false)
+  pub calls_left : how_often Event.CallBegins trace ≡ count is_call_end trace + calls parties
+  pub wakers : how_often Event.WakerGained trace ≡ how_often Event.WakerGivenUp trace + parties.wakers
+  pub task_left : how_often Event.TaskGivenUp trace + parties.tasks ≡ 1
+  pub by_spawn : how_often (Event.Made Maker.BySpawn) trace ≡ 1
+  pub by_closing : how_often (Event.Made Maker.ByClosing) trace ≤ how_often Event.Closes trace
+  pub by_wake : how_often (Event.Made Maker.ByWake) trace + bit (word.running && word.scheduled) ≤ fresh_wakes trace
   pub due : wake_is_due trace ≡ true → (word.scheduled ≡ true) × (is_open word ≡ true)
   pub woken : woken_since_taking_up trace ≡ true → word.running ≡ true → word.scheduled ≡ true
   pub again : word.running ≡ true → word.scheduled ≡ true → woken_since_taking_up trace ≡ true

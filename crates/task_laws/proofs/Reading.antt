@@ -5,8 +5,9 @@ use Rattle.std.proofs.lemmas.Bool.Decides.{nat_tests}
 use Rattle.task_core.specs.Word.{State, bit, is_open}
 use Rattle.task_laws.specs.Position.{Ended, Position, At}
 use Rattle.task_laws.specs.Machine.{Machine, how_many}
-use Rattle.task_laws.specs.Laws.{count, is_closing, is_future_drop, is_task_given_up, woken_since_taking_up}
-use Rattle.task_laws.specs.Theorem.{is_runner}
+use Rattle.task_laws.specs.Event.{Event}
+use Rattle.task_laws.specs.Laws.{how_often, woken_since_taking_up}
+use Rattle.task_laws.specs.Holders.{is_runner}
 use Rattle.task_core.specs.Local.{Idle, Queued, Polled, PolledAndWoken, Done, is_done}
 use Rattle.task_laws.specs.Abstract.{AbstractCell}
 use Rattle.task_laws.specs.Whole.{is_queued, is_polling, phase_of, is_home, one_if, awaiter_of, reading, frames, seen, WholeRunsAgree}
@@ -57,11 +58,11 @@ reading_is : (m : Machine) → Invariant m → Calm m.word m.slots true (At Ende
 reading_is m h k =
     let c = census m.parties in
     let phase : phase_at m.word ≡ phase_of m.parties m.trace =
-    phase_is m.word (how_many is_queued m.parties) (how_many is_polling m.parties) (woken_since_taking_up m.trace) (count is_future_drop m.trace) (queued_all m.parties ∙ h.holds.scheduled) (polling_all m.parties ∙ h.holds.running) h.holds.again h.holds.woken
-    (gone m.word m.slots.future (census m.parties) (count is_future_drop m.trace) h.holds.dropped h.holds.scheduled h.holds.running h.holds.future) in
-    let closed = bits m.word.closed (count is_closing m.trace) h.holds.closes in
+    phase_is m.word (how_many is_queued m.parties) (how_many is_polling m.parties) (woken_since_taking_up m.trace) (how_often Event.FutureDropped m.trace) (queued_all m.parties ∙ h.holds.scheduled) (polling_all m.parties ∙ h.holds.running) h.holds.again h.holds.woken
+    (gone m.word m.slots.future (census m.parties) (how_often Event.FutureDropped m.trace) h.holds.dropped h.holds.scheduled h.holds.running h.holds.future) in
+    let closed = bits m.word.closed (how_often Event.Closes m.trace) h.holds.closes in
     let output = output_is m.word m.slots.output (census m.parties) h.holds.completed h.holds.output (k.output refl) in
-    let task = tasks m.word.task (count is_task_given_up m.trace) (census m.parties).tasks h.holds.task_left h.holds.task in
+    let task = tasks m.word.task (how_often Event.TaskGivenUp m.trace) (census m.parties).tasks h.holds.task_left h.holds.task in
     let held : holders (census m.parties) ≡ how_many is_runner m.parties = sym (runners m.parties) in
     λ i. record {
       task = record {

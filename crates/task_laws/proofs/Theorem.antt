@@ -6,9 +6,10 @@ use Rattle.task_laws.specs.Event.{Event}
 use Rattle.task_laws.specs.Position.{Position}
 use Rattle.task_laws.specs.Table.{Slots}
 use Rattle.task_laws.specs.Machine.{Machine, how_many}
-use Rattle.task_laws.specs.Laws.{count}
-use Rattle.task_laws.specs.Laws.{NobodyIsLeft, no_call_is_left, is_task_given_up, pending_poll, is_completion, is_future_drop, was_woken, is_clone_of, is_end_of_clone, is_emptying}
-use Rattle.task_laws.specs.Theorem.{is_waker, is_runner, owns_future, owns_output, owns_awaiter, Laws, LawsHold}
+use Rattle.task_laws.specs.Laws.{how_often}
+use Rattle.task_laws.specs.Laws.{NobodyIsLeft, no_call_is_left, pending_poll, was_woken}
+use Rattle.task_laws.specs.Holders.{is_waker, is_runner, owns_future, owns_output, owns_awaiter}
+use Rattle.task_laws.specs.Theorem.{Laws, LawsHold}
 use Rattle.task_laws.proofs.Census.{Census, weigh, census, calls, runs, closers}
 use Rattle.task_laws.proofs.Invariant.{Holds}
 use Rattle.task_laws.proofs.Awaiting.{Awaiting, await, awaiting, Fits, fits}
@@ -56,7 +57,7 @@ one_output : (limit : ℕ) (w : State) (slots : Slots) (t : List Event) (c : Cen
 one_output limit w slots t c h = grind arith
 
 one_awaiter : (limit i : ℕ) (w : State) (slots : Slots) (t : List Event) (c : Census) (b : Awaiting) → Holds limit w slots t c → HandshakeHolds i w slots t b → Fits c b → b.run_takers + b.task_takers + b.registering + c.emptiers ≤ 1
-one_awaiter limit i w slots t c b h k f = owner w c b (count is_emptying t) h.references h.task h.emptied k.registering k.taking f.run_takers f.task_takers
+one_awaiter limit i w slots t c b h k f = owner w c b (how_often Event.Empties t) h.references h.task h.emptied k.registering k.taking f.run_takers f.task_takers
   where
     owner : (w : State) (c : Census) (b : Awaiting) (m : ℕ) → w.references ≡ c.queued + runs c + closers c + c.finishing + c.outputs + c.wakers → c.tasks ≡ bit w.task
         → m + c.emptiers + c.orphans ≡ cond w.task 0 (bit (eqb w.references 0)) → b.registering ≡ bit w.registering → b.run_takers + b.task_takers ≡ cond w.registering 0 (bit w.notifying)
@@ -65,12 +66,12 @@ one_awaiter limit i w slots t c b h k f = owner w c b (count is_emptying t) h.re
 
 -- no awaiter is forgotten
 woken_now : (limit i : ℕ) (w : State) (slots : Slots) (t : List Event) (c : Census) (b : Awaiting) → Holds limit w slots t c → HandshakeHolds i w slots t b → Fits c b
-    → no_call_is_left t → count is_task_given_up t ≡ 0 → pending_poll t ≡ Some i → (1 ≤ count is_completion t) ⊎ (1 ≤ count is_future_drop t) → was_woken i t ≡ true
+    → no_call_is_left t → how_often Event.TaskGivenUp t ≡ 0 → pending_poll t ≡ Some i → (1 ≤ how_often Event.Completes t) ⊎ (1 ≤ how_often Event.FutureDropped t) → was_woken i t ≡ true
 woken_now limit i w slots t c b h k f idle task p over =
     let busy : calls c ≡ 0 = omega (arith, h.calls_left, idle) in
     let tasks : c.tasks ≡ 1 = omega (arith, h.task_left, task) in
     let keeper : 1 ≤ b.keepers = omega (arith, f.tasks) in
-    woken w slots c b (was_woken i t) busy tasks (k.kept keeper p) f.hands f.to_wake f.lookouts f.run_takers f.shaking k.seen k.registering k.taking h.task h.running h.scheduled h.future h.completed (gone (count is_completion t) (count is_future_drop t) w slots over h.completes h.dropped)
+    woken w slots c b (was_woken i t) busy tasks (k.kept keeper p) f.hands f.to_wake f.lookouts f.run_takers f.shaking k.seen k.registering k.taking h.task h.running h.scheduled h.future h.completed (gone (how_often Event.Completes t) (how_often Event.FutureDropped t) w slots over h.completes h.dropped)
   where
     gone : (n d : ℕ) (w : State) (slots : Slots) → (1 ≤ n) ⊎ (1 ≤ d) → n ≡ bit w.completed → d + bit slots.future ≡ 1 → (w.completed ≡ true) ⊎ (slots.future ≡ false)
     gone n d w slots o e f = grind arith
@@ -91,13 +92,13 @@ no_bit true e = cc
 no_bit false e = refl
 
 over_awaiter : (m : Machine) → Invariant m → NobodyIsLeft m.trace → m.slots.awaiter ≡ None
-over_awaiter m h over = left (count is_emptying m.trace) m.slots (over_emptied m.limit m.word m.slots m.trace (census m.parties) h.holds over) (h.shakes 0).left_empty
+over_awaiter m h over = left (how_often Event.Empties m.trace) m.slots (over_emptied m.limit m.word m.slots m.trace (census m.parties) h.holds over) (h.shakes 0).left_empty
   where
     left : (n : ℕ) (slots : Slots) → n ≡ 1 → (n ≡ 0) ⊎ (slots.awaiter ≡ None) → slots.awaiter ≡ None
     left n slots e f = grind arith
 
 over_clones : (m : Machine) → Invariant m → NobodyIsLeft m.trace → (i : ℕ)
-    → count (is_end_of_clone i) m.trace ≡ count (is_clone_of i) m.trace
+    → how_often (Event.CloneEnded i) m.trace ≡ how_often (Event.Cloned i) m.trace
 over_clones m h over i =
     let e = rw (over_awaiter m h over) at (h.shakes i).clones in
     omega (arith, e, (over_busy m.limit m.word m.slots m.trace (census m.parties) h.holds over).0, (fits i m.parties).hands)

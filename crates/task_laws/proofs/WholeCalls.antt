@@ -46,14 +46,14 @@ only : {A : Type 0} (x y : A) → Some x ≡ Some y → x ≡ y
 only x y same = cc
 
 pub whole_calls_agree : WholeCallsAgree
-whole_calls_agree limit steps more w v call answers is_w w_cut is_v v_cut moves alone_or_taken =
+whole_calls_agree limit steps more w v call answers m =
     let first = begin limit (reading w.machine) call in
-    let before = whole_runs_agree limit steps w is_w w_cut in
+    let before = whole_runs_agree limit steps w m.before m.cut_before in
     let begun = ap (λ (x : Option Abstract). then_moved limit x (Begin call)) before in
-    let after = whole_runs_agree limit (steps ++ more) v (whole_append (Some (record { machine = opening limit; stack = []; cut = true; moves = [] })) steps more ∙ (ap (λ (x : Option Whole). whole_from x more) is_w ∙ is_v)) v_cut in
-    let reached = sym (ap (all_moved limit) moves) ∙ after in
-    let call_made = goes_alone limit (read w).frames (read w).told (Begin call ∷ w.moves) first.cell first.told first.frame answers begun (taken alone_or_taken begun reached) in
-    only (read v) (follow (alone first answers) (read w).frames (read w).told) (sym after ∙ (ap (all_moved limit) moves ∙ call_made))
+    let after = whole_runs_agree limit (steps ++ more) v (whole_append (Some (record { machine = opening limit; stack = []; cut = true; moves = [] })) steps more ∙ (ap (λ (x : Option Whole). whole_from x more) m.before ∙ m.after)) m.cut_after in
+    let reached = sym (ap (all_moved limit) m.moves) ∙ after in
+    let call_made = goes_alone limit (read w).frames (read w).told (Begin call ∷ w.moves) first.cell first.told first.frame answers begun (taken m.its_own begun reached) in
+    only (read v) (follow (alone first answers) (read w).frames (read w).told) (sym after ∙ (ap (all_moved limit) m.moves ∙ call_made))
   where
     taken : (w.stack ≡ []) ⊎ (takes_all (begin limit (reading w.machine) call) answers ≡ true)
         → all_moved limit (Begin call ∷ w.moves) ≡ Some (follow (begin limit (reading w.machine) call) (read w).frames (read w).told)

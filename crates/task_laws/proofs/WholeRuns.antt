@@ -19,7 +19,8 @@ use Rattle.task_laws.proofs.Ahead.{Same, before, ahead, prepend, lands, Landed, 
 use Rattle.task_laws.proofs.Calm.{Calm, Counted, Placed, placed, tracked, kept_calm, StaysCalm, stands, goes_one_way, registers, is_registered, takes_slot, has_emptied, is_storing, is_notifier, drops_old, is_refused, has_seen, drops_output, has_stored}
 use Rattle.task_laws.proofs.CallRows.{every_call}
 use Rattle.task_laws.proofs.CalmRows.{every_calm}
-use Rattle.task_laws.specs.Laws.{count, is_completion}
+use Rattle.task_laws.specs.Event.{is_event}
+use Rattle.task_laws.specs.Laws.{how_often, count}
 use Rattle.task_laws.proofs.Cuts.{goes_on_from, get_put, get_other, get_append, carried}
 
 -- the open calls: each where it may stand, and each another party's
@@ -253,14 +254,14 @@ count-append p [] ys = omega arith
 count-append p (x ∷ xs) ys = omega (arith, count-append p xs ys)
 
 -- what is completed stays so, as the trace tells it
-completes_on : (before now : Bool) (events : List Event) (trace : List Event) → count is_completion trace ≡ bit before → count is_completion (events ++ trace) ≡ bit now → before ≡ true → now ≡ true
-completes_on before now events trace was is completed = at (count is_completion events) (count is_completion trace) was (sym (count-append is_completion events trace) ∙ is) completed
+completes_on : (before now : Bool) (events : List Event) (trace : List Event) → how_often Event.Completes trace ≡ bit before → how_often Event.Completes (events ++ trace) ≡ bit now → before ≡ true → now ≡ true
+completes_on before now events trace was is completed = at (how_often Event.Completes events) (how_often Event.Completes trace) was (sym (count-append (is_event Event.Completes) events trace) ∙ is) completed
   where
     at : (a b : ℕ) → b ≡ bit before → a + b ≡ bit now → before ≡ true → now ≡ true
     at a b e f g = grind (arith, nat_tests)
 
 pub stays_completed : (m : Machine) (i : ℕ) (p : Position) (o : Outcome) → Invariant m → Invariant (moved_on m i p o) → m.word.completed ≡ true → o.word.completed ≡ true
-stays_completed m i p o was is = completes_on m.word.completed o.word.completed (o.told ++ begins p) m.trace was.holds.completes (ap (count is_completion) (append_assoc o.told (begins p) m.trace) ∙ is.holds.completes)
+stays_completed m i p o was is = completes_on m.word.completed o.word.completed (o.told ++ begins p) m.trace was.holds.completes (ap (how_often Event.Completes) (append_assoc o.told (begins p) m.trace) ∙ is.holds.completes)
 
 -- what the counting invariant says of the acting party
 placed_here : (m : Machine) (i : ℕ) (p : Position) → slice_get m.parties i ≡ Some p → Invariant m → Placed (scene m) (plus (weigh p) (census (others m.parties i))) p

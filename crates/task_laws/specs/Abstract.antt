@@ -1,8 +1,11 @@
--- The abstract task of a cell, and its calls, in segments that end where foreign code may make calls.
+-- 8 of 11: the abstract task of a cell, and its calls, in segments that end where foreign code may make calls.
 use Rattle.std.specs.Prelude.{ℕ, ◌+◌, Bool, true, false, not, ◌&&◌, nat_lt, if◌then◌else◌, List, [], ◌∷◌, ◌++◌, Option, Some, None}
 use Rattle.task_core.specs.Word.{bit}
-use Rattle.task_laws.specs.Event.{PollAnswer, IsPending, IsClosed, HasOutput, IsRefused, Answer, Nothing, Ran, Gained, Finished, Event, FutureDropped, OutputTaken, OutputDropped, HandedOver, Empties, TaskPollEnds, Woken, CloneEnded, CallEnds}
-use Rattle.task_core.specs.Local.{Done, NoAwaiter, Due, Local, Effect, becomes, due, stored, without_due, none_left, empties_if, polls, dropped_unpolled, settles_ready, settles_pending, wakes, loses_waker, cancels_at, detaches_at, is_done, gives_output, finished, opening_task}
+use Rattle.task_laws.specs.Event.{PollAnswer, IsPending, IsClosed, HasOutput, IsRefused, Answer, Nothing, Ran, Gained, Finished, Event}
+use Rattle.task_laws.specs.Event.{FutureDropped, OutputTaken, OutputDropped, HandedOver, Empties, TaskPollEnds, Woken, CloneEnded, CallEnds}
+use Rattle.task_core.specs.Local.{Done, NoAwaiter, Due, Local, Effect, becomes, due, stored, without_due, none_left, empties_if, polls}
+use Rattle.task_core.specs.Local.{dropped_unpolled, settles_ready, settles_pending, wakes, loses_waker, cancels_at, detaches_at, is_done}
+use Rattle.task_core.specs.Local.{gives_output, finished, opening_task}
 
 -- the abstract task of a cell: future and output are tokens, an awaiter is the number of its poll
 abbrev pub PlainTask : Type 0
@@ -120,11 +123,14 @@ abbrev pub cancels : AbstractCell → SegmentEnd
 cancels c =
     if finished c.task then ends c [] Nothing
     else (let r = cancels_at c.task.phase c.task in
-    hands_over c r r.queue [] (if is_due (due c.task.awaiter) then TakesOfCancel else Ends Nothing) (cancel_takes (takes_due (with_task c r.task)) (in_hand c)))
+    hands_over c r r.queue [] (if is_due (due c.task.awaiter) then TakesOfCancel else Ends Nothing)
+    (cancel_takes (takes_due (with_task c r.task)) (in_hand c)))
 
 -- `detach`, once an output was dropped
 abbrev pub detaches : AbstractCell → List Event → SegmentEnd
-detaches c told = let r = detaches_at c.task.phase c.task in hands_over c r r.queue told (Ends Nothing) (empties (with_task c r.task) told Nothing)
+detaches c told =
+    let r = detaches_at c.task.phase c.task in
+    hands_over c r r.queue told (Ends Nothing) (empties (with_task c r.task) told Nothing)
 
 -- a poll of the Task answers
 abbrev pub answer_events : ℕ → PollAnswer → List Event
@@ -142,7 +148,8 @@ asks c i answer None = answers c [] i answer
 -- a poll of a task that is done
 abbrev pub reads : AbstractCell → ℕ → SegmentEnd
 reads c i =
-    asks (with_task c (record ((gives_output c.task).task) { awaiter = NoAwaiter })) i (if c.task.closed then IsClosed else HasOutput) (stored c.task.awaiter)
+    asks (with_task c (record ((gives_output c.task).task) { awaiter = NoAwaiter })) i (if c.task.closed then IsClosed else HasOutput)
+    (stored c.task.awaiter)
 
 -- a poll that has registered looks again
 abbrev pub looks : AbstractCell → ℕ → SegmentEnd
@@ -169,11 +176,14 @@ begin limit c Schedule = stops c (HandedOver false ∷ []) (Ends Nothing)
 begin limit c Wake = let r = wakes c.task in hands_over c r r.queue [] (Ends Nothing) (ends (with_task c r.task) [] Nothing)
 begin limit c Lend = ends c [] Nothing
 begin limit c (Gain refused) =
-    if not refused && nat_lt (c.task.wakers + bit c.held) limit then ends (with_task c (record (c.task) { wakers = c.task.wakers + 1 })) [] (Gained true) else ends c [] (Gained false)
+    if not refused && nat_lt (c.task.wakers + bit c.held) limit
+    then ends (with_task c (record (c.task) { wakers = c.task.wakers + 1 })) [] (Gained true)
+    else ends c [] (Gained false)
 begin limit c DropWaker = let r = loses_waker c.task in hands_over c r r.queue [] (Ends Nothing) (empties (with_task c r.task) [] Nothing)
 begin limit c Cancel = cancels c
 begin limit c Detach =
-    if is_done c.task.phase && not c.task.closed then stops (with_task c (gives_output c.task).task) (OutputDropped ∷ []) Detaches else detaches c []
+    if is_done c.task.phase && not c.task.closed then stops (with_task c (gives_output c.task).task) (OutputDropped ∷ []) Detaches
+    else detaches c []
 begin limit c IsFinished = ends c [] (Finished (finished c.task))
 begin limit c (Poll i) = if is_done c.task.phase then reads c i else stops c [] (Clones i)
 

@@ -1,8 +1,9 @@
 pub mod Event
+pub mod Laws
 pub mod Position
 pub mod Table
 pub mod Machine
-pub mod Laws
+pub mod Holders
 pub mod Theorem
 pub mod Abstract
 pub mod Whole

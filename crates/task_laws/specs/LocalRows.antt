@@ -1,12 +1,14 @@
--- The task of one thread as the abstract task of a cell: each of its rows is a call that is made alone.
+-- 11 of 11: the task of one thread as the abstract task of a cell. Each of its rows is a call that is made alone.
 use Rattle.std.specs.Prelude.{◌≡◌, ℕ, Bool, true, false, not, ◌&&◌, if◌then◌else◌, List, [], ◌∷◌, ◌++◌, Option, Some, None}
 use Rattle.task_core.specs.declared.traits.Poll.TheVariants.{Pending, Ready}
 use Rattle.task_core.specs.declared.traits.TaskPoll.{TaskPoll}
 use Rattle.task_core.specs.declared.traits.TaskPoll.TheVariants as answer
-use Rattle.task_laws.specs.Event.{IsPending, IsClosed, HasOutput, IsRefused, PollAnswer, Ran, Gained, Finished, Event, FutureDropped, OutputDropped, HandedOver, Empties, CallEnds}
+use Rattle.task_laws.specs.Event.{IsPending, IsClosed, HasOutput, IsRefused, PollAnswer, Ran, Gained, Finished, Event, FutureDropped}
+use Rattle.task_laws.specs.Event.{OutputDropped, HandedOver, Empties, CallEnds}
 use Rattle.task_core.specs.Local.{Queued, holds_reference, is_done, finished}
 use Rattle.task_core.specs.Local
-use Rattle.task_laws.specs.Abstract.{PlainTask, PlainEffect, AbstractCell, Call, InPoll, SegmentEnd, ended, woken, is_again, answer_events, begin, go}
+use Rattle.task_laws.specs.Abstract.{PlainTask, PlainEffect, AbstractCell, Call, InPoll, SegmentEnd, ended, woken, is_again, answer_events}
+use Rattle.task_laws.specs.Abstract.{begin, go}
 use Rattle.task_laws.specs.Abstract
 use Rattle.task_laws.specs.Whole.{one_if}
 use Rattle.task_laws.specs.WholeCalls.{alone}
@@ -88,26 +90,40 @@ HasItsOutput t = t.output ≡ one_if (is_done t.phase && not t.closed)
 -- Each call, made alone, is its row.
 pub record RowsAgree (limit : ℕ) (t : PlainTask) (a : Answers) : Type 0 where
   -- a run is `start`, and then `settle` with what the future answered
-  pub run_closed : (e : PlainEffect) → Local.starts t ≡ Local.IsEnded e → t.future ≡ Some tt → made_alone limit t Abstract.Run a ≡ leaves e.task (CallEnds (Ran false) ∷ tells e)
-  pub run_starts : (e : PlainEffect) → Local.starts t ≡ Local.IsPolled e → begin limit (cell_of t) Abstract.Run ≡ record { cell = cell_of e.task; told = []; frame = Some InPoll }
-  pub run_ready : Local.is_started t.phase ≡ true → let e = Local.settles tt (Ready tt) t in alone (go (cell_of t) InPoll true) (in_order a) ≡ leaves e.task (CallEnds (Ran false) ∷ tells e)
-  pub run_pending : Local.is_started t.phase ≡ true → let e = Local.settles tt Pending t in alone (go (cell_of t) InPoll false) (in_order a) ≡ leaves e.task (CallEnds (Ran (is_again e.queue)) ∷ tells e)
+  pub run_closed : (e : PlainEffect) → Local.starts t ≡ Local.IsEnded e → t.future ≡ Some tt
+      → made_alone limit t Abstract.Run a ≡ leaves e.task (CallEnds (Ran false) ∷ tells e)
+  pub run_starts : (e : PlainEffect) → Local.starts t ≡ Local.IsPolled e
+      → begin limit (cell_of t) Abstract.Run ≡ record { cell = cell_of e.task; told = []; frame = Some InPoll }
+  pub run_ready : Local.is_started t.phase ≡ true
+      → let e = Local.settles tt (Ready tt) t in
+      alone (go (cell_of t) InPoll true) (in_order a) ≡ leaves e.task (CallEnds (Ran false) ∷ tells e)
+  pub run_pending : Local.is_started t.phase ≡ true
+      → let e = Local.settles tt Pending t in
+      alone (go (cell_of t) InPoll false) (in_order a) ≡ leaves e.task (CallEnds (Ran (is_again e.queue)) ∷ tells e)
   -- a Runnable is dropped, or handed over
-  pub drop_runnable : t.phase ≡ Queued → t.future ≡ Some tt → let e = Local.discards t in made_alone limit t Abstract.DropRunnable a ≡ leaves e.task (tells_of_drop e)
+  pub drop_runnable : t.phase ≡ Queued → t.future ≡ Some tt
+      → let e = Local.discards t in made_alone limit t Abstract.DropRunnable a ≡ leaves e.task (tells_of_drop e)
   pub schedule : made_alone limit t Abstract.Schedule a ≡ leaves t (HandedOver false ∷ [])
   -- wakers; a wake by value is a wake and then the waker's drop
-  pub gain : made_alone limit t (Abstract.Gain false) a ≡ leaves (Local.gains_waker limit t).task (CallEnds (Gained (Local.has_room limit t)) ∷ [])
+  pub gain : made_alone limit t (Abstract.Gain false) a
+      ≡ leaves (Local.gains_waker limit t).task (CallEnds (Gained (Local.has_room limit t)) ∷ [])
   pub refuse_gain : made_alone limit t (Abstract.Gain true) a ≡ leaves t (CallEnds (Gained false) ∷ [])
   pub wake : let e = Local.wakes t in made_alone limit t Abstract.Wake a ≡ leaves e.task (tells e)
   pub drop_waker : let e = Local.drops_waker t in made_alone limit t Abstract.DropWaker a ≡ leaves e.task (tells e)
-  pub wake_by_value : let e = Local.wakes t in let d = Local.drops_waker e.task in after_another limit (made_alone limit t Abstract.Wake a) Abstract.DropWaker a ≡ leaves d.task (tells d ++ tells e)
+  pub wake_by_value : let e = Local.wakes t in let d = Local.drops_waker e.task in
+      after_another limit (made_alone limit t Abstract.Wake a) Abstract.DropWaker a ≡ leaves d.task (tells d ++ tells e)
   -- the Task; its drop is a cancel and then a detach, and the first poll of a Cancel is a cancel and then a poll
   pub cancel : let e = Local.cancels t in made_alone limit t Abstract.Cancel a ≡ leaves e.task (tells e)
   pub detach : HasItsOutput t → let e = Local.detaches t in made_alone limit t Abstract.Detach a ≡ leaves e.task (tells e)
-  pub drop_task : HasItsOutput t → let e = Local.cancels t in let d = Local.detaches e.task in after_another limit (made_alone limit t Abstract.Cancel a) Abstract.Detach a ≡ leaves d.task (tells d ++ tells e)
+  pub drop_task : HasItsOutput t
+      → let e = Local.cancels t in let d = Local.detaches e.task in
+      after_another limit (made_alone limit t Abstract.Cancel a) Abstract.Detach a ≡ leaves d.task (tells d ++ tells e)
   pub is_finished : made_alone limit t Abstract.IsFinished a ≡ leaves t (CallEnds (Finished (finished t)) ∷ [])
-  pub poll : (i : ℕ) → HasItsOutput t → let r = polled a.first i t in made_alone limit t (Abstract.Poll i) a ≡ leaves r.effect.task (tells_poll i r)
-  pub cancel_and_poll : (i : ℕ) → HasItsOutput t → let e = Local.cancels t in let r = polled a.first i e.task in after_another limit (made_alone limit t Abstract.Cancel a) (Abstract.Poll i) a ≡ leaves r.effect.task (tells_poll i r ++ tells e)
+  pub poll : (i : ℕ) → HasItsOutput t
+      → let r = polled a.first i t in made_alone limit t (Abstract.Poll i) a ≡ leaves r.effect.task (tells_poll i r)
+  pub cancel_and_poll : (i : ℕ) → HasItsOutput t
+      → let e = Local.cancels t in let r = polled a.first i e.task in
+      after_another limit (made_alone limit t Abstract.Cancel a) (Abstract.Poll i) a ≡ leaves r.effect.task (tells_poll i r ++ tells e)
 
 -- for every limit, task and answers
 abbrev pub EachRowAgrees : Type 0

@@ -1,9 +1,25 @@
--- The table of moves: from where a party steps, and where it goes.
+-- 4 of 11: the table of moves, from where a party steps, and where it goes.
 use Rattle.std.specs.Prelude.{ℕ, zero, suc, ◌+◌, Bool, true, false, not, ◌&&◌, ◌||◌, if◌then◌else◌, List, [], ◌∷◌, Option, Some, None}
 use Rattle.task_core.specs.Word.{State, is_open}
 use Rattle.task_core.specs.Rows.{found, written}
-use Rattle.task_laws.specs.Event.{ByWake, ByClosing, IsPending, IsClosed, HasOutput, IsRefused, Answer, Nothing, Ran, Gained, Finished, Event, FuturePollBegins, FuturePending, FutureReady, FutureDropped, OutputTaken, OutputDropped, Made, TakenUp, RunEnded, HandedOver, WakeStep, Completes, Closes, Empties, TaskPollBegins, TaskPollEnds, Cloned, Woken, CloneEnded, WakerGained, WakerGivenUp, TaskGivenUp, CallBegins, CallEnds}
-use Rattle.task_laws.specs.Position.{Rest, Runnable, Waker, Lent, Ended, Task, ClosedRun, DroppedRunnable, NotifyingCall, OfRun, OfDrop, OfCancel, OfPoll, OfClaim, OnceDelivered, ThenEnds, ThenTask, ThenNotifies, Position, At, CallEnding, Deliverer, Starting, Polling, Pending, Ready, ReadyFutureDropped, OutputStored, PendingFutureDropped, FutureInHand, FutureGone, OutputInHand, GivingUp, Emptier, Notifier, Taker, Releaser, AwaiterInHand, OrphanHolder, Registrar, HasClone, UnusedClone, Storing, Registered, TookBack, CloneInHand, Looking, SawOutput, TookOutput, OldAwaiterInHand, Answering, OutputCloser, Detacher, Act, GainReference, FindLimit, DropWaker, DropLastWaker, OrphanTask, CloseOrphan, GiveUpReference, GiveUpLastReference, WakeOver, WakeScheduled, WakeRunning, WakeIdle, DiscardOpen, DiscardClosed, CancelOver, CancelBusy, CancelIdle, ClaimOutput, GiveUpOutput, DetachOrphan, DetachLast, Detach, TakeUpClosed, StartRun, Unschedule, Complete, CompleteDetached, EndClosed, Reschedule, EndIdle, EndOrphaned, BeginNotify, MissNotify, FindNotify, BeginRegister, EndNotify, EndRegister, EndRegisterNotified, Look, LookFinished, StartPoll, AnswerPending, AnswerReady, DropFuture, StoreOutput, DropOutput, HandOutOutput, CloneAwaiter, RefuseClone, StoreAwaiter, TakeAwaiter, WakeAwaiter, DropAwaiter, HandOver, EmptySlots, RefuseGain, EndCall}
+use Rattle.task_laws.specs.Event.{ByWake, ByClosing, IsPending, IsClosed, HasOutput, IsRefused, Answer, Nothing, Ran, Gained, Finished}
+use Rattle.task_laws.specs.Event.{Event, FuturePollBegins, FuturePending, FutureReady, FutureDropped, OutputTaken, OutputDropped, Made}
+use Rattle.task_laws.specs.Event.{TakenUp, RunEnded, HandedOver, WakeStep, Completes, Closes, Empties, TaskPollBegins, TaskPollEnds, Cloned}
+use Rattle.task_laws.specs.Event.{Woken, CloneEnded, WakerGained, WakerGivenUp, TaskGivenUp, CallBegins, CallEnds}
+use Rattle.task_laws.specs.Position.{Rest, Runnable, Waker, Lent, Ended, Task, ClosedRun, DroppedRunnable, NotifyingCall, OfRun, OfDrop}
+use Rattle.task_laws.specs.Position.{OfCancel, OfPoll, OfClaim, OnceDelivered, ThenEnds, ThenTask, ThenNotifies, Position, At, CallEnding}
+use Rattle.task_laws.specs.Position.{Deliverer, Starting, Polling, Pending, Ready, ReadyFutureDropped, OutputStored, PendingFutureDropped}
+use Rattle.task_laws.specs.Position.{FutureInHand, FutureGone, OutputInHand, GivingUp, Emptier, Notifier, Taker, Releaser, AwaiterInHand}
+use Rattle.task_laws.specs.Position.{OrphanHolder, Registrar, HasClone, UnusedClone, Storing, Registered, TookBack, CloneInHand, Looking}
+use Rattle.task_laws.specs.Position.{SawOutput, TookOutput, OldAwaiterInHand, Answering, OutputCloser, Detacher, Act, GainReference}
+use Rattle.task_laws.specs.Position.{FindLimit, DropWaker, DropLastWaker, OrphanTask, CloseOrphan, GiveUpReference, GiveUpLastReference}
+use Rattle.task_laws.specs.Position.{WakeOver, WakeScheduled, WakeRunning, WakeIdle, DiscardOpen, DiscardClosed, CancelOver, CancelBusy}
+use Rattle.task_laws.specs.Position.{CancelIdle, ClaimOutput, GiveUpOutput, DetachOrphan, DetachLast, Detach, TakeUpClosed, StartRun}
+use Rattle.task_laws.specs.Position.{Unschedule, Complete, CompleteDetached, EndClosed, Reschedule, EndIdle, EndOrphaned, BeginNotify}
+use Rattle.task_laws.specs.Position.{MissNotify, FindNotify, BeginRegister, EndNotify, EndRegister, EndRegisterNotified, Look, LookFinished}
+use Rattle.task_laws.specs.Position.{StartPoll, AnswerPending, AnswerReady, DropFuture, StoreOutput, DropOutput, HandOutOutput}
+use Rattle.task_laws.specs.Position.{CloneAwaiter, RefuseClone, StoreAwaiter, TakeAwaiter, WakeAwaiter, DropAwaiter, HandOver, EmptySlots}
+use Rattle.task_laws.specs.Position.{RefuseGain, EndCall}
 
 -- what the three slots hold: the future, the output, and the awaiter's clone of that poll
 pub record Slots : Type 0 where
@@ -151,14 +167,18 @@ goes s v GiveUpLastReference (GivingUp hand answer) = Some (leaves_slots s v (Em
 goes s v WakeOver (At r) = when (may_wake s r) (leaves_slots s v (CallEnding Nothing r) [] (WakeStep ∷ []))
 goes s v WakeScheduled (At r) = when (may_wake s r) (leaves_slots s v (CallEnding Nothing r) [] (WakeStep ∷ []))
 goes s v WakeRunning (At r) = when (may_wake s r) (leaves_slots s v (CallEnding Nothing r) [] (WakeStep ∷ []))
-goes s v WakeIdle (At r) = when (may_wake s r) (leaves_slots s v (CallEnding Nothing r) (Deliverer false (ThenEnds Nothing) ∷ []) (CallBegins ∷ Made ByWake ∷ WakeStep ∷ []))
+goes s v WakeIdle (At r) =
+    when (may_wake s r)
+    (leaves_slots s v (CallEnding Nothing r) (Deliverer false (ThenEnds Nothing) ∷ []) (CallBegins ∷ Made ByWake ∷ WakeStep ∷ []))
 -- 4 close
 goes s v DiscardOpen (At Runnable) = Some (leaves_slots s v (FutureInHand DroppedRunnable) [] (Closes ∷ TakenUp ∷ []))
 goes s v DiscardClosed (At Runnable) = Some (leaves_slots s v (FutureInHand DroppedRunnable) [] (TakenUp ∷ []))
 goes s v CancelOver (At (Task n)) = Some (leaves_slots s v (CallEnding Nothing (Task n)) [] [])
 goes s v CancelBusy (At (Task n)) = let w = s.word in Some (leaves_slots s v (notifies w.awaiter (OfCancel n)) [] (Closes ∷ []))
-goes s v CancelIdle (At (Task n)) = let w = s.word in Some (leaves_slots s v (Deliverer false (after_cancelling w.awaiter n)) [] (Made ByClosing ∷ Closes ∷ []))
-goes s v ClaimOutput (At (Task n)) = let w = s.word in Some (leaves_slots s v (notifies w.awaiter (OfClaim (n + 1))) [] (Closes ∷ TaskPollBegins (n + 1) ∷ []))
+goes s v CancelIdle (At (Task n)) =
+    let w = s.word in Some (leaves_slots s v (Deliverer false (after_cancelling w.awaiter n)) [] (Made ByClosing ∷ Closes ∷ []))
+goes s v ClaimOutput (At (Task n)) =
+    let w = s.word in Some (leaves_slots s v (notifies w.awaiter (OfClaim (n + 1))) [] (Closes ∷ TaskPollBegins (n + 1) ∷ []))
 goes s v ClaimOutput (SawOutput n) = let w = s.word in Some (leaves_slots s v (notifies w.awaiter (OfClaim n)) [] (Closes ∷ []))
 goes s v GiveUpOutput (At (Task n)) = Some (leaves_slots s v OutputCloser [] (Closes ∷ []))
 goes s v DetachOrphan (At (Task n)) =
@@ -173,8 +193,11 @@ goes s v StartRun (At Runnable) = Some (leaves_slots s v Starting [] (TakenUp �
 -- 6 run end
 goes s v Unschedule (FutureGone ClosedRun) = let w = s.word in Some (leaves_slots s v (notifies w.awaiter OfRun) [] (RunEnded ∷ []))
 goes s v Unschedule (FutureGone DroppedRunnable) = let w = s.word in Some (leaves_slots s v (notifies w.awaiter OfDrop) [] (RunEnded ∷ []))
-goes s v Complete OutputStored = let w = s.word in Some (leaves_slots s v (if w.closed then OutputInHand w.awaiter else notifies w.awaiter OfRun) [] (Completes ∷ RunEnded ∷ []))
-goes s v CompleteDetached OutputStored = let w = s.word in Some (leaves_slots s v (OutputInHand w.awaiter) [] (closing w (Completes ∷ RunEnded ∷ [])))
+goes s v Complete OutputStored =
+    let w = s.word in
+    Some (leaves_slots s v (if w.closed then OutputInHand w.awaiter else notifies w.awaiter OfRun) [] (Completes ∷ RunEnded ∷ []))
+goes s v CompleteDetached OutputStored =
+    let w = s.word in Some (leaves_slots s v (OutputInHand w.awaiter) [] (closing w (Completes ∷ RunEnded ∷ [])))
 goes s v EndClosed PendingFutureDropped = let w = s.word in Some (leaves_slots s v (notifies w.awaiter OfRun) [] (RunEnded ∷ []))
 goes s v Reschedule Pending = Some (leaves_slots s v (Deliverer true (ThenEnds (Ran true))) [] (Made ByWake ∷ RunEnded ∷ []))
 goes s v EndIdle Pending = Some (leaves_slots s v (CallEnding (Ran false) Ended) [] (RunEnded ∷ []))
@@ -190,7 +213,8 @@ goes s v EndRegister (Registered i) = Some (leaves_slots s v (Looking i) [] [])
 goes s v EndRegisterNotified (TookBack i) = Some (leaves_slots s v (CloneInHand i) [] [])
 -- loads
 goes s v Look (At Lent) = Some (leaves_slots s v (At Lent) (At Lent ∷ []) (CallEnds Nothing ∷ []))
-goes s v Look (At (Task n)) = let w = s.word in when (not (w.completed && not w.closed)) (leaves_slots s v (first_look w (n + 1)) [] (TaskPollBegins (n + 1) ∷ []))
+goes s v Look (At (Task n)) =
+    let w = s.word in when (not (w.completed && not w.closed)) (leaves_slots s v (first_look w (n + 1)) [] (TaskPollBegins (n + 1) ∷ []))
 goes s v Look (Looking i) = let w = s.word in Some (leaves_slots s v (second_look w i) [] [])
 goes s v LookFinished (At (Task n)) = Some (leaves_slots s v (CallEnding (Finished (not (is_open s.word))) (Task n)) [] [])
 -- private acts
@@ -198,9 +222,12 @@ goes s v StartPoll Starting = Some (leaves_slots s v Polling [] (FuturePollBegin
 goes s v AnswerPending Polling = Some (leaves_slots s v Pending [] (FuturePending ∷ []))
 goes s v AnswerReady Polling = Some (leaves_slots s v Ready [] (FutureReady ∷ []))
 goes s v DropFuture Ready = Some (changes_slots s v (record (s.slots) { future = false }) ReadyFutureDropped (FutureDropped ∷ []))
-goes s v DropFuture Pending = let w = s.word in when (w.closed) (changes_slots s v (record (s.slots) { future = false }) PendingFutureDropped (FutureDropped ∷ []))
-goes s v DropFuture (FutureInHand ClosedRun) = Some (changes_slots s v (record (s.slots) { future = false }) (FutureGone ClosedRun) (FutureDropped ∷ []))
-goes s v DropFuture (FutureInHand DroppedRunnable) = Some (changes_slots s v (record (s.slots) { future = false }) (FutureGone DroppedRunnable) (FutureDropped ∷ []))
+goes s v DropFuture Pending =
+    let w = s.word in when (w.closed) (changes_slots s v (record (s.slots) { future = false }) PendingFutureDropped (FutureDropped ∷ []))
+goes s v DropFuture (FutureInHand ClosedRun) =
+    Some (changes_slots s v (record (s.slots) { future = false }) (FutureGone ClosedRun) (FutureDropped ∷ []))
+goes s v DropFuture (FutureInHand DroppedRunnable) =
+    Some (changes_slots s v (record (s.slots) { future = false }) (FutureGone DroppedRunnable) (FutureDropped ∷ []))
 goes s v StoreOutput ReadyFutureDropped = Some (changes_slots s v (record (s.slots) { output = true }) OutputStored [])
 goes s v DropOutput (OutputInHand due) =
     Some (changes_slots s v (record (s.slots) { output = false }) (notifies due OfRun) (OutputDropped ∷ []))
@@ -213,13 +240,15 @@ goes s v StoreAwaiter (Storing i) = Some (changes_slots s v (record (s.slots) { 
 goes s v WakeAwaiter (CloneInHand i) = Some (leaves_slots s v (Looking i) [] (CloneEnded i ∷ Woken i ∷ []))
 goes s v DropAwaiter (OldAwaiterInHand i old) = Some (leaves_slots s v (Registered i) [] (CloneEnded old ∷ []))
 goes s v DropAwaiter (UnusedClone i) = Some (leaves_slots s v (Looking i) [] (CloneEnded i ∷ []))
-goes s v TakeAwaiter (Registered i) = let w = s.word in when (w.notifying) (changes_slots s v (record (s.slots) { awaiter = None }) (TookBack i) [])
+goes s v TakeAwaiter (Registered i) =
+    let w = s.word in when (w.notifying) (changes_slots s v (record (s.slots) { awaiter = None }) (TookBack i) [])
 goes s v TakeAwaiter (Taker way) = Some (changes_slots s v (record (s.slots) { awaiter = None }) (Releaser (s.slots.awaiter) way) [])
 goes s v WakeAwaiter (AwaiterInHand i way) = Some (leaves_slots s v (after_waking way) [] (CloneEnded i ∷ Woken i ∷ []))
 goes s v DropAwaiter (AwaiterInHand i way) = when (may_drop way) (leaves_slots s v (after_waking way) [] (CloneEnded i ∷ []))
 goes s v HandOver (At Runnable) = Some (leaves_slots s v (CallEnding Nothing Ended) (At Runnable ∷ []) (HandedOver false ∷ []))
 goes s v HandOver (Deliverer woken next) = Some (leaves_slots s v (after_handing_over next) (At Runnable ∷ []) (HandedOver woken ∷ []))
-goes s v EmptySlots (Emptier hand answer) = Some (changes_slots s v (record (s.slots) { awaiter = None }) (after_giving_up hand answer) (Empties ∷ ended_clone (s.slots.awaiter)))
+goes s v EmptySlots (Emptier hand answer) =
+    Some (changes_slots s v (record (s.slots) { awaiter = None }) (after_giving_up hand answer) (Empties ∷ ended_clone (s.slots.awaiter)))
 goes s v EndCall (CallEnding answer rest) = Some (leaves_slots s v (At rest) [] (CallEnds answer ∷ []))
 goes s v EndCall (Answering i answer) = Some (leaves_slots s v (At (Task i)) [] (TaskPollEnds i answer ∷ []))
 goes s v _ _ = None

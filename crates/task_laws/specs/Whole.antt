@@ -1,13 +1,24 @@
--- Whole runs of the machine, and the abstract task that stands where they are cut.
-use Rattle.std.specs.Prelude.{◌≡◌, ℕ, ◌+◌, Bool, true, false, not, ◌&&◌, ◌||◌, nat_eq, nat_lt, if◌then◌else◌, List, [], ◌∷◌, Option, Some, None, slice_get, length}
+-- 9 of 11: whole runs of the machine, and the abstract task that stands where they are cut.
+use Rattle.std.specs.Prelude.{◌≡◌, ℕ, ◌+◌, Bool, true, false, not, ◌&&◌, ◌||◌, nat_eq, nat_lt, if◌then◌else◌, List, [], ◌∷◌, Option, Some}
+use Rattle.std.specs.Prelude.{None, slice_get, length}
 use Rattle.task_core.specs.Word.{State}
-use Rattle.task_laws.specs.Event.{IsClosed, HasOutput, Nothing, Event, FutureDropped, OutputTaken, OutputDropped, HandedOver, Empties, TaskPollEnds, Woken, CloneEnded, CallEnds}
-use Rattle.task_laws.specs.Position.{Rest, Runnable, Lent, Task, ClosedRun, DroppedRunnable, OfCancel, OfPoll, OfClaim, Position, At, CallEnding, Deliverer, Starting, Polling, Pending, Ready, ReadyFutureDropped, OutputStored, PendingFutureDropped, FutureInHand, FutureGone, GivingUp, Notifier, AwaiterInHand, Registrar, Registered, Looking, TookOutput, Answering, Detacher, Act, GainReference, FindLimit, DropWaker, DropLastWaker, OrphanTask, WakeOver, WakeScheduled, WakeRunning, WakeIdle, DiscardOpen, DiscardClosed, CancelOver, CancelBusy, CancelIdle, GiveUpOutput, DetachOrphan, DetachLast, Detach, TakeUpClosed, StartRun, LookFinished, StartPoll, AnswerReady, DropFuture, DropOutput, CloneAwaiter, WakeAwaiter, DropAwaiter, HandOver, RefuseGain}
+use Rattle.task_laws.specs.Event.{IsClosed, HasOutput, Nothing, Event, FutureDropped, OutputTaken, OutputDropped, HandedOver, Empties}
+use Rattle.task_laws.specs.Event.{TaskPollEnds, Woken, CloneEnded, CallEnds}
+use Rattle.task_laws.specs.Position.{Rest, Runnable, Lent, Task, ClosedRun, DroppedRunnable, OfCancel, OfPoll, OfClaim, Position, At}
+use Rattle.task_laws.specs.Position.{CallEnding, Deliverer, Starting, Polling, Pending, Ready, ReadyFutureDropped, OutputStored}
+use Rattle.task_laws.specs.Position.{PendingFutureDropped, FutureInHand, FutureGone, GivingUp, Notifier, AwaiterInHand, Registrar}
+use Rattle.task_laws.specs.Position.{Registered, Looking, TookOutput, Answering, Detacher, Act, GainReference, FindLimit, DropWaker}
+use Rattle.task_laws.specs.Position.{DropLastWaker, OrphanTask, WakeOver, WakeScheduled, WakeRunning, WakeIdle, DiscardOpen, DiscardClosed}
+use Rattle.task_laws.specs.Position.{CancelOver, CancelBusy, CancelIdle, GiveUpOutput, DetachOrphan, DetachLast, Detach, TakeUpClosed}
+use Rattle.task_laws.specs.Position.{StartRun, LookFinished, StartPoll, AnswerReady, DropFuture, DropOutput, CloneAwaiter, WakeAwaiter}
+use Rattle.task_laws.specs.Position.{DropAwaiter, HandOver, RefuseGain}
 use Rattle.task_laws.specs.Machine.{Machine, Step, opening, step, how_many}
-use Rattle.task_laws.specs.Laws.{count, is_closing, is_future_drop, is_task_given_up, woken_since_taking_up}
-use Rattle.task_laws.specs.Theorem.{is_waker, is_runner}
+use Rattle.task_laws.specs.Laws.{how_often, woken_since_taking_up}
+use Rattle.task_laws.specs.Holders.{is_waker, is_runner}
 use Rattle.task_core.specs.Local.{Phase, Idle, Queued, Polled, PolledAndWoken, Done, Awaiter, NoAwaiter, Due, Forgotten}
-use Rattle.task_laws.specs.Abstract.{Call, AbstractCell, Frame, InPoll, RunDropped, DropDropped, ReadyDropped, PendingDropped, Takes, Detaches, GivesUp, TakesOfCancel, Ends, Clones, Stores, Looks, Asks, Answers, Move, Begin, Go, Abstract, all_moved}
+use Rattle.task_laws.specs.Abstract.{Call, AbstractCell, Frame, InPoll, RunDropped, DropDropped, ReadyDropped, PendingDropped, Takes}
+use Rattle.task_laws.specs.Abstract.{Detaches, GivesUp, TakesOfCancel, Ends, Clones, Stores, Looks, Asks, Answers, Move, Begin, Go}
+use Rattle.task_laws.specs.Abstract.{Abstract, all_moved}
 use Rattle.task_laws.specs.Abstract
 
 -- A run is cut after the acts in which foreign code runs ..
@@ -54,6 +65,7 @@ call_of r Detach = Abstract.Detach
 call_of r LookFinished = Abstract.IsFinished
 call_of (Task n) act = Abstract.Poll (n + 1)
 call_of Lent act = Abstract.Lend
+-- never asked: these are all the acts that begin a call
 call_of r act = Abstract.IsFinished
 
 -- what foreign code answered: Ready, a clone, or that the wake is wanted
@@ -160,7 +172,7 @@ abbrev pub phase_of : List Position → List Event → Phase
 phase_of parties trace =
     if nat_lt 0 (how_many is_queued parties) then Queued
     else (if nat_lt 0 (how_many is_polling parties) then (if woken_since_taking_up trace then PolledAndWoken else Polled)
-    else (if nat_lt 0 (count is_future_drop trace) then Done else Idle))
+    else (if nat_lt 0 (how_often Event.FutureDropped trace) then Done else Idle))
 
 abbrev pub is_home : Phase → Bool
 is_home Idle = true
@@ -176,13 +188,14 @@ abbrev pub awaiter_of : State → Option ℕ → Awaiter ℕ
 awaiter_of w None = NoAwaiter
 awaiter_of w (Some i) = if w.awaiter || w.registering then Due i else Forgotten i
 
--- The output is the one in its slot, unless the task is closed: then it is about to be handed out or dropped. The future goes by the phase, not by its slot: a poll leaves it there, and where it is dropped unpolled the slot is empty while the abstract row is still to come.
+-- The output is the one in its slot, unless the task is closed: then it is about to be handed out or dropped. The future goes by the phase,
+-- not by its slot: a poll leaves it there, and where it is dropped unpolled the slot is empty while the abstract row is still to come.
 abbrev pub reading : Machine → AbstractCell
 reading m = record {
   task = record {
     phase = phase_of m.parties m.trace;
-    closed = nat_lt 0 (count is_closing m.trace);
-    has_task = nat_eq (count is_task_given_up m.trace) 0;
+    closed = nat_lt 0 (how_often Event.Closes m.trace);
+    has_task = nat_eq (how_often Event.TaskGivenUp m.trace) 0;
     wakers = how_many is_waker m.parties;
     future = one_if (is_home (phase_of m.parties m.trace));
     output = one_if (m.slots.output && not m.word.closed);
@@ -212,10 +225,12 @@ frame_of (AwaiterInHand j (OfPoll i)) = Asks i IsClosed j
 frame_of (AwaiterInHand j (OfClaim i)) = Asks i HasOutput j
 frame_of (TookOutput i) = Answers i HasOutput
 frame_of (Answering i answer) = Answers i answer
+-- never asked: at a cut an open call stands at one of these
 frame_of p = InPoll
 
 abbrev pub frame_at : Option Position → Frame
 frame_at (Some p) = frame_of p
+-- never asked: the stack names parties of the machine
 frame_at None = InPoll
 
 abbrev pub frames : List (Position) → List ℕ → List Frame
@@ -245,4 +260,5 @@ read w = record { cell = reading w.machine; frames = frames w.machine.parties w.
 
 -- Wherever a whole run may be cut, the moves that it made are a run of the abstract task, which leads to the reading.
 abbrev pub WholeRunsAgree : Type 0
-WholeRunsAgree = (limit : ℕ) (steps : List Step) (w : Whole) → whole limit steps ≡ Some w → w.cut ≡ true → all_moved limit w.moves ≡ Some (read w)
+WholeRunsAgree =
+    (limit : ℕ) (steps : List Step) (w : Whole) → whole limit steps ≡ Some w → w.cut ≡ true → all_moved limit w.moves ≡ Some (read w)

@@ -1,4 +1,4 @@
--- A call that is made whole, with no call inside.
+-- 10 of 11: a call that is made whole, with no call inside.
 use Rattle.std.specs.Prelude.{◌≡◌, ℕ, ◌⊎◌, Bool, true, false, ◌&&◌, List, [], ◌∷◌, ◌++◌, Option, Some, None}
 use Rattle.task_laws.specs.Machine.{Step}
 use Rattle.task_laws.specs.Abstract.{Call, Frame, SegmentEnd, begin, go, follow, Move, Begin, Go}
@@ -27,9 +27,18 @@ abbrev pub takes_all : SegmentEnd → List Bool → Bool
 takes_all l [] = true
 takes_all l (answer ∷ answers) = is_some l.frame && takes_all (to_next l l.frame answer) answers
 
--- Wherever a whole run makes a call whole, with no call inside, it leads to the reading to which the abstract call leads. Where other calls are open below it, the last answers must be the call's own.
+-- a whole run, and what it goes on with: this call and no other, with these answers of foreign code
+pub record MadeWhole (limit : ℕ) (steps more : List Step) (w v : Whole) (call : Call) (answers : List Bool) : Type 0 where
+  pub before : whole limit steps ≡ Some w
+  pub cut_before : w.cut ≡ true
+  pub after : whole_from (Some w) more ≡ Some v
+  pub cut_after : v.cut ≡ true
+  pub moves : v.moves ≡ made answers (Begin call ∷ w.moves)
+  -- where other calls are open below it, the last answers are the call's own
+  pub its_own : (w.stack ≡ []) ⊎ (takes_all (begin limit (reading w.machine) call) answers ≡ true)
+
+-- Wherever a whole run makes a call whole, with no call inside, it leads to the reading to which the abstract call leads.
 abbrev pub WholeCallsAgree : Type 0
 WholeCallsAgree = (limit : ℕ) (steps more : List Step) (w v : Whole) (call : Call) (answers : List Bool)
-    → whole limit steps ≡ Some w → w.cut ≡ true → whole_from (Some w) more ≡ Some v → v.cut ≡ true
-    → v.moves ≡ made answers (Begin call ∷ w.moves) → (w.stack ≡ []) ⊎ (takes_all (begin limit (reading w.machine) call) answers ≡ true)
+    → MadeWhole limit steps more w v call answers
     → read v ≡ follow (alone (begin limit (reading w.machine) call) answers) (read w).frames (read w).told

@@ -10,7 +10,8 @@ use Rattle.task_laws.specs.declared.positions.Position.TheVariants.{At, Starting
 use Rattle.task_core.specs.declared.acts.Act.TheVariants.{StartRun, StartPoll}
 use Rattle.task_laws.specs.Table.{Outcome, when}
 use Rattle.task_laws.specs.Machine.{Machine, after, moves, step, run_from, how_many}
-use Rattle.task_laws.specs.Laws.{count, no_call_is_left, is_future_drop, is_output_end, is_future_ready, is_emptying, is_completion, is_task_given_up, wake_is_due}
+use Rattle.task_laws.specs.Event.{Event}
+use Rattle.task_laws.specs.Laws.{how_often, count, no_call_is_left, is_output_end, wake_is_due}
 use Rattle.task_laws.proofs.Census.{Census, weigh, census, runs, closers, calls}
 use Rattle.task_laws.proofs.Awaiting.{Awaiting, awaiting, fits}
 use Rattle.task_laws.proofs.Runs.{Invariant, Stays, always}
@@ -100,7 +101,7 @@ is_at_rest m h none_in_progress none =
     let fit = fits 0 m.parties in
     let takers : (awaiting 0 m.parties).run_takers ≤ calls c = omega (arith, fit.run_takers, finishing_call c) in
     let shakes = handshake_over m.word (awaiting 0 m.parties) (calls c) idle fit.shaking takers (h.shakes 0).registering (h.shakes 0).taking in
-    let gone : is_open m.word ≡ false → count is_future_drop m.trace ≡ 1 = future_gone m.word (bit m.slots.future) c (count is_future_drop m.trace) idle queued running scheduled h.holds.future h.holds.dropped in
+    let gone : is_open m.word ≡ false → how_often Event.FutureDropped m.trace ≡ 1 = future_gone m.word (bit m.slots.future) c (how_often Event.FutureDropped m.trace) idle queued running scheduled h.holds.future h.holds.dropped in
     let left : no_call_is_left m.trace = omega (arith, h.holds.calls_left, idle) in
     record {
       scheduled = scheduled;
@@ -108,10 +109,10 @@ is_at_rest m h none_in_progress none =
       registering = shakes.0;
       notifying = shakes.1;
       no_wake_due = not_due m.word (wake_is_due m.trace) h.holds.due scheduled;
-      waits = λ opened. subst (λ (n : ℕ). (1 ≤ n) ⊎ (m.word.task ≡ true)) (sym (wakers m.parties)) (kept m.word c (count is_emptying m.trace) idle queued h.holds.references h.holds.emptied h.holds.emptied_closed opened);
+      waits = λ opened. subst (λ (n : ℕ). (1 ≤ n) ⊎ (m.word.task ≡ true)) (sym (wakers m.parties)) (kept m.word c (how_often Event.Empties m.trace) idle queued h.holds.references h.holds.emptied h.holds.emptied_closed opened);
       future = gone;
-      output = λ over. output_gone m.word (bit m.slots.output) c (count is_output_end m.trace) (count is_future_ready m.trace) idle h.holds.output h.holds.outputs h.holds.kept;
-      awaiter = λ over task i pending. (laws_of m h).awaiters.woken i left (task_there m.word c (count is_task_given_up m.trace) h.holds.task h.holds.task_left task) pending (dropped_some (count is_completion m.trace) (count is_future_drop m.trace) (gone over));
+      output = λ over. output_gone m.word (bit m.slots.output) c (count is_output_end m.trace) (how_often Event.FutureReady m.trace) idle h.holds.output h.holds.outputs h.holds.kept;
+      awaiter = λ over task i pending. (laws_of m h).awaiters.woken i left (task_there m.word c (how_often Event.TaskGivenUp m.trace) h.holds.task h.holds.task_left task) pending (dropped_some (how_often Event.Completes m.trace) (how_often Event.FutureDropped m.trace) (gone over));
     }
 
 pub without_work_at_rest : WithoutWorkAtRest

@@ -11,7 +11,8 @@ use Rattle.task_core.specs.declared.acts.Act.{Act}
 use Rattle.task_core.specs.declared.acts.Act.TheVariants.{TakeUpClosed, StartRun, StartPoll}
 use Rattle.task_laws.specs.Table.{Outcome, when, rule}
 use Rattle.task_laws.specs.Machine.{Machine, Step, scene, begins, after, moves, step, run_from, how_many}
-use Rattle.task_laws.specs.Laws.{count, is_call_begun, is_future_poll, wake_is_due}
+use Rattle.task_laws.specs.Event.{is_event}
+use Rattle.task_laws.specs.Laws.{how_often, wake_is_due}
 use Rattle.task_laws.proofs.Census.{census}
 use Rattle.task_laws.proofs.Awaiting.{awaiting}
 use Rattle.task_laws.proofs.Invariant.{Holds}
@@ -35,10 +36,10 @@ queued_all (p ∷ ps) = omega (arith, queued_all ps)
 pub record Onward (m now : Machine) : Type 0 where
   pub closed : m.word.closed ≡ true → (now.word.closed ≡ true) × (total queued_of now.parties ≤ total queued_of m.parties)
   pub over : is_open m.word ≡ false → is_open now.word ≡ false
-  pub idle : count is_call_begun now.trace ≡ count is_call_begun m.trace → IsUnscheduled m.word → IsUnscheduled now.word
-  pub due : count is_call_begun now.trace ≡ count is_call_begun m.trace → IsDue m.word m.trace → IsDue now.word now.trace
-  pub begun : count is_call_begun m.trace ≤ count is_call_begun now.trace
-  pub starts : count is_future_poll m.trace ≤ count is_future_poll now.trace
+  pub idle : how_often Event.CallBegins now.trace ≡ how_often Event.CallBegins m.trace → IsUnscheduled m.word → IsUnscheduled now.word
+  pub due : how_often Event.CallBegins now.trace ≡ how_often Event.CallBegins m.trace → IsDue m.word m.trace → IsDue now.word now.trace
+  pub begun : how_often Event.CallBegins m.trace ≤ how_often Event.CallBegins now.trace
+  pub starts : how_often Event.FuturePollBegins m.trace ≤ how_often Event.FuturePollBegins now.trace
 
 abbrev OnwardTo : Machine → Option Machine → Type 0
 OnwardTo m None = Unit {0}
@@ -55,17 +56,17 @@ closed_on m i p o e h = (h.0, omega (arith, h.1, total_put queued_of m.parties i
 
 -- of a party between two calls, whose step begins one; and of one in a call
 idle_on : (m : Machine) (p : Position) (o : Outcome) → Lasting m.word m.trace p o → Place p
-    → count is_call_begun (o.told ++ (begins p ++ m.trace)) ≡ count is_call_begun m.trace → IsUnscheduled m.word → IsUnscheduled o.word
+    → how_often Event.CallBegins (o.told ++ (begins p ++ m.trace)) ≡ how_often Event.CallBegins m.trace → IsUnscheduled m.word → IsUnscheduled o.word
 idle_on m p o lasting (Works works) same idle = lasting.idle works idle
 idle_on m p o lasting (Rests r is) same idle =
-    absurd (let one : count is_call_begun (begins p) ≡ 1 = ap (λ q. count is_call_begun (begins q)) is in omega (arith, told is_call_begun o.told (begins p) m.trace, one, same))
+    absurd (let one : how_often Event.CallBegins (begins p) ≡ 1 = ap (λ q. how_often Event.CallBegins (begins q)) is in omega (arith, told (is_event Event.CallBegins) o.told (begins p) m.trace, one, same))
 
 due_on : (m : Machine) (p : Position) (o : Outcome) → Lasting m.word m.trace p o → Place p
-    → count is_call_begun (o.told ++ (begins p ++ m.trace)) ≡ count is_call_begun m.trace → IsDue m.word m.trace → IsDue o.word (o.told ++ (begins p ++ m.trace))
+    → how_often Event.CallBegins (o.told ++ (begins p ++ m.trace)) ≡ how_often Event.CallBegins m.trace → IsDue m.word m.trace → IsDue o.word (o.told ++ (begins p ++ m.trace))
 due_on m p o lasting (Works works) same due =
     subst (λ (b : List Event). IsDue o.word (o.told ++ (b ++ m.trace))) (sym (no_begin p works)) (lasting.due works due)
 due_on m p o lasting (Rests r is) same due =
-    absurd (let one : count is_call_begun (begins p) ≡ 1 = ap (λ q. count is_call_begun (begins q)) is in omega (arith, told is_call_begun o.told (begins p) m.trace, one, same))
+    absurd (let one : how_often Event.CallBegins (begins p) ≡ 1 = ap (λ q. how_often Event.CallBegins (begins q)) is in omega (arith, told (is_event Event.CallBegins) o.told (begins p) m.trace, one, same))
 
 after_on : (m : Machine) (i : ℕ) (p : Position) (o : Option Outcome) → slice_get m.parties i ≡ Some p → LastingTo m.word m.trace p o
     → OnwardTo m (after m i p o)
@@ -75,8 +76,8 @@ after_on m i p (Some o) e lasting = record {
   over = lasting.over;
   idle = idle_on m p o lasting (place p);
   due = due_on m p o lasting (place p);
-  begun = omega (arith, told is_call_begun o.told (begins p) m.trace);
-  starts = omega (arith, told is_future_poll o.told (begins p) m.trace);
+  begun = omega (arith, told (is_event Event.CallBegins) o.told (begins p) m.trace);
+  starts = omega (arith, told (is_event Event.FuturePollBegins) o.told (begins p) m.trace);
 }
 
 moves_on : (m : Machine) (i : ℕ) (act : Act) (at : Option Position) → slice_get m.parties i ≡ at → InOrder m → OnwardTo m (moves m i act at)
@@ -105,8 +106,8 @@ onward_then : (m m1 now : Machine) → Onward m m1 → Onward m1 now → Onward 
 onward_then m m1 now a b = record {
   closed = then_closed m m1 now a b;
   over = λ is. b.over (a.over is);
-  idle = λ same is. let first : count is_call_begun m1.trace ≡ count is_call_begun m.trace = omega (arith, a.begun, b.begun, same) in b.idle (same ∙ sym first) (a.idle first is);
-  due = λ same is. let first : count is_call_begun m1.trace ≡ count is_call_begun m.trace = omega (arith, a.begun, b.begun, same) in b.due (same ∙ sym first) (a.due first is);
+  idle = λ same is. let first : how_often Event.CallBegins m1.trace ≡ how_often Event.CallBegins m.trace = omega (arith, a.begun, b.begun, same) in b.idle (same ∙ sym first) (a.idle first is);
+  due = λ same is. let first : how_often Event.CallBegins m1.trace ≡ how_often Event.CallBegins m.trace = omega (arith, a.begun, b.begun, same) in b.due (same ∙ sym first) (a.due first is);
   begun = omega (arith, a.begun, b.begun);
   starts = omega (arith, a.starts, b.starts);
 }
@@ -152,12 +153,12 @@ pub record Reaches (m : Machine) (most calls : ℕ) : Type 0 where
   pub now : Machine
   pub leads : run_from (Some m) steps ≡ Some now
   pub short : length steps ≤ most
-  pub begun : count is_call_begun now.trace ≤ count is_call_begun m.trace + calls
+  pub begun : how_often Event.CallBegins now.trace ≤ how_often Event.CallBegins m.trace + calls
   pub none_in_progress : NoCallInProgress now
   pub no_runnable : how_many is_runnable now.parties ≡ 0
 
 reaches_then : (m m1 : Machine) (a : List Step) (x y u v : ℕ) → run_from (Some m) a ≡ Some m1 → length a ≤ x
-    → count is_call_begun m1.trace ≤ count is_call_begun m.trace + u → Reaches m1 y v → Reaches m (x + y) (u + v)
+    → how_often Event.CallBegins m1.trace ≤ how_often Event.CallBegins m.trace + u → Reaches m1 y v → Reaches m (x + y) (u + v)
 reaches_then m m1 a x y u v e short begun r = record {
   steps = a ++ r.steps;
   now = r.now;
@@ -246,8 +247,8 @@ pub record Runs (m : Machine) : Type 0 where
   pub steps : List Step
   pub leads : run_from (Some m) steps ≡ Some polled
   pub short : length steps ≤ 2
-  pub begun : count is_call_begun polled.trace ≤ count is_call_begun m.trace + 1
-  pub starts : count is_future_poll polled.trace ≡ count is_future_poll m.trace + 1
+  pub begun : how_often Event.CallBegins polled.trace ≤ how_often Event.CallBegins m.trace + 1
+  pub starts : how_often Event.FuturePollBegins polled.trace ≡ how_often Event.FuturePollBegins m.trace + 1
   pub rest : Reaches polled 22 1
 
 open_run : (m : Machine) → InOrder m → NoCallInProgress m → m.word.closed ≡ false → (i : ℕ) → slice_get m.parties i ≡ Some (At Runnable) → Runs m
@@ -268,7 +269,7 @@ open_run m h none_in_progress opened i e =
     let left1 : total steps_left m1.parties ≤ 13 = omega (arith, total_put steps_left m.parties i (At Runnable) Starting [] e, none_left m none_in_progress) in
     let left2 : total steps_left m2.parties ≤ 12 = omega (arith, total_put steps_left m1.parties i Starting Polling [] there, left1) in
     let short : length s.steps ≤ 12 = omega (arith, s.short, left2) in
-    let same : count is_call_begun s.now.trace ≤ count is_call_begun m2.trace + 0 = omega (arith, s.begun) in
+    let same : how_often Event.CallBegins s.now.trace ≤ how_often Event.CallBegins m2.trace + 0 = omega (arith, s.begun) in
     record {
       polled = m2;
       steps = both;
@@ -282,7 +283,7 @@ open_run m h none_in_progress opened i e =
 -- from a machine with no call in progress
 pub record FromNoCall (m : Machine) : Type 0 where
   pub reaches : Reaches m 24 2
-  pub polled : wake_is_due m.trace ≡ true → count is_future_poll m.trace + 1 ≤ count is_future_poll reaches.now.trace
+  pub polled : wake_is_due m.trace ≡ true → how_often Event.FuturePollBegins m.trace + 1 ≤ how_often Event.FuturePollBegins reaches.now.trace
 
 no_wake_there : (a : Bool) → a ≡ true → a ≡ false → (n k : ℕ) → n + 1 ≤ k
 no_wake_there a e f n k = absurd (cc)
@@ -322,9 +323,9 @@ from_no_call m h none_in_progress (NoneFound none) = record {
 }
 from_no_call m h none_in_progress (Found i e) = by_closed m h none_in_progress i e m.word.closed refl
 
-due_after : (m s now : Machine) → Onward s now → count is_future_poll m.trace ≤ count is_future_poll s.trace → IsDue s.word s.trace
-    → (wake_is_due s.trace ≡ true → count is_future_poll s.trace + 1 ≤ count is_future_poll now.trace)
-    → (count is_future_poll m.trace + 1 ≤ count is_future_poll now.trace) ⊎ (is_open now.word ≡ false)
+due_after : (m s now : Machine) → Onward s now → how_often Event.FuturePollBegins m.trace ≤ how_often Event.FuturePollBegins s.trace → IsDue s.word s.trace
+    → (wake_is_due s.trace ≡ true → how_often Event.FuturePollBegins s.trace + 1 ≤ how_often Event.FuturePollBegins now.trace)
+    → (how_often Event.FuturePollBegins m.trace + 1 ≤ how_often Event.FuturePollBegins now.trace) ⊎ (is_open now.word ≡ false)
 due_after m s now on starts (inl due) polled = inl (omega (arith, polled due, starts))
 due_after m s now on starts (inr over) polled = inr (on.over over)
 

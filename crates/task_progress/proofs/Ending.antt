@@ -7,7 +7,8 @@ use Rattle.task_laws.specs.declared.positions.Position.TheVariants.{At}
 use Rattle.task_core.specs.declared.acts.Act.{Act}
 use Rattle.task_laws.specs.Table.{Outcome, rule}
 use Rattle.task_laws.specs.Machine.{Machine, scene, begins, after, moves, step, run_from}
-use Rattle.task_laws.specs.Laws.{count, is_call_begun}
+use Rattle.task_laws.specs.Event.{Event, is_event}
+use Rattle.task_laws.specs.Laws.{how_often}
 use Rattle.task_progress.specs.StepsLeft.{total, in_call, steps_left}
 use Rattle.task_progress.specs.Waiting.{next_act}
 use Rattle.task_progress.specs.Ending.{alone, EndsCall, EachEndsAlone, NoCallInProgress, CallsEnd, AllCallsEnd, HasStep, NeverStuck}
@@ -38,7 +39,7 @@ pub record Moved (m : Machine) (i : ℕ) (p : Position) (now : Machine) : Type 0
   pub at : slice_get now.parties i ≡ Some next
   pub nearer : steps_left next + 1 ≤ steps_left p
   pub all_nearer : total steps_left now.parties + 1 ≤ total steps_left m.parties
-  pub begun : count is_call_begun now.trace ≡ count is_call_begun m.trace
+  pub begun : how_often Event.CallBegins now.trace ≡ how_often Event.CallBegins m.trace
 
 abbrev MovedTo : Machine → ℕ → Position → Option Machine → Type 0
 MovedTo m i p None = Unit {0}
@@ -57,7 +58,7 @@ after_moved m i act p (Some o) e busy near =
       at = get_put m.parties i p o.next o.born e;
       nearer = omega (arith, near.steps, none);
       all_nearer = omega (arith, near.steps, none, total_put steps_left m.parties i p o.next o.born e);
-      begun = omega (arith, none, told is_call_begun o.told (begins p) m.trace);
+      begun = omega (arith, none, told (is_event Event.CallBegins) o.told (begins p) m.trace);
     }
 
 moves_moved : (m : Machine) (i : ℕ) (act : Act) (at : Option Position) (p : Position) → slice_get m.parties i ≡ at → at ≡ Some p → in_call p ≡ 1

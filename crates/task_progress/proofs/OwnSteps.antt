@@ -7,7 +7,8 @@ use Rattle.task_laws.specs.declared.positions.Position.{Position}
 use Rattle.task_core.specs.declared.acts.Act.{Act}
 use Rattle.task_laws.specs.Table.{Outcome, rule}
 use Rattle.task_laws.specs.Machine.{Machine, Step, scene, begins, after, moves, step, run_from}
-use Rattle.task_laws.specs.Laws.{count, is_call_begun}
+use Rattle.task_laws.specs.Event.{Event}
+use Rattle.task_laws.specs.Laws.{how_often}
 use Rattle.task_progress.specs.StepsLeft.{steps_left, writes_word, writes_left}
 use Rattle.task_progress.specs.OwnSteps.{begins_at, begun_by, OwnStepsBounded, EachPartyIsBounded}
 use Rattle.task_progress.proofs.Rows.{Nears, NearTo, near}
@@ -43,7 +44,7 @@ one_own ps act true j i p q o is e f near =
     let one : j ≡ i = same_number j i is in
     let there : slice_get ps i ≡ Some q = ap (slice_get ps) (sym one) ∙ f in
     let same : p ≡ q = cc in
-    let begins_there : begins_at (slice_get ps i) ≡ count is_call_begun (begins q) = ap begins_at there in
+    let begins_there : begins_at (slice_get ps i) ≡ how_often Event.CallBegins (begins q) = ap begins_at there in
     let left : steps_left p ≡ steps_left q = ap steps_left same in
     let writes : writes_left p ≡ writes_left q = ap writes_left same in
     record {

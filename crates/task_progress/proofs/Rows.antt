@@ -15,17 +15,18 @@ use Rattle.task_core.specs.declared.acts.Act.{Act}
 use Rattle.task_core.specs.declared.acts.Act.TheVariants.{GainReference, FindLimit, DropWaker, DropLastWaker, OrphanTask, CloseOrphan, GiveUpReference, GiveUpLastReference, WakeOver, WakeScheduled, WakeRunning, WakeIdle, DiscardOpen, DiscardClosed, CancelOver, CancelBusy, CancelIdle, ClaimOutput, GiveUpOutput, DetachOrphan, DetachLast, Detach, TakeUpClosed, StartRun, Unschedule, Complete, CompleteDetached, EndClosed, Reschedule, EndIdle, EndOrphaned, BeginNotify, MissNotify, FindNotify, BeginRegister, EndNotify, EndRegister, EndRegisterNotified, Look, LookFinished, StartPoll, AnswerPending, AnswerReady, DropFuture, StoreOutput, DropOutput, HandOutOutput, CloneAwaiter, RefuseClone, StoreAwaiter, TakeAwaiter, WakeAwaiter, DropAwaiter, HandOver, EmptySlots, RefuseGain, EndCall}
 use Rattle.task_laws.specs.Table.{Scene, Outcome, when, leaves_slots, changes_slots, where_found, goes, rule, notifies, after_cancelling, after_storing, after_giving_up, ended_clone}
 use Rattle.task_laws.specs.Machine.{begins}
-use Rattle.task_laws.specs.Laws.{count, is_call_begun, is_call_end}
+use Rattle.task_laws.specs.Event.{Event}
+use Rattle.task_laws.specs.Laws.{how_often, count, is_call_end}
 use Rattle.task_progress.specs.StepsLeft.{total, in_call, awaiters_in_hand, steps_left, writes_word, writes_left}
 
 -- what is left after the act, and the act itself, are at most what was left before it, and 16 for each call that it begins
 pub record Nears (act : Act) (p : Position) (left : Outcome) : Type 0 where
-  pub steps : total steps_left (left.next ∷ left.born) + 1 ≤ steps_left p + 16 * (count is_call_begun left.told + count is_call_begun (begins p))
-  pub writes : total writes_left (left.next ∷ left.born) + bit (writes_word act) ≤ writes_left p + 5 * (count is_call_begun left.told + count is_call_begun (begins p))
-  pub calls : total in_call (left.next ∷ left.born) + (count is_call_end left.told + count is_call_end (begins p)) ≡ in_call p + (count is_call_begun left.told + count is_call_begun (begins p))
-  pub inner : in_call p * (count is_call_begun left.told + count is_call_begun (begins p)) ≡ 0
-  pub own_steps : steps_left left.next + 1 ≤ steps_left p + 16 * count is_call_begun (begins p)
-  pub own_writes : writes_left left.next + bit (writes_word act) ≤ writes_left p + 5 * count is_call_begun (begins p)
+  pub steps : total steps_left (left.next ∷ left.born) + 1 ≤ steps_left p + 16 * (how_often Event.CallBegins left.told + how_often Event.CallBegins (begins p))
+  pub writes : total writes_left (left.next ∷ left.born) + bit (writes_word act) ≤ writes_left p + 5 * (how_often Event.CallBegins left.told + how_often Event.CallBegins (begins p))
+  pub calls : total in_call (left.next ∷ left.born) + (count is_call_end left.told + count is_call_end (begins p)) ≡ in_call p + (how_often Event.CallBegins left.told + how_often Event.CallBegins (begins p))
+  pub inner : in_call p * (how_often Event.CallBegins left.told + how_often Event.CallBegins (begins p)) ≡ 0
+  pub own_steps : steps_left left.next + 1 ≤ steps_left p + 16 * how_often Event.CallBegins (begins p)
+  pub own_writes : writes_left left.next + bit (writes_word act) ≤ writes_left p + 5 * how_often Event.CallBegins (begins p)
 
 abbrev pub NearTo : Act → Position → Option Outcome → Type 0
 NearTo act p None = Unit {0}

@@ -5,7 +5,8 @@ use Rattle.task_laws.specs.Event.{Event}
 use Rattle.task_laws.specs.declared.positions.Position.{Position}
 use Rattle.task_laws.specs.Table.{Outcome, rule}
 use Rattle.task_laws.specs.Machine.{Machine, Step, scene, begins, after, moves, step, run_from}
-use Rattle.task_laws.specs.Laws.{count, is_call_begun, is_call_end}
+use Rattle.task_laws.specs.Event.{is_event}
+use Rattle.task_laws.specs.Laws.{count, is_call_end}
 use Rattle.task_laws.proofs.WholeRuns.{count-append}
 use Rattle.task_progress.specs.StepsLeft.{total, in_call, steps_left, writes_left, BoundedByCalls, StepsAreBounded, OpenCallsBoundSteps}
 use Rattle.task_progress.proofs.Rows.{NearTo, near}
@@ -35,10 +36,10 @@ after_bounded : (m : Machine) (s : Step) (p : Position) (o : Option Outcome) →
     → BoundedByCallsTo m (s ∷ []) (after m s.party p o)
 after_bounded m s p None e near = tt
 after_bounded m s p (Some o) e near = record {
-  steps = omega (arith, near.steps, total_put steps_left m.parties s.party p o.next o.born e, told is_call_begun o.told (begins p) m.trace);
+  steps = omega (arith, near.steps, total_put steps_left m.parties s.party p o.next o.born e, told (is_event Event.CallBegins) o.told (begins p) m.trace);
   writes =
-      omega (arith, near.writes, total_put writes_left m.parties s.party p o.next o.born e, told is_call_begun o.told (begins p) m.trace);
-  calls = omega (arith, near.calls, total_put in_call m.parties s.party p o.next o.born e, told is_call_begun o.told (begins p) m.trace, told is_call_end o.told (begins p) m.trace);
+      omega (arith, near.writes, total_put writes_left m.parties s.party p o.next o.born e, told (is_event Event.CallBegins) o.told (begins p) m.trace);
+  calls = omega (arith, near.calls, total_put in_call m.parties s.party p o.next o.born e, told (is_event Event.CallBegins) o.told (begins p) m.trace, told is_call_end o.told (begins p) m.trace);
 }
 
 moves_bounded : (m : Machine) (s : Step) (at : Option Position) → slice_get m.parties s.party ≡ at → BoundedByCallsTo m (s ∷ []) (moves m s.party s.act at)

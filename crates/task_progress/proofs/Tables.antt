@@ -8,7 +8,8 @@ use Rattle.task_core.specs.declared.acts.Act.{Act}
 use Rattle.task_core.specs.declared.acts.Act.TheVariants.{DiscardOpen, MissNotify, BeginNotify, FindNotify, BeginRegister, EndRegister, Look, DropFuture, CloneAwaiter, StoreAwaiter, Unschedule, EndCall}
 use Rattle.task_laws.specs.Table.{Scene, Outcome, where_found, rule}
 use Rattle.task_laws.specs.Machine.{Machine, Step, opening, scene, begins, after, moves, step, run_from, run}
-use Rattle.task_laws.specs.Laws.{count, is_call_begun}
+use Rattle.task_laws.specs.Event.{Event}
+use Rattle.task_laws.specs.Laws.{how_often}
 use Rattle.task_laws.proofs.Theorem.{laws_hold}
 use Rattle.task_progress.specs.StepsLeft.{total, in_call, steps_left}
 use Rattle.task_progress.specs.Waiting.{next_act}
@@ -35,7 +36,7 @@ same_run (Some m) (s ∷ steps) = same_run (step_by rule m s) steps ∙ ap (λ o
 own_bounded : AreBoundedBy rule steps_left 16
 own_bounded m steps now e = (steps_are_bounded m steps now (sym (same_run (Some m) steps) ∙ e)).steps
 
-none_begun : (p : Position) → in_call p ≡ 1 → count is_call_begun (begins p) ≡ 0
+none_begun : (p : Position) → in_call p ≡ 1 → how_often Event.CallBegins (begins p) ≡ 0
 none_begun (At r) e = absurd (cc)
 none_begun p e = refl
 

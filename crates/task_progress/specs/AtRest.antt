@@ -7,8 +7,10 @@ use Rattle.task_laws.specs.declared.positions.Position.{Position}
 use Rattle.task_laws.specs.declared.positions.Position.TheVariants.{At, CallEnding, Deliverer}
 use Rattle.task_core.specs.declared.acts.Act.TheVariants.{StartRun, StartPoll}
 use Rattle.task_laws.specs.Machine.{Machine, Step, run_from, run, how_many}
-use Rattle.task_laws.specs.Laws.{count, is_call_begun, is_future_poll, is_future_drop, is_output_end, is_future_ready, wake_is_due, pending_poll, was_woken}
-use Rattle.task_laws.specs.Theorem.{is_waker}
+use Rattle.task_laws.specs.Event.{Event}
+use Rattle.task_laws.specs.Laws.{how_often, count, is_output_end, wake_is_due}
+use Rattle.task_laws.specs.Laws.{pending_poll, was_woken}
+use Rattle.task_laws.specs.Holders.{is_waker}
 use Rattle.task_progress.specs.StepsLeft.{total, steps_left}
 use Rattle.task_progress.specs.Ending.{NoCallInProgress}
 
@@ -28,9 +30,10 @@ pub record IsAtRest (m : Machine) : Type 0 where
   -- an open task has a waker or its Task
   pub waits : is_open m.word ≡ true → (1 ≤ how_many is_waker m.parties) ⊎ (m.word.task ≡ true)
   -- one that is over has dropped its future once, has ended its outputs unless the Task may claim one, and has woken its awaiter
-  pub future : is_open m.word ≡ false → count is_future_drop m.trace ≡ 1
+  pub future : is_open m.word ≡ false → how_often Event.FutureDropped m.trace ≡ 1
   pub output : is_open m.word ≡ false
-      → (count is_output_end m.trace ≡ count is_future_ready m.trace) ⊎ ((m.word.completed ≡ true) × (m.word.closed ≡ false) × (m.word.task ≡ true))
+      → (count is_output_end m.trace ≡ how_often Event.FutureReady m.trace)
+      ⊎ ((m.word.completed ≡ true) × (m.word.closed ≡ false) × (m.word.task ≡ true))
   pub awaiter : is_open m.word ≡ false → m.word.task ≡ true → (i : ℕ) → pending_poll m.trace ≡ Some i → was_woken i m.trace ≡ true
 
 -- after every list of steps, where no call is in progress and no Runnable exists
@@ -48,7 +51,8 @@ pub record PollsNext (m : Machine) : Type 0 where
 
 -- after every list of steps, where no call is in progress and a wake is due: one Runnable exists, and its run polls
 abbrev pub DueWakesArePolled : Type 0
-DueWakesArePolled = (limit : ℕ) (steps : List Step) (m : Machine) → run limit steps ≡ Some m → NoCallInProgress m → wake_is_due m.trace ≡ true
+DueWakesArePolled =
+    (limit : ℕ) (steps : List Step) (m : Machine) → run limit steps ≡ Some m → NoCallInProgress m → wake_is_due m.trace ≡ true
     → (how_many is_runnable m.parties ≡ 1) × PollsNext m
 
 -- Steps that lead to rest: the calls in progress end, and at most two more are made.
@@ -57,12 +61,13 @@ pub record ComesToRest (m : Machine) : Type 0 where
   pub now : Machine
   pub leads : run_from (Some m) steps ≡ Some now
   pub short : length steps ≤ total steps_left m.parties + 24
-  pub begun : count is_call_begun now.trace ≤ count is_call_begun m.trace + 2
+  pub begun : how_often Event.CallBegins now.trace ≤ how_often Event.CallBegins m.trace + 2
   pub none_in_progress : NoCallInProgress now
   pub no_runnable : how_many is_runnable now.parties ≡ 0
   pub at_rest : IsAtRest now
   -- a wake that was due is followed by a poll, or the task is over
-  pub polled : wake_is_due m.trace ≡ true → (count is_future_poll m.trace + 1 ≤ count is_future_poll now.trace) ⊎ (is_open now.word ≡ false)
+  pub polled : wake_is_due m.trace ≡ true
+      → (how_often Event.FuturePollBegins m.trace + 1 ≤ how_often Event.FuturePollBegins now.trace) ⊎ (is_open now.word ≡ false)
 
 -- after every list of steps
 abbrev pub AllComeToRest : Type 0
@@ -76,7 +81,9 @@ pub record StaysDue (now : Machine) : Type 0 where
 -- after every list of steps, where a wake is due: whatever the calls in progress do until a call begins
 abbrev pub DueWakesStay : Type 0
 DueWakesStay = (limit : ℕ) (steps : List Step) (m : Machine) → run limit steps ≡ Some m → wake_is_due m.trace ≡ true
-    → (later : List Step) (now : Machine) → run_from (Some m) later ≡ Some now → count is_call_begun now.trace ≡ count is_call_begun m.trace → StaysDue now
+    → (later : List Step) (now : Machine) → run_from (Some m) later ≡ Some now
+    → how_often Event.CallBegins now.trace ≡ how_often Event.CallBegins m.trace
+    → StaysDue now
 
 -- a Runnable, or a party that is about to hand one over
 abbrev pub has_runnable : Position → Bool
@@ -94,10 +101,12 @@ ClosedMakesNoRunnable = (limit : ℕ) (steps : List Step) (m : Machine) → run 
 -- once a run has started, whatever is done until a call begins: where no call is in progress any more, the task is at rest, or closed
 abbrev pub RunsLeadToRest : Type 0
 RunsLeadToRest = (limit : ℕ) (steps : List Step) (m : Machine) → run limit steps ≡ Some m → m.word.scheduled ≡ false
-    → (later : List Step) (now : Machine) → run_from (Some m) later ≡ Some now → count is_call_begun now.trace ≡ count is_call_begun m.trace
+    → (later : List Step) (now : Machine) → run_from (Some m) later ≡ Some now
+    → how_often Event.CallBegins now.trace ≡ how_often Event.CallBegins m.trace
     → NoCallInProgress now → IsAtRest now ⊎ (now.word.closed ≡ true)
 
 -- once the Runnable of a closed task was taken up, whatever is done: whenever no call is in progress, the task is at rest
 abbrev pub ClosedLeadsToRest : Type 0
-ClosedLeadsToRest = (limit : ℕ) (steps : List Step) (m : Machine) → run limit steps ≡ Some m → m.word.closed ≡ true → how_many has_runnable m.parties ≡ 0
+ClosedLeadsToRest =
+    (limit : ℕ) (steps : List Step) (m : Machine) → run limit steps ≡ Some m → m.word.closed ≡ true → how_many has_runnable m.parties ≡ 0
     → (later : List Step) (now : Machine) → run_from (Some m) later ≡ Some now → NoCallInProgress now → IsAtRest now

@@ -1,5 +1,6 @@
 -- Attempts: what parties do in a loop that looks at the word and tries an exchange until it finds the word that it saw.
-use Rattle.std.specs.Prelude.{◌≡◌, ℕ, zero, suc, ◌+◌, ◌*◌, ◌≤◌, Bool, true, false, not, if◌then◌else◌, nat_eq, List, [], ◌∷◌, length, Option, Some, None}
+use Rattle.std.specs.Prelude.{◌≡◌, ℕ, zero, suc, ◌+◌, ◌*◌, ◌≤◌, Bool, true, false, not, if◌then◌else◌, nat_eq, List, [], ◌∷◌, length}
+use Rattle.std.specs.Prelude.{Option, Some, None}
 use Rattle.task_core.specs.Word.{State, bit, number_of}
 use Rattle.task_laws.specs.Machine.{Machine, Step, step, run_from}
 use Rattle.task_laws.specs.Laws.{count, is_call_end}
@@ -90,7 +91,8 @@ pub record AttemptsBounded (c : WithSeen) (attempts : List Attempt) (now : WithS
   pub misses_each : (i : ℕ) → misses_of i attempts + is_stale (now.seen i) now.machine.word
       ≤ is_stale (c.seen i) c.machine.word + writes_by_others i attempts
   -- the calls that ended meanwhile, and those that are open at the end, bound the steps, and the misses of each party
-  pub steps : length (made attempts) + 16 * count is_call_end c.machine.trace ≤ 16 * (total in_call now.machine.parties + count is_call_end now.machine.trace)
+  pub steps : length (made attempts) + 16 * count is_call_end c.machine.trace
+      ≤ 16 * (total in_call now.machine.parties + count is_call_end now.machine.trace)
   pub missed : (i : ℕ) → misses_of i attempts + 5 * count is_call_end c.machine.trace
       ≤ 1 + 5 * (total in_call now.machine.parties + count is_call_end now.machine.trace)
   -- and the writes bound the misses of all
@@ -98,4 +100,5 @@ pub record AttemptsBounded (c : WithSeen) (attempts : List Attempt) (now : WithS
 
 -- from every machine, for every list of attempts: unless calls end, its steps and misses are bounded
 abbrev pub LockFree : Type 0
-LockFree = (c : WithSeen) (attempts : List Attempt) (now : WithSeen) → attempts_from (Some c) attempts ≡ Some now → AttemptsBounded c attempts now
+LockFree =
+    (c : WithSeen) (attempts : List Attempt) (now : WithSeen) → attempts_from (Some c) attempts ≡ Some now → AttemptsBounded c attempts now

@@ -5,7 +5,8 @@ use Rattle.task_laws.specs.declared.positions.Position.{Position}
 use Rattle.task_laws.specs.declared.positions.Position.TheVariants.{At}
 use Rattle.task_core.specs.declared.acts.Act.{Act}
 use Rattle.task_laws.specs.Machine.{Machine, Step, step, run_from, run}
-use Rattle.task_laws.specs.Laws.{count, is_call_begun}
+use Rattle.task_laws.specs.Event.{Event}
+use Rattle.task_laws.specs.Laws.{how_often}
 use Rattle.task_progress.specs.StepsLeft.{total, in_call, steps_left}
 
 -- the steps of party i that make these acts
@@ -21,7 +22,7 @@ pub record EndsCall (m : Machine) (i : ℕ) (p : Position) : Type 0 where
   pub short : length acts ≤ steps_left p
   pub leads : run_from (Some m) (alone i acts) ≡ Some now
   pub ends : slice_get now.parties i ≡ Some (At rest)
-  pub begun : count is_call_begun now.trace ≡ count is_call_begun m.trace
+  pub begun : how_often Event.CallBegins now.trace ≡ how_often Event.CallBegins m.trace
 
 -- after every list of steps, wherever the other parties stand still
 abbrev pub EachEndsAlone : Type 0
@@ -39,7 +40,7 @@ pub record CallsEnd (m : Machine) : Type 0 where
   pub short : length steps ≤ total steps_left m.parties
   pub leads : run_from (Some m) steps ≡ Some now
   pub none_in_progress : NoCallInProgress now
-  pub begun : count is_call_begun now.trace ≡ count is_call_begun m.trace
+  pub begun : how_often Event.CallBegins now.trace ≡ how_often Event.CallBegins m.trace
 
 -- after every list of steps
 abbrev pub AllCallsEnd : Type 0
@@ -50,7 +51,7 @@ pub record HasStep (m : Machine) : Type 0 where
   pub by : Step
   pub now : Machine
   pub leads : step m by ≡ Some now
-  pub begun : count is_call_begun now.trace ≡ count is_call_begun m.trace
+  pub begun : how_often Event.CallBegins now.trace ≡ how_often Event.CallBegins m.trace
 
 -- after every list of steps: so a run in which no call begins can be continued until none is in progress
 abbrev pub NeverStuck : Type 0

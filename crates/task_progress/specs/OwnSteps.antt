@@ -3,7 +3,8 @@ use Rattle.std.specs.Prelude.{◌≡◌, ℕ, ◌+◌, ◌*◌, ◌≤◌, if◌
 use Rattle.task_core.specs.Word.{bit}
 use Rattle.task_laws.specs.declared.positions.Position.{Position}
 use Rattle.task_laws.specs.Machine.{Machine, Step, begins, step, run_from}
-use Rattle.task_laws.specs.Laws.{count, is_call_begun}
+use Rattle.task_laws.specs.Event.{Event}
+use Rattle.task_laws.specs.Laws.{how_often}
 use Rattle.task_progress.specs.StepsLeft.{steps_left, writes_word, writes_left}
 
 -- how many of the steps are made by party i, and how many of these write the word
@@ -18,7 +19,7 @@ own_writes i (s ∷ steps) = (if nat_eq s.party i then bit (writes_word s.act) e
 -- how many calls a step of a party at that position begins
 abbrev pub begins_at : Option Position → ℕ
 begins_at None = 0
-begins_at (Some p) = count is_call_begun (begins p)
+begins_at (Some p) = how_often Event.CallBegins (begins p)
 
 -- how many calls party i begins by these steps
 abbrev pub begun_by : ℕ → Option Machine → List Step → ℕ

@@ -5,11 +5,22 @@ use Rattle.task_laws.specs.declared.positions.NotifyingCall.{NotifyingCall}
 use Rattle.task_laws.specs.declared.positions.NotifyingCall.TheVariants.{OfRun, OfDrop, OfCancel, OfPoll, OfClaim}
 use Rattle.task_laws.specs.declared.positions.OnceDelivered.TheVariants.{ThenEnds, ThenTask, ThenNotifies}
 use Rattle.task_laws.specs.declared.positions.Position.{Position}
-use Rattle.task_laws.specs.declared.positions.Position.TheVariants.{At, CallEnding, Deliverer, Starting, Polling, Pending, Ready, ReadyFutureDropped, OutputStored, PendingFutureDropped, FutureInHand, FutureGone, OutputInHand, GivingUp, Emptier, Notifier, Taker, Releaser, AwaiterInHand, OrphanHolder, Registrar, HasClone, UnusedClone, Storing, Registered, TookBack, CloneInHand, Looking, SawOutput, TookOutput, OldAwaiterInHand, Answering, OutputCloser, Detacher}
+use Rattle.task_laws.specs.declared.positions.Position.TheVariants.{At, CallEnding, Deliverer, Starting, Polling, Pending, Ready}
+use Rattle.task_laws.specs.declared.positions.Position.TheVariants.{ReadyFutureDropped, OutputStored, PendingFutureDropped, FutureInHand}
+use Rattle.task_laws.specs.declared.positions.Position.TheVariants.{FutureGone, OutputInHand, GivingUp, Emptier, Notifier, Taker, Releaser}
+use Rattle.task_laws.specs.declared.positions.Position.TheVariants.{AwaiterInHand, OrphanHolder, Registrar, HasClone, UnusedClone, Storing}
+use Rattle.task_laws.specs.declared.positions.Position.TheVariants.{Registered, TookBack, CloneInHand, Looking, SawOutput, TookOutput}
+use Rattle.task_laws.specs.declared.positions.Position.TheVariants.{OldAwaiterInHand, Answering, OutputCloser, Detacher}
 use Rattle.task_core.specs.declared.acts.Act.{Act}
-use Rattle.task_core.specs.declared.acts.Act.TheVariants.{GainReference, DropWaker, DropLastWaker, OrphanTask, CloseOrphan, GiveUpReference, GiveUpLastReference, WakeRunning, WakeIdle, DiscardOpen, CancelBusy, CancelIdle, ClaimOutput, GiveUpOutput, DetachOrphan, DetachLast, Detach, StartRun, Unschedule, Complete, CompleteDetached, EndClosed, Reschedule, EndIdle, EndOrphaned, BeginNotify, MissNotify, BeginRegister, EndNotify, EndRegister, EndRegisterNotified}
+use Rattle.task_core.specs.declared.acts.Act.TheVariants.{GainReference, DropWaker, DropLastWaker, OrphanTask, CloseOrphan, GiveUpReference}
+use Rattle.task_core.specs.declared.acts.Act.TheVariants.{GiveUpLastReference, WakeRunning, WakeIdle, DiscardOpen, CancelBusy, CancelIdle}
+use Rattle.task_core.specs.declared.acts.Act.TheVariants.{ClaimOutput, GiveUpOutput, DetachOrphan, DetachLast, Detach, StartRun, Unschedule}
+use Rattle.task_core.specs.declared.acts.Act.TheVariants.{Complete, CompleteDetached, EndClosed, Reschedule, EndIdle, EndOrphaned}
+use Rattle.task_core.specs.declared.acts.Act.TheVariants.{BeginNotify, MissNotify, BeginRegister, EndNotify, EndRegister}
+use Rattle.task_core.specs.declared.acts.Act.TheVariants.{EndRegisterNotified}
 use Rattle.task_laws.specs.Machine.{Machine, Step, run_from}
-use Rattle.task_laws.specs.Laws.{count, is_call_begun, is_call_end}
+use Rattle.task_laws.specs.Event.{Event}
+use Rattle.task_laws.specs.Laws.{how_often, count, is_call_end}
 
 -- a number of each party, summed
 abbrev pub total : (Position → ℕ) → List Position → ℕ
@@ -169,11 +180,13 @@ writes_in (s ∷ steps) = bit (writes_word s.act) + writes_in steps
 
 -- Steps from m to now, with those left at its end, are at most those left at its start and 16 for each call begun; five of them are writes.
 pub record BoundedByCalls (m : Machine) (made : List Step) (now : Machine) : Type 0 where
-  pub steps : length made + total steps_left now.parties + 16 * count is_call_begun m.trace ≤ total steps_left m.parties + 16 * count is_call_begun now.trace
-  pub writes : writes_in made + total writes_left now.parties + 5 * count is_call_begun m.trace ≤ total writes_left m.parties + 5 * count is_call_begun now.trace
+  pub steps : length made + total steps_left now.parties + 16 * how_often Event.CallBegins m.trace
+      ≤ total steps_left m.parties + 16 * how_often Event.CallBegins now.trace
+  pub writes : writes_in made + total writes_left now.parties + 5 * how_often Event.CallBegins m.trace
+      ≤ total writes_left m.parties + 5 * how_often Event.CallBegins now.trace
   -- a call that has begun is open until it ends
-  pub calls : total in_call now.parties + count is_call_end now.trace + count is_call_begun m.trace
-      ≡ total in_call m.parties + count is_call_end m.trace + count is_call_begun now.trace
+  pub calls : total in_call now.parties + count is_call_end now.trace + how_often Event.CallBegins m.trace
+      ≡ total in_call m.parties + count is_call_end m.trace + how_often Event.CallBegins now.trace
 
 -- from every machine, reachable or not, for every list of steps that it allows
 abbrev pub StepsAreBounded : Type 0
@@ -186,4 +199,5 @@ pub record BoundedByOpenCalls (m : Machine) (made : List Step) (now : Machine) :
 
 -- so where no call ends between the two, the calls that are open at the end bound all steps
 abbrev pub OpenCallsBoundSteps : Type 0
-OpenCallsBoundSteps = (m : Machine) (steps : List Step) (now : Machine) → run_from (Some m) steps ≡ Some now → BoundedByOpenCalls m steps now
+OpenCallsBoundSteps =
+    (m : Machine) (steps : List Step) (now : Machine) → run_from (Some m) steps ≡ Some now → BoundedByOpenCalls m steps now

@@ -7,7 +7,8 @@ use Rattle.task_core.specs.declared.acts.Act.{Act}
 use Rattle.task_core.specs.declared.acts.Act.TheVariants.{MissNotify, FindNotify}
 use Rattle.task_laws.specs.Table.{Scene, Outcome, leaves_slots, where_found, rule}
 use Rattle.task_laws.specs.Machine.{Machine, Step, opening, scene, after, run}
-use Rattle.task_laws.specs.Laws.{count, is_call_begun, is_call_end}
+use Rattle.task_laws.specs.Event.{Event}
+use Rattle.task_laws.specs.Laws.{how_often, count, is_call_end}
 use Rattle.task_laws.specs.Theorem.{Laws}
 use Rattle.task_progress.specs.StepsLeft.{total, in_call}
 use Rattle.task_progress.specs.Ending.{alone}
@@ -18,7 +19,8 @@ Table = Scene → Act → Position → Option Outcome
 
 -- a notifier that misses looks again, until the registration or the other notifier has ended
 abbrev pub looks_again : Table
-looks_again s MissNotify (Notifier way) = where_found (found s.limit MissNotify s.word) (Some (leaves_slots s (written MissNotify s.word) (Notifier way) [] []))
+looks_again s MissNotify (Notifier way) =
+    where_found (found s.limit MissNotify s.word) (Some (leaves_slots s (written MissNotify s.word) (Notifier way) [] []))
 looks_again s act p = rule s act p
 
 -- a poll gives its registration up only where no notifier is found, so it waits for one that is
@@ -48,12 +50,14 @@ run_by table limit steps = run_from_by table (Some (opening limit)) steps
 
 -- a number for each position falls with each step in a call, as `steps_left` does by the machine's own table
 abbrev pub FallsBy : Table → (Position → ℕ) → Type 0
-FallsBy table left = (s : Scene) (act : Act) (p : Position) (o : Outcome) → in_call p ≡ 1 → table s act p ≡ Some o → left o.next + 1 ≤ left p
+FallsBy table left =
+    (s : Scene) (act : Act) (p : Position) (o : Outcome) → in_call p ≡ 1 → table s act p ≡ Some o → left o.next + 1 ≤ left p
 
 -- .. and with one number for each call begun it bounds the steps, as `steps_left` and 16 do
 abbrev pub AreBoundedBy : Table → (Position → ℕ) → ℕ → Type 0
 AreBoundedBy table left each = (m : Machine) (steps : List Step) (now : Machine) → run_from_by table (Some m) steps ≡ Some now
-    → length steps + total left now.parties + each * count is_call_begun m.trace ≤ total left m.parties + each * count is_call_begun now.trace
+    → length steps + total left now.parties + each * how_often Event.CallBegins m.trace
+    ≤ total left m.parties + each * how_often Event.CallBegins now.trace
 
 -- party i has an act that it may make now
 pub record HasAct (table : Table) (m : Machine) (i : ℕ) : Type 0 where
@@ -73,7 +77,8 @@ pub record Progresses (table : Table) : Type 0 where
   pub bounded : AreBoundedBy table left each
   pub may_step : EachHasAct table
 
--- A state that the machine reaches, and the table too, and n steps more by the table: all are of one party, and no call begins or ends by them.
+-- A state that the machine reaches, and the table too, and n steps more by the table: all are of one party, and no call begins or ends by
+-- them.
 pub record GoesOn (table : Table) (limit n : ℕ) : Type 0 where
   pub steps : List Step
   pub before : Machine
@@ -84,7 +89,7 @@ pub record GoesOn (table : Table) (limit n : ℕ) : Type 0 where
   pub now : Machine
   pub leads : run_from_by table (Some before) (alone party acts) ≡ Some now
   pub long : length acts ≡ n
-  pub begun : count is_call_begun now.trace ≡ count is_call_begun before.trace
+  pub begun : how_often Event.CallBegins now.trace ≡ how_often Event.CallBegins before.trace
   pub ended : count is_call_end now.trace ≡ count is_call_end before.trace
 
 -- A state that the machine reaches, and the table too, in which a party in a call has no act by the table.

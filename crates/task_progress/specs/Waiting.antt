@@ -6,9 +6,19 @@ use Rattle.task_laws.specs.declared.positions.NotifyingCall.{NotifyingCall}
 use Rattle.task_laws.specs.declared.positions.NotifyingCall.TheVariants.{OfRun, OfDrop, OfCancel, OfPoll, OfClaim}
 use Rattle.task_laws.specs.declared.positions.OnceDelivered.TheVariants.{ThenTask, ThenNotifies}
 use Rattle.task_laws.specs.declared.positions.Position.{Position}
-use Rattle.task_laws.specs.declared.positions.Position.TheVariants.{At, CallEnding, Deliverer, Starting, Polling, Pending, Ready, ReadyFutureDropped, OutputStored, PendingFutureDropped, FutureInHand, FutureGone, OutputInHand, GivingUp, Emptier, Notifier, Taker, Releaser, AwaiterInHand, OrphanHolder, Registrar, HasClone, UnusedClone, Storing, Registered, TookBack, CloneInHand, Looking, SawOutput, TookOutput, OldAwaiterInHand, Answering, OutputCloser, Detacher}
+use Rattle.task_laws.specs.declared.positions.Position.TheVariants.{At, CallEnding, Deliverer, Starting, Polling, Pending, Ready}
+use Rattle.task_laws.specs.declared.positions.Position.TheVariants.{ReadyFutureDropped, OutputStored, PendingFutureDropped, FutureInHand}
+use Rattle.task_laws.specs.declared.positions.Position.TheVariants.{FutureGone, OutputInHand, GivingUp, Emptier, Notifier, Taker, Releaser}
+use Rattle.task_laws.specs.declared.positions.Position.TheVariants.{AwaiterInHand, OrphanHolder, Registrar, HasClone, UnusedClone, Storing}
+use Rattle.task_laws.specs.declared.positions.Position.TheVariants.{Registered, TookBack, CloneInHand, Looking, SawOutput, TookOutput}
+use Rattle.task_laws.specs.declared.positions.Position.TheVariants.{OldAwaiterInHand, Answering, OutputCloser, Detacher}
 use Rattle.task_core.specs.declared.acts.Act.{Act}
-use Rattle.task_core.specs.declared.acts.Act.TheVariants.{CloseOrphan, GiveUpReference, GiveUpLastReference, ClaimOutput, DetachLast, Detach, Unschedule, Complete, CompleteDetached, EndClosed, Reschedule, EndIdle, EndOrphaned, BeginNotify, MissNotify, FindNotify, BeginRegister, EndNotify, EndRegister, EndRegisterNotified, Look, StartPoll, AnswerPending, DropFuture, StoreOutput, DropOutput, HandOutOutput, CloneAwaiter, StoreAwaiter, TakeAwaiter, WakeAwaiter, DropAwaiter, HandOver, EmptySlots, EndCall}
+use Rattle.task_core.specs.declared.acts.Act.TheVariants.{CloseOrphan, GiveUpReference, GiveUpLastReference, ClaimOutput, DetachLast}
+use Rattle.task_core.specs.declared.acts.Act.TheVariants.{Detach, Unschedule, Complete, CompleteDetached, EndClosed, Reschedule, EndIdle}
+use Rattle.task_core.specs.declared.acts.Act.TheVariants.{EndOrphaned, BeginNotify, MissNotify, FindNotify, BeginRegister, EndNotify}
+use Rattle.task_core.specs.declared.acts.Act.TheVariants.{EndRegister, EndRegisterNotified, Look, StartPoll, AnswerPending, DropFuture}
+use Rattle.task_core.specs.declared.acts.Act.TheVariants.{StoreOutput, DropOutput, HandOutOutput, CloneAwaiter, StoreAwaiter, TakeAwaiter}
+use Rattle.task_core.specs.declared.acts.Act.TheVariants.{WakeAwaiter, DropAwaiter, HandOver, EmptySlots, EndCall}
 use Rattle.task_laws.specs.Machine.{Machine, Step, step, run}
 use Rattle.task_progress.specs.StepsLeft.{in_call}
 
@@ -17,7 +27,9 @@ abbrev pub next_act : State → Position → Act
 next_act w (Deliverer woken next) = HandOver
 next_act w Starting = StartPoll
 next_act w Polling = AnswerPending
-next_act w Pending = if w.closed then DropFuture else (if w.scheduled then Reschedule else (if nat_lt 1 w.references || w.task then EndIdle else EndOrphaned))
+next_act w Pending =
+    if w.closed then DropFuture
+    else (if w.scheduled then Reschedule else (if nat_lt 1 w.references || w.task then EndIdle else EndOrphaned))
 next_act w Ready = DropFuture
 next_act w ReadyFutureDropped = StoreOutput
 next_act w OutputStored = if w.task then Complete else CompleteDetached
@@ -49,7 +61,9 @@ next_act w _ = EndCall
 
 -- after every list of steps, each party in a call may make that act now, wherever the others stand
 abbrev pub NoCallWaits : Type 0
-NoCallWaits = (limit : ℕ) (steps : List Step) (m : Machine) → run limit steps ≡ Some m → (i : ℕ) (p : Position) → slice_get m.parties i ≡ Some p → in_call p ≡ 1
+NoCallWaits =
+    (limit : ℕ) (steps : List Step) (m : Machine) → run limit steps ≡ Some m → (i : ℕ) (p : Position) → slice_get m.parties i ≡ Some p
+    → in_call p ≡ 1
     → is_some (step m (record { party = i; act = next_act m.word p })) ≡ true
 
 -- a way in a call of the Task

@@ -5,11 +5,21 @@ use Rattle.task_laws.specs.declared.positions.Rest.TheVariants.{Task}
 use Rattle.task_laws.specs.declared.positions.Position.{Position}
 use Rattle.task_laws.specs.declared.positions.Position.TheVariants.{At}
 use Rattle.task_core.specs.declared.acts.Act.{Act}
-use Rattle.task_core.specs.declared.acts.Act.TheVariants.{GainReference, FindLimit, DropWaker, DropLastWaker, OrphanTask, CloseOrphan, GiveUpReference, GiveUpLastReference, WakeOver, WakeScheduled, WakeRunning, WakeIdle, DiscardOpen, DiscardClosed, CancelOver, CancelBusy, CancelIdle, ClaimOutput, GiveUpOutput, DetachOrphan, DetachLast, Detach, TakeUpClosed, StartRun, Unschedule, Complete, CompleteDetached, EndClosed, Reschedule, EndIdle, EndOrphaned, BeginNotify, MissNotify, FindNotify, BeginRegister, EndNotify, EndRegister, EndRegisterNotified, Look, LookFinished, StartPoll, AnswerPending, AnswerReady, DropFuture, StoreOutput, DropOutput, HandOutOutput, CloneAwaiter, RefuseClone, StoreAwaiter, TakeAwaiter, WakeAwaiter, DropAwaiter, HandOver, EmptySlots, RefuseGain, EndCall}
+use Rattle.task_core.specs.declared.acts.Act.TheVariants.{GainReference, FindLimit, DropWaker, DropLastWaker, OrphanTask, CloseOrphan}
+use Rattle.task_core.specs.declared.acts.Act.TheVariants.{GiveUpReference, GiveUpLastReference, WakeOver, WakeScheduled, WakeRunning}
+use Rattle.task_core.specs.declared.acts.Act.TheVariants.{WakeIdle, DiscardOpen, DiscardClosed, CancelOver, CancelBusy, CancelIdle}
+use Rattle.task_core.specs.declared.acts.Act.TheVariants.{ClaimOutput, GiveUpOutput, DetachOrphan, DetachLast, Detach, TakeUpClosed}
+use Rattle.task_core.specs.declared.acts.Act.TheVariants.{StartRun, Unschedule, Complete, CompleteDetached, EndClosed, Reschedule, EndIdle}
+use Rattle.task_core.specs.declared.acts.Act.TheVariants.{EndOrphaned, BeginNotify, MissNotify, FindNotify, BeginRegister, EndNotify}
+use Rattle.task_core.specs.declared.acts.Act.TheVariants.{EndRegister, EndRegisterNotified, Look, LookFinished, StartPoll, AnswerPending}
+use Rattle.task_core.specs.declared.acts.Act.TheVariants.{AnswerReady, DropFuture, StoreOutput, DropOutput, HandOutOutput, CloneAwaiter}
+use Rattle.task_core.specs.declared.acts.Act.TheVariants.{RefuseClone, StoreAwaiter, TakeAwaiter, WakeAwaiter, DropAwaiter, HandOver}
+use Rattle.task_core.specs.declared.acts.Act.TheVariants.{EmptySlots, RefuseGain, EndCall}
 use Rattle.task_laws.specs.Table.{Slots, Scene, Outcome}
 use Rattle.task_laws.specs.Machine.{Machine, Step, step, run}
 use Rattle.task_replay.specs.declared.kind.Kind.{Kind}
-use Rattle.task_replay.specs.declared.kind.Kind.TheVariants.{Gain, GiveUp, Wake, Close, RunStart, RunEnd, HandshakeBegin, HandshakeEnd, Load, Value, Awaiter, Ending}
+use Rattle.task_replay.specs.declared.kind.Kind.TheVariants.{Gain, GiveUp, Wake, Close, RunStart, RunEnd, HandshakeBegin, HandshakeEnd}
+use Rattle.task_replay.specs.declared.kind.Kind.TheVariants.{Load, Value, Awaiter, Ending}
 use Rattle.task_replay.specs.declared.machine.Slots.{Slots as SlotsHeld}
 use Rattle.task_replay.specs.declared.table.Scene.{Scene as SceneFound}
 use Rattle.task_replay.specs.declared.table.Effect.{Effect}

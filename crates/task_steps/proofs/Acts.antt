@@ -10,7 +10,8 @@ use Rattle.task_laws.specs.declared.positions.Rest.TheVariants.{Lent}
 use Rattle.task_core.specs.Rows.{found, written, row}
 use Rattle.task_laws.specs.Table.{Slots, Scene, Outcome, when, is_held, leaves_slots, goes, rule}
 use Rattle.task_laws.specs.Machine.{Machine, begins, scene, how_many}
-use Rattle.task_laws.specs.Laws.{count, is_emptying}
+use Rattle.task_laws.specs.Event.{is_event}
+use Rattle.task_laws.specs.Laws.{how_often, count}
 use Rattle.task_steps.specs.declared.table.Deed.{Deed}
 use Rattle.task_steps.specs.declared.table.Member.{Member}
 use Rattle.task_steps.specs.declared.table.View.{View}
@@ -109,7 +110,7 @@ pub many_append : (f : Position → Bool) (s t : List Position) → how_many f (
 many_append f [] t = omega arith
 many_append f (e ∷ s) t = let h = many_append f s t in omega arith
 
-begins_quietly : (p : Position) → count is_emptying (begins p) ≡ 0
+begins_quietly : (p : Position) → how_often Event.Empties (begins p) ≡ 0
 begins_quietly (At r) = omega arith
 begins_quietly _ = refl
 
@@ -126,7 +127,7 @@ pub record Followed (limit : ℕ) (views : List View) (seat l : ℕ) (p : Positi
   pub slots_is : machine.slots ≡ o.slots
   pub limit_is : machine.limit ≡ m.limit
   pub counts : (f : Position → Bool) → how_many f machine.parties + bit (f p) ≡ how_many f m.parties + bit (f o.next) + how_many f o.born
-  pub emptied : count is_emptying machine.trace ≡ count is_emptying o.told + count is_emptying m.trace
+  pub emptied : how_often Event.Empties machine.trace ≡ how_often Event.Empties o.told + how_often Event.Empties m.trace
 
 abbrev FollowedBy : ℕ → List View → ℕ → ℕ → Position → List Deed → List Member → List Act → Machine → Option Outcome → Type 0
 FollowedBy limit views seat l p ds us acts m None = Unit {0}
@@ -158,5 +159,5 @@ follows limit views seat l (a ∷ more) p ds us log m o t lt e = let j = joined 
       slots_is = rec.slots_is;
       limit_is = rec.limit_is;
       counts = λ f. let c1 = rec.counts f in let c2 = many_next f m.parties x.0 p o1.next o1.born x.1 in omega (arith, many_append f o1.born o2.born);
-      emptied = let c1 = rec.emptied in omega (arith, count_append is_emptying o2.told o1.told, count_append is_emptying o1.told (begins p ++ m.trace), count_append is_emptying (begins p) m.trace, begins_quietly p);
+      emptied = let c1 = rec.emptied in omega (arith, count_append (is_event Event.Empties) o2.told o1.told, count_append (is_event Event.Empties) o1.told (begins p ++ m.trace), count_append (is_event Event.Empties) (begins p) m.trace, begins_quietly p);
     })

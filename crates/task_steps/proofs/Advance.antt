@@ -10,8 +10,9 @@ use Rattle.task_laws.specs.declared.positions.Position.{Position}
 use Rattle.task_core.specs.declared.acts.Act.{Act}
 use Rattle.task_laws.specs.Table.{Outcome}
 use Rattle.task_laws.specs.Machine.{Machine, scene, how_many}
-use Rattle.task_laws.specs.Laws.{count, is_emptying}
-use Rattle.task_laws.specs.Theorem.{owns_awaiter}
+use Rattle.task_laws.specs.Event.{Event}
+use Rattle.task_laws.specs.Laws.{how_often}
+use Rattle.task_laws.specs.Holders.{owns_awaiter}
 use Rattle.task_laws.proofs.Runs.{Invariant}
 use Rattle.task_steps.specs.declared.table.Slot.{Slot}
 use Rattle.task_steps.specs.declared.table.Deed.{Deed}
@@ -27,7 +28,7 @@ abbrev pub SameWork : Machine → Outcome → Type 0
 SameWork m o = (o.slots.future ≡ m.slots.future) × (o.slots.output ≡ m.slots.output)
 
 abbrev pub SameAwaiter : Machine → Outcome → Type 0
-SameAwaiter m o = (o.slots.awaiter ≡ m.slots.awaiter) × (count is_emptying o.told ≡ 0)
+SameAwaiter m o = (o.slots.awaiter ≡ m.slots.awaiter) × (how_often Event.Empties o.told ≡ 0)
 
 module _ {F T A : Type 0} where
   -- the party has the places of future and output in front, with these values
@@ -40,8 +41,8 @@ module _ {F T A : Type 0} where
     takes_future : has_work p ≡ false → has_work o.next ≡ true → owns_awaiter o.next ≡ owns_awaiter p → (owns_awaiter p ≡ true) ⊎ SameAwaiter m o → m.slots.future ≡ true → ((l' : List (ℕ × Slot F T A)) → TakesFuture l l' → Works o.next l l') → Placing m p o l
     takes_output : has_work p ≡ false → has_work o.next ≡ true → owns_awaiter o.next ≡ owns_awaiter p → (owns_awaiter p ≡ true) ⊎ SameAwaiter m o → m.slots.output ≡ true → ((l' : List (ℕ × Slot F T A)) → TakesOutput l l' → Works o.next l l') → Placing m p o l
     gives_work : (y z : Slot F T A) → has_work p ≡ true → has_work o.next ≡ false → owns_awaiter o.next ≡ owns_awaiter p → (owns_awaiter p ≡ true) ⊎ SameAwaiter m o → HasBoth y z l → (o.slots.future ≡ true → IsFuture y) → (o.slots.output ≡ true → IsOutput z) → Placing m p o l
-    takes_awaiter : owns_awaiter p ≡ false → owns_awaiter o.next ≡ true → has_work o.next ≡ has_work p → (has_work p ≡ true) ⊎ SameWork m o → count is_emptying m.trace ≡ 0 → ((y : Slot F T A) → Waits m.slots.awaiter y → Awaits o.next y) → Placing m p o l
-    gives_awaiter : (y : Slot F T A) → owns_awaiter p ≡ true → owns_awaiter o.next ≡ false → has_work o.next ≡ has_work p → (has_work p ≡ true) ⊎ SameWork m o → l ≡ (2, y) ∷ rest l → (count is_emptying o.told ≡ 0 → Waits o.slots.awaiter y) → Placing m p o l
+    takes_awaiter : owns_awaiter p ≡ false → owns_awaiter o.next ≡ true → has_work o.next ≡ has_work p → (has_work p ≡ true) ⊎ SameWork m o → how_often Event.Empties m.trace ≡ 0 → ((y : Slot F T A) → Waits m.slots.awaiter y → Awaits o.next y) → Placing m p o l
+    gives_awaiter : (y : Slot F T A) → owns_awaiter p ≡ true → owns_awaiter o.next ≡ false → has_work o.next ≡ has_work p → (has_work p ≡ true) ⊎ SameWork m o → l ≡ (2, y) ∷ rest l → (how_often Event.Empties o.told ≡ 0 → Waits o.slots.awaiter y) → Placing m p o l
 
   -- the step of a party at p that makes these acts, finds the machine so, and writes this number
   pub record Steps (m : Machine) (p : Position) (acts : List Act) (new : ℕ) (l : List (ℕ × Slot F T A)) : Type 0 where
@@ -94,7 +95,7 @@ module _ (F T A : Type 0) (limit : ℕ) where
     pub here : bit (has_work p) ≤ how_many has_work m.parties
     pub here_too : bit (owns_awaiter p) ≤ how_many owns_awaiter m.parties
     pub slots_is : q.slots ≡ o.slots
-    pub emptied : count is_emptying q.trace ≡ count is_emptying o.told + count is_emptying m.trace
+    pub emptied : how_often Event.Empties q.trace ≡ how_often Event.Empties o.told + how_often Event.Empties m.trace
     pub one_worker : how_many has_work q.parties ≤ 1
     pub one_owner : how_many owns_awaiter q.parties ≤ 1
 
@@ -121,7 +122,7 @@ module _ (F T A : Type 0) (limit : ℕ) where
       kept
 
   pub same_awaiter : (b : Bool) (m : Machine) (p : Position) (o : Outcome) (q : Machine) (homes homes' : List (maybe.Option (Slot F T A))) → After m p o q → HomesAgree b m homes → owns_awaiter o.next ≡ owns_awaiter p → (owns_awaiter p ≡ true) ⊎ SameAwaiter m o
-      → get_elem? homes' 2 ≡ get_elem? homes 2 → how_many owns_awaiter q.parties ≡ 0 → count is_emptying q.trace ≡ 0 → AtHome homes' 2 (Waits q.slots.awaiter)
+      → get_elem? homes' 2 ≡ get_elem? homes 2 → how_many owns_awaiter q.parties ≡ 0 → how_often Event.Empties q.trace ≡ 0 → AtHome homes' 2 (Waits q.slots.awaiter)
   same_awaiter b m p o q homes homes' a h e kept at nobody left = ⊎_elim
       (λ (z : owns_awaiter p ≡ true). absurd (let x = a.owners in let y = a.here_too in let b = bit_is (owns_awaiter o.next) (owns_awaiter p) e in let c : bit (owns_awaiter p) ≡ 1 = ap bit z in omega arith))
       (λ (z : SameAwaiter m o). let before : how_many owns_awaiter m.parties ≡ 0 = (let x = a.owners in let b = bit_is (owns_awaiter o.next) (owns_awaiter p) e in omega arith) in

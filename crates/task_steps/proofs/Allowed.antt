@@ -12,7 +12,7 @@ use Rattle.task_laws.specs.declared.positions.Rest.TheVariants.{Runnable}
 use Rattle.task_core.specs.declared.acts.Act.{Act}
 use Rattle.task_laws.specs.Table.{Outcome}
 use Rattle.task_laws.specs.Machine.{Machine, scene, how_many}
-use Rattle.task_laws.specs.Theorem.{owns_awaiter}
+use Rattle.task_laws.specs.Holders.{owns_awaiter}
 use Rattle.task_core.proofs.Bits.{state_of_number_of}
 use Rattle.task_laws.proofs.Theorem.{laws_of}
 use Rattle.task_steps.specs.declared.table.Slot.{Slot}

@@ -13,8 +13,8 @@ use Rattle.task_laws.specs.declared.positions.Position.TheVariants.{At, CallEndi
 use Rattle.task_core.specs.declared.acts.Act.TheVariants.{MissNotify, BeginNotify, TakeAwaiter}
 use Rattle.task_laws.specs.Table.{Slots, leaves_slots, changes_slots, after_taking, after_waking, may_drop}
 use Rattle.task_laws.specs.Machine.{scene}
-use Rattle.task_laws.specs.Laws.{count, is_emptying}
-use Rattle.task_laws.specs.Theorem.{owns_awaiter}
+use Rattle.task_laws.specs.Laws.{how_often}
+use Rattle.task_laws.specs.Holders.{owns_awaiter}
 use Rattle.task_laws.proofs.Census.{Census, census, weigh, plus}
 use Rattle.task_laws.proofs.Awaiting.{Awaiting, await, awaiting}
 use Rattle.task_laws.proofs.Invariant.{Holds}
@@ -84,7 +84,7 @@ has_share (OfClaim n) = omega arith
 share_sum : (a b : Census) → (plus a b).finishing + (plus a b).tasks ≡ (a.finishing + a.tasks) + (b.finishing + b.tasks)
 share_sum a b = omega arith
 
-pub not_emptied : (limit : ℕ) (w : State) (slots : Slots) (t : List Event) (c : Census) → Holds limit w slots t c → 1 ≤ c.finishing + c.tasks → count is_emptying t ≡ 0
+pub not_emptied : (limit : ℕ) (w : State) (slots : Slots) (t : List Event) (c : Census) → Holds limit w slots t c → 1 ≤ c.finishing + c.tasks → how_often Event.Empties t ≡ 0
 not_emptied limit w slots t c h e = grind (arith, nat_tests)
 
 -- a releaser has emptied the awaiter slot
@@ -163,7 +163,7 @@ module _ (F T A : Type 0) (limit : ℕ) where
         placing = takes_awaiter refl refl (same_way m.slots.awaiter way) (inr (refl, refl)) left (λ y w. w);
       }
         where
-          left : count is_emptying m.trace ≡ 0
+          left : how_often Event.Empties m.trace ≡ 0
           left = let here : 1 ≤ (census m.parties).finishing + (census m.parties).tasks = omega (arith, has_share way, counted (λ c. c.finishing + c.tasks) share_sum m.parties f.number (Notifier way) f.stands) in
               not_emptied m.limit m.word m.slots m.trace (census m.parties) f.invariant.holds here
 

@@ -11,7 +11,7 @@ use Rattle.task_laws.specs.declared.positions.Rest.TheVariants.{Lent}
 use Rattle.task_core.specs.declared.acts.Act.TheVariants.{Look}
 use Rattle.task_laws.specs.Table.{Outcome, leaves_slots}
 use Rattle.task_laws.specs.Machine.{Machine, scene}
-use Rattle.task_laws.specs.Theorem.{owns_awaiter}
+use Rattle.task_laws.specs.Holders.{owns_awaiter}
 use Rattle.task_steps.specs.declared.table.Slot.{Slot}
 use Rattle.task_steps.specs.declared.table.View.{View}
 use Rattle.task_steps.specs.Rule.{deed, view, fresh, found_by, opening_at, lender, has_work, HomesAgree, RuleHolds}

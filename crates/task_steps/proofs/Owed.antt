@@ -16,7 +16,7 @@ use Rattle.task_laws.specs.declared.positions.NotifyingCall.TheVariants.{OfRun, 
 use Rattle.task_laws.specs.Table.{Slots, leaves_slots, notifies}
 use Rattle.task_laws.specs.Machine.{scene}
 use Rattle.task_laws.proofs.Census.{Census, census, weigh, plus, closers}
-use Rattle.task_laws.specs.Theorem.{owns_awaiter}
+use Rattle.task_laws.specs.Holders.{owns_awaiter}
 use Rattle.task_laws.proofs.Invariant.{Holds}
 use Rattle.task_core.proofs.Bits.{state_of_number_of, fetch_and-scheduled}
 use Rattle.task_steps.specs.declared.table.Slot.{Slot}

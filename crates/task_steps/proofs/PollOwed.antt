@@ -17,8 +17,8 @@ use Rattle.task_core.specs.declared.acts.Act.{Act}
 use Rattle.task_core.specs.declared.acts.Act.TheVariants.{Look, ClaimOutput, CloneAwaiter, StoreAwaiter, BeginRegister, EndRegister, EndRegisterNotified, EndCall}
 use Rattle.task_laws.specs.Table.{Slots, leaves_slots, changes_slots, when, where_found, notifies, first_look, second_look, after_storing}
 use Rattle.task_laws.specs.Machine.{Machine, scene}
-use Rattle.task_laws.specs.Laws.{count, is_emptying, is_task_poll}
-use Rattle.task_laws.specs.Theorem.{owns_awaiter}
+use Rattle.task_laws.specs.Laws.{how_often, count, is_task_poll}
+use Rattle.task_laws.specs.Holders.{owns_awaiter}
 use Rattle.task_laws.proofs.Census.{Census, census, plus}
 use Rattle.task_laws.proofs.Awaiting.{Awaiting, awaiting, await}
 use Rattle.task_laws.proofs.Handshake.{HandshakeHolds}
@@ -111,7 +111,7 @@ claims_sum : (a b : Census) → (plus a b).claims ≡ a.claims + b.claims
 claims_sum a b = refl
 
 -- while the Task exists no slot was emptied
-not_emptied : (limit : ℕ) (w : State) (slots : Slots) (t : List Event) (c : Census) → Holds limit w slots t c → 1 ≤ c.tasks → count is_emptying t ≡ 0
+not_emptied : (limit : ℕ) (w : State) (slots : Slots) (t : List Event) (c : Census) → Holds limit w slots t c → 1 ≤ c.tasks → how_often Event.Empties t ≡ 0
 not_emptied limit w slots t c h e = grind arith
 
 output_there : (limit : ℕ) (w : State) (slots : Slots) (t : List Event) (c : Census) → Holds limit w slots t c → has_output w ≡ true → slots.output ≡ true
@@ -184,7 +184,7 @@ module _ (F T A : Type 0) (limit : ℕ) where
     placing = stays refl refl (inr (refl, refl)) (inr (refl, refl));
   }
 
-  claims_by : (m : Machine) (p : Position) (acts : List Act) (i : ℕ) (told : List Event) (new : ℕ) (l : List (ℕ × Slot F T A)) → Free p → count is_emptying told ≡ 0 → Fits ClaimOutput m.word new
+  claims_by : (m : Machine) (p : Position) (acts : List Act) (i : ℕ) (told : List Event) (new : ℕ) (l : List (ℕ × Slot F T A)) → Free p → how_often Event.Empties told ≡ 0 → Fits ClaimOutput m.word new
       → leads (scene m) acts p ≡ and_then (when (found 0 ClaimOutput m.word) (leaves_slots (scene m) (written ClaimOutput m.word) (notifies m.word.awaiter (OfClaim i)) [] told)) (λ o. leads (spot m.limit o.word o.slots) [] o.next)
       → m.slots.output ≡ true → Steps m p acts new l
   claims_by m p acts i told new l free told_none fit is there = let f = claim_works m.word.awaiter i in record {

@@ -17,8 +17,8 @@ use Rattle.task_core.specs.declared.acts.Act.TheVariants.{GiveUpReference, GiveU
 use Rattle.task_core.specs.Rows.{written}
 use Rattle.task_laws.specs.Table.{Slots, leaves_slots, changes_slots, notifies, after_giving_up, ended_clone, closing}
 use Rattle.task_laws.specs.Machine.{Machine, scene}
-use Rattle.task_laws.specs.Laws.{count, is_emptying}
-use Rattle.task_laws.specs.Theorem.{owns_awaiter}
+use Rattle.task_laws.specs.Laws.{how_often}
+use Rattle.task_laws.specs.Holders.{owns_awaiter}
 use Rattle.task_laws.proofs.Census.{Census, census}
 use Rattle.task_laws.proofs.Invariant.{Holds}
 use Rattle.task_core.proofs.Bits.{state_of_number_of, fetch_or-closed, fetch_sub-reference, fetch_and-scheduled_running}
@@ -244,11 +244,11 @@ module _ (F T A : Type 0) (limit : ℕ) where
       stored : Slots
       stored = record gone { output = true }
 
-      placed : (b a : Bool) (v : State) (told : List Event) → count is_emptying told ≡ 0 → Placing m Ready (record { word = v; slots = stored; next = if b then OutputInHand a else notifies a OfRun; born = []; told = told }) l
+      placed : (b a : Bool) (v : State) (told : List Event) → how_often Event.Empties told ≡ 0 → Placing m Ready (record { word = v; slots = stored; next = if b then OutputInHand a else notifies a OfRun; born = []; told = told }) l
       placed true a v told none = stays refl refl (inl refl) (inr (refl, none))
       placed false a v told none = gives_work y z refl (due_work a) (due_free a) (inr (refl, none)) (inr has) (λ e. never e) (λ e. is)
 
-      told_closing : (b : Bool) → count is_emptying (((if b then Completes ∷ RunEnded ∷ [] else Closes ∷ Completes ∷ RunEnded ∷ []) ++ []) ++ FutureDropped ∷ []) ≡ 0
+      told_closing : (b : Bool) → how_often Event.Empties (((if b then Completes ∷ RunEnded ∷ [] else Closes ∷ Completes ∷ RunEnded ∷ []) ++ []) ++ FutureDropped ∷ []) ≡ 0
       told_closing true = refl
       told_closing false = refl
 

@@ -7,7 +7,7 @@ use Rattle.atomic_table.specs.Table.{State as Board, Splits}
 use Rattle.atomic_table.proofs.Lists.{at_set, set_here, set_else, set_again, at_longer}
 use Rattle.task_core.specs.Word.{number_of}
 use Rattle.task_laws.specs.Event.{Event, HandedOver}
-use Rattle.task_laws.specs.Laws.{count, is_emptying}
+use Rattle.task_laws.specs.Laws.{how_often}
 use Rattle.task_laws.specs.declared.positions.Position.{Position}
 use Rattle.task_laws.specs.declared.positions.OnceDelivered.{OnceDelivered}
 use Rattle.task_laws.specs.declared.positions.Position.TheVariants.{At, Deliverer, CallEnding}
@@ -17,7 +17,7 @@ use Rattle.task_laws.specs.declared.positions.OnceDelivered.TheVariants.{ThenEnd
 use Rattle.task_laws.specs.declared.positions.Answer.TheVariants.{Nothing}
 use Rattle.task_laws.specs.Table.{Outcome, leaves_slots, after_handing_over}
 use Rattle.task_laws.specs.Machine.{Machine, scene}
-use Rattle.task_laws.specs.Theorem.{owns_awaiter}
+use Rattle.task_laws.specs.Holders.{owns_awaiter}
 use Rattle.task_laws.proofs.Theorem.{laws_of}
 use Rattle.task_steps.specs.declared.table.Slot.{Slot}
 use Rattle.task_steps.specs.declared.table.Deed.{Deed}
@@ -133,7 +133,7 @@ module _ (F T A : Type 0) (limit : ℕ) where
   -- a party hands a Runnable over
   hands_over_at : (id : ℕ) (v : View) (l : ℕ) (ds : List Deed) (p q : Position) (told : List Event) → v ≡ view l (member p ds ∷ [])
       → ((m : Machine) → leads (scene m) (HandOver ∷ []) p ≡ Some (leaves_slots (scene m) m.word q (At Runnable ∷ []) told)) → handed_over p ≡ q
-      → has_work p ≡ false → has_work q ≡ false → owns_awaiter p ≡ false → owns_awaiter q ≡ false → count is_emptying told ≡ 0
+      → has_work p ≡ false → has_work q ≡ false → owns_awaiter p ≡ false → owns_awaiter q ≡ false → how_often Event.Empties told ≡ 0
       → Splits Rule id v (handing_over v) (runnable_of v)
   hands_over_at id v l ds p q told is allows there w0 w1 a0 a1 quiet s r at =
       let run = r.running in let m : Machine = run.machine in let lt = inside s.views id v at in

@@ -16,8 +16,8 @@ use Rattle.task_core.specs.declared.acts.Act.TheVariants.{CancelOver, CancelBusy
 use Rattle.task_core.specs.Rows.{found, written}
 use Rattle.task_laws.specs.Table.{Slots, Outcome, leaves_slots, changes_slots, goes, where_found, notifies, after_cancelling}
 use Rattle.task_laws.specs.Machine.{Machine, scene}
-use Rattle.task_laws.specs.Laws.{count, is_emptying}
-use Rattle.task_laws.specs.Theorem.{owns_awaiter}
+use Rattle.task_laws.specs.Laws.{how_often}
+use Rattle.task_laws.specs.Holders.{owns_awaiter}
 use Rattle.task_laws.proofs.Census.{Census, census, weigh}
 use Rattle.task_laws.proofs.Invariant.{Holds}
 use Rattle.task_core.proofs.Bits.{state_of_number_of, fetch_and-task}
@@ -63,7 +63,7 @@ idle_cancel true n = (refl, refl)
 idle_cancel false n = (refl, refl)
 
 -- while the Task is there, the slots were not emptied
-unemptied : (limit : ℕ) (w : State) (slots : Slots) (t : List Event) (c : Census) → Holds limit w slots t c → 1 ≤ c.tasks → count is_emptying t ≡ 0
+unemptied : (limit : ℕ) (w : State) (slots : Slots) (t : List Event) (c : Census) → Holds limit w slots t c → 1 ≤ c.tasks → how_often Event.Empties t ≡ 0
 unemptied limit w slots t c h e = grind arith
 
 -- of a completed task that is not closed, the output is there

@@ -13,7 +13,7 @@ use Rattle.task_core.specs.declared.acts.Act.TheVariants.{GainReference, FindLim
 use Rattle.task_core.specs.Rows.{written, row}
 use Rattle.task_laws.specs.Table.{Slots, Outcome, when, is_held, may_ask, leaves_slots, may_gain, may_wake}
 use Rattle.task_laws.specs.Machine.{Machine, scene}
-use Rattle.task_laws.specs.Laws.{count, is_emptying}
+use Rattle.task_laws.specs.Laws.{how_often}
 use Rattle.task_laws.proofs.Census.{Census, census}
 use Rattle.task_laws.proofs.Invariant.{Holds}
 use Rattle.task_core.proofs.Bits.{state_of_number_of, fetch_sub-reference}
@@ -55,7 +55,7 @@ is_last n t o h e f = grind (arith, nat_tests)
 holds_one : (limit : ℕ) (w : State) (slots : Slots) (t : List Event) (c : Census) → Holds limit w slots t c → 1 ≤ c.wakers → 1 ≤ w.references
 holds_one limit w slots t c h e = grind arith
 
-not_emptied : (limit : ℕ) (w : State) (slots : Slots) (t : List Event) (c : Census) → Holds limit w slots t c → 1 ≤ c.wakers → count is_emptying t ≡ 0
+not_emptied : (limit : ℕ) (w : State) (slots : Slots) (t : List Event) (c : Census) → Holds limit w slots t c → 1 ≤ c.wakers → how_often Event.Empties t ≡ 0
 not_emptied limit w slots t c h e = grind (arith, nat_tests)
 
 -- a wake that finds the task over

@@ -36,29 +36,39 @@ having_seen t v = view v.limit (trying (head_of v.members).at (head_of v.members
 
 module _ {F T A : Type 0} where
   -- what a load of an attempt tells: where the word ends the attempt, the acts of that end
-  abbrev pub observed : (ℕ → State → Bool) → (State → List Act) → Step (Slot F T A) → Me (Slot F T A) View → ℕ → Me (Slot F T A) View → Type 0
+  abbrev pub observed : (ℕ → State → Bool) → (State → List Act) → Step (Slot F T A) → Me (Slot F T A) View → ℕ → Me (Slot F T A) View
+      → Type 0
   observed ends told st m r m' = (ends m.0.limit (state_of r) ≡ true → Makes (told (state_of r)) (state_of r) m m')
-      × (ends m.0.limit (state_of r) ≡ false → m' ≡ (having_seen (looked (state_of r) (head_of m.0.members).tries) m.0, m.1)) × Knows (head_of m.0.members).deeds (state_of r)
+      × (ends m.0.limit (state_of r) ≡ false → m' ≡ (having_seen (looked (state_of r) (head_of m.0.members).tries) m.0, m.1))
+      × Knows (head_of m.0.members).deeds (state_of r)
 
   -- .. and its exchange: where it finds the word that it names, the acts of the change
   abbrev pub attempted : (State → List Act) → Step (Slot F T A) → Me (Slot F T A) View → ℕ → Me (Slot F T A) View → Type 0
   attempted acts st m r m' = (r ≡ st.first → Makes (acts (state_of r)) (state_of r) m m')
-      × (r ≢ st.first → m' ≡ (having_seen (missed (state_of r) (head_of m.0.members).tries) m.0, m.1)) × Knows (head_of m.0.members).deeds (state_of r)
+      × (r ≢ st.first → m' ≡ (having_seen (missed (state_of r) (head_of m.0.members).tries) m.0, m.1))
+      × Knows (head_of m.0.members).deeds (state_of r)
 
   -- the rule allows each load and each exchange of an attempt, whatever the party has seen
-  pub record MayTry (limit slots id : ℕ) (me : Me (Slot F T A) View) (writes : ℕ → State → Option State) (ends : ℕ → State → Bool) (acts told : State → List Act) : Type 0 where
-    pub loads : (t : Option Tries) → Allows (RuleHolds {F = F} {T = T} {A = A} limit) slots id (having_seen t me.0, me.1) 0 (λ n. n) (observed ends told (step slots 0 0 0 none) (having_seen t me.0, me.1))
+  pub record MayTry (limit slots id : ℕ) (me : Me (Slot F T A) View) (writes : ℕ → State → Option State) (ends : ℕ → State → Bool)
+      (acts told : State → List Act) : Type 0 where
+    pub loads : (t : Option Tries)
+        → Allows (RuleHolds {F = F} {T = T} {A = A} limit) slots id (having_seen t me.0, me.1) 0 (λ n. n)
+        (observed ends told (step slots 0 0 0 none) (having_seen t me.0, me.1))
     pub exchanges : (t : Option Tries) (w v : State) → writes limit w ≡ Some v → Names w t
-        → Allows (RuleHolds {F = F} {T = T} {A = A} limit) slots id (having_seen t me.0, me.1) 0 (λ n. either (n == number_of w) (number_of v) n) (attempted acts (step slots 0 (number_of w) (number_of v) none) (having_seen t me.0, me.1))
+        → Allows (RuleHolds {F = F} {T = T} {A = A} limit) slots id (having_seen t me.0, me.1) 0
+        (λ n. either (n == number_of w) (number_of v) n)
+        (attempted acts (step slots 0 (number_of w) (number_of v) none) (having_seen t me.0, me.1))
 
   -- an attempt has made its change on this word
-  pub record HasChanged (limit : ℕ) (writes : ℕ → State → Option State) (acts : State → List Act) (w : State) (me me' : Me (Slot F T A) View) : Type 0 where
+  pub record HasChanged (limit : ℕ) (writes : ℕ → State → Option State) (acts : State → List Act) (w : State)
+      (me me' : Me (Slot F T A) View) : Type 0 where
     pub written : is_some (writes limit w) ≡ true
     pub made : Makes (acts w) w me me'
     pub knows : Knows (head_of me.0.members).deeds w
 
   -- .. or this word has ended it
-  pub record HasEnded (limit : ℕ) (ends : ℕ → State → Bool) (told : State → List Act) (w : State) (me me' : Me (Slot F T A) View) : Type 0 where
+  pub record HasEnded (limit : ℕ) (ends : ℕ → State → Bool) (told : State → List Act) (w : State)
+      (me me' : Me (Slot F T A) View) : Type 0 where
     pub at_end : ends limit w ≡ true
     pub made : Makes (told w) w me me'
     pub knows : Knows (head_of me.0.members).deeds w

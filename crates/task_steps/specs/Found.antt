@@ -17,7 +17,8 @@ closed_by w = if w.scheduled || w.running then Busy w.awaiter else Idle w.awaite
 
 -- .. and a detach
 abbrev pub given_up_by : State → Detached
-given_up_by w = if w.completed && not w.closed then Unclaimed else (if nat_lt 0 w.references then Shared else (if w.closed then Last else Orphaned))
+given_up_by w =
+    if w.completed && not w.closed then Unclaimed else (if nat_lt 0 w.references then Shared else (if w.closed then Last else Orphaned))
 
 -- what a drop found that took its reference off this word
 abbrev pub dropped_by : State → Dropped

@@ -1,5 +1,6 @@
 -- The rule of the table: an interleaving of the machine ends in the present word, and each party of a seat did in it what the seat knows.
-use Rattle.std.specs.Prelude.{◌⊎◌, ◌≡◌, ◌≢◌, ℕ, ◌+◌, ◌<◌, ◌≤◌, Bool, true, false, not, cond, eqb, List, [], ◌∷◌, ◌++◌, length, slice_index, Option, Some, None}
+use Rattle.std.specs.Prelude.{◌⊎◌, ◌≡◌, ◌≢◌, ℕ, ◌+◌, ◌<◌, ◌≤◌, Bool, true, false, not, cond, eqb, List, [], ◌∷◌, ◌++◌, length, slice_index}
+use Rattle.std.specs.Prelude.{Option, Some, None}
 use mathlib.Core.Option.{some}
 use mathlib.Core.Option as maybe
 use lib.ListN.{get_elem?}
@@ -9,12 +10,17 @@ use Rattle.task_core.specs.Rows.{written}
 use Rattle.task_laws.specs.declared.positions.Rest.TheVariants.{Runnable, Task, Lent}
 use Rattle.task_laws.specs.declared.positions.Position.{Position}
 use Rattle.task_laws.specs.declared.positions.NotifyingCall.TheVariants.{OfClaim}
-use Rattle.task_laws.specs.declared.positions.Position.TheVariants.{At, Starting, Polling, Pending, Ready, ReadyFutureDropped, OutputStored, PendingFutureDropped, FutureInHand, FutureGone, OutputInHand, Notifier, Taker, Releaser, AwaiterInHand, TookOutput, OutputCloser}
+use Rattle.task_laws.specs.declared.positions.Position.TheVariants.{At, Starting, Polling, Pending, Ready, ReadyFutureDropped, OutputStored}
+use Rattle.task_laws.specs.declared.positions.Position.TheVariants.{PendingFutureDropped, FutureInHand, FutureGone, OutputInHand, Notifier}
+use Rattle.task_laws.specs.declared.positions.Position.TheVariants.{Taker, Releaser, AwaiterInHand, TookOutput, OutputCloser}
 use Rattle.task_core.specs.declared.acts.Act.{Act}
-use Rattle.task_core.specs.declared.acts.Act.TheVariants.{StartPoll, AnswerPending, AnswerReady, DropFuture, StoreOutput, DropOutput, HandOutOutput, CloneAwaiter, RefuseClone, StoreAwaiter, TakeAwaiter, WakeAwaiter, DropAwaiter, HandOver, EmptySlots, RefuseGain, EndCall}
+use Rattle.task_core.specs.declared.acts.Act.TheVariants.{StartPoll, AnswerPending, AnswerReady, DropFuture, StoreOutput, DropOutput}
+use Rattle.task_core.specs.declared.acts.Act.TheVariants.{HandOutOutput, CloneAwaiter, RefuseClone, StoreAwaiter, TakeAwaiter, WakeAwaiter}
+use Rattle.task_core.specs.declared.acts.Act.TheVariants.{DropAwaiter, HandOver, EmptySlots, RefuseGain, EndCall}
 use Rattle.task_laws.specs.Machine.{Machine, Step, opening, step, how_many}
-use Rattle.task_laws.specs.Laws.{count, is_emptying}
-use Rattle.task_laws.specs.Theorem.{owns_awaiter}
+use Rattle.task_laws.specs.Event.{Event}
+use Rattle.task_laws.specs.Laws.{how_often}
+use Rattle.task_laws.specs.Holders.{owns_awaiter}
 use Rattle.task_steps.specs.declared.table.Slot.{Slot}
 use Rattle.task_steps.specs.declared.table.Slot.TheVariants.{Empty, Future, Output, Awaiter}
 use Rattle.task_steps.specs.declared.table.Stage.{Stage}
@@ -92,7 +98,9 @@ pub record Entry : Type 0 where
 -- an interleaving of the machine, the newest step first, that ends in m
 abbrev pub Reaches : ℕ → List Entry → Machine → Type 0
 Reaches limit [] m = m ≡ opening limit
-Reaches limit (e ∷ earlier) m = (n : Machine) × Reaches limit earlier n × (e.deed.found ≡ found_by e.deed.act n.word) × (step n (record { party = e.party; act = e.deed.act }) ≡ Some m)
+Reaches limit (e ∷ earlier) m =
+    (n : Machine) × Reaches limit earlier n × (e.deed.found ≡ found_by e.deed.act n.word)
+    × (step n (record { party = e.party; act = e.deed.act }) ≡ Some m)
 
 -- .. and its steps, the oldest first
 abbrev pub steps_of : List Entry → List Step
@@ -144,8 +152,10 @@ pub record Explains (limit : ℕ) (views : List View) (log : List Entry) (m : Ma
   pub holder : ℕ → ℕ × ℕ
   pub reaches : Reaches limit log m
   pub lends : get_elem? m.parties lender ≡ some (At Lent)
-  pub limited : (seat index : ℕ) (v : View) (u : Member) → get_elem? views seat ≡ some v → get_elem? v.members index ≡ some u → v.limit ≡ limit
-  pub each : (seat index : ℕ) (v : View) (u : Member) → get_elem? views seat ≡ some v → get_elem? v.members index ≡ some u → (k : ℕ) × IsParty m log holder seat index u k
+  pub limited : (seat index : ℕ) (v : View) (u : Member) → get_elem? views seat ≡ some v → get_elem? v.members index ≡ some u
+      → v.limit ≡ limit
+  pub each : (seat index : ℕ) (v : View) (u : Member) → get_elem? views seat ≡ some v → get_elem? v.members index ≡ some u
+      → (k : ℕ) × IsParty m log holder seat index u k
 
 -- the party has the places of future and output
 abbrev pub has_work : Position → Bool
@@ -201,11 +211,12 @@ module _ {F T A : Type 0} where
   abbrev pub AtHome : List (maybe.Option (Slot F T A)) → ℕ → (Slot F T A → Type 0) → Type 0
   AtHome homes k Is = (y : Slot F T A) × (get_elem? homes k ≡ some (some y)) × Is y
 
-  -- a place that no party has is at home, with what the machine says: 0 is the future's, once it was put in, 1 the output's, 2 the awaiter's
+  -- a place that no party has is at home, with what the machine says: 0 is the future's, once it was put in, 1 the output's, 2 the
+  -- awaiter's
   pub record HomesAgree (filled : Bool) (m : Machine) (homes : List (maybe.Option (Slot F T A))) : Type 0 where
     pub future : filled ≡ true → how_many has_work m.parties ≡ 0 → AtHome homes 0 (λ y. m.slots.future ≡ true → IsFuture y)
     pub output : how_many has_work m.parties ≡ 0 → AtHome homes 1 (λ z. m.slots.output ≡ true → IsOutput z)
-    pub awaiter : how_many owns_awaiter m.parties ≡ 0 → count is_emptying m.trace ≡ 0 → AtHome homes 2 (Waits m.slots.awaiter)
+    pub awaiter : how_many owns_awaiter m.parties ≡ 0 → how_often Event.Empties m.trace ≡ 0 → AtHome homes 2 (Waits m.slots.awaiter)
 
   -- until the future was put in, its place is empty, or with the opening seat
   pub record Unfilled (limit : ℕ) (s : Board (Slot F T A) View) : Type 0 where

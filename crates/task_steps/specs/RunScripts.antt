@@ -4,7 +4,9 @@ use Rattle.std.specs.Option.{option_or}
 use Rattle.task_core.specs.Word.{State}
 use Rattle.task_core.specs.Rows.{written, row}
 use Rattle.task_core.specs.declared.acts.Act.{Act}
-use Rattle.task_core.specs.declared.acts.Act.TheVariants.{Unschedule, DropFuture, GiveUpReference, GiveUpLastReference, EmptySlots, DiscardOpen, DiscardClosed, AnswerReady, StoreOutput, Complete, CompleteDetached, AnswerPending, Reschedule, EndIdle, EndOrphaned, EndCall, EndClosed}
+use Rattle.task_core.specs.declared.acts.Act.TheVariants.{Unschedule, DropFuture, GiveUpReference, GiveUpLastReference, EmptySlots}
+use Rattle.task_core.specs.declared.acts.Act.TheVariants.{DiscardOpen, DiscardClosed, AnswerReady, StoreOutput, Complete, CompleteDetached}
+use Rattle.task_core.specs.declared.acts.Act.TheVariants.{AnswerPending, Reschedule, EndIdle, EndOrphaned, EndCall, EndClosed}
 
 -- SCHEDULED is cleared, after the future was dropped
 abbrev pub unscheduling : State → List Act
@@ -36,7 +38,8 @@ answering_pending w = if w.closed then AnswerPending ∷ DropFuture ∷ [] else 
 
 -- the run of an open task ends
 abbrev pub ending_pending : State → List Act
-ending_pending w = if w.scheduled then Reschedule ∷ [] else (if nat_lt 1 w.references || w.task then EndIdle ∷ EndCall ∷ [] else EndOrphaned ∷ [])
+ending_pending w =
+    if w.scheduled then Reschedule ∷ [] else (if nat_lt 1 w.references || w.task then EndIdle ∷ EndCall ∷ [] else EndOrphaned ∷ [])
 
 -- .. and that of a closed one goes on: its future is dropped next
 abbrev pub finding_closed : State → List Act

@@ -2,7 +2,8 @@
 use Rattle.std.specs.Prelude.{◌||◌, if◌then◌else◌, List, [], ◌∷◌}
 use Rattle.task_core.specs.Word.{State}
 use Rattle.task_core.specs.declared.acts.Act.{Act}
-use Rattle.task_core.specs.declared.acts.Act.TheVariants.{EndCall, BeginNotify, MissNotify, TakeAwaiter, EndNotify, WakeAwaiter, DropAwaiter, DropOutput}
+use Rattle.task_core.specs.declared.acts.Act.TheVariants.{EndCall, BeginNotify, MissNotify, TakeAwaiter, EndNotify, WakeAwaiter}
+use Rattle.task_core.specs.declared.acts.Act.TheVariants.{DropAwaiter, DropOutput}
 
 -- the call ends
 abbrev pub ending : State → List Act

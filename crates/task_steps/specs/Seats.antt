@@ -14,7 +14,8 @@ use Rattle.task_steps.specs.Standing.{handed_over}
 
 -- the first party has handed its Runnable over
 abbrev pub handing_over : View → View
-handing_over v = view v.limit (member (handed_over (head_of v.members).at) (deed HandOver None ∷ (head_of v.members).deeds) ∷ tail_of v.members)
+handing_over v =
+    view v.limit (member (handed_over (head_of v.members).at) (deed HandOver None ∷ (head_of v.members).deeds) ∷ tail_of v.members)
 
 -- .. which stands on a seat of its own
 abbrev pub runnable_of : View → View

@@ -1,7 +1,9 @@
 -- Where a party stands: between two calls, as a handle, and within one.
 use Rattle.std.specs.Prelude.{ℕ, ◌+◌, Bool, true, false}
 use Rattle.task_laws.specs.declared.positions.Position.{Position}
-use Rattle.task_laws.specs.declared.positions.Position.TheVariants.{At, Deliverer, CallEnding, Answering, FutureInHand, Notifier, AwaiterInHand, Looking, SawOutput, TookOutput, Registrar, UnusedClone, Registered, OldAwaiterInHand, TookBack, CloneInHand}
+use Rattle.task_laws.specs.declared.positions.Position.TheVariants.{At, Deliverer, CallEnding, Answering, FutureInHand, Notifier}
+use Rattle.task_laws.specs.declared.positions.Position.TheVariants.{AwaiterInHand, Looking, SawOutput, TookOutput, Registrar, UnusedClone}
+use Rattle.task_laws.specs.declared.positions.Position.TheVariants.{Registered, OldAwaiterInHand, TookBack, CloneInHand}
 use Rattle.task_laws.specs.declared.positions.Rest.TheVariants.{Task, Runnable, Waker, Lent, Ended}
 use Rattle.task_laws.specs.Table.{after_handing_over}
 use Rattle.task_laws.specs.declared.positions.Answer.TheVariants.{Nothing}

@@ -3,13 +3,14 @@ use Rattle.std.specs.Prelude.{◌≡◌, ℕ, Bool, true, false, not, ◌&&◌, 
 use Rattle.atomic_table.specs.Table.{Me, Step, rest}
 use Rattle.task_core.specs.Word.{State, state_of, is_open}
 use Rattle.task_laws.specs.declared.positions.Position.{Position}
-use Rattle.task_laws.specs.declared.positions.Position.TheVariants.{At, OrphanHolder, Releaser, OldAwaiterInHand, Registered, OutputCloser, TookOutput, Notifier}
+use Rattle.task_laws.specs.declared.positions.Position.TheVariants.{At, OrphanHolder, Releaser, OldAwaiterInHand, Registered, OutputCloser}
+use Rattle.task_laws.specs.declared.positions.Position.TheVariants.{TookOutput, Notifier}
 use Rattle.task_laws.specs.declared.positions.Rest.TheVariants.{Lent}
 use Rattle.task_laws.specs.declared.positions.NotifyingCall.TheVariants.{OfClaim}
 use Rattle.task_core.specs.declared.acts.Act.{Act}
 use Rattle.task_core.specs.Rows.{found, written}
 use Rattle.task_laws.specs.Table.{Slots, Scene, Outcome, leaves_slots, goes}
-use Rattle.task_laws.specs.Theorem.{owns_awaiter}
+use Rattle.task_laws.specs.Holders.{owns_awaiter}
 use Rattle.task_steps.specs.declared.table.Slot.{Slot}
 use Rattle.task_steps.specs.declared.table.Deed.{Deed}
 use Rattle.task_steps.specs.declared.table.Member.{Member}
@@ -50,7 +51,8 @@ held_word p w = record w { task = is_lent p || w.task }
 -- what acts in a row leave, each by what the one before it left
 abbrev pub leaves_by : ℕ → State → Slots → List Act → Position → Option Outcome
 leaves_by limit w slots [] p = Some (leaves_slots (spot limit w slots) w p [] [])
-leaves_by limit w slots (a ∷ more) p = and_then (goes (spot limit (held_word p w) slots) (written a w) a p) (λ o. leaves_by limit o.word o.slots more o.next)
+leaves_by limit w slots (a ∷ more) p =
+    and_then (goes (spot limit (held_word p w) slots) (written a w) a p) (λ o. leaves_by limit o.word o.slots more o.next)
 
 abbrev pub next_of : Option Outcome → Position
 next_of None = OrphanHolder

@@ -2,7 +2,8 @@
 use Rattle.std.specs.Prelude.{ℕ, Option, Some, None, ◌+◌, not, ◌&&◌, ◌||◌, nat_lt, true, false, if◌then◌else◌, List, [], ◌∷◌}
 use Rattle.task_core.specs.Word.{State, is_open, orphan_word}
 use Rattle.task_core.specs.declared.acts.Act.{Act}
-use Rattle.task_core.specs.declared.acts.Act.TheVariants.{LookFinished, CancelOver, CancelBusy, CancelIdle, GiveUpOutput, DetachOrphan, DetachLast, Detach, EndCall}
+use Rattle.task_core.specs.declared.acts.Act.TheVariants.{LookFinished, CancelOver, CancelBusy, CancelIdle, GiveUpOutput, DetachOrphan}
+use Rattle.task_core.specs.declared.acts.Act.TheVariants.{DetachLast, Detach, EndCall}
 
 -- the load of `is_finished`
 abbrev pub looking_finished : State → List Act
@@ -18,7 +19,9 @@ cancelling w = if w.scheduled || w.running then CancelBusy ∷ [] else CancelIdl
 
 -- .. and writes this word
 abbrev pub cancelled : State → State
-cancelled w = if w.scheduled || w.running then record w { closed = true } else record w { scheduled = true; closed = true; references = w.references + 1 }
+cancelled w =
+    if w.scheduled || w.running then record w { closed = true }
+    else record w { scheduled = true; closed = true; references = w.references + 1 }
 
 abbrev pub cancelled_word : ℕ → State → Option State
 cancelled_word limit w = if is_open w then Some (cancelled w) else None

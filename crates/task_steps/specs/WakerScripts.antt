@@ -4,7 +4,8 @@ use Rattle.task_core.specs.Word.{State, is_open}
 use Rattle.task_core.specs.Rows.{written, row}
 use Rattle.task_laws.specs.Table.{is_held}
 use Rattle.task_core.specs.declared.acts.Act.{Act}
-use Rattle.task_core.specs.declared.acts.Act.TheVariants.{GainReference, FindLimit, RefuseGain, DropWaker, DropLastWaker, OrphanTask, CloseOrphan, WakeOver, WakeScheduled, WakeRunning, WakeIdle, EndCall}
+use Rattle.task_core.specs.declared.acts.Act.TheVariants.{GainReference, FindLimit, RefuseGain, DropWaker, DropLastWaker, OrphanTask}
+use Rattle.task_core.specs.declared.acts.Act.TheVariants.{CloseOrphan, WakeOver, WakeScheduled, WakeRunning, WakeIdle, EndCall}
 
 -- a reference is gained for a new waker
 abbrev pub gaining : State → List Act
@@ -34,7 +35,8 @@ finding_over w = WakeOver ∷ EndCall ∷ []
 
 -- a wake of an open task
 abbrev pub waking_task : State → List Act
-waking_task w = if w.scheduled then WakeScheduled ∷ EndCall ∷ [] else (if w.running then WakeRunning ∷ EndCall ∷ [] else WakeIdle ∷ EndCall ∷ [])
+waking_task w =
+    if w.scheduled then WakeScheduled ∷ EndCall ∷ [] else (if w.running then WakeRunning ∷ EndCall ∷ [] else WakeIdle ∷ EndCall ∷ [])
 
 -- .. and the word that it writes
 abbrev pub woken_word : State → State

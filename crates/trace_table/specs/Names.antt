@@ -1,7 +1,16 @@
 -- How each act is written.
 use Rattle.std.specs.Prelude.{ℕ, List, codes}
 use Rattle.task_core.specs.declared.acts.Act.{Act}
-use Rattle.task_core.specs.declared.acts.Act.TheVariants.{GainReference, FindLimit, DropWaker, DropLastWaker, OrphanTask, CloseOrphan, GiveUpReference, GiveUpLastReference, WakeOver, WakeScheduled, WakeRunning, WakeIdle, DiscardOpen, DiscardClosed, CancelOver, CancelBusy, CancelIdle, ClaimOutput, GiveUpOutput, DetachOrphan, DetachLast, Detach, TakeUpClosed, StartRun, Unschedule, Complete, CompleteDetached, EndClosed, Reschedule, EndIdle, EndOrphaned, BeginNotify, MissNotify, FindNotify, BeginRegister, EndNotify, EndRegister, EndRegisterNotified, Look, LookFinished, StartPoll, AnswerPending, AnswerReady, DropFuture, StoreOutput, DropOutput, HandOutOutput, CloneAwaiter, RefuseClone, StoreAwaiter, TakeAwaiter, WakeAwaiter, DropAwaiter, HandOver, EmptySlots, RefuseGain, EndCall}
+use Rattle.task_core.specs.declared.acts.Act.TheVariants.{GainReference, FindLimit, DropWaker, DropLastWaker, OrphanTask, CloseOrphan}
+use Rattle.task_core.specs.declared.acts.Act.TheVariants.{GiveUpReference, GiveUpLastReference, WakeOver, WakeScheduled, WakeRunning}
+use Rattle.task_core.specs.declared.acts.Act.TheVariants.{WakeIdle, DiscardOpen, DiscardClosed, CancelOver, CancelBusy, CancelIdle}
+use Rattle.task_core.specs.declared.acts.Act.TheVariants.{ClaimOutput, GiveUpOutput, DetachOrphan, DetachLast, Detach, TakeUpClosed}
+use Rattle.task_core.specs.declared.acts.Act.TheVariants.{StartRun, Unschedule, Complete, CompleteDetached, EndClosed, Reschedule, EndIdle}
+use Rattle.task_core.specs.declared.acts.Act.TheVariants.{EndOrphaned, BeginNotify, MissNotify, FindNotify, BeginRegister, EndNotify}
+use Rattle.task_core.specs.declared.acts.Act.TheVariants.{EndRegister, EndRegisterNotified, Look, LookFinished, StartPoll, AnswerPending}
+use Rattle.task_core.specs.declared.acts.Act.TheVariants.{AnswerReady, DropFuture, StoreOutput, DropOutput, HandOutOutput, CloneAwaiter}
+use Rattle.task_core.specs.declared.acts.Act.TheVariants.{RefuseClone, StoreAwaiter, TakeAwaiter, WakeAwaiter, DropAwaiter, HandOver}
+use Rattle.task_core.specs.declared.acts.Act.TheVariants.{EmptySlots, RefuseGain, EndCall}
 
 -- the name of a variant in lower case, its words joined by hyphens
 abbrev pub name_of : Act → List ℕ

@@ -1,6 +1,6 @@
 //! Who holds the slots of a task.
 ghost use Rattle.std.specs.Prelude.{◌≡◌};
-ghost use Rattle.task_laws.specs.Theorem as theorem;
+ghost use Rattle.task_laws.specs.Holders as owners;
 
 use std::alloc::Allocator;
 use std::fmt;
@@ -73,7 +73,7 @@ fn owns(slot: Slot, position: Position) -> bool {
 
 // Whether a party there may touch the future.
 fn has_future(position: Position) -> bool
-    ensures { result ≡ theorem.owns_future position }
+    ensures { result ≡ owners.owns_future position }
 {
     match position {
         Position::Starting | Position::Polling | Position::Pending | Position::Ready => true,
@@ -84,7 +84,7 @@ fn has_future(position: Position) -> bool
 
 // .. the output.
 fn has_output(position: Position) -> bool
-    ensures { result ≡ theorem.owns_output position }
+    ensures { result ≡ owners.owns_output position }
 {
     match position {
         Position::ReadyFutureDropped | Position::OutputStored | Position::OutputInHand(_) => true,
@@ -99,7 +99,7 @@ fn has_output(position: Position) -> bool
 
 // .. the clone of an awaiter.
 fn has_awaiter(position: Position) -> bool
-    ensures { result ≡ theorem.owns_awaiter position }
+    ensures { result ≡ owners.owns_awaiter position }
 {
     match position {
         Position::Taker(_) | Position::Releaser(_, _) | Position::Storing(_) => true,

@@ -1,4 +1,5 @@
--- The rule of a board of n workers. Word i up to n is that of queue i: 0 empty, 1 locked, 2 it shows items. Word n + 1 + j is that of worker j: 0 awake.
+-- The rule of a board of n workers. Word i up to n is that of queue i: 0 empty, 1 locked, 2 it shows items. Word n + 1 + j is that of
+-- worker j: 0 awake.
 -- The view of a seat is how many queues it owes a look: those below that number.
 use Rattle.std.specs.Prelude.{◌≡◌, ◌≢◌, ℕ, ◌+◌, ◌-◌, ◌<◌, ◌≤◌, ◌⊎◌, List, [], ◌∷◌, length, slice_index}
 use mathlib.Core.Option.{Option, some}
@@ -34,7 +35,8 @@ module _ {S : Type 0} where
   Changes P i before after = (held : S) × (left : S) × (before.1 ≡ (i, held) ∷ []) × (after ≡ (before.0, (i, left) ∷ [])) × P held left
 
   abbrev pub Locks : Step S → Me S ℕ → ℕ → Me S ℕ → Type 0
-  Locks step before found after = (found ≡ step.first → (queue : S) × (after ≡ (before.0, (step.word, queue) ∷ before.1))) × (found ≢ step.first → after ≡ before)
+  Locks step before found after =
+      (found ≡ step.first → (queue : S) × (after ≡ (before.0, (step.word, queue) ∷ before.1))) × (found ≢ step.first → after ≡ before)
 
   -- a queue that shows items is owed a look by the seat
   abbrev pub Unlocks : Step S → Me S ℕ → ℕ → Me S ℕ → Type 0
