@@ -303,11 +303,13 @@ where
                 runnable.schedule();
                 Ok(number)
             }
-            Err(SpawnError {
-                builder: _,
-                maker: future,
-                schedule,
-            }) => Err(GroupSpawnError {
+            Err(
+                SpawnError {
+                    builder: _,
+                    maker: future,
+                    schedule,
+                },
+            ) => Err(GroupSpawnError {
                 is_full,
                 future,
                 schedule,
