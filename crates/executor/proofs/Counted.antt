@@ -1,5 +1,5 @@
 -- Lists that grow at the end by what has the next number, and lists that shrink at the front.
-use Rattle.std.proofs.Common.{◌≡◌, ℕ, zero, suc, ◌+◌, List, [], ◌∷◌, ◌++◌, length, drop, sym, refl, ap, ◌∙◌, subst}
+use Rattle.std.proofs.Common.{arith, ◌≡◌, ℕ, zero, suc, ◌+◌, List, [], ◌∷◌, ◌++◌, length, drop, sym, refl, ap, ◌∙◌, subst}
 use mathlib.Core.Option.{some, some-injective, some-ne-none}
 use lib.ListN.{get_elem?}
 
@@ -21,7 +21,7 @@ drop-nothing (suc n) = refl
 pub drop-one : {A : Type 0} (n : ℕ) (l : List A) → drop 1 (drop n l) ≡ drop (n + 1) l
 drop-one n [] = ap (drop 1) (drop-nothing n) ∙ sym (drop-nothing (n + 1))
 drop-one zero (x ∷ l) = refl
-drop-one (suc n) (x ∷ l) = drop-one n l
+drop-one (suc n) (x ∷ l) = let e : suc (n + 1) ≡ suc n + 1 = omega arith in drop-one n l ∙ ap (λ k. drop k (x ∷ l)) e
 
 -- as many dropped as there are
 pub drop-all : {A : Type 0} (l : List A) → drop (length l) l ≡ []
