@@ -149,17 +149,12 @@ impl<'x, R: Wait + Drop + Copy> Future<Waker<R, &'x Executor<R>>> for Delay {
         if self.until <= state.time {
             return Poll::Ready(self.answer);
         }
-        let clone = if state.stopped {
-            None
-        } else {
-            waker.try_clone()
-        };
-        let kept = match clone {
-            Some(clone) => Some(state.kept.push(clone.with_around(()))),
-            None => None,
+        let kept = match waker.try_clone() {
+            Some(clone) if !state.stopped => state.kept.push(clone.with_around(())).is_ok(),
+            _ => false,
         };
         drop(state);
-        if !matches!(kept, Some(Ok(()))) {
+        if !kept {
             waker.wake_by_ref();
         }
         Poll::Pending
