@@ -16,8 +16,10 @@ import sys
 DOCUMENTS = pathlib.Path(__file__).resolve().parent
 CRATES = DOCUMENTS.parent / "crates"
 FILES = (
-    "task_core/specs/Word", "task_core/specs/Rows", "task_laws/specs/Position", "task_laws/specs/Table",
-    "task_laws/specs/Machine", "task_laws/specs/Holders", "task_progress/specs/Waiting",
+    "task_core/specs/Word", "task_core/specs/Rows", "task_laws/specs/Position", "task_laws/specs/Scene", "task_laws/specs/Onward",
+    "task_laws/specs/HandleMoves", "task_laws/specs/ClosingMoves", "task_laws/specs/RunMoves", "task_laws/specs/AwaiterMoves",
+    "task_laws/specs/CallMoves", "task_laws/specs/Table", "task_laws/specs/Machine", "task_laws/specs/Holders",
+    "task_progress/specs/Waiting",
 )
 TOKEN = re.compile(r"0x[0-9a-fA-F_]+|\d+|\w+|\[\]|&&|\|\||\+\+|\S")
 PRECEDENCE = {"||": 1, "&&": 2, "∷": 3, "++": 3, "+": 4, "-": 4, "*": 5, "/": 5, "%": 5, "^": 6}

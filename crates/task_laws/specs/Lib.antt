@@ -1,6 +1,13 @@
 pub mod Event
 pub mod Laws
 pub mod Position
+pub mod Scene
+pub mod Onward
+pub mod HandleMoves
+pub mod ClosingMoves
+pub mod RunMoves
+pub mod AwaiterMoves
+pub mod CallMoves
 pub mod Table
 pub mod Machine
 pub mod Holders
