@@ -106,7 +106,8 @@ fn each_line_counts_all_its_tasks(rt: HostRuntime) -> Result<(), Fail> {
                 on_pool(line, size),
                 on_futures::measure(rt, alloc, line, size),
             ] {
-                complete += u64::from(measured.map_or(0, |it| it.ended) == tasks);
+                let ended = measured.map_or(0, |it| it.ended);
+                complete = complete.wrapping_add(u64::from(ended == tasks));
             }
         }
     }
