@@ -1,5 +1,5 @@
 //! Tests of awaiters and groups that need tasks which run: a chain and a ring of tasks that await one another, `block_on`, and groups.
-//! It stands on `awaiters`, `task_group` and `async_task`, on the counting allocator of `benchmarks` and the kit's heap, and on an executor of one queue of its own (`line`).
+//! It stands on `awaiters`, `task_group` and `async_task`, and on an executor of one queue of its own (`line`).
 //! A user calls nothing of it; nothing is public.
 //! The page is docs/EXECUTORS.md.
 #![tactic(auto)]
@@ -16,5 +16,3 @@ mod line;
 mod mailbox_tests;
 #[cfg(test)]
 mod nobody_tests;
-#[cfg(test)]
-mod spawn_tests;
