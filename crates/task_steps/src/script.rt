@@ -1,5 +1,6 @@
 //! The steps of the calls by name: which acts each makes, by the word that it finds.
 ghost use Rattle.task_steps.specs.Steps.{made};
+ghost use Rattle.task_steps.specs.Knows.{known};
 ghost use Rattle.std.specs.Prelude.{List};
 ghost use Rattle.task_core.specs.Word.{State};
 ghost use Rattle.task_core.specs.declared.acts.Act.{Act};
@@ -19,4 +20,13 @@ pub struct Always<P: Script> {
 
 impl<F, T, A, P: Script> Play<Slot<F, T, A>, View> for Always<P> {
     ghost then = { made P.acts };
+}
+
+/// A step that always makes its acts, and tells what its party knows of the word by what it has seen before.
+pub struct Knowing<P: Script> {
+    script: P,
+}
+
+impl<F, T, A, P: Script> Play<Slot<F, T, A>, View> for Knowing<P> {
+    ghost then = { known P.acts };
 }

@@ -1,24 +1,12 @@
 //! Steps of a Task beside its polls.
 ghost use Rattle.std.specs.Prelude.{Some, false, []};
 ghost use Rattle.task_steps.specs.WakerScripts.{is_over};
-ghost use Rattle.task_steps.specs.Knows.{known};
 ghost use Rattle.task_steps.specs.TaskScripts.{looking_finished, finding_cancelled, cancelling, cancelled_word, detaching, detached, giving_task_up};
 
 use crate::attempt::Change;
 use crate::script::Script;
-use crate::table::{Slot, View};
 use crate::words::{closing, giving_up};
-use atomic_table::Play;
 use task_core::word::Word;
-
-/// A step that always makes its acts, and tells what its party knows of the word by what it has seen before.
-pub struct Knowing<P: Script> {
-    script: P,
-}
-
-impl<F, T, A, P: Script> Play<Slot<F, T, A>, View> for Knowing<P> {
-    ghost then = { known P.acts };
-}
 
 /// The load of `is_finished`.
 pub struct LookingFinished;

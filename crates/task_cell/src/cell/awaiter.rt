@@ -1,24 +1,22 @@
 //! The stored awaiter: taken out by whoever ends or closes the task.
 ghost use Rattle.std.specs.Prelude.{◌≡◌, ℕ, ◌∷◌, [], List, true};
 ghost use Rattle.task_laws.specs.declared.positions.NotifyingCall.{NotifyingCall};
-ghost use Rattle.task_laws.specs.declared.positions.Rest.{Rest};
-ghost use Rattle.task_laws.specs.declared.positions.Position.TheVariants.{Notifier, AwaiterInHand, CallEnding};
-ghost use Rattle.task_core.specs.declared.acts.Act.TheVariants.{WakeAwaiter, DropAwaiter, EndCall};
-ghost use Rattle.task_laws.specs.declared.positions.Answer.{Answer};
+ghost use Rattle.task_laws.specs.declared.positions.Position.TheVariants.{Notifier, AwaiterInHand};
+ghost use Rattle.task_core.specs.declared.acts.Act.TheVariants.{WakeAwaiter, DropAwaiter};
 ghost use Rattle.task_laws.specs.Table.{after_waking, may_drop, notifies};
 ghost use Rattle.task_steps.specs.declared.table.Slot.{Slot};
 ghost use Rattle.task_cell.specs.RunCalls.{TakesDue, HasTaken, Wakes};
-ghost use Rattle.task_cell.specs.Calls.{Stands, StandsWith, Goes, GoesWith, Notifies, position, holds};
+ghost use Rattle.task_cell.specs.Calls.{Stands, StandsWith, GoesWith, Notifies, position, holds};
 ghost use Rattle.task_steps.specs.Deeds.{act};
 ghost use Rattle.task_steps.specs.Held.{held};
-ghost use Rattle.task_steps.specs.Standing.{way_of, rest_of};
+ghost use Rattle.task_steps.specs.Standing.{way_of};
 
 use super::{Cell, Party};
 use std::alloc::Allocator;
 use task_core::word::{AWAITER, NOTIFYING, Word};
 use task_core::{Wake, Yields};
 use task_steps::Always;
-use task_steps::common::{Dropping, Ending, ReleasingAwaiter, TakingAwaiter, Waking};
+use task_steps::common::{Dropping, ReleasingAwaiter, TakingAwaiter, Waking};
 use task_steps::places::{Held, take_out};
 use task_steps::table::Kept;
 
@@ -67,15 +65,6 @@ impl<R: Drop, F: Yields, Q: Drop, M: Drop, A: Drop, B: Allocator> Cell<R, F, Q, 
         self.table
             .shared
             .load::<Always<Dropping>>(&mut party.seat, 0);
-    }
-
-    // Writes down that the call has ended. One load.
-    pub(crate) fn end(&self, party: &mut Party<F, Kept<F>, A>)
-        requires cell { party.old.seat.table_id ≡ self.now.table.shared.table_id }
-        requires party { (answer : Answer) × (r : Rest) × Stands (CallEnding answer r) party.old }
-        ensures { Goes (act EndCall ∷ []) (rest_of (position party.old)) party.old party.new }
-    {
-        self.table.shared.load::<Always<Ending>>(&mut party.seat, 0);
     }
 }
 

@@ -1,7 +1,10 @@
 //! Handing a Runnable over to the schedule value.
 ghost use Rattle.std.specs.Prelude.{◌≡◌, ◌∷◌, [], true, false};
 ghost use Rattle.std.specs.Arc.{arc_value};
+ghost use Rattle.task_laws.specs.declared.positions.Answer.{Answer};
+ghost use Rattle.task_laws.specs.declared.positions.OnceDelivered.TheVariants.{ThenEnds};
 ghost use Rattle.task_laws.specs.declared.positions.Position.{Position};
+ghost use Rattle.task_laws.specs.declared.positions.Position.TheVariants.{Deliverer};
 ghost use Rattle.task_core.specs.declared.acts.Act.TheVariants.{HandOver, EndCall};
 ghost use Rattle.task_cell.specs.Handed.{HandedOver};
 ghost use Rattle.task_cell.specs.Calls.{Stands, Goes, IsNew, position, limit_of};
@@ -48,6 +51,24 @@ impl<R: Wait + Drop, F: Yields, Q: Drop, M: Drop, A: Wake, B: Allocator> Cell<R,
             woken_while_running,
         };
         this.schedule.schedule(runnable, info);
+    }
+
+    // Hands the Runnable of a run over that has ended, which ends the call.
+    pub(crate) fn hand_on<X: Copy>(
+        this: &Arc<Self, B>,
+        party: &mut Party<F, Kept<F>, A>,
+        around: X,
+        woken: bool,
+    )
+    where
+        Q: Schedule<Runnable<R, F, Q, M, A, X, B>>,
+        requires cell { (party.old.seat.table_id ≡ (arc_value this.now).table.shared.table_id) × (limit_of party.old ≡ (arc_value this.now).limit) }
+        requires party { (answer : Answer) × Stands (Deliverer woken (ThenEnds answer)) party.old }
+        ensures path { (answer : Answer) → Stands (Deliverer woken (ThenEnds answer)) party.old → Goes (act HandOver ∷ act EndCall ∷ []) as_ended party.old party.new }
+        ensures fact { HandedOver Q.scheduled (arc_value this.now) around woken }
+    {
+        Cell::deliver(this, party, around, woken);
+        this.end(party);
     }
 
     /// Hands a Runnable to the schedule value again, with `woken_while_running` false. It makes no step on the word but loads.

@@ -18,11 +18,11 @@ use std::alloc::Allocator;
 use std::sync::{Arc, Wait};
 use task_core::word::{TASK, Word};
 use task_core::{Schedule, Wake, Yields};
-use task_steps::Always;
 use task_steps::common::DroppingOutput;
 use task_steps::table::Kept;
-use task_steps::task::{Detaching, GivingTaskUp, Knowing};
+use task_steps::task::{Detaching, GivingTaskUp};
 use task_steps::words::{Detached, given_up_as};
+use task_steps::{Always, Knowing};
 
 impl<R: Drop, F: Yields, Q: Drop, M: Drop, A: Drop, B: Allocator> Cell<R, F, Q, M, A, B> {
     // Writes down that the output in hand was dropped, and gives the places back. One load.

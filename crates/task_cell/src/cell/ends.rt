@@ -1,13 +1,16 @@
-//! The ends of a run whose poll has answered.
+//! The end of a call, and the ends of a run whose poll has answered.
 ghost use Rattle.std.specs.Prelude.{◌≡◌, ◌<◌, ℕ, ◌∷◌, [], List, Bool, true, false};
-ghost use Rattle.task_laws.specs.declared.positions.Position.TheVariants.{Polling, Ready, Pending, PendingFutureDropped, OutputInHand};
+ghost use Rattle.task_laws.specs.declared.positions.Position.TheVariants.{Polling, Ready, Pending, PendingFutureDropped, OutputInHand, CallEnding};
+ghost use Rattle.task_laws.specs.declared.positions.Answer.{Answer};
+ghost use Rattle.task_laws.specs.declared.positions.Rest.{Rest};
 ghost use Rattle.task_laws.specs.declared.positions.NotifyingCall.TheVariants.{OfRun};
-ghost use Rattle.task_core.specs.declared.acts.Act.TheVariants.{AnswerReady, DropOutput, EndClosed};
+ghost use Rattle.task_core.specs.declared.acts.Act.TheVariants.{AnswerReady, DropOutput, EndCall, EndClosed};
 ghost use Rattle.task_laws.specs.Table.{notifies};
 ghost use Rattle.task_steps.specs.declared.table.Slot.{Slot};
-ghost use Rattle.task_cell.specs.Calls.{StandsWith, Goes, GoesWith};
+ghost use Rattle.task_cell.specs.Calls.{Stands, StandsWith, Goes, GoesWith, position};
 ghost use Rattle.task_steps.specs.Deeds.{row, act};
 ghost use Rattle.task_steps.specs.Rule.{IsEmpty, IsFuture};
+ghost use Rattle.task_steps.specs.Standing.{rest_of};
 ghost use Rattle.task_steps.specs.Steps.{future_first, output_first};
 ghost use Rattle.task_cell.specs.RunCalls.{Completes, AnswersPending, EndsPending};
 
@@ -16,15 +19,23 @@ use std::alloc::Allocator;
 use std::sync::Wait;
 use task_core::Yields;
 use task_core::word::{RUNNING, SCHEDULED, Word};
-use task_steps::Always;
-use task_steps::common::DroppingOutput;
+use task_steps::common::{DroppingOutput, Ending};
 use task_steps::places::{Held, put_output};
 use task_steps::run::{AnsweringPending, AnsweringReady, Completing, EndingClosed, EndingPending};
 use task_steps::table::Kept;
-use task_steps::task::Knowing;
 use task_steps::words::{PendingEnd, pending_end};
+use task_steps::{Always, Knowing};
 
 impl<R: Drop, F: Yields, Q: Drop, M: Drop, A: Drop, B: Allocator> Cell<R, F, Q, M, A, B> {
+    // Writes down that the call has ended. One load.
+    pub(crate) fn end(&self, party: &mut Party<F, Kept<F>, A>)
+        requires cell { party.old.seat.table_id ≡ self.now.table.shared.table_id }
+        requires party { (answer : Answer) × (r : Rest) × Stands (CallEnding answer r) party.old }
+        ensures { Goes (act EndCall ∷ []) (rest_of (position party.old)) party.old party.new }
+    {
+        self.table.shared.load::<Always<Ending>>(&mut party.seat, 0);
+    }
+
     // The poll has answered Ready. One load.
     pub(crate) fn answer_ready(&self, party: &mut Party<F, Kept<F>, A>)
         requires cell { party.old.seat.table_id ≡ self.now.table.shared.table_id }

@@ -1,18 +1,16 @@
 //! The steps of a run and of a Runnable's drop.
 ghost use Rattle.std.specs.Prelude.{◌≡◌, ℕ, ◌∷◌, []};
 ghost use Rattle.std.specs.Arc.{arc_value};
-ghost use Rattle.task_laws.specs.declared.positions.Answer.{Answer};
-ghost use Rattle.task_laws.specs.declared.positions.OnceDelivered.TheVariants.{ThenEnds};
 ghost use Rattle.task_laws.specs.declared.positions.WithoutPoll.TheVariants.{ClosedRun};
 ghost use Rattle.task_laws.specs.declared.positions.WithoutPoll.{WithoutPoll};
-ghost use Rattle.task_laws.specs.declared.positions.Position.TheVariants.{FutureInHand, Ready, PendingFutureDropped, Polling, Deliverer};
-ghost use Rattle.task_core.specs.declared.acts.Act.TheVariants.{DropFuture, Unschedule, HandOver, EndCall};
+ghost use Rattle.task_laws.specs.declared.positions.Position.TheVariants.{FutureInHand, Ready, PendingFutureDropped, Polling};
+ghost use Rattle.task_core.specs.declared.acts.Act.TheVariants.{DropFuture, Unschedule};
 ghost use Rattle.task_laws.specs.Table.{notifies};
 ghost use Rattle.task_steps.specs.declared.table.Slot.{Slot};
 ghost use Rattle.task_cell.specs.Handed.{HandedOver};
-ghost use Rattle.task_cell.specs.Calls.{StandsWith, Stands, Goes, position, limit_of};
+ghost use Rattle.task_cell.specs.Calls.{StandsWith, Goes, position, limit_of};
 ghost use Rattle.task_steps.specs.Deeds.{row, act};
-ghost use Rattle.task_steps.specs.Standing.{closing_way, as_ended};
+ghost use Rattle.task_steps.specs.Standing.{closing_way};
 ghost use Rattle.task_steps.specs.Rule.{IsEmpty, IsFuture};
 ghost use Rattle.task_steps.specs.Steps.{future_first};
 ghost use Rattle.task_cell.specs.RunCalls.{Stores, ClosesPending, Closes, EndsReady, EndsUnready};
@@ -98,24 +96,6 @@ impl<R: Wait + Drop, F: Yields, Q: Drop, M: Drop, A: Wake, B: Allocator> Cell<R,
         self.clear(party, 0);
         let found = self.store_output(party, output);
         self.finish(party, found.awaiter());
-    }
-
-    // Hands the Runnable of a run over that has ended, which ends the call.
-    pub(crate) fn hand_on<X: Copy>(
-        this: &Arc<Self, B>,
-        party: &mut Party<F, Kept<F>, A>,
-        around: X,
-        woken: bool,
-    )
-    where
-        Q: Schedule<Runnable<R, F, Q, M, A, X, B>>,
-        requires cell { (party.old.seat.table_id ≡ (arc_value this.now).table.shared.table_id) × (limit_of party.old ≡ (arc_value this.now).limit) }
-        requires party { (answer : Answer) × Stands (Deliverer woken (ThenEnds answer)) party.old }
-        ensures path { (answer : Answer) → Stands (Deliverer woken (ThenEnds answer)) party.old → Goes (act HandOver ∷ act EndCall ∷ []) as_ended party.old party.new }
-        ensures fact { HandedOver Q.scheduled (arc_value this.now) around woken }
-    {
-        Cell::deliver(this, party, around, woken);
-        this.end(party);
     }
 
     // A run, from where its poll answered Pending. Whether the task was woken meanwhile.

@@ -11,8 +11,9 @@ use super::{Cell, Party};
 use std::alloc::Allocator;
 use task_core::Yields;
 use task_core::word::Word;
+use task_steps::Knowing;
 use task_steps::table::Kept;
-use task_steps::task::{Knowing, LookingFinished};
+use task_steps::task::LookingFinished;
 
 impl<R: Drop, F: Yields, Q: Drop, M: Drop, A: Drop, B: Allocator> Cell<R, F, Q, M, A, B> {
     /// Whether the task is completed or closed. It is one load, and waits for nobody.
