@@ -98,7 +98,7 @@ fn kept_child<'x, R: Wait + Drop + Copy>(
     let (pool, worker) = waker.around();
     let key = place_for_task(pool)?;
     let child = member_of(alloc, 0, 1, dropped).ok()?;
-    keep_task(pool.spawn_on(worker, child).ok()?, &key);
+    keep_task(pool.spawn_on(worker, child).ok()?, &key).ok()?;
     Some(key)
 }
 

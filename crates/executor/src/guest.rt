@@ -1,9 +1,11 @@
 //! A future of the tests, which does one of several things, and what such futures count together.
 ghost use Rattle.std.specs.Prelude.{⊤};
 
-use crate::pool::PoolWaker;
-use async_task::{Future, Poll, Wake, Yields};
+use crate::pool::{Pool, PoolTask, PoolWaker};
+use async_task::{Future, Poll, TaskPoll, Wake, Yields};
+use awaiters::Nobody;
 use std::alloc::{AllocError, Global};
+use std::collections::VecDeque;
 use std::sync::atomic::{AtomicBool, AtomicU64, Ordering};
 use std::sync::{Arc, Wait};
 use std::thread::yield_now;
@@ -119,4 +121,58 @@ impl<'x, R: Wait + Drop + Copy, A: Wake> Future<PoolWaker<'x, R, Guest, A>> for 
             Errand::Stay => Poll::Pending,
         }
     }
+}
+
+/// A pool of guests whose Tasks are polled by hand.
+pub type GuestPool<R> = Pool<R, Guest, Nobody>;
+
+/// The Task of such a guest.
+pub type GuestTask<'x, R> = PoolTask<'x, R, Guest, Nobody>;
+
+/// Spawns a guest at the queue of a worker, or from outside where there is no worker of this number.
+pub fn spawn_guest<'x, R: Wait + Drop + Copy, A: Wake>(
+    pool: &'x Pool<R, Guest, A>,
+    worker: usize,
+    errand: Errand,
+    guests: &Arc<Guests>,
+) -> Result<PoolTask<'x, R, Guest, A>, AllocError> {
+    let guest = Guest::new(errand, guests)?;
+    pool.spawn_on(worker, guest).ok().ok_or(AllocError)
+}
+
+/// Spawns so many guests that give way ten times, at the queue of a worker.
+pub fn spawn_guests<'x, R: Wait + Drop + Copy>(
+    pool: &'x GuestPool<R>,
+    worker: usize,
+    count: u64,
+    guests: &Arc<Guests>,
+) -> Result<Vec<GuestTask<'x, R>>, AllocError> {
+    let mut futures = VecDeque::new(pool.alloc);
+    for _ in 0..count {
+        futures.push_back(Guest::new(Errand::GiveWay(10), guests)?)?;
+    }
+    let mut tasks = Vec::new(pool.alloc);
+    pool.spawn_many(worker, &mut futures, &mut tasks)?;
+    Ok(tasks)
+}
+
+/// The output of a guest that has answered.
+pub fn output_of<'x, R: Wait + Drop + Copy>(task: &mut GuestTask<'x, R>) -> Option<u64> {
+    match task.poll(&Nobody) {
+        TaskPoll::Ready(Ok(output)) => Some(output),
+        _ => None,
+    }
+}
+
+/// Whether the task of a guest is closed.
+pub fn is_closed<'x, R: Wait + Drop + Copy>(task: &mut GuestTask<'x, R>) -> bool {
+    matches!(task.poll(&Nobody), TaskPoll::Ready(Err(_)))
+}
+
+/// How many shares there are of what guests count, and how many polls were counted.
+pub fn shares_and_polls(guests: &Arc<Guests>) -> (usize, u64) {
+    (
+        Arc::strong_count(guests),
+        guests.polls.load(Ordering::SeqCst),
+    )
 }

@@ -1,13 +1,13 @@
 //! Hostile use of a pool: a future that never yields, wakes after a shutdown, and calls that make no sense.
-use crate::guest::{Errand, Guest, Guests};
+use crate::guest::{
+    Errand, GuestPool, Guests, is_closed, output_of, shares_and_polls, spawn_guest, spawn_guests,
+};
 use crate::kept::{keep_task, place_for_task, poll_kept, wake_kept};
-use crate::pool::Pool;
 use async_task::TaskPoll;
 use awaiters::Nobody;
+use handle_store::Key;
 use std::alloc::AllocError;
-use std::collections::VecDeque;
-use std::sync::Arc;
-use std::sync::atomic::Ordering;
+use std::sync::{Arc, Wait};
 use std::test::Fail;
 use std::thread;
 use work_queues::board::MOST_WORKERS;
@@ -15,28 +15,20 @@ use work_queues::board::MOST_WORKERS;
 /// How many tasks wait behind the one that never yields.
 const BEHIND: u64 = 100;
 
-type GuestPool<R> = Pool<R, Guest, Nobody>;
-
 // The others stand in the queue of the same worker.
 #[test]
 fn a_future_that_never_yields_keeps_only_its_thread(rt: HostRuntime) -> Result<(), Fail> {
     let guests = Guests::new(rt.alloc(), BEHIND)?;
     let pool = GuestPool::new(rt, rt.alloc(), 2)?;
-    let spinning = Guest::new(Errand::SpinAndEnd, &guests)?;
-    let mut task = pool.spawn_on(0, spinning).ok().ok_or(AllocError)?;
-    let mut futures = VecDeque::new(rt.alloc());
-    for _ in 0..BEHIND {
-        futures.push_back(Guest::new(Errand::GiveWay(10), &guests)?)?;
-    }
-    let mut tasks = Vec::new(rt.alloc());
-    pool.spawn_many(0, &mut futures, &mut tasks)?;
+    let mut task = spawn_guest(&pool, 0, Errand::SpinAndEnd, &guests)?;
+    let tasks = spawn_guests(&pool, 0, BEHIND, &guests)?;
     let mut all = pool.all_turns()?;
     thread::for_each_mut(&rt, &mut all, 2, &|_, turns| pool.work(turns));
-    let answer = task.poll(&Nobody);
-    assert!(rt; matches!(answer, TaskPoll::Ready(Ok(BEHIND))));
+    let answer = output_of(&mut task);
     drop(task);
     drop(tasks);
-    assert!(rt; Arc::strong_count(&guests) == 1);
+    let (left, _) = shares_and_polls(&guests);
+    assert!(rt; answer == Some(BEHIND) && left == 1);
     Ok(())
 }
 
@@ -44,26 +36,21 @@ fn a_future_that_never_yields_keeps_only_its_thread(rt: HostRuntime) -> Result<(
 fn a_wake_after_the_shutdown_does_nothing(rt: HostRuntime) -> Result<(), Fail> {
     let guests = Guests::new(rt.alloc(), 0)?;
     let pool = GuestPool::new(rt, rt.alloc(), 1)?;
-    let guest = Guest::new(Errand::ShutDown, &guests)?;
-    let mut task = pool.spawn(guest).ok().ok_or(AllocError)?;
+    let mut task = spawn_guest(&pool, 1, Errand::ShutDown, &guests)?;
     let mut turns = pool.turns(0)?;
     let ran = pool.tick(&mut turns);
     let ran_again = pool.tick(&mut turns);
-    let is_closed = matches!(task.poll(&Nobody), TaskPoll::Ready(Err(_)));
-    let left = (
-        Arc::strong_count(&guests),
-        guests.polls.load(Ordering::SeqCst),
-    );
-    assert!(rt; ran && !ran_again && is_closed);
-    assert!(rt; left == (1, 1));
+    let closed = is_closed(&mut task);
+    let (left, polls) = shares_and_polls(&guests);
+    assert!(rt; ran && !ran_again && closed && left == 1 && polls == 1);
     Ok(())
 }
 
 #[test]
 fn a_pool_has_one_worker_at_least_and_has_a_most(rt: HostRuntime) -> Result<(), Fail> {
-    let few = GuestPool::new(rt, rt.alloc(), 0)?;
-    let many = GuestPool::new(rt, rt.alloc(), MOST_WORKERS + 1)?;
-    assert!(rt; few.workers() == 1 && many.workers() == MOST_WORKERS);
+    let few = GuestPool::new(rt, rt.alloc(), 0)?.workers();
+    let many = GuestPool::new(rt, rt.alloc(), MOST_WORKERS + 1)?.workers();
+    assert!(rt; few == 1 && many == MOST_WORKERS);
     Ok(())
 }
 
@@ -72,14 +59,28 @@ fn a_worker_that_does_not_exist_is_refused_or_outside(rt: HostRuntime) -> Result
     let guests = Guests::new(rt.alloc(), 1)?;
     let pool = GuestPool::new(rt, rt.alloc(), 1)?;
     let refused = pool.turns(1).is_err() && pool.run(1).is_err();
-    let guest = Guest::new(Errand::GiveWay(0), &guests)?;
-    let mut task = pool.spawn_on(99, guest).ok().ok_or(AllocError)?;
+    let mut task = spawn_guest(&pool, 99, Errand::GiveWay(0), &guests)?;
     pool.bells().interrupt_worker(99);
     let mut turns = pool.turns(0)?;
     let ran = pool.tick(&mut turns);
-    let answer = task.poll(&Nobody);
-    assert!(rt; refused && ran && matches!(answer, TaskPoll::Ready(Ok(1))));
+    let answer = output_of(&mut task);
+    assert!(rt; refused && ran && answer == Some(1));
     Ok(())
+}
+
+// Whether the Task at the place of a key is pending.
+fn is_pending<R: Wait + Drop + Copy>(pool: &GuestPool<R>, key: &Key<R>) -> bool {
+    matches!(poll_kept((pool, 0), key, &Nobody), Some(TaskPoll::Pending))
+}
+
+// Whether there is no Task at the place of a key.
+fn is_empty<R: Wait + Drop + Copy>(pool: &GuestPool<R>, key: &Key<R>) -> bool {
+    poll_kept((pool, 0), key, &Nobody).is_none()
+}
+
+// Whether a waker was kept under one of two numbers.
+fn wakes_any<R: Wait + Drop + Copy>(pool: &GuestPool<R>) -> bool {
+    wake_kept((pool, 0), 0) || wake_kept((pool, 99), usize::MAX)
 }
 
 #[test]
@@ -87,15 +88,31 @@ fn an_empty_place_answers_that_it_is_empty(rt: HostRuntime) -> Result<(), Fail> 
     let guests = Guests::new(rt.alloc(), 1)?;
     let pool = GuestPool::new(rt, rt.alloc(), 1)?;
     let key = place_for_task(&pool).ok_or(AllocError)?;
-    let before = poll_kept((&pool, 0), &key, &Nobody).is_none();
-    let woken = wake_kept((&pool, 0), 0) || wake_kept((&pool, 99), usize::MAX);
-    let guest = Guest::new(Errand::Stay, &guests)?;
-    keep_task(pool.spawn(guest).ok().ok_or(AllocError)?, &key);
-    let pending = matches!(
-        poll_kept((&pool, 0), &key, &Nobody),
-        Some(TaskPoll::Pending)
-    );
-    assert!(rt; before && !woken && pending);
+    let before = is_empty(&pool, &key);
+    let woken = wakes_any(&pool);
+    let task = spawn_guest(&pool, 1, Errand::Stay, &guests)?;
+    let kept = keep_task(task, &key).is_ok();
+    let pending = is_pending(&pool, &key);
+    assert!(rt; before && !woken && kept && pending);
+    Ok(())
+}
+
+// The second pool has a Task at the place of the same number.
+#[test]
+fn a_key_of_another_pool_keeps_no_task(rt: HostRuntime) -> Result<(), Fail> {
+    let guests = Guests::new(rt.alloc(), 1)?;
+    let pool = GuestPool::new(rt, rt.alloc(), 1)?;
+    let other = GuestPool::new(rt, rt.alloc(), 1)?;
+    let foreign = place_for_task(&pool).ok_or(AllocError)?;
+    let key = place_for_task(&other).ok_or(AllocError)?;
+    let task = spawn_guest(&other, 1, Errand::Stay, &guests)?;
+    let kept = keep_task(task, &key).is_ok();
+    let task = spawn_guest(&other, 1, Errand::Stay, &guests)?;
+    let refused = keep_task(task, &foreign).is_err();
+    let empty = is_empty(&other, &foreign);
+    let pending = is_pending(&other, &key);
+    let same = key.number() == foreign.number();
+    assert!(rt; kept && refused && empty && pending && same);
     Ok(())
 }
 
@@ -106,17 +123,14 @@ fn a_pool_that_was_shut_down_cancels_what_comes(rt: HostRuntime) -> Result<(), F
     let pool = GuestPool::new(rt, rt.alloc(), 2)?;
     pool.shutdown();
     pool.shutdown();
-    let guest = Guest::new(Errand::GiveWay(0), &guests)?;
-    let mut task = pool.spawn(guest).ok().ok_or(AllocError)?;
+    let mut task = spawn_guest(&pool, 2, Errand::GiveWay(0), &guests)?;
     let mut all = pool.all_turns()?;
     thread::for_each_mut(&rt, &mut all, 2, &|_, turns| pool.work(turns));
     let mut turns = pool.turns(1)?;
     let ran = pool.tick(&mut turns);
-    let is_closed = matches!(task.poll(&Nobody), TaskPoll::Ready(Err(_)));
-    let mut tasks = Vec::new(rt.alloc());
-    let none = pool.spawn_many(0, &mut VecDeque::new(rt.alloc()), &mut tasks);
-    let left = (tasks.len(), guests.polls.load(Ordering::SeqCst));
-    assert!(rt; !ran && is_closed && none.is_ok());
-    assert!(rt; left == (0, 0));
+    let closed = is_closed(&mut task);
+    let none = spawn_guests(&pool, 0, 0, &guests)?.len();
+    let (_, polls) = shares_and_polls(&guests);
+    assert!(rt; !ran && closed && none == 0 && polls == 0);
     Ok(())
 }

@@ -29,26 +29,32 @@ pub fn place_for_waker<R: Wait + Drop + Copy, F: Yields, A: Wake>(
     pool.wakers.reserve(pool.rt)
 }
 
-/// Keeps a clone of a waker at the place of a key, and drops what was there. False where the clone was refused; the place is as it was then. After a shutdown the waker is woken at once, which cancels its task.
+/// Keeps a clone of a waker at the place of a key, and drops what was there. False where the clone was refused, or the key is of another pool: every
+/// place is as it was then. After a shutdown the waker is woken at once, which cancels its task.
 pub fn keep_waker<'x, R: Wait + Drop + Copy, F: Yields, A: Wake>(
     waker: &PoolWaker<'x, R, F, A>,
     key: &Key<R>,
 ) -> bool {
     let place = waker.around();
+    let pool = place.0;
     let Some(clone) = waker.try_clone() else {
         return false;
     };
-    let before = place
-        .0
-        .wakers
-        .put(&place.0.rt, key.number(), clone.with_around(()));
-    if let Some(before) = before {
-        drop(before.with_around(place));
+    match pool.wakers.put(&pool.rt, key, clone.with_around(())) {
+        Ok(before) => {
+            if let Some(before) = before {
+                drop(before.with_around(place));
+            }
+            if pool.is_shut_down() {
+                wake_kept(place, key.number());
+            }
+            true
+        }
+        Err(clone) => {
+            drop(clone.with_around(place));
+            false
+        }
     }
-    if place.0.is_shut_down() {
-        wake_kept(place, key.number());
-    }
-    true
 }
 
 /// Wakes the task whose waker is kept under this number, on the queue of the worker of this place. False where no waker is there. The waker is gone after it.
@@ -73,34 +79,40 @@ pub fn place_for_task<R: Wait + Drop + Copy, F: Yields, A: Wake>(
 }
 
 /// Keeps a Task at the place of a key, and drops what was there, which cancels that task. After a shutdown the Task is dropped at once, too.
+///
+/// `Err` has the Task back, where the key is of another pool: every place is as it was then.
 pub fn keep_task<'x, R: Wait + Drop + Copy, F: Yields, A: Wake>(
     task: PoolTask<'x, R, F, A>,
     key: &Key<R>,
-) {
+) -> Result<(), PoolTask<'x, R, F, A>> {
     let place = task.around();
-    let before = place
-        .0
-        .tasks
-        .put(&place.0.rt, key.number(), task.with_around(()));
-    if let Some(before) = before {
-        drop(before.with_around(place));
-    }
-    if place.0.is_shut_down() {
-        drop_kept(place, key.number());
+    let pool = place.0;
+    match pool.tasks.put(&pool.rt, key, task.with_around(())) {
+        Ok(before) => {
+            if let Some(before) = before {
+                drop(before.with_around(place));
+            }
+            if pool.is_shut_down() {
+                drop_kept(place, key.number());
+            }
+            Ok(())
+        }
+        Err(task) => Err(task.with_around(place)),
     }
 }
 
-/// Polls the Task at the place of a key, with this awaiter. `None` where there is no Task, as while another thread polls it. A Task that answers `Ready` is gone after it.
+/// Polls the Task at the place of a key, with this awaiter. `None` where there is no Task, as while another thread polls it, or the key is of another
+/// pool. A Task that answers `Ready` is gone after it.
 pub fn poll_kept<'x, R: Wait + Drop + Copy, F: Yields, A: Wake>(
     place: Place<'x, R, F, A>,
     key: &Key<R>,
     awaiter: &A,
 ) -> Option<TaskPoll<Result<F::Output, async_task::TaskClosed>>> {
-    let kept = place.0.tasks.take(&place.0.rt, key.number())?;
+    let kept = place.0.tasks.take_of(&place.0.rt, key)?;
     let mut task = kept.with_around(place);
     let answer = task.poll(awaiter);
     if !matches!(answer, TaskPoll::Ready(_)) {
-        keep_task(task, key);
+        drop(keep_task(task, key));
     }
     Some(answer)
 }

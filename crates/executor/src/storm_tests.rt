@@ -133,6 +133,27 @@ fn spawn_storm<'x, R: Wait + Drop + Copy>(
     Ok(places)
 }
 
+// Spawns the task of this number, which wants one ticket, and keeps its waker at a place of `keeper`.
+fn spawn_at<'x, R: Wait + Drop + Copy>(
+    pool: &'x StormPool<R>,
+    keeper: &StormPool<R>,
+    task: usize,
+    storm: &Arc<Storm>,
+    tasks: &mut Vec<StormTask<'x, R>>,
+) -> Result<usize, AllocError> {
+    let key = place_for_waker(keeper).ok_or(AllocError)?;
+    let number = key.number();
+    let takes = Takes {
+        task,
+        taken: 0,
+        wanted: 1,
+        key,
+        storm: Arc::try_clone(storm)?,
+    };
+    tasks.push(pool.spawn(takes).ok().ok_or(AllocError)?)?;
+    Ok(number)
+}
+
 // Wakes each task once, with a ticket for it.
 fn wake_each<R: Wait + Drop + Copy>(
     pool: &StormPool<R>,
@@ -180,6 +201,16 @@ fn taken_and_closed<R: Wait + Drop + Copy>(tasks: Vec<StormTask<'_, R>>) -> (u64
     seen
 }
 
+// Whether all threads of a pool began.
+fn all_ran(ran: Vec<bool>) -> bool {
+    ran.iter().all(|ran| *ran)
+}
+
+// How many places for wakers are taken, and how many shares there are of a storm.
+fn left_of<R: Wait + Drop + Copy>(pool: &StormPool<R>, storm: &Arc<Storm>) -> (usize, usize) {
+    (pool.wakers.len(&pool.rt), Arc::strong_count(storm))
+}
+
 #[test]
 fn a_storm_loses_no_wake(rt: HostRuntime) -> Result<(), Fail> {
     let storm = Storm::new(rt.alloc())?;
@@ -188,12 +219,7 @@ fn a_storm_loses_no_wake(rt: HostRuntime) -> Result<(), Fail> {
     let places = spawn_storm(&pool, rt.alloc(), &storm, 2 * ROUNDS, &mut tasks)?;
     let (ran, _) = thread::join(
         &rt,
-        || thread::map_indices(
-            &rt,
-            rt.alloc(),
-            pool.workers(),
-            &|worker| { pool.run(worker).is_ok() },
-        ),
+        || thread::map_indices(&rt, rt.alloc(), WORKERS, &|worker| pool.run(worker).is_ok()),
         || thread::join(
             &rt,
             || wake_often(&pool, &storm, &places, pool.workers()),
@@ -201,10 +227,8 @@ fn a_storm_loses_no_wake(rt: HostRuntime) -> Result<(), Fail> {
         ),
     );
     let seen = taken_and_closed(tasks);
-    let left = (pool.wakers.len(&rt), Arc::strong_count(&storm));
-    assert!(rt; ran?.iter().all(|ran| *ran));
-    assert_eq!(rt; seen, (2 * ROUNDS * TASKS, 0));
-    assert_eq!(rt; left, (0, 1));
+    let (ran, left) = (all_ran(ran?), left_of(&pool, &storm));
+    assert!(rt; ran && seen == (2 * ROUNDS * TASKS, 0) && left == (0, 1));
     Ok(())
 }
 
@@ -217,12 +241,7 @@ fn a_shutdown_in_a_storm_leaves_nothing(rt: HostRuntime) -> Result<(), Fail> {
     let places = spawn_storm(&pool, rt.alloc(), &storm, 2 * ROUNDS + 1, &mut tasks)?;
     let (ran, _) = thread::join(
         &rt,
-        || thread::map_indices(
-            &rt,
-            rt.alloc(),
-            pool.workers(),
-            &|worker| { pool.run(worker).is_ok() },
-        ),
+        || thread::map_indices(&rt, rt.alloc(), WORKERS, &|worker| pool.run(worker).is_ok()),
         || thread::join(
             &rt,
             || wake_often(&pool, &storm, &places, 1),
@@ -231,9 +250,31 @@ fn a_shutdown_in_a_storm_leaves_nothing(rt: HostRuntime) -> Result<(), Fail> {
     );
     let seen = taken_and_closed(tasks);
     collect((&pool, 0));
-    let left = (pool.wakers.len(&rt), Arc::strong_count(&storm));
-    assert!(rt; ran?.iter().all(|ran| *ran));
-    assert_eq!(rt; seen, (0, TASKS));
-    assert_eq!(rt; left, (0, 1));
+    let (ran, left) = (all_ran(ran?), left_of(&pool, &storm));
+    assert!(rt; ran && seen == (0, TASKS) && left == (0, 1));
+    Ok(())
+}
+
+// Of two tasks the second has a key of another pool, with the number of the first one's place. Both are polled, and then the first is woken.
+#[test]
+fn a_key_of_another_pool_keeps_no_waker(rt: HostRuntime) -> Result<(), Fail> {
+    let storm = Storm::new(rt.alloc())?;
+    let pool = StormPool::new(rt, rt.alloc(), 1)?;
+    let other = StormPool::new(rt, rt.alloc(), 1)?;
+    let mut tasks = Vec::new(rt.alloc());
+    let own = spawn_at(&pool, &pool, 0, &storm, &mut tasks)?;
+    let foreign = spawn_at(&pool, &other, 1, &storm, &mut tasks)?;
+    let mut turns = pool.turns(0)?;
+    let mut ran = 0u8;
+    for _ in 0..2 {
+        ran = ran.saturating_add(u8::from(pool.tick(&mut turns)));
+    }
+    storm.add_ticket(0);
+    let woken = (wake_kept((&pool, 0), own), wake_kept((&other, 0), foreign));
+    for _ in 0..2 {
+        ran = ran.saturating_add(u8::from(pool.tick(&mut turns)));
+    }
+    let seen = taken_and_closed(tasks);
+    assert!(rt; own == foreign && ran == 4 && woken == (true, false) && seen == (1, 0));
     Ok(())
 }

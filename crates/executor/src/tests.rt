@@ -2,11 +2,11 @@
 ghost use Rattle.std.specs.Prelude.{⊤};
 
 use crate::kept::{keep_task, keep_waker, place_for_task, place_for_waker, poll_kept, wake_kept};
-use crate::pool::{Pool, PoolWaker};
+use crate::pool::{Pool, PoolTask, PoolWaker};
 use async_task::{Future, Poll, TaskPoll, Yields};
 use awaiters::Nobody;
 use handle_store::Key;
-use std::alloc::{AllocError, Global};
+use std::alloc::AllocError;
 use std::sync::atomic::{AtomicU64, Ordering};
 use std::sync::{Arc, Wait};
 use std::test::Fail;
@@ -82,15 +82,55 @@ fn spawn_child<R: Wait + Drop + Copy>(
     }
 }
 
-// What so many tasks count together, each of which is the root of a tree of tasks.
-fn counts_of(alloc: Global, tasks: u64, depth: u64) -> Option<Arc<Counts>> {
-    let counts = Counts {
-        done: AtomicU64::new(0),
-        refused: AtomicU64::new(0),
-        wanted: tasks.wrapping_mul((2 << (depth % 32)) - 1),
-    };
-    Arc::new(alloc, counts).ok()
+/// A program of tasks.
+#[derive(Clone, Copy)]
+enum Program {
+    /// 100 tasks, each of which gives way three times.
+    Few,
+    /// 1000 tasks, each of which gives way ten times.
+    Many,
+    /// Four trees of depth 7, of 255 tasks each. A root gives way twice.
+    Trees,
 }
+
+impl Program {
+    // How many tasks are spawned from outside.
+    fn tasks(self) -> u64 {
+        match self {
+            Program::Few => 100,
+            Program::Many => 1000,
+            Program::Trees => 4,
+        }
+    }
+
+    // How often each of these gives way.
+    fn left(self) -> u64 {
+        match self {
+            Program::Few => 3,
+            Program::Many => 10,
+            Program::Trees => 2,
+        }
+    }
+
+    // The depth of the tree of which each of these is the root.
+    fn depth(self) -> u64 {
+        match self {
+            Program::Few | Program::Many => 0,
+            Program::Trees => 7,
+        }
+    }
+
+    // How many tasks there are in all.
+    fn wanted(self) -> u64 {
+        match self {
+            Program::Few => 100,
+            Program::Many => 1000,
+            Program::Trees => 1020,
+        }
+    }
+}
+
+type JobPool<R> = Pool<R, Job, Nobody>;
 
 // How many tasks have ended. `None` where one was refused memory.
 fn ended(counts: &Arc<Counts>) -> Option<u64> {
@@ -101,91 +141,70 @@ fn ended(counts: &Arc<Counts>) -> Option<u64> {
     }
 }
 
+// Spawns the tasks of a program: what they count together.
 fn spawn_all<R: Wait + Drop + Copy>(
-    pool: &Pool<R, Job, Nobody>,
-    size: (u64, u64, u64),
-    counts: &Arc<Counts>,
-) -> bool {
-    let (tasks, left, depth) = size;
-    for _ in 0..tasks {
-        let Ok(counts) = Arc::try_clone(counts) else {
-            return false;
-        };
+    pool: &JobPool<R>,
+    program: Program,
+) -> Result<Arc<Counts>, AllocError> {
+    let counts = Counts {
+        done: AtomicU64::new(0),
+        refused: AtomicU64::new(0),
+        wanted: program.wanted(),
+    };
+    let counts = Arc::new(pool.alloc, counts)?;
+    for _ in 0..program.tasks() {
         let job = Job {
-            left,
-            depth,
-            counts,
+            left: program.left(),
+            depth: program.depth(),
+            counts: Arc::try_clone(&counts)?,
         };
-        match pool.spawn(job) {
-            Ok(task) => task.detach(),
-            Err(_) => return false,
-        }
+        pool.spawn(job).ok().ok_or(AllocError)?.detach();
     }
-    true
+    Ok(counts)
+}
+
+// Whether all threads of a pool began.
+fn all_began(began: Vec<bool>) -> bool {
+    began.iter().all(|began| *began)
 }
 
 #[test]
 fn every_task_ends_on_one_thread(rt: HostRuntime) -> Result<(), Fail> {
-    let counts = counts_of(rt.alloc(), 100, 0).ok_or(AllocError)?;
-    let pool = Pool::<_, Job, Nobody>::new(rt, rt.alloc(), 1)?;
-    let spawned = spawn_all(&pool, (100, 3, 0), &counts);
-    let began = thread::map_indices(
-        &rt,
-        rt.alloc(),
-        pool.workers(),
-        &|worker| { pool.run(worker).is_ok() },
-    )?;
-    assert!(rt; spawned && began.iter().all(|began| *began));
-    assert!(rt; ended(&counts) == Some(100));
+    let pool = JobPool::new(rt, rt.alloc(), 1)?;
+    let counts = spawn_all(&pool, Program::Few)?;
+    let began = thread::map_indices(&rt, rt.alloc(), 1, &|worker| pool.run(worker).is_ok())?;
+    let (began, ended) = (all_began(began), ended(&counts));
+    assert!(rt; began && ended == Some(100));
     Ok(())
 }
 
 #[test]
 fn every_task_ends_on_two_threads(rt: HostRuntime) -> Result<(), Fail> {
-    let counts = counts_of(rt.alloc(), 100, 0).ok_or(AllocError)?;
-    let pool = Pool::<_, Job, Nobody>::new(rt, rt.alloc(), 2)?;
-    let spawned = spawn_all(&pool, (100, 3, 0), &counts);
-    let began = thread::map_indices(
-        &rt,
-        rt.alloc(),
-        pool.workers(),
-        &|worker| { pool.run(worker).is_ok() },
-    )?;
-    assert!(rt; spawned && began.iter().all(|began| *began));
-    assert!(rt; ended(&counts) == Some(100));
+    let pool = JobPool::new(rt, rt.alloc(), 2)?;
+    let counts = spawn_all(&pool, Program::Few)?;
+    let began = thread::map_indices(&rt, rt.alloc(), 2, &|worker| pool.run(worker).is_ok())?;
+    let (began, ended) = (all_began(began), ended(&counts));
+    assert!(rt; began && ended == Some(100));
     Ok(())
 }
 
 #[test]
 fn every_task_ends_on_four_threads(rt: HostRuntime) -> Result<(), Fail> {
-    let counts = counts_of(rt.alloc(), 1000, 0).ok_or(AllocError)?;
-    let pool = Pool::<_, Job, Nobody>::new(rt, rt.alloc(), 4)?;
-    let spawned = spawn_all(&pool, (1000, 10, 0), &counts);
-    let began = thread::map_indices(
-        &rt,
-        rt.alloc(),
-        pool.workers(),
-        &|worker| { pool.run(worker).is_ok() },
-    )?;
-    assert!(rt; spawned && began.iter().all(|began| *began));
-    assert!(rt; ended(&counts) == Some(1000));
+    let pool = JobPool::new(rt, rt.alloc(), 4)?;
+    let counts = spawn_all(&pool, Program::Many)?;
+    let began = thread::map_indices(&rt, rt.alloc(), 4, &|worker| pool.run(worker).is_ok())?;
+    let (began, ended) = (all_began(began), ended(&counts));
+    assert!(rt; began && ended == Some(1000));
     Ok(())
 }
 
 #[test]
 fn a_task_spawns_tasks(rt: HostRuntime) -> Result<(), Fail> {
-    // Four trees of depth 7, of 255 tasks each.
-    let counts = counts_of(rt.alloc(), 4, 7).ok_or(AllocError)?;
-    let pool = Pool::<_, Job, Nobody>::new(rt, rt.alloc(), 4)?;
-    let spawned = spawn_all(&pool, (4, 2, 7), &counts);
-    let began = thread::map_indices(
-        &rt,
-        rt.alloc(),
-        pool.workers(),
-        &|worker| { pool.run(worker).is_ok() },
-    )?;
-    assert!(rt; spawned && began.iter().all(|began| *began));
-    assert!(rt; ended(&counts) == Some(1020));
+    let pool = JobPool::new(rt, rt.alloc(), 4)?;
+    let counts = spawn_all(&pool, Program::Trees)?;
+    let began = thread::map_indices(&rt, rt.alloc(), 4, &|worker| pool.run(worker).is_ok())?;
+    let (began, ended) = (all_began(began), ended(&counts));
+    assert!(rt; began && ended == Some(1020));
     Ok(())
 }
 
@@ -220,12 +239,23 @@ impl<'x, R: Wait + Drop + Copy> Future<PoolWaker<'x, R, Waits<R>, Nobody>> for W
     }
 }
 
-fn wake_once<R: Wait + Drop + Copy>(
-    rt: R,
-    pool: &Pool<R, Waits<R>, Nobody>,
-    number: &AtomicU64,
-) -> bool {
-    for _ in rt.forever() {
+type WaitsPool<R> = Pool<R, Waits<R>, Nobody>;
+
+type WaitsTask<'x, R> = PoolTask<'x, R, Waits<R>, Nobody>;
+
+fn spawn_waits<'x, R: Wait + Drop + Copy>(
+    pool: &'x WaitsPool<R>,
+    number: &Arc<AtomicU64>,
+) -> Result<WaitsTask<'x, R>, AllocError> {
+    let waits = Waits {
+        key: None,
+        number: Arc::try_clone(number)?,
+    };
+    pool.spawn(waits).ok().ok_or(AllocError)
+}
+
+fn wake_once<R: Wait + Drop + Copy>(pool: &WaitsPool<R>, number: &AtomicU64) -> bool {
+    for _ in pool.rt.forever() {
         let seen = number.load(Ordering::SeqCst);
         if seen != 0 {
             return wake_kept((pool, pool.workers()), seen as usize - 1);
@@ -235,65 +265,64 @@ fn wake_once<R: Wait + Drop + Copy>(
     unreachable!()
 }
 
+// The output of a task that has answered.
+fn output_of<'x, R: Wait + Drop + Copy>(task: &mut WaitsTask<'x, R>) -> Option<u64> {
+    match task.poll(&Nobody) {
+        TaskPoll::Ready(Ok(output)) => Some(output),
+        _ => None,
+    }
+}
+
+fn is_closed<'x, R: Wait + Drop + Copy>(task: &mut WaitsTask<'x, R>) -> bool {
+    matches!(task.poll(&Nobody), TaskPoll::Ready(Err(_)))
+}
+
+// How many places for wakers are taken.
+fn places<R: Wait + Drop + Copy>(pool: &WaitsPool<R>) -> usize {
+    pool.wakers.len(&pool.rt)
+}
+
 #[test]
 fn another_thread_wakes_a_kept_waker(rt: HostRuntime) -> Result<(), Fail> {
     let number = Arc::new(rt.alloc(), AtomicU64::new(0))?;
-    let pool = Pool::<_, Waits<_>, Nobody>::new(rt, rt.alloc(), 4)?;
-    let waits = Waits {
-        key: None,
-        number: Arc::try_clone(&number)?,
-    };
-    let mut task = pool.spawn(waits).ok().ok_or(AllocError)?;
+    let pool = WaitsPool::new(rt, rt.alloc(), 4)?;
+    let mut task = spawn_waits(&pool, &number)?;
     let (began, woke) = thread::join(
         &rt,
-        || thread::map_indices(
-            &rt,
-            rt.alloc(),
-            pool.workers(),
-            &|worker| { pool.run(worker).is_ok() },
-        ),
-        || wake_once(rt, &pool, &number),
+        || thread::map_indices(&rt, rt.alloc(), 4, &|worker| pool.run(worker).is_ok()),
+        || wake_once(&pool, &number),
     );
-    assert!(rt; began?.iter().all(|began| *began));
-    assert!(rt; woke);
-    assert!(rt; matches!(task.poll(&Nobody), TaskPoll::Ready(Ok(7))));
+    let began = all_began(began?);
+    let answer = output_of(&mut task);
+    assert!(rt; began && woke && answer == Some(7));
     Ok(())
 }
 
 #[test]
 fn a_shutdown_cancels_a_task_that_waits(rt: HostRuntime) -> Result<(), Fail> {
     let number = Arc::new(rt.alloc(), AtomicU64::new(0))?;
-    let pool = Pool::<_, Waits<_>, Nobody>::new(rt, rt.alloc(), 1)?;
-    let waits = Waits {
-        key: None,
-        number: Arc::try_clone(&number)?,
-    };
-    let mut task = pool.spawn(waits).ok().ok_or(AllocError)?;
+    let pool = WaitsPool::new(rt, rt.alloc(), 1)?;
+    let mut task = spawn_waits(&pool, &number)?;
     let mut turns = pool.turns(0)?;
     let ran = pool.tick(&mut turns);
-    let places = pool.wakers.len(&rt);
+    let before = places(&pool);
     pool.shutdown();
-    let is_closed = matches!(task.poll(&Nobody), TaskPoll::Ready(Err(_)));
-    let left = (pool.wakers.len(&rt), Arc::strong_count(&number));
-    assert!(rt; ran && places == 1 && is_closed);
-    assert!(rt; left == (0, 1));
+    let closed = is_closed(&mut task);
+    let (after, left) = (places(&pool), Arc::strong_count(&number));
+    assert!(rt; ran && before == 1 && closed && after == 0 && left == 1);
     Ok(())
 }
 
 #[test]
 fn a_shutdown_cancels_a_task_that_is_kept(rt: HostRuntime) -> Result<(), Fail> {
     let number = Arc::new(rt.alloc(), AtomicU64::new(0))?;
-    let pool = Pool::<_, Waits<HostRuntime>, Nobody>::new(rt, rt.alloc(), 1)?;
-    let waits = Waits {
-        key: None,
-        number: Arc::try_clone(&number)?,
-    };
-    let task = pool.spawn(waits).ok().ok_or(AllocError)?;
+    let pool = WaitsPool::new(rt, rt.alloc(), 1)?;
+    let task = spawn_waits(&pool, &number)?;
     let key = place_for_task(&pool).ok_or(AllocError)?;
-    keep_task(task, &key);
+    let kept = keep_task(task, &key).is_ok();
     pool.shutdown();
     let is_gone = poll_kept((&pool, 0), &key, &Nobody).is_none();
     let left = Arc::strong_count(&number);
-    assert!(rt; is_gone && left == 1);
+    assert!(rt; kept && is_gone && left == 1);
     Ok(())
 }

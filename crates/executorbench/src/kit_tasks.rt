@@ -1,6 +1,6 @@
 //! The futures that are run on the kit's `TaskSet`.
 
-use crate::tally::Tally;
+use bench_report::tally::Tally;
 use futures::task::{Context, Poll, Source, Waker};
 use futures::{Future, ready, spin};
 use std::alloc::{AllocError, Global};

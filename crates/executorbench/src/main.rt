@@ -1,28 +1,22 @@
 //! The program that measures the pool of `executor` beside the kit's `futures`: tasks in a second, and the memory of a task.
-//! It stands on `executor`, `task_group` and `awaiters`, and on the kit's `futures`.
-//! A user runs it; its modules have a subject each, and `lines` has a function for each line on each executor.
+//! It stands on `executor`, `task_group` and `awaiters`, on the kit's `futures`, and on `bench_report` for arguments and tables.
+//! A user runs it; a module has the futures of an executor, and one its lines.
 //! Nothing is public only to carry a claim.
 //! The page is docs/PERFORMANCE.md.
 #![tactic(auto)]
 
-mod asked;
-mod failure;
 mod kit_tasks;
-mod lines;
-mod memory;
 mod on_futures;
 mod on_pool;
 mod pool_tasks;
-mod report;
-mod tally;
 
-use failure::Failure;
-use lines::{Line, Size};
+use bench_report::failure::Failure;
+use bench_report::lines::{Executor, Line, Size};
+use bench_report::report::answer;
+use bench_report::tally::Measured;
 use on_pool::JobPool;
-use report::Bench;
 use std::process::ExitCode;
 use std::{env, io};
-use tally::Measured;
 
 fn main(rt: HostRuntime) -> io::Result<ExitCode> {
     let alloc = rt.alloc();
@@ -44,14 +38,12 @@ fn main(rt: HostRuntime) -> io::Result<ExitCode> {
             &|worker| pool.run(worker).is_ok(),
         )
     };
-    let bench = Bench {
-        rt,
-        alloc,
-        on_pool: &on_pool,
+    let measure = |executor: Executor, line: Line, size: Size| -> Result<Measured, Failure> {
+        match executor {
+            Executor::Pool => on_pool(line, size),
+            Executor::Futures => on_futures::measure(rt, alloc, line, size),
+        }
     };
-    let status = bench.answer(args.as_slice(), &mut out, &mut err);
+    let status = answer(alloc, args.as_slice(), &measure, &mut out, &mut err);
     Ok(ExitCode::from(status))
 }
-
-#[cfg(test)]
-mod tests;

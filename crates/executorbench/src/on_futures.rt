@@ -1,9 +1,9 @@
 //! The lines on the `TaskSet` of the kit's `futures`.
 
-use crate::failure::Failure;
 use crate::kit_tasks::{Job, Row};
-use crate::lines::{Line, Size};
-use crate::tally::{Measured, Start, Tally};
+use bench_report::failure::Failure;
+use bench_report::lines::{Line, Size};
+use bench_report::tally::{Measured, Start, Tally};
 use futures::executor::{TaskSet, block_on};
 use futures::future::{Remote, RemoteHandle};
 use futures::stream::FuturesUnordered;

@@ -1,10 +1,10 @@
 //! The lines on the pool of `executor`.
 
-use crate::failure::Failure;
-use crate::lines::{Line, Size};
 use crate::pool_tasks::{Job, Row};
-use crate::tally::{Measured, Start, Tally};
 use awaiters::Awaiter;
+use bench_report::failure::Failure;
+use bench_report::lines::{Line, Size};
+use bench_report::tally::{Measured, Start, Tally};
 use executor::{Place, Pool, PoolTask, ToPool};
 use std::alloc::Global;
 use std::fs::Files;

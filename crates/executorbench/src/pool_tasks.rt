@@ -1,9 +1,9 @@
 //! The futures that are run on the pool.
 ghost use Rattle.std.specs.Prelude.{⊤};
 
-use crate::tally::Tally;
 use async_task::{Future, Poll, Yields};
 use awaiters::Awaiter;
+use bench_report::tally::Tally;
 use executor::{Place, PoolWaker, keep_waker, place_for_waker, wake_kept};
 use handle_store::Key;
 use std::alloc::{AllocError, Global};

@@ -2,13 +2,17 @@
 ghost use Rattle.std.specs.Prelude.{◌≡◌, IfErr};
 
 use slab::Slab;
-use std::alloc::{AllocError, AllocFailed, Global};
+use std::alloc::{AllocError, Global};
+use std::sync::atomic::{AtomicBool, Ordering};
 use std::sync::{Arc, Mutex, Wait};
 
-/// The numbers of keys that were dropped.
+/// What a store shares with its keys.
 #[derive(Drop)]
 struct Returned {
+    // The numbers of keys that were dropped.
     numbers: Mutex<Vec<usize>>,
+    // Set for a moment by a call that asks whose key it was given. Only who has the lock of the numbers writes it.
+    is_marked: AtomicBool,
 }
 
 /// Handles by number. A future keeps the key, and what it waits for the number.
@@ -49,10 +53,13 @@ impl<R: Wait + Drop + Copy> Key<R> {
 impl<H: Drop> Store<H> {
     /// An empty store. An error says that there was no memory.
     pub fn new(alloc: Global) -> Result<Store<H>, AllocError> {
-        let numbers = Mutex::new(Vec::new(alloc));
+        let returned = Returned {
+            numbers: Mutex::new(Vec::new(alloc)),
+            is_marked: AtomicBool::new(false),
+        };
         Ok(Store {
             places: Mutex::new(Slab::new(alloc)),
-            returned: Arc::new(alloc, Returned { numbers })?,
+            returned: Arc::new(alloc, returned)?,
         })
     }
 
@@ -73,16 +80,48 @@ impl<H: Drop> Store<H> {
         })
     }
 
-    /// Puts a handle into a place, and answers what comes out: the handle that was there, or this one where there is no such place.
-    pub fn put<R: Wait>(&self, rt: &R, number: usize, handle: H) -> Option<H> {
+    // Whether a key is of this store: whether this store sees a mark that comes and goes at what the key shares with its own. The caller has
+    // the lock of the places: meanwhile nobody marks here but a call that asks another store for a key of this one.
+    fn knows<R: Wait + Drop + Copy>(&self, key: &Key<R>) -> bool {
+        let numbers = key.returned.numbers.lock(&key.rt);
+        key.returned.is_marked.store(true, Ordering::SeqCst);
+        let came = self.returned.is_marked.load(Ordering::SeqCst);
+        key.returned.is_marked.store(false, Ordering::SeqCst);
+        let went = !self.returned.is_marked.load(Ordering::SeqCst);
+        drop(numbers);
+        came && went
+    }
+
+    /// Puts a handle into the place of a key, and answers the handle that was there. `Err` has this one back, where the key is of another store; then
+    /// no place has changed.
+    pub fn put<R: Wait + Drop + Copy>(
+        &self,
+        rt: &R,
+        key: &Key<R>,
+        handle: H,
+    ) -> Result<Option<H>, H>
+        ensures refused { IfErr result (λ back. back ≡ handle) }
+    {
         let mut places = self.places.lock(rt);
-        match places.get_mut(number) {
-            Some(place) => place.replace(handle),
-            None => Some(handle),
+        if !self.knows(key) {
+            return Err(handle);
+        }
+        match places.get_mut(key.number) {
+            Some(place) => Ok(place.replace(handle)),
+            None => Err(handle),
         }
     }
 
-    /// Takes the handle out of a place, if there is one. The place stays that of its key.
+    /// Takes the handle out of the place of a key, if there is one. `None` also where the key is of another store.
+    pub fn take_of<R: Wait + Drop + Copy>(&self, rt: &R, key: &Key<R>) -> Option<H> {
+        let mut places = self.places.lock(rt);
+        if !self.knows(key) {
+            return None;
+        }
+        places.get_mut(key.number)?.take()
+    }
+
+    /// Takes the handle out of the place of a number, if there is one. The place stays that of its key.
     pub fn take<R: Wait>(&self, rt: &R, number: usize) -> Option<H> {
         let mut places = self.places.lock(rt);
         places.get_mut(number)?.take()

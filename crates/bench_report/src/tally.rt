@@ -129,7 +129,9 @@ impl Start {
 
 impl Measured {
     /// What a measurement found whose tasks are counted. An error says that not all of them ended.
-    pub fn new(tally: &Tally, elapsed: Duration, grown: Option<u64>) -> Result<Measured, Failure> {
+    pub fn new(tally: &Tally, elapsed: Duration, grown: Option<u64>) -> Result<Measured, Failure>
+        ensures all { IfOk result (λ measured. measured.ended ≡ tally.now.wanted) }
+    {
         let ended = tally.ended();
         if ended != tally.wanted() {
             return Err(Failure::Lost(ended, tally.wanted()));

@@ -1,5 +1,6 @@
 //! What the arguments ask for.
-ghost use Rattle.std.specs.Prelude.{◌≡◌, ◌≤◌, [], None, IfSome};
+ghost use Rattle.std.specs.Prelude.{◌≡◌, ◌≤◌, IsSome, IfSome};
+ghost use Rattle.bench_report.specs.Arguments.{BeginWithKnownWord};
 
 use crate::lines::{Executor, Line, Size};
 
@@ -26,7 +27,7 @@ pub enum Request {
 
 /// What the arguments ask for, or `None` where that is not known.
 pub fn asked(args: &[String]) -> Option<Request>
-    ensures nothing { args.now ≡ [] → result ≡ None }
+    ensures known { IsSome result → BeginWithKnownWord args.now }
 {
     match args {
         [word] if word.as_str() == "--help" => Some(Request::Help),
@@ -55,7 +56,7 @@ fn tasks_of(word: &str) -> Option<u64>
 
 // A number of threads, from 1 on.
 fn threads_of(word: &str) -> Option<usize>
-    ensures { IfSome result (λ threads. 1 ≤ threads) }
+    ensures { IfSome result (λ threads. (1 ≤ threads) × (threads ≤ 64)) }
 {
     let threads = word.parse::<usize>().ok()?;
     if threads == 0 || threads > MOST_THREADS {

@@ -1,13 +1,11 @@
-//! Tests of the arguments, and that each measurement counts all its tasks.
+//! Tests of the arguments, of the count, and of what is printed of measurements.
 
 use crate::asked::{MOST_THREADS, Request, asked};
 use crate::failure::Failure;
 use crate::lines::{Executor, Line, Size};
 use crate::memory::resident_of;
-use crate::on_pool::JobPool;
-use crate::report::{Bench, per_second};
+use crate::report::{answer, per_second};
 use crate::tally::{Measured, Tally};
-use crate::{on_futures, on_pool};
 use std::alloc::{AllocError, AllocFailed, Global};
 use std::io;
 use std::test::Fail;
@@ -26,6 +24,47 @@ fn words_of(alloc: Global, line: &str) -> Result<Vec<String>, AllocError> {
 // What a line of arguments asks for.
 fn asked_by(alloc: Global, line: &str) -> Result<Option<Request>, AllocError> {
     Ok(asked(words_of(alloc, line)?.as_slice()))
+}
+
+// What the program answers to a line of arguments.
+#[derive(Drop)]
+struct Told {
+    status: u8,
+    out: String,
+    err: String,
+}
+
+// The answer where a task needs a millisecond and 100 bytes of the pool, and two milliseconds and no known memory of the kit. More than
+// `most` tasks lose one.
+fn answer_to(alloc: Global, line: &str, most: u64) -> Result<Told, Fail> {
+    let measure = |executor: Executor, _: Line, size: Size| -> Result<Measured, Failure> {
+        if size.tasks > most {
+            return Err(Failure::Lost(size.tasks.saturating_sub(1), size.tasks));
+        }
+        Ok(measured_by(executor, size.tasks))
+    };
+    let words = words_of(alloc, line)?;
+    let mut out = Vec::new(alloc);
+    let mut err = Vec::new(alloc);
+    let status = answer(alloc, words.as_slice(), &measure, &mut out, &mut err);
+    let out = String::from_utf8(out)?;
+    let err = String::from_utf8(err)?;
+    Ok(Told { status, out, err })
+}
+
+fn measured_by(executor: Executor, ended: u64) -> Measured {
+    match executor {
+        Executor::Pool => Measured {
+            ended,
+            elapsed: Duration::from_millis(ended),
+            grown: Some(ended.saturating_mul(100)),
+        },
+        Executor::Futures => Measured {
+            ended,
+            elapsed: Duration::from_millis(ended.saturating_mul(2)),
+            grown: None,
+        },
+    }
 }
 
 #[test]
@@ -83,38 +122,6 @@ fn each_name_names_its_line_and_its_executor(rt: HostRuntime) {
     }
 }
 
-// One task, and more tasks than a queue has room for at first.
-#[test]
-fn each_line_counts_all_its_tasks(rt: HostRuntime) -> Result<(), Fail> {
-    let alloc = rt.alloc();
-    let on_pool = |line: Line, size: Size| -> Result<Measured, Failure> {
-        let pool = JobPool::new(rt, alloc, size.threads)?;
-        on_pool::measure(
-            rt,
-            alloc,
-            &pool,
-            line,
-            size,
-            &|worker| pool.run(worker).is_ok(),
-        )
-    };
-    let mut complete = 0u64;
-    for line in Line::ALL {
-        for (tasks, threads) in [(1, 1), (100, 1), (100, 2), (100, 3)] {
-            let size = Size { tasks, threads };
-            for measured in [
-                on_pool(line, size),
-                on_futures::measure(rt, alloc, line, size),
-            ] {
-                let ended = measured.map_or(0, |it| it.ended);
-                complete = complete.wrapping_add(u64::from(ended == tasks));
-            }
-        }
-    }
-    assert_eq!(rt; complete, 40);
-    Ok(())
-}
-
 #[test]
 fn a_lost_task_is_told(rt: HostRuntime) -> Result<(), Fail> {
     let tally = Tally::new(rt.alloc(), 2)?;
@@ -167,43 +174,18 @@ const USAGE: &str =
 
 #[test]
 fn unknown_words_are_told_the_usage(rt: HostRuntime) -> Result<(), Fail> {
-    let alloc = rt.alloc();
-    let on_pool = |_line: Line, _size: Size| -> Result<Measured, Failure> {
-        Err(Failure::NoMemory)
-    };
-    let bench = Bench {
-        rt,
-        alloc,
-        on_pool: &on_pool,
-    };
-    let words = words_of(alloc, "fast")?;
-    let mut out = Vec::new(alloc);
-    let mut err = Vec::new(alloc);
-    let status = bench.answer(words.as_slice(), &mut out, &mut err);
-    assert_eq!(rt; (status, out.len()), (2, 0));
-    assert_eq!(rt; err.as_slice(), USAGE.as_bytes());
+    let told = answer_to(rt.alloc(), "fast", 0)?;
+    assert_eq!(rt; (told.status, told.out.as_str()), (2, ""));
+    assert_eq!(rt; told.err.as_str(), USAGE);
     Ok(())
 }
 
 // The help begins with the usage, and tells each argument, line and executor.
 #[test]
 fn the_help_lists_what_may_be_written(rt: HostRuntime) -> Result<(), Fail> {
-    let alloc = rt.alloc();
-    let on_pool = |_line: Line, _size: Size| -> Result<Measured, Failure> {
-        Err(Failure::NoMemory)
-    };
-    let bench = Bench {
-        rt,
-        alloc,
-        on_pool: &on_pool,
-    };
-    let words = words_of(alloc, "--help")?;
-    let mut out = Vec::new(alloc);
-    let mut err = Vec::new(alloc);
-    let status = bench.answer(words.as_slice(), &mut out, &mut err);
-    assert_eq!(rt; (status, err.len()), (0, 0));
-    assert!(rt; out.as_slice().starts_with(USAGE.as_bytes()));
-    let text = String::from_utf8(out)?;
+    let told = answer_to(rt.alloc(), "--help", 0)?;
+    assert_eq!(rt; (told.status, told.err.as_str()), (0, ""));
+    assert!(rt; told.out.as_str().starts_with(USAGE));
     for word in [
         "    check ",
         "    run [COUNT] ",
@@ -213,27 +195,49 @@ fn the_help_lists_what_may_be_written(rt: HostRuntime) -> Result<(), Fail> {
         "    spawn\n    yield\n    chain\n    handoff\n    group\n",
         "    pool\n    futures\n",
     ] {
-        assert!(rt; text.as_str().contains(word), "{word}");
+        assert!(rt; told.out.as_str().contains(word), "{word}");
     }
     Ok(())
 }
 
 #[test]
 fn one_measurement_prints_a_line(rt: HostRuntime) -> Result<(), Fail> {
-    let alloc = rt.alloc();
-    let on_pool = |_line: Line, _size: Size| -> Result<Measured, Failure> {
-        Err(Failure::NoMemory)
-    };
-    let bench = Bench {
-        rt,
-        alloc,
-        on_pool: &on_pool,
-    };
-    let words = words_of(alloc, "one futures spawn 2 9")?;
-    let mut out = Vec::new(alloc);
-    let mut err = Vec::new(alloc);
-    let status = bench.answer(words.as_slice(), &mut out, &mut err);
-    assert_eq!(rt; (status, err.len()), (0, 0));
-    assert!(rt; out.as_slice().starts_with(b"ended 9 per_second "));
+    let of_pool = answer_to(rt.alloc(), "one pool spawn 2 9", 9)?;
+    assert_eq!(rt; (of_pool.status, of_pool.err.as_str()), (0, ""));
+    assert_eq!(rt; of_pool.out.as_str(), "ended 9 per_second 1000 bytes 100\n");
+    let of_kit = answer_to(rt.alloc(), "one futures spawn 2 9", 9)?;
+    assert_eq!(rt; of_kit.out.as_str(), "ended 9 per_second 500 bytes -\n");
+    Ok(())
+}
+
+// A line for each number of threads, and a tenth of the tasks but in `spawn`.
+#[test]
+fn a_table_has_all_lines(rt: HostRuntime) -> Result<(), Fail> {
+    let told = answer_to(rt.alloc(), "run 90", 90)?;
+    assert_eq!(rt; (told.status, told.err.as_str()), (0, ""));
+    assert_eq!(rt; told.out.as_str().lines().count(), 17);
+    for line in [
+        "| spawn | 90 | 4 | 1000 | 500 | 100 | - |",
+        "| yield | 9 | 1 | 1000 | 500 | 100 | - |",
+        "| group | 9 | 2 | 1000 | 500 | 100 | - |",
+    ] {
+        assert!(rt; told.out.as_str().contains(line), "{line}");
+    }
+    Ok(())
+}
+
+// Nothing is printed of the line that fails, and none after it.
+#[test]
+fn a_line_that_fails_gives_status_one(rt: HostRuntime) -> Result<(), Fail> {
+    let told = answer_to(rt.alloc(), "check", 499)?;
+    assert_eq!(rt; told.status, 1);
+    assert_eq!(rt;
+        told.out.as_str(),
+        "spawn threads 1 ended pool 1 futures 1\n"
+    );
+    assert_eq!(rt;
+        told.err.as_str(),
+        "executorbench: 499 of 500 tasks ended\n"
+    );
     Ok(())
 }

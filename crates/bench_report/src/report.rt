@@ -1,0 +1,281 @@
+//! The answer to the arguments, and what is printed.
+ghost use Rattle.std.specs.Prelude.{◌≡◌, ◌≤◌, IsErr};
+ghost use Rattle.bench_report.specs.Arguments.{BeginWithKnownWord};
+
+use crate::asked::{Request, asked};
+use crate::failure::Failure;
+use crate::lines::{Executor, Line, Size};
+use crate::tally::Measured;
+use std::alloc::Global;
+use std::time::Duration;
+use std::{fmt, io};
+
+const USAGE: &str =
+    "usage: executorbench [check | run [COUNT] | grow | one EXECUTOR LINE THREADS COUNT]";
+
+const HELP: &str = "
+Measures the pool beside the kit's futures: tasks a second, and bytes a task.
+
+    check                               few tasks for each line, and no times: the tasks that ended
+    run [COUNT]                         all lines on 1, 2 and 4 threads: COUNT tasks in spawn, or 10000, and a tenth in the others
+    grow                                spawn and group with 10000, 100000 and 1000000 tasks
+    one EXECUTOR LINE THREADS COUNT     one measurement
+    --help                              this text
+
+Each line fails where not all of its tasks ended. The lines and the executors:
+
+";
+
+const HEAD: &str = "\
+| line | tasks | threads | pool, tasks/s | futures, tasks/s | pool, bytes | futures, bytes |
+| --- | --- | --- | --- | --- | --- | --- |";
+
+// The numbers of threads of a table.
+const THREADS: [usize; 3] = [1, 2, 4];
+
+// How many tasks `check` has, and on how many threads: also one alone.
+const CHECKED: [(u64, usize); 5] = [(1, 1), (500, 1), (500, 2), (500, 3), (500, 4)];
+
+// How often each line is measured for a table.
+const REPETITIONS: u32 = 5;
+
+// What repeated measurements gave.
+#[derive(Clone, Copy)]
+struct Summary {
+    // Tasks that ended in a second: the median.
+    per_second: u64,
+    // The bytes of a task: the most that was found.
+    bytes: Bytes,
+}
+
+// A number of bytes. It is printed as a dash where it is not known.
+#[derive(Clone, Copy)]
+struct Bytes(Option<u64>);
+
+impl fmt::Display for Bytes {
+    fn fmt<W: fmt::Write>(&self, f: &mut fmt::Formatter<W>) -> fmt::Result {
+        match self.0 {
+            Some(bytes) => write!(f, "{bytes}"),
+            None => write!(f, "-"),
+        }
+    }
+}
+
+/// Does what the arguments ask for, and answers the status. `measure` measures a line on an executor once.
+///
+/// The status is 0; 1 where a line or a writer failed, which is told on `err`; and 2, with the usage on `err`, where it is not known
+/// what is asked for.
+pub fn answer<M, O: io::Write, E: io::Write>(
+    alloc: Global,
+    args: &[String],
+    measure: &M,
+    out: &mut O,
+    err: &mut E,
+) -> u8
+where
+    M: Fn(Executor, Line, Size) -> Result<Measured, Failure>,
+    requires { M.IsAlwaysCallable measure.now }
+    ensures status { result ≤ 2 }
+    ensures unknown { ¬ BeginWithKnownWord args.now → result ≡ 2 }
+{
+    let Some(request) = asked(args) else {
+        let _ = writeln!(err, "{USAGE}");
+        return 2;
+    };
+    let printed = print(alloc, request, measure, out);
+    status_of(printed, err)
+}
+
+// The status; a failure is told on `err`.
+fn status_of<E: io::Write>(printed: Result<(), Failure>, err: &mut E) -> u8
+    ensures status { result ≤ 1 }
+    ensures failed { IsErr printed → result ≡ 1 }
+{
+    if let Err(failure) = &printed {
+        let _ = writeln!(err, "executorbench: {failure}");
+    }
+    u8::from(printed.is_err())
+}
+
+fn print<M, O: io::Write>(
+    alloc: Global,
+    request: Request,
+    measure: &M,
+    out: &mut O,
+) -> Result<(), Failure>
+where
+    M: Fn(Executor, Line, Size) -> Result<Measured, Failure>,
+    requires { M.IsAlwaysCallable measure.now }
+{
+    match request {
+        Request::Help => print_help(out)?,
+        Request::Check => print_check(measure, out)?,
+        Request::Run(tasks) => print_run(alloc, tasks, measure, out)?,
+        Request::Grow => print_growth(alloc, measure, out)?,
+        Request::One(executor, line, size) => {
+            let measured = measure(executor, line, size)?;
+            print_one(measured, size.tasks, out)?;
+        }
+    }
+    out.flush()?;
+    Ok(())
+}
+
+// How many of few tasks ended, for each line.
+fn print_check<M, O: io::Write>(measure: &M, out: &mut O) -> Result<(), Failure>
+where
+    M: Fn(Executor, Line, Size) -> Result<Measured, Failure>,
+    requires { M.IsAlwaysCallable measure.now }
+{
+    for line in Line::ALL {
+        for (tasks, threads) in CHECKED {
+            let size = Size { tasks, threads };
+            let pool = measure(Executor::Pool, line, size)?.ended;
+            let futures = measure(Executor::Futures, line, size)?.ended;
+            let name = line.name();
+            writeln!(
+                out,
+                "{name} threads {threads} ended pool {pool} futures {futures}"
+            )?;
+        }
+    }
+    Ok(())
+}
+
+// The table of all lines.
+fn print_run<M, O: io::Write>(
+    alloc: Global,
+    tasks: u64,
+    measure: &M,
+    out: &mut O,
+) -> Result<(), Failure>
+where
+    M: Fn(Executor, Line, Size) -> Result<Measured, Failure>,
+    requires { M.IsAlwaysCallable measure.now }
+{
+    writeln!(out, "{HEAD}")?;
+    for line in Line::ALL {
+        print_rows(alloc, line, tasks_in(line, tasks), measure, out)?;
+    }
+    Ok(())
+}
+
+// How many tasks a line has in a table of all lines: `spawn` has so many, and the others a tenth, at least one.
+fn tasks_in(line: Line, tasks: u64) -> u64 {
+    if line == Line::Spawn {
+        tasks
+    } else {
+        (tasks / 10).max(1)
+    }
+}
+
+// The table of what grows.
+fn print_growth<M, O: io::Write>(alloc: Global, measure: &M, out: &mut O) -> Result<(), Failure>
+where
+    M: Fn(Executor, Line, Size) -> Result<Measured, Failure>,
+    requires { M.IsAlwaysCallable measure.now }
+{
+    writeln!(out, "{HEAD}")?;
+    for line in [Line::Spawn, Line::Group] {
+        for tasks in [10_000, 100_000, 1_000_000] {
+            print_rows(alloc, line, tasks, measure, out)?;
+        }
+    }
+    Ok(())
+}
+
+// A line of a table for each number of threads.
+fn print_rows<M, O: io::Write>(
+    alloc: Global,
+    line: Line,
+    tasks: u64,
+    measure: &M,
+    out: &mut O,
+) -> Result<(), Failure>
+where
+    M: Fn(Executor, Line, Size) -> Result<Measured, Failure>,
+    requires { M.IsAlwaysCallable measure.now }
+{
+    for threads in THREADS {
+        let size = Size { tasks, threads };
+        let pool = summarize(alloc, Executor::Pool, line, size, measure)?;
+        let futures = summarize(alloc, Executor::Futures, line, size, measure)?;
+        print_row(line, size, pool, futures, out)?;
+    }
+    Ok(())
+}
+
+fn print_row<O: io::Write>(
+    line: Line,
+    size: Size,
+    pool: Summary,
+    futures: Summary,
+    out: &mut O,
+) -> Result<(), Failure> {
+    let name = line.name();
+    write!(out, "| {name} | {} | {} |", size.tasks, size.threads)?;
+    write!(out, " {} | {} |", pool.per_second, futures.per_second)?;
+    writeln!(out, " {} | {} |", pool.bytes, futures.bytes)?;
+    out.flush()?;
+    Ok(())
+}
+
+fn print_one<O: io::Write>(measured: Measured, tasks: u64, out: &mut O) -> Result<(), Failure> {
+    let ended = measured.ended;
+    let rate = per_second(ended, measured.elapsed);
+    let bytes = bytes_of_one(measured.grown, tasks);
+    writeln!(out, "ended {ended} per_second {rate} bytes {bytes}")?;
+    Ok(())
+}
+
+// Measures a line on an executor several times.
+fn summarize<M>(
+    alloc: Global,
+    executor: Executor,
+    line: Line,
+    size: Size,
+    measure: &M,
+) -> Result<Summary, Failure>
+where
+    M: Fn(Executor, Line, Size) -> Result<Measured, Failure>,
+    requires { M.IsAlwaysCallable measure.now }
+{
+    let mut rates = Vec::new(alloc);
+    let mut most = None;
+    for _ in 0..REPETITIONS {
+        let measured = measure(executor, line, size)?;
+        rates.push(per_second(measured.ended, measured.elapsed))?;
+        most = most.max(measured.grown);
+    }
+    rates.sort_unstable();
+    let per_second = rates.get(rates.len() / 2).copied().unwrap_or(0);
+    let bytes = bytes_of_one(most, size.tasks);
+    Ok(Summary { per_second, bytes })
+}
+
+// What may be written: the arguments, and the names of the lines and the executors.
+fn print_help<O: io::Write>(out: &mut O) -> Result<(), Failure> {
+    write!(out, "{USAGE}\n{HELP}")?;
+    for line in Line::ALL {
+        let name = line.name();
+        writeln!(out, "    {name}")?;
+    }
+    writeln!(out)?;
+    for executor in Executor::ALL {
+        let name = executor.name();
+        writeln!(out, "    {name}")?;
+    }
+    Ok(())
+}
+
+/// How many of these there were in a second; in no time, none.
+pub fn per_second(number: u64, elapsed: Duration) -> u64 {
+    let scaled = u128::from(number).saturating_mul(1_000_000_000);
+    let rate = scaled.checked_div(elapsed.as_nanos()).unwrap_or(0);
+    u64::try_from(rate).unwrap_or(u64::MAX)
+}
+
+// The part of one task.
+fn bytes_of_one(grown: Option<u64>, tasks: u64) -> Bytes {
+    Bytes(grown.and_then(|bytes| bytes.checked_div(tasks)))
+}
