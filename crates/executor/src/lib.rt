@@ -6,21 +6,9 @@
 #![tactic(auto)]
 
 pub mod bell_awaiter;
-#[cfg(test)]
-mod cancel_tests;
-#[cfg(test)]
-mod guest;
-#[cfg(test)]
-mod hostile_tests;
 pub mod kept;
 pub mod pool;
 pub mod running;
-#[cfg(test)]
-mod storm_tests;
-#[cfg(test)]
-mod tests;
-#[cfg(test)]
-mod waiting_tests;
 
 pub use bell_awaiter::BellAwaiter;
 pub use kept::{

@@ -80,9 +80,33 @@ impl<R: Wait + Drop + Copy, F: Yields, A: Wake> Pool<R, F, A> {
         })
     }
 
+    /// What its threads wait by: a future takes a lock by it, which it reaches by `waker.around()`.
+    pub fn rt(&self) -> R
+        ensures { result ≡ self.now.rt }
+    {
+        self.rt
+    }
+
+    /// Where its memory comes from.
+    pub fn alloc(&self) -> Global
+        ensures { result ≡ self.now.alloc }
+    {
+        self.alloc
+    }
+
     /// How many workers it has.
     pub fn workers(&self) -> usize {
         self.crew.workers()
+    }
+
+    /// How many places for wakers are taken: those whose key is there, and those of dropped keys that no worker has freed yet.
+    pub fn kept_wakers(&self) -> usize {
+        self.wakers.len(&self.rt)
+    }
+
+    /// How many places for Tasks are taken, counted in the same way.
+    pub fn kept_tasks(&self) -> usize {
+        self.tasks.len(&self.rt)
     }
 
     /// What a thread needs to be the worker of this number. An error says that there was no memory, or that there is no such worker. Two threads may not be one worker: both would sleep where one is woken.

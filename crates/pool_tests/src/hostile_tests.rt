@@ -2,9 +2,9 @@
 use crate::guest::{
     Errand, GuestPool, Guests, is_closed, output_of, shares_and_polls, spawn_guest, spawn_guests,
 };
-use crate::kept::{keep_task, place_for_task, poll_kept, wake_kept};
 use async_task::TaskPoll;
 use awaiters::Nobody;
+use executor::{keep_task, place_for_task, poll_kept, wake_kept};
 use handle_store::Key;
 use std::alloc::AllocError;
 use std::sync::{Arc, Wait};

@@ -1,10 +1,9 @@
 //! Storms of wakes by other threads: none is lost, and a shutdown in the middle leaves nothing.
 ghost use Rattle.std.specs.Prelude.{⊤};
 
-use crate::kept::{collect, keep_waker, place_for_waker, wake_kept};
-use crate::pool::{Pool, PoolTask, PoolWaker};
 use async_task::{Future, Poll, TaskPoll, Yields};
 use awaiters::Nobody;
+use executor::{Pool, PoolTask, PoolWaker, collect, keep_waker, place_for_waker, wake_kept};
 use handle_store::Key;
 use std::alloc::{AllocError, Global};
 use std::collections::VecDeque;
@@ -208,7 +207,7 @@ fn all_ran(ran: Vec<bool>) -> bool {
 
 // How many places for wakers are taken, and how many shares there are of a storm.
 fn left_of<R: Wait + Drop + Copy>(pool: &StormPool<R>, storm: &Arc<Storm>) -> (usize, usize) {
-    (pool.wakers.len(&pool.rt), Arc::strong_count(storm))
+    (pool.kept_wakers(), Arc::strong_count(storm))
 }
 
 #[test]

@@ -1,9 +1,9 @@
 //! A future of the tests, which does one of several things, and what such futures count together.
 ghost use Rattle.std.specs.Prelude.{⊤};
 
-use crate::pool::{Pool, PoolTask, PoolWaker};
 use async_task::{Future, Poll, TaskPoll, Wake, Yields};
 use awaiters::Nobody;
+use executor::{Pool, PoolTask, PoolWaker};
 use std::alloc::{AllocError, Global};
 use std::collections::VecDeque;
 use std::sync::atomic::{AtomicBool, AtomicU64, Ordering};
@@ -107,9 +107,9 @@ impl<'x, R: Wait + Drop + Copy, A: Wake> Future<PoolWaker<'x, R, Guest, A>> for 
                 waker.wake_by_ref();
                 Poll::Pending
             }
-            Errand::Spin => Poll::Ready(self.guests.spin(&pool.rt)),
+            Errand::Spin => Poll::Ready(self.guests.spin(&pool.rt())),
             Errand::SpinAndEnd => {
-                let ended = self.guests.spin(&pool.rt);
+                let ended = self.guests.spin(&pool.rt());
                 pool.shutdown();
                 Poll::Ready(ended)
             }
@@ -147,11 +147,11 @@ pub fn spawn_guests<'x, R: Wait + Drop + Copy>(
     count: u64,
     guests: &Arc<Guests>,
 ) -> Result<Vec<GuestTask<'x, R>>, AllocError> {
-    let mut futures = VecDeque::new(pool.alloc);
+    let mut futures = VecDeque::new(pool.alloc());
     for _ in 0..count {
         futures.push_back(Guest::new(Errand::GiveWay(10), guests)?)?;
     }
-    let mut tasks = Vec::new(pool.alloc);
+    let mut tasks = Vec::new(pool.alloc());
     pool.spawn_many(worker, &mut futures, &mut tasks)?;
     Ok(tasks)
 }

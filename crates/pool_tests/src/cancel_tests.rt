@@ -1,10 +1,9 @@
 //! The cancel of a parent that keeps children and wakers: all children are cancelled, and all wakers freed.
 ghost use Rattle.std.specs.Prelude.{⊤};
 
-use crate::kept::{collect, keep_task, keep_waker, place_for_task, place_for_waker};
-use crate::pool::{Pool, PoolWaker};
 use async_task::{Future, Poll, Yields};
 use awaiters::Nobody;
+use executor::{Pool, PoolWaker, collect, keep_task, keep_waker, place_for_task, place_for_waker};
 use handle_store::Key;
 use std::alloc::{AllocError, Global};
 use std::sync::atomic::{AtomicU64, Ordering};
@@ -108,8 +107,8 @@ fn seen<R: Wait + Drop + Copy>(
     dropped: &AtomicU64,
 ) -> (u64, u64, u64) {
     (
-        pool.wakers.len(&pool.rt) as u64,
-        pool.tasks.len(&pool.rt) as u64,
+        pool.kept_wakers() as u64,
+        pool.kept_tasks() as u64,
         dropped.load(Ordering::SeqCst),
     )
 }

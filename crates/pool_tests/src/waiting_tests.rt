@@ -1,8 +1,6 @@
 //! `block_on` of a pool: alone, beside another worker, for a task that is closed, and after a shutdown.
-use crate::bell_awaiter::BellAwaiter;
 use crate::guest::{Errand, Guest, Guests, shares_and_polls, spawn_guest};
-use crate::pool::Pool;
-use crate::running::BlockOnError;
+use executor::{BellAwaiter, BlockOnError, Pool};
 use std::test::Fail;
 use std::thread;
 

@@ -1,10 +1,12 @@
 //! Programs of tasks on pools of one, two and four threads.
 ghost use Rattle.std.specs.Prelude.{⊤};
 
-use crate::kept::{keep_task, keep_waker, place_for_task, place_for_waker, poll_kept, wake_kept};
-use crate::pool::{Pool, PoolTask, PoolWaker};
 use async_task::{Future, Poll, TaskPoll, Yields};
 use awaiters::Nobody;
+use executor::{
+    Pool, PoolTask, PoolWaker, keep_task, keep_waker, place_for_task, place_for_waker, poll_kept,
+    wake_kept,
+};
 use handle_store::Key;
 use std::alloc::AllocError;
 use std::sync::atomic::{AtomicU64, Ordering};
@@ -151,7 +153,7 @@ fn spawn_all<R: Wait + Drop + Copy>(
         refused: AtomicU64::new(0),
         wanted: program.wanted(),
     };
-    let counts = Arc::new(pool.alloc, counts)?;
+    let counts = Arc::new(pool.alloc(), counts)?;
     for _ in 0..program.tasks() {
         let job = Job {
             left: program.left(),
@@ -255,7 +257,7 @@ fn spawn_waits<'x, R: Wait + Drop + Copy>(
 }
 
 fn wake_once<R: Wait + Drop + Copy>(pool: &WaitsPool<R>, number: &AtomicU64) -> bool {
-    for _ in pool.rt.forever() {
+    for _ in pool.rt().forever() {
         let seen = number.load(Ordering::SeqCst);
         if seen != 0 {
             return wake_kept((pool, pool.workers()), seen as usize - 1);
@@ -279,7 +281,7 @@ fn is_closed<'x, R: Wait + Drop + Copy>(task: &mut WaitsTask<'x, R>) -> bool {
 
 // How many places for wakers are taken.
 fn places<R: Wait + Drop + Copy>(pool: &WaitsPool<R>) -> usize {
-    pool.wakers.len(&pool.rt)
+    pool.kept_wakers()
 }
 
 #[test]

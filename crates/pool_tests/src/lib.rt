@@ -1,0 +1,16 @@
+//! The tests of the pool: its workers, what futures keep, waiting for a task, storms of wakes, cancels, and hostile use.
+//! It stands on `executor`. Nothing is public. The page is docs/EXECUTOR_POOL.md.
+#![tactic(auto)]
+
+#[cfg(test)]
+mod cancel_tests;
+#[cfg(test)]
+mod guest;
+#[cfg(test)]
+mod hostile_tests;
+#[cfg(test)]
+mod storm_tests;
+#[cfg(test)]
+mod waiting_tests;
+#[cfg(test)]
+mod worker_tests;
