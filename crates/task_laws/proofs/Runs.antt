@@ -9,8 +9,6 @@ use Rattle.task_laws.proofs.Census.{Census, plus, weigh, census, nobody}
 use Rattle.task_laws.proofs.Invariant.{Holds, Kept, kept_by_rule}
 use Rattle.task_laws.proofs.Awaiting.{Awaiting, join, none, await, awaiting, fits}
 use Rattle.task_laws.proofs.Handshake.{HandshakeHolds, HandshakeKept, handshake_kept_by_rule}
-use Rattle.task_laws.proofs.InvariantRows.{every_row}
-use Rattle.task_laws.proofs.HandshakeRows.{every_handshake_row}
 use Rattle.task_core.specs.Word.{opening_word}
 
 -- all parties but number i
@@ -110,8 +108,8 @@ moves_stays m i act None e h = tt
 moves_stays m i act (Some p) e h =
     let holds = subst (Holds m.limit m.word m.slots m.trace) (split m.parties i p e) h.holds in
     after_stays m i p (rule (scene m) act p) e
-    (kept_by_rule act p (every_row act p) (scene m) m.trace (census (others m.parties i)) holds)
-    (λ k. handshake_kept_by_rule act p (every_handshake_row act p) k (scene m) m.trace (census (others m.parties i)) (awaiting k (others m.parties i)) (fits k (others m.parties i)) holds
+    (kept_by_rule act p (scene m) m.trace (census (others m.parties i)) holds)
+    (λ k. handshake_kept_by_rule act p (scene m) k m.trace (census (others m.parties i)) (awaiting k (others m.parties i)) (fits k (others m.parties i)) holds
     (subst (HandshakeHolds k m.word m.slots m.trace) (split_awaiting k m.parties i p e) (h.shakes k)))
 
 run_stays : (m : Option Machine) (steps : List Step) → Stays m → Stays (run_from m steps)

@@ -16,9 +16,8 @@ use Rattle.task_laws.proofs.Handshake.{HandshakeHolds}
 use Rattle.task_laws.proofs.Invariant.{Holds}
 use Rattle.task_laws.proofs.Runs.{Invariant, Stays, others, split, put_born, split_awaiting, moves_stays}
 use Rattle.task_laws.proofs.Ahead.{Same, before, ahead, prepend, lands, Landed, cell_at, phase_at, holders, queues, landed}
-use Rattle.task_laws.proofs.Calm.{Calm, Counted, Placed, placed, tracked, kept_calm, StaysCalm, stands, goes_one_way, registers, is_registered, takes_slot, has_emptied, is_storing, is_notifier, drops_old, is_refused, has_seen, drops_output, has_stored}
-use Rattle.task_laws.proofs.CallRows.{every_call}
-use Rattle.task_laws.proofs.CalmRows.{every_calm}
+use Rattle.task_laws.proofs.Calm.{Calm, Counted, Placed, placed, kept_calm, StaysCalm, stands, goes_one_way, registers, is_registered, takes_slot, has_emptied, is_storing, is_notifier, drops_old, is_refused, has_seen, drops_output, has_stored}
+use Rattle.task_laws.proofs.CallRows.{tracked}
 use Rattle.task_laws.specs.Event.{is_event}
 use Rattle.task_laws.specs.Laws.{how_often, count}
 use Rattle.task_laws.proofs.Cuts.{goes_on_from, get_put, get_other, get_append, carried}
@@ -268,10 +267,10 @@ placed_here : (m : Machine) (i : ℕ) (p : Position) → slice_get m.parties i �
 placed_here m i p e h = placed (scene m) m.trace (census (others m.parties i)) p (subst (Holds m.limit m.word m.slots m.trace) (split m.parties i p e) h.holds)
 
 pub tracked_here : (m : Machine) (i : ℕ) (p : Position) (act : Act) (cut : Bool) → slice_get m.parties i ≡ Some p → Invariant m → Calm m.word m.slots cut p → Landed (scene m) (census (others m.parties i)) p act (rule (scene m) act p)
-tracked_here m i p act cut e h k = tracked act p (every_call act p) (scene m) (census (others m.parties i)) cut (placed_here m i p e h) k (counted m i p e h)
+tracked_here m i p act cut e h k = tracked act p (scene m) (census (others m.parties i)) cut (placed_here m i p e h) k (counted m i p e h)
 
 pub calm_here : (m : Machine) (i : ℕ) (p : Position) (act : Act) (cut : Bool) → slice_get m.parties i ≡ Some p → Invariant m → Calm m.word m.slots cut p → StaysCalm act (rule (scene m) act p)
-calm_here m i p act cut e h k = kept_calm act p (every_calm act p) (scene m) (census (others m.parties i)) cut (placed_here m i p e h) k (counted m i p e h)
+calm_here m i p act cut e h k = kept_calm act p (scene m) (census (others m.parties i)) cut (placed_here m i p e h) k (counted m i p e h)
 
 -- the step of a party, by what the moves have made
 abbrev pub GoesAfter : ℕ → Machine → ℕ → Position → Act → List ℕ → List Move → Option Outcome → Type 0
