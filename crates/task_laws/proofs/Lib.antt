@@ -8,6 +8,7 @@ pub mod Runs
 pub mod Derived
 pub mod Theorem
 pub mod Owners
+pub mod Words
 pub mod Ahead
 pub mod Calm
 pub mod CallRows

@@ -26,7 +26,6 @@ use Rattle.task_progress.proofs.Waits.{InOrder, StaysInOrder, step_in_order, run
 use Rattle.task_progress.proofs.Ending.{Place, Rests, Works, place, get_put, end_calls}
 use Rattle.task_progress.proofs.AtRest.{polled, runnables, stands_still, is_at_rest, RunnableIn, Found, NoneFound, find_runnable}
 use Rattle.task_progress.proofs.Lasting.{queued_of, IsUnscheduled, IsDue, Lasting, LastingTo, lasting_by_rule}
-use Rattle.task_progress.proofs.LastingRows.{every_lasting_row}
 
 pub queued_all : (ps : List Position) → total queued_of ps ≡ (census ps).queued
 queued_all [] = refl
@@ -86,7 +85,7 @@ moves_on m i act (Some p) e h =
     let h1 = subst (Holds m.limit m.word m.slots m.trace) (split m.parties i p e) h.holds.holds in
     let k1 = subst (HandshakeHolds 0 m.word m.slots m.trace) (split_awaiting 0 m.parties i p e) (h.holds.shakes 0) in
     after_on m i p (rule (scene m) act p) e
-    (lasting_by_rule act p (every_lasting_row act p) (scene m) m.trace (census (others m.parties i)) (awaiting 0 (others m.parties i)) (around m.limit m.word m.slots m.trace _ _ h1 k1))
+    (lasting_by_rule act p (scene m) m.trace (census (others m.parties i)) (awaiting 0 (others m.parties i)) (around m.limit m.word m.slots m.trace _ _ h1 k1))
 
 onward_same : (m : Machine) → Onward m m
 onward_same m = record {

@@ -65,7 +65,7 @@ moves_moved : (m : Machine) (i : ℕ) (act : Act) (at : Option Position) (p : Po
     → MovedTo m i p (moves m i act at)
 moves_moved m i act None p e is busy = tt
 moves_moved m i act (Some q) p e is busy =
-    let same : q ≡ p = cc in rw same (after_moved m i act p (rule (scene m) act p) (e ∙ is) busy ((near (scene m) act p).is))
+    let same : q ≡ p = cc in rw same (after_moved m i act p (rule (scene m) act p) (e ∙ is) busy (near act p (scene m)))
 
 -- a party in a call makes its next act
 pub record Steps (m : Machine) (i : ℕ) (p : Position) : Type 0 where

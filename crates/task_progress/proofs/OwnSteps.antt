@@ -66,7 +66,7 @@ after_own m s i p q (Some o) e f near = one_own m.parties s.act (nat_eq s.party 
 moves_own : (m : Machine) (s : Step) (i : ℕ) (p : Position) (at : Option Position) → slice_get m.parties i ≡ Some p → slice_get m.parties s.party ≡ at
     → OwnTo m.parties s.act (nat_eq s.party i) i p (moves m s.party s.act at)
 moves_own m s i p None e f = tt
-moves_own m s i p (Some q) e f = after_own m s i p q (rule (scene m) s.act q) e f ((near (scene m) s.act q).is)
+moves_own m s i p (Some q) e f = after_own m s i p q (rule (scene m) s.act q) e f (near s.act q (scene m))
 
 abbrev OwnStepsBoundedTo : Machine → List Step → ℕ → Position → Option Machine → Type 0
 OwnStepsBoundedTo m made i p None = Unit {0}

@@ -1,13 +1,13 @@
 -- What the Task has seen is kept by the rows of all other parties.
 use Rattle.std.proofs.Common.{◌≡◌, ℕ, Bool, true, false, refl, sym, subst, Option, Some, None, arith}
 use Rattle.task_core.specs.Word.{State, bit}
-use Rattle.task_core.specs.Rows.{found, written}
 use Rattle.task_laws.specs.declared.positions.Position.{Position}
 use Rattle.task_core.specs.declared.acts.Act.{Act}
-use Rattle.task_laws.specs.Table.{Scene, Outcome, where_found, rule, goes}
+use Rattle.task_laws.specs.Table.{Scene, Outcome, rule}
 use Rattle.task_laws.proofs.Census.{Census, plus, weigh}
 use Rattle.task_laws.proofs.Awaiting.{Awaiting, join, await}
-use Rattle.task_laws.proofs.Scenes.{InEach}
+use Rattle.task_laws.proofs.Scenes.{rules, InEach, completed, closed, by_flag}
+use Rattle.task_laws.proofs.Rows.{Row, wakes_running_waker, wakes_running_lent, wakes_idle_waker, cancels_idle_awaited, cancels_idle, Shows, by_rows}
 use Rattle.task_progress.specs.Waiting.{is_task, StaysAsSeen}
 use Rattle.task_progress.proofs.Relied.{Around, CountedAsTask}
 
@@ -18,23 +18,17 @@ abbrev pub KeptIn : State → Option Outcome → Type 0
 KeptIn w None = Unit {0}
 KeptIn w (Some left) = StaysAsSeen w left.word
 
-abbrev pub KeepsSeen : Act → Position → Scene → Type 0
-KeepsSeen act p scene = (rest : Census) (others : Awaiting) (claimed detached : ℕ) → CountedAsTask rest others claimed detached → (weigh p).tasks ≡ 0
-    → Around scene.word (plus (weigh p) rest) (join (await 0 p) others) → found scene.limit act scene.word ≡ true
-    → KeptIn scene.word (goes scene (written act scene.word) act p)
+abbrev KeepsSeen : Act → Position → Scene → Option Outcome → Type 0
+KeepsSeen act p scene left = (rest : Census) (others : Awaiting) (claimed detached : ℕ) → CountedAsTask rest others claimed detached → (weigh p).tasks ≡ 0
+    → Around scene.word (plus (weigh p) rest) (join (await 0 p) others) → KeptIn scene.word left
 
-pub no_other : (act : Act) (p : Position) → ((scene : Scene) (word : State) → goes scene word act p ≡ None) → InEach (KeepsSeen act p)
-no_other act p none = record {
-  at = λ scene rest others claimed detached counted_as_task not_task around is_found. subst (KeptIn scene.word) (sym (none scene (written act scene.word))) tt;
-}
+seen_row : (act : Act) (p : Position) (put : Scene → Scene) → Row act p put → InEach (λ scene. Shows KeepsSeen act p (put scene))
+seen_row _ _ _ wakes_running_waker = by_flag closed (grind rules) (by_flag completed (grind rules) (grind rules))
+seen_row _ _ _ wakes_running_lent = by_flag closed (grind rules) (by_flag completed (grind rules) (grind rules))
+seen_row _ _ _ wakes_idle_waker = by_flag closed (grind rules) (grind rules)
+seen_row _ _ _ (cancels_idle_awaited n) = by_flag closed (grind rules) (grind rules)
+seen_row _ _ _ (cancels_idle n) = by_flag closed (grind rules) (grind rules)
+seen_row act p put row = grind rules
 
-if_found : (w : State) (is_found : Bool) (left : Option Outcome) → (is_found ≡ true → KeptIn w left) → KeptIn w (where_found is_found left)
-if_found w is_found None kept = tt
-if_found w true (Some left) kept = kept refl
-if_found w false (Some left) kept = tt
-
-pub seen_by_rule : (act : Act) (p : Position) → InEach (KeepsSeen act p) → (scene : Scene) (rest : Census) (others : Awaiting) (claimed detached : ℕ)
-    → CountedAsTask rest others claimed detached → (weigh p).tasks ≡ 0
-    → Around scene.word (plus (weigh p) rest) (join (await 0 p) others) → KeptIn scene.word (rule scene act p)
-seen_by_rule act p row scene rest others claimed detached counted_as_task not_task around =
-    if_found scene.word (found scene.limit act scene.word) (goes scene (written act scene.word) act p) (row.at scene rest others claimed detached counted_as_task not_task around)
+pub seen_by_rule : (act : Act) (p : Position) (scene : Scene) → KeepsSeen act p scene (rule scene act p)
+seen_by_rule = by_rows KeepsSeen (λ act p scene rest others claimed detached counted_as_task not_task around. tt) seen_row

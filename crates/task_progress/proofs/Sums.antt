@@ -44,7 +44,7 @@ after_bounded m s p (Some o) e near = record {
 
 moves_bounded : (m : Machine) (s : Step) (at : Option Position) → slice_get m.parties s.party ≡ at → BoundedByCallsTo m (s ∷ []) (moves m s.party s.act at)
 moves_bounded m s None e = tt
-moves_bounded m s (Some p) e = after_bounded m s p (rule (scene m) s.act p) e ((near (scene m) s.act p).is)
+moves_bounded m s (Some p) e = after_bounded m s p (rule (scene m) s.act p) e (near s.act p (scene m))
 
 adds : (m : Machine) (s : Step) (now : Machine) (steps : List Step) (last : Option Machine) → BoundedByCalls m (s ∷ []) now → BoundedByCallsTo now steps last
     → BoundedByCallsTo m (s ∷ steps) last

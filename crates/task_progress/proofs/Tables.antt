@@ -42,7 +42,7 @@ none_begun p e = refl
 
 own_falls : FallsBy rule steps_left
 own_falls s act p o calls e =
-    let nears : NearTo act p (Some o) = subst (NearTo act p) e (near s act p).is in
+    let nears : NearTo act p (Some o) = subst (NearTo act p) e (near act p s) in
     omega (arith, nears.own_steps, none_begun p calls)
 
 own_acts : EachHasAct rule

@@ -15,7 +15,6 @@ use Rattle.task_progress.specs.Waiting.{is_task, StaysAsSeen, WhatTaskSawStays}
 use Rattle.task_progress.proofs.Relied.{counted_as_task}
 use Rattle.task_progress.proofs.Waits.{InOrder, StaysInOrder, around, always_in_order}
 use Rattle.task_progress.proofs.Seen.{task_one, KeptIn, seen_by_rule}
-use Rattle.task_progress.proofs.SeenRows.{every_other}
 
 abbrev KeptTo : State → Option Machine → Type 0
 KeptTo w None = Unit {0}
@@ -32,7 +31,7 @@ moves_seen m i act (Some q) p h e is other =
     let same : q ≡ p = cc in
     let h1 = subst (Holds m.limit m.word m.slots m.trace) (split m.parties i p e) h.holds.holds in
     let k1 = subst (HandshakeHolds 0 m.word m.slots m.trace) (split_awaiting 0 m.parties i p e) (h.holds.shakes 0) in
-    rw same (after_seen m i p (rule (scene m) act p) (seen_by_rule act p (every_other act p) (scene m) (census (others m.parties i)) (awaiting 0 (others m.parties i)) _ _ (counted_as_task (others m.parties i)) (sym (task_one p) ∙ ap bit other) (around m.limit m.word m.slots m.trace _ _ h1 k1)))
+    rw same (after_seen m i p (rule (scene m) act p) (seen_by_rule act p (scene m) (census (others m.parties i)) (awaiting 0 (others m.parties i)) _ _ (counted_as_task (others m.parties i)) (sym (task_one p) ∙ ap bit other) (around m.limit m.word m.slots m.trace _ _ h1 k1)))
 
 pub what_task_saw_stays : WhatTaskSawStays
 what_task_saw_stays limit steps m e s p at other now f =

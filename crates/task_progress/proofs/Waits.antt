@@ -19,7 +19,6 @@ use Rattle.task_progress.specs.StepsLeft.{total, in_call}
 use Rattle.task_progress.specs.Waiting.{next_act, NoCallWaits}
 use Rattle.task_progress.proofs.Sums.{total_put}
 use Rattle.task_progress.proofs.Relied.{claims, detaches, ReliedOn, Around, counted_as_task, ReliedAfter, relied_by_rule}
-use Rattle.task_progress.proofs.ReliedRows.{every_relied_row}
 
 pub around : (limit : ℕ) (w : State) (slots : Slots) (t : List Event) (c : Census) (b : Awaiting) → Holds limit w slots t c → HandshakeHolds 0 w slots t b
     → Around w c b
@@ -72,7 +71,7 @@ moves_relied m i act (Some p) e h holds =
     let k1 = subst (HandshakeHolds 0 m.word m.slots m.trace) (split_awaiting 0 m.parties i p e) (h.holds.shakes 0) in
     let relied = relied_at m.word _ _ _ _ (total_split claims m.parties i p e) (total_split detaches m.parties i p e) h.relied in
     after_relied m i p (rule (scene m) act p) e holds
-    (relied_by_rule act p (every_relied_row act p) (scene m) (census (others m.parties i)) (awaiting 0 (others m.parties i)) _ _ (counted_as_task (others m.parties i)) (around m.limit m.word m.slots m.trace _ _ h1 k1) relied)
+    (relied_by_rule act p (scene m) (census (others m.parties i)) (awaiting 0 (others m.parties i)) _ _ (counted_as_task (others m.parties i)) (around m.limit m.word m.slots m.trace _ _ h1 k1) relied)
 
 pub step_in_order : (m : Machine) (s : Step) → InOrder m → StaysInOrder (step m s)
 step_in_order m s h = moves_relied m s.party s.act (slice_get m.parties s.party) refl h (moves_stays m s.party s.act (slice_get m.parties s.party) refl h.holds)
