@@ -19,5 +19,4 @@ pub mod Agree
 pub mod Reading
 pub mod WholeCalls
 pub mod LocalRows
-mod Worked
 mod WorkedRuns

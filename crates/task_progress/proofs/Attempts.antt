@@ -7,7 +7,6 @@ use Rattle.task_core.specs.Rows.{written}
 use Rattle.task_laws.specs.declared.positions.Position.{Position}
 use Rattle.task_core.specs.declared.acts.Act.{Act}
 use Rattle.task_core.specs.declared.acts.Act.TheVariants.{GainReference}
-
 use Rattle.task_laws.specs.Table.{Outcome, rule}
 use Rattle.task_laws.specs.Machine.{Machine, Step, scene, after, moves, step, run_from}
 use Rattle.task_laws.proofs.Words.{WordIsIn, word_is}

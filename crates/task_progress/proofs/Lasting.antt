@@ -1,5 +1,5 @@
 -- What no step takes back: a closed task makes no Runnable, and no step in a call makes a wake undue unless the task is over by it.
-use Rattle.std.proofs.Common.{◌≡◌, ℕ, ◌≤◌, Bool, true, false, ◌⊎◌, refl, sym, subst, List, ◌∷◌, ◌++◌, Option, Some, None}
+use Rattle.std.proofs.Common.{◌≡◌, ℕ, ◌≤◌, true, false, ◌⊎◌, List, ◌∷◌, ◌++◌, Option, Some, None}
 use Rattle.task_core.specs.Word.{State, is_open}
 use Rattle.task_laws.specs.Event.{Event}
 use Rattle.task_laws.specs.declared.positions.Position.{Position}
