@@ -12,6 +12,7 @@ use Rattle.task_laws.specs.Table.{Slots, Scene, Outcome, when, is_held, leaves_s
 use Rattle.task_laws.specs.Machine.{Machine, begins, scene, how_many}
 use Rattle.task_laws.specs.Event.{is_event}
 use Rattle.task_laws.specs.Laws.{how_often, count}
+use Rattle.task_laws.proofs.Words.{rule_word}
 use Rattle.task_steps.specs.declared.table.Deed.{Deed}
 use Rattle.task_steps.specs.declared.table.Member.{Member}
 use Rattle.task_steps.specs.declared.table.View.{View}
@@ -19,7 +20,7 @@ use Rattle.task_steps.specs.Rule.{deed, member, view, fresh, found_by, Entry, Ex
 use Rattle.task_steps.specs.Steps.{then_leaves, and_then, spot, is_lent, held_word, leaves_by, all_fit, noted}
 use Rattle.task_steps.proofs.Explains.{tells, next_machine}
 use Rattle.task_steps.proofs.Facts.{many_next}
-use Rattle.task_steps.proofs.Written.{found_is, found_so, rule_word}
+use Rattle.task_steps.proofs.Written.{found_is, found_so}
 
 -- what acts in a row leave where each row finds its word
 abbrev pub leads : Scene → List Act → Position → Option Outcome

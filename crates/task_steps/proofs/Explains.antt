@@ -18,7 +18,8 @@ use Rattle.task_steps.specs.declared.table.Tries.{Tries}
 use Rattle.task_steps.specs.declared.table.Member.{Member}
 use Rattle.task_steps.specs.declared.table.View.{View}
 use Rattle.task_steps.specs.Rule.{deed, member, view, fresh, found_by, Entry, Reaches, steps_of, noted_if, deeds_of, DidLast, lender, differ, writes, written_since, Tried, trying, IsParty, Explains}
-use Rattle.task_steps.proofs.Written.{stale_by, rule_word}
+use Rattle.task_laws.proofs.Words.{rule_word}
+use Rattle.task_steps.proofs.Written.{stale_by}
 
 module _ {A : Type 0} where
   pub inside : (l : List A) (i : ℕ) (a : A) → get_elem? l i ≡ some a → i < length l

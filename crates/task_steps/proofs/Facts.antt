@@ -19,16 +19,13 @@ pub law : (limit : ℕ) (log : List Entry) (m : Machine) → Reaches limit log m
 law limit log m r = subst Stays (told.runs limit log m r) (always limit (steps_of log))
 
 pub bit_le : (b : Bool) → bit b ≤ 1
-bit_le true = omega arith
-bit_le false = omega arith
+bit_le b = grind arith
 
 pub is_set : (b : Bool) → bit b ≡ 1 → b ≡ true
-is_set true e = refl
-is_set false e = absurd (omega arith)
+is_set b e = grind arith
 
 pub is_clear : (b : Bool) → bit b ≡ 0 → b ≡ false
-is_clear true e = absurd (omega arith)
-is_clear false e = refl
+is_clear b e = grind arith
 
 -- the flags of a word, by its number
 pub record Reads (f : ℕ) (w : State) : Type 0 where

@@ -7,7 +7,7 @@ use Rattle.task_core.specs.declared.acts.Act.{Act}
 use Rattle.task_core.specs.Rows.{found, written}
 use Rattle.task_laws.specs.Table.{Scene, Outcome, goes, where_found}
 use Rattle.task_laws.proofs.Census.{Census, census, weigh, plus}
-use Rattle.task_laws.proofs.Awaiting.{await, awaiting}
+use Rattle.task_laws.proofs.Awaiting.{Awaiting, join, await, awaiting}
 use Rattle.task_steps.specs.Steps.{then_leaves, and_then, spot}
 use Rattle.task_steps.proofs.Facts.{allowed_row}
 use Rattle.task_steps.proofs.Acts.{leads}
@@ -24,7 +24,7 @@ counted count sums (x ∷ xs) zero p e = let is : count (weigh x) ≡ count (wei
 counted count sums (x ∷ xs) (suc k) p e = let h = counted count sums xs k p e in omega (arith, sums (weigh x) (census xs))
 
 -- .. and of the handshake
-pub releasing_at : (i : ℕ) (ps : List Position) (k : ℕ) (p : Position) → get_elem? ps k ≡ some p → (await i p).releasers ≤ (awaiting i ps).releasers
-releasing_at i [] k p e = absurd (some-ne-none p (sym e))
-releasing_at i (x ∷ xs) zero p e = let is : (await i x).releasers ≡ (await i p).releasers = ap (λ y. (await i y).releasers) (some-injective x p e) in omega arith
-releasing_at i (x ∷ xs) (suc k) p e = let h = releasing_at i xs k p e in omega arith
+pub counted_awaiting : (count : Awaiting → ℕ) → ((a b : Awaiting) → count (join a b) ≡ count a + count b) → (i : ℕ) (ps : List Position) (k : ℕ) (p : Position) → get_elem? ps k ≡ some p → count (await i p) ≤ count (awaiting i ps)
+counted_awaiting count sums i [] k p e = absurd (some-ne-none p (sym e))
+counted_awaiting count sums i (x ∷ xs) zero p e = let is : count (await i x) ≡ count (await i p) = ap (λ y. count (await i y)) (some-injective x p e) in omega (arith, sums (await i x) (awaiting i xs))
+counted_awaiting count sums i (x ∷ xs) (suc k) p e = let h = counted_awaiting count sums i xs k p e in omega (arith, sums (await i x) (awaiting i xs))

@@ -27,6 +27,7 @@ use Rattle.task_steps.specs.Steps.{future_first}
 use Rattle.task_steps.specs.TaskScripts.{looking_finished}
 use Rattle.task_steps.specs.RunScripts.{unscheduling}
 use Rattle.task_steps.proofs.Bools.{never}
+use Rattle.task_steps.proofs.Leads.{counted}
 use Rattle.task_steps.proofs.Advance.{stays, gives_work}
 use Rattle.task_steps.proofs.Allowed.{Owes}
 
@@ -38,12 +39,6 @@ idle_run false = (refl, refl)
 idle_drop : (b : Bool) → (has_work (notifies b OfDrop) ≡ false) × (owns_awaiter (notifies b OfDrop) ≡ false)
 idle_drop true = (refl, refl)
 idle_drop false = (refl, refl)
-
--- a count of the census that a party at p is part of
-pub counted_at : (count : Census → ℕ) → ((a b : Census) → count (plus a b) ≡ count a + count b) → (ps : List Position) (k : ℕ) (p : Position) → get_elem? ps k ≡ some p → count (weigh p) ≤ count (census ps)
-counted_at count sums [] k p e = absurd (some-ne-none p (sym e))
-counted_at count sums (x ∷ xs) zero p e = let is : count (weigh x) ≡ count (weigh p) = ap (λ y. count (weigh y)) (some-injective x p e) in omega (arith, sums (weigh x) (census xs))
-counted_at count sums (x ∷ xs) (suc k) p e = let h = counted_at count sums xs k p e in omega (arith, sums (weigh x) (census xs))
 
 module _ (F T A : Type 0) (limit : ℕ) where
   -- a step without acts
@@ -73,14 +68,14 @@ module _ (F T A : Type 0) (limit : ℕ) where
   no_output limit w slots t c h e = grind arith
 
   pub unschedules : (closer : WithoutPoll) (ds : List Deed) (us : List Member) (y z : Slot F T A) (l : List (ℕ × Slot F T A)) → l ≡ future_first y z (rest (rest l)) → Owes F T A limit unscheduling (λ n. bit_and n 18446744073709551614) (FutureInHand closer) ds us l
-  unschedules ClosedRun ds us y z l has m f x e lt = let i = idle_run m.word.awaiter in let none = no_output m.limit m.word m.slots m.trace (census m.parties) f.invariant.holds (counted_at closers (λ a b. closers_sum a b) m.parties f.number (FutureInHand ClosedRun) f.stands) in record {
+  unschedules ClosedRun ds us y z l has m f x e lt = let i = idle_run m.word.awaiter in let none = no_output m.limit m.word m.slots m.trace (census m.parties) f.invariant.holds (counted closers (λ a b. closers_sum a b) m.parties f.number (FutureInHand ClosedRun) f.stands) in record {
     outcome = record { word = record (m.word) { scheduled = false }; slots = record (m.slots) { future = false }; next = notifies m.word.awaiter OfRun; born = []; told = RunEnded ∷ FutureDropped ∷ [] };
     leads_to = refl;
     writes = fetch_and-scheduled x lt ∙ ap (λ (w : State). number_of (record w { scheduled = false })) (ap state_of e ∙ state_of_number_of m.word);
     idle = (refl, refl);
     placing = gives_work y z refl i.0 i.1 (inr (refl, refl)) (inl has) (λ e. never e) (λ e. never (sym none ∙ e));
   }
-  unschedules DroppedRunnable ds us y z l has m f x e lt = let i = idle_drop m.word.awaiter in let none = no_output m.limit m.word m.slots m.trace (census m.parties) f.invariant.holds (counted_at closers (λ a b. closers_sum a b) m.parties f.number (FutureInHand DroppedRunnable) f.stands) in record {
+  unschedules DroppedRunnable ds us y z l has m f x e lt = let i = idle_drop m.word.awaiter in let none = no_output m.limit m.word m.slots m.trace (census m.parties) f.invariant.holds (counted closers (λ a b. closers_sum a b) m.parties f.number (FutureInHand DroppedRunnable) f.stands) in record {
     outcome = record { word = record (m.word) { scheduled = false }; slots = record (m.slots) { future = false }; next = notifies m.word.awaiter OfDrop; born = []; told = RunEnded ∷ FutureDropped ∷ [] };
     leads_to = refl;
     writes = fetch_and-scheduled x lt ∙ ap (λ (w : State). number_of (record w { scheduled = false })) (ap state_of e ∙ state_of_number_of m.word);

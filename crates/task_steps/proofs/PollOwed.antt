@@ -34,9 +34,9 @@ use Rattle.task_steps.specs.Scripts.{ending, waking, dropping}
 use Rattle.task_steps.specs.PollScripts.{has_output, has_ended, has_to_wait, looking, looking_again, handing_out, refusing, finding_notifier, taking_back, ending_notified}
 use Rattle.task_steps.proofs.Bools.{never}
 use Rattle.task_steps.proofs.Acts.{leads}
+use Rattle.task_steps.proofs.Leads.{counted, counted_awaiting}
 use Rattle.task_steps.proofs.Advance.{Finds, stays, takes_output, gives_work, takes_awaiter, gives_awaiter, Steps}
 use Rattle.task_steps.proofs.Allowed.{Owes, OwesEnd}
-use Rattle.task_steps.proofs.Owed.{counted_at}
 
 -- a position that has no place of the table
 abbrev pub Free : Position → Type 0
@@ -104,12 +104,6 @@ pub same_first : {X : Type 0} (l r s : List (ℕ × X)) (k : ℕ) (x y : X) → 
 same_first l r s k x y e f = ap (value_or x) (sym e ∙ f)
 
 -- what the invariant says to the Task
-tasks_sum : (a b : Census) → (plus a b).tasks ≡ a.tasks + b.tasks
-tasks_sum a b = refl
-
-claims_sum : (a b : Census) → (plus a b).claims ≡ a.claims + b.claims
-claims_sum a b = refl
-
 -- while the Task exists no slot was emptied
 not_emptied : (limit : ℕ) (w : State) (slots : Slots) (t : List Event) (c : Census) → Holds limit w slots t c → 1 ≤ c.tasks → how_often Event.Empties t ≡ 0
 not_emptied limit w slots t c h e = grind arith
@@ -120,16 +114,6 @@ output_there limit w slots t c h e = grind arith
 -- whoever has the output finds the future gone
 future_gone : (limit : ℕ) (w : State) (slots : Slots) (t : List Event) (c : Census) → Holds limit w slots t c → 1 ≤ c.claims → slots.future ≡ false
 future_gone limit w slots t c h e = grind arith
-
-registered_at : (i : ℕ) (ps : List Position) (k : ℕ) (p : Position) → get_elem? ps k ≡ some p → (await i p).registered ≤ (awaiting i ps).registered
-registered_at i [] k p e = absurd (some-ne-none p (sym e))
-registered_at i (x ∷ xs) zero p e = let is : (await i x).registered ≡ (await i p).registered = ap (λ y. (await i y).registered) (some-injective x p e) in omega arith
-registered_at i (x ∷ xs) (suc k) p e = let h = registered_at i xs k p e in omega arith
-
-taken_back_at : (i : ℕ) (ps : List Position) (k : ℕ) (p : Position) → get_elem? ps k ≡ some p → (await i p).takers_back ≤ (awaiting i ps).takers_back
-taken_back_at i [] k p e = absurd (some-ne-none p (sym e))
-taken_back_at i (x ∷ xs) zero p e = let is : (await i x).takers_back ≡ (await i p).takers_back = ap (λ y. (await i y).takers_back) (some-injective x p e) in omega arith
-taken_back_at i (x ∷ xs) (suc k) p e = let h = taken_back_at i xs k p e in omega arith
 
 was_taken_back : (i : ℕ) (w : State) (slots : Slots) (t : List Event) (b : Awaiting) → HandshakeHolds i w slots t b → 1 ≤ b.takers_back → (w.notifying ≡ true) × (slots.awaiter ≡ None)
 was_taken_back i w slots t b h e = ⊎_elim (λ (z : b.takers_back ≡ 0). absurd (omega arith)) (λ z. z) h.taken_back
@@ -200,7 +184,7 @@ module _ (F T A : Type 0) (limit : ℕ) where
       works false l' h = h
 
   pub hands_out : (i : ℕ) (ds : List Deed) (us : List Member) (y z : Slot F T A) (l : List (ℕ × Slot F T A)) → l ≡ output_first y z (rest (rest l)) → Owes F T A limit handing_out (λ n. n) (TookOutput i) ds us l
-  hands_out i ds us y z l has m f number x lt = let none = future_gone m.limit m.word m.slots m.trace (census m.parties) f.invariant.holds (counted_at (λ c. c.claims) (λ a b. claims_sum a b) m.parties f.number (TookOutput i) f.stands) in record {
+  hands_out i ds us y z l has m f number x lt = let none = future_gone m.limit m.word m.slots m.trace (census m.parties) f.invariant.holds (counted (λ c. c.claims) (λ a b. refl) m.parties f.number (TookOutput i) f.stands) in record {
     outcome = record { word = m.word; slots = record (m.slots) { output = false }; next = At (Task i); born = []; told = TaskPollEnds i HasOutput ∷ OutputTaken ∷ [] };
     leads_to = refl;
     writes = x;
@@ -261,7 +245,7 @@ module _ (F T A : Type 0) (limit : ℕ) where
   pub begins_register : (i : ℕ) (ds : List Deed) (us : List Member) (l : List (ℕ × Slot F T A)) (m : Machine) (new : ℕ) → Finds limit (Registrar i) ds us m → Fits BeginRegister m.word new
       → Steps m (Registrar i) (CloneAwaiter ∷ BeginRegister ∷ StoreAwaiter ∷ []) new l
   begins_register i ds us l m new f fit = let s = stored_free i m.slots.awaiter in
-      let none = not_emptied m.limit m.word m.slots m.trace (census m.parties) f.invariant.holds (counted_at (λ c. c.tasks) (λ a b. tasks_sum a b) m.parties f.number (Registrar i) f.stands) in record {
+      let none = not_emptied m.limit m.word m.slots m.trace (census m.parties) f.invariant.holds (counted (λ c. c.tasks) (λ a b. refl) m.parties f.number (Registrar i) f.stands) in record {
         outcome = record { word = written BeginRegister m.word; slots = record (m.slots) { awaiter = Some i }; next = after_storing i m.slots.awaiter; born = []; told = Cloned i ∷ [] };
         leads_to = ap (λ (b : Bool). and_then (Some (leaves_slots (scene m) m.word (HasClone i) [] (Cloned i ∷ [])))
             (λ o. and_then (when b (leaves_slots (spot m.limit o.word o.slots) (written BeginRegister o.word) (Storing i) [] [])) (λ o. leads (spot m.limit o.word o.slots) (StoreAwaiter ∷ []) o.next))) fit.finds;
@@ -272,7 +256,7 @@ module _ (F T A : Type 0) (limit : ℕ) where
 
   pub ends_register : (i : ℕ) (ds : List Deed) (us : List Member) (y : Slot F T A) (l : List (ℕ × Slot F T A)) (m : Machine) (new : ℕ) → Finds limit (Registered i) ds us m → l ≡ (2, y) ∷ rest l → IsAwaiter y → Fits EndRegister m.word new
       → Steps m (Registered i) (EndRegister ∷ []) new l
-  ends_register i ds us y l m new f has is fit = let stored = clone_stored i m.word m.slots m.trace (awaiting i m.parties) (f.invariant.shakes i) (registered_at i m.parties f.number (Registered i) f.stands) in record {
+  ends_register i ds us y l m new f has is fit = let stored = clone_stored i m.word m.slots m.trace (awaiting i m.parties) (f.invariant.shakes i) (counted_awaiting (λ b. b.registered) (λ a b. refl) i m.parties f.number (Registered i) f.stands) in record {
     outcome = leaves_slots (scene m) (written EndRegister m.word) (Looking i) [] [];
     leads_to = ap (λ (b : Bool). and_then (when b (leaves_slots (scene m) (written EndRegister m.word) (Looking i) [] [])) (λ o. leads (spot m.limit o.word o.slots) [] o.next)) fit.finds;
     writes = fit.writes;
@@ -291,7 +275,7 @@ module _ (F T A : Type 0) (limit : ℕ) where
   }
 
   pub ends_notified : (i : ℕ) (ds : List Deed) (us : List Member) (y : Slot F T A) (l : List (ℕ × Slot F T A)) → l ≡ (2, y) ∷ rest l → IsEmpty y → Owes F T A limit ending_notified (λ n. bit_and n 18446744073709551391) (TookBack i) ds us l
-  ends_notified i ds us y l has is m f n e lt = let t = was_taken_back i m.word m.slots m.trace (awaiting i m.parties) (f.invariant.shakes i) (taken_back_at i m.parties f.number (TookBack i) f.stands) in record {
+  ends_notified i ds us y l has is m f n e lt = let t = was_taken_back i m.word m.slots m.trace (awaiting i m.parties) (f.invariant.shakes i) (counted_awaiting (λ b. b.takers_back) (λ a b. refl) i m.parties f.number (TookBack i) f.stands) in record {
     outcome = leaves_slots (scene m) (written EndRegisterNotified m.word) (CloneInHand i) [] [];
     leads_to = ap (λ (b : Bool). and_then (when b (leaves_slots (scene m) (written EndRegisterNotified m.word) (CloneInHand i) [] [])) (λ o. leads (spot m.limit o.word o.slots) [] o.next)) t.0;
     writes = fetch_and-awaiter_registering_notifying n lt ∙ ap (λ (w : State). number_of (record w { awaiter = false; registering = false; notifying = false })) (ap state_of e ∙ state_of_number_of m.word);

@@ -60,8 +60,7 @@ referred : (limit : ℕ) (w : State) (slots : Slots) (t : List Event) (c : Censu
 referred limit w slots t c h e = grind arith
 
 is_last : (n : ℕ) (b : Bool) → 1 ≤ n → (nat_lt 1 n || b) ≡ false → (nat_eq n 1 && not b) ≡ true
-is_last n true e f = grind (arith, nat_tests)
-is_last n false e f = grind (arith, nat_tests)
+is_last n b e f = grind (arith, nat_tests)
 
 -- a word that is closed already
 pub closed_already : (w : State) → w.closed ≡ true → record w { closed = true } ≡ w
@@ -81,14 +80,10 @@ both : {a b : Bool} → a ≡ true → b ≡ true → (a && b) ≡ true
 both {a} {b} e f = ap (λ (x : Bool). x && b) e ∙ f
 
 three : (c s d : Bool) → c ≡ false → s ≡ false → d ≡ true → (not c && not s && d) ≡ true
-three true s d e f g = never (sym e)
-three false true d e f g = never (sym f)
-three false false d e f g = g
+three c s d e f g = grind arith
 
 four : (c s r t : Bool) → c ≡ false → s ≡ false → (r && not t) ≡ true → (not c && not s && r && not t) ≡ true
-four true s r t e f g = never (sym e)
-four false true r t e f g = never (sym f)
-four false false r t e f g = g
+four c s r t e f g = grind arith
 
 -- the row that fits a word that is not closed
 picked : (c s d r t : Bool) (x y z w : State) → c ≡ false → (d ≡ false → (r && not t) ≡ true)

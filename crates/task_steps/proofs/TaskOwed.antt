@@ -31,9 +31,9 @@ use Rattle.task_steps.specs.WakerScripts.{is_over}
 use Rattle.task_steps.specs.TaskScripts.{finding_cancelled, cancelling, cancelled, detaching, detached, giving_task_up}
 use Rattle.task_steps.proofs.Bools.{never}
 use Rattle.task_steps.proofs.Acts.{leads, both}
+use Rattle.task_steps.proofs.Leads.{counted}
 use Rattle.task_steps.proofs.Advance.{Finds, stays, gives_work, takes_output, takes_awaiter, Steps}
 use Rattle.task_steps.proofs.Allowed.{Owes, OwesEnd}
-use Rattle.task_steps.proofs.Owed.{counted_at}
 
 -- acts in a row, by whether the first finds its word
 abbrev leads_if : Machine → Position → Act → List Act → Bool → Option Outcome
@@ -126,7 +126,7 @@ module _ (F T A : Type 0) (limit : ℕ) where
   gives_last : (p : Position) (ds : List Deed) (us : List Member) (m : Machine) → Finds limit p ds us m → (x : ℕ) (l : List (ℕ × Slot F T A)) → has_work p ≡ false → owns_awaiter p ≡ false → 1 ≤ (weigh p).tasks
       → leads_if m p DetachLast [] true ≡ Some (leaves_slots (scene m) (record (m.word) { task = false }) (Emptier None Nothing) [] (TaskGivenUp ∷ []))
       → x ≡ number_of (record (m.word) { task = false }) → nat_lt 0 m.word.references ≡ false → m.word.closed ≡ true → Steps m p (DetachLast ∷ []) x l
-  gives_last p ds us m f x l free bare one goes e none closed = let left = unemptied m.limit m.word m.slots m.trace (census m.parties) f.invariant.holds (let h = counted_at (λ c. c.tasks) (λ a b. refl) m.parties f.number p f.stands in omega arith) in record {
+  gives_last p ds us m f x l free bare one goes e none closed = let left = unemptied m.limit m.word m.slots m.trace (census m.parties) f.invariant.holds (let h = counted (λ c. c.tasks) (λ a b. refl) m.parties f.number p f.stands in omega arith) in record {
     outcome = leaves_slots (scene m) (record (m.word) { task = false }) (Emptier None Nothing) [] (TaskGivenUp ∷ []);
     leads_to = finds_it m p DetachLast [] (both (nat_eq m.word.references 0) m.word.closed (none_left m.word.references none) closed) ∙ goes;
     writes = e;
@@ -162,7 +162,7 @@ module _ (F T A : Type 0) (limit : ℕ) where
       }
 
   pub drops_output : (ds : List Deed) (us : List Member) (y z : Slot F T A) (l : List (ℕ × Slot F T A)) → l ≡ output_first y z (rest (rest l)) → Owes F T A limit dropping_output (λ n. n) OutputCloser ds us l
-  drops_output ds us y z l has m f x e lt = let none = no_future m.limit m.word m.slots m.trace (census m.parties) f.invariant.holds (counted_at (λ c. c.claims) (λ a b. refl) m.parties f.number OutputCloser f.stands) in record {
+  drops_output ds us y z l has m f x e lt = let none = no_future m.limit m.word m.slots m.trace (census m.parties) f.invariant.holds (counted (λ c. c.claims) (λ a b. refl) m.parties f.number OutputCloser f.stands) in record {
     outcome = changes_slots (scene m) m.word (record (m.slots) { output = false }) Detacher (OutputDropped ∷ []);
     leads_to = refl;
     writes = e;

@@ -62,24 +62,19 @@ not_emptied limit w slots t c h e = grind (arith, nat_tests)
 finds_it_over : (r : Rest) (m : Machine) → may_call r ≡ true → is_open m.word ≡ false → may_wake (scene m) r ≡ true
 finds_it_over Waker m call e = refl
 finds_it_over Lent m call e = true_right (is_held m.word) (not (is_open m.word)) (over (is_open m.word) e)
-finds_it_over Runnable m call e = never call
-finds_it_over Ended m call e = never call
-finds_it_over (Task n) m call e = never call
+finds_it_over r m call e = never call
 
 -- .. and one that changes the word
 wakes_it : (r : Rest) (m : Machine) → may_call r ≡ true → may_change r m.word ≡ true → may_wake (scene m) r ≡ true
 wakes_it Waker m call held = refl
 wakes_it Lent m call held = ap (λ b. b || not (is_open m.word)) held
-wakes_it Runnable m call held = never call
-wakes_it Ended m call held = never call
-wakes_it (Task n) m call held = never call
+wakes_it r m call held = never call
 
 gains_it : (r : Rest) (m : Machine) → may_ask r ≡ true → may_change r m.word ≡ true → may_gain (scene m) r ≡ true
 gains_it Runnable m ask held = refl
 gains_it Waker m ask held = refl
 gains_it Lent m ask held = held
-gains_it Ended m ask held = never ask
-gains_it (Task n) m ask held = never ask
+gains_it r m ask held = never ask
 
 module _ (F T A : Type 0) (limit : ℕ) where
   -- the memory was refused
