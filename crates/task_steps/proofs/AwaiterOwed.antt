@@ -26,7 +26,7 @@ use Rattle.task_steps.specs.Rule.{has_work, IsEmpty, Waits}
 use Rattle.task_steps.specs.Scripts.{ending, taking_awaiter, releasing_awaiter, waking, dropping}
 use Rattle.task_steps.proofs.Bools.{never}
 use Rattle.task_steps.proofs.Leads.{leads_first, counted, counted_awaiting}
-use Rattle.task_steps.proofs.Advance.{stays, takes_awaiter, gives_awaiter, Steps}
+use Rattle.task_steps.proofs.Advance.{stays, takes_awaiter, gives_awaiter, Steps, keeps_places}
 use Rattle.task_steps.proofs.Allowed.{Owes}
 
 -- what a way leaves of the places
@@ -76,13 +76,8 @@ neither a b e = grind arith
 
 module _ (F T A : Type 0) (limit : ℕ) where
   pub ends : (answer : Answer) (r : Rest) (ds : List Deed) (us : List Member) (l : List (ℕ × Slot F T A)) → Owes F T A limit ending (λ n. n) (CallEnding answer r) ds us l
-  ends answer r ds us l m f x e lt = record {
-    outcome = leaves_slots (scene m) m.word (At r) [] (CallEnds answer ∷ []);
-    leads_to = refl;
-    writes = e;
-    idle = (refl, refl);
-    placing = stays refl refl (inr (refl, refl)) (inr (refl, refl));
-  }
+  ends answer r ds us l m f x e lt = keeps_places (leaves_slots (scene m) m.word (At r) [] (CallEnds answer ∷ []))
+      refl e refl
 
   pub wakes : (i : ℕ) (way : NotifyingCall) (ds : List Deed) (us : List Member) (l : List (ℕ × Slot F T A)) → Owes F T A limit waking (λ n. n) (AwaiterInHand i way) ds us l
   wakes i way ds us l m f x e lt = record {
@@ -97,13 +92,8 @@ module _ (F T A : Type 0) (limit : ℕ) where
   drops i OfRun ds us l may m f x e lt = never may
   drops i OfDrop ds us l may m f x e lt = never may
   drops i (OfCancel n) ds us l may m f x e lt = never may
-  drops i (OfPoll n) ds us l may m f x e lt = record {
-    outcome = leaves_slots (scene m) m.word (after_waking (OfPoll n)) [] (CloneEnded i ∷ []);
-    leads_to = refl;
-    writes = e;
-    idle = (refl, refl);
-    placing = stays refl refl (inr (refl, refl)) (inr (refl, refl));
-  }
+  drops i (OfPoll n) ds us l may m f x e lt = keeps_places (leaves_slots (scene m) m.word (after_waking (OfPoll n)) [] (CloneEnded i ∷ []))
+      refl e refl
   drops i (OfClaim n) ds us l may m f x e lt = record {
     outcome = leaves_slots (scene m) m.word (after_waking (OfClaim n)) [] (CloneEnded i ∷ []);
     leads_to = refl;

@@ -28,7 +28,7 @@ use Rattle.task_steps.specs.TaskScripts.{looking_finished}
 use Rattle.task_steps.specs.RunScripts.{unscheduling}
 use Rattle.task_steps.proofs.Bools.{never}
 use Rattle.task_steps.proofs.Leads.{counted}
-use Rattle.task_steps.proofs.Advance.{stays, gives_work}
+use Rattle.task_steps.proofs.Advance.{stays, gives_work, keeps_places}
 use Rattle.task_steps.proofs.Allowed.{Owes}
 
 -- the rest of a run or a drop has no place of the table
@@ -43,22 +43,12 @@ idle_drop false = (refl, refl)
 module _ (F T A : Type 0) (limit : ℕ) where
   -- a step without acts
   pub does_nothing : (at : Position) (ds : List Deed) (us : List Member) (l : List (ℕ × Slot F T A)) → Owes F T A limit (λ _. []) (λ n. n) at ds us l
-  does_nothing at ds us l m f number x lt = record {
-    outcome = leaves_slots (scene m) m.word at [] [];
-    leads_to = refl;
-    writes = x;
-    idle = (refl, refl);
-    placing = stays refl refl (inr (refl, refl)) (inr (refl, refl));
-  }
+  does_nothing at ds us l m f number x lt = keeps_places (leaves_slots (scene m) m.word at [] [])
+      refl x refl
 
   pub looks_finished : (n : ℕ) (ds : List Deed) (us : List Member) (l : List (ℕ × Slot F T A)) → Owes F T A limit looking_finished (λ n. n) (At (Task n)) ds us l
-  looks_finished n ds us l m f x e lt = record {
-    outcome = leaves_slots (scene m) m.word (At (Task n)) [] (CallEnds (Finished (not (is_open m.word))) ∷ []);
-    leads_to = refl;
-    writes = e;
-    idle = (refl, refl);
-    placing = stays refl refl (inr (refl, refl)) (inr (refl, refl));
-  }
+  looks_finished n ds us l m f x e lt = keeps_places (leaves_slots (scene m) m.word (At (Task n)) [] (CallEnds (Finished (not (is_open m.word))) ∷ []))
+      refl e refl
 
   closers_sum : (a b : Census) → closers (plus a b) ≡ closers a + closers b
   closers_sum a b = omega arith

@@ -35,7 +35,7 @@ use Rattle.task_steps.specs.PollScripts.{has_output, has_ended, has_to_wait, loo
 use Rattle.task_steps.proofs.Bools.{never}
 use Rattle.task_steps.proofs.Acts.{leads}
 use Rattle.task_steps.proofs.Leads.{counted, counted_awaiting}
-use Rattle.task_steps.proofs.Advance.{Finds, stays, takes_output, gives_work, takes_awaiter, gives_awaiter, Steps}
+use Rattle.task_steps.proofs.Advance.{Finds, stays, takes_output, gives_work, takes_awaiter, gives_awaiter, Steps, keeps_places}
 use Rattle.task_steps.proofs.Allowed.{Owes, OwesEnd}
 
 -- a position that has no place of the table
@@ -132,13 +132,8 @@ module _ (F T A : Type 0) (limit : ℕ) where
   }
 
   looks_again_by : (m : Machine) (i number : ℕ) (l : List (ℕ × Slot F T A)) (b : Bool) → has_to_wait m.word ≡ b → number ≡ number_of m.word → Steps m (Looking i) (if b then Look ∷ EndCall ∷ [] else Look ∷ []) number l
-  looks_again_by m i number l true e x = record {
-    outcome = leaves_slots (scene m) m.word (At (Task i)) [] (TaskPollEnds i IsPending ∷ []);
-    leads_to = ap (λ (p : Position). and_then (Some (leaves_slots (scene m) m.word p [] [])) (λ o. leads (spot m.limit o.word o.slots) (EndCall ∷ []) o.next)) (has_waited m.word i e);
-    writes = x;
-    idle = (refl, refl);
-    placing = stays refl refl (inr (refl, refl)) (inr (refl, refl));
-  }
+  looks_again_by m i number l true e x = keeps_places (leaves_slots (scene m) m.word (At (Task i)) [] (TaskPollEnds i IsPending ∷ []))
+      (ap (λ (p : Position). and_then (Some (leaves_slots (scene m) m.word p [] [])) (λ o. leads (spot m.limit o.word o.slots) (EndCall ∷ []) o.next)) (has_waited m.word i e)) x refl
   looks_again_by m i number l false e x = let f = second_free m.word i in record {
     outcome = leaves_slots (scene m) m.word (second_look m.word i) [] [];
     leads_to = refl;
@@ -151,22 +146,12 @@ module _ (F T A : Type 0) (limit : ℕ) where
   looks_again i ds us l m f number x lt e = looks_again_by m i number l (has_to_wait m.word) refl x
 
   pub ends_poll : (i : ℕ) (answer : PollAnswer) (ds : List Deed) (us : List Member) (l : List (ℕ × Slot F T A)) → Owes F T A limit ending (λ n. n) (Answering i answer) ds us l
-  ends_poll i answer ds us l m f number x lt = record {
-    outcome = leaves_slots (scene m) m.word (At (Task i)) [] (TaskPollEnds i answer ∷ []);
-    leads_to = refl;
-    writes = x;
-    idle = (refl, refl);
-    placing = stays refl refl (inr (refl, refl)) (inr (refl, refl));
-  }
+  ends_poll i answer ds us l m f number x lt = keeps_places (leaves_slots (scene m) m.word (At (Task i)) [] (TaskPollEnds i answer ∷ []))
+      refl x refl
 
   pub refuses : (i : ℕ) (ds : List Deed) (us : List Member) (l : List (ℕ × Slot F T A)) → Owes F T A limit refusing (λ n. n) (Registrar i) ds us l
-  refuses i ds us l m f number x lt = record {
-    outcome = leaves_slots (scene m) m.word (At (Task i)) [] (TaskPollEnds i IsRefused ∷ []);
-    leads_to = refl;
-    writes = x;
-    idle = (refl, refl);
-    placing = stays refl refl (inr (refl, refl)) (inr (refl, refl));
-  }
+  refuses i ds us l m f number x lt = keeps_places (leaves_slots (scene m) m.word (At (Task i)) [] (TaskPollEnds i IsRefused ∷ []))
+      refl x refl
 
   claims_by : (m : Machine) (p : Position) (acts : List Act) (i : ℕ) (told : List Event) (new : ℕ) (l : List (ℕ × Slot F T A)) → Free p → how_often Event.Empties told ≡ 0 → Fits ClaimOutput m.word new
       → leads (scene m) acts p ≡ and_then (when (found 0 ClaimOutput m.word) (leaves_slots (scene m) (written ClaimOutput m.word) (notifies m.word.awaiter (OfClaim i)) [] told)) (λ o. leads (spot m.limit o.word o.slots) [] o.next)
@@ -193,22 +178,12 @@ module _ (F T A : Type 0) (limit : ℕ) where
   }
 
   pub finds_notifier : (i : ℕ) (ds : List Deed) (us : List Member) (l : List (ℕ × Slot F T A)) → OwesEnd F T A limit (λ w. w.notifying) finding_notifier (Registrar i) ds us l
-  finds_notifier i ds us l m f number x lt e = record {
-    outcome = leaves_slots (scene m) m.word (UnusedClone i) [] (Woken i ∷ Cloned i ∷ []);
-    leads_to = ap (λ (b : Bool). and_then (Some (leaves_slots (scene m) m.word (HasClone i) [] (Cloned i ∷ []))) (λ o. and_then (when b (leaves_slots (spot m.limit o.word o.slots) o.word (UnusedClone i) [] (Woken i ∷ []))) (λ o. leads (spot m.limit o.word o.slots) [] o.next))) e;
-    writes = x;
-    idle = (refl, refl);
-    placing = stays refl refl (inr (refl, refl)) (inr (refl, refl));
-  }
+  finds_notifier i ds us l m f number x lt e = keeps_places (leaves_slots (scene m) m.word (UnusedClone i) [] (Woken i ∷ Cloned i ∷ []))
+      (ap (λ (b : Bool). and_then (Some (leaves_slots (scene m) m.word (HasClone i) [] (Cloned i ∷ []))) (λ o. and_then (when b (leaves_slots (spot m.limit o.word o.slots) o.word (UnusedClone i) [] (Woken i ∷ []))) (λ o. leads (spot m.limit o.word o.slots) [] o.next))) e) x refl
 
   pub drops_clone : (i : ℕ) (ds : List Deed) (us : List Member) (l : List (ℕ × Slot F T A)) → Owes F T A limit dropping (λ n. n) (UnusedClone i) ds us l
-  drops_clone i ds us l m f number x lt = record {
-    outcome = leaves_slots (scene m) m.word (Looking i) [] (CloneEnded i ∷ []);
-    leads_to = refl;
-    writes = x;
-    idle = (refl, refl);
-    placing = stays refl refl (inr (refl, refl)) (inr (refl, refl));
-  }
+  drops_clone i ds us l m f number x lt = keeps_places (leaves_slots (scene m) m.word (Looking i) [] (CloneEnded i ∷ []))
+      refl x refl
 
   drops_old : (i old : ℕ) (ds : List Deed) (us : List Member) (l : List (ℕ × Slot F T A)) → Owes F T A limit dropping (λ n. n) (OldAwaiterInHand i old) ds us l
   drops_old i old ds us l m f number x lt = record {
@@ -225,13 +200,8 @@ module _ (F T A : Type 0) (limit : ℕ) where
   drops_stored i (Some old) y a h e ds us l = drops_old i old ds us l
 
   pub wakes_clone : (i : ℕ) (ds : List Deed) (us : List Member) (l : List (ℕ × Slot F T A)) → Owes F T A limit waking (λ n. n) (CloneInHand i) ds us l
-  wakes_clone i ds us l m f number x lt = record {
-    outcome = leaves_slots (scene m) m.word (Looking i) [] (CloneEnded i ∷ Woken i ∷ []);
-    leads_to = refl;
-    writes = x;
-    idle = (refl, refl);
-    placing = stays refl refl (inr (refl, refl)) (inr (refl, refl));
-  }
+  wakes_clone i ds us l m f number x lt = keeps_places (leaves_slots (scene m) m.word (Looking i) [] (CloneEnded i ∷ Woken i ∷ []))
+      refl x refl
 
   -- where the clone was put in, by what stood there
   stored_free : (i : ℕ) (hand : Option ℕ) → (has_work (after_storing i hand) ≡ false) × (owns_awaiter (after_storing i hand) ≡ true)

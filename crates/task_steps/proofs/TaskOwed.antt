@@ -32,7 +32,7 @@ use Rattle.task_steps.specs.TaskScripts.{finding_cancelled, cancelling, cancelle
 use Rattle.task_steps.proofs.Bools.{never}
 use Rattle.task_steps.proofs.Acts.{leads, both}
 use Rattle.task_steps.proofs.Leads.{counted}
-use Rattle.task_steps.proofs.Advance.{Finds, stays, gives_work, takes_output, takes_awaiter, Steps}
+use Rattle.task_steps.proofs.Advance.{Finds, stays, gives_work, takes_output, takes_awaiter, Steps, keeps_places}
 use Rattle.task_steps.proofs.Allowed.{Owes, OwesEnd}
 
 -- acts in a row, by whether the first finds its word
@@ -76,13 +76,8 @@ no_future limit w slots t c h e = grind arith
 
 module _ (F T A : Type 0) (limit : ℕ) where
   pub finds_over : (n : ℕ) (ds : List Deed) (us : List Member) (l : List (ℕ × Slot F T A)) → OwesEnd F T A limit (is_over limit) finding_cancelled (At (Task n)) ds us l
-  finds_over n ds us l m f x e lt is = record {
-    outcome = leaves_slots (scene m) m.word (At (Task n)) [] (CallEnds Nothing ∷ []);
-    leads_to = finds_it m (At (Task n)) CancelOver (EndCall ∷ []) is;
-    writes = e;
-    idle = (refl, refl);
-    placing = stays refl refl (inr (refl, refl)) (inr (refl, refl));
-  }
+  finds_over n ds us l m f x e lt is = keeps_places (leaves_slots (scene m) m.word (At (Task n)) [] (CallEnds Nothing ∷ []))
+      (finds_it m (At (Task n)) CancelOver (EndCall ∷ []) is) e refl
 
   pub cancels : (n : ℕ) (ds : List Deed) (us : List Member) (l : List (ℕ × Slot F T A)) (w : State) (old new : ℕ) → old ≡ number_of w → new ≡ number_of (cancelled w) → is_open w ≡ true
       → (m : Machine) → Finds limit (At (Task n)) ds us m → old ≡ number_of m.word → Steps m (At (Task n)) (cancelling m.word) new l
@@ -103,13 +98,8 @@ module _ (F T A : Type 0) (limit : ℕ) where
         idle = (refl, refl);
         placing = stays i.0 i.1 (inr (refl, refl)) (inr (refl, refl));
       }
-      closes false is = record {
-        outcome = leaves_slots (scene m) (record (m.word) { scheduled = true; closed = true; references = m.word.references + 1 }) (Deliverer false (after_cancelling m.word.awaiter n)) [] (Made ByClosing ∷ Closes ∷ []);
-        leads_to = finds_it m (At (Task n)) CancelIdle [] (neither (is_open m.word) m.word.scheduled m.word.running now is);
-        writes = refl;
-        idle = (refl, refl);
-        placing = stays refl refl (inr (refl, refl)) (inr (refl, refl));
-      }
+      closes false is = keeps_places (leaves_slots (scene m) (record (m.word) { scheduled = true; closed = true; references = m.word.references + 1 }) (Deliverer false (after_cancelling m.word.awaiter n)) [] (Made ByClosing ∷ Closes ∷ []))
+          (finds_it m (At (Task n)) CancelIdle [] (neither (is_open m.word) m.word.scheduled m.word.running now is)) refl refl
 
   -- the row of a Task that is given up, from here on
   gives_reference : (p : Position) (m : Machine) (x : ℕ) (l : List (ℕ × Slot F T A)) → has_work p ≡ false → owns_awaiter p ≡ false
@@ -153,13 +143,8 @@ module _ (F T A : Type 0) (limit : ℕ) where
       }
       gives false true c claimed counted closed = gives_reference (At (Task n)) m (number_of (record (m.word) { task = false })) l refl refl refl refl counted claimed
       gives false false true claimed counted closed = gives_last (At (Task n)) ds us m f (number_of (record (m.word) { task = false })) l refl refl (omega arith) refl refl counted closed
-      gives false false false claimed counted closed = record {
-        outcome = leaves_slots (scene m) orphan_word (Deliverer false (ThenEnds Nothing)) [] (Made ByClosing ∷ Closes ∷ TaskGivenUp ∷ []);
-        leads_to = finds_it m (At (Task n)) DetachOrphan [] (last_orphan m.word.references m.word.completed m.word.closed counted claimed closed);
-        writes = refl;
-        idle = (refl, refl);
-        placing = stays refl refl (inr (refl, refl)) (inr (refl, refl));
-      }
+      gives false false false claimed counted closed = keeps_places (leaves_slots (scene m) orphan_word (Deliverer false (ThenEnds Nothing)) [] (Made ByClosing ∷ Closes ∷ TaskGivenUp ∷ []))
+          (finds_it m (At (Task n)) DetachOrphan [] (last_orphan m.word.references m.word.completed m.word.closed counted claimed closed)) refl refl
 
   pub drops_output : (ds : List Deed) (us : List Member) (y z : Slot F T A) (l : List (ℕ × Slot F T A)) → l ≡ output_first y z (rest (rest l)) → Owes F T A limit dropping_output (λ n. n) OutputCloser ds us l
   drops_output ds us y z l has m f x e lt = let none = no_future m.limit m.word m.slots m.trace (census m.parties) f.invariant.holds (counted (λ c. c.claims) (λ a b. refl) m.parties f.number OutputCloser f.stands) in record {
