@@ -6,8 +6,7 @@ use Rattle.task_laws.specs.Event.{Event}
 use Rattle.task_laws.specs.Position.{Position, Act, OfRun, ThenEnds}
 use Rattle.task_laws.specs.Table.{Slots, Scene, Outcome, rule}
 use Rattle.task_laws.specs.Machine.{begins}
-use Rattle.task_laws.specs.Laws.{how_often, count}
-use Rattle.task_laws.specs.Laws.{Each, is_task_poll, pending_poll, was_woken, MayAnswer}
+use Rattle.task_laws.specs.Laws.{how_often, count, Each, is_task_poll, pending_poll, was_woken, MayAnswer}
 use Rattle.task_laws.proofs.Census.{Census, plus, weigh}
 use Rattle.task_laws.proofs.Awaiting.{Awaiting, join, await, awaiting, held, Fits}
 use Rattle.task_laws.proofs.Invariant.{Holds}

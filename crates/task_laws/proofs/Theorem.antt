@@ -6,8 +6,7 @@ use Rattle.task_laws.specs.Event.{Event}
 use Rattle.task_laws.specs.Position.{Position}
 use Rattle.task_laws.specs.Table.{Slots}
 use Rattle.task_laws.specs.Machine.{Machine, how_many}
-use Rattle.task_laws.specs.Laws.{how_often}
-use Rattle.task_laws.specs.Laws.{NobodyIsLeft, no_call_is_left, pending_poll, was_woken}
+use Rattle.task_laws.specs.Laws.{how_often, NobodyIsLeft, no_call_is_left, pending_poll, was_woken}
 use Rattle.task_laws.specs.Holders.{is_waker, is_runner, owns_future, owns_output, owns_awaiter}
 use Rattle.task_laws.specs.Theorem.{Laws, LawsHold}
 use Rattle.task_laws.proofs.Census.{Census, weigh, census, calls, runs, closers}

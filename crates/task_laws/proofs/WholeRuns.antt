@@ -3,7 +3,7 @@ use Rattle.std.proofs.Common.{◌≡◌, ℕ, ◌+◌, ◌≤◌, Bool, true, fa
 use Rattle.std.specs.Prelude.{slice_get, slice_set, nat_lt, nat_eq}
 use Rattle.std.proofs.lemmas.Bool.Decides.{nat_tests}
 use Rattle.task_core.specs.Word.{State, bit}
-use Rattle.task_laws.specs.Event.{Event, Nothing, CallEnds}
+use Rattle.task_laws.specs.Event.{Event, Nothing, CallEnds, is_event}
 use Rattle.task_laws.specs.Position.{Rest, Ended, Position, At, CallEnding, Deliverer, ThenEnds, Polling, Registrar, AwaiterInHand, OfPoll, OfClaim, Act, WakeIdle, EndCall}
 use Rattle.task_laws.specs.Table.{Slots, Outcome, rule}
 use Rattle.task_laws.specs.Machine.{Machine, scene, begins, after, moves}
@@ -18,7 +18,6 @@ use Rattle.task_laws.proofs.Runs.{Invariant, Stays, others, split, put_born, spl
 use Rattle.task_laws.proofs.Ahead.{Same, before, ahead, prepend, lands, Landed, cell_at, phase_at, holders, queues, landed}
 use Rattle.task_laws.proofs.Calm.{Calm, Counted, Placed, placed, kept_calm, StaysCalm, stands, goes_one_way, registers, is_registered, takes_slot, has_emptied, is_storing, is_notifier, drops_old, is_refused, has_seen, drops_output, has_stored}
 use Rattle.task_laws.proofs.CallRows.{tracked}
-use Rattle.task_laws.specs.Event.{is_event}
 use Rattle.task_laws.specs.Laws.{how_often, count}
 use Rattle.task_laws.proofs.Cuts.{goes_on_from, get_put, get_other, get_append, carried}
 

@@ -2,7 +2,7 @@
 use Rattle.std.proofs.Common.{◌≡◌, ℕ, ◌+◌, ◌≤◌, ◌⊎◌, inl, inr, zero, suc, Bool, true, false, not, refl, sym, ap, ◌∙◌, subst, List, [], ◌∷◌, ◌++◌, length, Option, Some, None, arith}
 use Rattle.std.specs.Prelude.{slice_get, slice_set}
 use Rattle.task_core.specs.Word.{State, bit, is_open}
-use Rattle.task_laws.specs.Event.{Event, FuturePollBegins, TakenUp, CallBegins}
+use Rattle.task_laws.specs.Event.{Event, FuturePollBegins, TakenUp, CallBegins, is_event}
 use Rattle.task_laws.specs.declared.positions.Rest.TheVariants.{Runnable}
 use Rattle.task_laws.specs.declared.positions.WithoutPoll.TheVariants.{ClosedRun}
 use Rattle.task_laws.specs.declared.positions.Position.{Position}
@@ -11,7 +11,6 @@ use Rattle.task_core.specs.declared.acts.Act.{Act}
 use Rattle.task_core.specs.declared.acts.Act.TheVariants.{TakeUpClosed, StartRun, StartPoll}
 use Rattle.task_laws.specs.Table.{Outcome, when, rule}
 use Rattle.task_laws.specs.Machine.{Machine, Step, scene, begins, after, moves, step, run_from, how_many}
-use Rattle.task_laws.specs.Event.{is_event}
 use Rattle.task_laws.specs.Laws.{how_often, wake_is_due}
 use Rattle.task_laws.proofs.Census.{census}
 use Rattle.task_laws.proofs.Awaiting.{awaiting}

@@ -9,7 +9,6 @@ pub mod AtRest
 pub mod Lasting
 pub mod ComesToRest
 pub mod Seen
-pub mod TaskSaw
 pub mod Tables
 mod WorkedAttempts
 mod WorkedRest

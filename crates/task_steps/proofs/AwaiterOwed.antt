@@ -25,7 +25,8 @@ use Rattle.task_steps.specs.declared.table.Member.{Member}
 use Rattle.task_steps.specs.Rule.{has_work, IsEmpty, Waits}
 use Rattle.task_steps.specs.Scripts.{ending, taking_awaiter, releasing_awaiter, waking, dropping}
 use Rattle.task_steps.proofs.Bools.{never}
-use Rattle.task_steps.proofs.Leads.{leads_first, counted, counted_awaiting}
+use Rattle.task_steps.proofs.Facts.{counted, counted_awaiting}
+use Rattle.task_steps.proofs.Acts.{leads_first}
 use Rattle.task_steps.proofs.Advance.{stays, takes_awaiter, gives_awaiter, Steps, keeps_places}
 use Rattle.task_steps.proofs.Allowed.{Owes}
 

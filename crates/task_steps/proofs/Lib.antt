@@ -11,7 +11,6 @@ pub mod Owed
 pub mod Seats
 pub mod Lending
 pub mod Laid
-pub mod Leads
 pub mod AwaiterOwed
 pub mod RunOwed
 pub mod Known

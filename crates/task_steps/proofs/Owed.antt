@@ -27,7 +27,7 @@ use Rattle.task_steps.specs.Steps.{future_first}
 use Rattle.task_steps.specs.TaskScripts.{looking_finished}
 use Rattle.task_steps.specs.RunScripts.{unscheduling}
 use Rattle.task_steps.proofs.Bools.{never}
-use Rattle.task_steps.proofs.Leads.{counted}
+use Rattle.task_steps.proofs.Facts.{counted}
 use Rattle.task_steps.proofs.Advance.{stays, gives_work, keeps_places}
 use Rattle.task_steps.proofs.Allowed.{Owes}
 

@@ -34,7 +34,8 @@ use Rattle.task_steps.specs.Scripts.{ending, waking, dropping}
 use Rattle.task_steps.specs.PollScripts.{has_output, has_ended, has_to_wait, looking, looking_again, handing_out, refusing, finding_notifier, taking_back, ending_notified}
 use Rattle.task_steps.proofs.Bools.{never}
 use Rattle.task_steps.proofs.Acts.{leads}
-use Rattle.task_steps.proofs.Leads.{counted, counted_awaiting}
+use Rattle.task_steps.proofs.Facts.{counted, counted_awaiting}
+use Rattle.task_steps.proofs.AwaiterOwed.{not_emptied}
 use Rattle.task_steps.proofs.Advance.{Finds, stays, takes_output, gives_work, takes_awaiter, gives_awaiter, Steps, keeps_places}
 use Rattle.task_steps.proofs.Allowed.{Owes, OwesEnd}
 
@@ -104,15 +105,11 @@ pub same_first : {X : Type 0} (l r s : List (ℕ × X)) (k : ℕ) (x y : X) → 
 same_first l r s k x y e f = ap (value_or x) (sym e ∙ f)
 
 -- what the invariant says to the Task
--- while the Task exists no slot was emptied
-not_emptied : (limit : ℕ) (w : State) (slots : Slots) (t : List Event) (c : Census) → Holds limit w slots t c → 1 ≤ c.tasks → how_often Event.Empties t ≡ 0
-not_emptied limit w slots t c h e = grind arith
-
-output_there : (limit : ℕ) (w : State) (slots : Slots) (t : List Event) (c : Census) → Holds limit w slots t c → has_output w ≡ true → slots.output ≡ true
+pub output_there : (limit : ℕ) (w : State) (slots : Slots) (t : List Event) (c : Census) → Holds limit w slots t c → has_output w ≡ true → slots.output ≡ true
 output_there limit w slots t c h e = grind arith
 
 -- whoever has the output finds the future gone
-future_gone : (limit : ℕ) (w : State) (slots : Slots) (t : List Event) (c : Census) → Holds limit w slots t c → 1 ≤ c.claims → slots.future ≡ false
+pub future_gone : (limit : ℕ) (w : State) (slots : Slots) (t : List Event) (c : Census) → Holds limit w slots t c → 1 ≤ c.claims → slots.future ≡ false
 future_gone limit w slots t c h e = grind arith
 
 was_taken_back : (i : ℕ) (w : State) (slots : Slots) (t : List Event) (b : Awaiting) → HandshakeHolds i w slots t b → 1 ≤ b.takers_back → (w.notifying ≡ true) × (slots.awaiter ≡ None)
@@ -215,7 +212,7 @@ module _ (F T A : Type 0) (limit : ℕ) where
   pub begins_register : (i : ℕ) (ds : List Deed) (us : List Member) (l : List (ℕ × Slot F T A)) (m : Machine) (new : ℕ) → Finds limit (Registrar i) ds us m → Fits BeginRegister m.word new
       → Steps m (Registrar i) (CloneAwaiter ∷ BeginRegister ∷ StoreAwaiter ∷ []) new l
   begins_register i ds us l m new f fit = let s = stored_free i m.slots.awaiter in
-      let none = not_emptied m.limit m.word m.slots m.trace (census m.parties) f.invariant.holds (counted (λ c. c.tasks) (λ a b. refl) m.parties f.number (Registrar i) f.stands) in record {
+      let none = not_emptied m.limit m.word m.slots m.trace (census m.parties) f.invariant.holds (omega (arith, counted (λ c. c.tasks) (λ a b. refl) m.parties f.number (Registrar i) f.stands)) in record {
         outcome = record { word = written BeginRegister m.word; slots = record (m.slots) { awaiter = Some i }; next = after_storing i m.slots.awaiter; born = []; told = Cloned i ∷ [] };
         leads_to = ap (λ (b : Bool). and_then (Some (leaves_slots (scene m) m.word (HasClone i) [] (Cloned i ∷ [])))
             (λ o. and_then (when b (leaves_slots (spot m.limit o.word o.slots) (written BeginRegister o.word) (Storing i) [] [])) (λ o. leads (spot m.limit o.word o.slots) (StoreAwaiter ∷ []) o.next))) fit.finds;

@@ -32,8 +32,8 @@ use Rattle.task_steps.specs.Scripts.{dropping_output}
 use Rattle.task_steps.specs.RunScripts.{giving_up, emptying, discarding, answering_ready, completing, answering_pending, ending_pending, finding_closed, ending_closed, completed_word, after_pending}
 use Rattle.task_steps.proofs.Bools.{never}
 use Rattle.task_steps.proofs.Numbers.{same_word}
-use Rattle.task_steps.proofs.Facts.{queued}
-use Rattle.task_steps.proofs.Leads.{leads_first, counted}
+use Rattle.task_steps.proofs.Facts.{queued, counted}
+use Rattle.task_steps.proofs.Acts.{leads_first}
 use Rattle.task_steps.proofs.AwaiterOwed.{not_emptied}
 use Rattle.task_steps.proofs.Advance.{Finds, Placing, stays, takes_future, gives_work, takes_awaiter, gives_awaiter, Steps}
 use Rattle.task_steps.proofs.Allowed.{Owes, OwesEnd}

@@ -22,8 +22,7 @@ use Rattle.task_steps.specs.PollScripts.{has_ended}
 use Rattle.task_steps.specs.Rule.{Entry, Reaches, is_private, noted_if, deeds_of, DidLast}
 use Rattle.task_steps.specs.Steps.{leaves_such, saw, saw_over, saw_closed, saw_ended}
 use Rattle.task_steps.proofs.Written.{found_is}
-use Rattle.task_steps.proofs.Facts.{law}
-use Rattle.task_steps.proofs.Leads.{counted}
+use Rattle.task_steps.proofs.Facts.{law, counted}
 use Rattle.task_steps.proofs.Explains.{next_machine}
 
 -- a step of the machine, taken apart: where its party stood, and what the table says

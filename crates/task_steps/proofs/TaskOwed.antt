@@ -31,7 +31,9 @@ use Rattle.task_steps.specs.WakerScripts.{is_over}
 use Rattle.task_steps.specs.TaskScripts.{finding_cancelled, cancelling, cancelled, detaching, detached, giving_task_up}
 use Rattle.task_steps.proofs.Bools.{never}
 use Rattle.task_steps.proofs.Acts.{leads, both}
-use Rattle.task_steps.proofs.Leads.{counted}
+use Rattle.task_steps.proofs.Facts.{counted}
+use Rattle.task_steps.proofs.AwaiterOwed.{not_emptied}
+use Rattle.task_steps.proofs.PollOwed.{output_there, future_gone}
 use Rattle.task_steps.proofs.Advance.{Finds, stays, gives_work, takes_output, takes_awaiter, Steps, keeps_places}
 use Rattle.task_steps.proofs.Allowed.{Owes, OwesEnd}
 
@@ -61,18 +63,6 @@ closed_claimed completed closed e = grind arith
 pub idle_cancel : (b : Bool) (n : ℕ) → (has_work (notifies b (OfCancel n)) ≡ false) × (owns_awaiter (notifies b (OfCancel n)) ≡ false)
 idle_cancel true n = (refl, refl)
 idle_cancel false n = (refl, refl)
-
--- while the Task is there, the slots were not emptied
-unemptied : (limit : ℕ) (w : State) (slots : Slots) (t : List Event) (c : Census) → Holds limit w slots t c → 1 ≤ c.tasks → how_often Event.Empties t ≡ 0
-unemptied limit w slots t c h e = grind arith
-
--- of a completed task that is not closed, the output is there
-output_there : (limit : ℕ) (w : State) (slots : Slots) (t : List Event) (c : Census) → Holds limit w slots t c → (w.completed && not w.closed) ≡ true → slots.output ≡ true
-output_there limit w slots t c h e = grind arith
-
--- whoever has claimed the output has the only thing that is left of the work
-no_future : (limit : ℕ) (w : State) (slots : Slots) (t : List Event) (c : Census) → Holds limit w slots t c → 1 ≤ c.claims → slots.future ≡ false
-no_future limit w slots t c h e = grind arith
 
 module _ (F T A : Type 0) (limit : ℕ) where
   pub finds_over : (n : ℕ) (ds : List Deed) (us : List Member) (l : List (ℕ × Slot F T A)) → OwesEnd F T A limit (is_over limit) finding_cancelled (At (Task n)) ds us l
@@ -116,7 +106,7 @@ module _ (F T A : Type 0) (limit : ℕ) where
   gives_last : (p : Position) (ds : List Deed) (us : List Member) (m : Machine) → Finds limit p ds us m → (x : ℕ) (l : List (ℕ × Slot F T A)) → has_work p ≡ false → owns_awaiter p ≡ false → 1 ≤ (weigh p).tasks
       → leads_if m p DetachLast [] true ≡ Some (leaves_slots (scene m) (record (m.word) { task = false }) (Emptier None Nothing) [] (TaskGivenUp ∷ []))
       → x ≡ number_of (record (m.word) { task = false }) → nat_lt 0 m.word.references ≡ false → m.word.closed ≡ true → Steps m p (DetachLast ∷ []) x l
-  gives_last p ds us m f x l free bare one goes e none closed = let left = unemptied m.limit m.word m.slots m.trace (census m.parties) f.invariant.holds (let h = counted (λ c. c.tasks) (λ a b. refl) m.parties f.number p f.stands in omega arith) in record {
+  gives_last p ds us m f x l free bare one goes e none closed = let left = not_emptied m.limit m.word m.slots m.trace (census m.parties) f.invariant.holds (let h = counted (λ c. c.tasks) (λ a b. refl) m.parties f.number p f.stands in omega arith) in record {
     outcome = leaves_slots (scene m) (record (m.word) { task = false }) (Emptier None Nothing) [] (TaskGivenUp ∷ []);
     leads_to = finds_it m p DetachLast [] (both (nat_eq m.word.references 0) m.word.closed (none_left m.word.references none) closed) ∙ goes;
     writes = e;
@@ -147,7 +137,7 @@ module _ (F T A : Type 0) (limit : ℕ) where
           (finds_it m (At (Task n)) DetachOrphan [] (last_orphan m.word.references m.word.completed m.word.closed counted claimed closed)) refl refl
 
   pub drops_output : (ds : List Deed) (us : List Member) (y z : Slot F T A) (l : List (ℕ × Slot F T A)) → l ≡ output_first y z (rest (rest l)) → Owes F T A limit dropping_output (λ n. n) OutputCloser ds us l
-  drops_output ds us y z l has m f x e lt = let none = no_future m.limit m.word m.slots m.trace (census m.parties) f.invariant.holds (counted (λ c. c.claims) (λ a b. refl) m.parties f.number OutputCloser f.stands) in record {
+  drops_output ds us y z l has m f x e lt = let none = future_gone m.limit m.word m.slots m.trace (census m.parties) f.invariant.holds (counted (λ c. c.claims) (λ a b. refl) m.parties f.number OutputCloser f.stands) in record {
     outcome = changes_slots (scene m) m.word (record (m.slots) { output = false }) Detacher (OutputDropped ∷ []);
     leads_to = refl;
     writes = e;

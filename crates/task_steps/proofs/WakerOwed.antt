@@ -23,9 +23,9 @@ use Rattle.task_steps.specs.declared.table.Member.{Member}
 use Rattle.task_steps.specs.Beside.{may_call, may_change}
 use Rattle.task_steps.specs.WakerScripts.{at_limit, finding_limit, gaining, refusing_gain, is_over, finding_over, waking_task, woken_word, dropping_waker, closing_orphan}
 use Rattle.task_steps.proofs.Bools.{never}
-use Rattle.task_steps.proofs.Acts.{row_found, both}
+use Rattle.task_steps.proofs.Acts.{row_found, both, leads_first}
 use Rattle.task_steps.proofs.Seen.{true_right}
-use Rattle.task_steps.proofs.Leads.{leads_first, counted}
+use Rattle.task_steps.proofs.Facts.{counted}
 use Rattle.task_steps.proofs.Numbers.{same_word}
 use Rattle.task_steps.proofs.Advance.{Finds, stays, takes_awaiter, Steps, keeps_places}
 use Rattle.task_steps.proofs.Allowed.{Owes, OwesEnd}
