@@ -13,29 +13,11 @@ use Rattle.task_laws.proofs.Calm.{stands}
 
 -- there the frame says what is left of the call
 pub goes_on_from : (limit : ℕ) (c : AbstractCell) (slots : Slots) (done : Bool) (p : Position) (act : Act) → stands done (Some p) ≡ true → go c (frame_of p) (says_yes act) ≡ before limit c slots p act
-goes_on_from limit c slots done Polling act e = refl
-goes_on_from limit c slots done (FutureGone ClosedRun) act e = refl
-goes_on_from limit c slots done (FutureGone DroppedRunnable) act e = refl
-goes_on_from limit c slots done ReadyFutureDropped act e = refl
-goes_on_from limit c slots done PendingFutureDropped act e = refl
-goes_on_from limit c slots done (Notifier OfRun) act e = refl
-goes_on_from limit c slots done (Notifier (OfCancel n)) act e = refl
-goes_on_from limit c slots done Detacher act e = refl
-goes_on_from limit c slots done (GivingUp None answer) act e = refl
-goes_on_from limit c slots done (CallEnding answer r) act e = refl
-goes_on_from limit c slots done (Registrar i) act e = refl
-goes_on_from limit c slots done (Registered i) act e = refl
-goes_on_from limit c slots done (Looking i) act e = refl
-goes_on_from limit c slots done (AwaiterInHand j (OfPoll i)) act e = refl
-goes_on_from limit c slots done (AwaiterInHand j (OfClaim i)) act e = refl
-goes_on_from limit c slots done (TookOutput i) act e = refl
-goes_on_from limit c slots done (Answering i answer) act e = at_answer i answer e
-  where
-    at_answer : (i : ℕ) (answer : PollAnswer) → stands done (Some (Answering i answer)) ≡ true → go c (frame_of (Answering i answer)) (says_yes act) ≡ before limit c slots (Answering i answer) act
-    at_answer i IsPending e = refl
-    at_answer i IsClosed e = refl
-    at_answer i IsRefused e = refl
-    at_answer i HasOutput e = cc
+goes_on_from limit c slots done (FutureGone ClosedRun) act e = cc
+goes_on_from limit c slots done (Notifier OfRun) act e = cc
+goes_on_from limit c slots done (GivingUp None answer) act e = cc
+goes_on_from limit c slots done (AwaiterInHand j (OfPoll i)) act e = cc
+goes_on_from limit c slots done (Answering i HasOutput) act e = cc
 goes_on_from limit c slots done p act e = cc
 
 -- the parties among each other

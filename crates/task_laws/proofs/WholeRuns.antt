@@ -51,13 +51,13 @@ frames_stay a ps born i q (j ∷ stack) f g =
     ap (λ (o : Option Position). frame_at o ∷ frames (slice_set ps i q ++ born) stack) (other_stays ps born i j q a f.0 g.0)
     ∙ ap (λ (fs : List Frame). frame_at (slice_get ps j) ∷ fs) (frames_stay a ps born i q stack f.1 g.2)
 
+pub same_number : (x y : ℕ) → nat_eq x y ≡ true → x ≡ y
+same_number x y e = grind (arith, nat_tests)
+
 -- a party at rest has no call that is open
 apart : (done : Bool) (ps : List Position) (i j : ℕ) (r : Rest) → slice_get ps i ≡ Some (At r) → stands done (slice_get ps j) ≡ true → nat_eq i j ≡ false
 apart done ps i j r e s = decide (nat_eq i j) refl
   where
-    same_number : (x y : ℕ) → nat_eq x y ≡ true → x ≡ y
-    same_number x y e = grind (arith, nat_tests)
-
     decide : (b : Bool) → nat_eq i j ≡ b → nat_eq i j ≡ false
     decide false f = f
     decide true f = let g = rw (sym (same_number i j f)) at s in let h = rw e at g in cc
@@ -239,12 +239,8 @@ calm_at w slots p f k c = record {
     want w o a b c d = grind arith
 
 one_way_is : (limit : ℕ) (c : AbstractCell) (slots : Slots) (p : Position) (act : Act) → goes_one_way p ≡ true → ahead c slots p ≡ before limit c slots p act
-one_way_is limit c slots (At r) act e = cc
-one_way_is limit c slots Polling act e = cc
-one_way_is limit c slots (Registrar i) act e = cc
 one_way_is limit c slots (AwaiterInHand j (OfPoll i)) act e = cc
-one_way_is limit c slots (AwaiterInHand j (OfClaim i)) act e = cc
-one_way_is limit c slots p act e = refl
+one_way_is limit c slots p act e = cc
 
 -- a trace in two parts
 pub count-append : (p : Event → Bool) (xs ys : List Event) → count p (xs ++ ys) ≡ count p xs + count p ys
@@ -306,8 +302,7 @@ goes_on_here limit m i p act stack moves e u h c =
     ∙ ap (λ (x : SegmentEnd). Some (follow x (frames m.parties stack) (seen m.trace))) (goes_on_from m.limit (cell_of m) m.slots m.word.completed p act s)))
   where
     or_right : (b : Bool) → (b || true) ≡ true
-    or_right true = refl
-    or_right false = refl
+    or_right b = grind arith
 
 -- .. and within its segment
 pub goes_within : (limit : ℕ) (m : Machine) (i : ℕ) (p : Position) (act : Act) (stack : List ℕ) (moves : List Move) → queues act ≡ false → Invariant m → Within limit m i p stack moves → GoesAfter limit m i p act stack moves (rule (scene m) act p)
@@ -333,9 +328,6 @@ opened_mid i p act born stack e = refl
 pub move_mid : (p : Position) (act : Act) → is_at_rest p ≡ false → move_of p act ≡ Go (says_yes act)
 move_mid (At r) act e = cc
 move_mid p act e = refl
-
-pub same_number : (x y : ℕ) → nat_eq x y ≡ true → x ≡ y
-same_number x y e = grind (arith, nat_tests)
 
 -- A WAKE THAT QUEUES: its deliverer n stands below the waker i, which has only to end
 pub record Handing (limit : ℕ) (m : Machine) (i : ℕ) (r : Rest) (n : ℕ) (stack : List ℕ) (moves : List Move) : Type 0 where

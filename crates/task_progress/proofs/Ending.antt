@@ -9,6 +9,7 @@ use Rattle.task_laws.specs.Table.{Outcome, rule}
 use Rattle.task_laws.specs.Machine.{Machine, scene, begins, after, moves, step, run_from}
 use Rattle.task_laws.specs.Event.{Event, is_event}
 use Rattle.task_laws.specs.Laws.{how_often}
+use Rattle.task_laws.proofs.Cuts.{get_put as put_there, get_append}
 use Rattle.task_progress.specs.StepsLeft.{total, in_call, steps_left}
 use Rattle.task_progress.specs.Waiting.{next_act}
 use Rattle.task_progress.specs.Ending.{alone, EndsCall, EachEndsAlone, NoCallInProgress, CallsEnd, AllCallsEnd, HasStep, NeverStuck}
@@ -29,9 +30,7 @@ one_left : (p : Position) → in_call p ≤ steps_left p
 one_left p = grind arith
 
 pub get_put : (ps : List Position) (i : ℕ) (p q : Position) (born : List Position) → slice_get ps i ≡ Some p → slice_get (slice_set ps i q ++ born) i ≡ Some q
-get_put [] i p q born e = cc
-get_put (x ∷ ps) zero p q born e = refl
-get_put (x ∷ ps) (suc i) p q born e = get_put ps i p q born e
+get_put ps i p q born e = get_append (slice_set ps i q) born i q (put_there ps i p q e)
 
 -- what the step of a party in a call leaves
 pub record Moved (m : Machine) (i : ℕ) (p : Position) (now : Machine) : Type 0 where

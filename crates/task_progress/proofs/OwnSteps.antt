@@ -9,26 +9,12 @@ use Rattle.task_laws.specs.Table.{Outcome, rule}
 use Rattle.task_laws.specs.Machine.{Machine, Step, scene, begins, after, moves, step, run_from}
 use Rattle.task_laws.specs.Event.{Event}
 use Rattle.task_laws.specs.Laws.{how_often}
+use Rattle.task_laws.proofs.Cuts.{get_other, get_append}
+use Rattle.task_laws.proofs.WholeRuns.{same_number}
 use Rattle.task_progress.specs.StepsLeft.{steps_left, writes_word, writes_left}
 use Rattle.task_progress.specs.OwnSteps.{begins_at, begun_by, OwnStepsBounded, EachPartyIsBounded}
 use Rattle.task_progress.proofs.Rows.{Nears, NearTo, near}
 use Rattle.task_progress.proofs.Ending.{get_put}
-
-get_other : (ps : List Position) (j i : ℕ) (p q : Position) (born : List Position) → nat_eq j i ≡ false → slice_get ps i ≡ Some p
-    → slice_get (slice_set ps j q ++ born) i ≡ Some p
-get_other [] j i p q born differs e = cc
-get_other (x ∷ ps) zero zero p q born differs e = cc
-get_other (x ∷ ps) zero (suc i) p q born differs e = get_kept ps i p born e
-  where
-    get_kept : (ps : List Position) (i : ℕ) (p : Position) (born : List Position) → slice_get ps i ≡ Some p → slice_get (ps ++ born) i ≡ Some p
-    get_kept [] i p born e = cc
-    get_kept (x ∷ ps) zero p born e = e
-    get_kept (x ∷ ps) (suc i) p born e = get_kept ps i p born e
-get_other (x ∷ ps) (suc j) zero p q born differs e = e
-get_other (x ∷ ps) (suc j) (suc i) p q born differs e = get_other ps j i p q born (let f : nat_eq j i ≡ false = grind (arith, nat_tests) in f) e
-
-same_number : (j i : ℕ) → nat_eq j i ≡ true → j ≡ i
-same_number j i e = grind (arith, nat_tests)
 
 -- one step, as party i sees it; b says whether it is its own
 pub record OneOwn (ps : List Position) (act : Act) (b : Bool) (i : ℕ) (p : Position) (now : List Position) : Type 0 where
@@ -39,7 +25,7 @@ pub record OneOwn (ps : List Position) (act : Act) (b : Bool) (i : ℕ) (p : Pos
 
 one_own : (ps : List Position) (act : Act) (b : Bool) (j i : ℕ) (p q : Position) (o : Outcome) → nat_eq j i ≡ b → slice_get ps i ≡ Some p
     → slice_get ps j ≡ Some q → Nears act q o → OneOwn ps act b i p (slice_set ps j o.next ++ o.born)
-one_own ps act false j i p q o is e f near = record { next = p; at = get_other ps j i p o.next o.born is e; steps = omega arith; writes = omega arith }
+one_own ps act false j i p q o is e f near = record { next = p; at = get_append (slice_set ps j o.next) o.born i p (get_other ps j i o.next is ∙ e); steps = omega arith; writes = omega arith }
 one_own ps act true j i p q o is e f near =
     let one : j ≡ i = same_number j i is in
     let there : slice_get ps i ≡ Some q = ap (slice_get ps) (sym one) ∙ f in

@@ -97,42 +97,19 @@ Makes p scene = (rest : Census) (back claimed detached : ℕ)
     → in_call p ≡ 1 → is_some (rule scene (next_act scene.word p) p) ≡ true
 
 makes_row : (p : Position) → InEach (Makes p)
-makes_row (At r) = grind rules
-makes_row (CallEnding answer r) = grind rules
-makes_row (Deliverer woken next) = grind rules
-makes_row Starting = grind rules
-makes_row Polling = grind rules
 makes_row Pending = by_flag closed (grind rules) (by_flag scheduled (grind rules) (by_flag task (grind rules) (grind rules)))
-makes_row Ready = grind rules
-makes_row ReadyFutureDropped = grind rules
 makes_row OutputStored = by_flag task (grind rules) (grind rules)
 makes_row PendingFutureDropped = by_flag closed (grind rules) (grind rules)
 makes_row (FutureInHand ClosedRun) = grind rules
-makes_row (FutureInHand DroppedRunnable) = grind rules
 makes_row (FutureGone ClosedRun) = grind rules
-makes_row (FutureGone DroppedRunnable) = grind rules
-makes_row (OutputInHand due) = grind rules
 makes_row (GivingUp hand answer) = by_flag task (grind rules) (grind rules)
-makes_row (Emptier hand answer) = grind rules
 makes_row (Notifier way) = by_flag notifying (by_flag registering (grind rules) (grind rules)) (by_flag registering (grind rules) (grind rules))
-makes_row (Taker way) = grind rules
-makes_row (Releaser hand way) = grind rules
-makes_row (AwaiterInHand i way) = grind rules
-makes_row OrphanHolder = grind rules
-makes_row (Registrar i) = grind rules
 makes_row (HasClone i) = by_flag notifying (grind rules) (grind rules)
-makes_row (UnusedClone i) = grind rules
-makes_row (Storing i) = grind rules
-makes_row (OldAwaiterInHand i old) = grind rules
 makes_row (Registered i) = by_flag notifying (grind rules) (grind rules)
 makes_row (TookBack i) = by_flag notifying (grind rules) (grind rules)
-makes_row (CloneInHand i) = grind rules
-makes_row (Looking i) = grind rules
 makes_row (SawOutput i) = by_flag completed (by_flag closed (grind rules) (grind rules)) (by_flag closed (grind rules) (grind rules))
-makes_row (TookOutput i) = grind rules
-makes_row (Answering i answer) = grind rules
-makes_row OutputCloser = grind rules
 makes_row Detacher = by_flag closed (by_flag completed (grind rules) (grind rules)) (grind rules)
+makes_row p = grind rules
 
 some_after : (m : Machine) (i : ℕ) (p : Position) (o : Option Outcome) → is_some o ≡ true → is_some (after m i p o) ≡ true
 some_after m i p None e = cc
