@@ -2,8 +2,8 @@
 use Rattle.std.proofs.Common.{◌≡◌, ℕ, zero, suc, Bool, true, false, List, [], ◌∷◌, ◌++◌, Some, None, refl, sym, ap, ◌∙◌, append_assoc, arith}
 use Rattle.std.specs.Prelude.{slice_get, slice_set, nat_eq, if◌then◌else◌}
 use Rattle.std.proofs.lemmas.Bool.Decides.{nat_tests}
-use Rattle.task_laws.specs.Event.{Event, PollAnswer, IsPending, IsClosed, IsRefused, HasOutput}
-use Rattle.task_laws.specs.Position.{Position, At, CallEnding, Polling, ReadyFutureDropped, PendingFutureDropped, FutureGone, ClosedRun, DroppedRunnable, GivingUp, Notifier, AwaiterInHand, Registrar, Registered, Looking, TookOutput, Answering, Detacher, OfRun, OfCancel, OfPoll, OfClaim, Act}
+use Rattle.task_laws.specs.Event.{Event, HasOutput}
+use Rattle.task_laws.specs.Position.{Position, At, FutureGone, ClosedRun, GivingUp, Notifier, AwaiterInHand, Answering, OfRun, OfPoll, Act}
 use Rattle.task_laws.specs.Table.{Slots}
 use Rattle.task_laws.specs.Machine.{begins}
 use Rattle.task_laws.specs.Abstract.{AbstractCell, Frame, SegmentEnd, go, follow}

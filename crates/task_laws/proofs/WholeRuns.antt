@@ -4,7 +4,7 @@ use Rattle.std.specs.Prelude.{slice_get, slice_set, nat_lt, nat_eq}
 use Rattle.std.proofs.lemmas.Bool.Decides.{nat_tests}
 use Rattle.task_core.specs.Word.{State, bit}
 use Rattle.task_laws.specs.Event.{Event, Nothing, CallEnds, is_event}
-use Rattle.task_laws.specs.Position.{Rest, Ended, Position, At, CallEnding, Deliverer, ThenEnds, Polling, Registrar, AwaiterInHand, OfPoll, OfClaim, Act, WakeIdle, EndCall}
+use Rattle.task_laws.specs.Position.{Rest, Ended, Position, At, CallEnding, Deliverer, ThenEnds, AwaiterInHand, OfPoll, Act, WakeIdle, EndCall}
 use Rattle.task_laws.specs.Table.{Slots, Outcome, rule}
 use Rattle.task_laws.specs.Machine.{Machine, scene, begins, after, moves}
 use Rattle.task_core.specs.Local.{is_done}
