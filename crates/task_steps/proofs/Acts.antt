@@ -1,24 +1,10 @@
 -- Acts of one party in a row, with nothing of another party between.
 use Rattle.std.proofs.Common.{◌≡◌, ℕ, ◌+◌, ◌<◌, Bool, true, false, not, ◌&&◌, ◌||◌, cond, Option, Some, None, List, [], ◌∷◌, ◌++◌, length, map, set, sym, refl, ap, ◌∙◌, subst, arith, append-nil, append_assoc}
-use Rattle.task_core.specs.Word.{State, bit, is_open}
-use Rattle.task_laws.specs.Event.{Event, is_event}
-use Rattle.task_laws.specs.declared.positions.Position.{Position}
-use Rattle.task_core.specs.declared.acts.Act.{Act}
-use Rattle.task_core.specs.declared.acts.Act.TheVariants.{GainReference, WakeIdle, WakeOver, WakeRunning, WakeScheduled}
-use Rattle.task_laws.specs.declared.positions.Position.TheVariants.{At}
-use Rattle.task_laws.specs.declared.positions.Rest.TheVariants.{Lent}
-use Rattle.task_core.specs.Rows.{found, written, row}
-use Rattle.task_laws.specs.Table.{Slots, Scene, Outcome, when, where_found, is_held, leaves_slots, goes, rule}
-use Rattle.task_laws.specs.Machine.{Machine, begins, scene, how_many}
-use Rattle.task_laws.specs.Laws.{how_often, count}
-use Rattle.task_laws.proofs.Words.{rule_word}
-use Rattle.task_steps.specs.declared.table.Deed.{Deed}
-use Rattle.task_steps.specs.declared.table.Member.{Member}
-use Rattle.task_steps.specs.declared.table.View.{View}
+use Rattle.task_steps.proofs.Vocabulary.{State, bit, is_open, Event, is_event, Position, Act, GainReference, WakeIdle, WakeOver, WakeRunning, WakeScheduled, At, Lent, found, written, row, Slots, Scene, Outcome, when, where_found, is_held, leaves_slots}
+use Rattle.task_steps.proofs.Vocabulary.{goes, rule, Machine, begins, scene, how_many, how_often, count, rule_word, Deed, Member, View, count-append}
 use Rattle.task_steps.specs.Rule.{deed, member, view, fresh, found_by, Entry, Explains}
 use Rattle.task_steps.specs.Steps.{then_leaves, and_then, spot, is_lent, held_word, leaves_by, all_fit, noted}
 use Rattle.task_steps.proofs.Explains.{tells, next_machine}
-use Rattle.task_laws.proofs.WholeRuns.{count-append}
 use Rattle.task_steps.proofs.Facts.{many_append, many_next, allowed_row}
 use Rattle.task_steps.proofs.Written.{found_is, found_so}
 

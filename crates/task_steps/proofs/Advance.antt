@@ -5,19 +5,7 @@ use mathlib.Core.Option as maybe
 use lib.ListN.{get_elem?}
 use Rattle.atomic_table.specs.Table.{State as Board, Me, Act as Move, keeps, takes, gives, chain, stepped, homes_after, carried_after, Valid, rest}
 use Rattle.atomic_table.proofs.Lists as lists
-use Rattle.task_core.specs.Word.{bit, number_of, is_open}
-use Rattle.task_laws.specs.declared.positions.Position.{Position}
-use Rattle.task_core.specs.declared.acts.Act.{Act}
-use Rattle.task_laws.specs.Table.{Slots, Outcome}
-use Rattle.task_laws.specs.Machine.{Machine, scene, how_many}
-use Rattle.task_laws.specs.Event.{Event}
-use Rattle.task_laws.specs.Laws.{how_often}
-use Rattle.task_laws.specs.Holders.{owns_awaiter}
-use Rattle.task_laws.proofs.Runs.{Invariant}
-use Rattle.task_steps.specs.declared.table.Slot.{Slot}
-use Rattle.task_steps.specs.declared.table.Deed.{Deed}
-use Rattle.task_steps.specs.declared.table.Member.{Member}
-use Rattle.task_steps.specs.declared.table.View.{View}
+use Rattle.task_steps.proofs.Vocabulary.{bit, number_of, is_open, Position, Act, Slots, Outcome, Machine, scene, how_many, Event, how_often, owns_awaiter, Invariant, Slot, Deed, Member, View}
 use Rattle.task_steps.specs.PollScripts.{has_ended}
 use Rattle.task_steps.specs.Rule.{has_work, IsFuture, IsOutput, Waits, AtHome, HomesAgree, RuleHolds}
 use Rattle.task_steps.specs.Steps.{future_first, output_first, TakesFuture, TakesOutput, Works, Awaits, Carries, Carried, saw_over, saw_closed, saw_ended}

@@ -3,25 +3,9 @@ use Rattle.std.proofs.Common.{◌≡◌, ℕ, ◌+◌, ◌≤◌, Bool, true, fa
 use Rattle.std.specs.Prelude.{bit_and, bit_or, if◌then◌else◌}
 use Rattle.std.proofs.lemmas.Bool.Decides.{nat_tests}
 use Rattle.atomic_table.specs.Table.{rest}
-use Rattle.task_core.specs.Word.{State, state_of, number_of}
-use Rattle.task_laws.specs.Event.{Event, CallEnds, CloneEnded, Woken}
-use Rattle.task_laws.specs.declared.positions.Answer.{Answer}
-use Rattle.task_laws.specs.declared.positions.Rest.{Rest}
-use Rattle.task_laws.specs.declared.positions.NotifyingCall.{NotifyingCall}
-use Rattle.task_laws.specs.declared.positions.NotifyingCall.TheVariants.{OfRun, OfDrop, OfCancel, OfPoll, OfClaim}
-use Rattle.task_laws.specs.declared.positions.Position.TheVariants.{At, CallEnding, Notifier, Releaser, AwaiterInHand}
-use Rattle.task_core.specs.declared.acts.Act.TheVariants.{MissNotify, BeginNotify, TakeAwaiter}
-use Rattle.task_laws.specs.Table.{Slots, leaves_slots, changes_slots, after_taking, after_waking, may_drop}
-use Rattle.task_laws.specs.Machine.{scene}
-use Rattle.task_laws.specs.Laws.{how_often}
-use Rattle.task_laws.specs.Holders.{owns_awaiter}
-use Rattle.task_laws.proofs.Census.{Census, census, weigh, plus}
-use Rattle.task_laws.proofs.Awaiting.{Awaiting, await, awaiting}
-use Rattle.task_laws.proofs.Invariant.{Holds}
-use Rattle.task_core.proofs.Bits.{state_of_number_of, fetch_or-notifying, fetch_and-awaiter_notifying}
-use Rattle.task_steps.specs.declared.table.Slot.{Slot}
-use Rattle.task_steps.specs.declared.table.Deed.{Deed}
-use Rattle.task_steps.specs.declared.table.Member.{Member}
+use Rattle.task_steps.proofs.Vocabulary.{State, state_of, number_of, Event, CallEnds, CloneEnded, Woken, Answer, Rest, NotifyingCall, OfRun, OfDrop, OfCancel, OfPoll, OfClaim, At, CallEnding, Notifier, Releaser}
+use Rattle.task_steps.proofs.Vocabulary.{AwaiterInHand, MissNotify, BeginNotify, TakeAwaiter, Slots, leaves_slots, changes_slots, after_taking, after_waking, may_drop, scene, how_often, owns_awaiter, Census}
+use Rattle.task_steps.proofs.Vocabulary.{census, weigh, plus, Awaiting, await, awaiting, Holds, state_of_number_of, fetch_or-notifying, fetch_and-awaiter_notifying, Slot, Deed, Member}
 use Rattle.task_steps.specs.Rule.{has_work, IsEmpty, Waits}
 use Rattle.task_steps.specs.Scripts.{ending, taking_awaiter, releasing_awaiter, waking, dropping}
 use Rattle.task_steps.proofs.Bools.{never}

@@ -2,17 +2,7 @@
 use Rattle.std.proofs.Common.{◌≡◌, ℕ, zero, suc, ◌+◌, ◌*◌, ◌/◌, ◌%◌, ◌≤◌, Bool, true, false, Some, List, [], ◌∷◌, ◌++◌, set, sym, refl, ap, subst, arith}
 use mathlib.Core.Option.{some, some-injective, some-ne-none}
 use lib.ListN.{get_elem?}
-use Rattle.task_core.specs.Word.{State, bit, number_of}
-use Rattle.task_laws.specs.declared.positions.Position.{Position}
-use Rattle.task_laws.specs.declared.positions.Position.TheVariants.{At}
-use Rattle.task_laws.specs.declared.positions.Rest.TheVariants.{Runnable}
-use Rattle.task_laws.specs.Table.{Slots, Outcome, where_found, when}
-use Rattle.task_laws.specs.Event.{Event}
-use Rattle.task_laws.specs.Machine.{Machine, how_many}
-use Rattle.task_laws.proofs.Census.{Census, weigh, census, plus, runs, closers}
-use Rattle.task_laws.proofs.Awaiting.{Awaiting, join, await, awaiting}
-use Rattle.task_laws.proofs.Invariant.{Holds}
-use Rattle.task_laws.proofs.Runs.{Invariant, Stays, always}
+use Rattle.task_steps.proofs.Vocabulary.{State, bit, number_of, Position, At, Runnable, Slots, Outcome, where_found, when, Event, Machine, how_many, Census, weigh, census, plus, runs, closers, Awaiting, join, await, awaiting, Holds, Invariant, Stays, always}
 use Rattle.task_steps.specs.Rule.{Entry, Reaches, steps_of, has_work}
 use Rattle.task_steps.proofs.Explains as told
 

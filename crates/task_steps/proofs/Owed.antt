@@ -4,24 +4,8 @@ use Rattle.std.specs.Prelude.{bit_and}
 use mathlib.Core.Option.{some, some-injective, some-ne-none}
 use lib.ListN.{get_elem?}
 use Rattle.atomic_table.specs.Table.{rest}
-use Rattle.task_core.specs.Word.{State, state_of, number_of, is_open}
-use Rattle.task_laws.specs.Event.{Event, CallEnds, FutureDropped, RunEnded}
-use Rattle.task_laws.specs.declared.positions.Answer.TheVariants.{Finished}
-use Rattle.task_laws.specs.declared.positions.Position.{Position}
-use Rattle.task_laws.specs.declared.positions.Position.TheVariants.{At, FutureInHand}
-use Rattle.task_laws.specs.declared.positions.Rest.TheVariants.{Task}
-use Rattle.task_laws.specs.declared.positions.WithoutPoll.TheVariants.{ClosedRun, DroppedRunnable}
-use Rattle.task_laws.specs.declared.positions.WithoutPoll.{WithoutPoll}
-use Rattle.task_laws.specs.declared.positions.NotifyingCall.TheVariants.{OfRun, OfDrop}
-use Rattle.task_laws.specs.Table.{Slots, leaves_slots, notifies}
-use Rattle.task_laws.specs.Machine.{scene}
-use Rattle.task_laws.proofs.Census.{Census, census, weigh, plus, closers}
-use Rattle.task_laws.specs.Holders.{owns_awaiter}
-use Rattle.task_laws.proofs.Invariant.{Holds}
-use Rattle.task_core.proofs.Bits.{state_of_number_of, fetch_and-scheduled}
-use Rattle.task_steps.specs.declared.table.Slot.{Slot}
-use Rattle.task_steps.specs.declared.table.Deed.{Deed}
-use Rattle.task_steps.specs.declared.table.Member.{Member}
+use Rattle.task_steps.proofs.Vocabulary.{State, state_of, number_of, is_open, Event, CallEnds, FutureDropped, RunEnded, Finished, Position, At, FutureInHand, Task, ClosedRun, DroppedRunnable, WithoutPoll, OfRun, OfDrop, Slots, leaves_slots, notifies, scene, Census, census, weigh, plus, closers}
+use Rattle.task_steps.proofs.Vocabulary.{owns_awaiter, Holds, state_of_number_of, fetch_and-scheduled, Slot, Deed, Member}
 use Rattle.task_steps.specs.Rule.{has_work}
 use Rattle.task_steps.specs.Steps.{future_first}
 use Rattle.task_steps.specs.TaskScripts.{looking_finished}

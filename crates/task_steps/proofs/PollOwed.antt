@@ -4,30 +4,10 @@ use Rattle.std.specs.Prelude.{if◌then◌else◌, bit_and}
 use mathlib.Core.Option.{some, some-injective, some-ne-none}
 use lib.ListN.{get_elem?}
 use Rattle.atomic_table.specs.Table.{rest}
-use Rattle.task_core.specs.Word.{State, state_of, number_of}
-use Rattle.task_core.specs.Rows.{found, written, row}
-use Rattle.task_laws.specs.Event.{Event, TaskPollBegins, TaskPollEnds, Closes, OutputTaken, Cloned, Woken, CloneEnded}
-use Rattle.task_laws.specs.declared.positions.PollAnswer.{PollAnswer}
-use Rattle.task_laws.specs.declared.positions.PollAnswer.TheVariants.{IsPending, HasOutput, IsRefused}
-use Rattle.task_laws.specs.declared.positions.Position.{Position}
-use Rattle.task_laws.specs.declared.positions.NotifyingCall.TheVariants.{OfPoll, OfClaim}
-use Rattle.task_laws.specs.declared.positions.Position.TheVariants.{At, Notifier, Looking, SawOutput, TookOutput, Answering, Registrar, HasClone, UnusedClone, Storing, Registered, OldAwaiterInHand, TookBack, CloneInHand}
-use Rattle.task_laws.specs.declared.positions.Rest.TheVariants.{Task}
-use Rattle.task_core.specs.declared.acts.Act.{Act}
-use Rattle.task_core.specs.declared.acts.Act.TheVariants.{Look, ClaimOutput, CloneAwaiter, StoreAwaiter, BeginRegister, EndRegister, EndRegisterNotified, EndCall}
-use Rattle.task_laws.specs.Table.{Slots, leaves_slots, changes_slots, when, where_found, notifies, first_look, second_look, after_storing}
-use Rattle.task_laws.specs.Machine.{Machine, scene}
-use Rattle.task_laws.specs.Laws.{how_often, count, is_task_poll}
-use Rattle.task_laws.specs.Holders.{owns_awaiter}
-use Rattle.task_laws.proofs.Census.{Census, census, plus}
-use Rattle.task_laws.proofs.Awaiting.{Awaiting, awaiting, await}
-use Rattle.task_laws.proofs.Handshake.{HandshakeHolds}
-use Rattle.task_laws.proofs.Invariant.{Holds}
-use Rattle.task_core.proofs.Bits.{state_of_number_of, fetch_and-awaiter_registering_notifying}
-use Rattle.task_steps.specs.declared.table.Slot.{Slot}
-use Rattle.task_steps.specs.declared.table.Slot.TheVariants.{Awaiter}
-use Rattle.task_steps.specs.declared.table.Deed.{Deed}
-use Rattle.task_steps.specs.declared.table.Member.{Member}
+use Rattle.task_steps.proofs.Vocabulary.{State, state_of, number_of, found, written, row, Event, TaskPollBegins, TaskPollEnds, Closes, OutputTaken, Cloned, Woken, CloneEnded, PollAnswer, IsPending, HasOutput, IsRefused, Position, OfPoll, OfClaim, At, Notifier, Looking, SawOutput, TookOutput}
+use Rattle.task_steps.proofs.Vocabulary.{Answering, Registrar, HasClone, UnusedClone, Storing, Registered, OldAwaiterInHand, TookBack, CloneInHand, Task, Act, Look, ClaimOutput, CloneAwaiter, StoreAwaiter, BeginRegister, EndRegister, EndRegisterNotified, EndCall, Slots, leaves_slots, changes_slots}
+use Rattle.task_steps.proofs.Vocabulary.{when, where_found, notifies, first_look, second_look, after_storing, Machine, scene, how_often, count, is_task_poll, owns_awaiter, Census, census, plus, Awaiting, awaiting, await, HandshakeHolds, Holds, state_of_number_of}
+use Rattle.task_steps.proofs.Vocabulary.{fetch_and-awaiter_registering_notifying, Slot, Awaiter, Deed, Member}
 use Rattle.task_steps.specs.Rule.{has_work, IsEmpty, IsAwaiter, Waits}
 use Rattle.task_steps.specs.Steps.{and_then, spot, output_first, TakesOutput, Works, Awaits}
 use Rattle.task_steps.specs.Scripts.{ending, waking, dropping}

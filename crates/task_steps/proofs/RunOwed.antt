@@ -4,28 +4,10 @@ use Rattle.std.specs.Prelude.{bit_and, bit_or, unwrap_or, nat_eq, nat_lt, if◌t
 use Rattle.std.specs.Option.{option_or}
 use Rattle.std.proofs.lemmas.Bool.Decides.{nat_tests}
 use Rattle.atomic_table.specs.Table.{rest}
-use Rattle.task_core.specs.Word.{State, state_of, number_of}
-use Rattle.task_laws.specs.Event.{Event, ByWake, ByClosing, Empties, Closes, TakenUp, FutureReady, FuturePending, FutureDropped, Completes, RunEnded, OutputDropped, Made, CallEnds}
-use Rattle.task_laws.specs.declared.positions.Answer.{Answer}
-use Rattle.task_laws.specs.declared.positions.Answer.TheVariants.{Ran}
-use Rattle.task_laws.specs.declared.positions.Rest.TheVariants.{Runnable, Ended}
-use Rattle.task_laws.specs.declared.positions.NotifyingCall.TheVariants.{OfRun}
-use Rattle.task_laws.specs.declared.positions.OnceDelivered.TheVariants.{ThenEnds}
-use Rattle.task_laws.specs.declared.positions.WithoutPoll.TheVariants.{DroppedRunnable}
-use Rattle.task_laws.specs.declared.positions.Position.TheVariants.{At, CallEnding, Deliverer, GivingUp, Emptier, FutureInHand, Polling, Pending, Ready, ReadyFutureDropped, OutputStored, PendingFutureDropped, OutputInHand}
-use Rattle.task_core.specs.declared.acts.Act.TheVariants.{GiveUpReference, GiveUpLastReference, DiscardOpen, DiscardClosed, DropFuture, StoreOutput, Complete, CompleteDetached, AnswerPending, Reschedule, EndIdle, EndOrphaned, EndClosed, EndCall}
-use Rattle.task_core.specs.Rows.{written}
-use Rattle.task_laws.specs.Table.{Slots, leaves_slots, changes_slots, notifies, after_giving_up, ended_clone, closing}
-use Rattle.task_laws.specs.Machine.{Machine, scene}
-use Rattle.task_laws.specs.Laws.{how_often}
-use Rattle.task_laws.specs.Holders.{owns_awaiter}
-use Rattle.task_laws.proofs.Census.{Census, census}
-use Rattle.task_laws.proofs.Invariant.{Holds}
-use Rattle.task_core.proofs.Bits.{state_of_number_of, fetch_or-closed, fetch_sub-reference, fetch_and-scheduled_running}
-use Rattle.task_steps.specs.declared.table.Slot.{Slot}
-use Rattle.task_steps.specs.declared.table.Slot.TheVariants.{Empty}
-use Rattle.task_steps.specs.declared.table.Deed.{Deed}
-use Rattle.task_steps.specs.declared.table.Member.{Member}
+use Rattle.task_steps.proofs.Vocabulary.{State, state_of, number_of, Event, ByWake, ByClosing, Empties, Closes, TakenUp, FutureReady, FuturePending, FutureDropped, Completes, RunEnded, OutputDropped, Made, CallEnds, Answer, Ran, Runnable, Ended, OfRun, ThenEnds}
+use Rattle.task_steps.proofs.Vocabulary.{DroppedRunnable, At, CallEnding, Deliverer, GivingUp, Emptier, FutureInHand, Polling, Pending, Ready, ReadyFutureDropped, OutputStored, PendingFutureDropped, OutputInHand, GiveUpReference, GiveUpLastReference, DiscardOpen, DiscardClosed}
+use Rattle.task_steps.proofs.Vocabulary.{DropFuture, StoreOutput, Complete, CompleteDetached, AnswerPending, Reschedule, EndIdle, EndOrphaned, EndClosed, EndCall, written, Slots, leaves_slots, changes_slots, notifies, after_giving_up, ended_clone, closing, Machine, scene}
+use Rattle.task_steps.proofs.Vocabulary.{how_often, owns_awaiter, Census, census, Holds, state_of_number_of, fetch_or-closed, fetch_sub-reference, fetch_and-scheduled_running, Slot, Empty, Deed, Member}
 use Rattle.task_steps.specs.Rule.{has_work, IsFuture, IsOutput}
 use Rattle.task_steps.specs.Steps.{then_leaves, spot, future_first, output_first}
 use Rattle.task_steps.specs.Scripts.{dropping_output}

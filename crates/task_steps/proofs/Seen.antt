@@ -4,20 +4,8 @@ use Rattle.std.specs.Prelude.{slice_get}
 use Rattle.std.proofs.lemmas.Bool.Decides.{nat_tests}
 use mathlib.Core.Option.{some}
 use lib.ListN.{get_elem?}
-use Rattle.task_core.specs.Word.{State, is_open}
-use Rattle.task_laws.specs.declared.positions.Position.{Position}
-use Rattle.task_laws.specs.declared.positions.Position.TheVariants.{OrphanHolder}
-use Rattle.task_core.specs.declared.acts.Act.{Act}
-use Rattle.task_core.specs.declared.acts.Act.TheVariants.{DiscardOpen, CloseOrphan}
-use Rattle.task_core.specs.Rows.{found, written}
-use Rattle.task_laws.specs.Table.{Slots, Scene, Outcome, goes, rule}
-use Rattle.task_laws.specs.Event.{Event}
-use Rattle.task_laws.specs.Machine.{Machine, Step, scene, moves, after, step}
-use Rattle.task_laws.proofs.Census.{Census, census}
-use Rattle.task_laws.proofs.Invariant.{Holds}
-use Rattle.task_laws.proofs.Runs.{Invariant}
-use Rattle.task_laws.proofs.Words.{rule_word}
-use Rattle.task_steps.specs.declared.table.Deed.{Deed}
+use Rattle.task_steps.proofs.Vocabulary.{State, is_open, Position, OrphanHolder, Act, DiscardOpen, CloseOrphan, found, written, Slots, Scene, Outcome, goes, rule, Event, Machine, Step, scene, moves, after, step}
+use Rattle.task_steps.proofs.Vocabulary.{Census, census, Holds, Invariant, rule_word, Deed}
 use Rattle.task_steps.specs.PollScripts.{has_ended}
 use Rattle.task_steps.specs.Rule.{Entry, Reaches, is_private, noted_if, deeds_of, DidLast}
 use Rattle.task_steps.specs.Steps.{leaves_such, saw, saw_over, saw_closed, saw_ended}

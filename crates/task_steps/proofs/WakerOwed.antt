@@ -2,24 +2,10 @@
 use Rattle.std.proofs.Common.{◌≡◌, ℕ, ◌+◌, ◌-◌, ◌%◌, ◌^◌, ◌≤◌, Bool, true, false, not, ◌&&◌, ◌||◌, Some, None, List, [], ◌∷◌, refl, sym, ap, ◌∙◌, subst, inr, arith}
 use Rattle.std.specs.Prelude.{nat_lt, nat_le, nat_eq, if◌then◌else◌}
 use Rattle.std.proofs.lemmas.Bool.Decides.{nat_tests}
-use Rattle.task_core.specs.Word.{State, state_of, number_of, is_open, orphan_word}
-use Rattle.task_laws.specs.Event.{Event, WakerGained, WakerGivenUp, WakeStep, Made, ByWake, ByClosing, Closes, CallBegins, CallEnds}
-use Rattle.task_laws.specs.declared.positions.Answer.TheVariants.{Nothing, Gained}
-use Rattle.task_laws.specs.declared.positions.Rest.{Rest}
-use Rattle.task_laws.specs.declared.positions.Rest.TheVariants.{Runnable, Waker, Lent, Ended, Task}
-use Rattle.task_laws.specs.declared.positions.OnceDelivered.TheVariants.{ThenEnds}
-use Rattle.task_laws.specs.declared.positions.Position.TheVariants.{At, CallEnding, Deliverer, Emptier, OrphanHolder}
-use Rattle.task_core.specs.declared.acts.Act.TheVariants.{GainReference, FindLimit, RefuseGain, DropWaker, DropLastWaker, OrphanTask, WakeOver, WakeScheduled, WakeRunning, WakeIdle, EndCall}
-use Rattle.task_core.specs.Rows.{written, row}
-use Rattle.task_laws.specs.Table.{Slots, Outcome, when, is_held, may_ask, leaves_slots, may_gain, may_wake}
-use Rattle.task_laws.specs.Machine.{Machine, scene}
-use Rattle.task_laws.specs.Laws.{how_often}
-use Rattle.task_laws.proofs.Census.{Census, census}
-use Rattle.task_laws.proofs.Invariant.{Holds}
-use Rattle.task_core.proofs.Bits.{state_of_number_of, fetch_sub-reference}
-use Rattle.task_steps.specs.declared.table.Slot.{Slot}
-use Rattle.task_steps.specs.declared.table.Deed.{Deed}
-use Rattle.task_steps.specs.declared.table.Member.{Member}
+use Rattle.task_steps.proofs.Vocabulary.{State, state_of, number_of, is_open, orphan_word, Event, WakerGained, WakerGivenUp, WakeStep, Made, ByWake, ByClosing, Closes, CallBegins, CallEnds, Nothing, Gained, Rest, Runnable, Waker, Lent}
+use Rattle.task_steps.proofs.Vocabulary.{Ended, Task, ThenEnds, At, CallEnding, Deliverer, Emptier, OrphanHolder, GainReference, FindLimit, RefuseGain, DropWaker, DropLastWaker, OrphanTask, WakeOver, WakeScheduled, WakeRunning, WakeIdle}
+use Rattle.task_steps.proofs.Vocabulary.{EndCall, written, row, Slots, Outcome, when, is_held, may_ask, leaves_slots, may_gain, may_wake, Machine, scene, how_often, Census, census, Holds, state_of_number_of, fetch_sub-reference, Slot}
+use Rattle.task_steps.proofs.Vocabulary.{Deed, Member}
 use Rattle.task_steps.specs.Beside.{may_call, may_change}
 use Rattle.task_steps.specs.WakerScripts.{at_limit, finding_limit, gaining, refusing_gain, is_over, finding_over, waking_task, woken_word, dropping_waker, closing_orphan}
 use Rattle.task_steps.proofs.Bools.{never}

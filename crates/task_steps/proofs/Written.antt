@@ -1,18 +1,9 @@
 -- The word that an act leaves: its row's, and for a private act the one that was there.
 use Rattle.std.proofs.Common.{◌≡◌, ℕ, ◌+◌, ◌≤◌, Bool, true, false, not, cond, eqb, ◌&&◌, ◌||◌, Option, Some, None, sym, refl, ap, ◌∙◌, arith, eq-eqb, ne_eqb}
 use native.Mathlib.Decide.{ℕ_discrete}
-use Rattle.task_core.specs.Word.{State, bit, number_of, is_open}
-use Rattle.task_laws.specs.declared.positions.Position.{Position}
-use Rattle.task_core.specs.declared.acts.Act.{Act}
-use Rattle.task_core.specs.declared.acts.Act.TheVariants.{AnswerPending, AnswerReady, BeginNotify, BeginRegister, CancelBusy, CancelIdle, CancelOver, ClaimOutput, CloneAwaiter, CloseOrphan, Complete, CompleteDetached, Detach, DetachLast, DetachOrphan, DiscardClosed, DiscardOpen, DropAwaiter, DropFuture, DropLastWaker, DropOutput, DropWaker, EmptySlots, EndCall, EndClosed, EndIdle, EndNotify, EndOrphaned, EndRegister, EndRegisterNotified, FindLimit, FindNotify, GainReference, GiveUpLastReference, GiveUpOutput, GiveUpReference, HandOutOutput, HandOver, Look, LookFinished, MissNotify, OrphanTask, RefuseClone, RefuseGain, Reschedule, StartPoll, StartRun, StoreAwaiter, StoreOutput, TakeAwaiter, TakeUpClosed, Unschedule, WakeAwaiter, WakeIdle, WakeOver, WakeRunning, WakeScheduled}
-use Rattle.task_laws.specs.declared.positions.Position.TheVariants.{Answering, At, AwaiterInHand, TookOutput, SawOutput, PendingFutureDropped, CloneInHand, Deliverer, Detacher, Emptier, FutureGone, FutureInHand, GivingUp, HasClone, CallEnding, Looking, Notifier, OldAwaiterInHand, OrphanHolder, OutputCloser, OutputInHand, Pending, Polling, Ready, UnusedClone, Registered, Registrar, Releaser, Starting, OutputStored, Storing, Taker, TookBack, ReadyFutureDropped}
-use Rattle.task_laws.specs.declared.positions.WithoutPoll.TheVariants.{ClosedRun, DroppedRunnable}
-use Rattle.task_laws.specs.declared.positions.Rest.TheVariants.{Ended, Lent, Runnable, Task, Waker}
-use Rattle.task_laws.specs.declared.positions.NotifyingCall.TheVariants.{OfCancel, OfClaim, OfDrop, OfPoll, OfRun}
-use Rattle.task_laws.specs.declared.positions.OnceDelivered.TheVariants.{ThenEnds, ThenNotifies, ThenTask}
-use Rattle.task_core.specs.Rows.{found, written}
+use Rattle.task_steps.proofs.Vocabulary.{State, bit, number_of, is_open, Position, Act, AnswerPending, AnswerReady, BeginNotify, BeginRegister, CancelBusy, CancelIdle, CancelOver, ClaimOutput, CloneAwaiter, CloseOrphan, Complete, CompleteDetached, Detach, DetachLast, DetachOrphan, DiscardClosed, DiscardOpen, DropAwaiter, DropFuture, DropLastWaker, DropOutput, DropWaker, EmptySlots, EndCall, EndClosed, EndIdle, EndNotify, EndOrphaned, EndRegister, EndRegisterNotified, FindLimit, FindNotify, GainReference, GiveUpLastReference, GiveUpOutput, GiveUpReference, HandOutOutput, HandOver, Look, LookFinished, MissNotify, OrphanTask, RefuseClone, RefuseGain, Reschedule, StartPoll, StartRun, StoreAwaiter, StoreOutput, TakeAwaiter, TakeUpClosed, Unschedule, WakeAwaiter, WakeIdle}
+use Rattle.task_steps.proofs.Vocabulary.{WakeOver, WakeRunning, WakeScheduled, Answering, At, AwaiterInHand, TookOutput, SawOutput, PendingFutureDropped, CloneInHand, Deliverer, Detacher, Emptier, FutureGone, FutureInHand, GivingUp, HasClone, CallEnding, Looking, Notifier, OldAwaiterInHand, OrphanHolder, OutputCloser, OutputInHand, Pending, Polling, Ready, UnusedClone, Registered, Registrar, Releaser, Starting, OutputStored, Storing, Taker, TookBack, ReadyFutureDropped, ClosedRun, DroppedRunnable, Ended, Lent, Runnable, Task, Waker, OfCancel, OfClaim, OfDrop, OfPoll, OfRun, ThenEnds, ThenNotifies, ThenTask, found, written, Scene, Outcome, when, where_found, is_held, goes, rule}
 use Rattle.task_steps.specs.Rule.{is_private, found_by, differ, writes}
-use Rattle.task_laws.specs.Table.{Scene, Outcome, when, where_found, is_held, goes, rule}
 
 -- what the rule allows is what the table says
 pub found_is : (g : Bool) (x : Option Outcome) (o : Outcome) → where_found g x ≡ Some o → (g ≡ true) × (x ≡ Some o)
