@@ -2,14 +2,7 @@
 use Rattle.std.proofs.Common.{◌≡◌, ℕ, ◌+◌, ◌*◌, ◌≤◌, zero, suc, Bool, true, false, not, List, [], ◌∷◌, Option, Some, None, refl, subst, sym, ap, ◌∙◌, arith}
 use Rattle.std.specs.Prelude.{slice_get, nat_eq, if◌then◌else◌}
 use Rattle.std.proofs.lemmas.Bool.Decides.{nat_tests}
-use Rattle.task_core.specs.Word.{State, bit, number_of}
-use Rattle.task_core.specs.Rows.{written}
-use Rattle.task_laws.specs.declared.positions.Position.{Position}
-use Rattle.task_core.specs.declared.acts.Act.{Act}
-use Rattle.task_core.specs.declared.acts.Act.TheVariants.{GainReference}
-use Rattle.task_laws.specs.Table.{Outcome, rule}
-use Rattle.task_laws.specs.Machine.{Machine, Step, scene, after, moves, step, run_from}
-use Rattle.task_laws.proofs.Words.{WordIsIn, word_is}
+use Rattle.task_progress.proofs.Vocabulary.{State, bit, number_of, written, Position, Act, GainReference, Outcome, rule, Machine, Step, scene, after, moves, step, run_from, WordIsIn, word_is}
 use Rattle.task_progress.specs.StepsLeft.{writes_word, writes_in}
 use Rattle.task_progress.specs.Attempts.{Attempt, Looks, Makes, Misses, WithSeen, is_same_word, sees, makes, unless_seen, misses, attempts_from, made, misses_of, writes_by_others, is_stale, misses_below, LockFree}
 use Rattle.task_progress.proofs.Sums.{open_calls_bound_steps}

@@ -1,22 +1,9 @@
 -- Every task comes to rest.
 use Rattle.std.proofs.Common.{◌≡◌, ℕ, ◌+◌, ◌≤◌, ◌⊎◌, inl, inr, zero, suc, Bool, true, false, not, refl, sym, ap, ◌∙◌, subst, List, [], ◌∷◌, ◌++◌, length, Option, Some, None, arith}
 use Rattle.std.specs.Prelude.{slice_get, slice_set}
-use Rattle.task_core.specs.Word.{State, bit, is_open}
-use Rattle.task_laws.specs.Event.{Event, FuturePollBegins, TakenUp, CallBegins, is_event}
-use Rattle.task_laws.specs.declared.positions.Rest.TheVariants.{Runnable}
-use Rattle.task_laws.specs.declared.positions.WithoutPoll.TheVariants.{ClosedRun}
-use Rattle.task_laws.specs.declared.positions.Position.{Position}
-use Rattle.task_laws.specs.declared.positions.Position.TheVariants.{At, Starting, Polling, FutureInHand}
-use Rattle.task_core.specs.declared.acts.Act.{Act}
-use Rattle.task_core.specs.declared.acts.Act.TheVariants.{TakeUpClosed, StartRun, StartPoll}
-use Rattle.task_laws.specs.Table.{Outcome, when, rule}
-use Rattle.task_laws.specs.Machine.{Machine, Step, scene, begins, after, moves, step, run_from, how_many}
-use Rattle.task_laws.specs.Laws.{how_often, wake_is_due}
-use Rattle.task_laws.proofs.Census.{census}
-use Rattle.task_laws.proofs.Awaiting.{awaiting}
-use Rattle.task_laws.proofs.Invariant.{Holds}
-use Rattle.task_laws.proofs.Handshake.{HandshakeHolds}
-use Rattle.task_laws.proofs.Runs.{others, split, split_awaiting}
+use Rattle.task_progress.proofs.Vocabulary.{State, bit, is_open, Event, FuturePollBegins, TakenUp, CallBegins, is_event, Runnable, ClosedRun, Position, At, Starting, Polling, FutureInHand, Act}
+use Rattle.task_progress.proofs.Vocabulary.{TakeUpClosed, StartRun, StartPoll, Outcome, when, rule, Machine, Step, scene, begins, after, moves, step, run_from, how_many, how_often, wake_is_due, census}
+use Rattle.task_progress.proofs.Vocabulary.{awaiting, Holds, HandshakeHolds, others, split, split_awaiting}
 use Rattle.task_progress.specs.StepsLeft.{total, in_call, steps_left}
 use Rattle.task_progress.specs.Ending.{NoCallInProgress}
 use Rattle.task_progress.specs.AtRest.{is_runnable, IsAtRest, PollsNext, ComesToRest, AllComeToRest, DueWakesStay, has_runnable, ClosedMakesNoRunnable, RunsLeadToRest, ClosedLeadsToRest}

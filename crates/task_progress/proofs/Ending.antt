@@ -1,14 +1,7 @@
 -- Calls end.
 use Rattle.std.proofs.Common.{◌≡◌, ℕ, ◌+◌, ◌*◌, ◌≤◌, ◌⊎◌, inl, inr, zero, suc, true, refl, ap, ◌∙◌, subst, List, [], ◌∷◌, ◌++◌, Option, Some, None, arith}
 use Rattle.std.specs.Prelude.{is_some, slice_get, slice_set}
-use Rattle.task_laws.specs.declared.positions.Rest.{Rest}
-use Rattle.task_laws.specs.declared.positions.Position.{Position}
-use Rattle.task_laws.specs.declared.positions.Position.TheVariants.{At}
-use Rattle.task_core.specs.declared.acts.Act.{Act}
-use Rattle.task_laws.specs.Table.{Outcome, rule}
-use Rattle.task_laws.specs.Machine.{Machine, scene, begins, after, moves, step, run_from}
-use Rattle.task_laws.specs.Event.{Event, is_event}
-use Rattle.task_laws.specs.Laws.{how_often}
+use Rattle.task_progress.proofs.Vocabulary.{Rest, Position, At, Act, Outcome, rule, Machine, scene, begins, after, moves, step, run_from, Event, is_event, how_often}
 use Rattle.task_laws.proofs.Cuts.{get_put as put_there, get_append}
 use Rattle.task_progress.specs.StepsLeft.{total, in_call, steps_left}
 use Rattle.task_progress.specs.Waiting.{next_act}

@@ -1,15 +1,8 @@
 -- What no step takes back: a closed task makes no Runnable, and no step in a call makes a wake undue unless the task is over by it.
 use Rattle.std.proofs.Common.{◌≡◌, ℕ, ◌≤◌, true, false, ◌⊎◌, List, ◌∷◌, ◌++◌, Option, Some, None}
-use Rattle.task_core.specs.Word.{State, is_open}
-use Rattle.task_laws.specs.Event.{Event}
-use Rattle.task_laws.specs.declared.positions.Position.{Position}
-use Rattle.task_core.specs.declared.acts.Act.{Act}
-use Rattle.task_laws.specs.Table.{Scene, Outcome, rule}
-use Rattle.task_laws.specs.Laws.{wake_is_due}
-use Rattle.task_laws.proofs.Census.{Census, plus, weigh}
-use Rattle.task_laws.proofs.Awaiting.{Awaiting, join, await}
-use Rattle.task_laws.proofs.Scenes.{rules, InEach, completed, closed, by_flag}
-use Rattle.task_laws.proofs.Rows.{Row, wakes_running_waker, wakes_running_lent, wakes_idle_waker, cancels_idle_awaited, cancels_idle, Shows, by_rows}
+use Rattle.task_progress.proofs.Vocabulary.{State, is_open, Event, Position, Act, Scene, Outcome, rule, wake_is_due, Census, plus, weigh, Awaiting, join}
+use Rattle.task_progress.proofs.Vocabulary.{await, rules, InEach, completed, closed, by_flag, Row, wakes_running_waker, wakes_running_lent}
+use Rattle.task_progress.proofs.Vocabulary.{wakes_idle_waker, cancels_idle_awaited, cancels_idle, Shows, by_rows}
 use Rattle.task_progress.specs.StepsLeft.{total, in_call}
 use Rattle.task_progress.proofs.Relied.{Around}
 

@@ -2,15 +2,7 @@
 use Rattle.std.proofs.Common.{◌≡◌, ℕ, ◌+◌, ◌*◌, ◌≤◌, zero, suc, Bool, true, false, refl, sym, ap, ◌∙◌, subst, List, [], ◌∷◌, ◌++◌, Option, Some, None, arith}
 use Rattle.std.specs.Prelude.{if◌then◌else◌, nat_eq, slice_get, slice_set}
 use Rattle.std.proofs.lemmas.Bool.Decides.{nat_tests}
-use Rattle.task_core.specs.Word.{bit}
-use Rattle.task_laws.specs.declared.positions.Position.{Position}
-use Rattle.task_core.specs.declared.acts.Act.{Act}
-use Rattle.task_laws.specs.Table.{Outcome, rule}
-use Rattle.task_laws.specs.Machine.{Machine, Step, scene, begins, after, moves, step, run_from}
-use Rattle.task_laws.specs.Event.{Event}
-use Rattle.task_laws.specs.Laws.{how_often}
-use Rattle.task_laws.proofs.Cuts.{get_other, get_append}
-use Rattle.task_laws.proofs.WholeRuns.{same_number}
+use Rattle.task_progress.proofs.Vocabulary.{bit, Position, Act, Outcome, rule, Machine, Step, scene, begins, after, moves, step, run_from, Event, how_often, get_other, get_append, same_number}
 use Rattle.task_progress.specs.StepsLeft.{steps_left, writes_word, writes_left}
 use Rattle.task_progress.specs.OwnSteps.{begins_at, begun_by, OwnStepsBounded, EachPartyIsBounded}
 use Rattle.task_progress.proofs.Rows.{Nears, NearTo, near}

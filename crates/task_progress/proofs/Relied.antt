@@ -1,15 +1,9 @@
 -- What a party in a call relies on, that no other party takes away: an invariant beside that of the laws.
 use Rattle.std.proofs.Common.{◌≡◌, ℕ, ◌+◌, ◌≤◌, true, false, ◌⊎◌, List, [], ◌∷◌, Option, Some, None, arith}
 use Rattle.std.specs.Prelude.{if◌then◌else◌}
-use Rattle.task_core.specs.Word.{State, bit, is_open}
-use Rattle.task_laws.specs.declared.positions.Position.{Position}
-use Rattle.task_laws.specs.declared.positions.Position.TheVariants.{SawOutput, OutputCloser, Detacher}
-use Rattle.task_core.specs.declared.acts.Act.{Act}
-use Rattle.task_laws.specs.Table.{Scene, Outcome, rule}
-use Rattle.task_laws.proofs.Census.{Census, plus, weigh, census, runs, closers}
-use Rattle.task_laws.proofs.Awaiting.{Awaiting, join, await, awaiting}
-use Rattle.task_laws.proofs.Scenes.{rules, InEach, completed, closed, by_flag}
-use Rattle.task_laws.proofs.Rows.{Row, wakes_running_waker, wakes_running_lent, wakes_idle_waker, cancels_idle_awaited, cancels_idle, Shows, by_rows}
+use Rattle.task_progress.proofs.Vocabulary.{State, bit, is_open, Position, SawOutput, OutputCloser, Detacher, Act, Scene, Outcome, rule, Census, plus, weigh}
+use Rattle.task_progress.proofs.Vocabulary.{census, runs, closers, Awaiting, join, await, awaiting, rules, InEach, completed, closed, by_flag, Row}
+use Rattle.task_progress.proofs.Vocabulary.{wakes_running_waker, wakes_running_lent, wakes_idle_waker, cancels_idle_awaited, cancels_idle, Shows, by_rows}
 use Rattle.task_progress.specs.StepsLeft.{total}
 
 -- a poll that found the output there; a detach after it closed the task

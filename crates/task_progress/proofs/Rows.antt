@@ -1,14 +1,6 @@
 -- Each step of the table brings its call nearer to its end.
 use Rattle.std.proofs.Common.{◌≡◌, ◌+◌, ◌*◌, ◌≤◌, ◌∷◌, Option, Some, None}
-use Rattle.task_core.specs.Word.{bit}
-use Rattle.task_laws.specs.declared.positions.Position.{Position}
-use Rattle.task_core.specs.declared.acts.Act.{Act}
-use Rattle.task_laws.specs.Table.{Scene, Outcome, rule}
-use Rattle.task_laws.specs.Machine.{begins}
-use Rattle.task_laws.specs.Event.{Event}
-use Rattle.task_laws.specs.Laws.{how_often, count, is_call_end}
-use Rattle.task_laws.proofs.Scenes.{rules, InEach}
-use Rattle.task_laws.proofs.Rows.{Row, starts_run, Shows, by_rows}
+use Rattle.task_progress.proofs.Vocabulary.{bit, Position, Act, Scene, Outcome, rule, begins, Event, how_often, count, is_call_end, rules, InEach, Row, starts_run, Shows, by_rows}
 use Rattle.task_progress.specs.StepsLeft.{total, in_call, steps_left, writes_word, writes_left}
 
 -- what is left after the act, and the act itself, are at most what was left before it, and 16 for each call that it begins

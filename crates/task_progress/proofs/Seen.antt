@@ -1,18 +1,8 @@
 -- What the Task has seen is kept by the rows of all other parties.
 use Rattle.std.proofs.Common.{◌≡◌, ℕ, Option, Some, None, arith, ◌∙◌, false, sym, ap, subst}
 use Rattle.std.specs.Prelude.{slice_get}
-use Rattle.task_core.specs.Word.{State, bit}
-use Rattle.task_core.specs.declared.acts.Act.{Act}
-use Rattle.task_laws.specs.declared.positions.Position.{Position}
-use Rattle.task_laws.specs.Table.{Scene, Outcome, rule}
-use Rattle.task_laws.proofs.Census.{Census, plus, weigh, census}
-use Rattle.task_laws.proofs.Awaiting.{Awaiting, join, await, awaiting}
-use Rattle.task_laws.proofs.Scenes.{rules, InEach, completed, closed, by_flag}
-use Rattle.task_laws.proofs.Rows.{Row, wakes_running_waker, wakes_running_lent, wakes_idle_waker, cancels_idle_awaited, cancels_idle, Shows, by_rows}
-use Rattle.task_laws.specs.Machine.{Machine, scene, after, moves}
-use Rattle.task_laws.proofs.Invariant.{Holds}
-use Rattle.task_laws.proofs.Handshake.{HandshakeHolds}
-use Rattle.task_laws.proofs.Runs.{others, split, split_awaiting}
+use Rattle.task_progress.proofs.Vocabulary.{State, bit, Act, Position, Scene, Outcome, rule, Census, plus, weigh, census, Awaiting, join, await, awaiting, rules, InEach, completed, closed, by_flag, Row, wakes_running_waker, wakes_running_lent, wakes_idle_waker}
+use Rattle.task_progress.proofs.Vocabulary.{cancels_idle_awaited, cancels_idle, Shows, by_rows, Machine, scene, after, moves, Holds, HandshakeHolds, others, split, split_awaiting}
 use Rattle.task_progress.specs.Waiting.{is_task, StaysAsSeen, WhatTaskSawStays}
 use Rattle.task_progress.proofs.Relied.{Around, CountedAsTask, counted_as_task}
 use Rattle.task_progress.proofs.Waits.{InOrder, StaysInOrder, around, always_in_order}

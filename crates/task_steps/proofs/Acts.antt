@@ -1,7 +1,7 @@
 -- Acts of one party in a row, with nothing of another party between.
 use Rattle.std.proofs.Common.{◌≡◌, ℕ, ◌+◌, ◌<◌, Bool, true, false, not, ◌&&◌, ◌||◌, cond, Option, Some, None, List, [], ◌∷◌, ◌++◌, length, map, set, sym, refl, ap, ◌∙◌, subst, arith, append-nil, append_assoc}
 use Rattle.task_steps.proofs.Vocabulary.{State, bit, is_open, Event, is_event, Position, Act, GainReference, WakeIdle, WakeOver, WakeRunning, WakeScheduled, At, Lent, found, written, row, Slots, Scene, Outcome, when, where_found, is_held, leaves_slots}
-use Rattle.task_steps.proofs.Vocabulary.{goes, rule, Machine, begins, scene, how_many, how_often, count, rule_word, Deed, Member, View, count-append}
+use Rattle.task_steps.proofs.Vocabulary.{goes, rule, Machine, begins, scene, how_many, how_often, rule_word, Deed, Member, View, count-append}
 use Rattle.task_steps.specs.Rule.{deed, member, view, fresh, found_by, Entry, Explains}
 use Rattle.task_steps.specs.Steps.{then_leaves, and_then, spot, is_lent, held_word, leaves_by, all_fit, noted}
 use Rattle.task_steps.proofs.Explains.{tells, next_machine}

@@ -1,10 +1,8 @@
 -- What each step owes: the machine allows its acts, and writes its number.
-use Rattle.std.proofs.Common.{◌≡◌, ℕ, zero, suc, ◌+◌, ◌≤◌, Bool, true, false, not, List, [], ◌∷◌, refl, sym, ap, ◌∙◌, inl, inr, arith}
+use Rattle.std.proofs.Common.{◌≡◌, ℕ, ◌+◌, ◌≤◌, Bool, true, false, not, List, [], ◌∷◌, refl, sym, ap, ◌∙◌, inl, inr, arith}
 use Rattle.std.specs.Prelude.{bit_and}
-use mathlib.Core.Option.{some, some-injective, some-ne-none}
-use lib.ListN.{get_elem?}
 use Rattle.atomic_table.specs.Table.{rest}
-use Rattle.task_steps.proofs.Vocabulary.{State, state_of, number_of, is_open, Event, CallEnds, FutureDropped, RunEnded, Finished, Position, At, FutureInHand, Task, ClosedRun, DroppedRunnable, WithoutPoll, OfRun, OfDrop, Slots, leaves_slots, notifies, scene, Census, census, weigh, plus, closers}
+use Rattle.task_steps.proofs.Vocabulary.{State, state_of, number_of, is_open, Event, CallEnds, FutureDropped, RunEnded, Finished, Position, At, FutureInHand, Task, ClosedRun, DroppedRunnable, WithoutPoll, OfRun, OfDrop, Slots, leaves_slots, notifies, scene, Census, census, plus, closers}
 use Rattle.task_steps.proofs.Vocabulary.{owns_awaiter, Holds, state_of_number_of, fetch_and-scheduled, Slot, Deed, Member}
 use Rattle.task_steps.specs.Rule.{has_work}
 use Rattle.task_steps.specs.Steps.{future_first}
@@ -12,7 +10,7 @@ use Rattle.task_steps.specs.TaskScripts.{looking_finished}
 use Rattle.task_steps.specs.RunScripts.{unscheduling}
 use Rattle.task_steps.proofs.Bools.{never}
 use Rattle.task_steps.proofs.Facts.{counted}
-use Rattle.task_steps.proofs.Advance.{stays, gives_work, keeps_places}
+use Rattle.task_steps.proofs.Advance.{gives_work, keeps_places}
 use Rattle.task_steps.proofs.Allowed.{Owes}
 
 -- the rest of a run or a drop has no place of the table

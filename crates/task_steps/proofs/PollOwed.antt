@@ -1,12 +1,10 @@
 -- What each step of a poll of the Task owes: the machine allows its acts, and writes its number.
-use Rattle.std.proofs.Common.{◌≡◌, ℕ, zero, suc, ◌+◌, ◌≤◌, Bool, true, false, not, ◌&&◌, ◌||◌, Option, Some, None, List, [], ◌∷◌, refl, sym, ap, ◌∙◌, subst, inl, inr, ⊎_elim, arith}
+use Rattle.std.proofs.Common.{◌≡◌, ℕ, ◌+◌, ◌≤◌, Bool, true, false, not, ◌&&◌, ◌||◌, Option, Some, None, List, [], ◌∷◌, refl, sym, ap, ◌∙◌, subst, inl, inr, ⊎_elim, arith}
 use Rattle.std.specs.Prelude.{if◌then◌else◌, bit_and}
-use mathlib.Core.Option.{some, some-injective, some-ne-none}
-use lib.ListN.{get_elem?}
 use Rattle.atomic_table.specs.Table.{rest}
 use Rattle.task_steps.proofs.Vocabulary.{State, state_of, number_of, found, written, row, Event, TaskPollBegins, TaskPollEnds, Closes, OutputTaken, Cloned, Woken, CloneEnded, PollAnswer, IsPending, HasOutput, IsRefused, Position, OfPoll, OfClaim, At, Notifier, Looking, SawOutput, TookOutput}
 use Rattle.task_steps.proofs.Vocabulary.{Answering, Registrar, HasClone, UnusedClone, Storing, Registered, OldAwaiterInHand, TookBack, CloneInHand, Task, Act, Look, ClaimOutput, CloneAwaiter, StoreAwaiter, BeginRegister, EndRegister, EndRegisterNotified, EndCall, Slots, leaves_slots, changes_slots}
-use Rattle.task_steps.proofs.Vocabulary.{when, where_found, notifies, first_look, second_look, after_storing, Machine, scene, how_often, count, is_task_poll, owns_awaiter, Census, census, plus, Awaiting, awaiting, await, HandshakeHolds, Holds, state_of_number_of}
+use Rattle.task_steps.proofs.Vocabulary.{when, where_found, notifies, first_look, second_look, after_storing, Machine, scene, how_often, count, is_task_poll, owns_awaiter, Census, census, Awaiting, awaiting, HandshakeHolds, Holds, state_of_number_of}
 use Rattle.task_steps.proofs.Vocabulary.{fetch_and-awaiter_registering_notifying, Slot, Awaiter, Deed, Member}
 use Rattle.task_steps.specs.Rule.{has_work, IsEmpty, IsAwaiter, Waits}
 use Rattle.task_steps.specs.Steps.{and_then, spot, output_first, TakesOutput, Works, Awaits}

@@ -3,9 +3,9 @@ use Rattle.std.proofs.Common.{◌≡◌, ℕ, ◌+◌, ◌≤◌, Bool, true, fa
 use Rattle.std.specs.Prelude.{bit_and, nat_lt, nat_eq, if◌then◌else◌}
 use Rattle.std.proofs.lemmas.Bool.Decides.{nat_tests}
 use Rattle.atomic_table.specs.Table.{rest}
-use Rattle.task_steps.proofs.Vocabulary.{State, state_of, number_of, is_open, orphan_word, Event, CallEnds, Closes, Made, ByClosing, TaskGivenUp, OutputDropped, Nothing, Position, At, Deliverer, Emptier, OutputCloser, Detacher, Task, Ended, ThenEnds, OfCancel, Act, CancelOver}
-use Rattle.task_steps.proofs.Vocabulary.{CancelBusy, CancelIdle, GiveUpOutput, DetachOrphan, DetachLast, Detach, EndCall, found, written, Slots, Outcome, leaves_slots, changes_slots, goes, where_found, notifies, after_cancelling, Machine, scene, how_often, owns_awaiter, Census}
-use Rattle.task_steps.proofs.Vocabulary.{census, weigh, Holds, state_of_number_of, fetch_and-task, Slot, Deed, Member}
+use Rattle.task_steps.proofs.Vocabulary.{State, state_of, number_of, is_open, orphan_word, CallEnds, Closes, Made, ByClosing, TaskGivenUp, OutputDropped, Nothing, Position, At, Deliverer, Emptier, OutputCloser, Detacher, Task, Ended, ThenEnds, OfCancel, Act, CancelOver}
+use Rattle.task_steps.proofs.Vocabulary.{CancelBusy, CancelIdle, GiveUpOutput, DetachOrphan, DetachLast, Detach, EndCall, found, written, Outcome, leaves_slots, changes_slots, goes, where_found, notifies, after_cancelling, Machine, scene, owns_awaiter}
+use Rattle.task_steps.proofs.Vocabulary.{census, weigh, state_of_number_of, fetch_and-task, Slot, Deed, Member}
 use Rattle.task_steps.specs.Rule.{has_work}
 use Rattle.task_steps.specs.Steps.{saw_closed, output_first, and_then, spot}
 use Rattle.task_steps.specs.Scripts.{dropping_output}

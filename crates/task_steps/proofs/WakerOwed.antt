@@ -3,7 +3,7 @@ use Rattle.std.proofs.Common.{◌≡◌, ℕ, ◌+◌, ◌-◌, ◌%◌, ◌^◌
 use Rattle.std.specs.Prelude.{nat_lt, nat_le, nat_eq, if◌then◌else◌}
 use Rattle.std.proofs.lemmas.Bool.Decides.{nat_tests}
 use Rattle.task_steps.proofs.Vocabulary.{State, state_of, number_of, is_open, orphan_word, Event, WakerGained, WakerGivenUp, WakeStep, Made, ByWake, ByClosing, Closes, CallBegins, CallEnds, Nothing, Gained, Rest, Runnable, Waker, Lent}
-use Rattle.task_steps.proofs.Vocabulary.{Ended, Task, ThenEnds, At, CallEnding, Deliverer, Emptier, OrphanHolder, GainReference, FindLimit, RefuseGain, DropWaker, DropLastWaker, OrphanTask, WakeOver, WakeScheduled, WakeRunning, WakeIdle}
+use Rattle.task_steps.proofs.Vocabulary.{Ended, ThenEnds, At, CallEnding, Deliverer, Emptier, OrphanHolder, GainReference, FindLimit, RefuseGain, DropWaker, DropLastWaker, OrphanTask, WakeOver, WakeScheduled, WakeRunning, WakeIdle}
 use Rattle.task_steps.proofs.Vocabulary.{EndCall, written, row, Slots, Outcome, when, is_held, may_ask, leaves_slots, may_gain, may_wake, Machine, scene, how_often, Census, census, Holds, state_of_number_of, fetch_sub-reference, Slot}
 use Rattle.task_steps.proofs.Vocabulary.{Deed, Member}
 use Rattle.task_steps.specs.Beside.{may_call, may_change}
@@ -13,7 +13,7 @@ use Rattle.task_steps.proofs.Acts.{row_found, both, leads_first}
 use Rattle.task_steps.proofs.Seen.{true_right}
 use Rattle.task_steps.proofs.Facts.{counted}
 use Rattle.task_steps.proofs.Numbers.{same_word}
-use Rattle.task_steps.proofs.Advance.{Finds, stays, takes_awaiter, Steps, keeps_places}
+use Rattle.task_steps.proofs.Advance.{Finds, takes_awaiter, Steps, keeps_places}
 use Rattle.task_steps.proofs.Allowed.{Owes, OwesEnd}
 use Rattle.task_steps.proofs.TaskOwed.{over}
 
@@ -82,7 +82,7 @@ module _ (F T A : Type 0) (limit : ℕ) where
       let o : Outcome = leaves_slots (scene m) (written GainReference m.word) (CallEnding (Gained true) r) (At Waker ∷ []) (WakerGained ∷ []) in
       keeps_places (leaves_slots (scene m) (written GainReference m.word) (At r) (At Waker ∷ []) (CallEnds (Gained true) ∷ WakerGained ∷ []))
       (leads_first (scene m) GainReference (EndCall ∷ []) (At r) o (ap (λ (z : ℕ × State). nat_lt z.1.references z.0) (λ i. (f.limited i, same i)) ∙ x.0) (passes (may_gain (scene m) r) o (gains_it r m may (ap (may_change r) same ∙ held))))
-          (to ∙ ap number_of (x.1 ∙ ap (written GainReference) (sym same))) refl
+      (to ∙ ap number_of (x.1 ∙ ap (written GainReference) (sym same))) refl
 
   -- the task is over
   pub finds_over : (r : Rest) (ds : List Deed) (us : List Member) (l : List (ℕ × Slot F T A)) → may_call r ≡ true → OwesEnd F T A limit (is_over limit) finding_over (At r) ds us l

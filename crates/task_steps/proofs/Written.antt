@@ -1,8 +1,8 @@
 -- The word that an act leaves: its row's, and for a private act the one that was there.
-use Rattle.std.proofs.Common.{◌≡◌, ℕ, ◌+◌, ◌≤◌, Bool, true, false, not, cond, eqb, ◌&&◌, ◌||◌, Option, Some, None, sym, refl, ap, ◌∙◌, arith, eq-eqb, ne_eqb}
+use Rattle.std.proofs.Common.{◌≡◌, ℕ, ◌+◌, ◌≤◌, Bool, true, false, not, cond, eqb, Option, Some, None, refl, ap, ◌∙◌, arith, eq-eqb, ne_eqb}
 use native.Mathlib.Decide.{ℕ_discrete}
-use Rattle.task_steps.proofs.Vocabulary.{State, bit, number_of, is_open, Position, Act, AnswerPending, AnswerReady, BeginNotify, BeginRegister, CancelBusy, CancelIdle, CancelOver, ClaimOutput, CloneAwaiter, CloseOrphan, Complete, CompleteDetached, Detach, DetachLast, DetachOrphan, DiscardClosed, DiscardOpen, DropAwaiter, DropFuture, DropLastWaker, DropOutput, DropWaker, EmptySlots, EndCall, EndClosed, EndIdle, EndNotify, EndOrphaned, EndRegister, EndRegisterNotified, FindLimit, FindNotify, GainReference, GiveUpLastReference, GiveUpOutput, GiveUpReference, HandOutOutput, HandOver, Look, LookFinished, MissNotify, OrphanTask, RefuseClone, RefuseGain, Reschedule, StartPoll, StartRun, StoreAwaiter, StoreOutput, TakeAwaiter, TakeUpClosed, Unschedule, WakeAwaiter, WakeIdle}
-use Rattle.task_steps.proofs.Vocabulary.{WakeOver, WakeRunning, WakeScheduled, Answering, At, AwaiterInHand, TookOutput, SawOutput, PendingFutureDropped, CloneInHand, Deliverer, Detacher, Emptier, FutureGone, FutureInHand, GivingUp, HasClone, CallEnding, Looking, Notifier, OldAwaiterInHand, OrphanHolder, OutputCloser, OutputInHand, Pending, Polling, Ready, UnusedClone, Registered, Registrar, Releaser, Starting, OutputStored, Storing, Taker, TookBack, ReadyFutureDropped, ClosedRun, DroppedRunnable, Ended, Lent, Runnable, Task, Waker, OfCancel, OfClaim, OfDrop, OfPoll, OfRun, ThenEnds, ThenNotifies, ThenTask, found, written, Scene, Outcome, when, where_found, is_held, goes, rule}
+use Rattle.task_steps.proofs.Vocabulary.{State, bit, number_of, Act, StartPoll}
+use Rattle.task_steps.proofs.Vocabulary.{written, Outcome, where_found}
 use Rattle.task_steps.specs.Rule.{is_private, found_by, differ, writes}
 
 -- what the rule allows is what the table says
