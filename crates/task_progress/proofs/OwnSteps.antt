@@ -1,7 +1,6 @@
 -- What one party does, whatever the others do.
-use Rattle.std.proofs.Common.{◌≡◌, ℕ, ◌+◌, ◌*◌, ◌≤◌, zero, suc, Bool, true, false, refl, sym, ap, ◌∙◌, subst, List, [], ◌∷◌, ◌++◌, Option, Some, None, arith}
+use Rattle.std.proofs.Common.{◌≡◌, ℕ, ◌+◌, ◌*◌, ◌≤◌, Bool, true, false, refl, sym, ap, ◌∙◌, subst, List, [], ◌∷◌, ◌++◌, Option, Some, None, arith}
 use Rattle.std.specs.Prelude.{if◌then◌else◌, nat_eq, slice_get, slice_set}
-use Rattle.std.proofs.lemmas.Bool.Decides.{nat_tests}
 use Rattle.task_progress.proofs.Vocabulary.{bit, Position, Act, Outcome, rule, Machine, Step, scene, begins, after, moves, step, run_from, Event, how_often, get_other, get_append, same_number}
 use Rattle.task_progress.specs.StepsLeft.{steps_left, writes_word, writes_left}
 use Rattle.task_progress.specs.OwnSteps.{begins_at, begun_by, OwnStepsBounded, EachPartyIsBounded}

@@ -1,8 +1,8 @@
 -- A party in a call may make its next act.
 use Rattle.std.proofs.Common.{◌≡◌, ℕ, ◌+◌, ◌⊎◌, zero, suc, true, false, refl, sym, subst, List, [], ◌∷◌, ◌++◌, Option, Some, None, arith}
 use Rattle.std.specs.Prelude.{is_some, slice_get, slice_set}
-use Rattle.task_progress.proofs.Vocabulary.{State, ClosedRun, DroppedRunnable, Position, At, CallEnding, Deliverer, Starting, Polling, Pending, Ready, ReadyFutureDropped, OutputStored, PendingFutureDropped, FutureInHand, FutureGone, OutputInHand, GivingUp, Emptier, Notifier, Taker, Releaser, AwaiterInHand, OrphanHolder, Registrar, HasClone, UnusedClone, Storing, Registered, TookBack, CloneInHand, Looking, SawOutput, TookOutput, OldAwaiterInHand, Answering}
-use Rattle.task_progress.proofs.Vocabulary.{OutputCloser, Detacher, Act, Slots, Scene, Outcome, rule, Machine, Step, opening, scene, after, moves, step, run_from, run, Event, Census, plus, weigh, census, runs, closers, Awaiting, await, awaiting, Holds, HandshakeHolds, Invariant, Stays, moves_stays, opens, others, split, split_awaiting, rules, InEach, task, scheduled, completed, closed, notifying, registering, by_flag}
+use Rattle.task_progress.proofs.Vocabulary.{State, ClosedRun, Position, Pending, OutputStored, PendingFutureDropped, FutureInHand, FutureGone, GivingUp, Notifier, HasClone, Registered, TookBack, SawOutput}
+use Rattle.task_progress.proofs.Vocabulary.{Detacher, Act, Slots, Scene, Outcome, rule, Machine, Step, opening, scene, after, moves, step, run_from, run, Event, Census, plus, weigh, census, runs, closers, Awaiting, await, awaiting, Holds, HandshakeHolds, Invariant, Stays, moves_stays, opens, others, split, split_awaiting, rules, InEach, task, scheduled, completed, closed, notifying, registering, by_flag}
 use Rattle.task_progress.specs.StepsLeft.{total, in_call}
 use Rattle.task_progress.specs.Waiting.{next_act, NoCallWaits}
 use Rattle.task_progress.proofs.Sums.{total_put}
