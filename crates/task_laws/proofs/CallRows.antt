@@ -1,9 +1,6 @@
 -- Each row leaves what its segment will leave. Three rows are shown part by part.
 use Rattle.std.proofs.Common.{ℕ, ◌≡◌, ◌+◌, ◌≤◌, true, false, Some, None, refl}
-use Rattle.task_core.specs.Word.{is_open}
-use Rattle.task_laws.specs.Position.{Position, Act, At, Waker, Task, ClosedRun, FutureGone, OutputStored, DropLastWaker, OrphanTask, CancelIdle, GiveUpOutput, DetachOrphan, DetachLast, Unschedule, Complete, Notifier, OfRun, OfDrop, OfCancel, ThenEnds, Detacher, PendingFutureDropped, Pending, HasClone, Registered, DropWaker, Detach, BeginNotify, EndClosed, EndIdle, EndOrphaned, MissNotify, BeginRegister, EndRegister}
-use Rattle.task_core.specs.Rows.{found, written}
-use Rattle.task_laws.specs.Table.{Scene, goes, rule}
+use Rattle.task_laws.proofs.Vocabulary.{is_open, Position, Act, At, Waker, Task, ClosedRun, FutureGone, OutputStored, DropLastWaker, OrphanTask, CancelIdle, GiveUpOutput, DetachOrphan, DetachLast, Unschedule, Complete, Notifier, OfRun, OfDrop, OfCancel, ThenEnds, Detacher, PendingFutureDropped, Pending, HasClone, Registered, DropWaker, Detach, BeginNotify, EndClosed, EndIdle, EndOrphaned, MissNotify, BeginRegister, EndRegister, found, written, Scene, goes, rule}
 use Rattle.task_laws.proofs.Census.{Census, plus, weigh}
 use Rattle.task_laws.proofs.Scenes.{rules, InEach, closed, completed, scheduled, running, task, awaiter, registering, notifying, by_flag}
 use Rattle.task_laws.proofs.Ahead.{Landed, holders}

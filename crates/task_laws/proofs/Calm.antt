@@ -1,11 +1,7 @@
 -- What is known of the word and the slots where one party stands in a whole run, and what each row has to show.
 use Rattle.std.proofs.Common.{◌≡◌, ℕ, zero, suc, ◌+◌, ◌≤◌, Bool, true, false, not, ◌||◌, ◌⊎◌, cond, eqb, List, Option, Some, None, arith}
-use Rattle.task_core.specs.Word.{State, bit, is_open}
-use Rattle.task_laws.specs.Event.{HasOutput, Event}
-use Rattle.task_laws.specs.Position.{OfRun, OfDrop, OfCancel, OfPoll, OfClaim, ThenNotifies, Position, At, CallEnding, Deliverer, Polling, ReadyFutureDropped, OutputStored, PendingFutureDropped, FutureGone, OutputInHand, GivingUp, Notifier, Taker, Releaser, AwaiterInHand, Registrar, UnusedClone, Storing, Registered, TookBack, Looking, TookOutput, OldAwaiterInHand, Answering, Detacher, Act}
-use Rattle.task_laws.specs.Table.{Slots, Scene, Outcome, rule}
-use Rattle.task_laws.specs.Laws.{how_often}
-use Rattle.task_laws.specs.Whole.{is_at_rest, is_foreign, asks_foreign}
+use Rattle.task_laws.proofs.Vocabulary.{State, bit, is_open, HasOutput, Event, OfRun, OfDrop, OfCancel, OfPoll, OfClaim, ThenNotifies, Position, At, CallEnding, Deliverer, Polling, ReadyFutureDropped, OutputStored, PendingFutureDropped, FutureGone, OutputInHand, GivingUp, Notifier, Taker, Releaser, AwaiterInHand, Registrar, UnusedClone, Storing, Registered, TookBack, Looking, TookOutput}
+use Rattle.task_laws.proofs.Vocabulary.{OldAwaiterInHand, Answering, Detacher, Act, Slots, Scene, Outcome, rule, how_often, is_at_rest, is_foreign, asks_foreign}
 use Rattle.task_laws.proofs.Census.{Census, plus, weigh, runs, closers}
 use Rattle.task_laws.proofs.Invariant.{Holds}
 use Rattle.task_laws.proofs.Scenes.{rules, InEach}

@@ -2,12 +2,7 @@
 use Rattle.std.proofs.Common.{◌≡◌, ℕ, zero, suc, Bool, true, false, List, [], ◌∷◌, ◌++◌, Some, None, refl, sym, ap, ◌∙◌, append_assoc, arith}
 use Rattle.std.specs.Prelude.{slice_get, slice_set, nat_eq, if◌then◌else◌}
 use Rattle.std.proofs.lemmas.Bool.Decides.{nat_tests}
-use Rattle.task_laws.specs.Event.{Event, HasOutput}
-use Rattle.task_laws.specs.Position.{Position, At, FutureGone, ClosedRun, GivingUp, Notifier, AwaiterInHand, Answering, OfRun, OfPoll, Act}
-use Rattle.task_laws.specs.Table.{Slots}
-use Rattle.task_laws.specs.Machine.{begins}
-use Rattle.task_laws.specs.Abstract.{AbstractCell, Frame, SegmentEnd, go, follow}
-use Rattle.task_laws.specs.Whole.{says_yes, frame_of, seen, is_seen}
+use Rattle.task_laws.proofs.Vocabulary.{Event, HasOutput, Position, At, FutureGone, ClosedRun, GivingUp, Notifier, AwaiterInHand, Answering, OfRun, OfPoll, Act, Slots, begins, AbstractCell, Frame, SegmentEnd, go, follow, says_yes, frame_of, seen, is_seen}
 use Rattle.task_laws.proofs.Ahead.{Same, before, prepend}
 use Rattle.task_laws.proofs.Calm.{stands}
 

@@ -1,12 +1,7 @@
 -- What holds of the handshake at each moment, and of the clone of poll number i.
 use Rattle.std.proofs.Common.{◌≡◌, ℕ, ◌+◌, ◌<◌, ◌≤◌, true, false, ◌||◌, ◌⊎◌, List, ◌∷◌, ◌++◌, Option, Some, None}
 use Rattle.std.specs.Prelude.{if◌then◌else◌}
-use Rattle.task_core.specs.Word.{State, bit}
-use Rattle.task_laws.specs.Event.{Event}
-use Rattle.task_laws.specs.Position.{Position, Act, OfRun, ThenEnds}
-use Rattle.task_laws.specs.Table.{Slots, Scene, Outcome, rule}
-use Rattle.task_laws.specs.Machine.{begins}
-use Rattle.task_laws.specs.Laws.{how_often, count, Each, is_task_poll, pending_poll, was_woken, MayAnswer}
+use Rattle.task_laws.proofs.Vocabulary.{State, bit, Event, Position, Act, OfRun, ThenEnds, Slots, Scene, Outcome, rule, begins, how_often, count, Each, is_task_poll, pending_poll, was_woken, MayAnswer}
 use Rattle.task_laws.proofs.Census.{Census, plus, weigh}
 use Rattle.task_laws.proofs.Awaiting.{Awaiting, join, await, awaiting, held, Fits}
 use Rattle.task_laws.proofs.Invariant.{Holds}

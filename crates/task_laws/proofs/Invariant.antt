@@ -1,12 +1,7 @@
 -- What holds between the word, the slots, the trace and the census of the parties at each moment.
 use Rattle.std.proofs.Common.{◌≡◌, ℕ, ◌+◌, ◌≤◌, true, false, not, ◌&&◌, ◌||◌, ◌⊎◌, List, ◌∷◌, ◌++◌, Option, Some, None}
 use Rattle.std.specs.Prelude.{if◌then◌else◌, nat_eq}
-use Rattle.task_core.specs.Word.{State, bit, is_open}
-use Rattle.task_laws.specs.Event.{Event, Maker}
-use Rattle.task_laws.specs.Position.{Position, Act, OfRun, ThenEnds}
-use Rattle.task_laws.specs.Table.{Slots, Scene, Outcome, rule}
-use Rattle.task_laws.specs.Machine.{begins}
-use Rattle.task_laws.specs.Laws.{how_often, count, is_future_answer, Each, MayPoll, is_output_end, is_made, is_call_end, taken_up_closed, wake_is_due, woken_since_taking_up, fresh_wakes}
+use Rattle.task_laws.proofs.Vocabulary.{State, bit, is_open, Event, Maker, Position, Act, OfRun, ThenEnds, Slots, Scene, Outcome, rule, begins, how_often, count, is_future_answer, Each, MayPoll, is_output_end, is_made, is_call_end, taken_up_closed, wake_is_due, woken_since_taking_up, fresh_wakes}
 use Rattle.task_laws.proofs.Census.{Census, plus, weigh, census, runs, closers, calls}
 use Rattle.task_laws.proofs.Scenes.{rules, InEach, completed, closed, task, by_flag, by_references}
 use Rattle.task_laws.proofs.Rows.{Row, gains_lent, wakes_over_lent, wakes_running_waker, wakes_running_lent, wakes_idle_waker, wakes_idle_lent, cancels_idle_awaited, cancels_idle, gives_up, misses_notify, ends_notify, wakes_awaiter, hands_over, Shows, by_rows}

@@ -1,3 +1,4 @@
+pub mod Vocabulary
 pub mod Census
 pub mod Scenes
 pub mod Rows

@@ -1,8 +1,6 @@
 -- An act that changes a slot is made by the slot's owner.
 use Rattle.std.proofs.Common.{Option, Some, None, subst}
-use Rattle.task_laws.specs.Position.{Position, Act}
-use Rattle.task_laws.specs.Table.{Scene, Outcome}
-use Rattle.task_laws.specs.Theorem.{ChangesItsOwn, OwnersAct}
+use Rattle.task_laws.proofs.Vocabulary.{Position, Act, Scene, Outcome, ChangesItsOwn, OwnersAct}
 use Rattle.task_laws.proofs.Scenes.{rules, InEach}
 use Rattle.task_laws.proofs.Rows.{Row, starts_run, Shows, by_rows}
 

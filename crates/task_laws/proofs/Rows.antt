@@ -1,10 +1,8 @@
 -- The rows of the table, each where the flags are known on which its next position depends. A claim is shown of all acts and positions by a case for each.
 use Rattle.std.proofs.Common.{◌≡◌, ℕ, Bool, true, false, Option, Some, None, refl}
-use Rattle.task_core.specs.Rows.{found, written}
-use Rattle.task_laws.specs.declared.positions.Answer.{Answer}
+use Rattle.task_laws.proofs.Vocabulary.{found, written, Answer, Rest, NotifyingCall, OnceDelivered, Runnable, Waker, Lent, Task, ClosedRun, DroppedRunnable, At, CallEnding, Deliverer, Starting, Polling, Pending, Ready, ReadyFutureDropped, OutputStored, PendingFutureDropped, FutureInHand, FutureGone, OutputInHand, GivingUp, Emptier, Notifier, Taker, Releaser, AwaiterInHand, OrphanHolder, Registrar, HasClone, UnusedClone, Storing, Registered, TookBack, CloneInHand, Looking, SawOutput, TookOutput, OldAwaiterInHand, Answering, OutputCloser, Detacher, GainReference, FindLimit, DropWaker, DropLastWaker, OrphanTask, CloseOrphan, GiveUpReference, GiveUpLastReference, WakeOver, WakeScheduled, WakeRunning, WakeIdle, DiscardOpen, DiscardClosed, CancelOver, CancelBusy, CancelIdle, ClaimOutput, GiveUpOutput, DetachOrphan, DetachLast, Detach, TakeUpClosed, StartRun, Unschedule, Complete, CompleteDetached, EndClosed, Reschedule, EndIdle, EndOrphaned, BeginNotify, MissNotify, FindNotify, BeginRegister, EndNotify, EndRegister, EndRegisterNotified, Look, LookFinished, StartPoll, AnswerPending, AnswerReady, DropFuture, StoreOutput, DropOutput, HandOutOutput, CloneAwaiter, RefuseClone, StoreAwaiter, TakeAwaiter, WakeAwaiter, DropAwaiter, HandOver, EmptySlots, RefuseGain, EndCall}
+use Rattle.task_laws.proofs.Vocabulary.{Position, Act, OfPoll, OfClaim, Scene, Outcome, where_found, goes, rule}
 use Rattle.task_laws.specs.declared.positions.PollAnswer.{PollAnswer}
-use Rattle.task_laws.specs.Position.{Rest, NotifyingCall, OnceDelivered, Runnable, Waker, Lent, Task, ClosedRun, DroppedRunnable, At, CallEnding, Deliverer, Starting, Polling, Pending, Ready, ReadyFutureDropped, OutputStored, PendingFutureDropped, FutureInHand, FutureGone, OutputInHand, GivingUp, Emptier, Notifier, Taker, Releaser, AwaiterInHand, OrphanHolder, Registrar, HasClone, UnusedClone, Storing, Registered, TookBack, CloneInHand, Looking, SawOutput, TookOutput, OldAwaiterInHand, Answering, OutputCloser, Detacher, GainReference, FindLimit, DropWaker, DropLastWaker, OrphanTask, CloseOrphan, GiveUpReference, GiveUpLastReference, WakeOver, WakeScheduled, WakeRunning, WakeIdle, DiscardOpen, DiscardClosed, CancelOver, CancelBusy, CancelIdle, ClaimOutput, GiveUpOutput, DetachOrphan, DetachLast, Detach, TakeUpClosed, StartRun, Unschedule, Complete, CompleteDetached, EndClosed, Reschedule, EndIdle, EndOrphaned, BeginNotify, MissNotify, FindNotify, BeginRegister, EndNotify, EndRegister, EndRegisterNotified, Look, LookFinished, StartPoll, AnswerPending, AnswerReady, DropFuture, StoreOutput, DropOutput, HandOutOutput, CloneAwaiter, RefuseClone, StoreAwaiter, TakeAwaiter, WakeAwaiter, DropAwaiter, HandOver, EmptySlots, RefuseGain, EndCall, Position, Act, OfPoll, OfClaim}
-use Rattle.task_laws.specs.Table.{Scene, Outcome, where_found, goes, rule}
 use Rattle.task_laws.proofs.Scenes.{InEach, scheduled, running, completed, closed, awaiter, notifying, by_flag, with_awaiter, by_slot}
 
 -- a row is made of the scene as it is found

@@ -2,14 +2,11 @@
 use Rattle.std.proofs.Common.{◌≡◌, ℕ, zero, suc, List, [], ◌∷◌, ◌++◌, Option, Some, None, refl, sym, subst, arith}
 use Rattle.std.specs.Prelude.{slice_get, slice_set}
 use Rattle.std.proofs.lemmas.Bool.Decides.{nat_tests}
-use Rattle.task_laws.specs.Position.{Position, Act}
-use Rattle.task_laws.specs.Table.{Outcome, rule}
-use Rattle.task_laws.specs.Machine.{Machine, Step, opening, scene, begins, after, moves, step, run_from, run}
+use Rattle.task_laws.proofs.Vocabulary.{Position, Act, Outcome, rule, Machine, Step, opening, scene, begins, after, moves, step, run_from, run, opening_word}
 use Rattle.task_laws.proofs.Census.{plus, weigh, census}
 use Rattle.task_laws.proofs.Invariant.{Holds, Kept, kept_by_rule}
 use Rattle.task_laws.proofs.Awaiting.{join, await, awaiting, fits}
 use Rattle.task_laws.proofs.Handshake.{HandshakeHolds, HandshakeKept, handshake_kept_by_rule}
-use Rattle.task_core.specs.Word.{opening_word}
 
 -- all parties but number i
 abbrev pub others : List Position → ℕ → List Position

@@ -2,14 +2,9 @@
 use Rattle.std.proofs.Common.{◌≡◌, ℕ, ◌+◌, ◌≤◌, Bool, true, false, not, ◌&&◌, ◌||◌, ◌⊎◌, cond, List, [], ◌∷◌, ◌++◌, Option, Some, None, refl, sym, ap, ◌∙◌, subst, append_assoc, arith}
 use Rattle.std.specs.Prelude.{slice_get, slice_set, nat_lt, nat_eq}
 use Rattle.std.proofs.lemmas.Bool.Decides.{nat_tests}
-use Rattle.task_core.specs.Word.{State, bit}
-use Rattle.task_laws.specs.Event.{Event, Nothing, CallEnds, is_event}
-use Rattle.task_laws.specs.Position.{Rest, Ended, Position, At, CallEnding, Deliverer, ThenEnds, AwaiterInHand, OfPoll, Act, WakeIdle, EndCall}
-use Rattle.task_laws.specs.Table.{Slots, Outcome, rule}
-use Rattle.task_laws.specs.Machine.{Machine, scene, begins, after, moves}
-use Rattle.task_core.specs.Local.{is_done}
-use Rattle.task_laws.specs.Abstract.{AbstractCell, Frame, SegmentEnd, Abstract, Move, Begin, Go, begin, go, follow, then_moved, all_moved}
-use Rattle.task_laws.specs.Whole.{one_if, is_home, awaiter_of, opened, is_deliverer, innermost, move_of, call_of, says_yes, frames, frame_at, seen, is_at_rest, is_foreign, asks_foreign}
+use Rattle.task_laws.proofs.Vocabulary.{State, bit, Event, Nothing, CallEnds, is_event, Rest, Ended, Position, At, CallEnding, Deliverer, ThenEnds, AwaiterInHand, OfPoll, Act, WakeIdle, EndCall, Slots, Outcome, rule, Machine, scene, begins, after, moves, is_done, AbstractCell, Frame}
+use Rattle.task_laws.proofs.Vocabulary.{SegmentEnd, Abstract, Move, Begin, Go, begin, go, follow, then_moved, all_moved, one_if, is_home, awaiter_of, opened, is_deliverer, innermost, move_of, call_of, says_yes, frames, frame_at, seen, is_at_rest, is_foreign, asks_foreign, how_often}
+use Rattle.task_laws.proofs.Vocabulary.{count}
 use Rattle.task_laws.proofs.Census.{Census, weigh, census, plus}
 use Rattle.task_laws.proofs.Awaiting.{Awaiting, await, awaiting, fits}
 use Rattle.task_laws.proofs.Handshake.{HandshakeHolds}
@@ -18,7 +13,6 @@ use Rattle.task_laws.proofs.Runs.{Invariant, Stays, others, split, put_born, spl
 use Rattle.task_laws.proofs.Ahead.{Same, before, ahead, prepend, lands, Landed, cell_at, phase_at, holders, queues, landed}
 use Rattle.task_laws.proofs.Calm.{Calm, Counted, Placed, placed, kept_calm, StaysCalm, stands, goes_one_way, registers, is_registered, takes_slot, has_emptied, is_storing, is_notifier, drops_old, is_refused, has_seen, drops_output, has_stored}
 use Rattle.task_laws.proofs.CallRows.{tracked}
-use Rattle.task_laws.specs.Laws.{how_often, count}
 use Rattle.task_laws.proofs.Cuts.{goes_on_from, get_put, get_other, get_append, carried}
 
 -- the open calls: each where it may stand, and each another party's

@@ -1,9 +1,6 @@
 -- The word that a step leaves is the one that its act writes.
 use Rattle.std.proofs.Common.{◌≡◌, Option, Some, None, subst}
-use Rattle.task_core.specs.Word.{State}
-use Rattle.task_core.specs.Rows.{written}
-use Rattle.task_laws.specs.Position.{Position, Act}
-use Rattle.task_laws.specs.Table.{Scene, Outcome, rule}
+use Rattle.task_laws.proofs.Vocabulary.{State, written, Position, Act, Scene, Outcome, rule}
 use Rattle.task_laws.proofs.Scenes.{rules, InEach}
 use Rattle.task_laws.proofs.Rows.{Row, starts_run, Shows, by_rows}
 
