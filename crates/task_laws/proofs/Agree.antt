@@ -2,13 +2,9 @@
 use Rattle.std.proofs.Common.{◌≡◌, ℕ, Bool, true, false, ◌||◌, cond, List, [], ◌∷◌, ◌++◌, length, Option, Some, None, refl, sym, subst, arith}
 use Rattle.std.specs.Prelude.{if◌then◌else◌, slice_get, slice_set, nat_eq}
 use Rattle.std.proofs.lemmas.Bool.Decides.{nat_tests}
-use Rattle.task_laws.specs.Event.{Nothing}
-use Rattle.task_laws.specs.Position.{Rest, Position, At, CallEnding, Deliverer, ThenEnds, Act, WakeIdle}
-use Rattle.task_laws.specs.Table.{Scene, Outcome, rule}
-use Rattle.task_laws.specs.Machine.{Machine, Step, opening, scene, after, step}
+use Rattle.task_laws.proofs.Vocabulary.{Nothing, Rest, Position, At, CallEnding, Deliverer, ThenEnds, Act, WakeIdle, Scene, Outcome, rule, Machine, Step, opening, scene, after, step, Move, Begin, Go, Whole, whole, whole_from, stepped, after_step, may_step, is_innermost, opened, closed, is_cut, move_of, call_of, says_yes}
+use Rattle.task_laws.proofs.Vocabulary.{is_at_rest, is_foreign, asks_foreign}
 use Rattle.task_laws.specs.Machine
-use Rattle.task_laws.specs.Abstract.{Move, Begin, Go}
-use Rattle.task_laws.specs.Whole.{Whole, whole, whole_from, stepped, after_step, may_step, is_innermost, opened, closed, is_cut, move_of, call_of, says_yes, is_at_rest, is_foreign, asks_foreign}
 use Rattle.task_laws.proofs.Runs.{Invariant, Stays, moves_stays, opens}
 use Rattle.task_laws.proofs.Ahead.{queues}
 use Rattle.task_laws.proofs.Cuts.{get_put, get_append}

@@ -1,13 +1,9 @@
 -- What the segment in which a party stands will leave.
 use Rattle.std.proofs.Common.{◌≡◌, ℕ, ◌+◌, Bool, true, false, not, ◌&&◌, ◌||◌, cond, List, [], ◌∷◌, ◌++◌, Option, Some, None}
 use Rattle.std.specs.Prelude.{nat_lt}
-use Rattle.task_core.specs.Word.{State}
-use Rattle.task_laws.specs.Event.{IsClosed, HasOutput, Nothing, Ran, Event, FutureDropped, OutputDropped, HandedOver, Empties, CloneEnded, TaskPollEnds}
-use Rattle.task_laws.specs.Position.{ClosedRun, DroppedRunnable, ThenEnds, NotifyingCall, OfRun, OfDrop, OfCancel, OfPoll, OfClaim, Position, At, CallEnding, Deliverer, Starting, Polling, Pending, Ready, ReadyFutureDropped, OutputStored, PendingFutureDropped, FutureInHand, FutureGone, OutputInHand, GivingUp, Emptier, Notifier, Taker, Releaser, AwaiterInHand, OrphanHolder, Registrar, HasClone, Storing, Registered, TookBack, CloneInHand, Looking, SawOutput, TookOutput, OldAwaiterInHand, Answering, OutputCloser, Detacher, Act, WakeIdle}
-use Rattle.task_laws.specs.Table.{Slots, Scene, Outcome, after_handing_over, notifies}
-use Rattle.task_core.specs.Local.{Phase, Idle, Queued, Polled, PolledAndWoken, Done, NoAwaiter, Due, orphaned, is_done}
-use Rattle.task_laws.specs.Abstract.{AbstractCell, InPoll, RunDropped, DropDropped, ReadyDropped, PendingDropped, GivesUp, Ends, Clones, Stores, Looks, Detaches, SegmentEnd, stops, ends, woken, ended, with_task, wakes_last, gives_up, takes_due, in_hand, cancel_takes, detaches, answers, asks, reads, looks, stores, wakes_first, begin, go}
-use Rattle.task_laws.specs.Whole.{is_at_rest, is_foreign, asks_foreign, call_of, says_yes, one_if, is_home, awaiter_of, frame_of, seen}
+use Rattle.task_laws.proofs.Vocabulary.{State, IsClosed, HasOutput, Nothing, Ran, Event, FutureDropped, OutputDropped, HandedOver, Empties, CloneEnded, TaskPollEnds, ClosedRun, DroppedRunnable, ThenEnds, NotifyingCall, OfRun, OfDrop, OfCancel, OfPoll, OfClaim, Position, At, CallEnding, Deliverer, Starting, Polling, Pending, Ready, ReadyFutureDropped, OutputStored, PendingFutureDropped, FutureInHand, FutureGone, OutputInHand, GivingUp, Emptier, Notifier, Taker, Releaser, AwaiterInHand, OrphanHolder, Registrar, HasClone, Storing}
+use Rattle.task_laws.proofs.Vocabulary.{Registered, TookBack, CloneInHand, Looking, SawOutput, TookOutput, OldAwaiterInHand, Answering, OutputCloser, Detacher, Act, WakeIdle, Slots, Scene, Outcome, after_handing_over, notifies, Phase, Idle, Queued, Polled, PolledAndWoken, Done, NoAwaiter, Due, orphaned, is_done, AbstractCell, InPoll, RunDropped, DropDropped, ReadyDropped, PendingDropped, GivesUp, Ends, Clones, Stores, Looks, Detaches, SegmentEnd, stops, ends, woken, ended, with_task, wakes_last, gives_up, takes_due, in_hand}
+use Rattle.task_laws.proofs.Vocabulary.{cancel_takes, detaches, answers, asks, reads, looks, stores, wakes_first, begin, go, is_at_rest, is_foreign, asks_foreign, call_of, says_yes, one_if, is_home, awaiter_of, frame_of, seen}
 use Rattle.task_laws.proofs.Census.{Census, plus, weigh, census, runs, closers}
 
 -- the reading, by the word

@@ -1,8 +1,7 @@
 -- How many parties stand where in the handshake, and what they do with the clone of poll number i.
 use Rattle.std.proofs.Common.{◌≡◌, ℕ, ◌+◌, ◌≤◌, eqb, arith, List, [], ◌∷◌, Option, Some, None}
-use Rattle.task_core.specs.Word.{bit}
-use Rattle.task_laws.specs.Event.{PollAnswer, IsPending, IsClosed, HasOutput, IsRefused}
-use Rattle.task_laws.specs.Position.{Rest, Task, NotifyingCall, OfRun, OfDrop, OfCancel, OfPoll, OfClaim, OnceDelivered, ThenEnds, ThenTask, ThenNotifies, Position, At, CallEnding, Deliverer, OutputInHand, GivingUp, Emptier, Notifier, Taker, Releaser, AwaiterInHand, Registrar, HasClone, UnusedClone, Storing, Registered, TookBack, CloneInHand, Looking, SawOutput, TookOutput, OldAwaiterInHand, Answering}
+use Rattle.task_laws.proofs.Vocabulary.{bit, IsPending, IsClosed, HasOutput, IsRefused, Rest, Task, NotifyingCall, OfRun, OfDrop, OfCancel, OfPoll, OfClaim, OnceDelivered, ThenEnds, ThenTask, ThenNotifies, Position, At, CallEnding, Deliverer, OutputInHand, GivingUp, Emptier, Notifier, Taker, Releaser, AwaiterInHand, Registrar, HasClone, UnusedClone, Storing, Registered, TookBack, CloneInHand, Looking, SawOutput, TookOutput, OldAwaiterInHand, Answering}
+use Rattle.task_laws.specs.Event.{PollAnswer}
 use Rattle.task_laws.proofs.Census.{Census, weigh, census, calls}
 
 pub record Awaiting : Type 0 where

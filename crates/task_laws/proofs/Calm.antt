@@ -1,15 +1,11 @@
 -- What is known of the word and the slots where one party stands in a whole run, and what each row has to show.
-use Rattle.std.proofs.Common.{◌≡◌, ℕ, zero, suc, ◌+◌, ◌≤◌, Bool, true, false, not, ◌||◌, ◌⊎◌, refl, sym, cond, subst, eqb, List, Option, Some, None, arith}
-use Rattle.task_core.specs.Word.{State, bit, is_open}
-use Rattle.task_laws.specs.Event.{HasOutput, Event}
-use Rattle.task_laws.specs.Position.{OfRun, OfDrop, OfCancel, OfPoll, OfClaim, ThenNotifies, Position, At, CallEnding, Deliverer, Polling, ReadyFutureDropped, OutputStored, PendingFutureDropped, FutureGone, OutputInHand, GivingUp, Notifier, Taker, Releaser, AwaiterInHand, Registrar, UnusedClone, Storing, Registered, TookBack, Looking, TookOutput, OldAwaiterInHand, Answering, Detacher, Act}
-use Rattle.task_core.specs.Rows.{found, written}
-use Rattle.task_laws.specs.Table.{Slots, Scene, Outcome, where_found, rule, goes}
-use Rattle.task_laws.specs.Laws.{how_often}
-use Rattle.task_laws.specs.Whole.{is_at_rest, is_foreign, asks_foreign}
+use Rattle.std.proofs.Common.{◌≡◌, ℕ, zero, suc, ◌+◌, ◌≤◌, Bool, true, false, not, ◌||◌, ◌⊎◌, cond, eqb, List, Option, Some, None, arith}
+use Rattle.task_laws.proofs.Vocabulary.{State, bit, is_open, HasOutput, Event, OfRun, OfDrop, OfCancel, OfPoll, OfClaim, ThenNotifies, Position, At, CallEnding, Deliverer, Polling, ReadyFutureDropped, OutputStored, PendingFutureDropped, FutureGone, OutputInHand, GivingUp, Notifier, Taker, Releaser, AwaiterInHand, Registrar, UnusedClone, Storing, Registered, TookBack, Looking, TookOutput}
+use Rattle.task_laws.proofs.Vocabulary.{OldAwaiterInHand, Answering, Detacher, Act, Slots, Scene, Outcome, rule, how_often, is_at_rest, is_foreign, asks_foreign}
 use Rattle.task_laws.proofs.Census.{Census, plus, weigh, runs, closers}
 use Rattle.task_laws.proofs.Invariant.{Holds}
 use Rattle.task_laws.proofs.Scenes.{rules, InEach}
+use Rattle.task_laws.proofs.Rows.{Row, starts_run, Shows, by_rows}
 use Rattle.task_laws.proofs.Ahead.{Landed, holders}
 
 -- where the acting party stands in the handshake
@@ -152,20 +148,18 @@ abbrev pub StaysCalm : Act → Option Outcome → Type 0
 StaysCalm act None = Unit {0}
 StaysCalm act (Some o) = Calm o.word o.slots (is_at_rest o.next || is_marked act o.next) o.next × (may_stand o.word.completed (is_marked act o.next) o.next ≡ true)
 
-abbrev pub Tracks : Act → Position → Scene → Type 0
-Tracks act p scene = (rest : Census) (cut : Bool) → Placed scene (plus (weigh p) rest) p → Calm scene.word scene.slots cut p → Counted scene.word scene.slots p → found scene.limit act scene.word ≡ true
-    → Landed scene rest p act (goes scene (written act scene.word) act p)
+abbrev pub Tracks : Act → Position → Scene → Option Outcome → Type 0
+Tracks act p scene left = (rest : Census) (cut : Bool) → Placed scene (plus (weigh p) rest) p → Calm scene.word scene.slots cut p → Counted scene.word scene.slots p → Landed scene rest p act left
 
-abbrev pub KeepsCalm : Act → Position → Scene → Type 0
-KeepsCalm act p scene = (rest : Census) (cut : Bool) → Placed scene (plus (weigh p) rest) p → Calm scene.word scene.slots cut p → Counted scene.word scene.slots p → found scene.limit act scene.word ≡ true
-    → StaysCalm act (goes scene (written act scene.word) act p)
+abbrev pub KeepsCalm : Act → Position → Scene → Option Outcome → Type 0
+KeepsCalm act p scene left = (rest : Census) (cut : Bool) → Placed scene (plus (weigh p) rest) p → Calm scene.word scene.slots cut p → Counted scene.word scene.slots p → StaysCalm act left
 
--- where the table has no row there is nothing to show
-pub no_row : (act : Act) (p : Position) → ((scene : Scene) (word : State) → goes scene word act p ≡ None) → InEach (Tracks act p)
-no_row act p none = record { at = λ scene rest cut placed calm counted is_found. subst (Landed scene rest p act) (sym (none scene (written act scene.word))) tt }
+calm_row : (act : Act) (p : Position) (put : Scene → Scene) → Row act p put → InEach (λ scene. Shows KeepsCalm act p (put scene))
+calm_row _ _ _ starts_run = grind rules
+calm_row act p put row = grind rules
 
-pub no_calm_row : (act : Act) (p : Position) → ((scene : Scene) (word : State) → goes scene word act p ≡ None) → InEach (KeepsCalm act p)
-no_calm_row act p none = record { at = λ scene rest cut placed calm counted is_found. subst (StaysCalm act) (sym (none scene (written act scene.word))) tt }
+pub kept_calm : (act : Act) (p : Position) (scene : Scene) → KeepsCalm act p scene (rule scene act p)
+kept_calm = by_rows KeepsCalm (λ act p scene rest cut placed calm counted. tt) calm_row
 
 -- a row that rests on the counts alone
 pub record Counts (w : State) (all : Census) : Type 0 where
@@ -176,12 +170,12 @@ pub record Counts (w : State) (all : Census) : Type 0 where
   pub completed : w.completed ≡ true → (w.running ≡ false) × (w.scheduled ≡ false)
   pub registering : w.registering ≡ true → w.task ≡ true
 
-abbrev pub TracksByCounts : Act → Position → Scene → Type 0
-TracksByCounts act p scene = (rest : Census) → Counts scene.word (plus (weigh p) rest) → Counted scene.word scene.slots p → found scene.limit act scene.word ≡ true → Landed scene rest p act (goes scene (written act scene.word) act p)
+abbrev pub TracksByCounts : Act → Position → Scene → Option Outcome → Type 0
+TracksByCounts act p scene left = (rest : Census) → Counts scene.word (plus (weigh p) rest) → Counted scene.word scene.slots p → Landed scene rest p act left
 
-pub by_counts : (act : Act) (p : Position) → InEach (TracksByCounts act p) → InEach (Tracks act p)
+pub by_counts : (act : Act) (p : Position) → InEach (Shows TracksByCounts act p) → InEach (Shows Tracks act p)
 by_counts act p row = record {
-  at = λ scene rest cut placed calm counted. row.at scene rest (record {
+  at = λ scene is_found rest cut placed calm counted. row.at scene is_found rest (record {
     references = placed.references;
     one = placed.one;
     idle = placed.idle;
@@ -190,25 +184,6 @@ by_counts act p row = record {
     registering = calm.registering;
   }) counted;
 }
-
-if_found : (scene : Scene) (rest : Census) (p : Position) (act : Act) (is_found : Bool) (left : Option Outcome) → (is_found ≡ true → Landed scene rest p act left) → Landed scene rest p act (where_found is_found left)
-if_found scene rest p act is_found None row = tt
-if_found scene rest p act true (Some left) row = row refl
-if_found scene rest p act false (Some left) row = tt
-
-if_found_calm : (act : Act) (is_found : Bool) (left : Option Outcome) → (is_found ≡ true → StaysCalm act left) → StaysCalm act (where_found is_found left)
-if_found_calm act is_found None row = tt
-if_found_calm act true (Some left) row = row refl
-if_found_calm act false (Some left) row = tt
-
--- so the rule does
-pub tracked : (act : Act) (p : Position) → InEach (Tracks act p) → (scene : Scene) (rest : Census) (cut : Bool) → Placed scene (plus (weigh p) rest) p → Calm scene.word scene.slots cut p → Counted scene.word scene.slots p → Landed scene rest p act (rule scene act p)
-tracked act p row scene rest cut placed calm counted =
-    if_found scene rest p act (found scene.limit act scene.word) (goes scene (written act scene.word) act p) (row.at scene rest cut placed calm counted)
-
-pub kept_calm : (act : Act) (p : Position) → InEach (KeepsCalm act p) → (scene : Scene) (rest : Census) (cut : Bool) → Placed scene (plus (weigh p) rest) p → Calm scene.word scene.slots cut p → Counted scene.word scene.slots p → StaysCalm act (rule scene act p)
-kept_calm act p row scene rest cut placed calm counted =
-    if_found_calm act (found scene.limit act scene.word) (goes scene (written act scene.word) act p) (row.at scene rest cut placed calm counted)
 
 -- each field from its few fields of the counting invariant
 free : (w : State) (c : Census) → runs c ≡ bit w.running → c.queued + closers c ≡ cond w.running 0 (bit w.scheduled) → (c.finishing + c.outputs ≡ 0) ⊎ (is_open w ≡ false)

@@ -2,40 +2,17 @@
 use Rattle.std.proofs.Common.{◌≡◌, ℕ, zero, suc, Bool, true, false, List, [], ◌∷◌, ◌++◌, Some, None, refl, sym, ap, ◌∙◌, append_assoc, arith}
 use Rattle.std.specs.Prelude.{slice_get, slice_set, nat_eq, if◌then◌else◌}
 use Rattle.std.proofs.lemmas.Bool.Decides.{nat_tests}
-use Rattle.task_laws.specs.Event.{Event, PollAnswer, IsPending, IsClosed, IsRefused, HasOutput}
-use Rattle.task_laws.specs.Position.{Position, At, CallEnding, Polling, ReadyFutureDropped, PendingFutureDropped, FutureGone, ClosedRun, DroppedRunnable, GivingUp, Notifier, AwaiterInHand, Registrar, Registered, Looking, TookOutput, Answering, Detacher, OfRun, OfCancel, OfPoll, OfClaim, Act}
-use Rattle.task_laws.specs.Table.{Slots}
-use Rattle.task_laws.specs.Machine.{begins}
-use Rattle.task_laws.specs.Abstract.{AbstractCell, Frame, SegmentEnd, go, follow}
-use Rattle.task_laws.specs.Whole.{says_yes, frame_of, seen, is_seen}
+use Rattle.task_laws.proofs.Vocabulary.{Event, HasOutput, Position, At, FutureGone, ClosedRun, GivingUp, Notifier, AwaiterInHand, Answering, OfRun, OfPoll, Act, Slots, begins, AbstractCell, Frame, SegmentEnd, go, follow, says_yes, frame_of, seen, is_seen}
 use Rattle.task_laws.proofs.Ahead.{Same, before, prepend}
 use Rattle.task_laws.proofs.Calm.{stands}
 
 -- there the frame says what is left of the call
 pub goes_on_from : (limit : ℕ) (c : AbstractCell) (slots : Slots) (done : Bool) (p : Position) (act : Act) → stands done (Some p) ≡ true → go c (frame_of p) (says_yes act) ≡ before limit c slots p act
-goes_on_from limit c slots done Polling act e = refl
-goes_on_from limit c slots done (FutureGone ClosedRun) act e = refl
-goes_on_from limit c slots done (FutureGone DroppedRunnable) act e = refl
-goes_on_from limit c slots done ReadyFutureDropped act e = refl
-goes_on_from limit c slots done PendingFutureDropped act e = refl
-goes_on_from limit c slots done (Notifier OfRun) act e = refl
-goes_on_from limit c slots done (Notifier (OfCancel n)) act e = refl
-goes_on_from limit c slots done Detacher act e = refl
-goes_on_from limit c slots done (GivingUp None answer) act e = refl
-goes_on_from limit c slots done (CallEnding answer r) act e = refl
-goes_on_from limit c slots done (Registrar i) act e = refl
-goes_on_from limit c slots done (Registered i) act e = refl
-goes_on_from limit c slots done (Looking i) act e = refl
-goes_on_from limit c slots done (AwaiterInHand j (OfPoll i)) act e = refl
-goes_on_from limit c slots done (AwaiterInHand j (OfClaim i)) act e = refl
-goes_on_from limit c slots done (TookOutput i) act e = refl
-goes_on_from limit c slots done (Answering i answer) act e = at_answer i answer e
-  where
-    at_answer : (i : ℕ) (answer : PollAnswer) → stands done (Some (Answering i answer)) ≡ true → go c (frame_of (Answering i answer)) (says_yes act) ≡ before limit c slots (Answering i answer) act
-    at_answer i IsPending e = refl
-    at_answer i IsClosed e = refl
-    at_answer i IsRefused e = refl
-    at_answer i HasOutput e = cc
+goes_on_from limit c slots done (FutureGone ClosedRun) act e = cc
+goes_on_from limit c slots done (Notifier OfRun) act e = cc
+goes_on_from limit c slots done (GivingUp None answer) act e = cc
+goes_on_from limit c slots done (AwaiterInHand j (OfPoll i)) act e = cc
+goes_on_from limit c slots done (Answering i HasOutput) act e = cc
 goes_on_from limit c slots done p act e = cc
 
 -- the parties among each other

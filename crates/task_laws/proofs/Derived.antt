@@ -1,11 +1,7 @@
 -- The laws follow from the invariant.
 use Rattle.std.proofs.Common.{◌≡◌, ℕ, ◌≤◌, ◌⊎◌, ◌+◌, Bool, true, false, not, ◌&&◌, ◌||◌, cond, eqb, List, refl, arith}
 use Rattle.std.proofs.lemmas.Bool.Decides.{nat_tests}
-use Rattle.task_core.specs.Word.{State, bit, is_open}
-use Rattle.task_laws.specs.Event.{Event}
-use Rattle.task_laws.specs.Table.{Slots}
-use Rattle.task_laws.specs.Laws.{how_often, count, OnePoller, NoWakeLost, MakingsCounted, NobodyIsLeft}
-use Rattle.task_laws.specs.Laws.{is_output_end}
+use Rattle.task_laws.proofs.Vocabulary.{State, bit, is_open, Event, Slots, how_often, count, OnePoller, NoWakeLost, MakingsCounted, NobodyIsLeft, is_output_end}
 use Rattle.task_laws.proofs.Census.{Census, calls, runs, closers}
 use Rattle.task_laws.proofs.Invariant.{Holds}
 

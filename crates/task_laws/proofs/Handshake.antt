@@ -1,18 +1,12 @@
 -- What holds of the handshake at each moment, and of the clone of poll number i.
-use Rattle.std.proofs.Common.{◌≡◌, ℕ, ◌+◌, ◌<◌, ◌≤◌, Bool, true, false, ◌||◌, ◌⊎◌, refl, sym, subst, List, ◌∷◌, ◌++◌, Option, Some, None}
+use Rattle.std.proofs.Common.{◌≡◌, ℕ, ◌+◌, ◌<◌, ◌≤◌, true, false, ◌||◌, ◌⊎◌, List, ◌∷◌, ◌++◌, Option, Some, None}
 use Rattle.std.specs.Prelude.{if◌then◌else◌}
-use Rattle.task_core.specs.Word.{State, bit}
-use Rattle.task_laws.specs.Event.{Event}
-use Rattle.task_laws.specs.Position.{Position, Act}
-use Rattle.task_laws.specs.Table.{Slots, Scene, Outcome, when, where_found, rule, goes}
-use Rattle.task_core.specs.Rows.{found, written}
-use Rattle.task_laws.specs.Machine.{begins}
-use Rattle.task_laws.specs.Laws.{how_often, count}
-use Rattle.task_laws.specs.Laws.{Each, is_task_poll, pending_poll, was_woken, MayAnswer}
+use Rattle.task_laws.proofs.Vocabulary.{State, bit, Event, Position, Act, OfRun, ThenEnds, Slots, Scene, Outcome, rule, begins, how_often, count, Each, is_task_poll, pending_poll, was_woken, MayAnswer}
 use Rattle.task_laws.proofs.Census.{Census, plus, weigh}
 use Rattle.task_laws.proofs.Awaiting.{Awaiting, join, await, awaiting, held, Fits}
 use Rattle.task_laws.proofs.Invariant.{Holds}
-use Rattle.task_laws.proofs.Scenes.{InEach}
+use Rattle.task_laws.proofs.Scenes.{rules, InEach, completed, closed, task, registering, notifying, by_flag, by_references}
+use Rattle.task_laws.proofs.Rows.{Row, gains_lent, wakes_over_lent, wakes_scheduled_lent, wakes_running_lent, wakes_idle_lent, completes_awaited, gives_up, misses_notify, ends_notify, wakes_awaiter, hands_over, begins_notify, takes_awaiter, looks_queued, looks_running, looks_ended, Shows, by_rows}
 
 -- the last pending poll was woken; or its clone stands in the slot, and the word says so; or somebody is about to wake it
 abbrev pub IsCared : ℕ → State → Slots → List Event → Awaiting → Type 0
@@ -46,38 +40,31 @@ abbrev pub HandshakeKept : ℕ → List Event → Awaiting → Position → Opti
 HandshakeKept i trace others p None = Unit {0}
 HandshakeKept i trace others p (Some left) = HandshakeHolds i left.word left.slots (left.told ++ (begins p ++ trace)) (join (awaiting i (left.next ∷ left.born)) others)
 
--- what a row has to show, where the counting invariant holds too
-abbrev pub HandshakeKeeps : Act → Position → Scene → Type 0
-HandshakeKeeps act p scene = (i : ℕ) (trace : List Event) (rest : Census) (others : Awaiting) → Fits rest others → Holds scene.limit scene.word scene.slots trace (plus (weigh p) rest)
-    → HandshakeHolds i scene.word scene.slots trace (join (await i p) others) → found scene.limit act scene.word ≡ true → HandshakeKept i trace others p (goes scene (written act scene.word) act p)
+-- a row keeps it, where the counting invariant holds too
+abbrev KeepsHandshake : Act → Position → Scene → Option Outcome → Type 0
+KeepsHandshake act p scene left = (i : ℕ) (trace : List Event) (rest : Census) (others : Awaiting) → Fits rest others → Holds scene.limit scene.word scene.slots trace (plus (weigh p) rest)
+    → HandshakeHolds i scene.word scene.slots trace (join (await i p) others) → HandshakeKept i trace others p left
 
--- where the table has no row there is nothing to show
-pub no_handshake_row : (act : Act) (p : Position) → ((scene : Scene) (word : State) → goes scene word act p ≡ None) → InEach (HandshakeKeeps act p)
-no_handshake_row act p none = record { at = λ scene i trace rest others fit holds shakes is_found. subst (HandshakeKept i trace others p) (sym (none scene (written act scene.word))) tt }
-
--- the same of what the party leaves, where the table asks for a condition that the handshake does not need
-abbrev pub HandshakeLeaves : Act → Position → (Scene → State → Outcome) → Scene → Type 0
-HandshakeLeaves act p leaves scene = (i : ℕ) (trace : List Event) (rest : Census) (others : Awaiting) → Fits rest others → Holds scene.limit scene.word scene.slots trace (plus (weigh p) rest)
-    → HandshakeHolds i scene.word scene.slots trace (join (await i p) others) → found scene.limit act scene.word ≡ true → HandshakeKept i trace others p (Some (leaves scene (written act scene.word)))
-
-pub under_condition : (act : Act) (p : Position) (condition : Scene → Bool) (leaves : Scene → State → Outcome) → ((scene : Scene) (word : State) → goes scene word act p ≡ when (condition scene) (leaves scene word))
-    → InEach (HandshakeLeaves act p leaves) → InEach (HandshakeKeeps act p)
-under_condition act p condition leaves is row = record {
-  at = λ scene i trace rest others fit holds shakes is_found.
-      subst (HandshakeKept i trace others p) (sym (is scene (written act scene.word))) (either (condition scene) i trace others (leaves scene (written act scene.word)) (row.at scene i trace rest others fit holds shakes is_found));
-}
-  where
-    either : (b : Bool) (i : ℕ) (trace : List Event) (others : Awaiting) (o : Outcome) → HandshakeKept i trace others p (Some o) → HandshakeKept i trace others p (when b o)
-    either true i trace others o kept = kept
-    either false i trace others o kept = tt
-
-if_found : (i : ℕ) (trace : List Event) (others : Awaiting) (p : Position) (is_found : Bool) (left : Option Outcome) → (is_found ≡ true → HandshakeKept i trace others p left) → HandshakeKept i trace others p (where_found is_found left)
-if_found i trace others p is_found None kept = tt
-if_found i trace others p true (Some left) kept = kept refl
-if_found i trace others p false (Some left) kept = tt
+handshake_row : (act : Act) (p : Position) (put : Scene → Scene) → Row act p put → InEach (λ scene. Shows KeepsHandshake act p (put scene))
+handshake_row _ _ _ gains_lent = by_flag task (grind rules) (by_references (grind rules) (λ n. grind rules))
+handshake_row _ _ _ wakes_over_lent = by_flag task (grind rules) (by_references (by_flag completed (grind rules) (by_flag closed (grind rules) (grind rules))) (λ n. grind rules))
+handshake_row _ _ _ wakes_scheduled_lent = by_flag task (grind rules) (by_references (by_flag completed (grind rules) (by_flag closed (grind rules) (grind rules))) (λ n. grind rules))
+handshake_row _ _ _ wakes_running_lent = by_flag task (grind rules) (by_references (by_flag completed (grind rules) (by_flag closed (grind rules) (grind rules))) (λ n. grind rules))
+handshake_row _ _ _ wakes_idle_lent = by_flag task (grind rules) (by_references (by_flag completed (grind rules) (by_flag closed (grind rules) (grind rules))) (λ n. grind rules))
+handshake_row _ _ _ completes_awaited = by_flag registering (by_flag notifying (grind rules) (grind rules)) (by_flag notifying (grind rules) (grind rules))
+handshake_row _ _ _ (gives_up None answer) = grind rules
+handshake_row _ _ _ (misses_notify OfRun) = grind rules
+handshake_row _ _ _ (ends_notify None OfRun) = grind rules
+handshake_row _ _ _ (ends_notify (Some i) OfRun) = grind rules
+handshake_row _ _ _ (wakes_awaiter i OfRun) = grind rules
+handshake_row _ _ _ (hands_over woken (ThenEnds answer)) = grind rules
+handshake_row _ _ _ (begins_notify OfRun) = grind rules
+handshake_row _ _ _ (takes_awaiter OfRun) = grind rules
+handshake_row _ _ _ (looks_queued n) = by_flag completed (grind rules) (grind rules)
+handshake_row _ _ _ (looks_running n) = by_flag completed (grind rules) (grind rules)
+handshake_row _ _ _ (looks_ended n) = by_flag completed (grind rules) (grind rules)
+handshake_row act p put row = grind rules
 
 -- so the rule keeps it
-pub handshake_kept_by_rule : (act : Act) (p : Position) → InEach (HandshakeKeeps act p) → (i : ℕ) (scene : Scene) (trace : List Event) (rest : Census) (others : Awaiting) → Fits rest others
-    → Holds scene.limit scene.word scene.slots trace (plus (weigh p) rest) → HandshakeHolds i scene.word scene.slots trace (join (await i p) others) → HandshakeKept i trace others p (rule scene act p)
-handshake_kept_by_rule act p row i scene trace rest others fit holds shakes =
-    if_found i trace others p (found scene.limit act scene.word) (goes scene (written act scene.word) act p) (row.at scene i trace rest others fit holds shakes)
+pub handshake_kept_by_rule : (act : Act) (p : Position) (scene : Scene) → KeepsHandshake act p scene (rule scene act p)
+handshake_kept_by_rule = by_rows KeepsHandshake (λ act p scene i trace rest others fit holds shakes. tt) handshake_row

@@ -1,17 +1,10 @@
 -- What holds between the word, the slots, the trace and the census of the parties at each moment.
-use Rattle.std.proofs.Common.{◌≡◌, ℕ, ◌+◌, ◌≤◌, Bool, true, false, not, ◌&&◌, ◌||◌, ◌⊎◌, refl, sym, subst, List, ◌∷◌, ◌++◌, Option, Some, None}
+use Rattle.std.proofs.Common.{◌≡◌, ℕ, ◌+◌, ◌≤◌, true, false, not, ◌&&◌, ◌||◌, ◌⊎◌, List, ◌∷◌, ◌++◌, Option, Some, None}
 use Rattle.std.specs.Prelude.{if◌then◌else◌, nat_eq}
-use Rattle.task_core.specs.Word.{State, bit, is_open}
-use Rattle.task_laws.specs.Event.{Event}
-use Rattle.task_laws.specs.Position.{Position, Act}
-use Rattle.task_laws.specs.Table.{Slots, Scene, Outcome, where_found, rule, goes}
-use Rattle.task_core.specs.Rows.{found, written}
-use Rattle.task_laws.specs.Machine.{begins}
-use Rattle.task_laws.specs.Event.{Maker}
-use Rattle.task_laws.specs.Laws.{how_often, count, is_future_answer}
-use Rattle.task_laws.specs.Laws.{Each, MayPoll, is_output_end, is_made, is_call_end, taken_up_closed, wake_is_due, woken_since_taking_up, fresh_wakes}
+use Rattle.task_laws.proofs.Vocabulary.{State, bit, is_open, Event, Maker, Position, Act, OfRun, ThenEnds, Slots, Scene, Outcome, rule, begins, how_often, count, is_future_answer, Each, MayPoll, is_output_end, is_made, is_call_end, taken_up_closed, wake_is_due, woken_since_taking_up, fresh_wakes}
 use Rattle.task_laws.proofs.Census.{Census, plus, weigh, census, runs, closers, calls}
-use Rattle.task_laws.proofs.Scenes.{InEach}
+use Rattle.task_laws.proofs.Scenes.{rules, InEach, completed, closed, task, by_flag, by_references}
+use Rattle.task_laws.proofs.Rows.{Row, gains_lent, wakes_over_lent, wakes_running_waker, wakes_running_lent, wakes_idle_waker, wakes_idle_lent, cancels_idle_awaited, cancels_idle, gives_up, misses_notify, ends_notify, wakes_awaiter, hands_over, Shows, by_rows}
 
 pub record Holds (limit : ℕ) (word : State) (slots : Slots) (trace : List Event) (parties : Census) : Type 0 where
   -- the word and the parties
@@ -58,22 +51,27 @@ abbrev pub Kept : ℕ → List Event → Census → Position → Option Outcome 
 Kept limit trace rest p None = Unit {0}
 Kept limit trace rest p (Some left) = Holds limit left.word left.slots (left.told ++ (begins p ++ trace)) (plus (census (left.next ∷ left.born)) rest)
 
--- what a row has to show: its act keeps the invariant in a scene where the row is found
-abbrev pub Keeps : Act → Position → Scene → Type 0
-Keeps act p scene = (trace : List Event) (rest : Census) → Holds scene.limit scene.word scene.slots trace (plus (weigh p) rest) → found scene.limit act scene.word ≡ true
-    → Kept scene.limit trace rest p (goes scene (written act scene.word) act p)
+-- a row keeps it
+abbrev Keeps : Act → Position → Scene → Option Outcome → Type 0
+Keeps act p scene left = (trace : List Event) (rest : Census) → Holds scene.limit scene.word scene.slots trace (plus (weigh p) rest) → Kept scene.limit trace rest p left
 
--- where the table has no row there is nothing to show
-pub no_row : (act : Act) (p : Position) → ((scene : Scene) (word : State) → goes scene word act p ≡ None) → InEach (Keeps act p)
-no_row act p none = record { at = λ scene trace rest holds is_found. subst (Kept scene.limit trace rest p) (sym (none scene (written act scene.word))) tt }
-
-if_found : (limit : ℕ) (trace : List Event) (rest : Census) (p : Position) (is_found : Bool) (left : Option Outcome) → (is_found ≡ true → Kept limit trace rest p left) → Kept limit trace rest p (where_found is_found left)
-if_found limit trace rest p is_found None kept = tt
-if_found limit trace rest p true (Some left) kept = kept refl
-if_found limit trace rest p false (Some left) kept = tt
+kept_row : (act : Act) (p : Position) (put : Scene → Scene) → Row act p put → InEach (λ scene. Shows Keeps act p (put scene))
+kept_row _ _ _ gains_lent = by_flag task (grind rules) (by_references (grind rules) (λ n. grind rules))
+kept_row _ _ _ wakes_over_lent = by_flag task (grind rules) (by_references (grind rules) (λ n. grind rules))
+kept_row _ _ _ wakes_running_waker = by_flag closed (grind rules) (by_flag completed (grind rules) (grind rules))
+kept_row _ _ _ wakes_running_lent = by_flag task (by_flag closed (grind rules) (by_flag completed (grind rules) (grind rules))) (by_references (by_flag closed (grind rules) (by_flag completed (grind rules) (grind rules))) (λ n. by_flag closed (grind rules) (by_flag completed (grind rules) (grind rules))))
+kept_row _ _ _ wakes_idle_waker = by_flag closed (grind rules) (grind rules)
+kept_row _ _ _ wakes_idle_lent = by_flag task (by_flag closed (grind rules) (by_flag completed (grind rules) (grind rules))) (by_references (by_flag closed (grind rules) (by_flag completed (grind rules) (grind rules))) (λ n. by_flag closed (grind rules) (by_flag completed (grind rules) (grind rules))))
+kept_row _ _ _ (cancels_idle_awaited n) = by_flag closed (grind rules) (grind rules)
+kept_row _ _ _ (cancels_idle n) = by_flag closed (grind rules) (grind rules)
+kept_row _ _ _ (gives_up None answer) = grind rules
+kept_row _ _ _ (misses_notify OfRun) = grind rules
+kept_row _ _ _ (ends_notify None OfRun) = grind rules
+kept_row _ _ _ (ends_notify (Some i) OfRun) = grind rules
+kept_row _ _ _ (wakes_awaiter i OfRun) = grind rules
+kept_row _ _ _ (hands_over woken (ThenEnds answer)) = grind rules
+kept_row act p put row = grind rules
 
 -- so the rule keeps it
-pub kept_by_rule : (act : Act) (p : Position) → InEach (Keeps act p) → (scene : Scene) (trace : List Event) (rest : Census)
-    → Holds scene.limit scene.word scene.slots trace (plus (weigh p) rest) → Kept scene.limit trace rest p (rule scene act p)
-kept_by_rule act p row scene trace rest holds =
-    if_found scene.limit trace rest p (found scene.limit act scene.word) (goes scene (written act scene.word) act p) (row.at scene trace rest holds)
+pub kept_by_rule : (act : Act) (p : Position) (scene : Scene) → Keeps act p scene (rule scene act p)
+kept_by_rule = by_rows Keeps (λ act p scene trace rest holds. tt) kept_row

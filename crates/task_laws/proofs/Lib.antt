@@ -1,19 +1,18 @@
+pub mod Vocabulary
 pub mod Census
 pub mod Scenes
+pub mod Rows
 pub mod Invariant
-pub mod InvariantRows
 pub mod Awaiting
 pub mod Handshake
-pub mod HandshakeRows
 pub mod Runs
 pub mod Derived
 pub mod Theorem
 pub mod Owners
+pub mod Words
 pub mod Ahead
 pub mod Calm
-pub mod PartRows
 pub mod CallRows
-pub mod CalmRows
 pub mod Cuts
 pub mod WholeRuns
 pub mod Queueing
@@ -21,5 +20,4 @@ pub mod Agree
 pub mod Reading
 pub mod WholeCalls
 pub mod LocalRows
-mod Worked
 mod WorkedRuns

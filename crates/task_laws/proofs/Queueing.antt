@@ -3,14 +3,8 @@ use Rattle.std.proofs.Common.{◌≡◌, ℕ, zero, suc, ◌<◌, Bool, true, fa
 use Rattle.std.specs.Prelude.{slice_get, slice_set, nat_eq}
 use Rattle.std.proofs.lemmas.Bool.Decides.{nat_tests}
 use Rattle.std.proofs.lemmas.Option.{slice_get_within}
-use Rattle.task_core.specs.Word.{State, is_open}
-use Rattle.task_laws.specs.Event.{Nothing, CallBegins, Made, ByWake, WakeStep}
-use Rattle.task_laws.specs.Position.{Rest, Runnable, Waker, Lent, Ended, Task, Position, At, CallEnding, Deliverer, ThenEnds, WakeIdle}
-use Rattle.task_core.specs.Rows.{found, written}
-use Rattle.task_laws.specs.Table.{Slots, Scene, Outcome, where_found, is_held, rule}
-use Rattle.task_laws.specs.Machine.{Machine, scene, begins}
-use Rattle.task_laws.specs.Abstract.{AbstractCell, Frame, Abstract, Move, Begin, begin, follow, then_moved, all_moved}
-use Rattle.task_laws.specs.Whole.{call_of, frames, seen}
+use Rattle.task_laws.proofs.Vocabulary.{State, is_open, Nothing, CallBegins, Made, ByWake, WakeStep, Rest, Runnable, Waker, Lent, Ended, Task, Position, At, CallEnding, Deliverer, ThenEnds, WakeIdle, found, written, Slots, Scene}
+use Rattle.task_laws.proofs.Vocabulary.{Outcome, where_found, is_held, rule, Machine, scene, begins, AbstractCell, Frame, Abstract, Move, Begin, begin, follow, then_moved, all_moved, call_of, frames, seen}
 use Rattle.task_laws.proofs.Census.{weigh, census, plus}
 use Rattle.task_laws.proofs.Runs.{Invariant, others, split, put_born}
 use Rattle.task_laws.proofs.Ahead.{Same, before, ahead, prepend, Landed, cell_at}

@@ -2,15 +2,8 @@
 use Rattle.std.proofs.Common.{◌≡◌, ℕ, ◌+◌, Bool, true, false, not, ◌&&◌, ◌||◌, cond, List, [], ◌∷◌, refl, sym, ap, ◌∙◌, Some, arith}
 use Rattle.std.specs.Prelude.{nat_lt, nat_eq, if◌then◌else◌}
 use Rattle.std.proofs.lemmas.Bool.Decides.{nat_tests}
-use Rattle.task_core.specs.Word.{State, bit, is_open}
-use Rattle.task_laws.specs.Position.{Ended, Position, At}
-use Rattle.task_laws.specs.Machine.{Machine, how_many}
-use Rattle.task_laws.specs.Event.{Event}
-use Rattle.task_laws.specs.Laws.{how_often, woken_since_taking_up}
-use Rattle.task_laws.specs.Holders.{is_runner}
-use Rattle.task_core.specs.Local.{Idle, Queued, Polled, PolledAndWoken, Done, is_done}
-use Rattle.task_laws.specs.Abstract.{AbstractCell}
-use Rattle.task_laws.specs.Whole.{is_queued, is_polling, phase_of, is_home, one_if, awaiter_of, reading, frames, seen, WholeRunsAgree}
+use Rattle.task_laws.proofs.Vocabulary.{State, bit, is_open, Ended, Position, At, Machine, how_many, Event, how_often, woken_since_taking_up, is_runner, Idle, Queued, Polled, PolledAndWoken, Done, is_done, AbstractCell, is_queued, is_polling, phase_of, is_home}
+use Rattle.task_laws.proofs.Vocabulary.{one_if, awaiter_of, reading, frames, seen, WholeRunsAgree}
 use Rattle.task_laws.proofs.Census.{Census, weigh, census, runs, closers}
 use Rattle.task_laws.proofs.Runs.{Invariant}
 use Rattle.task_laws.proofs.Ahead.{phase_at, holders}

@@ -1,17 +1,12 @@
 -- The invariant holds after every list of steps that the machine allows.
-use Rattle.std.proofs.Common.{◌≡◌, ℕ, zero, suc, List, [], ◌∷◌, ◌++◌, Option, Some, None, refl, sym, ap, ◌∙◌, subst, arith}
+use Rattle.std.proofs.Common.{◌≡◌, ℕ, zero, suc, List, [], ◌∷◌, ◌++◌, Option, Some, None, refl, sym, subst, arith}
 use Rattle.std.specs.Prelude.{slice_get, slice_set}
 use Rattle.std.proofs.lemmas.Bool.Decides.{nat_tests}
-use Rattle.task_laws.specs.Position.{Position, Act}
-use Rattle.task_laws.specs.Table.{Outcome, rule}
-use Rattle.task_laws.specs.Machine.{Machine, Step, opening, scene, begins, after, moves, step, run_from, run}
-use Rattle.task_laws.proofs.Census.{Census, plus, weigh, census, nobody}
+use Rattle.task_laws.proofs.Vocabulary.{Position, Act, Outcome, rule, Machine, Step, opening, scene, begins, after, moves, step, run_from, run, opening_word}
+use Rattle.task_laws.proofs.Census.{plus, weigh, census}
 use Rattle.task_laws.proofs.Invariant.{Holds, Kept, kept_by_rule}
-use Rattle.task_laws.proofs.Awaiting.{Awaiting, join, none, await, awaiting, fits}
+use Rattle.task_laws.proofs.Awaiting.{join, await, awaiting, fits}
 use Rattle.task_laws.proofs.Handshake.{HandshakeHolds, HandshakeKept, handshake_kept_by_rule}
-use Rattle.task_laws.proofs.InvariantRows.{every_row}
-use Rattle.task_laws.proofs.HandshakeRows.{every_handshake_row}
-use Rattle.task_core.specs.Word.{opening_word}
 
 -- all parties but number i
 abbrev pub others : List Position → ℕ → List Position
@@ -19,66 +14,34 @@ others [] i = []
 others (p ∷ ps) zero = ps
 others (p ∷ ps) (suc i) = p ∷ others ps i
 
-plus_left_comm : (a b c : Census) → plus a (plus b c) ≡ plus b (plus a c)
-plus_left_comm a b c = grind arith
-
-plus_assoc : (a b c : Census) → plus (plus a b) c ≡ plus a (plus b c)
-plus_assoc a b c = grind arith
-
-plus_nobody : (a : Census) → plus nobody a ≡ a
-plus_nobody a = grind arith
-
-plus_comm : (a b : Census) → plus a b ≡ plus b a
-plus_comm a b = grind arith
-
 census-append : (ps qs : List Position) → census (ps ++ qs) ≡ plus (census ps) (census qs)
-census-append [] qs = sym (plus_nobody (census qs))
-census-append (p ∷ ps) qs = ap (plus (weigh p)) (census-append ps qs) ∙ sym (plus_assoc (weigh p) (census ps) (census qs))
+census-append [] qs = grind arith
+census-append (p ∷ ps) qs = grind (arith, census-append ps qs)
 
 pub split : (ps : List Position) (i : ℕ) (p : Position) → slice_get ps i ≡ Some p → census ps ≡ plus (weigh p) (census (others ps i))
 split [] i p e = cc
 split (x ∷ ps) zero p e = cc
-split (x ∷ ps) (suc i) p e = ap (plus (weigh x)) (split ps i p e) ∙ plus_left_comm (weigh x) (weigh p) (census (others ps i))
-
-put : (ps : List Position) (i : ℕ) (p q : Position) → slice_get ps i ≡ Some p → census (slice_set ps i q) ≡ plus (weigh q) (census (others ps i))
-put [] i p q e = cc
-put (x ∷ ps) zero p q e = refl
-put (x ∷ ps) (suc i) p q e = ap (plus (weigh x)) (put ps i p q e) ∙ plus_left_comm (weigh x) (weigh q) (census (others ps i))
+split (x ∷ ps) (suc i) p e = grind (arith, split ps i p e)
 
 pub put_born : (ps : List Position) (i : ℕ) (p q : Position) (born : List Position) → slice_get ps i ≡ Some p → census (slice_set ps i q ++ born) ≡ plus (census (q ∷ born)) (census (others ps i))
-put_born ps i p q born e =
-    census-append (slice_set ps i q) born ∙ (ap (λ c. plus c (census born)) (put ps i p q e) ∙ (plus_assoc (weigh q) (census (others ps i)) (census born) ∙ (ap (plus (weigh q)) (plus_comm (census (others ps i)) (census born)) ∙ sym (plus_assoc (weigh q) (census born) (census (others ps i))))))
+put_born [] i p q born e = cc
+put_born (x ∷ ps) zero p q born e = grind (arith, census-append ps born)
+put_born (x ∷ ps) (suc i) p q born e = grind (arith, put_born ps i p q born e)
 
 -- .. and the same for the handshake
-join_left_comm : (a b c : Awaiting) → join a (join b c) ≡ join b (join a c)
-join_left_comm a b c = grind arith
-
-join_assoc : (a b c : Awaiting) → join (join a b) c ≡ join a (join b c)
-join_assoc a b c = grind arith
-
-join_none : (a : Awaiting) → join none a ≡ a
-join_none a = grind arith
-
-join_comm : (a b : Awaiting) → join a b ≡ join b a
-join_comm a b = grind arith
-
 awaiting-append : (i : ℕ) (ps qs : List Position) → awaiting i (ps ++ qs) ≡ join (awaiting i ps) (awaiting i qs)
-awaiting-append i [] qs = sym (join_none (awaiting i qs))
-awaiting-append i (p ∷ ps) qs = ap (join (await i p)) (awaiting-append i ps qs) ∙ sym (join_assoc (await i p) (awaiting i ps) (awaiting i qs))
+awaiting-append i [] qs = grind arith
+awaiting-append i (p ∷ ps) qs = grind (arith, awaiting-append i ps qs)
 
 pub split_awaiting : (k : ℕ) (ps : List Position) (i : ℕ) (p : Position) → slice_get ps i ≡ Some p → awaiting k ps ≡ join (await k p) (awaiting k (others ps i))
 split_awaiting k [] i p e = cc
 split_awaiting k (x ∷ ps) zero p e = cc
-split_awaiting k (x ∷ ps) (suc i) p e = ap (join (await k x)) (split_awaiting k ps i p e) ∙ join_left_comm (await k x) (await k p) (awaiting k (others ps i))
-
-put_awaiting : (k : ℕ) (ps : List Position) (i : ℕ) (p q : Position) → slice_get ps i ≡ Some p → awaiting k (slice_set ps i q) ≡ join (await k q) (awaiting k (others ps i))
-put_awaiting k [] i p q e = cc
-put_awaiting k (x ∷ ps) zero p q e = refl
-put_awaiting k (x ∷ ps) (suc i) p q e = ap (join (await k x)) (put_awaiting k ps i p q e) ∙ join_left_comm (await k x) (await k q) (awaiting k (others ps i))
+split_awaiting k (x ∷ ps) (suc i) p e = grind (arith, split_awaiting k ps i p e)
 
 put_born_awaiting : (k : ℕ) (ps : List Position) (i : ℕ) (p q : Position) (born : List Position) → slice_get ps i ≡ Some p → awaiting k (slice_set ps i q ++ born) ≡ join (awaiting k (q ∷ born)) (awaiting k (others ps i))
-put_born_awaiting k ps i p q born e =
-    awaiting-append k (slice_set ps i q) born ∙ (ap (λ c. join c (awaiting k born)) (put_awaiting k ps i p q e) ∙ (join_assoc (await k q) (awaiting k (others ps i)) (awaiting k born) ∙ (ap (join (await k q)) (join_comm (awaiting k (others ps i)) (awaiting k born)) ∙ sym (join_assoc (await k q) (awaiting k born) (awaiting k (others ps i))))))
+put_born_awaiting k [] i p q born e = cc
+put_born_awaiting k (x ∷ ps) zero p q born e = grind (arith, awaiting-append k ps born)
+put_born_awaiting k (x ∷ ps) (suc i) p q born e = grind (arith, put_born_awaiting k ps i p q born e)
 
 pub record Invariant (m : Machine) : Type 0 where
   pub holds : Holds m.limit m.word m.slots m.trace (census m.parties)
@@ -110,8 +73,8 @@ moves_stays m i act None e h = tt
 moves_stays m i act (Some p) e h =
     let holds = subst (Holds m.limit m.word m.slots m.trace) (split m.parties i p e) h.holds in
     after_stays m i p (rule (scene m) act p) e
-    (kept_by_rule act p (every_row act p) (scene m) m.trace (census (others m.parties i)) holds)
-    (λ k. handshake_kept_by_rule act p (every_handshake_row act p) k (scene m) m.trace (census (others m.parties i)) (awaiting k (others m.parties i)) (fits k (others m.parties i)) holds
+    (kept_by_rule act p (scene m) m.trace (census (others m.parties i)) holds)
+    (λ k. handshake_kept_by_rule act p (scene m) k m.trace (census (others m.parties i)) (awaiting k (others m.parties i)) (fits k (others m.parties i)) holds
     (subst (HandshakeHolds k m.word m.slots m.trace) (split_awaiting k m.parties i p e) (h.shakes k)))
 
 run_stays : (m : Option Machine) (steps : List Step) → Stays m → Stays (run_from m steps)

@@ -1,15 +1,7 @@
 -- The laws hold after every list of steps that the machine allows.
 use Rattle.std.proofs.Common.{◌≡◌, ℕ, ◌+◌, ◌≤◌, ◌⊎◌, Bool, true, false, ◌||◌, cond, eqb, List, [], ◌∷◌, Some, None, refl, subst, arith}
 use Rattle.std.proofs.lemmas.Bool.Decides.{nat_tests}
-use Rattle.task_core.specs.Word.{State, bit, is_open}
-use Rattle.task_laws.specs.Event.{Event}
-use Rattle.task_laws.specs.Position.{Position}
-use Rattle.task_laws.specs.Table.{Slots}
-use Rattle.task_laws.specs.Machine.{Machine, how_many}
-use Rattle.task_laws.specs.Laws.{how_often}
-use Rattle.task_laws.specs.Laws.{NobodyIsLeft, no_call_is_left, pending_poll, was_woken}
-use Rattle.task_laws.specs.Holders.{is_waker, is_runner, owns_future, owns_output, owns_awaiter}
-use Rattle.task_laws.specs.Theorem.{Laws, LawsHold}
+use Rattle.task_laws.proofs.Vocabulary.{State, bit, is_open, Event, Position, Slots, Machine, how_many, how_often, NobodyIsLeft, no_call_is_left, pending_poll, was_woken, is_waker, is_runner, owns_future, owns_output, owns_awaiter, Laws, LawsHold}
 use Rattle.task_laws.proofs.Census.{Census, weigh, census, calls, runs, closers}
 use Rattle.task_laws.proofs.Invariant.{Holds}
 use Rattle.task_laws.proofs.Awaiting.{Awaiting, await, awaiting, Fits, fits}

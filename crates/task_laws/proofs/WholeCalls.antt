@@ -1,11 +1,8 @@
 -- A call that is made whole leads where the abstract call leads.
 use Rattle.std.proofs.Common.{◌≡◌, ℕ, ◌⊎◌, inl, inr, Bool, true, List, [], ◌∷◌, ◌++◌, Option, Some, None, refl, sym, ap, ◌∙◌, append_assoc}
-use Rattle.task_laws.specs.Event.{Event}
-use Rattle.task_laws.specs.Machine.{Step, opening, step}
+use Rattle.task_laws.proofs.Vocabulary.{Event, Step, opening, step, AbstractCell, Frame, Abstract, Move, Begin, Go, begin, go, follow, put, then_moved, all_moved, Whole, whole_from, stepped, reading, frames, read, alone, made, takes_all}
+use Rattle.task_laws.proofs.Vocabulary.{WholeCallsAgree}
 use Rattle.std.specs.Prelude.{slice_get}
-use Rattle.task_laws.specs.Abstract.{AbstractCell, Frame, Abstract, Move, Begin, Go, begin, go, follow, put, then_moved, all_moved}
-use Rattle.task_laws.specs.Whole.{Whole, whole_from, stepped, reading, frames, read}
-use Rattle.task_laws.specs.WholeCalls.{alone, made, takes_all, WholeCallsAgree}
 use Rattle.task_laws.proofs.Reading.{whole_runs_agree}
 
 -- first one list of steps, then another

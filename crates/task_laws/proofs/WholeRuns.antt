@@ -2,25 +2,17 @@
 use Rattle.std.proofs.Common.{◌≡◌, ℕ, ◌+◌, ◌≤◌, Bool, true, false, not, ◌&&◌, ◌||◌, ◌⊎◌, cond, List, [], ◌∷◌, ◌++◌, Option, Some, None, refl, sym, ap, ◌∙◌, subst, append_assoc, arith}
 use Rattle.std.specs.Prelude.{slice_get, slice_set, nat_lt, nat_eq}
 use Rattle.std.proofs.lemmas.Bool.Decides.{nat_tests}
-use Rattle.task_core.specs.Word.{State, bit}
-use Rattle.task_laws.specs.Event.{Event, Nothing, CallEnds}
-use Rattle.task_laws.specs.Position.{Rest, Ended, Position, At, CallEnding, Deliverer, ThenEnds, Polling, Registrar, AwaiterInHand, OfPoll, OfClaim, Act, WakeIdle, EndCall}
-use Rattle.task_laws.specs.Table.{Slots, Outcome, rule}
-use Rattle.task_laws.specs.Machine.{Machine, scene, begins, after, moves}
-use Rattle.task_core.specs.Local.{is_done}
-use Rattle.task_laws.specs.Abstract.{AbstractCell, Frame, SegmentEnd, Abstract, Move, Begin, Go, begin, go, follow, then_moved, all_moved}
-use Rattle.task_laws.specs.Whole.{one_if, is_home, awaiter_of, opened, is_deliverer, innermost, move_of, call_of, says_yes, frames, frame_at, seen, is_at_rest, is_foreign, asks_foreign}
+use Rattle.task_laws.proofs.Vocabulary.{State, bit, Event, Nothing, CallEnds, is_event, Rest, Ended, Position, At, CallEnding, Deliverer, ThenEnds, AwaiterInHand, OfPoll, Act, WakeIdle, EndCall, Slots, Outcome, rule, Machine, scene, begins, after, moves, is_done, AbstractCell, Frame}
+use Rattle.task_laws.proofs.Vocabulary.{SegmentEnd, Abstract, Move, Begin, Go, begin, go, follow, then_moved, all_moved, one_if, is_home, awaiter_of, opened, is_deliverer, innermost, move_of, call_of, says_yes, frames, frame_at, seen, is_at_rest, is_foreign, asks_foreign, how_often}
+use Rattle.task_laws.proofs.Vocabulary.{count}
 use Rattle.task_laws.proofs.Census.{Census, weigh, census, plus}
 use Rattle.task_laws.proofs.Awaiting.{Awaiting, await, awaiting, fits}
 use Rattle.task_laws.proofs.Handshake.{HandshakeHolds}
 use Rattle.task_laws.proofs.Invariant.{Holds}
 use Rattle.task_laws.proofs.Runs.{Invariant, Stays, others, split, put_born, split_awaiting, moves_stays}
 use Rattle.task_laws.proofs.Ahead.{Same, before, ahead, prepend, lands, Landed, cell_at, phase_at, holders, queues, landed}
-use Rattle.task_laws.proofs.Calm.{Calm, Counted, Placed, placed, tracked, kept_calm, StaysCalm, stands, goes_one_way, registers, is_registered, takes_slot, has_emptied, is_storing, is_notifier, drops_old, is_refused, has_seen, drops_output, has_stored}
-use Rattle.task_laws.proofs.CallRows.{every_call}
-use Rattle.task_laws.proofs.CalmRows.{every_calm}
-use Rattle.task_laws.specs.Event.{is_event}
-use Rattle.task_laws.specs.Laws.{how_often, count}
+use Rattle.task_laws.proofs.Calm.{Calm, Counted, Placed, placed, kept_calm, StaysCalm, stands, goes_one_way, registers, is_registered, takes_slot, has_emptied, is_storing, is_notifier, drops_old, is_refused, has_seen, drops_output, has_stored}
+use Rattle.task_laws.proofs.CallRows.{tracked}
 use Rattle.task_laws.proofs.Cuts.{goes_on_from, get_put, get_other, get_append, carried}
 
 -- the open calls: each where it may stand, and each another party's
@@ -53,13 +45,13 @@ frames_stay a ps born i q (j ∷ stack) f g =
     ap (λ (o : Option Position). frame_at o ∷ frames (slice_set ps i q ++ born) stack) (other_stays ps born i j q a f.0 g.0)
     ∙ ap (λ (fs : List Frame). frame_at (slice_get ps j) ∷ fs) (frames_stay a ps born i q stack f.1 g.2)
 
+pub same_number : (x y : ℕ) → nat_eq x y ≡ true → x ≡ y
+same_number x y e = grind (arith, nat_tests)
+
 -- a party at rest has no call that is open
 apart : (done : Bool) (ps : List Position) (i j : ℕ) (r : Rest) → slice_get ps i ≡ Some (At r) → stands done (slice_get ps j) ≡ true → nat_eq i j ≡ false
 apart done ps i j r e s = decide (nat_eq i j) refl
   where
-    same_number : (x y : ℕ) → nat_eq x y ≡ true → x ≡ y
-    same_number x y e = grind (arith, nat_tests)
-
     decide : (b : Bool) → nat_eq i j ≡ b → nat_eq i j ≡ false
     decide false f = f
     decide true f = let g = rw (sym (same_number i j f)) at s in let h = rw e at g in cc
@@ -241,12 +233,8 @@ calm_at w slots p f k c = record {
     want w o a b c d = grind arith
 
 one_way_is : (limit : ℕ) (c : AbstractCell) (slots : Slots) (p : Position) (act : Act) → goes_one_way p ≡ true → ahead c slots p ≡ before limit c slots p act
-one_way_is limit c slots (At r) act e = cc
-one_way_is limit c slots Polling act e = cc
-one_way_is limit c slots (Registrar i) act e = cc
 one_way_is limit c slots (AwaiterInHand j (OfPoll i)) act e = cc
-one_way_is limit c slots (AwaiterInHand j (OfClaim i)) act e = cc
-one_way_is limit c slots p act e = refl
+one_way_is limit c slots p act e = cc
 
 -- a trace in two parts
 pub count-append : (p : Event → Bool) (xs ys : List Event) → count p (xs ++ ys) ≡ count p xs + count p ys
@@ -268,10 +256,10 @@ placed_here : (m : Machine) (i : ℕ) (p : Position) → slice_get m.parties i �
 placed_here m i p e h = placed (scene m) m.trace (census (others m.parties i)) p (subst (Holds m.limit m.word m.slots m.trace) (split m.parties i p e) h.holds)
 
 pub tracked_here : (m : Machine) (i : ℕ) (p : Position) (act : Act) (cut : Bool) → slice_get m.parties i ≡ Some p → Invariant m → Calm m.word m.slots cut p → Landed (scene m) (census (others m.parties i)) p act (rule (scene m) act p)
-tracked_here m i p act cut e h k = tracked act p (every_call act p) (scene m) (census (others m.parties i)) cut (placed_here m i p e h) k (counted m i p e h)
+tracked_here m i p act cut e h k = tracked act p (scene m) (census (others m.parties i)) cut (placed_here m i p e h) k (counted m i p e h)
 
 pub calm_here : (m : Machine) (i : ℕ) (p : Position) (act : Act) (cut : Bool) → slice_get m.parties i ≡ Some p → Invariant m → Calm m.word m.slots cut p → StaysCalm act (rule (scene m) act p)
-calm_here m i p act cut e h k = kept_calm act p (every_calm act p) (scene m) (census (others m.parties i)) cut (placed_here m i p e h) k (counted m i p e h)
+calm_here m i p act cut e h k = kept_calm act p (scene m) (census (others m.parties i)) cut (placed_here m i p e h) k (counted m i p e h)
 
 -- the step of a party, by what the moves have made
 abbrev pub GoesAfter : ℕ → Machine → ℕ → Position → Act → List ℕ → List Move → Option Outcome → Type 0
@@ -308,8 +296,7 @@ goes_on_here limit m i p act stack moves e u h c =
     ∙ ap (λ (x : SegmentEnd). Some (follow x (frames m.parties stack) (seen m.trace))) (goes_on_from m.limit (cell_of m) m.slots m.word.completed p act s)))
   where
     or_right : (b : Bool) → (b || true) ≡ true
-    or_right true = refl
-    or_right false = refl
+    or_right b = grind arith
 
 -- .. and within its segment
 pub goes_within : (limit : ℕ) (m : Machine) (i : ℕ) (p : Position) (act : Act) (stack : List ℕ) (moves : List Move) → queues act ≡ false → Invariant m → Within limit m i p stack moves → GoesAfter limit m i p act stack moves (rule (scene m) act p)
@@ -335,9 +322,6 @@ opened_mid i p act born stack e = refl
 pub move_mid : (p : Position) (act : Act) → is_at_rest p ≡ false → move_of p act ≡ Go (says_yes act)
 move_mid (At r) act e = cc
 move_mid p act e = refl
-
-pub same_number : (x y : ℕ) → nat_eq x y ≡ true → x ≡ y
-same_number x y e = grind (arith, nat_tests)
 
 -- A WAKE THAT QUEUES: its deliverer n stands below the waker i, which has only to end
 pub record Handing (limit : ℕ) (m : Machine) (i : ℕ) (r : Rest) (n : ℕ) (stack : List ℕ) (moves : List Move) : Type 0 where

@@ -1,9 +1,7 @@
 -- Some whole runs, computed: their moves lead the abstract task to the reading of the machine.
 use Rattle.std.proofs.Common.{◌≡◌, ℕ, List, [], ◌∷◌, Option, Some, None, refl}
-use Rattle.task_laws.specs.Position.{Act, GainReference, DropWaker, DropLastWaker, OrphanTask, CloseOrphan, GiveUpReference, GiveUpLastReference, WakeIdle, DiscardOpen, CancelOver, CancelBusy, ClaimOutput, DetachLast, Detach, TakeUpClosed, StartRun, Unschedule, Complete, CompleteDetached, EndClosed, EndIdle, EndOrphaned, BeginNotify, MissNotify, BeginRegister, EndNotify, EndRegister, EndRegisterNotified, Look, StartPoll, AnswerPending, AnswerReady, DropFuture, StoreOutput, DropOutput, HandOutOutput, CloneAwaiter, StoreAwaiter, TakeAwaiter, WakeAwaiter, DropAwaiter, HandOver, EmptySlots, EndCall}
-use Rattle.task_laws.specs.Machine.{Step}
-use Rattle.task_laws.specs.Abstract.{all_moved}
-use Rattle.task_laws.specs.Whole.{Whole, whole, read}
+use Rattle.task_laws.proofs.Vocabulary.{Act, GainReference, DropWaker, DropLastWaker, OrphanTask, CloseOrphan, GiveUpReference, GiveUpLastReference, WakeIdle, DiscardOpen, CancelOver, CancelBusy, ClaimOutput, DetachLast, Detach, TakeUpClosed, StartRun, Unschedule, Complete, CompleteDetached, EndClosed, EndIdle, EndOrphaned, BeginNotify, MissNotify, BeginRegister, EndNotify, EndRegister, EndRegisterNotified, Look, StartPoll, AnswerPending, AnswerReady, DropFuture, StoreOutput, DropOutput, HandOutOutput, CloneAwaiter, StoreAwaiter, TakeAwaiter, WakeAwaiter, DropAwaiter, HandOver, EmptySlots}
+use Rattle.task_laws.proofs.Vocabulary.{EndCall, Step, all_moved, Whole, whole, read}
 
 abbrev does : ℕ → List Act → List Step → List Step
 does i [] rest = rest

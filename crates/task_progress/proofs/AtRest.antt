@@ -2,20 +2,8 @@
 use Rattle.std.proofs.Common.{◌≡◌, ℕ, ◌+◌, ◌≤◌, ◌⊎◌, zero, suc, Bool, true, false, not, ◌&&◌, ◌||◌, cond, eqb, refl, sym, ap, ◌∙◌, subst, List, [], ◌∷◌, ◌++◌, Some, arith}
 use Rattle.std.specs.Prelude.{slice_get, slice_set}
 use Rattle.std.proofs.lemmas.Bool.Decides.{nat_tests}
-use Rattle.task_core.specs.Word.{State, bit, is_open}
-use Rattle.task_laws.specs.Event.{FuturePollBegins, TakenUp, CallBegins}
-use Rattle.task_laws.specs.declared.positions.Rest.TheVariants.{Runnable}
-use Rattle.task_laws.specs.declared.positions.Position.{Position}
-use Rattle.task_laws.specs.declared.positions.Position.TheVariants.{At, Starting, Polling}
-use Rattle.task_core.specs.declared.acts.Act.TheVariants.{StartRun, StartPoll}
-use Rattle.task_laws.specs.Table.{Outcome, when}
-use Rattle.task_laws.specs.Machine.{Machine, after, moves, step, run_from, how_many}
-use Rattle.task_laws.specs.Event.{Event}
-use Rattle.task_laws.specs.Laws.{how_often, count, no_call_is_left, is_output_end, wake_is_due}
-use Rattle.task_laws.proofs.Census.{Census, weigh, census, runs, closers, calls}
-use Rattle.task_laws.proofs.Awaiting.{Awaiting, awaiting, fits}
-use Rattle.task_laws.proofs.Runs.{Invariant, Stays, always}
-use Rattle.task_laws.proofs.Theorem.{wakers, laws_of}
+use Rattle.task_progress.proofs.Vocabulary.{State, bit, is_open, FuturePollBegins, TakenUp, CallBegins, Event, Runnable, Position, At, Starting, Polling, StartRun, StartPoll, Outcome, when, Machine, after, moves, step, run_from, how_many, how_often, count, no_call_is_left}
+use Rattle.task_progress.proofs.Vocabulary.{is_output_end, wake_is_due, Census, weigh, census, runs, closers, calls, Awaiting, awaiting, fits, Invariant, Stays, always, wakers, laws_of}
 use Rattle.task_progress.specs.StepsLeft.{total, in_call}
 use Rattle.task_progress.specs.Ending.{NoCallInProgress}
 use Rattle.task_progress.specs.AtRest.{is_runnable, IsAtRest, WithoutWorkAtRest, PollsNext, DueWakesArePolled}

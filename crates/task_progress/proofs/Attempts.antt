@@ -2,16 +2,10 @@
 use Rattle.std.proofs.Common.{◌≡◌, ℕ, ◌+◌, ◌*◌, ◌≤◌, zero, suc, Bool, true, false, not, List, [], ◌∷◌, Option, Some, None, refl, subst, sym, ap, ◌∙◌, arith}
 use Rattle.std.specs.Prelude.{slice_get, nat_eq, if◌then◌else◌}
 use Rattle.std.proofs.lemmas.Bool.Decides.{nat_tests}
-use Rattle.task_core.specs.Word.{State, bit, number_of}
-use Rattle.task_core.specs.Rows.{written}
-use Rattle.task_laws.specs.declared.positions.Position.{Position}
-use Rattle.task_core.specs.declared.acts.Act.{Act}
-use Rattle.task_laws.specs.Table.{Outcome, rule}
-use Rattle.task_laws.specs.Machine.{Machine, Step, scene, after, moves, step, run_from}
+use Rattle.task_progress.proofs.Vocabulary.{State, bit, number_of, written, Position, Act, GainReference, Outcome, rule, Machine, Step, scene, after, moves, step, run_from, WordIsIn, word_is}
 use Rattle.task_progress.specs.StepsLeft.{writes_word, writes_in}
 use Rattle.task_progress.specs.Attempts.{Attempt, Looks, Makes, Misses, WithSeen, is_same_word, sees, makes, unless_seen, misses, attempts_from, made, misses_of, writes_by_others, is_stale, misses_below, LockFree}
 use Rattle.task_progress.proofs.Sums.{open_calls_bound_steps}
-use Rattle.task_progress.proofs.Words.{WordIsIn, word_is, same_word}
 
 -- a word just seen is not stale
 fresh : (w : State) → is_stale (Some w) w ≡ 0
@@ -29,6 +23,10 @@ stale_bit (Some v) w = at (is_same_word v w)
     at false = omega arith
 
 -- a step that writes nothing leaves the word
+same_word : (act : Act) (w : State) → writes_word act ≡ false → written act w ≡ w
+same_word GainReference w e = cc
+same_word act w e = cc
+
 abbrev LeavesWord : State → Act → Option Machine → Type 0
 LeavesWord w act None = Unit {0}
 LeavesWord w act (Some m) = writes_word act ≡ false → m.word ≡ w
@@ -39,7 +37,7 @@ after_word m i act p (Some o) h = λ e. h ∙ same_word act m.word e
 
 moves_word : (m : Machine) (i : ℕ) (act : Act) (at : Option Position) → LeavesWord m.word act (moves m i act at)
 moves_word m i act None = tt
-moves_word m i act (Some p) = after_word m i act p (rule (scene m) act p) ((word_is (scene m) act p).is)
+moves_word m i act (Some p) = after_word m i act p (rule (scene m) act p) (word_is act p (scene m))
 
 -- so what was seen becomes stale only by a write
 stales : (o : Option State) (w v : State) (writes : Bool) → (writes ≡ false → v ≡ w) → is_stale o v ≤ is_stale o w + bit writes

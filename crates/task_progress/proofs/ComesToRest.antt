@@ -1,23 +1,9 @@
 -- Every task comes to rest.
 use Rattle.std.proofs.Common.{◌≡◌, ℕ, ◌+◌, ◌≤◌, ◌⊎◌, inl, inr, zero, suc, Bool, true, false, not, refl, sym, ap, ◌∙◌, subst, List, [], ◌∷◌, ◌++◌, length, Option, Some, None, arith}
 use Rattle.std.specs.Prelude.{slice_get, slice_set}
-use Rattle.task_core.specs.Word.{State, bit, is_open}
-use Rattle.task_laws.specs.Event.{Event, FuturePollBegins, TakenUp, CallBegins}
-use Rattle.task_laws.specs.declared.positions.Rest.TheVariants.{Runnable}
-use Rattle.task_laws.specs.declared.positions.WithoutPoll.TheVariants.{ClosedRun}
-use Rattle.task_laws.specs.declared.positions.Position.{Position}
-use Rattle.task_laws.specs.declared.positions.Position.TheVariants.{At, Starting, Polling, FutureInHand}
-use Rattle.task_core.specs.declared.acts.Act.{Act}
-use Rattle.task_core.specs.declared.acts.Act.TheVariants.{TakeUpClosed, StartRun, StartPoll}
-use Rattle.task_laws.specs.Table.{Outcome, when, rule}
-use Rattle.task_laws.specs.Machine.{Machine, Step, scene, begins, after, moves, step, run_from, how_many}
-use Rattle.task_laws.specs.Event.{is_event}
-use Rattle.task_laws.specs.Laws.{how_often, wake_is_due}
-use Rattle.task_laws.proofs.Census.{census}
-use Rattle.task_laws.proofs.Awaiting.{awaiting}
-use Rattle.task_laws.proofs.Invariant.{Holds}
-use Rattle.task_laws.proofs.Handshake.{HandshakeHolds}
-use Rattle.task_laws.proofs.Runs.{others, split, split_awaiting}
+use Rattle.task_progress.proofs.Vocabulary.{State, bit, is_open, Event, FuturePollBegins, TakenUp, CallBegins, is_event, Runnable, ClosedRun, Position, At, Starting, Polling, FutureInHand, Act}
+use Rattle.task_progress.proofs.Vocabulary.{TakeUpClosed, StartRun, StartPoll, Outcome, when, rule, Machine, Step, scene, begins, after, moves, step, run_from, how_many, how_often, wake_is_due, census}
+use Rattle.task_progress.proofs.Vocabulary.{awaiting, Holds, HandshakeHolds, others, split, split_awaiting}
 use Rattle.task_progress.specs.StepsLeft.{total, in_call, steps_left}
 use Rattle.task_progress.specs.Ending.{NoCallInProgress}
 use Rattle.task_progress.specs.AtRest.{is_runnable, IsAtRest, PollsNext, ComesToRest, AllComeToRest, DueWakesStay, has_runnable, ClosedMakesNoRunnable, RunsLeadToRest, ClosedLeadsToRest}
@@ -26,7 +12,6 @@ use Rattle.task_progress.proofs.Waits.{InOrder, StaysInOrder, step_in_order, run
 use Rattle.task_progress.proofs.Ending.{Place, Rests, Works, place, get_put, end_calls}
 use Rattle.task_progress.proofs.AtRest.{polled, runnables, stands_still, is_at_rest, RunnableIn, Found, NoneFound, find_runnable}
 use Rattle.task_progress.proofs.Lasting.{queued_of, IsUnscheduled, IsDue, Lasting, LastingTo, lasting_by_rule}
-use Rattle.task_progress.proofs.LastingRows.{every_lasting_row}
 
 pub queued_all : (ps : List Position) → total queued_of ps ≡ (census ps).queued
 queued_all [] = refl
@@ -86,7 +71,7 @@ moves_on m i act (Some p) e h =
     let h1 = subst (Holds m.limit m.word m.slots m.trace) (split m.parties i p e) h.holds.holds in
     let k1 = subst (HandshakeHolds 0 m.word m.slots m.trace) (split_awaiting 0 m.parties i p e) (h.holds.shakes 0) in
     after_on m i p (rule (scene m) act p) e
-    (lasting_by_rule act p (every_lasting_row act p) (scene m) m.trace (census (others m.parties i)) (awaiting 0 (others m.parties i)) (around m.limit m.word m.slots m.trace _ _ h1 k1))
+    (lasting_by_rule act p (scene m) m.trace (census (others m.parties i)) (awaiting 0 (others m.parties i)) (around m.limit m.word m.slots m.trace _ _ h1 k1))
 
 onward_same : (m : Machine) → Onward m m
 onward_same m = record {

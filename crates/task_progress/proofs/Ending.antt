@@ -1,14 +1,8 @@
 -- Calls end.
 use Rattle.std.proofs.Common.{◌≡◌, ℕ, ◌+◌, ◌*◌, ◌≤◌, ◌⊎◌, inl, inr, zero, suc, true, refl, ap, ◌∙◌, subst, List, [], ◌∷◌, ◌++◌, Option, Some, None, arith}
 use Rattle.std.specs.Prelude.{is_some, slice_get, slice_set}
-use Rattle.task_laws.specs.declared.positions.Rest.{Rest}
-use Rattle.task_laws.specs.declared.positions.Position.{Position}
-use Rattle.task_laws.specs.declared.positions.Position.TheVariants.{At}
-use Rattle.task_core.specs.declared.acts.Act.{Act}
-use Rattle.task_laws.specs.Table.{Outcome, rule}
-use Rattle.task_laws.specs.Machine.{Machine, scene, begins, after, moves, step, run_from}
-use Rattle.task_laws.specs.Event.{Event, is_event}
-use Rattle.task_laws.specs.Laws.{how_often}
+use Rattle.task_progress.proofs.Vocabulary.{Rest, Position, At, Act, Outcome, rule, Machine, scene, begins, after, moves, step, run_from, Event, is_event, how_often}
+use Rattle.task_laws.proofs.Cuts.{get_put as put_there, get_append}
 use Rattle.task_progress.specs.StepsLeft.{total, in_call, steps_left}
 use Rattle.task_progress.specs.Waiting.{next_act}
 use Rattle.task_progress.specs.Ending.{alone, EndsCall, EachEndsAlone, NoCallInProgress, CallsEnd, AllCallsEnd, HasStep, NeverStuck}
@@ -29,9 +23,7 @@ one_left : (p : Position) → in_call p ≤ steps_left p
 one_left p = grind arith
 
 pub get_put : (ps : List Position) (i : ℕ) (p q : Position) (born : List Position) → slice_get ps i ≡ Some p → slice_get (slice_set ps i q ++ born) i ≡ Some q
-get_put [] i p q born e = cc
-get_put (x ∷ ps) zero p q born e = refl
-get_put (x ∷ ps) (suc i) p q born e = get_put ps i p q born e
+get_put ps i p q born e = get_append (slice_set ps i q) born i q (put_there ps i p q e)
 
 -- what the step of a party in a call leaves
 pub record Moved (m : Machine) (i : ℕ) (p : Position) (now : Machine) : Type 0 where
@@ -65,7 +57,7 @@ moves_moved : (m : Machine) (i : ℕ) (act : Act) (at : Option Position) (p : Po
     → MovedTo m i p (moves m i act at)
 moves_moved m i act None p e is busy = tt
 moves_moved m i act (Some q) p e is busy =
-    let same : q ≡ p = cc in rw same (after_moved m i act p (rule (scene m) act p) (e ∙ is) busy ((near (scene m) act p).is))
+    let same : q ≡ p = cc in rw same (after_moved m i act p (rule (scene m) act p) (e ∙ is) busy (near act p (scene m)))
 
 -- a party in a call makes its next act
 pub record Steps (m : Machine) (i : ℕ) (p : Position) : Type 0 where

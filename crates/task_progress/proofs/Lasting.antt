@@ -1,15 +1,8 @@
 -- What no step takes back: a closed task makes no Runnable, and no step in a call makes a wake undue unless the task is over by it.
-use Rattle.std.proofs.Common.{◌≡◌, ℕ, ◌≤◌, Bool, true, false, ◌⊎◌, refl, sym, subst, List, ◌∷◌, ◌++◌, Option, Some, None}
-use Rattle.task_core.specs.Word.{State, is_open}
-use Rattle.task_core.specs.Rows.{found, written}
-use Rattle.task_laws.specs.Event.{Event}
-use Rattle.task_laws.specs.declared.positions.Position.{Position}
-use Rattle.task_core.specs.declared.acts.Act.{Act}
-use Rattle.task_laws.specs.Table.{Scene, Outcome, where_found, rule, goes}
-use Rattle.task_laws.specs.Laws.{wake_is_due}
-use Rattle.task_laws.proofs.Census.{Census, plus, weigh}
-use Rattle.task_laws.proofs.Awaiting.{Awaiting, join, await}
-use Rattle.task_laws.proofs.Scenes.{InEach}
+use Rattle.std.proofs.Common.{◌≡◌, ℕ, ◌≤◌, true, false, ◌⊎◌, List, ◌∷◌, ◌++◌, Option, Some, None}
+use Rattle.task_progress.proofs.Vocabulary.{State, is_open, Event, Position, Act, Scene, Outcome, rule, wake_is_due, Census, plus, weigh, Awaiting, join}
+use Rattle.task_progress.proofs.Vocabulary.{await, rules, InEach, completed, closed, by_flag, Row, wakes_running_waker, wakes_running_lent}
+use Rattle.task_progress.proofs.Vocabulary.{wakes_idle_waker, cancels_idle_awaited, cancels_idle, Shows, by_rows}
 use Rattle.task_progress.specs.StepsLeft.{total, in_call}
 use Rattle.task_progress.proofs.Relied.{Around}
 
@@ -32,22 +25,17 @@ abbrev pub LastingTo : State → List Event → Position → Option Outcome → 
 LastingTo w trace p None = Unit {0}
 LastingTo w trace p (Some left) = Lasting w trace p left
 
-abbrev pub KeepsLasting : Act → Position → Scene → Type 0
-KeepsLasting act p scene = (trace : List Event) (rest : Census) (others : Awaiting) → Around scene.word (plus (weigh p) rest) (join (await 0 p) others)
-    → found scene.limit act scene.word ≡ true → LastingTo scene.word trace p (goes scene (written act scene.word) act p)
+abbrev KeepsLasting : Act → Position → Scene → Option Outcome → Type 0
+KeepsLasting act p scene left = (trace : List Event) (rest : Census) (others : Awaiting) → Around scene.word (plus (weigh p) rest) (join (await 0 p) others)
+    → LastingTo scene.word trace p left
 
-pub no_lasting_row : (act : Act) (p : Position) → ((scene : Scene) (word : State) → goes scene word act p ≡ None) → InEach (KeepsLasting act p)
-no_lasting_row act p none = record {
-  at = λ scene trace rest others around is_found. subst (LastingTo scene.word trace p) (sym (none scene (written act scene.word))) tt;
-}
+lasting_row : (act : Act) (p : Position) (put : Scene → Scene) → Row act p put → InEach (λ scene. Shows KeepsLasting act p (put scene))
+lasting_row _ _ _ wakes_running_waker = by_flag closed (grind rules) (by_flag completed (grind rules) (grind rules))
+lasting_row _ _ _ wakes_running_lent = by_flag closed (grind rules) (by_flag completed (grind rules) (grind rules))
+lasting_row _ _ _ wakes_idle_waker = by_flag closed (grind rules) (grind rules)
+lasting_row _ _ _ (cancels_idle_awaited n) = by_flag closed (grind rules) (grind rules)
+lasting_row _ _ _ (cancels_idle n) = by_flag closed (grind rules) (grind rules)
+lasting_row act p put row = grind rules
 
-if_found : (w : State) (trace : List Event) (p : Position) (is_found : Bool) (left : Option Outcome) → (is_found ≡ true → LastingTo w trace p left)
-    → LastingTo w trace p (where_found is_found left)
-if_found w trace p is_found None kept = tt
-if_found w trace p true (Some left) kept = kept refl
-if_found w trace p false (Some left) kept = tt
-
-pub lasting_by_rule : (act : Act) (p : Position) → InEach (KeepsLasting act p) → (scene : Scene) (trace : List Event) (rest : Census) (others : Awaiting)
-    → Around scene.word (plus (weigh p) rest) (join (await 0 p) others) → LastingTo scene.word trace p (rule scene act p)
-lasting_by_rule act p row scene trace rest others around =
-    if_found scene.word trace p (found scene.limit act scene.word) (goes scene (written act scene.word) act p) (row.at scene trace rest others around)
+pub lasting_by_rule : (act : Act) (p : Position) (scene : Scene) → KeepsLasting act p scene (rule scene act p)
+lasting_by_rule = by_rows KeepsLasting (λ act p scene trace rest others around. tt) lasting_row

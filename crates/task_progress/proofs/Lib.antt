@@ -1,19 +1,15 @@
+pub mod Vocabulary
 pub mod Rows
 pub mod Sums
-pub mod Words
 pub mod Attempts
 pub mod Relied
-pub mod ReliedRows
 pub mod Waits
 pub mod Ending
 pub mod OwnSteps
 pub mod AtRest
 pub mod Lasting
-pub mod LastingRows
 pub mod ComesToRest
 pub mod Seen
-pub mod SeenRows
-pub mod TaskSaw
 pub mod Tables
 mod WorkedAttempts
 mod WorkedRest

@@ -1,34 +1,11 @@
 -- What one party does, whatever the others do.
-use Rattle.std.proofs.Common.{◌≡◌, ℕ, ◌+◌, ◌*◌, ◌≤◌, zero, suc, Bool, true, false, refl, sym, ap, ◌∙◌, subst, List, [], ◌∷◌, ◌++◌, Option, Some, None, arith}
+use Rattle.std.proofs.Common.{◌≡◌, ℕ, ◌+◌, ◌*◌, ◌≤◌, Bool, true, false, refl, sym, ap, ◌∙◌, subst, List, [], ◌∷◌, ◌++◌, Option, Some, None, arith}
 use Rattle.std.specs.Prelude.{if◌then◌else◌, nat_eq, slice_get, slice_set}
-use Rattle.std.proofs.lemmas.Bool.Decides.{nat_tests}
-use Rattle.task_core.specs.Word.{bit}
-use Rattle.task_laws.specs.declared.positions.Position.{Position}
-use Rattle.task_core.specs.declared.acts.Act.{Act}
-use Rattle.task_laws.specs.Table.{Outcome, rule}
-use Rattle.task_laws.specs.Machine.{Machine, Step, scene, begins, after, moves, step, run_from}
-use Rattle.task_laws.specs.Event.{Event}
-use Rattle.task_laws.specs.Laws.{how_often}
+use Rattle.task_progress.proofs.Vocabulary.{bit, Position, Act, Outcome, rule, Machine, Step, scene, begins, after, moves, step, run_from, Event, how_often, get_other, get_append, same_number}
 use Rattle.task_progress.specs.StepsLeft.{steps_left, writes_word, writes_left}
 use Rattle.task_progress.specs.OwnSteps.{begins_at, begun_by, OwnStepsBounded, EachPartyIsBounded}
 use Rattle.task_progress.proofs.Rows.{Nears, NearTo, near}
 use Rattle.task_progress.proofs.Ending.{get_put}
-
-get_other : (ps : List Position) (j i : ℕ) (p q : Position) (born : List Position) → nat_eq j i ≡ false → slice_get ps i ≡ Some p
-    → slice_get (slice_set ps j q ++ born) i ≡ Some p
-get_other [] j i p q born differs e = cc
-get_other (x ∷ ps) zero zero p q born differs e = cc
-get_other (x ∷ ps) zero (suc i) p q born differs e = get_kept ps i p born e
-  where
-    get_kept : (ps : List Position) (i : ℕ) (p : Position) (born : List Position) → slice_get ps i ≡ Some p → slice_get (ps ++ born) i ≡ Some p
-    get_kept [] i p born e = cc
-    get_kept (x ∷ ps) zero p born e = e
-    get_kept (x ∷ ps) (suc i) p born e = get_kept ps i p born e
-get_other (x ∷ ps) (suc j) zero p q born differs e = e
-get_other (x ∷ ps) (suc j) (suc i) p q born differs e = get_other ps j i p q born (let f : nat_eq j i ≡ false = grind (arith, nat_tests) in f) e
-
-same_number : (j i : ℕ) → nat_eq j i ≡ true → j ≡ i
-same_number j i e = grind (arith, nat_tests)
 
 -- one step, as party i sees it; b says whether it is its own
 pub record OneOwn (ps : List Position) (act : Act) (b : Bool) (i : ℕ) (p : Position) (now : List Position) : Type 0 where
@@ -39,7 +16,7 @@ pub record OneOwn (ps : List Position) (act : Act) (b : Bool) (i : ℕ) (p : Pos
 
 one_own : (ps : List Position) (act : Act) (b : Bool) (j i : ℕ) (p q : Position) (o : Outcome) → nat_eq j i ≡ b → slice_get ps i ≡ Some p
     → slice_get ps j ≡ Some q → Nears act q o → OneOwn ps act b i p (slice_set ps j o.next ++ o.born)
-one_own ps act false j i p q o is e f near = record { next = p; at = get_other ps j i p o.next o.born is e; steps = omega arith; writes = omega arith }
+one_own ps act false j i p q o is e f near = record { next = p; at = get_append (slice_set ps j o.next) o.born i p (get_other ps j i o.next is ∙ e); steps = omega arith; writes = omega arith }
 one_own ps act true j i p q o is e f near =
     let one : j ≡ i = same_number j i is in
     let there : slice_get ps i ≡ Some q = ap (slice_get ps) (sym one) ∙ f in
@@ -66,7 +43,7 @@ after_own m s i p q (Some o) e f near = one_own m.parties s.act (nat_eq s.party 
 moves_own : (m : Machine) (s : Step) (i : ℕ) (p : Position) (at : Option Position) → slice_get m.parties i ≡ Some p → slice_get m.parties s.party ≡ at
     → OwnTo m.parties s.act (nat_eq s.party i) i p (moves m s.party s.act at)
 moves_own m s i p None e f = tt
-moves_own m s i p (Some q) e f = after_own m s i p q (rule (scene m) s.act q) e f ((near (scene m) s.act q).is)
+moves_own m s i p (Some q) e f = after_own m s i p q (rule (scene m) s.act q) e f (near s.act q (scene m))
 
 abbrev OwnStepsBoundedTo : Machine → List Step → ℕ → Position → Option Machine → Type 0
 OwnStepsBoundedTo m made i p None = Unit {0}

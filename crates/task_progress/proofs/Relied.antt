@@ -1,15 +1,9 @@
 -- What a party in a call relies on, that no other party takes away: an invariant beside that of the laws.
-use Rattle.std.proofs.Common.{◌≡◌, ℕ, ◌+◌, ◌≤◌, Bool, true, false, ◌⊎◌, refl, sym, subst, List, [], ◌∷◌, Option, Some, None, arith}
+use Rattle.std.proofs.Common.{◌≡◌, ℕ, ◌+◌, ◌≤◌, true, false, ◌⊎◌, List, [], ◌∷◌, Option, Some, None, arith}
 use Rattle.std.specs.Prelude.{if◌then◌else◌}
-use Rattle.task_core.specs.Word.{State, bit, is_open}
-use Rattle.task_core.specs.Rows.{found, written}
-use Rattle.task_laws.specs.declared.positions.Position.{Position}
-use Rattle.task_laws.specs.declared.positions.Position.TheVariants.{SawOutput, OutputCloser, Detacher}
-use Rattle.task_core.specs.declared.acts.Act.{Act}
-use Rattle.task_laws.specs.Table.{Scene, Outcome, where_found, rule, goes}
-use Rattle.task_laws.proofs.Census.{Census, plus, weigh, census, runs, closers}
-use Rattle.task_laws.proofs.Awaiting.{Awaiting, join, await, awaiting}
-use Rattle.task_laws.proofs.Scenes.{InEach}
+use Rattle.task_progress.proofs.Vocabulary.{State, bit, is_open, Position, SawOutput, OutputCloser, Detacher, Act, Scene, Outcome, rule, Census, plus, weigh}
+use Rattle.task_progress.proofs.Vocabulary.{census, runs, closers, Awaiting, join, await, awaiting, rules, InEach, completed, closed, by_flag, Row}
+use Rattle.task_progress.proofs.Vocabulary.{wakes_running_waker, wakes_running_lent, wakes_idle_waker, cancels_idle_awaited, cancels_idle, Shows, by_rows}
 use Rattle.task_progress.specs.StepsLeft.{total}
 
 -- a poll that found the output there; a detach after it closed the task
@@ -51,25 +45,18 @@ abbrev pub ReliedAfter : ℕ → ℕ → Option Outcome → Type 0
 ReliedAfter claimed detached None = Unit {0}
 ReliedAfter claimed detached (Some left) = ReliedOn left.word (total claims (left.next ∷ left.born) + claimed) (total detaches (left.next ∷ left.born) + detached)
 
-abbrev pub KeepsRelied : Act → Position → Scene → Type 0
-KeepsRelied act p scene = (rest : Census) (others : Awaiting) (claimed detached : ℕ) → CountedAsTask rest others claimed detached
-    → Around scene.word (plus (weigh p) rest) (join (await 0 p) others)
-    → ReliedOn scene.word (claims p + claimed) (detaches p + detached) → found scene.limit act scene.word ≡ true
-    → ReliedAfter claimed detached (goes scene (written act scene.word) act p)
+abbrev KeepsRelied : Act → Position → Scene → Option Outcome → Type 0
+KeepsRelied act p scene left = (rest : Census) (others : Awaiting) (claimed detached : ℕ) → CountedAsTask rest others claimed detached
+    → Around scene.word (plus (weigh p) rest) (join (await 0 p) others) → ReliedOn scene.word (claims p + claimed) (detaches p + detached)
+    → ReliedAfter claimed detached left
 
-pub no_relied_row : (act : Act) (p : Position) → ((scene : Scene) (word : State) → goes scene word act p ≡ None) → InEach (KeepsRelied act p)
-no_relied_row act p none = record {
-  at = λ scene rest others claimed detached counted_as_task around relied is_found. subst (ReliedAfter claimed detached) (sym (none scene (written act scene.word))) tt;
-}
+relied_row : (act : Act) (p : Position) (put : Scene → Scene) → Row act p put → InEach (λ scene. Shows KeepsRelied act p (put scene))
+relied_row _ _ _ wakes_running_waker = by_flag closed (grind rules) (by_flag completed (grind rules) (grind rules))
+relied_row _ _ _ wakes_running_lent = by_flag closed (grind rules) (by_flag completed (grind rules) (grind rules))
+relied_row _ _ _ wakes_idle_waker = by_flag closed (grind rules) (grind rules)
+relied_row _ _ _ (cancels_idle_awaited n) = by_flag closed (grind rules) (grind rules)
+relied_row _ _ _ (cancels_idle n) = by_flag closed (grind rules) (grind rules)
+relied_row act p put row = grind rules
 
-if_found : (claimed detached : ℕ) (is_found : Bool) (left : Option Outcome) → (is_found ≡ true → ReliedAfter claimed detached left)
-    → ReliedAfter claimed detached (where_found is_found left)
-if_found claimed detached is_found None kept = tt
-if_found claimed detached true (Some left) kept = kept refl
-if_found claimed detached false (Some left) kept = tt
-
-pub relied_by_rule : (act : Act) (p : Position) → InEach (KeepsRelied act p) → (scene : Scene) (rest : Census) (others : Awaiting) (claimed detached : ℕ)
-    → CountedAsTask rest others claimed detached → Around scene.word (plus (weigh p) rest) (join (await 0 p) others)
-    → ReliedOn scene.word (claims p + claimed) (detaches p + detached) → ReliedAfter claimed detached (rule scene act p)
-relied_by_rule act p row scene rest others claimed detached counted_as_task around relied =
-    if_found claimed detached (found scene.limit act scene.word) (goes scene (written act scene.word) act p) (row.at scene rest others claimed detached counted_as_task around relied)
+pub relied_by_rule : (act : Act) (p : Position) (scene : Scene) → KeepsRelied act p scene (rule scene act p)
+relied_by_rule = by_rows KeepsRelied (λ act p scene rest others claimed detached counted_as_task around relied. tt) relied_row

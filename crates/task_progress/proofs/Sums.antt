@@ -1,13 +1,7 @@
 -- Sums over the parties, and the bound on the steps of a list.
 use Rattle.std.proofs.Common.{◌≡◌, ℕ, Bool, subst, ◌+◌, ◌*◌, ◌≤◌, zero, suc, List, [], ◌∷◌, ◌++◌, Option, Some, None, refl, arith}
 use Rattle.std.specs.Prelude.{slice_get, slice_set}
-use Rattle.task_laws.specs.Event.{Event}
-use Rattle.task_laws.specs.declared.positions.Position.{Position}
-use Rattle.task_laws.specs.Table.{Outcome, rule}
-use Rattle.task_laws.specs.Machine.{Machine, Step, scene, begins, after, moves, step, run_from}
-use Rattle.task_laws.specs.Event.{is_event}
-use Rattle.task_laws.specs.Laws.{count, is_call_end}
-use Rattle.task_laws.proofs.WholeRuns.{count-append}
+use Rattle.task_progress.proofs.Vocabulary.{Event, is_event, Position, Outcome, rule, Machine, Step, scene, begins, after, moves, step, run_from, count, is_call_end, count-append}
 use Rattle.task_progress.specs.StepsLeft.{total, in_call, steps_left, writes_left, BoundedByCalls, StepsAreBounded, OpenCallsBoundSteps}
 use Rattle.task_progress.proofs.Rows.{NearTo, near}
 
@@ -44,7 +38,7 @@ after_bounded m s p (Some o) e near = record {
 
 moves_bounded : (m : Machine) (s : Step) (at : Option Position) → slice_get m.parties s.party ≡ at → BoundedByCallsTo m (s ∷ []) (moves m s.party s.act at)
 moves_bounded m s None e = tt
-moves_bounded m s (Some p) e = after_bounded m s p (rule (scene m) s.act p) e ((near (scene m) s.act p).is)
+moves_bounded m s (Some p) e = after_bounded m s p (rule (scene m) s.act p) e (near s.act p (scene m))
 
 adds : (m : Machine) (s : Step) (now : Machine) (steps : List Step) (last : Option Machine) → BoundedByCalls m (s ∷ []) now → BoundedByCallsTo now steps last
     → BoundedByCallsTo m (s ∷ steps) last

@@ -1,16 +1,8 @@
 -- Tables of moves: the machine's own progresses, and two that differ from it in one row do not.
 use Rattle.std.proofs.Common.{◌≡◌, ℕ, zero, suc, ◌+◌, ◌≤◌, ◌∙◌, Bool, true, false, List, [], ◌∷◌, length, Option, Some, None, refl, sym, ap, subst, arith}
 use Rattle.std.specs.Prelude.{not, is_some, slice_get}
-use Rattle.task_laws.specs.declared.positions.Position.{Position}
-use Rattle.task_laws.specs.declared.positions.Position.TheVariants.{At, Notifier}
-use Rattle.task_laws.specs.declared.positions.NotifyingCall.TheVariants.{OfDrop}
-use Rattle.task_core.specs.declared.acts.Act.{Act}
-use Rattle.task_core.specs.declared.acts.Act.TheVariants.{DiscardOpen, MissNotify, BeginNotify, FindNotify, BeginRegister, EndRegister, Look, DropFuture, CloneAwaiter, StoreAwaiter, Unschedule, EndCall}
-use Rattle.task_laws.specs.Table.{Scene, Outcome, where_found, rule}
-use Rattle.task_laws.specs.Machine.{Machine, Step, opening, scene, begins, after, moves, step, run_from, run}
-use Rattle.task_laws.specs.Event.{Event}
-use Rattle.task_laws.specs.Laws.{how_often}
-use Rattle.task_laws.proofs.Theorem.{laws_hold}
+use Rattle.task_progress.proofs.Vocabulary.{Position, At, Notifier, OfDrop, Act, DiscardOpen, MissNotify, BeginNotify, FindNotify, BeginRegister, EndRegister, Look, DropFuture, CloneAwaiter, StoreAwaiter, Unschedule}
+use Rattle.task_progress.proofs.Vocabulary.{EndCall, Scene, Outcome, where_found, rule, Machine, Step, opening, scene, begins, after, moves, step, run_from, run, Event, how_often, laws_hold}
 use Rattle.task_progress.specs.StepsLeft.{total, in_call, steps_left}
 use Rattle.task_progress.specs.Waiting.{next_act}
 use Rattle.task_progress.specs.Ending.{alone}
@@ -42,7 +34,7 @@ none_begun p e = refl
 
 own_falls : FallsBy rule steps_left
 own_falls s act p o calls e =
-    let nears : NearTo act p (Some o) = subst (NearTo act p) e (near s act p).is in
+    let nears : NearTo act p (Some o) = subst (NearTo act p) e (near act p s) in
     omega (arith, nears.own_steps, none_begun p calls)
 
 own_acts : EachHasAct rule

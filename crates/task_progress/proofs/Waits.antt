@@ -1,25 +1,12 @@
 -- A party in a call may make its next act.
 use Rattle.std.proofs.Common.{◌≡◌, ℕ, ◌+◌, ◌⊎◌, zero, suc, true, false, refl, sym, subst, List, [], ◌∷◌, ◌++◌, Option, Some, None, arith}
 use Rattle.std.specs.Prelude.{is_some, slice_get, slice_set}
-use Rattle.task_core.specs.Word.{State}
-use Rattle.task_laws.specs.declared.positions.WithoutPoll.TheVariants.{ClosedRun, DroppedRunnable}
-use Rattle.task_laws.specs.declared.positions.Position.{Position}
-use Rattle.task_laws.specs.declared.positions.Position.TheVariants.{At, CallEnding, Deliverer, Starting, Polling, Pending, Ready, ReadyFutureDropped, OutputStored, PendingFutureDropped, FutureInHand, FutureGone, OutputInHand, GivingUp, Emptier, Notifier, Taker, Releaser, AwaiterInHand, OrphanHolder, Registrar, HasClone, UnusedClone, Storing, Registered, TookBack, CloneInHand, Looking, SawOutput, TookOutput, OldAwaiterInHand, Answering, OutputCloser, Detacher}
-use Rattle.task_core.specs.declared.acts.Act.{Act}
-use Rattle.task_laws.specs.Table.{Slots, Scene, Outcome, rule}
-use Rattle.task_laws.specs.Machine.{Machine, Step, opening, scene, after, moves, step, run_from, run}
-use Rattle.task_laws.specs.Event.{Event}
-use Rattle.task_laws.proofs.Census.{Census, plus, weigh, census, runs, closers}
-use Rattle.task_laws.proofs.Awaiting.{Awaiting, await, awaiting}
-use Rattle.task_laws.proofs.Invariant.{Holds}
-use Rattle.task_laws.proofs.Handshake.{HandshakeHolds}
-use Rattle.task_laws.proofs.Runs.{Invariant, Stays, moves_stays, opens, others, split, split_awaiting}
-use Rattle.task_laws.proofs.Scenes.{rules, InEach, task, scheduled, completed, closed, notifying, registering, by_flag}
+use Rattle.task_progress.proofs.Vocabulary.{State, ClosedRun, Position, Pending, OutputStored, PendingFutureDropped, FutureInHand, FutureGone, GivingUp, Notifier, HasClone, Registered, TookBack, SawOutput}
+use Rattle.task_progress.proofs.Vocabulary.{Detacher, Act, Slots, Scene, Outcome, rule, Machine, Step, opening, scene, after, moves, step, run_from, run, Event, Census, plus, weigh, census, runs, closers, Awaiting, await, awaiting, Holds, HandshakeHolds, Invariant, Stays, moves_stays, opens, others, split, split_awaiting, rules, InEach, task, scheduled, completed, closed, notifying, registering, by_flag}
 use Rattle.task_progress.specs.StepsLeft.{total, in_call}
 use Rattle.task_progress.specs.Waiting.{next_act, NoCallWaits}
 use Rattle.task_progress.proofs.Sums.{total_put}
 use Rattle.task_progress.proofs.Relied.{claims, detaches, ReliedOn, Around, counted_as_task, ReliedAfter, relied_by_rule}
-use Rattle.task_progress.proofs.ReliedRows.{every_relied_row}
 
 pub around : (limit : ℕ) (w : State) (slots : Slots) (t : List Event) (c : Census) (b : Awaiting) → Holds limit w slots t c → HandshakeHolds 0 w slots t b
     → Around w c b
@@ -72,7 +59,7 @@ moves_relied m i act (Some p) e h holds =
     let k1 = subst (HandshakeHolds 0 m.word m.slots m.trace) (split_awaiting 0 m.parties i p e) (h.holds.shakes 0) in
     let relied = relied_at m.word _ _ _ _ (total_split claims m.parties i p e) (total_split detaches m.parties i p e) h.relied in
     after_relied m i p (rule (scene m) act p) e holds
-    (relied_by_rule act p (every_relied_row act p) (scene m) (census (others m.parties i)) (awaiting 0 (others m.parties i)) _ _ (counted_as_task (others m.parties i)) (around m.limit m.word m.slots m.trace _ _ h1 k1) relied)
+    (relied_by_rule act p (scene m) (census (others m.parties i)) (awaiting 0 (others m.parties i)) _ _ (counted_as_task (others m.parties i)) (around m.limit m.word m.slots m.trace _ _ h1 k1) relied)
 
 pub step_in_order : (m : Machine) (s : Step) → InOrder m → StaysInOrder (step m s)
 step_in_order m s h = moves_relied m s.party s.act (slice_get m.parties s.party) refl h (moves_stays m s.party s.act (slice_get m.parties s.party) refl h.holds)
@@ -98,42 +85,19 @@ Makes p scene = (rest : Census) (back claimed detached : ℕ)
     → in_call p ≡ 1 → is_some (rule scene (next_act scene.word p) p) ≡ true
 
 makes_row : (p : Position) → InEach (Makes p)
-makes_row (At r) = grind rules
-makes_row (CallEnding answer r) = grind rules
-makes_row (Deliverer woken next) = grind rules
-makes_row Starting = grind rules
-makes_row Polling = grind rules
 makes_row Pending = by_flag closed (grind rules) (by_flag scheduled (grind rules) (by_flag task (grind rules) (grind rules)))
-makes_row Ready = grind rules
-makes_row ReadyFutureDropped = grind rules
 makes_row OutputStored = by_flag task (grind rules) (grind rules)
 makes_row PendingFutureDropped = by_flag closed (grind rules) (grind rules)
 makes_row (FutureInHand ClosedRun) = grind rules
-makes_row (FutureInHand DroppedRunnable) = grind rules
 makes_row (FutureGone ClosedRun) = grind rules
-makes_row (FutureGone DroppedRunnable) = grind rules
-makes_row (OutputInHand due) = grind rules
 makes_row (GivingUp hand answer) = by_flag task (grind rules) (grind rules)
-makes_row (Emptier hand answer) = grind rules
 makes_row (Notifier way) = by_flag notifying (by_flag registering (grind rules) (grind rules)) (by_flag registering (grind rules) (grind rules))
-makes_row (Taker way) = grind rules
-makes_row (Releaser hand way) = grind rules
-makes_row (AwaiterInHand i way) = grind rules
-makes_row OrphanHolder = grind rules
-makes_row (Registrar i) = grind rules
 makes_row (HasClone i) = by_flag notifying (grind rules) (grind rules)
-makes_row (UnusedClone i) = grind rules
-makes_row (Storing i) = grind rules
-makes_row (OldAwaiterInHand i old) = grind rules
 makes_row (Registered i) = by_flag notifying (grind rules) (grind rules)
 makes_row (TookBack i) = by_flag notifying (grind rules) (grind rules)
-makes_row (CloneInHand i) = grind rules
-makes_row (Looking i) = grind rules
 makes_row (SawOutput i) = by_flag completed (by_flag closed (grind rules) (grind rules)) (by_flag closed (grind rules) (grind rules))
-makes_row (TookOutput i) = grind rules
-makes_row (Answering i answer) = grind rules
-makes_row OutputCloser = grind rules
 makes_row Detacher = by_flag closed (by_flag completed (grind rules) (grind rules)) (grind rules)
+makes_row p = grind rules
 
 some_after : (m : Machine) (i : ℕ) (p : Position) (o : Option Outcome) → is_some o ≡ true → is_some (after m i p o) ≡ true
 some_after m i p None e = cc

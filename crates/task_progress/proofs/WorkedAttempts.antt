@@ -1,7 +1,6 @@
 -- Attempts that are allowed, and some that are not.
 use Rattle.std.specs.Prelude.{◌≡◌, ℕ, true, false, List, [], ◌∷◌, ◌++◌, Some, None, is_some, refl}
-use Rattle.task_core.specs.declared.acts.Act.TheVariants.{GainReference, DropWaker, CancelBusy, TakeUpClosed, EndCall}
-use Rattle.task_laws.specs.Machine.{opening}
+use Rattle.task_progress.proofs.Vocabulary.{GainReference, DropWaker, CancelBusy, TakeUpClosed, EndCall, opening}
 use Rattle.task_progress.specs.Attempts.{Attempt, Looks, Makes, Misses, WithSeen, attempts_from, misses_of}
 
 -- the Runnable has looked; the Task closes the task; the run's exchange misses, and then finds the task closed

@@ -1,9 +1,7 @@
 -- An open task at rest without a waker, computed: its future kept none, and its Task is all that is left.
 use Rattle.std.specs.Prelude.{◌≡◌, Bool, true, false, ◌&&◌, nat_eq, List, [], ◌∷◌, Option, Some, None, refl}
-use Rattle.task_core.specs.Word.{is_open, number_of}
-use Rattle.task_core.specs.declared.acts.Act.TheVariants.{StartRun, StartPoll, AnswerPending, EndIdle, EndCall}
-use Rattle.task_laws.specs.Machine.{Machine, Step, run, how_many}
-use Rattle.task_laws.specs.Holders.{is_waker}
+use Rattle.task_progress.proofs.Vocabulary.{is_open, number_of, StartRun, StartPoll, AnswerPending, EndIdle, EndCall, Machine, Step, run, how_many}
+use Rattle.task_progress.proofs.Vocabulary.{is_waker}
 use Rattle.task_progress.specs.StepsLeft.{total, in_call}
 use Rattle.task_progress.specs.Ending.{alone}
 use Rattle.task_progress.specs.AtRest.{is_runnable}

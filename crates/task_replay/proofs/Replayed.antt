@@ -55,7 +55,7 @@ after_at m i p (Some o) modest = ap (λ born. Some (record { limit = m.limit; wo
 
 moves_at : (m : Machine) (i : ℕ) (act : Act) (at : Option Position) (p : Position) → at ≡ Some p → stands (moves m i act at) ≡ left_at (standing m) i (effect_of (rule (scene m) act p))
 moves_at m i act None p e = cc
-moves_at m i act (Some q) p e = let same : q ≡ p = cc in rw same (after_at m i p (rule (scene m) act p) (modest (scene m) act p))
+moves_at m i act (Some q) p e = let same : q ≡ p = cc in rw same (after_at m i p (rule (scene m) act p) (modest act p (scene m)))
 
 pub steps_at : (m : Machine) (s : Step) (now : Standing) (p : Position) → standing m ≡ now → slice_get now.parties s.party ≡ Some p → stands (step m s) ≡ left_at now s.party (effect_of (rule (scene_at now) s.act p))
 steps_at m s now p e at = subst (λ (n : Standing). slice_get n.parties s.party ≡ Some p → stands (step m s) ≡ left_at n s.party (effect_of (rule (scene_at n) s.act p))) e (λ (h : slice_get m.parties s.party ≡ Some p). moves_at m s.party s.act (slice_get m.parties s.party) p h) at
@@ -115,7 +115,7 @@ after_bounded limit m i n p (Some o) modest bound = (bound.0, omega (arith, boun
 
 moves_bounded : (limit : ℕ) (m : Machine) (i n : ℕ) (act : Act) (at : Option Position) → Bounded limit (Some m) n → Bounded limit (moves m i act at) (n + 1)
 moves_bounded limit m i n act None bound = tt
-moves_bounded limit m i n act (Some p) bound = after_bounded limit m i n p (rule (scene m) act p) (modest (scene m) act p) bound
+moves_bounded limit m i n act (Some p) bound = after_bounded limit m i n p (rule (scene m) act p) (modest act p (scene m)) bound
 
 run_bounded : (limit : ℕ) (o : Option Machine) (n : ℕ) (steps : List Step) → Bounded limit o n → Bounded limit (run_from o steps) (n + length steps)
 run_bounded limit None n [] bound = tt

@@ -1,30 +1,23 @@
 -- Acts of one party in a row, with nothing of another party between.
 use Rattle.std.proofs.Common.{◌≡◌, ℕ, ◌+◌, ◌<◌, Bool, true, false, not, ◌&&◌, ◌||◌, cond, Option, Some, None, List, [], ◌∷◌, ◌++◌, length, map, set, sym, refl, ap, ◌∙◌, subst, arith, append-nil, append_assoc}
-use Rattle.task_core.specs.Word.{State, bit, is_open}
-use Rattle.task_laws.specs.Event.{Event}
-use Rattle.task_laws.specs.declared.positions.Position.{Position}
-use Rattle.task_core.specs.declared.acts.Act.{Act}
-use Rattle.task_core.specs.declared.acts.Act.TheVariants.{GainReference, WakeIdle, WakeOver, WakeRunning, WakeScheduled}
-use Rattle.task_laws.specs.declared.positions.Position.TheVariants.{At}
-use Rattle.task_laws.specs.declared.positions.Rest.TheVariants.{Lent}
-use Rattle.task_core.specs.Rows.{found, written, row}
-use Rattle.task_laws.specs.Table.{Slots, Scene, Outcome, when, is_held, leaves_slots, goes, rule}
-use Rattle.task_laws.specs.Machine.{Machine, begins, scene, how_many}
-use Rattle.task_laws.specs.Event.{is_event}
-use Rattle.task_laws.specs.Laws.{how_often, count}
-use Rattle.task_steps.specs.declared.table.Deed.{Deed}
-use Rattle.task_steps.specs.declared.table.Member.{Member}
-use Rattle.task_steps.specs.declared.table.View.{View}
+use Rattle.task_steps.proofs.Vocabulary.{State, bit, is_open, Event, is_event, Position, Act, GainReference, WakeIdle, WakeOver, WakeRunning, WakeScheduled, At, Lent, found, written, row, Slots, Scene, Outcome, when, where_found, is_held, leaves_slots}
+use Rattle.task_steps.proofs.Vocabulary.{goes, rule, Machine, begins, scene, how_many, how_often, rule_word, Deed, Member, View, count-append}
 use Rattle.task_steps.specs.Rule.{deed, member, view, fresh, found_by, Entry, Explains}
 use Rattle.task_steps.specs.Steps.{then_leaves, and_then, spot, is_lent, held_word, leaves_by, all_fit, noted}
 use Rattle.task_steps.proofs.Explains.{tells, next_machine}
-use Rattle.task_steps.proofs.Facts.{many_next}
-use Rattle.task_steps.proofs.Written.{found_is, found_so, rule_word}
+use Rattle.task_steps.proofs.Facts.{many_append, many_next, allowed_row}
+use Rattle.task_steps.proofs.Written.{found_is, found_so}
 
 -- what acts in a row leave where each row finds its word
 abbrev pub leads : Scene → List Act → Position → Option Outcome
 leads s [] p = Some (leaves_slots s s.word p [] [])
 leads s (a ∷ more) p = and_then (rule s a p) (λ o. leads (spot s.limit o.word o.slots) more o.next)
+
+-- .. the first of several acts, where the word found is its row's
+pub leads_first : (s : Scene) (a : Act) (more : List Act) (p : Position) (o : Outcome) → found s.limit a s.word ≡ true → goes s (written a s.word) a p ≡ Some o
+    → leads s (a ∷ more) p ≡ then_leaves o (leads (spot s.limit o.word o.slots) more o.next)
+leads_first s a more p o f g = ap (λ x. and_then (where_found (found s.limit a s.word) x) (λ o. leads (spot s.limit o.word o.slots) more o.next)) g
+    ∙ ap (λ x. and_then x (λ o. leads (spot s.limit o.word o.slots) more o.next)) (allowed_row (found s.limit a s.word) o f)
 
 when_so : (b : Bool) (x o : Outcome) → when b x ≡ Some o → Some x ≡ Some o
 when_so true x o e = e
@@ -102,14 +95,6 @@ leads_fit s (a ∷ more) p o e = let j = joined (rule s a p) (λ o. leads (spot 
     both (found s.limit a s.word) (all_fit s.limit (written a s.word) more) (found_is (found s.limit a s.word) (goes s (written a s.word) a p) j.first j.one).0
     (subst (λ (w : State). all_fit s.limit w more ≡ true) (rule_word s a p j.first j.one) (leads_fit (spot s.limit j.first.word j.first.slots) more j.first.next j.second j.two))
 
-pub count_append : (f : Event → Bool) (s t : List Event) → count f (s ++ t) ≡ count f s + count f t
-count_append f [] t = omega arith
-count_append f (e ∷ s) t = let h = count_append f s t in omega arith
-
-pub many_append : (f : Position → Bool) (s t : List Position) → how_many f (s ++ t) ≡ how_many f s + how_many f t
-many_append f [] t = omega arith
-many_append f (e ∷ s) t = let h = many_append f s t in omega arith
-
 begins_quietly : (p : Position) → how_often Event.Empties (begins p) ≡ 0
 begins_quietly (At r) = omega arith
 begins_quietly _ = refl
@@ -159,5 +144,5 @@ follows limit views seat l (a ∷ more) p ds us log m o t lt e = let j = joined 
       slots_is = rec.slots_is;
       limit_is = rec.limit_is;
       counts = λ f. let c1 = rec.counts f in let c2 = many_next f m.parties x.0 p o1.next o1.born x.1 in omega (arith, many_append f o1.born o2.born);
-      emptied = let c1 = rec.emptied in omega (arith, count_append (is_event Event.Empties) o2.told o1.told, count_append (is_event Event.Empties) o1.told (begins p ++ m.trace), count_append (is_event Event.Empties) (begins p) m.trace, begins_quietly p);
+      emptied = let c1 = rec.emptied in omega (arith, count-append (is_event Event.Empties) o2.told o1.told, count-append (is_event Event.Empties) o1.told (begins p ++ m.trace), count-append (is_event Event.Empties) (begins p) m.trace, begins_quietly p);
     })

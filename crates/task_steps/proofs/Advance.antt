@@ -1,23 +1,11 @@
 -- What a step of a party owes: the interleaving, and the places that it takes and gives back.
-use Rattle.std.proofs.Common.{◌≡◌, ℕ, ◌+◌, ◌<◌, ◌≤◌, ◌≢◌, Bool, true, false, Some, List, ◌∷◌, length, get_or, set, sym, refl, ap, ◌∙◌, subst, ◌⊎◌, ⊎_elim, arith, length-set}
+use Rattle.std.proofs.Common.{◌≡◌, ℕ, ◌+◌, ◌<◌, ◌≤◌, ◌≢◌, Bool, true, false, Some, List, ◌∷◌, length, get_or, set, sym, refl, ap, ◌∙◌, subst, ◌⊎◌, ⊎_elim, inr, arith, length-set}
 use mathlib.Core.Option.{some, none, some-injective, some-ne-none}
 use mathlib.Core.Option as maybe
 use lib.ListN.{get_elem?}
 use Rattle.atomic_table.specs.Table.{State as Board, Me, Act as Move, keeps, takes, gives, chain, stepped, homes_after, carried_after, Valid, rest}
 use Rattle.atomic_table.proofs.Lists as lists
-use Rattle.task_core.specs.Word.{bit, number_of, is_open}
-use Rattle.task_laws.specs.declared.positions.Position.{Position}
-use Rattle.task_core.specs.declared.acts.Act.{Act}
-use Rattle.task_laws.specs.Table.{Outcome}
-use Rattle.task_laws.specs.Machine.{Machine, scene, how_many}
-use Rattle.task_laws.specs.Event.{Event}
-use Rattle.task_laws.specs.Laws.{how_often}
-use Rattle.task_laws.specs.Holders.{owns_awaiter}
-use Rattle.task_laws.proofs.Runs.{Invariant}
-use Rattle.task_steps.specs.declared.table.Slot.{Slot}
-use Rattle.task_steps.specs.declared.table.Deed.{Deed}
-use Rattle.task_steps.specs.declared.table.Member.{Member}
-use Rattle.task_steps.specs.declared.table.View.{View}
+use Rattle.task_steps.proofs.Vocabulary.{bit, number_of, is_open, Position, Act, Slots, Outcome, Machine, scene, how_many, Event, how_often, owns_awaiter, Invariant, Slot, Deed, Member, View}
 use Rattle.task_steps.specs.PollScripts.{has_ended}
 use Rattle.task_steps.specs.Rule.{has_work, IsFuture, IsOutput, Waits, AtHome, HomesAgree, RuleHolds}
 use Rattle.task_steps.specs.Steps.{future_first, output_first, TakesFuture, TakesOutput, Works, Awaits, Carries, Carried, saw_over, saw_closed, saw_ended}
@@ -29,6 +17,16 @@ SameWork m o = (o.slots.future ≡ m.slots.future) × (o.slots.output ≡ m.slot
 
 abbrev pub SameAwaiter : Machine → Outcome → Type 0
 SameAwaiter m o = (o.slots.awaiter ≡ m.slots.awaiter) × (how_often Event.Empties o.told ≡ 0)
+
+-- the step takes no place of the table, and gives none back
+abbrev PlacesSeen : Type 0
+PlacesSeen = Bool × Bool × Slots × ℕ × ℕ × ℕ
+
+abbrev places_before : Machine → Position → PlacesSeen
+places_before m p = (has_work p, owns_awaiter p, m.slots, 0, 0, 0)
+
+abbrev places_after : Outcome → PlacesSeen
+places_after o = (has_work o.next, owns_awaiter o.next, o.slots, how_often Event.Empties o.told, how_many has_work o.born, how_many owns_awaiter o.born)
 
 module _ {F T A : Type 0} where
   -- the party has the places of future and output in front, with these values
@@ -51,6 +49,15 @@ module _ {F T A : Type 0} where
     pub writes : new ≡ number_of outcome.word
     pub idle : (how_many has_work outcome.born ≡ 0) × (how_many owns_awaiter outcome.born ≡ 0)
     pub placing : Placing m p outcome l
+
+  pub keeps_places : {m : Machine} {p : Position} {acts : List Act} {new : ℕ} {l : List (ℕ × Slot F T A)} (o : Outcome) → leads (scene m) acts p ≡ Some o → new ≡ number_of o.word → places_after o ≡ places_before m p → Steps m p acts new l
+  keeps_places o leads_to writes same = record {
+    outcome = o;
+    leads_to = leads_to;
+    writes = writes;
+    idle = (λ i. (same i).4, λ i. (same i).5);
+    placing = stays (λ i. (same i).0) (λ i. (same i).1) (inr (λ i. (same i).2.future, λ i. (same i).2.output)) (inr (λ i. (same i).2.awaiter, λ i. (same i).3));
+  }
 
 -- what a party may use of the machine that it finds: its invariant, where it stands itself, what it has seen, and where the other parties of its seat stand
 pub record Finds (limit : ℕ) (p : Position) (ds : List Deed) (us : List Member) (m : Machine) : Type 0 where

@@ -5,22 +5,7 @@ use mathlib.Core.Option as maybe
 use lib.ListN.{get_elem?}
 use Rattle.atomic_table.specs.Table.{State as Board, Me, homes_after, carried_after, Allows}
 use Rattle.atomic_table.proofs.Lists as lists
-use Rattle.task_core.specs.Word.{State, state_of, number_of}
-use Rattle.task_laws.specs.declared.positions.Position.{Position}
-use Rattle.task_laws.specs.declared.positions.Position.TheVariants.{At}
-use Rattle.task_laws.specs.declared.positions.Rest.TheVariants.{Runnable}
-use Rattle.task_core.specs.declared.acts.Act.{Act}
-use Rattle.task_laws.specs.Table.{Outcome}
-use Rattle.task_laws.specs.Machine.{Machine, scene, how_many}
-use Rattle.task_laws.specs.Holders.{owns_awaiter}
-use Rattle.task_core.proofs.Bits.{state_of_number_of}
-use Rattle.task_laws.proofs.Theorem.{laws_of}
-use Rattle.task_steps.specs.declared.table.Slot.{Slot}
-use Rattle.task_steps.specs.declared.table.Deed.{Deed}
-use Rattle.task_steps.specs.declared.table.Member.{Member}
-use Rattle.task_steps.specs.declared.table.Stage.{Stage}
-use Rattle.task_steps.specs.declared.table.Stage.TheVariants.{Laid, Filling, Spawned}
-use Rattle.task_steps.specs.declared.table.View.{View}
+use Rattle.task_steps.proofs.Vocabulary.{State, state_of, number_of, Position, At, Runnable, Act, Outcome, Machine, scene, how_many, owns_awaiter, state_of_number_of, laws_of, Slot, Deed, Member, Stage, Laid, Filling, Spawned, View}
 use Rattle.task_steps.specs.Rule.{member, view, fresh, opening_at, Entry, Explains, has_work, AtHome, IsEmpty, Unfilled, Running, RuleHolds}
 use Rattle.task_steps.specs.Steps.{head_of, leaves_by, all_fit, noted, acted, next_of, born_of, Carried, Makes}
 use Rattle.task_steps.proofs.Explains.{inside}

@@ -4,16 +4,7 @@ use mathlib.Core.Option.{none, some}
 use lib.ListN.{get_elem?}
 use Rattle.atomic_table.specs.Table.{State as Board, Me, keeps, step, homes_after, carried_after}
 use Rattle.atomic_table.proofs.Lists as lists
-use Rattle.task_core.specs.Word.{State, bit, state_of, number_of}
-use Rattle.task_core.proofs.Bits.{state_of_number_of}
-use Rattle.task_laws.specs.declared.positions.Position.{Position}
-use Rattle.task_core.specs.declared.acts.Act.{Act}
-use Rattle.task_laws.specs.Machine.{Machine}
-use Rattle.task_steps.specs.declared.table.Slot.{Slot}
-use Rattle.task_steps.specs.declared.table.Deed.{Deed}
-use Rattle.task_steps.specs.declared.table.Tries.{Tries}
-use Rattle.task_steps.specs.declared.table.Member.{Member}
-use Rattle.task_steps.specs.declared.table.View.{View}
+use Rattle.task_steps.proofs.Vocabulary.{State, bit, state_of, number_of, state_of_number_of, Position, Act, Machine, Slot, Deed, Tries, Member, View}
 use Rattle.task_steps.specs.Rule.{view, member, trying, differ, Entry, Tried, Explains, RuleHolds}
 use Rattle.task_steps.specs.Steps.{Makes}
 use Rattle.task_steps.specs.Knows.{Knows}

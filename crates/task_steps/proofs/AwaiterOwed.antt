@@ -3,83 +3,44 @@ use Rattle.std.proofs.Common.{◌≡◌, ℕ, ◌+◌, ◌≤◌, Bool, true, fa
 use Rattle.std.specs.Prelude.{bit_and, bit_or, if◌then◌else◌}
 use Rattle.std.proofs.lemmas.Bool.Decides.{nat_tests}
 use Rattle.atomic_table.specs.Table.{rest}
-use Rattle.task_core.specs.Word.{State, state_of, number_of}
-use Rattle.task_laws.specs.Event.{Event, CallEnds, CloneEnded, Woken}
-use Rattle.task_laws.specs.declared.positions.Answer.{Answer}
-use Rattle.task_laws.specs.declared.positions.Rest.{Rest}
-use Rattle.task_laws.specs.declared.positions.NotifyingCall.{NotifyingCall}
-use Rattle.task_laws.specs.declared.positions.NotifyingCall.TheVariants.{OfRun, OfDrop, OfCancel, OfPoll, OfClaim}
-use Rattle.task_laws.specs.declared.positions.Position.TheVariants.{At, CallEnding, Notifier, Releaser, AwaiterInHand}
-use Rattle.task_core.specs.declared.acts.Act.TheVariants.{MissNotify, BeginNotify, TakeAwaiter}
-use Rattle.task_laws.specs.Table.{Slots, leaves_slots, changes_slots, after_taking, after_waking, may_drop}
-use Rattle.task_laws.specs.Machine.{scene}
-use Rattle.task_laws.specs.Laws.{how_often}
-use Rattle.task_laws.specs.Holders.{owns_awaiter}
-use Rattle.task_laws.proofs.Census.{Census, census, weigh, plus}
-use Rattle.task_laws.proofs.Awaiting.{Awaiting, await, awaiting}
-use Rattle.task_laws.proofs.Invariant.{Holds}
-use Rattle.task_core.proofs.Bits.{state_of_number_of, fetch_or-notifying, fetch_and-awaiter_notifying}
-use Rattle.task_steps.specs.declared.table.Slot.{Slot}
-use Rattle.task_steps.specs.declared.table.Deed.{Deed}
-use Rattle.task_steps.specs.declared.table.Member.{Member}
+use Rattle.task_steps.proofs.Vocabulary.{State, state_of, number_of, Event, CallEnds, CloneEnded, Woken, Answer, Rest, NotifyingCall, OfRun, OfDrop, OfCancel, OfPoll, OfClaim, At, CallEnding, Notifier, Releaser}
+use Rattle.task_steps.proofs.Vocabulary.{AwaiterInHand, MissNotify, BeginNotify, TakeAwaiter, Slots, leaves_slots, changes_slots, after_taking, after_waking, may_drop, scene, how_often, owns_awaiter, Census}
+use Rattle.task_steps.proofs.Vocabulary.{census, weigh, plus, Awaiting, await, awaiting, Holds, state_of_number_of, fetch_or-notifying, fetch_and-awaiter_notifying, Slot, Deed, Member}
 use Rattle.task_steps.specs.Rule.{has_work, IsEmpty, Waits}
 use Rattle.task_steps.specs.Scripts.{ending, taking_awaiter, releasing_awaiter, waking, dropping}
 use Rattle.task_steps.proofs.Bools.{never}
-use Rattle.task_steps.proofs.Leads.{leads_first, counted, releasing_at}
-use Rattle.task_steps.proofs.Advance.{stays, takes_awaiter, gives_awaiter, Steps}
+use Rattle.task_steps.proofs.Facts.{counted, counted_awaiting}
+use Rattle.task_steps.proofs.Acts.{leads_first}
+use Rattle.task_steps.proofs.Advance.{stays, takes_awaiter, gives_awaiter, Steps, keeps_places}
 use Rattle.task_steps.proofs.Allowed.{Owes}
 
 -- what a way leaves of the places
 off_work : (i : ℕ) (way : NotifyingCall) → has_work (after_waking way) ≡ has_work (AwaiterInHand i way)
 off_work i OfRun = refl
-off_work i OfDrop = refl
-off_work i (OfCancel n) = refl
-off_work i (OfPoll n) = refl
-off_work i (OfClaim n) = refl
+off_work i way = refl
 
 off_free : (way : NotifyingCall) → owns_awaiter (after_waking way) ≡ false
 off_free OfRun = refl
-off_free OfDrop = refl
-off_free (OfCancel n) = refl
-off_free (OfPoll n) = refl
-off_free (OfClaim n) = refl
+off_free way = refl
 
 pub on_work : (hand : Option ℕ) (way : NotifyingCall) → has_work (after_taking hand way) ≡ has_work (Notifier way)
-on_work hand OfRun = refl
-on_work (Some i) OfDrop = refl
-on_work None OfDrop = refl
-on_work (Some i) (OfCancel n) = refl
-on_work None (OfCancel n) = refl
-on_work (Some i) (OfPoll n) = refl
-on_work None (OfPoll n) = refl
-on_work (Some i) (OfClaim n) = refl
-on_work None (OfClaim n) = refl
+on_work None OfRun = refl
+on_work (Some i) OfRun = refl
+on_work hand way = refl
 
 pub on_free : (hand : Option ℕ) (way : NotifyingCall) → owns_awaiter (after_taking hand way) ≡ false
-on_free hand OfRun = refl
-on_free (Some i) OfDrop = refl
-on_free None OfDrop = refl
-on_free (Some i) (OfCancel n) = refl
-on_free None (OfCancel n) = refl
-on_free (Some i) (OfPoll n) = refl
-on_free None (OfPoll n) = refl
-on_free (Some i) (OfClaim n) = refl
-on_free None (OfClaim n) = refl
+on_free None OfRun = refl
+on_free (Some i) OfRun = refl
+on_free hand way = refl
 
 pub same_way : (hand : Option ℕ) (way : NotifyingCall) → has_work (Releaser hand way) ≡ has_work (Notifier way)
 same_way hand OfRun = refl
-same_way hand OfDrop = refl
-same_way hand (OfCancel n) = refl
-same_way hand (OfPoll n) = refl
-same_way hand (OfClaim n) = refl
+same_way hand way = refl
 
 -- a notifier has a reference or is the Task, so the slots were not emptied
 has_share : (way : NotifyingCall) → 1 ≤ (weigh (Notifier way)).finishing + (weigh (Notifier way)).tasks
 has_share OfRun = omega arith
-has_share OfDrop = omega arith
-has_share (OfCancel n) = omega arith
-has_share (OfPoll n) = omega arith
-has_share (OfClaim n) = omega arith
+has_share way = omega arith
 
 share_sum : (a b : Census) → (plus a b).finishing + (plus a b).tasks ≡ (a.finishing + a.tasks) + (b.finishing + b.tasks)
 share_sum a b = omega arith
@@ -90,28 +51,18 @@ not_emptied limit w slots t c h e = grind (arith, nat_tests)
 -- a releaser has emptied the awaiter slot
 releases : (i : ℕ) (hand : Option ℕ) (way : NotifyingCall) → 1 ≤ (await i (Releaser hand way)).releasers
 releases i hand OfRun = omega arith
-releases i hand OfDrop = omega arith
-releases i hand (OfCancel n) = omega arith
-releases i hand (OfPoll n) = omega arith
-releases i hand (OfClaim n) = omega arith
+releases i hand way = omega arith
 
 is_emptied : (slots : Slots) (b : Awaiting) → (b.releasers ≡ 0) ⊎ (slots.awaiter ≡ None) → 1 ≤ b.releasers → slots.awaiter ≡ None
 is_emptied slots b s e = ⊎_elim (λ (z : b.releasers ≡ 0). absurd (omega arith)) (λ (z : slots.awaiter ≡ None). z) s
 
 neither : (a b : Bool) → (a || b) ≡ false → (not a && not b) ≡ true
-neither true b e = never (sym e)
-neither false true e = never (sym e)
-neither false false e = refl
+neither a b e = grind arith
 
 module _ (F T A : Type 0) (limit : ℕ) where
   pub ends : (answer : Answer) (r : Rest) (ds : List Deed) (us : List Member) (l : List (ℕ × Slot F T A)) → Owes F T A limit ending (λ n. n) (CallEnding answer r) ds us l
-  ends answer r ds us l m f x e lt = record {
-    outcome = leaves_slots (scene m) m.word (At r) [] (CallEnds answer ∷ []);
-    leads_to = refl;
-    writes = e;
-    idle = (refl, refl);
-    placing = stays refl refl (inr (refl, refl)) (inr (refl, refl));
-  }
+  ends answer r ds us l m f x e lt = keeps_places (leaves_slots (scene m) m.word (At r) [] (CallEnds answer ∷ []))
+      refl e refl
 
   pub wakes : (i : ℕ) (way : NotifyingCall) (ds : List Deed) (us : List Member) (l : List (ℕ × Slot F T A)) → Owes F T A limit waking (λ n. n) (AwaiterInHand i way) ds us l
   wakes i way ds us l m f x e lt = record {
@@ -126,13 +77,8 @@ module _ (F T A : Type 0) (limit : ℕ) where
   drops i OfRun ds us l may m f x e lt = never may
   drops i OfDrop ds us l may m f x e lt = never may
   drops i (OfCancel n) ds us l may m f x e lt = never may
-  drops i (OfPoll n) ds us l may m f x e lt = record {
-    outcome = leaves_slots (scene m) m.word (after_waking (OfPoll n)) [] (CloneEnded i ∷ []);
-    leads_to = refl;
-    writes = e;
-    idle = (refl, refl);
-    placing = stays refl refl (inr (refl, refl)) (inr (refl, refl));
-  }
+  drops i (OfPoll n) ds us l may m f x e lt = keeps_places (leaves_slots (scene m) m.word (after_waking (OfPoll n)) [] (CloneEnded i ∷ []))
+      refl e refl
   drops i (OfClaim n) ds us l may m f x e lt = record {
     outcome = leaves_slots (scene m) m.word (after_waking (OfClaim n)) [] (CloneEnded i ∷ []);
     leads_to = refl;
@@ -178,5 +124,5 @@ module _ (F T A : Type 0) (limit : ℕ) where
   }
     where
       none : m.slots.awaiter ≡ None
-      none = let here : 1 ≤ (awaiting 0 m.parties).releasers = omega (arith, releases 0 hand way, releasing_at 0 m.parties f.number (Releaser hand way) f.stands) in
+      none = let here : 1 ≤ (awaiting 0 m.parties).releasers = omega (arith, releases 0 hand way, counted_awaiting (λ b. b.releasers) (λ a b. refl) 0 m.parties f.number (Releaser hand way) f.stands) in
           is_emptied m.slots (awaiting 0 m.parties) (f.invariant.shakes 0).emptied here

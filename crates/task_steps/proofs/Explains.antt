@@ -5,20 +5,9 @@ use mathlib.Core.Option.{some, some-injective, some-ne-none}
 use native.Mathlib.Decide.{dec_le}
 use lib.ListN.{get_elem?}
 use Rattle.atomic_table.proofs.Lists.{at_set, set_here, set_else, at_longer}
-use Rattle.task_laws.specs.declared.positions.Position.{Position}
-use Rattle.task_laws.specs.declared.positions.Position.TheVariants.{At}
-use Rattle.task_laws.specs.declared.positions.Rest.TheVariants.{Lent}
-use Rattle.task_core.specs.declared.acts.Act.{Act}
-use Rattle.task_core.specs.Word.{State, bit}
-use Rattle.task_core.specs.Rows.{written}
-use Rattle.task_laws.specs.Table.{Outcome, rule}
-use Rattle.task_laws.specs.Machine.{Machine, Step, opening, step, scene, begins, moves, after, run, run_from}
-use Rattle.task_steps.specs.declared.table.Deed.{Deed}
-use Rattle.task_steps.specs.declared.table.Tries.{Tries}
-use Rattle.task_steps.specs.declared.table.Member.{Member}
-use Rattle.task_steps.specs.declared.table.View.{View}
+use Rattle.task_steps.proofs.Vocabulary.{Position, At, Lent, Act, State, bit, written, Outcome, rule, Machine, Step, opening, step, scene, begins, moves, after, run, run_from, Deed, Tries, Member, View, rule_word}
 use Rattle.task_steps.specs.Rule.{deed, member, view, fresh, found_by, Entry, Reaches, steps_of, noted_if, deeds_of, DidLast, lender, differ, writes, written_since, Tried, trying, IsParty, Explains}
-use Rattle.task_steps.proofs.Written.{stale_by, rule_word}
+use Rattle.task_steps.proofs.Written.{stale_by}
 
 module _ {A : Type 0} where
   pub inside : (l : List A) (i : ℕ) (a : A) → get_elem? l i ≡ some a → i < length l

@@ -2,16 +2,7 @@
 use Rattle.std.proofs.Common.{◌≡◌, ℕ, zero, suc, ◌+◌, ◌*◌, ◌/◌, ◌%◌, ◌≤◌, Bool, true, false, Some, List, [], ◌∷◌, ◌++◌, set, sym, refl, ap, subst, arith}
 use mathlib.Core.Option.{some, some-injective, some-ne-none}
 use lib.ListN.{get_elem?}
-use Rattle.task_core.specs.Word.{State, bit, number_of}
-use Rattle.task_laws.specs.declared.positions.Position.{Position}
-use Rattle.task_laws.specs.declared.positions.Position.TheVariants.{At}
-use Rattle.task_laws.specs.declared.positions.Rest.TheVariants.{Runnable}
-use Rattle.task_laws.specs.Table.{Slots, Outcome, where_found, when}
-use Rattle.task_laws.specs.Event.{Event}
-use Rattle.task_laws.specs.Machine.{Machine, how_many}
-use Rattle.task_laws.proofs.Census.{Census, weigh, census, runs, closers}
-use Rattle.task_laws.proofs.Invariant.{Holds}
-use Rattle.task_laws.proofs.Runs.{Invariant, Stays, always}
+use Rattle.task_steps.proofs.Vocabulary.{State, bit, number_of, Position, At, Runnable, Slots, Outcome, where_found, when, Event, Machine, how_many, Census, weigh, census, plus, runs, closers, Awaiting, join, await, awaiting, Holds, Invariant, Stays, always}
 use Rattle.task_steps.specs.Rule.{Entry, Reaches, steps_of, has_work}
 use Rattle.task_steps.proofs.Explains as told
 
@@ -19,16 +10,13 @@ pub law : (limit : ℕ) (log : List Entry) (m : Machine) → Reaches limit log m
 law limit log m r = subst Stays (told.runs limit log m r) (always limit (steps_of log))
 
 pub bit_le : (b : Bool) → bit b ≤ 1
-bit_le true = omega arith
-bit_le false = omega arith
+bit_le b = grind arith
 
 pub is_set : (b : Bool) → bit b ≡ 1 → b ≡ true
-is_set true e = refl
-is_set false e = absurd (omega arith)
+is_set b e = grind arith
 
 pub is_clear : (b : Bool) → bit b ≡ 0 → b ≡ false
-is_clear true e = absurd (omega arith)
-is_clear false e = refl
+is_clear b e = grind arith
 
 -- the flags of a word, by its number
 pub record Reads (f : ℕ) (w : State) : Type 0 where
@@ -54,6 +42,18 @@ many_at f [] k p e = absurd (some-ne-none p (sym e))
 many_at f (x ∷ xs) zero p e = let is : bit (f x) ≡ bit (f p) = ap (λ y. bit (f y)) (some-injective x p e) in omega arith
 many_at f (x ∷ xs) (suc k) p e = let h = many_at f xs k p e in omega arith
 
+-- a count of the census that a party at p is part of
+pub counted : (count : Census → ℕ) → ((a b : Census) → count (plus a b) ≡ count a + count b) → (ps : List Position) (k : ℕ) (p : Position) → get_elem? ps k ≡ some p → count (weigh p) ≤ count (census ps)
+counted count sums [] k p e = absurd (some-ne-none p (sym e))
+counted count sums (x ∷ xs) zero p e = let is : count (weigh x) ≡ count (weigh p) = ap (λ y. count (weigh y)) (some-injective x p e) in omega (arith, sums (weigh x) (census xs))
+counted count sums (x ∷ xs) (suc k) p e = let h = counted count sums xs k p e in omega (arith, sums (weigh x) (census xs))
+
+-- .. and of the handshake
+pub counted_awaiting : (count : Awaiting → ℕ) → ((a b : Awaiting) → count (join a b) ≡ count a + count b) → (i : ℕ) (ps : List Position) (k : ℕ) (p : Position) → get_elem? ps k ≡ some p → count (await i p) ≤ count (awaiting i ps)
+counted_awaiting count sums i [] k p e = absurd (some-ne-none p (sym e))
+counted_awaiting count sums i (x ∷ xs) zero p e = let is : count (await i x) ≡ count (await i p) = ap (λ y. count (await i y)) (some-injective x p e) in omega (arith, sums (await i x) (awaiting i xs))
+counted_awaiting count sums i (x ∷ xs) (suc k) p e = let h = counted_awaiting count sums i xs k p e in omega (arith, sums (await i x) (awaiting i xs))
+
 -- how many parties after an act
 pub many_set : (f : Position → Bool) (ps : List Position) (k : ℕ) (p q : Position) → get_elem? ps k ≡ some p → how_many f (set ps k q) + bit (f p) ≡ how_many f ps + bit (f q)
 many_set f [] k p q e = absurd (some-ne-none p (sym e))
@@ -74,11 +74,6 @@ pub works : (ps : List Position) → how_many has_work ps ≤ runs (census ps) +
 works [] = omega arith
 works (p ∷ ps) = omega (arith, work_one p, works ps)
 
-pub queued_at : (ps : List Position) (k : ℕ) → get_elem? ps k ≡ some (At Runnable) → 1 ≤ (census ps).queued
-queued_at [] k e = absurd (some-ne-none (At Runnable) (sym e))
-queued_at (x ∷ xs) zero e = let is : (weigh x).queued ≡ 1 = ap (λ y. (weigh y).queued) (some-injective x (At Runnable) e) in omega arith
-queued_at (x ∷ xs) (suc k) e = let h = queued_at xs k e in omega arith
-
 pub low : (m : Machine) → Invariant m → m.word.references ≤ m.limit + 1
 low m i = let h = i.holds in let a = h.references in let b = h.one in let c = h.few in omega arith
 
@@ -94,7 +89,7 @@ queued_facts : (limit : ℕ) (w : State) (slots : Slots) (t : List Event) (c : C
 queued_facts limit w slots t c h q = (grind arith, grind arith, grind arith, grind arith)
 
 pub queued : (m : Machine) (k : ℕ) → Invariant m → get_elem? m.parties k ≡ some (At Runnable) → Queued m
-queued m k i at = let f = queued_facts m.limit m.word m.slots m.trace (census m.parties) i.holds (queued_at m.parties k at) in
+queued m k i at = let f = queued_facts m.limit m.word m.slots m.trace (census m.parties) i.holds (counted (λ c. c.queued) (λ a b. refl) m.parties k (At Runnable) at) in
     record { scheduled = f.0; running = f.1; future = f.2; home = omega (arith, works m.parties, f.3) }
 
 -- what a row finds

@@ -3,15 +3,7 @@ use Rattle.std.proofs.Common.{◌≡◌, ℕ, ◌<◌, Option, None, List, ◌�
 use mathlib.Core.Option.{some}
 use lib.ListN.{get_elem?}
 use Rattle.atomic_table.specs.Table.{State as Board, Me, Allows}
-use Rattle.task_core.specs.Word.{State, state_of}
-use Rattle.task_laws.specs.declared.positions.Position.{Position}
-use Rattle.task_core.specs.declared.acts.Act.{Act}
-use Rattle.task_core.proofs.Bits.{state_of_number_of}
-use Rattle.task_steps.specs.declared.table.Slot.{Slot}
-use Rattle.task_steps.specs.declared.table.Deed.{Deed}
-use Rattle.task_steps.specs.declared.table.Member.{Member}
-use Rattle.task_steps.specs.declared.table.View.{View}
-use Rattle.task_steps.specs.declared.table.Tries.{Tries}
+use Rattle.task_steps.proofs.Vocabulary.{State, state_of, Position, Act, state_of_number_of, Slot, Deed, Member, View, Tries}
 use Rattle.task_steps.specs.Rule.{member, trying, view, Running, RuleHolds}
 use Rattle.task_steps.specs.Steps.{head_of, Makes}
 use Rattle.task_steps.specs.Knows.{Knows}

@@ -3,14 +3,8 @@ use Rattle.std.proofs.Common.{◌≡◌, ℕ, zero, suc, ◌<◌, ◌≢◌, fal
 use mathlib.Core.Option.{some, some-injective, some-ne-none}
 use lib.ListN.{get_elem?}
 use Rattle.atomic_table.specs.Table.{opening}
-use Rattle.task_laws.specs.declared.positions.Position.TheVariants.{At}
-use Rattle.task_laws.specs.declared.positions.Rest.TheVariants.{Runnable, Task}
+use Rattle.task_steps.proofs.Vocabulary.{At, Runnable, Task, Slot, Empty, Member, Laid, View}
 use Rattle.task_laws.specs.Machine.{opening as opening_machine}
-use Rattle.task_steps.specs.declared.table.Slot.{Slot}
-use Rattle.task_steps.specs.declared.table.Slot.TheVariants.{Empty}
-use Rattle.task_steps.specs.declared.table.Member.{Member}
-use Rattle.task_steps.specs.declared.table.Stage.TheVariants.{Laid}
-use Rattle.task_steps.specs.declared.table.View.{View}
 use Rattle.task_steps.specs.Rule.{fresh, laid_view, lender, DidLast, Tried, Explains, RuleHolds}
 use Rattle.task_steps.proofs.Explains.{did_nothing}
 use Rattle.task_steps.proofs.Seats.{just}

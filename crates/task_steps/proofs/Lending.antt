@@ -4,20 +4,9 @@ use mathlib.Core.Option.{some}
 use lib.ListN.{get_elem?}
 use Rattle.atomic_table.specs.Table.{State as Board, Me, Enters}
 use Rattle.atomic_table.proofs.Lists.{at_longer}
-use Rattle.task_laws.specs.Event.{CallEnds}
-use Rattle.task_laws.specs.declared.positions.Answer.TheVariants.{Nothing}
-use Rattle.task_laws.specs.declared.positions.Position.TheVariants.{At}
-use Rattle.task_laws.specs.declared.positions.Rest.TheVariants.{Lent}
-use Rattle.task_core.specs.declared.acts.Act.TheVariants.{Look}
-use Rattle.task_laws.specs.Table.{Outcome, leaves_slots}
-use Rattle.task_laws.specs.Machine.{Machine, scene}
-use Rattle.task_laws.specs.Holders.{owns_awaiter}
-use Rattle.task_steps.specs.declared.table.Slot.{Slot}
-use Rattle.task_steps.specs.declared.table.View.{View}
+use Rattle.task_steps.proofs.Vocabulary.{CallEnds, Nothing, At, Lent, Look, Outcome, leaves_slots, Machine, scene, owns_awaiter, Slot, View, State, state_of, state_of_number_of}
 use Rattle.task_steps.specs.Rule.{deed, view, fresh, found_by, opening_at, lender, has_work, HomesAgree, RuleHolds}
 use Rattle.task_steps.proofs.Explains.{next_machine, at_append, joined_by}
-use Rattle.task_core.specs.Word.{State, state_of}
-use Rattle.task_core.proofs.Bits.{state_of_number_of}
 use Rattle.task_steps.proofs.Facts.{law, low, many_next}
 use Rattle.task_steps.proofs.Seats.{just, retold}
 

@@ -1,3 +1,4 @@
+pub mod Vocabulary
 pub mod Numbers
 pub mod Bools
 pub mod Written
@@ -11,7 +12,6 @@ pub mod Owed
 pub mod Seats
 pub mod Lending
 pub mod Laid
-pub mod Leads
 pub mod AwaiterOwed
 pub mod RunOwed
 pub mod Known

@@ -1,33 +1,16 @@
 -- What each step owes: the machine allows its acts, and writes its number.
-use Rattle.std.proofs.Common.{◌≡◌, ℕ, zero, suc, ◌+◌, ◌≤◌, Bool, true, false, not, List, [], ◌∷◌, refl, sym, ap, ◌∙◌, inl, inr, arith}
+use Rattle.std.proofs.Common.{◌≡◌, ℕ, ◌+◌, ◌≤◌, Bool, true, false, not, List, [], ◌∷◌, refl, sym, ap, ◌∙◌, inl, inr, arith}
 use Rattle.std.specs.Prelude.{bit_and}
-use mathlib.Core.Option.{some, some-injective, some-ne-none}
-use lib.ListN.{get_elem?}
 use Rattle.atomic_table.specs.Table.{rest}
-use Rattle.task_core.specs.Word.{State, state_of, number_of, is_open}
-use Rattle.task_laws.specs.Event.{Event, CallEnds, FutureDropped, RunEnded}
-use Rattle.task_laws.specs.declared.positions.Answer.TheVariants.{Finished}
-use Rattle.task_laws.specs.declared.positions.Position.{Position}
-use Rattle.task_laws.specs.declared.positions.Position.TheVariants.{At, FutureInHand}
-use Rattle.task_laws.specs.declared.positions.Rest.TheVariants.{Task}
-use Rattle.task_laws.specs.declared.positions.WithoutPoll.TheVariants.{ClosedRun, DroppedRunnable}
-use Rattle.task_laws.specs.declared.positions.WithoutPoll.{WithoutPoll}
-use Rattle.task_laws.specs.declared.positions.NotifyingCall.TheVariants.{OfRun, OfDrop}
-use Rattle.task_laws.specs.Table.{Slots, leaves_slots, notifies}
-use Rattle.task_laws.specs.Machine.{scene}
-use Rattle.task_laws.proofs.Census.{Census, census, weigh, plus, closers}
-use Rattle.task_laws.specs.Holders.{owns_awaiter}
-use Rattle.task_laws.proofs.Invariant.{Holds}
-use Rattle.task_core.proofs.Bits.{state_of_number_of, fetch_and-scheduled}
-use Rattle.task_steps.specs.declared.table.Slot.{Slot}
-use Rattle.task_steps.specs.declared.table.Deed.{Deed}
-use Rattle.task_steps.specs.declared.table.Member.{Member}
+use Rattle.task_steps.proofs.Vocabulary.{State, state_of, number_of, is_open, Event, CallEnds, FutureDropped, RunEnded, Finished, Position, At, FutureInHand, Task, ClosedRun, DroppedRunnable, WithoutPoll, OfRun, OfDrop, Slots, leaves_slots, notifies, scene, Census, census, plus, closers}
+use Rattle.task_steps.proofs.Vocabulary.{owns_awaiter, Holds, state_of_number_of, fetch_and-scheduled, Slot, Deed, Member}
 use Rattle.task_steps.specs.Rule.{has_work}
 use Rattle.task_steps.specs.Steps.{future_first}
 use Rattle.task_steps.specs.TaskScripts.{looking_finished}
 use Rattle.task_steps.specs.RunScripts.{unscheduling}
 use Rattle.task_steps.proofs.Bools.{never}
-use Rattle.task_steps.proofs.Advance.{stays, gives_work}
+use Rattle.task_steps.proofs.Facts.{counted}
+use Rattle.task_steps.proofs.Advance.{gives_work, keeps_places}
 use Rattle.task_steps.proofs.Allowed.{Owes}
 
 -- the rest of a run or a drop has no place of the table
@@ -39,31 +22,15 @@ idle_drop : (b : Bool) → (has_work (notifies b OfDrop) ≡ false) × (owns_awa
 idle_drop true = (refl, refl)
 idle_drop false = (refl, refl)
 
--- a count of the census that a party at p is part of
-pub counted_at : (count : Census → ℕ) → ((a b : Census) → count (plus a b) ≡ count a + count b) → (ps : List Position) (k : ℕ) (p : Position) → get_elem? ps k ≡ some p → count (weigh p) ≤ count (census ps)
-counted_at count sums [] k p e = absurd (some-ne-none p (sym e))
-counted_at count sums (x ∷ xs) zero p e = let is : count (weigh x) ≡ count (weigh p) = ap (λ y. count (weigh y)) (some-injective x p e) in omega (arith, sums (weigh x) (census xs))
-counted_at count sums (x ∷ xs) (suc k) p e = let h = counted_at count sums xs k p e in omega (arith, sums (weigh x) (census xs))
-
 module _ (F T A : Type 0) (limit : ℕ) where
   -- a step without acts
   pub does_nothing : (at : Position) (ds : List Deed) (us : List Member) (l : List (ℕ × Slot F T A)) → Owes F T A limit (λ _. []) (λ n. n) at ds us l
-  does_nothing at ds us l m f number x lt = record {
-    outcome = leaves_slots (scene m) m.word at [] [];
-    leads_to = refl;
-    writes = x;
-    idle = (refl, refl);
-    placing = stays refl refl (inr (refl, refl)) (inr (refl, refl));
-  }
+  does_nothing at ds us l m f number x lt = keeps_places (leaves_slots (scene m) m.word at [] [])
+      refl x refl
 
   pub looks_finished : (n : ℕ) (ds : List Deed) (us : List Member) (l : List (ℕ × Slot F T A)) → Owes F T A limit looking_finished (λ n. n) (At (Task n)) ds us l
-  looks_finished n ds us l m f x e lt = record {
-    outcome = leaves_slots (scene m) m.word (At (Task n)) [] (CallEnds (Finished (not (is_open m.word))) ∷ []);
-    leads_to = refl;
-    writes = e;
-    idle = (refl, refl);
-    placing = stays refl refl (inr (refl, refl)) (inr (refl, refl));
-  }
+  looks_finished n ds us l m f x e lt = keeps_places (leaves_slots (scene m) m.word (At (Task n)) [] (CallEnds (Finished (not (is_open m.word))) ∷ []))
+      refl e refl
 
   closers_sum : (a b : Census) → closers (plus a b) ≡ closers a + closers b
   closers_sum a b = omega arith
@@ -73,14 +40,14 @@ module _ (F T A : Type 0) (limit : ℕ) where
   no_output limit w slots t c h e = grind arith
 
   pub unschedules : (closer : WithoutPoll) (ds : List Deed) (us : List Member) (y z : Slot F T A) (l : List (ℕ × Slot F T A)) → l ≡ future_first y z (rest (rest l)) → Owes F T A limit unscheduling (λ n. bit_and n 18446744073709551614) (FutureInHand closer) ds us l
-  unschedules ClosedRun ds us y z l has m f x e lt = let i = idle_run m.word.awaiter in let none = no_output m.limit m.word m.slots m.trace (census m.parties) f.invariant.holds (counted_at closers (λ a b. closers_sum a b) m.parties f.number (FutureInHand ClosedRun) f.stands) in record {
+  unschedules ClosedRun ds us y z l has m f x e lt = let i = idle_run m.word.awaiter in let none = no_output m.limit m.word m.slots m.trace (census m.parties) f.invariant.holds (counted closers (λ a b. closers_sum a b) m.parties f.number (FutureInHand ClosedRun) f.stands) in record {
     outcome = record { word = record (m.word) { scheduled = false }; slots = record (m.slots) { future = false }; next = notifies m.word.awaiter OfRun; born = []; told = RunEnded ∷ FutureDropped ∷ [] };
     leads_to = refl;
     writes = fetch_and-scheduled x lt ∙ ap (λ (w : State). number_of (record w { scheduled = false })) (ap state_of e ∙ state_of_number_of m.word);
     idle = (refl, refl);
     placing = gives_work y z refl i.0 i.1 (inr (refl, refl)) (inl has) (λ e. never e) (λ e. never (sym none ∙ e));
   }
-  unschedules DroppedRunnable ds us y z l has m f x e lt = let i = idle_drop m.word.awaiter in let none = no_output m.limit m.word m.slots m.trace (census m.parties) f.invariant.holds (counted_at closers (λ a b. closers_sum a b) m.parties f.number (FutureInHand DroppedRunnable) f.stands) in record {
+  unschedules DroppedRunnable ds us y z l has m f x e lt = let i = idle_drop m.word.awaiter in let none = no_output m.limit m.word m.slots m.trace (census m.parties) f.invariant.holds (counted closers (λ a b. closers_sum a b) m.parties f.number (FutureInHand DroppedRunnable) f.stands) in record {
     outcome = record { word = record (m.word) { scheduled = false }; slots = record (m.slots) { future = false }; next = notifies m.word.awaiter OfDrop; born = []; told = RunEnded ∷ FutureDropped ∷ [] };
     leads_to = refl;
     writes = fetch_and-scheduled x lt ∙ ap (λ (w : State). number_of (record w { scheduled = false })) (ap state_of e ∙ state_of_number_of m.word);

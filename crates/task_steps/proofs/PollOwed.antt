@@ -1,42 +1,21 @@
 -- What each step of a poll of the Task owes: the machine allows its acts, and writes its number.
-use Rattle.std.proofs.Common.{◌≡◌, ℕ, zero, suc, ◌+◌, ◌≤◌, Bool, true, false, not, ◌&&◌, ◌||◌, Option, Some, None, List, [], ◌∷◌, refl, sym, ap, ◌∙◌, subst, inl, inr, ⊎_elim, arith}
+use Rattle.std.proofs.Common.{◌≡◌, ℕ, ◌+◌, ◌≤◌, Bool, true, false, not, ◌&&◌, ◌||◌, Option, Some, None, List, [], ◌∷◌, refl, sym, ap, ◌∙◌, subst, inl, inr, ⊎_elim, arith}
 use Rattle.std.specs.Prelude.{if◌then◌else◌, bit_and}
-use mathlib.Core.Option.{some, some-injective, some-ne-none}
-use lib.ListN.{get_elem?}
 use Rattle.atomic_table.specs.Table.{rest}
-use Rattle.task_core.specs.Word.{State, state_of, number_of}
-use Rattle.task_core.specs.Rows.{found, written, row}
-use Rattle.task_laws.specs.Event.{Event, TaskPollBegins, TaskPollEnds, Closes, OutputTaken, Cloned, Woken, CloneEnded}
-use Rattle.task_laws.specs.declared.positions.PollAnswer.{PollAnswer}
-use Rattle.task_laws.specs.declared.positions.PollAnswer.TheVariants.{IsPending, HasOutput, IsRefused}
-use Rattle.task_laws.specs.declared.positions.Position.{Position}
-use Rattle.task_laws.specs.declared.positions.NotifyingCall.TheVariants.{OfPoll, OfClaim}
-use Rattle.task_laws.specs.declared.positions.Position.TheVariants.{At, Notifier, Looking, SawOutput, TookOutput, Answering, Registrar, HasClone, UnusedClone, Storing, Registered, OldAwaiterInHand, TookBack, CloneInHand}
-use Rattle.task_laws.specs.declared.positions.Rest.TheVariants.{Task}
-use Rattle.task_core.specs.declared.acts.Act.{Act}
-use Rattle.task_core.specs.declared.acts.Act.TheVariants.{Look, ClaimOutput, CloneAwaiter, StoreAwaiter, BeginRegister, EndRegister, EndRegisterNotified, EndCall}
-use Rattle.task_laws.specs.Table.{Slots, leaves_slots, changes_slots, when, where_found, notifies, first_look, second_look, after_storing}
-use Rattle.task_laws.specs.Machine.{Machine, scene}
-use Rattle.task_laws.specs.Laws.{how_often, count, is_task_poll}
-use Rattle.task_laws.specs.Holders.{owns_awaiter}
-use Rattle.task_laws.proofs.Census.{Census, census, plus}
-use Rattle.task_laws.proofs.Awaiting.{Awaiting, awaiting, await}
-use Rattle.task_laws.proofs.Handshake.{HandshakeHolds}
-use Rattle.task_laws.proofs.Invariant.{Holds}
-use Rattle.task_core.proofs.Bits.{state_of_number_of, fetch_and-awaiter_registering_notifying}
-use Rattle.task_steps.specs.declared.table.Slot.{Slot}
-use Rattle.task_steps.specs.declared.table.Slot.TheVariants.{Awaiter}
-use Rattle.task_steps.specs.declared.table.Deed.{Deed}
-use Rattle.task_steps.specs.declared.table.Member.{Member}
+use Rattle.task_steps.proofs.Vocabulary.{State, state_of, number_of, found, written, row, Event, TaskPollBegins, TaskPollEnds, Closes, OutputTaken, Cloned, Woken, CloneEnded, PollAnswer, IsPending, HasOutput, IsRefused, Position, OfPoll, OfClaim, At, Notifier, Looking, SawOutput, TookOutput}
+use Rattle.task_steps.proofs.Vocabulary.{Answering, Registrar, HasClone, UnusedClone, Storing, Registered, OldAwaiterInHand, TookBack, CloneInHand, Task, Act, Look, ClaimOutput, CloneAwaiter, StoreAwaiter, BeginRegister, EndRegister, EndRegisterNotified, EndCall, Slots, leaves_slots, changes_slots}
+use Rattle.task_steps.proofs.Vocabulary.{when, where_found, notifies, first_look, second_look, after_storing, Machine, scene, how_often, count, is_task_poll, owns_awaiter, Census, census, Awaiting, awaiting, HandshakeHolds, Holds, state_of_number_of}
+use Rattle.task_steps.proofs.Vocabulary.{fetch_and-awaiter_registering_notifying, Slot, Awaiter, Deed, Member}
 use Rattle.task_steps.specs.Rule.{has_work, IsEmpty, IsAwaiter, Waits}
 use Rattle.task_steps.specs.Steps.{and_then, spot, output_first, TakesOutput, Works, Awaits}
 use Rattle.task_steps.specs.Scripts.{ending, waking, dropping}
 use Rattle.task_steps.specs.PollScripts.{has_output, has_ended, has_to_wait, looking, looking_again, handing_out, refusing, finding_notifier, taking_back, ending_notified}
 use Rattle.task_steps.proofs.Bools.{never}
 use Rattle.task_steps.proofs.Acts.{leads}
-use Rattle.task_steps.proofs.Advance.{Finds, stays, takes_output, gives_work, takes_awaiter, gives_awaiter, Steps}
+use Rattle.task_steps.proofs.Facts.{counted, counted_awaiting}
+use Rattle.task_steps.proofs.AwaiterOwed.{not_emptied}
+use Rattle.task_steps.proofs.Advance.{Finds, stays, takes_output, gives_work, takes_awaiter, gives_awaiter, Steps, keeps_places}
 use Rattle.task_steps.proofs.Allowed.{Owes, OwesEnd}
-use Rattle.task_steps.proofs.Owed.{counted_at}
 
 -- a position that has no place of the table
 abbrev pub Free : Position → Type 0
@@ -104,32 +83,12 @@ pub same_first : {X : Type 0} (l r s : List (ℕ × X)) (k : ℕ) (x y : X) → 
 same_first l r s k x y e f = ap (value_or x) (sym e ∙ f)
 
 -- what the invariant says to the Task
-tasks_sum : (a b : Census) → (plus a b).tasks ≡ a.tasks + b.tasks
-tasks_sum a b = refl
-
-claims_sum : (a b : Census) → (plus a b).claims ≡ a.claims + b.claims
-claims_sum a b = refl
-
--- while the Task exists no slot was emptied
-not_emptied : (limit : ℕ) (w : State) (slots : Slots) (t : List Event) (c : Census) → Holds limit w slots t c → 1 ≤ c.tasks → how_often Event.Empties t ≡ 0
-not_emptied limit w slots t c h e = grind arith
-
-output_there : (limit : ℕ) (w : State) (slots : Slots) (t : List Event) (c : Census) → Holds limit w slots t c → has_output w ≡ true → slots.output ≡ true
+pub output_there : (limit : ℕ) (w : State) (slots : Slots) (t : List Event) (c : Census) → Holds limit w slots t c → has_output w ≡ true → slots.output ≡ true
 output_there limit w slots t c h e = grind arith
 
 -- whoever has the output finds the future gone
-future_gone : (limit : ℕ) (w : State) (slots : Slots) (t : List Event) (c : Census) → Holds limit w slots t c → 1 ≤ c.claims → slots.future ≡ false
+pub future_gone : (limit : ℕ) (w : State) (slots : Slots) (t : List Event) (c : Census) → Holds limit w slots t c → 1 ≤ c.claims → slots.future ≡ false
 future_gone limit w slots t c h e = grind arith
-
-registered_at : (i : ℕ) (ps : List Position) (k : ℕ) (p : Position) → get_elem? ps k ≡ some p → (await i p).registered ≤ (awaiting i ps).registered
-registered_at i [] k p e = absurd (some-ne-none p (sym e))
-registered_at i (x ∷ xs) zero p e = let is : (await i x).registered ≡ (await i p).registered = ap (λ y. (await i y).registered) (some-injective x p e) in omega arith
-registered_at i (x ∷ xs) (suc k) p e = let h = registered_at i xs k p e in omega arith
-
-taken_back_at : (i : ℕ) (ps : List Position) (k : ℕ) (p : Position) → get_elem? ps k ≡ some p → (await i p).takers_back ≤ (awaiting i ps).takers_back
-taken_back_at i [] k p e = absurd (some-ne-none p (sym e))
-taken_back_at i (x ∷ xs) zero p e = let is : (await i x).takers_back ≡ (await i p).takers_back = ap (λ y. (await i y).takers_back) (some-injective x p e) in omega arith
-taken_back_at i (x ∷ xs) (suc k) p e = let h = taken_back_at i xs k p e in omega arith
 
 was_taken_back : (i : ℕ) (w : State) (slots : Slots) (t : List Event) (b : Awaiting) → HandshakeHolds i w slots t b → 1 ≤ b.takers_back → (w.notifying ≡ true) × (slots.awaiter ≡ None)
 was_taken_back i w slots t b h e = ⊎_elim (λ (z : b.takers_back ≡ 0). absurd (omega arith)) (λ z. z) h.taken_back
@@ -148,13 +107,8 @@ module _ (F T A : Type 0) (limit : ℕ) where
   }
 
   looks_again_by : (m : Machine) (i number : ℕ) (l : List (ℕ × Slot F T A)) (b : Bool) → has_to_wait m.word ≡ b → number ≡ number_of m.word → Steps m (Looking i) (if b then Look ∷ EndCall ∷ [] else Look ∷ []) number l
-  looks_again_by m i number l true e x = record {
-    outcome = leaves_slots (scene m) m.word (At (Task i)) [] (TaskPollEnds i IsPending ∷ []);
-    leads_to = ap (λ (p : Position). and_then (Some (leaves_slots (scene m) m.word p [] [])) (λ o. leads (spot m.limit o.word o.slots) (EndCall ∷ []) o.next)) (has_waited m.word i e);
-    writes = x;
-    idle = (refl, refl);
-    placing = stays refl refl (inr (refl, refl)) (inr (refl, refl));
-  }
+  looks_again_by m i number l true e x = keeps_places (leaves_slots (scene m) m.word (At (Task i)) [] (TaskPollEnds i IsPending ∷ []))
+      (ap (λ (p : Position). and_then (Some (leaves_slots (scene m) m.word p [] [])) (λ o. leads (spot m.limit o.word o.slots) (EndCall ∷ []) o.next)) (has_waited m.word i e)) x refl
   looks_again_by m i number l false e x = let f = second_free m.word i in record {
     outcome = leaves_slots (scene m) m.word (second_look m.word i) [] [];
     leads_to = refl;
@@ -167,22 +121,12 @@ module _ (F T A : Type 0) (limit : ℕ) where
   looks_again i ds us l m f number x lt e = looks_again_by m i number l (has_to_wait m.word) refl x
 
   pub ends_poll : (i : ℕ) (answer : PollAnswer) (ds : List Deed) (us : List Member) (l : List (ℕ × Slot F T A)) → Owes F T A limit ending (λ n. n) (Answering i answer) ds us l
-  ends_poll i answer ds us l m f number x lt = record {
-    outcome = leaves_slots (scene m) m.word (At (Task i)) [] (TaskPollEnds i answer ∷ []);
-    leads_to = refl;
-    writes = x;
-    idle = (refl, refl);
-    placing = stays refl refl (inr (refl, refl)) (inr (refl, refl));
-  }
+  ends_poll i answer ds us l m f number x lt = keeps_places (leaves_slots (scene m) m.word (At (Task i)) [] (TaskPollEnds i answer ∷ []))
+      refl x refl
 
   pub refuses : (i : ℕ) (ds : List Deed) (us : List Member) (l : List (ℕ × Slot F T A)) → Owes F T A limit refusing (λ n. n) (Registrar i) ds us l
-  refuses i ds us l m f number x lt = record {
-    outcome = leaves_slots (scene m) m.word (At (Task i)) [] (TaskPollEnds i IsRefused ∷ []);
-    leads_to = refl;
-    writes = x;
-    idle = (refl, refl);
-    placing = stays refl refl (inr (refl, refl)) (inr (refl, refl));
-  }
+  refuses i ds us l m f number x lt = keeps_places (leaves_slots (scene m) m.word (At (Task i)) [] (TaskPollEnds i IsRefused ∷ []))
+      refl x refl
 
   claims_by : (m : Machine) (p : Position) (acts : List Act) (i : ℕ) (told : List Event) (new : ℕ) (l : List (ℕ × Slot F T A)) → Free p → how_often Event.Empties told ≡ 0 → Fits ClaimOutput m.word new
       → leads (scene m) acts p ≡ and_then (when (found 0 ClaimOutput m.word) (leaves_slots (scene m) (written ClaimOutput m.word) (notifies m.word.awaiter (OfClaim i)) [] told)) (λ o. leads (spot m.limit o.word o.slots) [] o.next)
@@ -200,7 +144,7 @@ module _ (F T A : Type 0) (limit : ℕ) where
       works false l' h = h
 
   pub hands_out : (i : ℕ) (ds : List Deed) (us : List Member) (y z : Slot F T A) (l : List (ℕ × Slot F T A)) → l ≡ output_first y z (rest (rest l)) → Owes F T A limit handing_out (λ n. n) (TookOutput i) ds us l
-  hands_out i ds us y z l has m f number x lt = let none = future_gone m.limit m.word m.slots m.trace (census m.parties) f.invariant.holds (counted_at (λ c. c.claims) (λ a b. claims_sum a b) m.parties f.number (TookOutput i) f.stands) in record {
+  hands_out i ds us y z l has m f number x lt = let none = future_gone m.limit m.word m.slots m.trace (census m.parties) f.invariant.holds (counted (λ c. c.claims) (λ a b. refl) m.parties f.number (TookOutput i) f.stands) in record {
     outcome = record { word = m.word; slots = record (m.slots) { output = false }; next = At (Task i); born = []; told = TaskPollEnds i HasOutput ∷ OutputTaken ∷ [] };
     leads_to = refl;
     writes = x;
@@ -209,22 +153,12 @@ module _ (F T A : Type 0) (limit : ℕ) where
   }
 
   pub finds_notifier : (i : ℕ) (ds : List Deed) (us : List Member) (l : List (ℕ × Slot F T A)) → OwesEnd F T A limit (λ w. w.notifying) finding_notifier (Registrar i) ds us l
-  finds_notifier i ds us l m f number x lt e = record {
-    outcome = leaves_slots (scene m) m.word (UnusedClone i) [] (Woken i ∷ Cloned i ∷ []);
-    leads_to = ap (λ (b : Bool). and_then (Some (leaves_slots (scene m) m.word (HasClone i) [] (Cloned i ∷ []))) (λ o. and_then (when b (leaves_slots (spot m.limit o.word o.slots) o.word (UnusedClone i) [] (Woken i ∷ []))) (λ o. leads (spot m.limit o.word o.slots) [] o.next))) e;
-    writes = x;
-    idle = (refl, refl);
-    placing = stays refl refl (inr (refl, refl)) (inr (refl, refl));
-  }
+  finds_notifier i ds us l m f number x lt e = keeps_places (leaves_slots (scene m) m.word (UnusedClone i) [] (Woken i ∷ Cloned i ∷ []))
+      (ap (λ (b : Bool). and_then (Some (leaves_slots (scene m) m.word (HasClone i) [] (Cloned i ∷ []))) (λ o. and_then (when b (leaves_slots (spot m.limit o.word o.slots) o.word (UnusedClone i) [] (Woken i ∷ []))) (λ o. leads (spot m.limit o.word o.slots) [] o.next))) e) x refl
 
   pub drops_clone : (i : ℕ) (ds : List Deed) (us : List Member) (l : List (ℕ × Slot F T A)) → Owes F T A limit dropping (λ n. n) (UnusedClone i) ds us l
-  drops_clone i ds us l m f number x lt = record {
-    outcome = leaves_slots (scene m) m.word (Looking i) [] (CloneEnded i ∷ []);
-    leads_to = refl;
-    writes = x;
-    idle = (refl, refl);
-    placing = stays refl refl (inr (refl, refl)) (inr (refl, refl));
-  }
+  drops_clone i ds us l m f number x lt = keeps_places (leaves_slots (scene m) m.word (Looking i) [] (CloneEnded i ∷ []))
+      refl x refl
 
   drops_old : (i old : ℕ) (ds : List Deed) (us : List Member) (l : List (ℕ × Slot F T A)) → Owes F T A limit dropping (λ n. n) (OldAwaiterInHand i old) ds us l
   drops_old i old ds us l m f number x lt = record {
@@ -241,13 +175,8 @@ module _ (F T A : Type 0) (limit : ℕ) where
   drops_stored i (Some old) y a h e ds us l = drops_old i old ds us l
 
   pub wakes_clone : (i : ℕ) (ds : List Deed) (us : List Member) (l : List (ℕ × Slot F T A)) → Owes F T A limit waking (λ n. n) (CloneInHand i) ds us l
-  wakes_clone i ds us l m f number x lt = record {
-    outcome = leaves_slots (scene m) m.word (Looking i) [] (CloneEnded i ∷ Woken i ∷ []);
-    leads_to = refl;
-    writes = x;
-    idle = (refl, refl);
-    placing = stays refl refl (inr (refl, refl)) (inr (refl, refl));
-  }
+  wakes_clone i ds us l m f number x lt = keeps_places (leaves_slots (scene m) m.word (Looking i) [] (CloneEnded i ∷ Woken i ∷ []))
+      refl x refl
 
   -- where the clone was put in, by what stood there
   stored_free : (i : ℕ) (hand : Option ℕ) → (has_work (after_storing i hand) ≡ false) × (owns_awaiter (after_storing i hand) ≡ true)
@@ -261,7 +190,7 @@ module _ (F T A : Type 0) (limit : ℕ) where
   pub begins_register : (i : ℕ) (ds : List Deed) (us : List Member) (l : List (ℕ × Slot F T A)) (m : Machine) (new : ℕ) → Finds limit (Registrar i) ds us m → Fits BeginRegister m.word new
       → Steps m (Registrar i) (CloneAwaiter ∷ BeginRegister ∷ StoreAwaiter ∷ []) new l
   begins_register i ds us l m new f fit = let s = stored_free i m.slots.awaiter in
-      let none = not_emptied m.limit m.word m.slots m.trace (census m.parties) f.invariant.holds (counted_at (λ c. c.tasks) (λ a b. tasks_sum a b) m.parties f.number (Registrar i) f.stands) in record {
+      let none = not_emptied m.limit m.word m.slots m.trace (census m.parties) f.invariant.holds (omega (arith, counted (λ c. c.tasks) (λ a b. refl) m.parties f.number (Registrar i) f.stands)) in record {
         outcome = record { word = written BeginRegister m.word; slots = record (m.slots) { awaiter = Some i }; next = after_storing i m.slots.awaiter; born = []; told = Cloned i ∷ [] };
         leads_to = ap (λ (b : Bool). and_then (Some (leaves_slots (scene m) m.word (HasClone i) [] (Cloned i ∷ [])))
             (λ o. and_then (when b (leaves_slots (spot m.limit o.word o.slots) (written BeginRegister o.word) (Storing i) [] [])) (λ o. leads (spot m.limit o.word o.slots) (StoreAwaiter ∷ []) o.next))) fit.finds;
@@ -272,7 +201,7 @@ module _ (F T A : Type 0) (limit : ℕ) where
 
   pub ends_register : (i : ℕ) (ds : List Deed) (us : List Member) (y : Slot F T A) (l : List (ℕ × Slot F T A)) (m : Machine) (new : ℕ) → Finds limit (Registered i) ds us m → l ≡ (2, y) ∷ rest l → IsAwaiter y → Fits EndRegister m.word new
       → Steps m (Registered i) (EndRegister ∷ []) new l
-  ends_register i ds us y l m new f has is fit = let stored = clone_stored i m.word m.slots m.trace (awaiting i m.parties) (f.invariant.shakes i) (registered_at i m.parties f.number (Registered i) f.stands) in record {
+  ends_register i ds us y l m new f has is fit = let stored = clone_stored i m.word m.slots m.trace (awaiting i m.parties) (f.invariant.shakes i) (counted_awaiting (λ b. b.registered) (λ a b. refl) i m.parties f.number (Registered i) f.stands) in record {
     outcome = leaves_slots (scene m) (written EndRegister m.word) (Looking i) [] [];
     leads_to = ap (λ (b : Bool). and_then (when b (leaves_slots (scene m) (written EndRegister m.word) (Looking i) [] [])) (λ o. leads (spot m.limit o.word o.slots) [] o.next)) fit.finds;
     writes = fit.writes;
@@ -291,7 +220,7 @@ module _ (F T A : Type 0) (limit : ℕ) where
   }
 
   pub ends_notified : (i : ℕ) (ds : List Deed) (us : List Member) (y : Slot F T A) (l : List (ℕ × Slot F T A)) → l ≡ (2, y) ∷ rest l → IsEmpty y → Owes F T A limit ending_notified (λ n. bit_and n 18446744073709551391) (TookBack i) ds us l
-  ends_notified i ds us y l has is m f n e lt = let t = was_taken_back i m.word m.slots m.trace (awaiting i m.parties) (f.invariant.shakes i) (taken_back_at i m.parties f.number (TookBack i) f.stands) in record {
+  ends_notified i ds us y l has is m f n e lt = let t = was_taken_back i m.word m.slots m.trace (awaiting i m.parties) (f.invariant.shakes i) (counted_awaiting (λ b. b.takers_back) (λ a b. refl) i m.parties f.number (TookBack i) f.stands) in record {
     outcome = leaves_slots (scene m) (written EndRegisterNotified m.word) (CloneInHand i) [] [];
     leads_to = ap (λ (b : Bool). and_then (when b (leaves_slots (scene m) (written EndRegisterNotified m.word) (CloneInHand i) [] [])) (λ o. leads (spot m.limit o.word o.slots) [] o.next)) t.0;
     writes = fetch_and-awaiter_registering_notifying n lt ∙ ap (λ (w : State). number_of (record w { awaiter = false; registering = false; notifying = false })) (ap state_of e ∙ state_of_number_of m.word);

@@ -4,36 +4,18 @@ use Rattle.std.specs.Prelude.{bit_and, bit_or, unwrap_or, nat_eq, nat_lt, if◌t
 use Rattle.std.specs.Option.{option_or}
 use Rattle.std.proofs.lemmas.Bool.Decides.{nat_tests}
 use Rattle.atomic_table.specs.Table.{rest}
-use Rattle.task_core.specs.Word.{State, state_of, number_of}
-use Rattle.task_laws.specs.Event.{Event, ByWake, ByClosing, Empties, Closes, TakenUp, FutureReady, FuturePending, FutureDropped, Completes, RunEnded, OutputDropped, Made, CallEnds}
-use Rattle.task_laws.specs.declared.positions.Answer.{Answer}
-use Rattle.task_laws.specs.declared.positions.Answer.TheVariants.{Ran}
-use Rattle.task_laws.specs.declared.positions.Rest.TheVariants.{Runnable, Ended}
-use Rattle.task_laws.specs.declared.positions.NotifyingCall.TheVariants.{OfRun}
-use Rattle.task_laws.specs.declared.positions.OnceDelivered.TheVariants.{ThenEnds}
-use Rattle.task_laws.specs.declared.positions.WithoutPoll.TheVariants.{DroppedRunnable}
-use Rattle.task_laws.specs.declared.positions.Position.TheVariants.{At, CallEnding, Deliverer, GivingUp, Emptier, FutureInHand, Polling, Pending, Ready, ReadyFutureDropped, OutputStored, PendingFutureDropped, OutputInHand}
-use Rattle.task_core.specs.declared.acts.Act.TheVariants.{GiveUpReference, GiveUpLastReference, DiscardOpen, DiscardClosed, DropFuture, StoreOutput, Complete, CompleteDetached, AnswerPending, Reschedule, EndIdle, EndOrphaned, EndClosed, EndCall}
-use Rattle.task_core.specs.Rows.{written}
-use Rattle.task_laws.specs.Table.{Slots, leaves_slots, changes_slots, notifies, after_giving_up, ended_clone, closing}
-use Rattle.task_laws.specs.Machine.{Machine, scene}
-use Rattle.task_laws.specs.Laws.{how_often}
-use Rattle.task_laws.specs.Holders.{owns_awaiter}
-use Rattle.task_laws.proofs.Census.{Census, census}
-use Rattle.task_laws.proofs.Invariant.{Holds}
-use Rattle.task_core.proofs.Bits.{state_of_number_of, fetch_or-closed, fetch_sub-reference, fetch_and-scheduled_running}
-use Rattle.task_steps.specs.declared.table.Slot.{Slot}
-use Rattle.task_steps.specs.declared.table.Slot.TheVariants.{Empty}
-use Rattle.task_steps.specs.declared.table.Deed.{Deed}
-use Rattle.task_steps.specs.declared.table.Member.{Member}
+use Rattle.task_steps.proofs.Vocabulary.{State, state_of, number_of, Event, ByWake, ByClosing, Empties, Closes, TakenUp, FutureReady, FuturePending, FutureDropped, Completes, RunEnded, OutputDropped, Made, CallEnds, Answer, Ran, Runnable, Ended, OfRun, ThenEnds}
+use Rattle.task_steps.proofs.Vocabulary.{DroppedRunnable, At, CallEnding, Deliverer, GivingUp, Emptier, FutureInHand, Polling, Pending, Ready, ReadyFutureDropped, OutputStored, PendingFutureDropped, OutputInHand, GiveUpReference, GiveUpLastReference, DiscardOpen, DiscardClosed}
+use Rattle.task_steps.proofs.Vocabulary.{DropFuture, StoreOutput, Complete, CompleteDetached, AnswerPending, Reschedule, EndIdle, EndOrphaned, EndClosed, EndCall, written, Slots, leaves_slots, changes_slots, notifies, after_giving_up, ended_clone, closing, Machine, scene}
+use Rattle.task_steps.proofs.Vocabulary.{how_often, owns_awaiter, Census, census, Holds, state_of_number_of, fetch_or-closed, fetch_sub-reference, fetch_and-scheduled_running, Slot, Empty, Deed, Member}
 use Rattle.task_steps.specs.Rule.{has_work, IsFuture, IsOutput}
 use Rattle.task_steps.specs.Steps.{then_leaves, spot, future_first, output_first}
 use Rattle.task_steps.specs.Scripts.{dropping_output}
 use Rattle.task_steps.specs.RunScripts.{giving_up, emptying, discarding, answering_ready, completing, answering_pending, ending_pending, finding_closed, ending_closed, completed_word, after_pending}
 use Rattle.task_steps.proofs.Bools.{never}
 use Rattle.task_steps.proofs.Numbers.{same_word}
-use Rattle.task_steps.proofs.Facts.{queued}
-use Rattle.task_steps.proofs.Leads.{leads_first, counted}
+use Rattle.task_steps.proofs.Facts.{queued, counted}
+use Rattle.task_steps.proofs.Acts.{leads_first}
 use Rattle.task_steps.proofs.AwaiterOwed.{not_emptied}
 use Rattle.task_steps.proofs.Advance.{Finds, Placing, stays, takes_future, gives_work, takes_awaiter, gives_awaiter, Steps}
 use Rattle.task_steps.proofs.Allowed.{Owes, OwesEnd}
@@ -60,8 +42,7 @@ referred : (limit : ℕ) (w : State) (slots : Slots) (t : List Event) (c : Censu
 referred limit w slots t c h e = grind arith
 
 is_last : (n : ℕ) (b : Bool) → 1 ≤ n → (nat_lt 1 n || b) ≡ false → (nat_eq n 1 && not b) ≡ true
-is_last n true e f = grind (arith, nat_tests)
-is_last n false e f = grind (arith, nat_tests)
+is_last n b e f = grind (arith, nat_tests)
 
 -- a word that is closed already
 pub closed_already : (w : State) → w.closed ≡ true → record w { closed = true } ≡ w
@@ -81,14 +62,10 @@ both : {a b : Bool} → a ≡ true → b ≡ true → (a && b) ≡ true
 both {a} {b} e f = ap (λ (x : Bool). x && b) e ∙ f
 
 three : (c s d : Bool) → c ≡ false → s ≡ false → d ≡ true → (not c && not s && d) ≡ true
-three true s d e f g = never (sym e)
-three false true d e f g = never (sym f)
-three false false d e f g = g
+three c s d e f g = grind arith
 
 four : (c s r t : Bool) → c ≡ false → s ≡ false → (r && not t) ≡ true → (not c && not s && r && not t) ≡ true
-four true s r t e f g = never (sym e)
-four false true r t e f g = never (sym f)
-four false false r t e f g = g
+four c s r t e f g = grind arith
 
 -- the row that fits a word that is not closed
 picked : (c s d r t : Bool) (x y z w : State) → c ≡ false → (d ≡ false → (r && not t) ≡ true)

@@ -5,25 +5,8 @@ use native.Mathlib.Decide.{ℕ_discrete}
 use lib.ListN.{get_elem?}
 use Rattle.atomic_table.specs.Table.{State as Board, Splits}
 use Rattle.atomic_table.proofs.Lists.{at_set, set_here, set_else, set_again, at_longer}
-use Rattle.task_core.specs.Word.{number_of}
-use Rattle.task_laws.specs.Event.{Event, HandedOver}
-use Rattle.task_laws.specs.Laws.{how_often}
-use Rattle.task_laws.specs.declared.positions.Position.{Position}
-use Rattle.task_laws.specs.declared.positions.OnceDelivered.{OnceDelivered}
-use Rattle.task_laws.specs.declared.positions.Position.TheVariants.{At, Deliverer, CallEnding}
-use Rattle.task_laws.specs.declared.positions.Rest.TheVariants.{Runnable, Ended}
-use Rattle.task_core.specs.declared.acts.Act.TheVariants.{HandOver}
-use Rattle.task_laws.specs.declared.positions.OnceDelivered.TheVariants.{ThenEnds, ThenTask, ThenNotifies}
-use Rattle.task_laws.specs.declared.positions.Answer.TheVariants.{Nothing}
-use Rattle.task_laws.specs.Table.{Outcome, leaves_slots, after_handing_over}
-use Rattle.task_laws.specs.Machine.{Machine, scene}
-use Rattle.task_laws.specs.Holders.{owns_awaiter}
-use Rattle.task_laws.proofs.Theorem.{laws_of}
-use Rattle.task_steps.specs.declared.table.Slot.{Slot}
-use Rattle.task_steps.specs.declared.table.Deed.{Deed}
-use Rattle.task_steps.specs.declared.table.Member.{Member}
-use Rattle.task_steps.specs.declared.table.Stage.TheVariants.{Spawned}
-use Rattle.task_steps.specs.declared.table.View.{View}
+use Rattle.task_steps.proofs.Vocabulary.{number_of, Event, HandedOver, how_often, Position, OnceDelivered, At, Deliverer, CallEnding, Runnable, Ended, HandOver, ThenEnds, ThenTask, ThenNotifies, Nothing, Outcome, leaves_slots, after_handing_over, Machine, scene, owns_awaiter, laws_of, Slot, Deed, Member}
+use Rattle.task_steps.proofs.Vocabulary.{Spawned, View}
 use Rattle.task_steps.specs.Rule.{deed, member, view, fresh, opening_at, Entry, Explains, has_work, HomesAgree, Running, RuleHolds}
 use Rattle.task_steps.specs.Standing.{hands_over, handed_over}
 use Rattle.task_steps.specs.Seats.{handing_over, runnable_of}

@@ -1,27 +1,16 @@
 -- What a party has seen of the task's end is so from then on.
 use Rattle.std.proofs.Common.{◌≡◌, ℕ, zero, suc, ◌≤◌, eqb, Bool, true, false, not, ◌&&◌, ◌||◌, Option, Some, None, List, [], ◌∷◌, ◌++◌, sym, refl, ap, ◌∙◌, ⊎_elim, ◌⊎◌, inl, inr, cond, arith}
-use Rattle.std.specs.Prelude.{slice_get, nat_eq}
+use Rattle.std.specs.Prelude.{slice_get}
+use Rattle.std.proofs.lemmas.Bool.Decides.{nat_tests}
 use mathlib.Core.Option.{some}
 use lib.ListN.{get_elem?}
-use Rattle.task_core.specs.Word.{State, is_open}
-use Rattle.task_laws.specs.declared.positions.Position.{Position}
-use Rattle.task_laws.specs.declared.positions.Position.TheVariants.{OrphanHolder}
-use Rattle.task_core.specs.declared.acts.Act.{Act}
-use Rattle.task_core.specs.declared.acts.Act.TheVariants.{WakeRunning, WakeIdle, DiscardOpen, CancelBusy, CancelIdle, ClaimOutput, GiveUpOutput, DetachOrphan, CloseOrphan, StartRun, Unschedule, Complete, CompleteDetached, EndClosed, Reschedule, EndIdle, EndOrphaned}
-use Rattle.task_core.specs.Rows.{found, written}
-use Rattle.task_laws.specs.Table.{Slots, Scene, Outcome, goes, rule}
-use Rattle.task_laws.specs.Event.{Event}
-use Rattle.task_laws.specs.Machine.{Machine, Step, scene, moves, after, step}
-use Rattle.task_laws.proofs.Census.{Census, census}
-use Rattle.task_laws.proofs.Invariant.{Holds}
-use Rattle.task_laws.proofs.Runs.{Invariant}
-use Rattle.task_steps.specs.declared.table.Deed.{Deed}
+use Rattle.task_steps.proofs.Vocabulary.{State, is_open, Position, OrphanHolder, Act, DiscardOpen, CloseOrphan, found, written, Slots, Scene, Outcome, goes, rule, Event, Machine, Step, scene, moves, after, step}
+use Rattle.task_steps.proofs.Vocabulary.{Census, census, Holds, Invariant, rule_word, Deed}
 use Rattle.task_steps.specs.PollScripts.{has_ended}
 use Rattle.task_steps.specs.Rule.{Entry, Reaches, is_private, noted_if, deeds_of, DidLast}
 use Rattle.task_steps.specs.Steps.{leaves_such, saw, saw_over, saw_closed, saw_ended}
-use Rattle.task_steps.proofs.Written.{rule_word, found_is}
-use Rattle.task_steps.proofs.Facts.{law}
-use Rattle.task_steps.proofs.Leads.{counted}
+use Rattle.task_steps.proofs.Written.{found_is}
+use Rattle.task_steps.proofs.Facts.{law, counted}
 use Rattle.task_steps.proofs.Explains.{next_machine}
 
 -- a step of the machine, taken apart: where its party stood, and what the table says
@@ -64,85 +53,23 @@ closes_open n m s i x e = let at : x.at ≡ OrphanHolder = only_orphan (scene n)
     orphan_open n.limit n.word n.slots n.trace (census n.parties) i.holds
     (counted (λ c. c.orphans) (λ a b. refl) n.parties s.party OrphanHolder (at_index n.parties s.party OrphanHolder (x.here ∙ ap (λ p. Some p) at)))
 
-closed_over : (c : Bool) → not c && false ≡ false
-closed_over true = refl
-closed_over false = refl
-
 -- a task that is over stays over
 stays_over : (a : Act) (w : State) → is_open w ≡ false → is_open (written a w) ≡ false
-stays_over DiscardOpen w e = closed_over w.completed
-stays_over CancelBusy w e = closed_over w.completed
-stays_over CancelIdle w e = closed_over w.completed
-stays_over ClaimOutput w e = closed_over w.completed
-stays_over GiveUpOutput w e = closed_over w.completed
-stays_over CloseOrphan w e = refl
-stays_over DetachOrphan w e = refl
-stays_over EndOrphaned w e = refl
-stays_over Complete w e = refl
-stays_over CompleteDetached w e = refl
-stays_over _ w e = e
+stays_over DiscardOpen w e = grind (arith, nat_tests)
+stays_over a w e = grind (arith, nat_tests)
 
 stays_closed : (a : Act) (w : State) → w.closed ≡ true → (written a w).closed ≡ true
 stays_closed DiscardOpen w e = refl
-stays_closed CancelBusy w e = refl
-stays_closed CancelIdle w e = refl
-stays_closed ClaimOutput w e = refl
-stays_closed GiveUpOutput w e = refl
-stays_closed CloseOrphan w e = refl
-stays_closed DetachOrphan w e = refl
-stays_closed EndOrphaned w e = refl
-stays_closed CompleteDetached w e = refl
-stays_closed _ w e = e
+stays_closed a w e = grind (arith, nat_tests)
 
 pub left_true : (a b : Bool) → (a && b) ≡ true → a ≡ true
 left_true true b e = refl
 left_true false b e = e
 
-right_true : (a b : Bool) → (a && b) ≡ true → b ≡ true
-right_true true b e = e
-right_true false b e = absurd (cc)
-
--- a word that is closed is not open
-open_and_closed : {P : Type 0} (k c x : Bool) → (not k && not c) ≡ true → (c && x) ≡ true → P
-open_and_closed true c x e f = absurd (cc)
-open_and_closed false true x e f = absurd (cc)
-open_and_closed false false x e f = absurd (cc)
-
-unclosed_and_closed : {P : Type 0} (c x : Bool) → not c ≡ true → (c && x) ≡ true → P
-unclosed_and_closed true x e f = absurd (cc)
-unclosed_and_closed false x e f = absurd (cc)
-
--- without a run, or without a Runnable, it has ended all the same
-neither : (c s r : Bool) → (c && not (s || r)) ≡ true → (c ≡ true) × (s ≡ false) × (r ≡ false)
-neither true true r e = absurd (cc)
-neither true false true e = absurd (cc)
-neither true false false e = (refl, refl, refl)
-neither false s r e = absurd (cc)
-
-has_neither : (c s r : Bool) → c ≡ true → s ≡ false → r ≡ false → (c && not (s || r)) ≡ true
-has_neither c s r e f g = (λ i. e i && not (f i || g i)) ∙ refl
-
 -- what is closed, and has neither Runnable nor run, stays so
 stays_ended : (l : ℕ) (a : Act) (w : State) → found l a w ≡ true → (a ≡ CloseOrphan → is_open w ≡ true) → has_ended w ≡ true → has_ended (written a w) ≡ true
-stays_ended l WakeRunning w f o e = open_and_closed w.completed w.closed (not (w.scheduled || w.running)) (left_true (is_open w) (not w.scheduled) (left_true (is_open w && not w.scheduled) w.running f)) e
-stays_ended l WakeIdle w f o e = open_and_closed w.completed w.closed (not (w.scheduled || w.running)) (left_true (is_open w) (not w.scheduled) (left_true (is_open w && not w.scheduled) (not w.running) f)) e
-stays_ended l DiscardOpen w f o e = unclosed_and_closed w.closed (not (w.scheduled || w.running)) f e
-stays_ended l CancelBusy w f o e = open_and_closed w.completed w.closed (not (w.scheduled || w.running)) (left_true (is_open w) (w.scheduled || w.running) f) e
-stays_ended l CancelIdle w f o e = open_and_closed w.completed w.closed (not (w.scheduled || w.running)) (left_true (is_open w) (not w.scheduled) (left_true (is_open w && not w.scheduled) (not w.running) f)) e
-stays_ended l ClaimOutput w f o e = right_true w.closed (not (w.scheduled || w.running)) e
-stays_ended l GiveUpOutput w f o e = right_true w.closed (not (w.scheduled || w.running)) e
-stays_ended l DetachOrphan w f o e = open_and_closed w.completed w.closed (not (w.scheduled || w.running)) (right_true (nat_eq w.references 0) (is_open w) f) e
-stays_ended l CloseOrphan w f o e = open_and_closed w.completed w.closed (not (w.scheduled || w.running)) (o refl) e
-stays_ended l StartRun w f o e = unclosed_and_closed w.closed (not (w.scheduled || w.running)) f e
-stays_ended l Unschedule w f o e = let n = neither w.closed w.scheduled w.running e in has_neither w.closed false w.running n.0 refl n.2
-stays_ended l Complete w f o e = let n = neither w.closed w.scheduled w.running e in has_neither w.closed false false n.0 refl refl
-stays_ended l CompleteDetached w f o e = refl
-stays_ended l EndClosed w f o e = has_neither w.closed false false f refl refl
-stays_ended l Reschedule w f o e = unclosed_and_closed w.closed (not (w.scheduled || w.running)) (left_true (not w.closed) w.scheduled f) e
-stays_ended l EndIdle w f o e = let n = neither w.closed w.scheduled w.running e in has_neither w.closed w.scheduled false n.0 n.1 refl
-stays_ended l EndOrphaned w f o e = unclosed_and_closed w.closed (not (w.scheduled || w.running))
-    (left_true (not w.closed) (not w.scheduled) (left_true (not w.closed && not w.scheduled) (nat_eq w.references 1) (left_true (not w.closed && not w.scheduled && nat_eq w.references 1) (not w.task) f))) e
-stays_ended l _ w f o e = e
+stays_ended l CloseOrphan w f o e = let opened = o refl in grind (arith, nat_tests)
+stays_ended l a w f o e = grind (arith, nat_tests)
 
 either_true : (a b : Bool) → (a || b) ≡ true → (a ≡ true) ⊎ (b ≡ true)
 either_true true b e = inl refl

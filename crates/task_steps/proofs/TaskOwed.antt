@@ -3,27 +3,9 @@ use Rattle.std.proofs.Common.{◌≡◌, ℕ, ◌+◌, ◌≤◌, Bool, true, fa
 use Rattle.std.specs.Prelude.{bit_and, nat_lt, nat_eq, if◌then◌else◌}
 use Rattle.std.proofs.lemmas.Bool.Decides.{nat_tests}
 use Rattle.atomic_table.specs.Table.{rest}
-use Rattle.task_core.specs.Word.{State, state_of, number_of, is_open, orphan_word}
-use Rattle.task_laws.specs.Event.{Event, CallEnds, Closes, Made, ByClosing, TaskGivenUp, OutputDropped}
-use Rattle.task_laws.specs.declared.positions.Answer.TheVariants.{Nothing}
-use Rattle.task_laws.specs.declared.positions.Position.{Position}
-use Rattle.task_laws.specs.declared.positions.Position.TheVariants.{At, Deliverer, Emptier, OutputCloser, Detacher}
-use Rattle.task_laws.specs.declared.positions.Rest.TheVariants.{Task, Ended}
-use Rattle.task_laws.specs.declared.positions.OnceDelivered.TheVariants.{ThenEnds}
-use Rattle.task_laws.specs.declared.positions.NotifyingCall.TheVariants.{OfCancel}
-use Rattle.task_core.specs.declared.acts.Act.{Act}
-use Rattle.task_core.specs.declared.acts.Act.TheVariants.{CancelOver, CancelBusy, CancelIdle, GiveUpOutput, DetachOrphan, DetachLast, Detach, EndCall}
-use Rattle.task_core.specs.Rows.{found, written}
-use Rattle.task_laws.specs.Table.{Slots, Outcome, leaves_slots, changes_slots, goes, where_found, notifies, after_cancelling}
-use Rattle.task_laws.specs.Machine.{Machine, scene}
-use Rattle.task_laws.specs.Laws.{how_often}
-use Rattle.task_laws.specs.Holders.{owns_awaiter}
-use Rattle.task_laws.proofs.Census.{Census, census, weigh}
-use Rattle.task_laws.proofs.Invariant.{Holds}
-use Rattle.task_core.proofs.Bits.{state_of_number_of, fetch_and-task}
-use Rattle.task_steps.specs.declared.table.Slot.{Slot}
-use Rattle.task_steps.specs.declared.table.Deed.{Deed}
-use Rattle.task_steps.specs.declared.table.Member.{Member}
+use Rattle.task_steps.proofs.Vocabulary.{State, state_of, number_of, is_open, orphan_word, CallEnds, Closes, Made, ByClosing, TaskGivenUp, OutputDropped, Nothing, Position, At, Deliverer, Emptier, OutputCloser, Detacher, Task, Ended, ThenEnds, OfCancel, Act, CancelOver}
+use Rattle.task_steps.proofs.Vocabulary.{CancelBusy, CancelIdle, GiveUpOutput, DetachOrphan, DetachLast, Detach, EndCall, found, written, Outcome, leaves_slots, changes_slots, goes, where_found, notifies, after_cancelling, Machine, scene, owns_awaiter}
+use Rattle.task_steps.proofs.Vocabulary.{census, weigh, state_of_number_of, fetch_and-task, Slot, Deed, Member}
 use Rattle.task_steps.specs.Rule.{has_work}
 use Rattle.task_steps.specs.Steps.{saw_closed, output_first, and_then, spot}
 use Rattle.task_steps.specs.Scripts.{dropping_output}
@@ -31,9 +13,11 @@ use Rattle.task_steps.specs.WakerScripts.{is_over}
 use Rattle.task_steps.specs.TaskScripts.{finding_cancelled, cancelling, cancelled, detaching, detached, giving_task_up}
 use Rattle.task_steps.proofs.Bools.{never}
 use Rattle.task_steps.proofs.Acts.{leads, both}
-use Rattle.task_steps.proofs.Advance.{Finds, stays, gives_work, takes_output, takes_awaiter, Steps}
+use Rattle.task_steps.proofs.Facts.{counted}
+use Rattle.task_steps.proofs.AwaiterOwed.{not_emptied}
+use Rattle.task_steps.proofs.PollOwed.{output_there, future_gone}
+use Rattle.task_steps.proofs.Advance.{Finds, stays, gives_work, takes_output, takes_awaiter, Steps, keeps_places}
 use Rattle.task_steps.proofs.Allowed.{Owes, OwesEnd}
-use Rattle.task_steps.proofs.Owed.{counted_at}
 
 -- acts in a row, by whether the first finds its word
 abbrev leads_if : Machine → Position → Act → List Act → Bool → Option Outcome
@@ -62,27 +46,10 @@ pub idle_cancel : (b : Bool) (n : ℕ) → (has_work (notifies b (OfCancel n)) �
 idle_cancel true n = (refl, refl)
 idle_cancel false n = (refl, refl)
 
--- while the Task is there, the slots were not emptied
-unemptied : (limit : ℕ) (w : State) (slots : Slots) (t : List Event) (c : Census) → Holds limit w slots t c → 1 ≤ c.tasks → how_often Event.Empties t ≡ 0
-unemptied limit w slots t c h e = grind arith
-
--- of a completed task that is not closed, the output is there
-output_there : (limit : ℕ) (w : State) (slots : Slots) (t : List Event) (c : Census) → Holds limit w slots t c → (w.completed && not w.closed) ≡ true → slots.output ≡ true
-output_there limit w slots t c h e = grind arith
-
--- whoever has claimed the output has the only thing that is left of the work
-no_future : (limit : ℕ) (w : State) (slots : Slots) (t : List Event) (c : Census) → Holds limit w slots t c → 1 ≤ c.claims → slots.future ≡ false
-no_future limit w slots t c h e = grind arith
-
 module _ (F T A : Type 0) (limit : ℕ) where
   pub finds_over : (n : ℕ) (ds : List Deed) (us : List Member) (l : List (ℕ × Slot F T A)) → OwesEnd F T A limit (is_over limit) finding_cancelled (At (Task n)) ds us l
-  finds_over n ds us l m f x e lt is = record {
-    outcome = leaves_slots (scene m) m.word (At (Task n)) [] (CallEnds Nothing ∷ []);
-    leads_to = finds_it m (At (Task n)) CancelOver (EndCall ∷ []) is;
-    writes = e;
-    idle = (refl, refl);
-    placing = stays refl refl (inr (refl, refl)) (inr (refl, refl));
-  }
+  finds_over n ds us l m f x e lt is = keeps_places (leaves_slots (scene m) m.word (At (Task n)) [] (CallEnds Nothing ∷ []))
+      (finds_it m (At (Task n)) CancelOver (EndCall ∷ []) is) e refl
 
   pub cancels : (n : ℕ) (ds : List Deed) (us : List Member) (l : List (ℕ × Slot F T A)) (w : State) (old new : ℕ) → old ≡ number_of w → new ≡ number_of (cancelled w) → is_open w ≡ true
       → (m : Machine) → Finds limit (At (Task n)) ds us m → old ≡ number_of m.word → Steps m (At (Task n)) (cancelling m.word) new l
@@ -103,13 +70,8 @@ module _ (F T A : Type 0) (limit : ℕ) where
         idle = (refl, refl);
         placing = stays i.0 i.1 (inr (refl, refl)) (inr (refl, refl));
       }
-      closes false is = record {
-        outcome = leaves_slots (scene m) (record (m.word) { scheduled = true; closed = true; references = m.word.references + 1 }) (Deliverer false (after_cancelling m.word.awaiter n)) [] (Made ByClosing ∷ Closes ∷ []);
-        leads_to = finds_it m (At (Task n)) CancelIdle [] (neither (is_open m.word) m.word.scheduled m.word.running now is);
-        writes = refl;
-        idle = (refl, refl);
-        placing = stays refl refl (inr (refl, refl)) (inr (refl, refl));
-      }
+      closes false is = keeps_places (leaves_slots (scene m) (record (m.word) { scheduled = true; closed = true; references = m.word.references + 1 }) (Deliverer false (after_cancelling m.word.awaiter n)) [] (Made ByClosing ∷ Closes ∷ []))
+          (finds_it m (At (Task n)) CancelIdle [] (neither (is_open m.word) m.word.scheduled m.word.running now is)) refl refl
 
   -- the row of a Task that is given up, from here on
   gives_reference : (p : Position) (m : Machine) (x : ℕ) (l : List (ℕ × Slot F T A)) → has_work p ≡ false → owns_awaiter p ≡ false
@@ -126,7 +88,7 @@ module _ (F T A : Type 0) (limit : ℕ) where
   gives_last : (p : Position) (ds : List Deed) (us : List Member) (m : Machine) → Finds limit p ds us m → (x : ℕ) (l : List (ℕ × Slot F T A)) → has_work p ≡ false → owns_awaiter p ≡ false → 1 ≤ (weigh p).tasks
       → leads_if m p DetachLast [] true ≡ Some (leaves_slots (scene m) (record (m.word) { task = false }) (Emptier None Nothing) [] (TaskGivenUp ∷ []))
       → x ≡ number_of (record (m.word) { task = false }) → nat_lt 0 m.word.references ≡ false → m.word.closed ≡ true → Steps m p (DetachLast ∷ []) x l
-  gives_last p ds us m f x l free bare one goes e none closed = let left = unemptied m.limit m.word m.slots m.trace (census m.parties) f.invariant.holds (let h = counted_at (λ c. c.tasks) (λ a b. refl) m.parties f.number p f.stands in omega arith) in record {
+  gives_last p ds us m f x l free bare one goes e none closed = let left = not_emptied m.limit m.word m.slots m.trace (census m.parties) f.invariant.holds (let h = counted (λ c. c.tasks) (λ a b. refl) m.parties f.number p f.stands in omega arith) in record {
     outcome = leaves_slots (scene m) (record (m.word) { task = false }) (Emptier None Nothing) [] (TaskGivenUp ∷ []);
     leads_to = finds_it m p DetachLast [] (both (nat_eq m.word.references 0) m.word.closed (none_left m.word.references none) closed) ∙ goes;
     writes = e;
@@ -153,16 +115,11 @@ module _ (F T A : Type 0) (limit : ℕ) where
       }
       gives false true c claimed counted closed = gives_reference (At (Task n)) m (number_of (record (m.word) { task = false })) l refl refl refl refl counted claimed
       gives false false true claimed counted closed = gives_last (At (Task n)) ds us m f (number_of (record (m.word) { task = false })) l refl refl (omega arith) refl refl counted closed
-      gives false false false claimed counted closed = record {
-        outcome = leaves_slots (scene m) orphan_word (Deliverer false (ThenEnds Nothing)) [] (Made ByClosing ∷ Closes ∷ TaskGivenUp ∷ []);
-        leads_to = finds_it m (At (Task n)) DetachOrphan [] (last_orphan m.word.references m.word.completed m.word.closed counted claimed closed);
-        writes = refl;
-        idle = (refl, refl);
-        placing = stays refl refl (inr (refl, refl)) (inr (refl, refl));
-      }
+      gives false false false claimed counted closed = keeps_places (leaves_slots (scene m) orphan_word (Deliverer false (ThenEnds Nothing)) [] (Made ByClosing ∷ Closes ∷ TaskGivenUp ∷ []))
+          (finds_it m (At (Task n)) DetachOrphan [] (last_orphan m.word.references m.word.completed m.word.closed counted claimed closed)) refl refl
 
   pub drops_output : (ds : List Deed) (us : List Member) (y z : Slot F T A) (l : List (ℕ × Slot F T A)) → l ≡ output_first y z (rest (rest l)) → Owes F T A limit dropping_output (λ n. n) OutputCloser ds us l
-  drops_output ds us y z l has m f x e lt = let none = no_future m.limit m.word m.slots m.trace (census m.parties) f.invariant.holds (counted_at (λ c. c.claims) (λ a b. refl) m.parties f.number OutputCloser f.stands) in record {
+  drops_output ds us y z l has m f x e lt = let none = future_gone m.limit m.word m.slots m.trace (census m.parties) f.invariant.holds (counted (λ c. c.claims) (λ a b. refl) m.parties f.number OutputCloser f.stands) in record {
     outcome = changes_slots (scene m) m.word (record (m.slots) { output = false }) Detacher (OutputDropped ∷ []);
     leads_to = refl;
     writes = e;

@@ -4,9 +4,7 @@ use mathlib.Core.Option.{some}
 use lib.ListN.{get_elem?}
 use Rattle.atomic_table.specs.Table.{State as Board, Splits}
 use Rattle.atomic_table.proofs.Lists.{at_longer, set_again}
-use Rattle.task_steps.specs.declared.table.Slot.{Slot}
-use Rattle.task_steps.specs.declared.table.Member.{Member}
-use Rattle.task_steps.specs.declared.table.View.{View}
+use Rattle.task_steps.proofs.Vocabulary.{Slot, Member, View}
 use Rattle.task_steps.specs.Rule.{view, Explains, RuleHolds}
 use Rattle.task_steps.specs.Beside.{others, newest_of, without_newest, newest}
 use Rattle.task_steps.proofs.Explains.{inside, at_second}

@@ -2,7 +2,7 @@ use Rattle.task_progress.proofs.Sums.{steps_are_bounded, open_calls_bound_steps}
 use Rattle.task_progress.proofs.OwnSteps.{each_party_is_bounded}
 use Rattle.task_progress.proofs.Attempts.{lock_free}
 use Rattle.task_progress.proofs.Waits.{no_call_waits}
-use Rattle.task_progress.proofs.TaskSaw.{what_task_saw_stays}
+use Rattle.task_progress.proofs.Seen.{what_task_saw_stays}
 use Rattle.task_progress.proofs.Ending.{each_ends_alone, all_calls_end, never_stuck}
 use Rattle.task_progress.proofs.AtRest.{without_work_at_rest, due_wakes_are_polled}
 use Rattle.task_progress.proofs.ComesToRest.{all_come_to_rest, due_wakes_stay, closed_makes_no_runnable, runs_lead_to_rest, closed_leads_to_rest}
