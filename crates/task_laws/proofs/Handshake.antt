@@ -6,7 +6,8 @@ use Rattle.task_laws.proofs.Census.{Census, plus, weigh}
 use Rattle.task_laws.proofs.Awaiting.{Awaiting, join, await, awaiting, held, Fits}
 use Rattle.task_laws.proofs.Invariant.{Holds}
 use Rattle.task_laws.proofs.Scenes.{rules, InEach, completed, closed, task, registering, notifying, by_flag, by_references}
-use Rattle.task_laws.proofs.Rows.{Row, gains_lent, wakes_over_lent, wakes_scheduled_lent, wakes_running_lent, wakes_idle_lent, completes_awaited, gives_up, misses_notify, ends_notify, wakes_awaiter, hands_over, begins_notify, takes_awaiter, looks_queued, looks_running, looks_ended, Shows, by_rows}
+use Rattle.task_laws.proofs.Rows.{Row, gains_lent, wakes_over_lent, wakes_scheduled_lent, wakes_running_lent, wakes_idle_lent, completes_awaited, gives_up, misses_notify, ends_notify, wakes_awaiter, hands_over, begins_notify}
+use Rattle.task_laws.proofs.Rows.{takes_awaiter, looks_queued, looks_running, looks_ended, Shows, by_rows}
 
 -- the last pending poll was woken; or its clone stands in the slot, and the word says so; or somebody is about to wake it
 abbrev pub IsCared : ℕ → State → Slots → List Event → Awaiting → Type 0

@@ -1,10 +1,12 @@
 -- What holds between the word, the slots, the trace and the census of the parties at each moment.
 use Rattle.std.proofs.Common.{◌≡◌, ℕ, ◌+◌, ◌≤◌, true, false, not, ◌&&◌, ◌||◌, ◌⊎◌, List, ◌∷◌, ◌++◌, Option, Some, None}
 use Rattle.std.specs.Prelude.{if◌then◌else◌, nat_eq}
-use Rattle.task_laws.proofs.Vocabulary.{State, bit, is_open, Event, Maker, Position, Act, OfRun, ThenEnds, Slots, Scene, Outcome, rule, begins, how_often, count, is_future_answer, Each, MayPoll, is_output_end, is_made, is_call_end, taken_up_closed, wake_is_due, woken_since_taking_up, fresh_wakes}
+use Rattle.task_laws.proofs.Vocabulary.{State, bit, is_open, Event, Maker, Position, Act, OfRun, ThenEnds, Slots, Scene, Outcome, rule, begins, how_often, count, is_future_answer, Each, MayPoll, is_output_end, is_made}
+use Rattle.task_laws.proofs.Vocabulary.{is_call_end, taken_up_closed, wake_is_due, woken_since_taking_up, fresh_wakes}
 use Rattle.task_laws.proofs.Census.{Census, plus, weigh, census, runs, closers, calls}
 use Rattle.task_laws.proofs.Scenes.{rules, InEach, completed, closed, task, by_flag, by_references}
-use Rattle.task_laws.proofs.Rows.{Row, gains_lent, wakes_over_lent, wakes_running_waker, wakes_running_lent, wakes_idle_waker, wakes_idle_lent, cancels_idle_awaited, cancels_idle, gives_up, misses_notify, ends_notify, wakes_awaiter, hands_over, Shows, by_rows}
+use Rattle.task_laws.proofs.Rows.{Row, gains_lent, wakes_over_lent, wakes_running_waker, wakes_running_lent, wakes_idle_waker, wakes_idle_lent, cancels_idle_awaited, cancels_idle, gives_up, misses_notify, ends_notify}
+use Rattle.task_laws.proofs.Rows.{wakes_awaiter, hands_over, Shows, by_rows}
 
 pub record Holds (limit : ℕ) (word : State) (slots : Slots) (trace : List Event) (parties : Census) : Type 0 where
   -- the word and the parties
@@ -59,9 +61,13 @@ kept_row : (act : Act) (p : Position) (put : Scene → Scene) → Row act p put 
 kept_row _ _ _ gains_lent = by_flag task (grind rules) (by_references (grind rules) (λ n. grind rules))
 kept_row _ _ _ wakes_over_lent = by_flag task (grind rules) (by_references (grind rules) (λ n. grind rules))
 kept_row _ _ _ wakes_running_waker = by_flag closed (grind rules) (by_flag completed (grind rules) (grind rules))
-kept_row _ _ _ wakes_running_lent = by_flag task (by_flag closed (grind rules) (by_flag completed (grind rules) (grind rules))) (by_references (by_flag closed (grind rules) (by_flag completed (grind rules) (grind rules))) (λ n. by_flag closed (grind rules) (by_flag completed (grind rules) (grind rules))))
+kept_row _ _ _ wakes_running_lent =
+    by_flag task (by_flag closed (grind rules) (by_flag completed (grind rules) (grind rules)))
+    (by_references (by_flag closed (grind rules) (by_flag completed (grind rules) (grind rules))) (λ n. by_flag closed (grind rules) (by_flag completed (grind rules) (grind rules))))
 kept_row _ _ _ wakes_idle_waker = by_flag closed (grind rules) (grind rules)
-kept_row _ _ _ wakes_idle_lent = by_flag task (by_flag closed (grind rules) (by_flag completed (grind rules) (grind rules))) (by_references (by_flag closed (grind rules) (by_flag completed (grind rules) (grind rules))) (λ n. by_flag closed (grind rules) (by_flag completed (grind rules) (grind rules))))
+kept_row _ _ _ wakes_idle_lent =
+    by_flag task (by_flag closed (grind rules) (by_flag completed (grind rules) (grind rules)))
+    (by_references (by_flag closed (grind rules) (by_flag completed (grind rules) (grind rules))) (λ n. by_flag closed (grind rules) (by_flag completed (grind rules) (grind rules))))
 kept_row _ _ _ (cancels_idle_awaited n) = by_flag closed (grind rules) (grind rules)
 kept_row _ _ _ (cancels_idle n) = by_flag closed (grind rules) (grind rules)
 kept_row _ _ _ (gives_up None answer) = grind rules

@@ -1,6 +1,16 @@
 -- The rows of the table, each where the flags are known on which its next position depends. A claim is shown of all acts and positions by a case for each.
 use Rattle.std.proofs.Common.{◌≡◌, ℕ, Bool, true, false, Option, Some, None, refl}
-use Rattle.task_laws.proofs.Vocabulary.{found, written, Answer, Rest, NotifyingCall, OnceDelivered, Runnable, Waker, Lent, Task, ClosedRun, DroppedRunnable, At, CallEnding, Deliverer, Starting, Polling, Pending, Ready, ReadyFutureDropped, OutputStored, PendingFutureDropped, FutureInHand, FutureGone, OutputInHand, GivingUp, Emptier, Notifier, Taker, Releaser, AwaiterInHand, OrphanHolder, Registrar, HasClone, UnusedClone, Storing, Registered, TookBack, CloneInHand, Looking, SawOutput, TookOutput, OldAwaiterInHand, Answering, OutputCloser, Detacher, GainReference, FindLimit, DropWaker, DropLastWaker, OrphanTask, CloseOrphan, GiveUpReference, GiveUpLastReference, WakeOver, WakeScheduled, WakeRunning, WakeIdle, DiscardOpen, DiscardClosed, CancelOver, CancelBusy, CancelIdle, ClaimOutput, GiveUpOutput, DetachOrphan, DetachLast, Detach, TakeUpClosed, StartRun, Unschedule, Complete, CompleteDetached, EndClosed, Reschedule, EndIdle, EndOrphaned, BeginNotify, MissNotify, FindNotify, BeginRegister, EndNotify, EndRegister, EndRegisterNotified, Look, LookFinished, StartPoll, AnswerPending, AnswerReady, DropFuture, StoreOutput, DropOutput, HandOutOutput, CloneAwaiter, RefuseClone, StoreAwaiter, TakeAwaiter, WakeAwaiter, DropAwaiter, HandOver, EmptySlots, RefuseGain, EndCall}
+use Rattle.task_laws.proofs.Vocabulary.{found, written, Answer, Rest, NotifyingCall, OnceDelivered, Runnable, Waker, Lent, Task, ClosedRun, DroppedRunnable, At}
+use Rattle.task_laws.proofs.Vocabulary.{CallEnding, Deliverer, Starting, Polling, Pending, Ready, ReadyFutureDropped, OutputStored, PendingFutureDropped}
+use Rattle.task_laws.proofs.Vocabulary.{FutureInHand, FutureGone, OutputInHand, GivingUp, Emptier, Notifier, Taker, Releaser, AwaiterInHand, OrphanHolder}
+use Rattle.task_laws.proofs.Vocabulary.{Registrar, HasClone, UnusedClone, Storing, Registered, TookBack, CloneInHand, Looking, SawOutput, TookOutput}
+use Rattle.task_laws.proofs.Vocabulary.{OldAwaiterInHand, Answering, OutputCloser, Detacher, GainReference, FindLimit, DropWaker, DropLastWaker, OrphanTask}
+use Rattle.task_laws.proofs.Vocabulary.{CloseOrphan, GiveUpReference, GiveUpLastReference, WakeOver, WakeScheduled, WakeRunning, WakeIdle, DiscardOpen}
+use Rattle.task_laws.proofs.Vocabulary.{DiscardClosed, CancelOver, CancelBusy, CancelIdle, ClaimOutput, GiveUpOutput, DetachOrphan, DetachLast, Detach}
+use Rattle.task_laws.proofs.Vocabulary.{TakeUpClosed, StartRun, Unschedule, Complete, CompleteDetached, EndClosed, Reschedule, EndIdle, EndOrphaned}
+use Rattle.task_laws.proofs.Vocabulary.{BeginNotify, MissNotify, FindNotify, BeginRegister, EndNotify, EndRegister, EndRegisterNotified, Look, LookFinished}
+use Rattle.task_laws.proofs.Vocabulary.{StartPoll, AnswerPending, AnswerReady, DropFuture, StoreOutput, DropOutput, HandOutOutput, CloneAwaiter, RefuseClone}
+use Rattle.task_laws.proofs.Vocabulary.{StoreAwaiter, TakeAwaiter, WakeAwaiter, DropAwaiter, HandOver, EmptySlots, RefuseGain, EndCall}
 use Rattle.task_laws.proofs.Vocabulary.{Position, Act, OfPoll, OfClaim, Scene, Outcome, where_found, goes, rule}
 use Rattle.task_laws.specs.declared.positions.PollAnswer.{PollAnswer}
 use Rattle.task_laws.proofs.Scenes.{InEach, scheduled, running, completed, closed, awaiter, notifying, by_flag, with_awaiter, by_slot}

@@ -26,7 +26,8 @@ LastingTo w trace p None = Unit {0}
 LastingTo w trace p (Some left) = Lasting w trace p left
 
 abbrev KeepsLasting : Act → Position → Scene → Option Outcome → Type 0
-KeepsLasting act p scene left = (trace : List Event) (rest : Census) (others : Awaiting) → Around scene.word (plus (weigh p) rest) (join (await 0 p) others)
+KeepsLasting act p scene left = (trace : List Event) (rest : Census) (others : Awaiting)
+    → Around scene.word (plus (weigh p) rest) (join (await 0 p) others)
     → LastingTo scene.word trace p left
 
 lasting_row : (act : Act) (p : Position) (put : Scene → Scene) → Row act p put → InEach (λ scene. Shows KeepsLasting act p (put scene))

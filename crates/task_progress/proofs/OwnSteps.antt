@@ -1,7 +1,8 @@
 -- What one party does, whatever the others do.
 use Rattle.std.proofs.Common.{◌≡◌, ℕ, ◌+◌, ◌*◌, ◌≤◌, Bool, true, false, refl, sym, ap, ◌∙◌, subst, List, [], ◌∷◌, ◌++◌, Option, Some, None, arith}
 use Rattle.std.specs.Prelude.{if◌then◌else◌, nat_eq, slice_get, slice_set}
-use Rattle.task_progress.proofs.Vocabulary.{bit, Position, Act, Outcome, rule, Machine, Step, scene, begins, after, moves, step, run_from, Event, how_often, get_other, get_append, same_number}
+use Rattle.task_progress.proofs.Vocabulary.{bit, Position, Act, Outcome, rule, Machine, Step, scene, begins, after, moves, step, run_from, Event, how_often}
+use Rattle.task_progress.proofs.Vocabulary.{get_other, get_append, same_number}
 use Rattle.task_progress.specs.StepsLeft.{steps_left, writes_word, writes_left}
 use Rattle.task_progress.specs.OwnSteps.{begins_at, begun_by, OwnStepsBounded, EachPartyIsBounded}
 use Rattle.task_progress.proofs.Rows.{Nears, NearTo, near}
@@ -16,7 +17,12 @@ pub record OneOwn (ps : List Position) (act : Act) (b : Bool) (i : ℕ) (p : Pos
 
 one_own : (ps : List Position) (act : Act) (b : Bool) (j i : ℕ) (p q : Position) (o : Outcome) → nat_eq j i ≡ b → slice_get ps i ≡ Some p
     → slice_get ps j ≡ Some q → Nears act q o → OneOwn ps act b i p (slice_set ps j o.next ++ o.born)
-one_own ps act false j i p q o is e f near = record { next = p; at = get_append (slice_set ps j o.next) o.born i p (get_other ps j i o.next is ∙ e); steps = omega arith; writes = omega arith }
+one_own ps act false j i p q o is e f near = record {
+  next = p;
+  at = get_append (slice_set ps j o.next) o.born i p (get_other ps j i o.next is ∙ e);
+  steps = omega arith;
+  writes = omega arith;
+}
 one_own ps act true j i p q o is e f near =
     let one : j ≡ i = same_number j i is in
     let there : slice_get ps i ≡ Some q = ap (slice_get ps) (sym one) ∙ f in

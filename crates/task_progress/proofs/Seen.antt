@@ -1,8 +1,10 @@
 -- What the Task has seen is kept by the rows of all other parties.
 use Rattle.std.proofs.Common.{◌≡◌, ℕ, Option, Some, None, arith, ◌∙◌, false, sym, ap, subst}
 use Rattle.std.specs.Prelude.{slice_get}
-use Rattle.task_progress.proofs.Vocabulary.{State, bit, Act, Position, Scene, Outcome, rule, Census, plus, weigh, census, Awaiting, join, await, awaiting, rules, InEach, completed, closed, by_flag, Row, wakes_running_waker, wakes_running_lent, wakes_idle_waker}
-use Rattle.task_progress.proofs.Vocabulary.{cancels_idle_awaited, cancels_idle, Shows, by_rows, Machine, scene, after, moves, Holds, HandshakeHolds, others, split, split_awaiting}
+use Rattle.task_progress.proofs.Vocabulary.{State, bit, Act, Position, Scene, Outcome, rule, Census, plus, weigh, census, Awaiting, join, await, awaiting, rules, InEach}
+use Rattle.task_progress.proofs.Vocabulary.{completed, closed, by_flag, Row, wakes_running_waker, wakes_running_lent, wakes_idle_waker}
+use Rattle.task_progress.proofs.Vocabulary.{cancels_idle_awaited, cancels_idle, Shows, by_rows, Machine, scene, after, moves, Holds, HandshakeHolds, others, split}
+use Rattle.task_progress.proofs.Vocabulary.{split_awaiting}
 use Rattle.task_progress.specs.Waiting.{is_task, StaysAsSeen, WhatTaskSawStays}
 use Rattle.task_progress.proofs.Relied.{Around, CountedAsTask, counted_as_task}
 use Rattle.task_progress.proofs.Waits.{InOrder, StaysInOrder, around, always_in_order}
@@ -44,7 +46,9 @@ moves_seen m i act (Some q) p h e is other =
     let same : q ≡ p = cc in
     let h1 = subst (Holds m.limit m.word m.slots m.trace) (split m.parties i p e) h.holds.holds in
     let k1 = subst (HandshakeHolds 0 m.word m.slots m.trace) (split_awaiting 0 m.parties i p e) (h.holds.shakes 0) in
-    rw same (after_seen m i p (rule (scene m) act p) (seen_by_rule act p (scene m) (census (others m.parties i)) (awaiting 0 (others m.parties i)) _ _ (counted_as_task (others m.parties i)) (sym (task_one p) ∙ ap bit other) (around m.limit m.word m.slots m.trace _ _ h1 k1)))
+    rw same (after_seen m i p (rule (scene m) act p)
+    (seen_by_rule act p (scene m) (census (others m.parties i)) (awaiting 0 (others m.parties i)) _ _ (counted_as_task (others m.parties i))
+    (sym (task_one p) ∙ ap bit other) (around m.limit m.word m.slots m.trace _ _ h1 k1)))
 
 pub what_task_saw_stays : WhatTaskSawStays
 what_task_saw_stays limit steps m e s p at other now f =
