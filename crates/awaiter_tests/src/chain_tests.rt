@@ -1,5 +1,5 @@
 //! Tasks that await one another: a chain, and a ring.
-use crate::line::{Errand, Line};
+use crate::line::{Errand, Line, LineTask};
 use async_task::TaskPoll;
 use awaiters::{Awaiter, Mailbox};
 use std::alloc::{AllocError, Global};
@@ -8,7 +8,19 @@ use std::sync::Wait;
 // How many tasks the chain has.
 const CHAIN: usize = 1000;
 
-// What a poll of the Task of this number answers: 0 where it is closed, `None` where it is pending.
+// What a poll of a Task answers: 0 where it is closed, `None` where it is pending.
+fn poll_once<R: Wait + Drop + Copy>(
+    mut task: LineTask<'_, R>,
+    awaiter: &Awaiter<R>,
+) -> Option<u64> {
+    match task.poll(awaiter) {
+        TaskPoll::Ready(Ok(answer)) => Some(answer),
+        TaskPoll::Ready(Err(_)) => Some(0),
+        TaskPoll::Pending | TaskPoll::Refused => None,
+    }
+}
+
+// The same of the Task of this number.
 fn answer_of<R: Wait + Drop + Copy>(
     line: &Line<R>,
     rt: R,
@@ -17,12 +29,8 @@ fn answer_of<R: Wait + Drop + Copy>(
 ) -> Result<Option<u64>, AllocError> {
     let mailbox = Mailbox::new(rt, alloc, 1)?;
     let awaiter = Awaiter::new(&mailbox, 0).ok_or(AllocError)?;
-    let mut task = line.take_task(number).ok_or(AllocError)?;
-    Ok(match task.poll(&awaiter) {
-        TaskPoll::Ready(Ok(answer)) => Some(answer),
-        TaskPoll::Ready(Err(_)) => Some(0),
-        TaskPoll::Pending | TaskPoll::Refused => None,
-    })
+    let task = line.take_task(number).ok_or(AllocError)?;
+    Ok(poll_once(task, &awaiter))
 }
 
 // Each task awaits the next one, and the last answers 1: what the first answers.

@@ -1,10 +1,8 @@
 //! Groups: the order in which members come out, a group that is full, and the ways to let all go.
-use crate::line::{Errand, Line, Member, ToLine};
+use crate::line::{Errand, Line, LineGroup};
 use std::alloc::{AllocError, Global};
 use std::sync::Wait;
 use task_group::TaskGroup;
-
-type LineGroup<'x, R> = TaskGroup<R, Member, ToLine, (), &'x Line<R>>;
 
 // The number and the answer of the next member: `None` where there is none, or where it has none.
 fn next_of<R: Wait + Drop + Copy>(group: &mut LineGroup<'_, R>) -> Option<(usize, u64)> {
@@ -51,7 +49,7 @@ fn members_come_out_in_the_order_in_which_they_end(rt: HostRuntime) {
 }
 
 // How a group lets its tasks go.
-#[derive(Clone, Copy, Debug, PartialEq, Eq)]
+#[derive(Clone, Copy)]
 enum LetGo {
     Abort,
     Detach,
@@ -94,11 +92,45 @@ fn an_abort_and_a_drop_cancel_what_a_detach_lets_go_on(rt: HostRuntime) {
     let detached = let_go(rt, rt.alloc(), LetGo::Detach);
     let dropped = let_go(rt, rt.alloc(), LetGo::Drop);
     assert_eq!(rt;
-        (aborted, detached, dropped),
-        (
+        [aborted, detached, dropped],
+        [
             Ok([true, true, false]),
             Ok([true, true, true]),
             Ok([true, false, false])
-        )
+        ]
     );
+}
+
+// The numbers of two members that are spawned in a group with room for one.
+type Numbers = [Option<usize>; 2];
+
+// The number and the answer of a member that came out.
+type CameOut = Option<(usize, u64)>;
+
+// Spawns two members of a group: their numbers.
+fn spawn_both<'x, R: Wait + Drop + Copy>(
+    line: &'x Line<R>,
+    group: &mut LineGroup<'x, R>,
+) -> Numbers {
+    let first = line.spawn_in(group, Errand::GiveWay(13));
+    let second = line.spawn_in(group, Errand::Answer(14));
+    [first, second]
+}
+
+// Spawns two members of a group with room for one: their numbers, and what comes out after a run.
+fn spawn_two<R: Wait + Drop + Copy>(
+    rt: R,
+    alloc: Global,
+) -> Result<(Numbers, CameOut), AllocError> {
+    let line = Line::new(rt, alloc, 1)?;
+    let mut group: LineGroup<'_, R> = TaskGroup::new(rt, alloc, 1)?;
+    let numbers = spawn_both(&line, &mut group);
+    line.run();
+    Ok((numbers, next_of(&mut group)))
+}
+
+#[test]
+fn a_full_group_spawns_nothing(rt: HostRuntime) {
+    let seen = spawn_two(rt, rt.alloc());
+    assert_eq!(rt; seen, Ok(([Some(0), None], Some((0, 13)))));
 }

@@ -10,9 +10,10 @@ use std::collections::VecDeque;
 use std::mem;
 use std::sync::atomic::{AtomicU64, Ordering};
 use std::sync::{Arc, Mutex, Wait};
+use task_group::TaskGroup;
 
 /// What a member of a line does when it is polled.
-#[derive(Clone, Copy, Debug, PartialEq, Eq)]
+#[derive(Clone, Copy)]
 pub enum Errand {
     /// Answers at once.
     Answer(u64),
@@ -44,6 +45,8 @@ pub type LineRunnable<'x, R> = Runnable<R, Member, ToLine, (), Awaiter<R>, &'x L
 pub type LineTask<'x, R> = Task<R, Member, ToLine, (), Awaiter<R>, &'x Line<R>>;
 
 pub type LineWaker<'x, R> = TaskWaker<R, Member, ToLine, (), Awaiter<R>, &'x Line<R>>;
+
+pub type LineGroup<'x, R> = TaskGroup<R, Member, ToLine, (), &'x Line<R>>;
 
 type KeptTask<R> = Task<R, Member, ToLine, (), Awaiter<R>, ()>;
 
@@ -106,6 +109,14 @@ impl<'x, R: Wait + Drop + Copy> Future<LineWaker<'x, R>> for Member {
     }
 }
 
+// Puts a value into a store: what was there, or the value itself where the store has no such number.
+fn swap_at<V: Drop>(store: &mut Vec<Option<V>>, number: usize, value: Option<V>) -> Option<V> {
+    match store.get_mut(number) {
+        Some(place) => mem::replace(place, value),
+        None => value,
+    }
+}
+
 impl<R: Wait + Drop + Copy> Line<R> {
     /// A line for the numbers below `room`.
     pub fn new(rt: R, alloc: Global, room: usize) -> Result<Line<R>, AllocError> {
@@ -135,22 +146,22 @@ impl<R: Wait + Drop + Copy> Line<R> {
         Some(task)
     }
 
+    /// Spawns a task of a group: the number that it got there, or `None` where the spawn was refused.
+    pub fn spawn_in<'x>(&'x self, group: &mut LineGroup<'x, R>, errand: Errand) -> Option<usize> {
+        let future = Member { number: 0, errand };
+        group.spawn(self.alloc, future, ToLine, self).ok()
+    }
+
     // Puts a Task into the store: what was there.
     fn swap_task(&self, number: usize, task: Option<KeptTask<R>>) -> Option<KeptTask<R>> {
         let mut tasks = self.tasks.lock(&self.rt);
-        match tasks.get_mut(number) {
-            Some(place) => mem::replace(place, task),
-            None => task,
-        }
+        swap_at(&mut *tasks, number, task)
     }
 
     // Puts a waker into the store: what was there.
     fn swap_waker(&self, number: usize, waker: Option<KeptWaker<R>>) -> Option<KeptWaker<R>> {
         let mut wakers = self.wakers.lock(&self.rt);
-        match wakers.get_mut(number) {
-            Some(place) => mem::replace(place, waker),
-            None => waker,
-        }
+        swap_at(&mut *wakers, number, waker)
     }
 
     /// Keeps the Task of a number, and drops the one that was there.

@@ -34,8 +34,8 @@ impl<N: Drop> Schedule<N> for Nowhere {
 
 // Polls a task before and after its run: whether the first poll was pending, and the second had the output.
 fn await_by_nobody<R: Wait + Drop + Copy>(rt: R, alloc: Global) -> Result<[bool; 2], AllocError> {
-    let spawned = spawn(rt, alloc, Five, Nowhere, ()).map_err(|_| AllocError)?;
-    let (runnable, mut task): (_, Task<_, _, _, _, Nobody, ()>) = spawned;
+    let spawned = spawn(rt, alloc, Five, Nowhere, ());
+    let (runnable, mut task): (_, Task<_, _, _, _, Nobody, ()>) = spawned.ok().ok_or(AllocError)?;
     let pending = matches!(task.poll(&Nobody), TaskPoll::Pending);
     runnable.run();
     let ready = matches!(task.poll(&Nobody), TaskPoll::Ready(Ok(5)));
