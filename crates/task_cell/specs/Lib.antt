@@ -1,3 +1,4 @@
+pub mod Belongs
 pub mod Calls
 pub mod LastWord
 pub mod Starts

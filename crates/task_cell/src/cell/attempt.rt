@@ -1,4 +1,5 @@
 //! The loop of every change of the word that is made by compare and exchange.
+ghost use Rattle.task_cell.specs.Belongs.{IsOf};
 ghost use Rattle.std.specs.Prelude.{◌≡◌, ◌<◌, IfOk, IfErr, Option, None};
 ghost use Rattle.task_core.specs.Word.{State};
 ghost use Rattle.task_steps.specs.declared.table.Tries.{Tries};
@@ -19,7 +20,7 @@ impl<R: Wait + Drop, F: Yields, Q: Drop, M: Drop, A: Drop, B: Allocator> Cell<R,
         party: &mut Party<F, Kept<F>, A>,
         mut word: Word,
     ) -> Result<Word, Word>
-        requires cell { party.old.seat.table_id ≡ self.now.table.shared.table_id }
+        requires cell { IsOf self.now party.old }
         requires limit { (w : State) → P.ends party.old.seat.me.0.limit w ≡ P.ends self.now.limit w }
         requires room { word.references < 72057594037927935 }
         requires seen { (t : Option Tries) × Names word t × (party.old.seat.me.0 ≡ having_seen t party.old.seat.me.0) }
@@ -53,7 +54,7 @@ impl<R: Wait + Drop, F: Yields, Q: Drop, M: Drop, A: Drop, B: Allocator> Cell<R,
 
     // Tries a change from a look at the word on.
     pub(crate) fn attempt<P: Change>(&self, party: &mut Party<F, Kept<F>, A>) -> Result<Word, Word>
-        requires cell { party.old.seat.table_id ≡ self.now.table.shared.table_id }
+        requires cell { IsOf self.now party.old }
         requires limit { (w : State) → P.ends party.old.seat.me.0.limit w ≡ P.ends self.now.limit w }
         requires quiet { party.old.seat.me.0 ≡ having_seen None party.old.seat.me.0 }
         requires allowed { MayTry self.now.limit 3 party.old.seat.id party.old.seat.me P.writes P.ends P.acts P.told }

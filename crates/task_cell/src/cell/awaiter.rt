@@ -5,6 +5,7 @@ ghost use Rattle.task_laws.specs.declared.positions.Position.TheVariants.{Notifi
 ghost use Rattle.task_core.specs.declared.acts.Act.TheVariants.{WakeAwaiter, DropAwaiter};
 ghost use Rattle.task_laws.specs.Table.{after_waking, may_drop, notifies};
 ghost use Rattle.task_steps.specs.declared.table.Slot.{Slot};
+ghost use Rattle.task_cell.specs.Belongs.{IsOf};
 ghost use Rattle.task_cell.specs.RunCalls.{TakesDue, HasTaken, Wakes};
 ghost use Rattle.task_cell.specs.Calls.{Stands, StandsWith, GoesWith, Notifies, position, holds};
 ghost use Rattle.task_steps.specs.Deeds.{act};
@@ -23,7 +24,7 @@ use task_steps::table::Kept;
 impl<R: Drop, F: Yields, Q: Drop, M: Drop, A: Drop, B: Allocator> Cell<R, F, Q, M, A, B> {
     // Takes the stored awaiter, unless another party is at it. Both steps are single fetches, never tried again.
     pub(crate) fn notify(&self, party: &mut Party<F, Kept<F>, A>) -> Option<Held<A>>
-        requires cell { party.old.seat.table_id ≡ self.now.table.shared.table_id }
+        requires cell { IsOf self.now party.old }
         requires party { (way : NotifyingCall) × (held : List (ℕ × Slot F _ A)) × StandsWith (Notifier way) held party.old }
         ensures { Notifies party.old party.new (held result) }
     {
@@ -40,7 +41,7 @@ impl<R: Drop, F: Yields, Q: Drop, M: Drop, A: Drop, B: Allocator> Cell<R, F, Q, 
 
     // Takes the stored awaiter where AWAITER was found.
     pub(crate) fn take_due(&self, party: &mut Party<F, Kept<F>, A>, due: bool) -> Option<Held<A>>
-        requires cell { party.old.seat.table_id ≡ self.now.table.shared.table_id }
+        requires cell { IsOf self.now party.old }
         requires party { (way : NotifyingCall) × Stands (notifies due way) party.old }
         ensures { (way : NotifyingCall) → Stands (notifies due way) party.old → TakesDue way due party.old party.new (held result) }
     {
@@ -49,7 +50,7 @@ impl<R: Drop, F: Yields, Q: Drop, M: Drop, A: Drop, B: Allocator> Cell<R, F, Q, 
 
     // Writes down that the awaiter in hand was woken. One load.
     pub(crate) fn note_woken(&self, party: &mut Party<F, Kept<F>, A>)
-        requires cell { party.old.seat.table_id ≡ self.now.table.shared.table_id }
+        requires cell { IsOf self.now party.old }
         requires party { (i : ℕ) × (way : NotifyingCall) × (held : List (ℕ × Slot F _ A)) × StandsWith (AwaiterInHand i way) held party.old }
         ensures { GoesWith (act WakeAwaiter ∷ []) (after_waking (way_of (position party.old))) (holds party.old) party.old party.new }
     {
@@ -58,7 +59,7 @@ impl<R: Drop, F: Yields, Q: Drop, M: Drop, A: Drop, B: Allocator> Cell<R, F, Q, 
 
     // Writes down that the awaiter in hand was dropped. One load.
     pub(crate) fn note_dropped(&self, party: &mut Party<F, Kept<F>, A>)
-        requires cell { party.old.seat.table_id ≡ self.now.table.shared.table_id }
+        requires cell { IsOf self.now party.old }
         requires party { (i : ℕ) × (way : NotifyingCall) × (held : List (ℕ × Slot F _ A)) × StandsWith (AwaiterInHand i way) held party.old × (may_drop way ≡ true) }
         ensures { GoesWith (act DropAwaiter ∷ []) (after_waking (way_of (position party.old))) (holds party.old) party.old party.new }
     {
@@ -71,7 +72,7 @@ impl<R: Drop, F: Yields, Q: Drop, M: Drop, A: Drop, B: Allocator> Cell<R, F, Q, 
 impl<R: Drop, F: Yields, Q: Drop, M: Drop, A: Wake, B: Allocator> Cell<R, F, Q, M, A, B> {
     // Wakes the awaiter that was taken.
     pub(crate) fn wake_taken(&self, party: &mut Party<F, Kept<F>, A>, awaiter: Option<Held<A>>)
-        requires cell { party.old.seat.table_id ≡ self.now.table.shared.table_id }
+        requires cell { IsOf self.now party.old }
         requires party { (way : NotifyingCall) × HasTaken way party.old (held awaiter) }
         ensures { (way : NotifyingCall) → HasTaken way party.old (held awaiter) → Wakes ((a : A) × A.woken a) way (held awaiter) party.old party.new }
     {

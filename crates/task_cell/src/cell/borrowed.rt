@@ -2,6 +2,7 @@
 ghost use Rattle.std.specs.Prelude.{◌≡◌, ◌<◌, [], ◌∷◌, IfSome, is_some};
 ghost use Rattle.std.specs.Arc.{arc_value};
 ghost use Rattle.task_steps.specs.Rule.{view, fresh};
+ghost use Rattle.task_cell.specs.Belongs.{IsOf};
 ghost use Rattle.task_cell.specs.Calls.{IsNew, Stands, limit_of};
 ghost use Rattle.task_steps.specs.Standing.{as_waker, as_deliverer, as_lent};
 ghost use Rattle.task_cell.specs.WakerPaths.{GainsShare};
@@ -17,7 +18,7 @@ use task_steps::waker::Borrowing;
 impl<R: Wait + Drop, F: Yields, Q: Drop, M: Drop, A: Drop, B: Allocator> Cell<R, F, Q, M, A, B> {
     // The party of one call by reference, and the word that is found.
     fn borrow(&self) -> (Word, Party<F, Kept<F>, A>)
-        ensures cell { result.1.seat.table_id ≡ self.now.table.shared.table_id }
+        ensures cell { IsOf self.now result.1 }
         ensures room { result.0.references < 72057594037927935 }
         ensures party { result.1.seat.me ≡ (view self.now.limit (fresh as_lent ∷ []), []) }
     {
@@ -31,7 +32,7 @@ impl<R: Wait + Drop, F: Yields, Q: Drop, M: Drop, A: Drop, B: Allocator> Cell<R,
         party: &mut Party<F, Kept<F>, A>,
         word: Word,
     ) -> Option<(Share<R, F, Q, M, A, B>, Party<F, Kept<F>, A>)>
-        requires cell { (party.old.seat.table_id ≡ (arc_value this.now).table.shared.table_id) × (limit_of party.old ≡ (arc_value this.now).limit) }
+        requires cell { IsOf (arc_value this.now) party.old × (limit_of party.old ≡ (arc_value this.now).limit) }
         requires room { word.references < 72057594037927935 }
         requires party { Stands as_lent party.old }
         ensures path { GainsShare (arc_value this.now).limit party.old party.new (is_some result) }
@@ -57,7 +58,7 @@ impl<R: Wait + Drop, F: Yields, Q: Drop, M: Drop, A: Drop, B: Allocator> Cell<R,
         this: &Arc<Self, B>,
     ) -> Option<(Share<R, F, Q, M, A, B>, Party<F, Kept<F>, A>)>
         ensures cell { IfSome result (λ gained. arc_value gained.0.cell ≡ arc_value this.now) }
-        ensures waker { IfSome result (λ gained. (gained.1.seat.table_id ≡ (arc_value this.now).table.shared.table_id) × (gained.1.seat.me ≡ (view (arc_value this.now).limit (fresh as_waker ∷ []), []))) }
+        ensures waker { IfSome result (λ gained. IsOf (arc_value this.now) gained.1 × (gained.1.seat.me ≡ (view (arc_value this.now).limit (fresh as_waker ∷ []), []))) }
     {
         let (word, mut party) = this.borrow();
         let gained = Cell::gain_with_share(this, &mut party, word);
@@ -68,7 +69,7 @@ impl<R: Wait + Drop, F: Yields, Q: Drop, M: Drop, A: Drop, B: Allocator> Cell<R,
 
     // A wake by whoever has a waker by reference: the deliverer, where the task was idle.
     pub(crate) fn wake_by_reference(&self) -> Option<Party<F, Kept<F>, A>>
-        ensures deliverer { IfSome result (λ d. (d.seat.table_id ≡ self.now.table.shared.table_id) × (d.seat.me ≡ (view self.now.limit (fresh as_deliverer ∷ []), []))) }
+        ensures deliverer { IfSome result (λ d. IsOf self.now d × (d.seat.me ≡ (view self.now.limit (fresh as_deliverer ∷ []), []))) }
     {
         let (word, mut party) = self.borrow();
         if !word.is_open() {

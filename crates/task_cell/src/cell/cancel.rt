@@ -5,6 +5,7 @@ ghost use Rattle.task_laws.specs.Table.{notifies};
 ghost use Rattle.task_laws.specs.declared.positions.NotifyingCall.TheVariants.{OfCancel};
 ghost use Rattle.task_core.specs.declared.acts.Act.TheVariants.{EndCall};
 ghost use Rattle.task_steps.specs.declared.table.Deed.{Deed};
+ghost use Rattle.task_cell.specs.Belongs.{IsOf};
 ghost use Rattle.task_cell.specs.TaskPaths.{Cancels, Notice, CancelPath};
 ghost use Rattle.task_cell.specs.Handed.{HandedOver};
 ghost use Rattle.task_cell.specs.Calls.{Stands, Goes, position, limit_of};
@@ -24,7 +25,7 @@ impl<R: Wait + Drop, F: Yields, Q: Drop, M: Drop, A: Wake, B: Allocator> Cell<R,
     pub fn cancel<X: Copy>(this: &Arc<Self, B>, party: &mut Party<F, Kept<F>, A>, around: X)
     where
         Q: Schedule<Runnable<R, F, Q, M, A, X, B>>,
-        requires cell { (party.old.seat.table_id ≡ (arc_value this.now).table.shared.table_id) × (limit_of party.old ≡ (arc_value this.now).limit) }
+        requires cell { IsOf (arc_value this.now) party.old × (limit_of party.old ≡ (arc_value this.now).limit) }
         requires party { (n : ℕ) × Stands (as_task n) party.old }
         ensures path { (path : List Deed) × CancelPath (HandedOver Q.scheduled (arc_value this.now) around false) ((a : A) × A.woken a) path × Goes path (position party.old) party.old party.new }
     {
@@ -40,7 +41,7 @@ impl<R: Wait + Drop, F: Yields, Q: Drop, M: Drop, A: Wake, B: Allocator> Cell<R,
 
     // The row of a cancel.
     fn close_task(&self, party: &mut Party<F, Kept<F>, A>) -> Cancelled
-        requires cell { party.old.seat.table_id ≡ self.now.table.shared.table_id }
+        requires cell { IsOf self.now party.old }
         requires party { (n : ℕ) × Stands (as_task n) party.old }
         ensures { (n : ℕ) → Stands (as_task n) party.old → Cancels n party.old party.new result }
     {
@@ -52,7 +53,7 @@ impl<R: Wait + Drop, F: Yields, Q: Drop, M: Drop, A: Wake, B: Allocator> Cell<R,
 
     // The awaiter is taken and woken, if one is due, and the call ends.
     fn leave_closed(&self, party: &mut Party<F, Kept<F>, A>, due: bool)
-        requires cell { party.old.seat.table_id ≡ self.now.table.shared.table_id }
+        requires cell { IsOf self.now party.old }
         requires party { (n : ℕ) × Stands (notifies due (OfCancel n)) party.old }
         ensures { (n : ℕ) → Stands (notifies due (OfCancel n)) party.old → (path : List Deed) × Notice ((a : A) × A.woken a) due path × Goes (path ++ act EndCall ∷ []) (as_task n) party.old party.new }
     {

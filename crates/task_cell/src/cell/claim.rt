@@ -9,6 +9,7 @@ ghost use Rattle.task_steps.specs.declared.table.Slot.{Slot};
 ghost use Rattle.task_steps.specs.declared.table.Deed.{Deed};
 ghost use Rattle.task_steps.specs.Rule.{IsOutput};
 ghost use Rattle.task_steps.specs.Steps.{output_first};
+ghost use Rattle.task_cell.specs.Belongs.{IsOf};
 ghost use Rattle.task_cell.specs.PollPaths.{TakePath, TakePathIf};
 ghost use Rattle.task_steps.specs.Standing.{poll_number, way_of, as_task};
 ghost use Rattle.task_cell.specs.Calls.{StandsWith, Goes, GoesWith, position, holds};
@@ -27,7 +28,7 @@ use task_steps::table::Kept;
 impl<R: Drop, F: Yields, Q: Drop, M: Drop, A: Drop, B: Allocator> Cell<R, F, Q, M, A, B> {
     // Hands the output out, and ends the poll. One load.
     fn hand_out(&self, party: &mut Party<F, Kept<F>, A>) -> Held<Kept<F>>
-        requires cell { party.old.seat.table_id ≡ self.now.table.shared.table_id }
+        requires cell { IsOf self.now party.old }
         requires party { (i : ℕ) × (y : Slot F _ A) × (z : Slot F _ A) × StandsWith (TookOutput i) (output_first y z []) party.old × IsOutput z }
         ensures { Goes (act HandOutOutput ∷ act EndCall ∷ []) (as_task (poll_number (position party.old))) party.old party.new }
     {
@@ -41,7 +42,7 @@ impl<R: Drop, F: Yields, Q: Drop, M: Drop, A: Drop, B: Allocator> Cell<R, F, Q, 
 impl<R: Wait + Drop, F: Yields, Q: Drop, M: Drop, A: Wake, B: Allocator> Cell<R, F, Q, M, A, B> {
     // Takes the stored awaiter, and wakes it, unless its wake wakes the caller.
     pub(crate) fn take_awaiter(&self, party: &mut Party<F, Kept<F>, A>, awaiter: &A)
-        requires cell { party.old.seat.table_id ≡ self.now.table.shared.table_id }
+        requires cell { IsOf self.now party.old }
         requires party { (way : NotifyingCall) × (held : List (ℕ × Slot F _ A)) × StandsWith (Notifier way) held party.old × (may_drop way ≡ true) }
         ensures { (path : List Deed) × TakePath A.woken A.compared awaiter.now path × GoesWith path (after_waking (way_of (position party.old))) (holds party.old) party.old party.new }
     {
@@ -58,7 +59,7 @@ impl<R: Wait + Drop, F: Yields, Q: Drop, M: Drop, A: Wake, B: Allocator> Cell<R,
 
     // Takes the stored awaiter where the word that was found says that there is one.
     fn take_awaiter_of(&self, party: &mut Party<F, Kept<F>, A>, awaiter: &A, found: Word)
-        requires cell { party.old.seat.table_id ≡ self.now.table.shared.table_id }
+        requires cell { IsOf self.now party.old }
         requires party { (i : ℕ) × (held : List (ℕ × Slot F _ A)) × StandsWith (notifies found.awaiter (OfClaim i)) held party.old }
         ensures { (path : List Deed) × TakePathIf A.woken A.compared awaiter.now found.awaiter path × GoesWith path (TookOutput (poll_number (position party.old))) (holds party.old) party.old party.new }
     {
@@ -74,7 +75,7 @@ impl<R: Wait + Drop, F: Yields, Q: Drop, M: Drop, A: Wake, B: Allocator> Cell<R,
         awaiter: &A,
         found: Word,
     ) -> Held<Kept<F>>
-        requires cell { party.old.seat.table_id ≡ self.now.table.shared.table_id }
+        requires cell { IsOf self.now party.old }
         requires party { (i : ℕ) × (y : Slot F _ A) × (z : Slot F _ A) × StandsWith (notifies found.awaiter (OfClaim i)) (output_first y z []) party.old × IsOutput z }
         ensures { (taken : List Deed) × TakePathIf A.woken A.compared awaiter.now found.awaiter taken × Goes (taken ++ (act HandOutOutput ∷ act EndCall ∷ [])) (as_task (poll_number (position party.old))) party.old party.new }
     {

@@ -6,6 +6,7 @@ ghost use Rattle.task_laws.specs.declared.positions.OnceDelivered.TheVariants.{T
 ghost use Rattle.task_laws.specs.declared.positions.Position.{Position};
 ghost use Rattle.task_laws.specs.declared.positions.Position.TheVariants.{Deliverer};
 ghost use Rattle.task_core.specs.declared.acts.Act.TheVariants.{HandOver, EndCall};
+ghost use Rattle.task_cell.specs.Belongs.{IsOf};
 ghost use Rattle.task_cell.specs.Handed.{HandedOver};
 ghost use Rattle.task_cell.specs.Calls.{Stands, Goes, IsNew, position, limit_of};
 ghost use Rattle.task_steps.specs.Deeds.{act};
@@ -21,7 +22,7 @@ use task_steps::table::Kept;
 impl<R: Drop, F: Yields, Q: Drop, M: Drop, A: Drop, B: Allocator> Cell<R, F, Q, M, A, B> {
     // The Runnable of a party that hands one over. One load.
     fn hand_over(&self, party: &mut Party<F, Kept<F>, A>) -> Party<F, Kept<F>, A>
-        requires cell { party.old.seat.table_id ≡ self.now.table.shared.table_id }
+        requires cell { IsOf self.now party.old }
         requires party { (at : Position) × (hands_over at ≡ true) × Stands at party.old }
         ensures path { Goes (act HandOver ∷ []) (handed_over (position party.old)) party.old party.new }
         ensures runnable { IsNew as_runnable party.old result }
@@ -41,7 +42,7 @@ impl<R: Wait + Drop, F: Yields, Q: Drop, M: Drop, A: Wake, B: Allocator> Cell<R,
     )
     where
         Q: Schedule<Runnable<R, F, Q, M, A, X, B>>,
-        requires cell { (party.old.seat.table_id ≡ (arc_value this.now).table.shared.table_id) × (limit_of party.old ≡ (arc_value this.now).limit) }
+        requires cell { IsOf (arc_value this.now) party.old × (limit_of party.old ≡ (arc_value this.now).limit) }
         requires party { (at : Position) × (hands_over at ≡ true) × Stands at party.old }
         ensures path { Goes (act HandOver ∷ []) (handed_over (position party.old)) party.old party.new }
         ensures fact { HandedOver Q.scheduled (arc_value this.now) around woken_while_running }
@@ -62,7 +63,7 @@ impl<R: Wait + Drop, F: Yields, Q: Drop, M: Drop, A: Wake, B: Allocator> Cell<R,
     )
     where
         Q: Schedule<Runnable<R, F, Q, M, A, X, B>>,
-        requires cell { (party.old.seat.table_id ≡ (arc_value this.now).table.shared.table_id) × (limit_of party.old ≡ (arc_value this.now).limit) }
+        requires cell { IsOf (arc_value this.now) party.old × (limit_of party.old ≡ (arc_value this.now).limit) }
         requires party { (answer : Answer) × Stands (Deliverer woken (ThenEnds answer)) party.old }
         ensures path { (answer : Answer) → Stands (Deliverer woken (ThenEnds answer)) party.old → Goes (act HandOver ∷ act EndCall ∷ []) as_ended party.old party.new }
         ensures fact { HandedOver Q.scheduled (arc_value this.now) around woken }
@@ -75,7 +76,7 @@ impl<R: Wait + Drop, F: Yields, Q: Drop, M: Drop, A: Wake, B: Allocator> Cell<R,
     pub fn schedule<X: Copy>(this: &Arc<Self, B>, party: &mut Party<F, Kept<F>, A>, around: X)
     where
         Q: Schedule<Runnable<R, F, Q, M, A, X, B>>,
-        requires cell { (party.old.seat.table_id ≡ (arc_value this.now).table.shared.table_id) × (limit_of party.old ≡ (arc_value this.now).limit) }
+        requires cell { IsOf (arc_value this.now) party.old × (limit_of party.old ≡ (arc_value this.now).limit) }
         requires party { Stands as_runnable party.old }
         ensures path { Goes (act HandOver ∷ act EndCall ∷ []) as_ended party.old party.new }
         ensures fact { HandedOver Q.scheduled (arc_value this.now) around false }
@@ -92,7 +93,7 @@ impl<R: Wait + Drop, F: Yields, Q: Drop, M: Drop, A: Wake, B: Allocator> Cell<R,
     )
     where
         Q: Schedule<Runnable<R, F, Q, M, A, X, B>>,
-        requires cell { (deliverer.seat.table_id ≡ (arc_value this.now).table.shared.table_id) × (limit_of deliverer ≡ (arc_value this.now).limit) }
+        requires cell { IsOf (arc_value this.now) deliverer × (limit_of deliverer ≡ (arc_value this.now).limit) }
         requires deliverer { Stands as_deliverer deliverer }
         ensures fact { HandedOver Q.scheduled (arc_value this.now) around false }
     {

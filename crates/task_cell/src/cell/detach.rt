@@ -7,6 +7,7 @@ ghost use Rattle.task_steps.specs.declared.table.Deed.{Deed};
 ghost use Rattle.task_steps.specs.declared.table.Slot.{Slot};
 ghost use Rattle.task_steps.specs.Rule.{IsEmpty};
 ghost use Rattle.task_steps.specs.Steps.{saw_closed, output_first};
+ghost use Rattle.task_cell.specs.Belongs.{IsOf};
 ghost use Rattle.task_cell.specs.TaskPaths.{Detaches, GivesTaskUp, DetachPath};
 ghost use Rattle.task_cell.specs.Handed.{HandedOver};
 ghost use Rattle.task_cell.specs.Calls.{Stands, StandsWith, Goes, deeds, limit_of};
@@ -27,7 +28,7 @@ use task_steps::{Always, Knowing};
 impl<R: Drop, F: Yields, Q: Drop, M: Drop, A: Drop, B: Allocator> Cell<R, F, Q, M, A, B> {
     // Writes down that the output in hand was dropped, and gives the places back. One load.
     fn note_output_dropped(&self, party: &mut Party<F, Kept<F>, A>)
-        requires cell { party.old.seat.table_id ≡ self.now.table.shared.table_id }
+        requires cell { IsOf self.now party.old }
         requires party { (y : Slot F _ A) × (z : Slot F _ A) × StandsWith OutputCloser (output_first y z []) party.old × IsEmpty z }
         ensures { Goes (act DropOutput ∷ []) Detacher party.old party.new }
     {
@@ -38,7 +39,7 @@ impl<R: Drop, F: Yields, Q: Drop, M: Drop, A: Drop, B: Allocator> Cell<R, F, Q, 
 
     // The output that nobody claimed is dropped, and then the Task given up, by a single fetch. Whether the slots are to be emptied.
     fn drop_unclaimed(&self, party: &mut Party<F, Kept<F>, A>) -> bool
-        requires cell { party.old.seat.table_id ≡ self.now.table.shared.table_id }
+        requires cell { IsOf self.now party.old }
         requires party { (y : Slot F _ A) × (z : Slot F _ A) × StandsWith OutputCloser (output_first y z []) party.old × (saw_closed (deeds party.old) ≡ true) }
         ensures { GivesTaskUp party.old party.new result }
     {
@@ -57,7 +58,7 @@ impl<R: Wait + Drop, F: Yields, Q: Drop, M: Drop, A: Wake, B: Allocator> Cell<R,
     pub fn detach<X: Copy>(this: &Arc<Self, B>, party: &mut Party<F, Kept<F>, A>, around: X)
     where
         Q: Schedule<Runnable<R, F, Q, M, A, X, B>>,
-        requires cell { (party.old.seat.table_id ≡ (arc_value this.now).table.shared.table_id) × (limit_of party.old ≡ (arc_value this.now).limit) }
+        requires cell { IsOf (arc_value this.now) party.old × (limit_of party.old ≡ (arc_value this.now).limit) }
         requires party { (n : ℕ) × Stands (as_task n) party.old }
         ensures path { (path : List Deed) × DetachPath (HandedOver Q.scheduled (arc_value this.now) around false) path × Goes path as_ended party.old party.new }
     {
@@ -82,7 +83,7 @@ impl<R: Wait + Drop, F: Yields, Q: Drop, M: Drop, A: Wake, B: Allocator> Cell<R,
 
     // The row of a detach.
     fn give_task_up(&self, party: &mut Party<F, Kept<F>, A>) -> Detached
-        requires cell { party.old.seat.table_id ≡ self.now.table.shared.table_id }
+        requires cell { IsOf self.now party.old }
         requires party { (n : ℕ) × Stands (as_task n) party.old }
         ensures { Detaches party.old party.new result }
     {

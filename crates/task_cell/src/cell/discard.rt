@@ -4,6 +4,7 @@ ghost use Rattle.task_laws.specs.declared.positions.Position.TheVariants.{Future
 ghost use Rattle.task_laws.specs.declared.positions.WithoutPoll.TheVariants.{DroppedRunnable};
 ghost use Rattle.task_steps.specs.declared.table.Slot.{Slot};
 ghost use Rattle.task_steps.specs.declared.table.Deed.{Deed};
+ghost use Rattle.task_cell.specs.Belongs.{IsOf};
 ghost use Rattle.task_cell.specs.Calls.{Stands, GoesWith};
 ghost use Rattle.task_steps.specs.Standing.{as_runnable};
 ghost use Rattle.task_steps.specs.Rule.{IsFuture};
@@ -22,7 +23,7 @@ use task_steps::table::Kept;
 impl<R: Drop, F: Yields, Q: Drop, M: Drop, A: Drop, B: Allocator> Cell<R, F, Q, M, A, B> {
     // The task is closed, and its future taken over: a single fetch, never tried again.
     pub(crate) fn discard_start(&self, party: &mut Party<F, Kept<F>, A>)
-        requires cell { party.old.seat.table_id ≡ self.now.table.shared.table_id }
+        requires cell { IsOf self.now party.old }
         requires party { Stands as_runnable party.old }
         ensures { (d : Deed) × (y : Slot F _ A) × (z : Slot F _ A) × DiscardStart d × GoesWith (d ∷ []) (FutureInHand DroppedRunnable) (future_first y z []) party.old party.new × IsFuture y }
     {
@@ -35,7 +36,7 @@ impl<R: Drop, F: Yields, Q: Drop, M: Drop, A: Drop, B: Allocator> Cell<R, F, Q, 
 impl<R: Drop, F: Yields, Q: Drop, M: Drop, A: Wake, B: Allocator> Cell<R, F, Q, M, A, B> {
     /// Drops a Runnable: the task is closed, its future dropped, and an awaiter that waits is woken.
     pub fn discard_runnable(&self, party: &mut Party<F, Kept<F>, A>)
-        requires cell { party.old.seat.table_id ≡ self.now.table.shared.table_id }
+        requires cell { IsOf self.now party.old }
         requires party { Stands as_runnable party.old }
         ensures { Discards ((a : A) × A.woken a) party.old party.new }
     {

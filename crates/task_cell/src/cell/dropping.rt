@@ -5,6 +5,7 @@ ghost use Rattle.task_core.specs.Word.{State};
 ghost use Rattle.task_laws.specs.declared.positions.Position.TheVariants.{OrphanHolder};
 ghost use Rattle.task_core.specs.declared.acts.Act.TheVariants.{CloseOrphan};
 ghost use Rattle.task_steps.specs.declared.table.Deed.{Deed};
+ghost use Rattle.task_cell.specs.Belongs.{IsOf};
 ghost use Rattle.task_cell.specs.Handed.{HandedOver};
 ghost use Rattle.task_cell.specs.Calls.{Stands, Goes, limit_of};
 ghost use Rattle.task_steps.specs.Deeds.{row};
@@ -27,7 +28,7 @@ const ORPHAN: u64 = SCHEDULED | CLOSED | REFERENCE;
 impl<R: Drop, F: Yields, Q: Drop, M: Drop, A: Drop, B: Allocator> Cell<R, F, Q, M, A, B> {
     // The row of a waker's drop: a single fetch, never tried again.
     fn drop_reference(&self, party: &mut Party<F, Kept<F>, A>) -> Dropped
-        requires cell { party.old.seat.table_id ≡ self.now.table.shared.table_id }
+        requires cell { IsOf self.now party.old }
         requires party { Stands as_waker party.old }
         ensures { DropsWaker party.old party.new result }
     {
@@ -38,7 +39,7 @@ impl<R: Drop, F: Yields, Q: Drop, M: Drop, A: Drop, B: Allocator> Cell<R, F, Q, 
 
     // The last waker of an open task closes it, and schedules it once more. Nobody else is left to change the word.
     fn close_orphan(&self, party: &mut Party<F, Kept<F>, A>)
-        requires cell { party.old.seat.table_id ≡ self.now.table.shared.table_id }
+        requires cell { IsOf self.now party.old }
         requires party { Stands OrphanHolder party.old }
         ensures { (v : State) × Goes (row CloseOrphan v ∷ []) as_deliverer party.old party.new }
     {
@@ -53,7 +54,7 @@ impl<R: Wait + Drop, F: Yields, Q: Drop, M: Drop, A: Wake, B: Allocator> Cell<R,
     pub fn drop_waker<X: Copy>(this: &Arc<Self, B>, party: &mut Party<F, Kept<F>, A>, around: X)
     where
         Q: Schedule<Runnable<R, F, Q, M, A, X, B>>,
-        requires cell { (party.old.seat.table_id ≡ (arc_value this.now).table.shared.table_id) × (limit_of party.old ≡ (arc_value this.now).limit) }
+        requires cell { IsOf (arc_value this.now) party.old × (limit_of party.old ≡ (arc_value this.now).limit) }
         requires party { Stands as_waker party.old }
         ensures path { (path : List Deed) × WakerDropPath (HandedOver Q.scheduled (arc_value this.now) around false) path × Goes path as_ended party.old party.new }
     {

@@ -7,6 +7,7 @@ ghost use Rattle.task_laws.specs.declared.positions.NotifyingCall.TheVariants.{O
 ghost use Rattle.task_core.specs.declared.acts.Act.TheVariants.{AnswerReady, DropOutput, EndCall, EndClosed};
 ghost use Rattle.task_laws.specs.Table.{notifies};
 ghost use Rattle.task_steps.specs.declared.table.Slot.{Slot};
+ghost use Rattle.task_cell.specs.Belongs.{IsOf};
 ghost use Rattle.task_cell.specs.Calls.{Stands, StandsWith, Goes, GoesWith, position};
 ghost use Rattle.task_steps.specs.Deeds.{row, act};
 ghost use Rattle.task_steps.specs.Rule.{IsEmpty, IsFuture};
@@ -29,7 +30,7 @@ use task_steps::{Always, Knowing};
 impl<R: Drop, F: Yields, Q: Drop, M: Drop, A: Drop, B: Allocator> Cell<R, F, Q, M, A, B> {
     // Writes down that the call has ended. One load.
     pub(crate) fn end(&self, party: &mut Party<F, Kept<F>, A>)
-        requires cell { party.old.seat.table_id ≡ self.now.table.shared.table_id }
+        requires cell { IsOf self.now party.old }
         requires party { (answer : Answer) × (r : Rest) × Stands (CallEnding answer r) party.old }
         ensures { Goes (act EndCall ∷ []) (rest_of (position party.old)) party.old party.new }
     {
@@ -38,7 +39,7 @@ impl<R: Drop, F: Yields, Q: Drop, M: Drop, A: Drop, B: Allocator> Cell<R, F, Q, 
 
     // The poll has answered Ready. One load.
     pub(crate) fn answer_ready(&self, party: &mut Party<F, Kept<F>, A>)
-        requires cell { party.old.seat.table_id ≡ self.now.table.shared.table_id }
+        requires cell { IsOf self.now party.old }
         requires party { (held : List (ℕ × Slot F _ A)) × StandsWith Polling held party.old }
         ensures { (held : List (ℕ × Slot F _ A)) → StandsWith Polling held party.old → GoesWith (act AnswerReady ∷ []) Ready held party.old party.new }
     {
@@ -49,7 +50,7 @@ impl<R: Drop, F: Yields, Q: Drop, M: Drop, A: Drop, B: Allocator> Cell<R, F, Q, 
 
     // The poll has answered Pending: the word that was found. Where it shows a closed task, the future is to be dropped. One load.
     pub(crate) fn answer_pending(&self, party: &mut Party<F, Kept<F>, A>) -> Word
-        requires cell { party.old.seat.table_id ≡ self.now.table.shared.table_id }
+        requires cell { IsOf self.now party.old }
         requires party { (held : List (ℕ × Slot F _ A)) × StandsWith Polling held party.old }
         ensures room { result.references < 72057594037927935 }
         ensures path { (held : List (ℕ × Slot F _ A)) → StandsWith Polling held party.old → AnswersPending held party.old party.new result.closed }
@@ -61,7 +62,7 @@ impl<R: Drop, F: Yields, Q: Drop, M: Drop, A: Drop, B: Allocator> Cell<R, F, Q, 
 
     // The output that nobody will claim is dropped. One load.
     pub(crate) fn drop_output(&self, party: &mut Party<F, Kept<F>, A>)
-        requires cell { party.old.seat.table_id ≡ self.now.table.shared.table_id }
+        requires cell { IsOf self.now party.old }
         requires party { (due : Bool) × (y : Slot F _ A) × (z : Slot F _ A) × StandsWith (OutputInHand due) (output_first y z []) party.old }
         ensures { (due : Bool) (y z : Slot F _ A) → StandsWith (OutputInHand due) (output_first y z []) party.old → Goes (act DropOutput ∷ []) (notifies due OfRun) party.old party.new }
     {
@@ -73,7 +74,7 @@ impl<R: Drop, F: Yields, Q: Drop, M: Drop, A: Drop, B: Allocator> Cell<R, F, Q, 
 
     // The end step of a run of a closed task, after its future was dropped: a single fetch, never tried again.
     pub(crate) fn end_closed(&self, party: &mut Party<F, Kept<F>, A>) -> Word
-        requires cell { party.old.seat.table_id ≡ self.now.table.shared.table_id }
+        requires cell { IsOf self.now party.old }
         requires party { (y : Slot F _ A) × (z : Slot F _ A) × StandsWith PendingFutureDropped (future_first y z []) party.old }
         ensures { (y z : Slot F _ A) → StandsWith PendingFutureDropped (future_first y z []) party.old → (result.closed ≡ true) × Goes (row EndClosed result ∷ []) (notifies result.awaiter OfRun) party.old party.new }
     {
@@ -90,7 +91,7 @@ impl<R: Drop, F: Yields, Q: Drop, M: Drop, A: Drop, B: Allocator> Cell<R, F, Q, 
 impl<R: Wait + Drop, F: Yields, Q: Drop, M: Drop, A: Drop, B: Allocator> Cell<R, F, Q, M, A, B> {
     // The end step of a run with its output, after its future was dropped. The seat turns, since only the place in front can be written.
     pub(crate) fn complete(&self, party: &mut Party<F, Kept<F>, A>, output: Held<Kept<F>>) -> Word
-        requires cell { party.old.seat.table_id ≡ self.now.table.shared.table_id }
+        requires cell { IsOf self.now party.old }
         requires party { (y : Slot F _ A) × (z : Slot F _ A) × StandsWith Ready (future_first y z []) party.old × IsEmpty y }
         ensures { (y z : Slot F _ A) → StandsWith Ready (future_first y z []) party.old → Completes party.old party.new result }
     {
@@ -105,7 +106,7 @@ impl<R: Wait + Drop, F: Yields, Q: Drop, M: Drop, A: Drop, B: Allocator> Cell<R,
 
     // The end step of a run without an output, from the word on that its poll left. A task that was closed meanwhile is left to the end step of a closed one.
     pub(crate) fn end_pending(&self, party: &mut Party<F, Kept<F>, A>, word: Word) -> PendingEnd
-        requires cell { party.old.seat.table_id ≡ self.now.table.shared.table_id }
+        requires cell { IsOf self.now party.old }
         requires room { word.references < 72057594037927935 }
         requires party { (y : Slot F _ A) × (z : Slot F _ A) × StandsWith Pending (future_first y z []) party.old × IsFuture y }
         ensures { (y z : Slot F _ A) → StandsWith Pending (future_first y z []) party.old → EndsPending (future_first y z []) party.old party.new result }

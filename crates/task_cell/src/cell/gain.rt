@@ -1,6 +1,7 @@
 //! Gaining a reference for a new waker.
 ghost use Rattle.std.specs.Prelude.{◌≡◌, ◌<◌, [], ◌∷◌};
 ghost use Rattle.task_core.specs.declared.acts.Act.TheVariants.{RefuseGain, EndCall};
+ghost use Rattle.task_cell.specs.Belongs.{IsOf};
 ghost use Rattle.task_cell.specs.Calls.{Stands, Goes, limit_of};
 ghost use Rattle.task_steps.specs.Deeds.{act};
 ghost use Rattle.task_steps.specs.Standing.{as_lent};
@@ -18,7 +19,7 @@ use task_steps::waker::{Gaining, Parting, RefusingGain};
 impl<R: Drop, F: Yields, Q: Drop, M: Drop, A: Drop, B: Allocator> Cell<R, F, Q, M, A, B> {
     // Ends a gain whose memory was refused: it made no row. One load.
     pub(crate) fn refuse_gain(&self, party: &mut Party<F, Kept<F>, A>)
-        requires cell { party.old.seat.table_id ≡ self.now.table.shared.table_id }
+        requires cell { IsOf self.now party.old }
         requires party { Stands as_lent party.old }
         ensures path { Goes (act RefuseGain ∷ act EndCall ∷ []) as_lent party.old party.new }
     {
@@ -33,7 +34,7 @@ impl<R: Wait + Drop, F: Yields, Q: Drop, M: Drop, A: Drop, B: Allocator> Cell<R,
     ///
     /// `party` is a waker that is lent, and `word` one that was found before: it is tried first.
     pub fn gain(&self, party: &mut Party<F, Kept<F>, A>, word: Word) -> Option<Party<F, Kept<F>, A>>
-        requires cell { (party.old.seat.table_id ≡ self.now.table.shared.table_id) × (limit_of party.old ≡ self.now.limit) }
+        requires cell { IsOf self.now party.old × (limit_of party.old ≡ self.now.limit) }
         requires room { word.references < 72057594037927935 }
         requires party { Stands as_lent party.old }
         ensures path { Gains self.now.limit party.old party.new result }

@@ -7,6 +7,7 @@ ghost use Rattle.task_steps.specs.declared.table.Slot.{Slot};
 ghost use Rattle.task_steps.specs.declared.table.Slot.TheVariants.{Future as Lies};
 ghost use Rattle.task_steps.specs.Rule.{IsFuture};
 ghost use Rattle.task_steps.specs.Steps.{future_first};
+ghost use Rattle.task_cell.specs.Belongs.{IsOf};
 ghost use Rattle.task_cell.specs.Calls.{StandsWith, deeds, limit_of};
 ghost use Rattle.task_cell.specs.Handed.{LentTo};
 
@@ -31,7 +32,7 @@ impl<R: Wait + Drop, F: Yields, Q: Drop, M: Drop, A: Wake, B: Allocator> Cell<R,
     where
         F: Future<TaskWaker<R, F, Q, M, A, X, B>>,
         Q: Schedule<Runnable<R, F, Q, M, A, X, B>>,
-        requires cell { party.seat.table_id ≡ (arc_value share.cell).table.shared.table_id }
+        requires cell { IsOf (arc_value share.cell) party }
         requires limit { limit_of party ≡ (arc_value share.cell).limit }
         requires party { (y : Slot F _ A) × (z : Slot F _ A) × StandsWith Polling (future_first y z []) party × IsFuture y }
         ensures share { result.0 ≡ share }

@@ -6,6 +6,7 @@ ghost use Rattle.task_laws.specs.declared.positions.Position.TheVariants.{Answer
 ghost use Rattle.task_laws.specs.declared.positions.NotifyingCall.TheVariants.{OfPoll};
 ghost use Rattle.task_core.specs.declared.acts.Act.TheVariants.{EndCall};
 ghost use Rattle.task_steps.specs.declared.table.Deed.{Deed};
+ghost use Rattle.task_cell.specs.Belongs.{IsOf};
 ghost use Rattle.task_cell.specs.PollPaths.{PollPath, AnswerPath, TakePath, Looks, LooksAgain};
 ghost use Rattle.task_steps.specs.Standing.{poll_number, as_task};
 ghost use Rattle.task_steps.specs.PollScripts.{has_ended as has_ended_word};
@@ -27,7 +28,7 @@ use task_steps::words::{has_ended, has_to_wait};
 impl<R: Drop, F: Yields, Q: Drop, M: Drop, A: Drop, B: Allocator> Cell<R, F, Q, M, A, B> {
     // Writes down that the poll has ended. One load.
     fn end_poll(&self, party: &mut Party<F, Kept<F>, A>)
-        requires cell { party.old.seat.table_id ≡ self.now.table.shared.table_id }
+        requires cell { IsOf self.now party.old }
         requires party { (i : ℕ) × (answer : PollAnswer) × Stands (Answering i answer) party.old }
         ensures { Goes (act EndCall ∷ []) (as_task (poll_number (position party.old))) party.old party.new }
     {
@@ -38,7 +39,7 @@ impl<R: Drop, F: Yields, Q: Drop, M: Drop, A: Drop, B: Allocator> Cell<R, F, Q, 
 impl<R: Wait + Drop, F: Yields, Q: Drop, M: Drop, A: Drop, B: Allocator> Cell<R, F, Q, M, A, B> {
     // The first look of a poll, which takes the output where it is there. It answers with the word that it was taken on; the error is a word without an output.
     fn look(&self, party: &mut Party<F, Kept<F>, A>) -> Result<Word, Word>
-        requires cell { party.old.seat.table_id ≡ self.now.table.shared.table_id }
+        requires cell { IsOf self.now party.old }
         requires party { (n : ℕ) × Stands (as_task n) party.old }
         ensures path { Looks party.old party.new result }
         ensures ended { saw_ended (deeds party.old) ≡ true → (w : State) × (result ≡ Err w) × (has_ended_word w ≡ true) }
@@ -48,7 +49,7 @@ impl<R: Wait + Drop, F: Yields, Q: Drop, M: Drop, A: Drop, B: Allocator> Cell<R,
 
     // The look of a poll that has registered, which takes the output where it is there, and ends the poll where it has to wait.
     fn look_again(&self, party: &mut Party<F, Kept<F>, A>) -> Result<Word, Word>
-        requires cell { party.old.seat.table_id ≡ self.now.table.shared.table_id }
+        requires cell { IsOf self.now party.old }
         requires party { (i : ℕ) × Stands (LookingAt i) party.old }
         ensures { LooksAgain party.old party.new result }
     {
@@ -59,7 +60,7 @@ impl<R: Wait + Drop, F: Yields, Q: Drop, M: Drop, A: Drop, B: Allocator> Cell<R,
 impl<R: Wait + Drop, F: Yields, Q: Drop, M: Drop, A: Wake, B: Allocator> Cell<R, F, Q, M, A, B> {
     // Answers ready without output: takes the stored awaiter, and ends the poll.
     fn answer_closed(&self, party: &mut Party<F, Kept<F>, A>, awaiter: &A)
-        requires cell { party.old.seat.table_id ≡ self.now.table.shared.table_id }
+        requires cell { IsOf self.now party.old }
         requires party { (i : ℕ) × Stands (Notifier (OfPoll i)) party.old }
         ensures { (taken : List Deed) × TakePath A.woken A.compared awaiter.now taken × Goes (taken ++ (act EndCall ∷ [])) (as_task (poll_number (position party.old))) party.old party.new }
     {
@@ -69,7 +70,7 @@ impl<R: Wait + Drop, F: Yields, Q: Drop, M: Drop, A: Wake, B: Allocator> Cell<R,
 
     // Looks again, after the awaiter was registered, and answers by what it finds.
     fn answer(&self, party: &mut Party<F, Kept<F>, A>, awaiter: &A) -> TaskPoll<Option<Kept<F>>>
-        requires cell { party.old.seat.table_id ≡ self.now.table.shared.table_id }
+        requires cell { IsOf self.now party.old }
         requires party { (i : ℕ) × Stands (LookingAt i) party.old }
         ensures { (path : List Deed) × AnswerPath A.woken A.compared awaiter.now path result × Goes path (as_task (poll_number (position party.old))) party.old party.new }
     {
@@ -95,7 +96,7 @@ impl<R: Wait + Drop, F: Yields, Q: Drop, M: Drop, A: Wake, B: Allocator> Cell<R,
     /// A poll registers at most once. It waits for nobody, but tries a step anew where another party changed the word meanwhile.
     /// Once it has answered ready without output, each later poll answers the same.
     pub fn poll(&self, party: &mut Party<F, Kept<F>, A>, awaiter: &A) -> TaskPoll<Option<Kept<F>>>
-        requires cell { party.old.seat.table_id ≡ self.now.table.shared.table_id }
+        requires cell { IsOf self.now party.old }
         requires party { (n : ℕ) × Stands (as_task n) party.old }
         ensures path { (path : List Deed) × PollPath A.cloned A.woken A.woken_by_ref A.compared awaiter.now path result × Goes path (as_task (poll_number (position party.old))) party.old party.new }
         ensures ended { saw_ended (deeds party.old) ≡ true → result ≡ TaskPoll.Ready None }

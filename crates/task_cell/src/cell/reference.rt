@@ -8,6 +8,7 @@ ghost use Rattle.task_laws.specs.Table.{after_giving_up, notifies};
 ghost use Rattle.task_laws.specs.declared.positions.NotifyingCall.TheVariants.{OfRun};
 ghost use Rattle.task_steps.specs.declared.table.Slot.{Slot};
 ghost use Rattle.task_steps.specs.declared.table.Slot.TheVariants.{Empty};
+ghost use Rattle.task_cell.specs.Belongs.{IsOf};
 ghost use Rattle.task_cell.specs.Calls.{Stands, StandsWith, Goes, GoesWith};
 ghost use Rattle.task_steps.specs.Deeds.{act};
 ghost use Rattle.task_cell.specs.RunCalls.{GivesUp, Releases, Rests};
@@ -24,7 +25,7 @@ use task_steps::table::Kept;
 impl<R: Drop, F: Yields, Q: Drop, M: Drop, A: Drop, B: Allocator> Cell<R, F, Q, M, A, B> {
     // Drops what is in the place of the table that the party has in front, and leaves nothing there.
     pub(crate) fn clear(&self, party: &mut Party<F, Kept<F>, A>, place: usize)
-        requires cell { party.old.seat.table_id ≡ self.now.table.shared.table_id }
+        requires cell { IsOf self.now party.old }
         requires party { (at : Position) × (y : Slot F _ A) × (held : List (ℕ × Slot F _ A)) × StandsWith at ((place, y) ∷ held) party.old }
         ensures { (at : Position) (y : Slot F _ A) (held : List (ℕ × Slot F _ A)) → StandsWith at ((place, y) ∷ held) party.old → GoesWith [] at ((place, Empty) ∷ held) party.old party.new }
     {
@@ -34,7 +35,7 @@ impl<R: Drop, F: Yields, Q: Drop, M: Drop, A: Drop, B: Allocator> Cell<R, F, Q, 
 
     // The reference is given up: a single fetch, never tried again. Whether it was the last handle.
     pub(crate) fn give_up(&self, party: &mut Party<F, Kept<F>, A>) -> bool
-        requires cell { party.old.seat.table_id ≡ self.now.table.shared.table_id }
+        requires cell { IsOf self.now party.old }
         requires party { (hand : Option ℕ) × (answer : Answer) × Stands (GivingUp hand answer) party.old }
         ensures { (hand : Option ℕ) (answer : Answer) → Stands (GivingUp hand answer) party.old → GivesUp hand answer party.old party.new result }
     {
@@ -45,7 +46,7 @@ impl<R: Drop, F: Yields, Q: Drop, M: Drop, A: Drop, B: Allocator> Cell<R, F, Q, 
 
     // The last party empties the place of the awaiter, and gives it back. It makes no step on the word but a load. After it the party goes on in its call: to the awaiter in hand, or to the end.
     pub(crate) fn empty(&self, party: &mut Party<F, Kept<F>, A>)
-        requires cell { party.old.seat.table_id ≡ self.now.table.shared.table_id }
+        requires cell { IsOf self.now party.old }
         requires party { (hand : Option ℕ) × (answer : Answer) × (y : Slot F _ A) × StandsWith (Emptier hand answer) ((2, y) ∷ []) party.old }
         ensures { (hand : Option ℕ) (answer : Answer) (y : Slot F _ A) → StandsWith (Emptier hand answer) ((2, y) ∷ []) party.old → Goes (act EmptySlots ∷ []) (after_giving_up hand answer) party.old party.new }
     {
@@ -57,7 +58,7 @@ impl<R: Drop, F: Yields, Q: Drop, M: Drop, A: Drop, B: Allocator> Cell<R, F, Q, 
 
     // The reference is given up; who had the last one empties the places.
     pub(crate) fn release(&self, party: &mut Party<F, Kept<F>, A>)
-        requires cell { party.old.seat.table_id ≡ self.now.table.shared.table_id }
+        requires cell { IsOf self.now party.old }
         requires party { (hand : Option ℕ) × (answer : Answer) × Stands (GivingUp hand answer) party.old }
         ensures { (hand : Option ℕ) (answer : Answer) → Stands (GivingUp hand answer) party.old → Releases hand answer party.old party.new }
     {
@@ -70,7 +71,7 @@ impl<R: Drop, F: Yields, Q: Drop, M: Drop, A: Drop, B: Allocator> Cell<R, F, Q, 
 impl<R: Drop, F: Yields, Q: Drop, M: Drop, A: Wake, B: Allocator> Cell<R, F, Q, M, A, B> {
     // The rest of a run, after its end step. The awaiter that was taken is woken last.
     pub(crate) fn finish(&self, party: &mut Party<F, Kept<F>, A>, due: bool)
-        requires cell { party.old.seat.table_id ≡ self.now.table.shared.table_id }
+        requires cell { IsOf self.now party.old }
         requires party { Stands (notifies due OfRun) party.old }
         ensures { Rests ((a : A) × A.woken a) due party.old party.new }
     {

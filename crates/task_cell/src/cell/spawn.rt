@@ -3,6 +3,7 @@ ghost use Rattle.std.specs.Prelude.{◌≡◌, ℕ, ◌+◌, ◌^◌, ◌<◌, �
 ghost use Rattle.std.specs.Arc.{arc_value};
 ghost use Rattle.task_steps.specs.declared.table.Slot.{Slot};
 ghost use Rattle.task_steps.specs.Rule.{laid_view};
+ghost use Rattle.task_cell.specs.Belongs.{IsOf};
 ghost use Rattle.task_cell.specs.Calls.{Stands, StandsWith, deeds, limit_of};
 ghost use Rattle.task_steps.specs.Standing.{as_runnable, as_task};
 ghost use Rattle.task_laws.specs.declared.positions.Position.{Position};
@@ -50,7 +51,7 @@ impl<R: Drop, F: Yields, Q: Drop, M: Drop, A: Drop, B: Allocator> Cell<R, F, Q, 
     ) -> (Party<F, Kept<F>, A>, Party<F, Kept<F>, A>)
         requires cell { seat.table_id ≡ self.now.table.shared.table_id }
         requires seat { seat.me ≡ (laid_view self.now.limit, []) }
-        ensures cell { (result.0.seat.table_id ≡ self.now.table.shared.table_id) × (result.1.seat.table_id ≡ self.now.table.shared.table_id) }
+        ensures cell { IsOf self.now result.0 × IsOf self.now result.1 }
         ensures limit { (limit_of result.0 ≡ self.now.limit) × (limit_of result.1 ≡ self.now.limit) }
         ensures runnable { Stands as_runnable result.0 × (deeds result.0 ≡ []) }
         ensures task { Stands (as_task 0) result.1 × (deeds result.1 ≡ []) }
@@ -65,7 +66,7 @@ impl<R: Drop, F: Yields, Q: Drop, M: Drop, A: Drop, B: Allocator> Cell<R, F, Q, 
 
     /// Takes the cell apart by a party that is left: the last word, and what it means.
     pub fn into_word(self, party: Party<F, Kept<F>, A>) -> u64
-        requires cell { party.seat.table_id ≡ self.table.shared.table_id }
+        requires cell { IsOf self party }
         requires party { (at : Position) × (held : List (ℕ × Slot F _ A)) × StandsWith at held party }
         ensures { IsLastWord self.limit result party }
     {

@@ -3,6 +3,7 @@ ghost use Rattle.std.specs.Prelude.{◌≡◌, ℕ, ◌∷◌, [], not, true};
 ghost use Rattle.task_core.specs.Word.{State, is_open};
 ghost use Rattle.task_core.specs.declared.acts.Act.TheVariants.{LookFinished, EndCall};
 ghost use Rattle.task_steps.specs.Steps.{saw_over};
+ghost use Rattle.task_cell.specs.Belongs.{IsOf};
 ghost use Rattle.task_cell.specs.Calls.{Stands, Goes, position, deeds};
 ghost use Rattle.task_steps.specs.Deeds.{row, act};
 ghost use Rattle.task_steps.specs.Standing.{as_task};
@@ -18,7 +19,7 @@ use task_steps::task::LookingFinished;
 impl<R: Drop, F: Yields, Q: Drop, M: Drop, A: Drop, B: Allocator> Cell<R, F, Q, M, A, B> {
     /// Whether the task is completed or closed. It is one load, and waits for nobody.
     pub fn is_finished(&self, party: &mut Party<F, Kept<F>, A>) -> bool
-        requires cell { party.old.seat.table_id ≡ self.now.table.shared.table_id }
+        requires cell { IsOf self.now party.old }
         requires party { (n : ℕ) × Stands (as_task n) party.old }
         ensures path { (w : State) × Goes (row LookFinished w ∷ act EndCall ∷ []) (position party.old) party.old party.new × (result ≡ not (is_open w)) }
         ensures seen { saw_over (deeds party.old) ≡ true → result ≡ true }

@@ -1,5 +1,6 @@
 //! Waking the task.
 ghost use Rattle.std.specs.Prelude.{◌≡◌, ◌<◌};
+ghost use Rattle.task_cell.specs.Belongs.{IsOf};
 ghost use Rattle.task_cell.specs.Calls.{Stands};
 ghost use Rattle.task_steps.specs.Standing.{as_lent};
 ghost use Rattle.task_cell.specs.WakerPaths.{WakesTask};
@@ -22,7 +23,7 @@ impl<R: Wait + Drop, F: Yields, Q: Drop, M: Drop, A: Drop, B: Allocator> Cell<R,
         party: &mut Party<F, Kept<F>, A>,
         word: Word,
     ) -> Option<Party<F, Kept<F>, A>>
-        requires cell { party.old.seat.table_id ≡ self.now.table.shared.table_id }
+        requires cell { IsOf self.now party.old }
         requires room { word.references < 72057594037927935 }
         requires party { Stands as_lent party.old }
         ensures path { WakesTask party.old party.new result }

@@ -2,6 +2,7 @@
 ghost use Rattle.std.specs.Prelude.{◌≡◌, ℕ, [], ◌∷◌, IfSome, IfOk, IfErr};
 ghost use Rattle.std.specs.Arc.{arc_value};
 ghost use Rattle.task_steps.specs.Rule.{view, fresh};
+ghost use Rattle.task_cell.specs.Belongs.{IsOf};
 ghost use Rattle.task_cell.specs.Calls.{Stands, limit_of};
 ghost use Rattle.task_steps.specs.Standing.{as_waker, as_deliverer};
 ghost use Rattle.task_cell.specs.Wakers.{table_of, view_of, waker_view};
@@ -35,7 +36,7 @@ impl<R, F: Yields, Q, M, A, B: Allocator> WakerSeat<R, F, Q, M, A, B> {
         share: Share<R, F, Q, M, A, B>,
         party: Party<F, Kept<F>, A>,
     ) -> WakerSeat<R, F, Q, M, A, B>
-        requires cell { party.seat.table_id ≡ (arc_value share.cell).table.shared.table_id }
+        requires cell { IsOf (arc_value share.cell) party }
         requires party { party.seat.me ≡ (view (arc_value share.cell).limit (fresh as_waker ∷ []), []) }
         ensures { result.share ≡ share }
     {
@@ -77,7 +78,7 @@ impl<R, F: Yields, Q, M, A, B: Allocator> WakerSeat<R, F, Q, M, A, B> {
         self,
     ) -> Result<(Share<R, F, Q, M, A, B>, Party<F, Kept<F>, A>), WakerSeat<R, F, Q, M, A, B>>
         ensures share { IfOk result (λ owned. owned.0 ≡ self.share) }
-        ensures cell { IfOk result (λ owned. (owned.1.seat.table_id ≡ (arc_value owned.0.cell).table.shared.table_id) × (limit_of owned.1 ≡ (arc_value owned.0.cell).limit)) }
+        ensures cell { IfOk result (λ owned. IsOf (arc_value owned.0.cell) owned.1 × (limit_of owned.1 ≡ (arc_value owned.0.cell).limit)) }
         ensures party { IfOk result (λ owned. Stands as_waker owned.1) }
         ensures lent { IfErr result (λ lent. (lent.share ≡ self.share) × (lent.hold ≡ Hold.Lent)) }
     {
@@ -113,7 +114,7 @@ impl<R: Wait + Drop, F: Yields, Q: Drop, M: Drop, A: Wake, B: Allocator> WakerSe
 
     // Wakes the task: the deliverer, where it was idle.
     pub(crate) fn wake(&self) -> Option<Party<F, Kept<F>, A>>
-        ensures cell { IfSome result (λ d. (d.seat.table_id ≡ (arc_value self.now.share.cell).table.shared.table_id) × (limit_of d ≡ (arc_value self.now.share.cell).limit)) }
+        ensures cell { IfSome result (λ d. IsOf (arc_value self.now.share.cell) d × (limit_of d ≡ (arc_value self.now.share.cell).limit)) }
         ensures deliverer { IfSome result (λ d. Stands as_deliverer d) }
     {
         self.share.cell().wake_by_reference()

@@ -7,6 +7,7 @@ ghost use Rattle.task_steps.specs.declared.table.Deed.{Deed};
 ghost use Rattle.task_steps.specs.declared.table.Slot.{Slot};
 ghost use Rattle.task_steps.specs.Rule.{IsFuture};
 ghost use Rattle.task_steps.specs.Steps.{future_first};
+ghost use Rattle.task_cell.specs.Belongs.{IsOf};
 ghost use Rattle.task_cell.specs.Handed.{HandedOver, PolledOnce};
 ghost use Rattle.task_cell.specs.Calls.{Stands, StandsWith, Goes, limit_of};
 ghost use Rattle.task_steps.specs.Standing.{as_runnable, as_ended};
@@ -33,7 +34,7 @@ impl<R: Wait + Drop, F: Yields, Q: Drop, M: Drop, A: Wake, B: Allocator> Cell<R,
     where
         F: Future<TaskWaker<R, F, Q, M, A, X, B>>,
         Q: Schedule<Runnable<R, F, Q, M, A, X, B>>,
-        requires cell { (party.seat.table_id ≡ (arc_value share.cell).table.shared.table_id) × (limit_of party ≡ (arc_value share.cell).limit) }
+        requires cell { IsOf (arc_value share.cell) party × (limit_of party ≡ (arc_value share.cell).limit) }
         requires party { Stands as_runnable party }
         ensures share { result.0 ≡ share }
         ensures path { (path : List Deed) × RunPath (PolledOnce F.polled (arc_value share.cell) around) ((a : A) × A.woken a) (HandedOver Q.scheduled (arc_value share.cell) around) result.2 path × Goes path as_ended party result.1 }
@@ -62,7 +63,7 @@ impl<R: Wait + Drop, F: Yields, Q: Drop, M: Drop, A: Wake, B: Allocator> Cell<R,
 // The parts of a run, each of a party by value.
 impl<R: Wait + Drop, F: Yields, Q: Drop, M: Drop, A: Wake, B: Allocator> Cell<R, F, Q, M, A, B> {
     fn begin_run(&self, mut party: Party<F, Kept<F>, A>) -> (Party<F, Kept<F>, A>, bool)
-        requires cell { party.seat.table_id ≡ self.now.table.shared.table_id }
+        requires cell { IsOf self.now party }
         requires party { Stands as_runnable party }
         ensures { TakesUp party result.0 result.1 }
     {
@@ -71,7 +72,7 @@ impl<R: Wait + Drop, F: Yields, Q: Drop, M: Drop, A: Wake, B: Allocator> Cell<R,
     }
 
     fn end_closed_run(&self, mut party: Party<F, Kept<F>, A>) -> Party<F, Kept<F>, A>
-        requires cell { party.seat.table_id ≡ self.now.table.shared.table_id }
+        requires cell { IsOf self.now party }
         requires party { (y : Slot F _ A) × (z : Slot F _ A) × StandsWith (FutureInHand ClosedRun) (future_first y z []) party }
         ensures { Closes ((a : A) × A.woken a) party result }
     {
@@ -84,7 +85,7 @@ impl<R: Wait + Drop, F: Yields, Q: Drop, M: Drop, A: Wake, B: Allocator> Cell<R,
         mut party: Party<F, Kept<F>, A>,
         output: Held<Kept<F>>,
     ) -> Party<F, Kept<F>, A>
-        requires cell { party.seat.table_id ≡ self.now.table.shared.table_id }
+        requires cell { IsOf self.now party }
         requires party { (y : Slot F _ A) × (z : Slot F _ A) × StandsWith Polling (future_first y z []) party }
         ensures { EndsReady ((a : A) × A.woken a) party result }
     {
@@ -99,7 +100,7 @@ impl<R: Wait + Drop, F: Yields, Q: Drop, M: Drop, A: Wake, B: Allocator> Cell<R,
     ) -> (Party<F, Kept<F>, A>, bool)
     where
         Q: Schedule<Runnable<R, F, Q, M, A, X, B>>,
-        requires cell { (party.seat.table_id ≡ (arc_value this.now).table.shared.table_id) × (limit_of party ≡ (arc_value this.now).limit) }
+        requires cell { IsOf (arc_value this.now) party × (limit_of party ≡ (arc_value this.now).limit) }
         requires party { (y : Slot F _ A) × (z : Slot F _ A) × StandsWith Polling (future_first y z []) party × IsFuture y }
         ensures { EndsUnready ((a : A) × A.woken a) (HandedOver Q.scheduled (arc_value this.now) around) result.1 party result.0 }
     {
