@@ -1,25 +1,11 @@
 -- One round of an attempt: what its load and its exchange leave to the next round, or to the caller.
-use Rattle.std.proofs.Common.{◌≡◌, ℕ, Bool, true, Option, Some, None, is_some, List, [], sym, refl, ap, ◌∙◌, subst, ◌==◌}
-use mathlib.Core.Option.{none}
+use Rattle.task_cell.proofs.Vocabulary.{◌≡◌, ℕ, Bool, true, Option, Some, None, is_some, List, [], sym, refl, ap, ◌∙◌, subst, ◌==◌, none, Me, step, Allows, State, state_of, number_of, Act, Slot, View}
+use Rattle.task_cell.proofs.Vocabulary.{RuleHolds, head_of, Makes, Machine, Position, Party, deeds, limit_of, StandsWith, Finds, Steps, OwesEnd, may_try, looked, missed, Names, having_seen, observed}
+use Rattle.task_cell.proofs.Vocabulary.{attempted, MayTry, HasChanged, HasEnded}
 use prog.Atomic.{either}
-use Rattle.atomic_table.specs.Table.{Me, step, Allows}
-use Rattle.task_core.specs.Word.{State, state_of, number_of}
 use Rattle.task_core.proofs.Bits.{state_of_number_of}
-use Rattle.task_core.specs.declared.acts.Act.{Act}
-use Rattle.task_steps.specs.declared.table.Slot.{Slot}
 use Rattle.task_steps.specs.declared.table.Tries.{Tries}
-use Rattle.task_steps.specs.declared.table.View.{View}
-use Rattle.task_steps.specs.Rule.{RuleHolds}
-use Rattle.task_steps.specs.Steps.{head_of, Makes}
-use Rattle.task_laws.specs.Machine.{Machine}
-use Rattle.task_laws.specs.declared.positions.Position.{Position}
-use Rattle.task_cell.specs.declared.cell.Party.{Party}
-use Rattle.task_cell.specs.Calls.{deeds, limit_of, StandsWith}
-use Rattle.task_steps.proofs.Advance.{Finds, Steps}
-use Rattle.task_steps.proofs.Allowed.{OwesEnd}
-use Rattle.task_steps.proofs.Attempts.{may_try}
 use Rattle.task_steps.specs.Knows.{Knows}
-use Rattle.task_steps.specs.Attempts.{looked, missed, Names, having_seen, observed, attempted, MayTry, HasChanged, HasEnded}
 
 names_looked : (w : State) (t : Option Tries) → Names w (looked w t)
 names_looked w t = refl

@@ -1,19 +1,6 @@
 -- What a step comes to for the party that made it.
-use Rattle.std.proofs.Common.{◌≡◌, ℕ, Bool, true, false, List, [], ◌∷◌, ◌++◌, refl, sym, ap, ◌∙◌, subst}
-use Rattle.atomic_table.specs.Table.{Me, rest}
-use Rattle.task_core.specs.Word.{State}
-use Rattle.task_laws.specs.declared.positions.Position.{Position}
-use Rattle.task_core.specs.declared.acts.Act.{Act}
-use Rattle.task_laws.specs.Table.{Slots}
-use Rattle.task_steps.specs.declared.table.Slot.{Slot}
-use Rattle.task_steps.specs.declared.table.Deed.{Deed}
-use Rattle.task_steps.specs.declared.table.View.{View}
-use Rattle.task_cell.specs.declared.cell.Party.{Party}
-use Rattle.task_laws.specs.Holders.{owns_awaiter}
-use Rattle.task_steps.specs.Rule.{member, view, has_work}
-use Rattle.task_steps.specs.Steps.{head_of, future_first, output_first, acted, Carries, Carried, Makes}
-use Rattle.task_cell.specs.Calls.{deeds, position, holds, limit_of, StandsWith, GoesWith}
-use Rattle.task_steps.specs.Deeds.{after}
+use Rattle.task_cell.proofs.Vocabulary.{◌≡◌, ℕ, Bool, true, false, List, [], ◌∷◌, ◌++◌, refl, sym, ap, ◌∙◌, subst, Me, rest, State, Position, Act, Slots, Slot, Deed, View, Party, owns_awaiter, member}
+use Rattle.task_cell.proofs.Vocabulary.{view, has_work, head_of, future_first, output_first, acted, Carries, Carried, Makes, deeds, position, holds, limit_of, StandsWith, GoesWith, after}
 
 pub after-append : (a b l : List Deed) → after (a ++ b) l ≡ after b (after a l)
 after-append [] b l = refl

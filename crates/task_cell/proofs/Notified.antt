@@ -1,25 +1,10 @@
 -- What the steps of a notifier come to.
-use Rattle.std.proofs.Common.{◌≡◌, ℕ, Bool, true, false, not, ◌&&◌, ◌||◌, List, [], ◌∷◌, Option, Some, None, refl, sym, ap, ◌∙◌, subst}
-use Rattle.std.specs.Prelude.{if◌then◌else◌}
-use Rattle.task_core.specs.Word.{State}
-use Rattle.task_laws.specs.declared.positions.NotifyingCall.{NotifyingCall}
-use Rattle.task_laws.specs.declared.positions.Position.TheVariants.{Notifier, Releaser}
-use Rattle.task_core.specs.declared.acts.Act.TheVariants.{MissNotify, BeginNotify, TakeAwaiter, EndNotify}
-use Rattle.task_laws.specs.Table.{after_taking}
-use Rattle.task_steps.specs.declared.table.Slot.{Slot}
-use Rattle.task_steps.specs.declared.table.Slot.TheVariants.{Empty, Future, Output, Awaiter}
-use Rattle.task_steps.specs.declared.table.Deed.{Deed}
-use Rattle.task_cell.specs.declared.cell.Party.{Party}
-use Rattle.task_steps.specs.Rule.{Waits}
-use Rattle.task_steps.specs.Steps.{Makes}
-use Rattle.task_steps.specs.Scripts.{taking_awaiter, releasing_awaiter}
-use Rattle.task_steps.specs.Held.{awaiter_in}
-use Rattle.task_cell.specs.Calls.{Fits, position, holds, StandsWith, GoesWith, Notifies, misses, finds_none, takes_awaiter}
-use Rattle.task_steps.specs.Deeds.{row, act}
-use Rattle.task_steps.specs.Standing.{way_of}
+use Rattle.task_cell.proofs.Vocabulary.{◌≡◌, ℕ, Bool, true, false, not, ◌&&◌, ◌||◌, List, [], ◌∷◌, Option, Some, None, refl, sym, ap, ◌∙◌, subst, if◌then◌else◌, State, NotifyingCall, Notifier}
+use Rattle.task_cell.proofs.Vocabulary.{Releaser, MissNotify, BeginNotify, TakeAwaiter, EndNotify, after_taking, Slot, Empty, Future, Output, Awaiter, Deed, Party, Waits, Makes, taking_awaiter}
+use Rattle.task_cell.proofs.Vocabulary.{releasing_awaiter, awaiter_in, Fits, position, holds, StandsWith, GoesWith, Notifies, misses, finds_none, takes_awaiter, row, act, way_of, on_work, on_free}
+use Rattle.task_cell.proofs.Vocabulary.{same_way}
 use Rattle.task_cell.proofs.Moved as moved
 use Rattle.task_cell.proofs.Carried.{keeps_places, took_awaiter, gave_awaiter}
-use Rattle.task_steps.proofs.AwaiterOwed.{on_work, on_free, same_way}
 
 neither : (a b : Bool) → a ≡ false → b ≡ false → (a || b) ≡ false
 neither true b e f = absurd (cc)

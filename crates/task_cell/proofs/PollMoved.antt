@@ -1,33 +1,16 @@
 -- What the looks of a poll and the steps of a registering come to for the party that made them.
-use Rattle.std.proofs.Common.{◌≡◌, ℕ, ◌+◌, Bool, true, false, not, ◌&&◌, ◌||◌, Option, Some, None, List, [], ◌∷◌, refl, sym, ap, ◌∙◌, subst, map, is_some}
-use Rattle.std.specs.Prelude.{if◌then◌else◌, Result, Ok, Err, IfOk, IfErr}
-use Rattle.atomic_table.specs.Table.{Me}
-use Rattle.task_core.specs.Word.{State, number_of}
-use Rattle.task_core.specs.Rows.{written, row as row_of}
-use Rattle.task_laws.specs.declared.positions.Position.{Position}
-use Rattle.task_laws.specs.Event.{TaskPollBegins}
-use Rattle.task_laws.specs.declared.positions.PollAnswer.TheVariants.{IsPending}
-use Rattle.task_laws.specs.declared.positions.NotifyingCall.TheVariants.{OfPoll, OfClaim}
-use Rattle.task_laws.specs.declared.positions.Position.TheVariants.{Looking, SawOutput, Answering, Notifier, Registrar, UnusedClone, Registered, TookBack, CloneInHand}
-use Rattle.task_core.specs.declared.acts.Act.{Act}
-use Rattle.task_core.specs.declared.acts.Act.TheVariants.{Look, CloneAwaiter, StoreAwaiter, FindNotify, BeginRegister, EndRegister, EndRegisterNotified, TakeAwaiter, ClaimOutput, EndCall}
-use Rattle.task_laws.specs.Table.{Slots, Outcome, leaves_slots, changes_slots, when, notifies, first_look, after_storing}
-use Rattle.task_laws.specs.Holders.{owns_awaiter}
-use Rattle.task_steps.specs.declared.table.Slot.{Slot}
-use Rattle.task_steps.specs.declared.table.Deed.{Deed}
-use Rattle.task_steps.specs.declared.table.View.{View}
-use Rattle.task_cell.specs.declared.cell.Party.{Party}
-use Rattle.task_steps.specs.Rule.{member, view, fresh, has_work, Waits}
-use Rattle.task_steps.specs.Steps.{head_of, and_then, spot, held_word, next_of, born_of, leaves_by, noted, acted, output_first, TakesOutput, Carries, Carried, Makes, saw_ended}
-use Rattle.task_cell.specs.Calls.{position, deeds, limit_of, StandsWith, Stands, GoesWith, Goes}
-use Rattle.task_steps.specs.Deeds.{after, row, act}
-use Rattle.task_steps.specs.PollScripts.{has_output, has_ended, has_to_wait, looking, claiming, looking_again, claiming_again, finding_notifier, beginning_register, ending_register, taking_back}
-use Rattle.task_cell.specs.PollPaths.{ClaimsOutput, Looks, claims_output, sees_none, LooksAgain, claims_output_now, has_to_wait_on, sees_end, BeginsRegister, begins, finds_one, EndsRegister, ends, finds_notified}
-use Rattle.task_steps.specs.Standing.{as_task, poll_number}
+use Rattle.task_cell.proofs.Vocabulary.{◌≡◌, ℕ, ◌+◌, Bool, true, false, not, ◌&&◌, ◌||◌, Option, Some, None, List, [], ◌∷◌, refl, sym, ap, ◌∙◌, subst, map, is_some, if◌then◌else◌, Result, Ok, Err}
+use Rattle.task_cell.proofs.Vocabulary.{IfOk, IfErr, Me, State, number_of, written, Position, TaskPollBegins, IsPending, OfPoll, OfClaim, Looking, SawOutput, Answering, Notifier, Registrar}
+use Rattle.task_cell.proofs.Vocabulary.{UnusedClone, Registered, TookBack, CloneInHand, Act, Look, CloneAwaiter, StoreAwaiter, FindNotify, BeginRegister, EndRegister, EndRegisterNotified, TakeAwaiter}
+use Rattle.task_cell.proofs.Vocabulary.{ClaimOutput, EndCall, Slots, Outcome, leaves_slots, changes_slots, when, notifies, first_look, after_storing, owns_awaiter, Slot, Deed, View, Party, member}
+use Rattle.task_cell.proofs.Vocabulary.{view, fresh, has_work, Waits, head_of, and_then, spot, held_word, next_of, born_of, leaves_by, noted, acted, output_first, TakesOutput, Carries, Carried, Makes}
+use Rattle.task_cell.proofs.Vocabulary.{saw_ended, position, deeds, limit_of, StandsWith, Stands, GoesWith, Goes, after, row, act, has_output, has_ended, has_to_wait, looking, claiming, looking_again}
+use Rattle.task_cell.proofs.Vocabulary.{claiming_again, finding_notifier, beginning_register, ending_register, taking_back, ClaimsOutput, Looks, claims_output, sees_none, LooksAgain}
+use Rattle.task_cell.proofs.Vocabulary.{claims_output_now, has_to_wait_on, sees_end, BeginsRegister, begins, finds_one, EndsRegister, ends, finds_notified, as_task, poll_number, Empty, Awaiter}
+use Rattle.task_cell.proofs.Vocabulary.{MayTry, HasChanged, HasEnded, first_free, has_waited, sees_output, looks, looks_again, begins_register, ends_register, takes_back, claims, claims_again}
+use Rattle.task_cell.proofs.Vocabulary.{finds_notifier, fits}
+use Rattle.task_core.specs.Rows.{row as row_of}
 use Rattle.task_cell.proofs.Moved.{position_is, held_is, stands, goes_on}
-use Rattle.task_steps.specs.declared.table.Slot.TheVariants.{Empty, Awaiter}
-use Rattle.task_steps.specs.Attempts.{MayTry, HasChanged, HasEnded}
-use Rattle.task_steps.proofs.PollOwed.{first_free, has_waited, sees_output, looks, looks_again, begins_register, ends_register, takes_back, claims, claims_again, finds_notifier, fits}
 use Rattle.task_cell.proofs.Attempts.{may_at}
 use Rattle.task_cell.proofs.PollSeen.{not_both}
 

@@ -1,25 +1,11 @@
 -- The paths of a poll, put together from those of its parts.
-use Rattle.std.proofs.Common.{◌≡◌, ℕ, Bool, true, false, Option, Some, None, List, [], ◌∷◌, ◌++◌, refl, sym, ap, ◌∙◌, subst}
-use Rattle.task_core.specs.Word.{State}
-use Rattle.task_laws.specs.declared.positions.Position.{Position}
-use Rattle.task_laws.specs.declared.positions.NotifyingCall.{NotifyingCall}
-use Rattle.task_laws.specs.declared.positions.NotifyingCall.TheVariants.{OfRun, OfDrop, OfCancel, OfPoll, OfClaim}
-use Rattle.task_laws.specs.declared.positions.Position.TheVariants.{Notifier, AwaiterInHand, TookOutput, Answering}
-use Rattle.task_core.specs.declared.acts.Act.TheVariants.{HandOutOutput, TakeAwaiter, DropAwaiter, WakeAwaiter, EndCall, BeginNotify, MissNotify, EndNotify}
-use Rattle.task_laws.specs.declared.positions.PollAnswer.TheVariants.{IsClosed}
-use Rattle.task_laws.specs.Table.{after_taking as on_from, after_waking, may_drop, notifies}
-use Rattle.task_steps.specs.declared.table.Slot.{Slot}
-use Rattle.task_steps.specs.declared.table.Deed.{Deed}
-use Rattle.task_cell.specs.declared.cell.Party.{Party}
-use Rattle.task_cell.specs.Calls.{Fits, position, holds, StandsWith, Stands, GoesWith, Goes, Notifies, misses, finds_none, takes_awaiter}
-use Rattle.task_steps.specs.Deeds.{row, act}
-use Rattle.task_steps.specs.Standing.{as_task, way_of, poll_number}
-use Rattle.task_steps.specs.Rule.{IsOutput}
-use Rattle.task_steps.specs.Steps.{output_first}
+use Rattle.task_cell.proofs.Vocabulary.{◌≡◌, ℕ, Bool, true, false, Option, Some, None, List, [], ◌∷◌, ◌++◌, refl, sym, ap, ◌∙◌, subst, State, Position, NotifyingCall, OfRun, OfDrop, OfCancel, OfPoll}
+use Rattle.task_cell.proofs.Vocabulary.{OfClaim, Notifier, AwaiterInHand, TookOutput, Answering, HandOutOutput, TakeAwaiter, DropAwaiter, WakeAwaiter, EndCall, BeginNotify, MissNotify, EndNotify}
+use Rattle.task_cell.proofs.Vocabulary.{IsClosed, after_waking, may_drop, notifies, Slot, Deed, Party, Fits, position, holds, StandsWith, Stands, GoesWith, Goes, Notifies, misses, finds_none}
+use Rattle.task_cell.proofs.Vocabulary.{takes_awaiter, row, act, as_task, way_of, poll_number, IsOutput, output_first, TakePath, TakePathIf, ClaimsOutput, never}
+use Rattle.task_laws.specs.Table.{after_taking as on_from}
 use Rattle.task_cell.specs.PollPaths as paths
-use Rattle.task_cell.specs.PollPaths.{TakePath, TakePathIf, ClaimsOutput}
 use Rattle.task_cell.proofs.Moved.{goes_on, stands, position_is, held_is}
-use Rattle.task_steps.proofs.Bools.{never}
 
 -- the way on of a poll that may drop the awaiter
 some_goes_on : (way : NotifyingCall) (i : ℕ) → may_drop way ≡ true → on_from (Some i) way ≡ AwaiterInHand i way

@@ -1,26 +1,13 @@
 -- What the calls that end a run come to, step after step.
-use Rattle.std.proofs.Common.{◌≡◌, ℕ, Bool, true, false, not, ◌&&◌, List, [], ◌∷◌, ◌++◌, ap, ◌∙◌}
-use Rattle.std.specs.Prelude.{nat_lt, ◌||◌}
-use Rattle.task_core.specs.Word.{State}
-use Rattle.task_laws.specs.declared.positions.Rest.TheVariants.{Ended}
-use Rattle.task_laws.specs.declared.positions.NotifyingCall.TheVariants.{OfRun}
-use Rattle.task_laws.specs.declared.positions.OnceDelivered.TheVariants.{ThenEnds}
-use Rattle.task_laws.specs.declared.positions.Position.{Position}
-use Rattle.task_laws.specs.declared.positions.Position.TheVariants.{At, Deliverer, Polling, Pending, Ready, PendingFutureDropped, OutputInHand}
-use Rattle.task_core.specs.declared.acts.Act.TheVariants.{AnswerReady, AnswerPending, DropFuture, StoreOutput, Complete, CompleteDetached, DropOutput, EndClosed, Reschedule, EndIdle, EndOrphaned, HandOver, EndCall}
-use Rattle.task_laws.specs.declared.positions.Answer.TheVariants.{Ran}
-use Rattle.task_laws.specs.Table.{notifies}
-use Rattle.task_steps.specs.declared.table.Slot.{Slot}
-use Rattle.task_steps.specs.declared.table.Deed.{Deed}
-use Rattle.task_cell.specs.declared.cell.Party.{Party}
+use Rattle.task_cell.proofs.Vocabulary.{◌≡◌, ℕ, Bool, true, false, not, ◌&&◌, List, [], ◌∷◌, ◌++◌, ap, ◌∙◌, nat_lt, State, Ended, OfRun, ThenEnds, Position, At, Deliverer, Polling, Pending, Ready}
+use Rattle.task_cell.proofs.Vocabulary.{PendingFutureDropped, OutputInHand, AnswerReady, AnswerPending, DropFuture, StoreOutput, Complete, CompleteDetached, DropOutput, EndClosed, Reschedule, EndIdle}
+use Rattle.task_cell.proofs.Vocabulary.{EndOrphaned, HandOver, EndCall, Ran, notifies, Slot, Deed, Party, Closed, Rescheduled, Idle, Orphaned, IsFuture, future_first, output_first, StandsWith}
+use Rattle.task_cell.proofs.Vocabulary.{GoesWith, Goes, row, act, kept, not_claimed, ready, closed_meanwhile, woken_meanwhile, idle, orphaned, Rests, Completes, keeps, finds_detached, Stores}
+use Rattle.task_cell.proofs.Vocabulary.{ClosesPending, EndsReady, EndsUnready, AnswersPending, stays_pending, clears, EndsPending, is_closed, is_rescheduled, is_idle, is_orphaned}
+use Rattle.std.specs.Prelude.{◌||◌}
 use Rattle.task_steps.specs.declared.words.PendingEnd.{PendingEnd}
-use Rattle.task_steps.specs.declared.words.PendingEnd.TheVariants.{Closed, Rescheduled, Idle, Orphaned}
-use Rattle.task_steps.specs.Rule.{IsFuture}
-use Rattle.task_steps.specs.Steps.{future_first, output_first}
-use Rattle.task_cell.specs.Calls.{StandsWith, GoesWith, Goes}
-use Rattle.task_steps.specs.Deeds.{row, act}
-use Rattle.task_cell.specs.RunPaths.{kept, not_claimed, detached, ready, closed_meanwhile, woken_meanwhile, idle, orphaned}
-use Rattle.task_cell.specs.RunCalls.{Rests, Completes, keeps, finds_closed, finds_detached, Stores, ClosesPending, EndsReady, EndsUnready, AnswersPending, stays_pending, clears, EndsPending, is_closed, is_rescheduled, is_idle, is_orphaned}
+use Rattle.task_cell.specs.RunPaths.{detached}
+use Rattle.task_cell.specs.RunCalls.{finds_closed}
 use Rattle.task_cell.proofs.Moved as moved
 
 unkept : (w : State) → w.task ≡ true → w.closed ≡ false → (w.task && not w.closed) ≡ true

@@ -1,29 +1,11 @@
 -- What the calls of a run and of a Runnable's drop come to, step after step.
-use Rattle.std.proofs.Common.{◌≡◌, ℕ, Bool, true, false, List, [], ◌∷◌, ◌++◌, Option, Some, None, refl, sym, ap, ◌∙◌, subst}
-use Rattle.task_core.specs.Word.{State}
+use Rattle.task_cell.proofs.Vocabulary.{◌≡◌, ℕ, Bool, true, false, List, [], ◌∷◌, ◌++◌, Option, Some, None, refl, sym, ap, ◌∙◌, subst, State, Rest, Ended, NotifyingCall, OfRun, OfDrop, OfCancel}
+use Rattle.task_cell.proofs.Vocabulary.{DroppedRunnable, Position, At, CallEnding, Notifier, GivingUp, AwaiterInHand, FutureInHand, EndCall, WakeAwaiter, DropFuture, Unschedule, Answer, Ran, Nothing}
+use Rattle.task_cell.proofs.Vocabulary.{after_taking, after_waking, notifies, Slot, Empty, Deed, Party, IsFuture, future_first, position, holds, StandsWith, Stands, GoesWith, Goes, Notifies, misses}
+use Rattle.task_cell.proofs.Vocabulary.{finds_none, takes_awaiter, row, act, closing_way, way_of, rest_of, none_there, taken, nobody, woken, rests, DiscardStart, closed_run, Releases, TakesDue}
+use Rattle.task_cell.proofs.Vocabulary.{takes_none, takes_one, HasTaken, has_none, has_one, Wakes, Rests, Closes, Discards}
 use Rattle.task_laws.specs.declared.positions.WithoutPoll.{WithoutPoll}
-use Rattle.task_laws.specs.declared.positions.Rest.{Rest}
-use Rattle.task_laws.specs.declared.positions.Rest.TheVariants.{Ended}
-use Rattle.task_laws.specs.declared.positions.NotifyingCall.{NotifyingCall}
-use Rattle.task_laws.specs.declared.positions.NotifyingCall.TheVariants.{OfRun, OfDrop, OfCancel}
-use Rattle.task_laws.specs.declared.positions.WithoutPoll.TheVariants.{DroppedRunnable}
-use Rattle.task_laws.specs.declared.positions.Position.{Position}
-use Rattle.task_laws.specs.declared.positions.Position.TheVariants.{At, CallEnding, Notifier, GivingUp, AwaiterInHand, FutureInHand}
-use Rattle.task_core.specs.declared.acts.Act.TheVariants.{EndCall, WakeAwaiter, DropFuture, Unschedule}
-use Rattle.task_laws.specs.declared.positions.Answer.{Answer}
-use Rattle.task_laws.specs.declared.positions.Answer.TheVariants.{Ran, Nothing}
-use Rattle.task_laws.specs.Table.{after_taking, after_waking, notifies}
-use Rattle.task_steps.specs.declared.table.Slot.{Slot}
-use Rattle.task_steps.specs.declared.table.Slot.TheVariants.{Empty}
-use Rattle.task_steps.specs.declared.table.Deed.{Deed}
-use Rattle.task_cell.specs.declared.cell.Party.{Party}
-use Rattle.task_steps.specs.Rule.{IsFuture}
-use Rattle.task_steps.specs.Steps.{future_first}
-use Rattle.task_cell.specs.Calls.{position, holds, StandsWith, Stands, GoesWith, Goes, Notifies, misses, finds_none, takes_awaiter}
-use Rattle.task_steps.specs.Deeds.{row, act}
-use Rattle.task_steps.specs.Standing.{closing_way, way_of, rest_of}
-use Rattle.task_cell.specs.RunPaths.{missed, none_there, taken, nobody, woken, rests, DiscardStart, discards, closed_run}
-use Rattle.task_cell.specs.RunCalls.{Releases, TakesDue, takes_none, takes_one, HasTaken, has_none, has_one, Wakes, Rests, Closes, Discards}
+use Rattle.task_cell.specs.RunPaths.{missed, discards}
 use Rattle.task_cell.proofs.Moved as moved
 
 module _ {F T A : Type 0} where

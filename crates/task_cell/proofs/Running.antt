@@ -1,24 +1,10 @@
 -- The parts of a run, put together.
-use Rattle.std.proofs.Common.{◌≡◌, ℕ, Bool, true, false, List, [], ◌∷◌, sym, ap, ◌∙◌, subst}
-use Rattle.atomic_table.specs.Table.{Me}
-use Rattle.task_core.specs.Word.{State}
-use Rattle.task_laws.specs.declared.positions.Position.TheVariants.{FutureInHand, Polling}
-use Rattle.task_laws.specs.declared.positions.WithoutPoll.TheVariants.{ClosedRun}
-use Rattle.task_core.specs.declared.acts.Act.TheVariants.{TakeUpClosed, StartRun, StartPoll}
+use Rattle.task_cell.proofs.Vocabulary.{◌≡◌, ℕ, Bool, true, false, List, [], ◌∷◌, sym, ap, ◌∙◌, subst, Me, State, FutureInHand, Polling, ClosedRun, TakeUpClosed, StartRun, StartPoll, Slot, Deed, View}
+use Rattle.task_cell.proofs.Vocabulary.{Party, member, view, IsFuture, head_of, future_first, deeds, limit_of, StandsWith, GoesWith, Goes, row, act, as_ended, TakesUp, finds_closed, starts, RunPath}
+use Rattle.task_cell.proofs.Vocabulary.{Closes, EndsReady, EndsUnready}
 use Rattle.task_core.specs.declared.traits.Poll.{Poll}
 use Rattle.task_core.specs.declared.traits.Poll.TheVariants.{Pending as Unready, Ready as Answered}
-use Rattle.task_steps.specs.declared.table.Slot.{Slot}
-use Rattle.task_steps.specs.declared.table.Deed.{Deed}
-use Rattle.task_steps.specs.declared.table.View.{View}
-use Rattle.task_cell.specs.declared.cell.Party.{Party}
-use Rattle.task_steps.specs.Rule.{member, view, IsFuture}
-use Rattle.task_steps.specs.Steps.{head_of, future_first}
-use Rattle.task_cell.specs.Calls.{deeds, limit_of, StandsWith, GoesWith, Goes}
-use Rattle.task_steps.specs.Deeds.{row, act}
-use Rattle.task_steps.specs.Standing.{as_ended}
-use Rattle.task_cell.specs.Starts.{TakesUp, finds_closed, starts}
-use Rattle.task_cell.specs.RunPaths.{RunPath, finds_closed as closed_path, answers_ready, answers_pending}
-use Rattle.task_cell.specs.RunCalls.{Closes, EndsReady, EndsUnready}
+use Rattle.task_cell.specs.RunPaths.{finds_closed as closed_path, answers_ready, answers_pending}
 use Rattle.task_cell.proofs.Moved as moved
 
 module _ {F T A : Type 0} where

@@ -1,28 +1,11 @@
 -- How a run takes a Runnable up.
-use Rattle.std.proofs.Common.{◌≡◌, ℕ, Bool, true, false, not, Some, None, List, [], ◌∷◌, refl, sym, ap, ◌∙◌, inr, is_some}
-use Rattle.task_core.specs.Word.{State, number_of}
-use Rattle.task_laws.specs.Event.{TakenUp, FuturePollBegins}
-use Rattle.task_laws.specs.declared.positions.Position.TheVariants.{At, FutureInHand, Starting, Polling}
-use Rattle.task_laws.specs.declared.positions.Rest.TheVariants.{Runnable}
-use Rattle.task_laws.specs.declared.positions.WithoutPoll.TheVariants.{ClosedRun}
-use Rattle.task_core.specs.declared.acts.Act.TheVariants.{TakeUpClosed, StartRun, StartPoll}
-use Rattle.task_core.specs.Rows.{written, row}
-use Rattle.task_laws.specs.Table.{Outcome, leaves_slots}
-use Rattle.task_laws.specs.Machine.{Machine, scene}
-use Rattle.task_steps.specs.declared.table.Slot.{Slot}
-use Rattle.task_steps.specs.declared.table.Deed.{Deed}
-use Rattle.task_cell.specs.declared.cell.Party.{Party}
-use Rattle.task_cell.specs.Calls.{Stands, deeds}
+use Rattle.task_cell.proofs.Vocabulary.{◌≡◌, ℕ, Bool, true, false, not, Some, None, List, [], ◌∷◌, refl, sym, ap, ◌∙◌, inr, is_some, State, number_of, TakenUp, FuturePollBegins, At, FutureInHand}
+use Rattle.task_cell.proofs.Vocabulary.{Starting, Polling, Runnable, ClosedRun, TakeUpClosed, StartRun, StartPoll, written, Outcome, leaves_slots, Machine, scene, Slot, Deed, Party, Stands, deeds}
+use Rattle.task_cell.proofs.Vocabulary.{TakesUp, finds_closed, starts, queued, leads_found, row_found, Finds, takes_future, Steps, if◌then◌else◌, OwesEnd, MayTry, HasChanged, HasEnded}
+use Rattle.task_core.specs.Rows.{row}
 use Rattle.task_steps.specs.StartScripts.{taking_up_closed, starting_run}
-use Rattle.task_cell.specs.Starts.{TakesUp, finds_closed, starts}
 use Rattle.task_steps.proofs.Numbers.{same_word}
-use Rattle.task_steps.proofs.Facts.{queued}
-use Rattle.task_steps.proofs.Acts.{leads_found, row_found}
-use Rattle.task_steps.proofs.Advance.{Finds, takes_future, Steps}
 use Rattle.task_cell.proofs.Moved.{moved}
-use Rattle.std.specs.Prelude.{if◌then◌else◌}
-use Rattle.task_steps.proofs.Allowed.{OwesEnd}
-use Rattle.task_steps.specs.Attempts.{MayTry, HasChanged, HasEnded}
 use Rattle.task_cell.proofs.Attempts.{may_at}
 
 module _ (F T A : Type 0) (limit : ℕ) where

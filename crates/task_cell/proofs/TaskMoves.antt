@@ -1,40 +1,17 @@
 -- What the steps of a cancel and of a detach come to for the party that made them.
-use Rattle.std.proofs.Common.{◌≡◌, ℕ, Bool, true, false, not, ◌&&◌, ◌||◌, List, [], ◌∷◌, ◌++◌, Option, Some, None, refl, sym, ap, subst, arith, is_some}
-use Rattle.std.specs.Prelude.{nat_lt, nat_eq, if◌then◌else◌}
+use Rattle.task_cell.proofs.Vocabulary.{◌≡◌, ℕ, Bool, true, false, not, ◌&&◌, ◌||◌, List, [], ◌∷◌, ◌++◌, Option, Some, None, refl, sym, ap, subst, arith, is_some, nat_lt, nat_eq, if◌then◌else◌, State}
+use Rattle.task_cell.proofs.Vocabulary.{is_open, number_of, Answer, Nothing, Position, At, Deliverer, Emptier, OutputCloser, Detacher, CallEnding, AwaiterInHand, Rest, Task, Ended, ThenEnds, OfCancel}
+use Rattle.task_cell.proofs.Vocabulary.{CancelOver, CancelBusy, CancelIdle, GiveUpOutput, DropOutput, DetachOrphan, DetachLast, Detach, EndCall, notifies, after_cancelling, owns_awaiter, Slot, Deed}
+use Rattle.task_cell.proofs.Vocabulary.{Party, Over, Busy, Unclaimed, has_work, output_first, Carries, Makes, position, Stands, Goes, deeds, row, act, rest_of, as_task, NotifyPath, none_there, taken}
+use Rattle.task_cell.proofs.Vocabulary.{WakePath, nobody, woken, TakesDue, takes_none, takes_one, Wakes, Notice, not_due, found_none, woke, Cancels, Detaches, GivesTaskUp, closed_by, given_up_by}
+use Rattle.task_cell.proofs.Vocabulary.{both, over, neither, none_left, last_orphan, closed_claimed, idle_cancel, finds_over, cancels, detaches, is_over, MayTry, HasChanged, HasEnded, never_ends}
 use Rattle.std.proofs.lemmas.Bool.Decides.{nat_tests}
-use Rattle.task_core.specs.Word.{State, is_open, number_of}
-use Rattle.task_laws.specs.declared.positions.Answer.{Answer}
-use Rattle.task_laws.specs.declared.positions.Answer.TheVariants.{Nothing}
-use Rattle.task_laws.specs.declared.positions.Position.{Position}
-use Rattle.task_laws.specs.declared.positions.Position.TheVariants.{At, Deliverer, Emptier, OutputCloser, Detacher, CallEnding, AwaiterInHand}
-use Rattle.task_laws.specs.declared.positions.Rest.{Rest}
-use Rattle.task_laws.specs.declared.positions.Rest.TheVariants.{Task, Ended}
-use Rattle.task_laws.specs.declared.positions.OnceDelivered.TheVariants.{ThenEnds}
-use Rattle.task_laws.specs.declared.positions.NotifyingCall.TheVariants.{OfCancel}
-use Rattle.task_core.specs.declared.acts.Act.TheVariants.{CancelOver, CancelBusy, CancelIdle, GiveUpOutput, DropOutput, DetachOrphan, DetachLast, Detach, EndCall}
-use Rattle.task_laws.specs.Table.{notifies, after_cancelling}
-use Rattle.task_laws.specs.Holders.{owns_awaiter}
-use Rattle.task_steps.specs.declared.table.Slot.{Slot}
-use Rattle.task_steps.specs.declared.table.Deed.{Deed}
-use Rattle.task_cell.specs.declared.cell.Party.{Party}
-use Rattle.task_steps.specs.declared.words.Cancelled.TheVariants.{Over, Busy, Idle}
-use Rattle.task_steps.specs.declared.words.Detached.TheVariants.{Unclaimed, Shared, Last, Orphaned}
-use Rattle.task_steps.specs.Rule.{has_work}
-use Rattle.task_steps.specs.Steps.{output_first, Carries, Makes}
-use Rattle.task_cell.specs.Calls.{position, Stands, Goes, deeds}
-use Rattle.task_steps.specs.Deeds.{row, act}
-use Rattle.task_steps.specs.Standing.{rest_of, as_task}
-use Rattle.task_cell.specs.RunPaths.{NotifyPath, not_due as none_due, missed as miss, none_there, taken, WakePath, nobody, woken}
-use Rattle.task_cell.specs.RunCalls.{TakesDue, takes_none, takes_one, Wakes}
+use Rattle.task_steps.specs.declared.words.Cancelled.TheVariants.{Idle}
+use Rattle.task_steps.specs.declared.words.Detached.TheVariants.{Shared, Last, Orphaned}
+use Rattle.task_cell.specs.RunPaths.{not_due as none_due, missed as miss}
 use Rattle.task_steps.specs.TaskScripts.{cancelling, detaching, giving_task_up, finding_cancelled, cancelled, cancelled_word, detached}
-use Rattle.task_cell.specs.TaskPaths.{Notice, not_due, missed, found_none, woke, Cancels, Detaches, GivesTaskUp}
-use Rattle.task_steps.specs.Found.{closed_by, given_up_by}
+use Rattle.task_cell.specs.TaskPaths.{missed}
 use Rattle.task_cell.proofs.Moved.{moved, goes, goes_on, stands, position_is}
-use Rattle.task_steps.proofs.Acts.{both}
-use Rattle.task_steps.proofs.TaskOwed.{over, neither, none_left, last_orphan, closed_claimed, idle_cancel, finds_over, cancels, detaches}
-use Rattle.task_steps.specs.WakerScripts.{is_over}
-use Rattle.task_steps.specs.Attempts.{MayTry, HasChanged, HasEnded}
-use Rattle.task_steps.proofs.Attempts.{never_ends}
 use Rattle.task_cell.proofs.Attempts.{may_at}
 
 -- a word that is written only where the test holds

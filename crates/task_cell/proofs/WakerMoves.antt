@@ -1,43 +1,22 @@
 -- What the steps of a lent waker, and of a waker's drop, come to for the party that made them.
-use Rattle.std.proofs.Common.{◌≡◌, ℕ, Bool, true, false, not, ◌&&◌, List, [], ◌∷◌, Option, Some, None, IfSome, is_some, refl, sym, ap, ◌∙◌, subst}
-use Rattle.std.specs.Prelude.{nat_lt, if◌then◌else◌}
-use Rattle.atomic_table.specs.Table.{Me}
-use Rattle.task_core.specs.Word.{State, is_open, number_of}
-use Rattle.task_core.specs.Rows.{written, row as row_of}
-use Rattle.task_laws.specs.Table.{Slots, is_held}
-use Rattle.task_laws.specs.declared.positions.Answer.TheVariants.{Nothing}
-use Rattle.task_laws.specs.declared.positions.Rest.TheVariants.{Waker, Lent, Ended}
-use Rattle.task_laws.specs.declared.positions.OnceDelivered.TheVariants.{ThenEnds}
-use Rattle.task_laws.specs.declared.positions.Position.{Position}
-use Rattle.task_laws.specs.declared.positions.Position.TheVariants.{At, Deliverer, Emptier, OrphanHolder}
-use Rattle.task_core.specs.declared.acts.Act.{Act}
-use Rattle.task_core.specs.declared.acts.Act.TheVariants.{GainReference, FindLimit, RefuseGain, DropWaker, DropLastWaker, OrphanTask, CloseOrphan, WakeOver, WakeScheduled, WakeRunning, WakeIdle, EndCall}
-use Rattle.task_steps.specs.declared.table.Slot.{Slot}
-use Rattle.task_steps.specs.declared.table.Deed.{Deed}
-use Rattle.task_steps.specs.declared.table.Member.{Member}
-use Rattle.task_steps.specs.declared.table.View.{View}
-use Rattle.task_cell.specs.declared.cell.Party.{Party}
-use Rattle.task_steps.specs.declared.words.Dropped.TheVariants.{Shared, Last, Orphaned}
-use Rattle.task_steps.specs.Rule.{member, view, fresh}
-use Rattle.task_steps.specs.Steps.{head_of, acted, Carried, Makes}
-use Rattle.task_cell.specs.Calls.{deeds, limit_of, IsNew, Stands, Goes}
-use Rattle.task_steps.specs.Deeds.{row, act, after}
-use Rattle.task_steps.specs.Standing.{as_waker, as_deliverer}
-use Rattle.task_cell.specs.WakerPaths as paths
-use Rattle.task_steps.specs.Attempts.{MayTry, HasChanged, HasEnded}
-use Rattle.task_cell.proofs.Attempts.{may_at}
-use Rattle.task_steps.proofs.Bools.{never}
-use Rattle.task_steps.proofs.WakerOwed as owed
-use Rattle.task_steps.specs.WakerScripts.{others_left, gaining, gained_word, at_limit, finding_limit, refusing_gain, is_over, finding_over, waking_task, woken_word, woken_if_held, dropping_waker, closing_orphan}
+use Rattle.task_cell.proofs.Vocabulary.{◌≡◌, ℕ, Bool, true, false, not, ◌&&◌, List, [], ◌∷◌, Option, Some, None, IfSome, is_some, refl, sym, ap, ◌∙◌, subst, nat_lt, if◌then◌else◌, Me, State, is_open}
+use Rattle.task_cell.proofs.Vocabulary.{number_of, written, Slots, is_held, Nothing, Waker, Lent, Ended, ThenEnds, Position, At, Deliverer, Emptier, OrphanHolder, Act, GainReference, FindLimit}
+use Rattle.task_cell.proofs.Vocabulary.{RefuseGain, DropWaker, DropLastWaker, OrphanTask, CloseOrphan, WakeOver, WakeScheduled, WakeRunning, WakeIdle, EndCall, Slot, Deed, Member, View, Party, Shared}
+use Rattle.task_cell.proofs.Vocabulary.{Last, member, view, fresh, head_of, acted, Carried, Makes, deeds, limit_of, IsNew, Stands, Goes, row, act, after, as_waker, as_deliverer, MayTry, HasChanged}
+use Rattle.task_cell.proofs.Vocabulary.{HasEnded, never, others_left, gaining, gained_word, at_limit, finding_limit, refusing_gain, is_over, finding_over, waking_task, woken_word, woken_if_held}
+use Rattle.task_cell.proofs.Vocabulary.{dropping_waker, closing_orphan, GainsShare, is_refused, goes_on_to, is_gained, finds_limit, is_scheduled, is_running, Gains, gains_none, gains_one, WakesTask}
+use Rattle.task_cell.proofs.Vocabulary.{makes_none, makes_one, DropsWaker, dropped_by, both, gains, third, fourth}
+use Rattle.task_core.specs.Rows.{row as row_of}
+use Rattle.task_steps.specs.declared.words.Dropped.TheVariants.{Orphaned}
 use Rattle.task_steps.specs.Beside.{without_newest, newest}
-use Rattle.task_cell.specs.WakerPaths.{GainsShare, is_refused, goes_on_to, is_gained, finds_limit, is_scheduled, is_running, is_idle, Gains, gains_none, gains_one, WakesTask, makes_none, makes_one, DropsWaker}
-use Rattle.task_steps.specs.Found.{dropped_by}
-use Rattle.task_steps.proofs.Acts.{both}
-use Rattle.task_cell.proofs.Carried.{keeps_places}
-use Rattle.task_cell.proofs.Moved.{moved, goes}
+use Rattle.task_cell.specs.WakerPaths.{is_idle}
 use Rattle.task_steps.specs.Seats.{is_spent}
 use Rattle.atomic_table.specs.Seated.{TableId}
-use Rattle.task_steps.proofs.WakerOwed.{gains, third, fourth}
+use Rattle.task_cell.specs.WakerPaths as paths
+use Rattle.task_cell.proofs.Attempts.{may_at}
+use Rattle.task_steps.proofs.WakerOwed as owed
+use Rattle.task_cell.proofs.Carried.{keeps_places}
+use Rattle.task_cell.proofs.Moved.{moved, goes}
 
 -- whether the count had room, and the task was open, by the word that was written
 has_room : (limit : ℕ) (w : State) → is_some (gained_word limit w) ≡ true → nat_lt w.references limit ≡ true

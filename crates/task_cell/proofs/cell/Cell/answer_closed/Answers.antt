@@ -1,7 +1,4 @@
-use Rattle.task_laws.specs.declared.positions.PollAnswer.TheVariants.{IsClosed}
-use Rattle.std.proofs.Common.{[], refl}
-use Rattle.task_laws.specs.declared.positions.NotifyingCall.TheVariants.{OfPoll}
-use Rattle.task_laws.specs.declared.positions.Position.TheVariants.{Answering}
+use Rattle.task_cell.proofs.Vocabulary.{IsClosed, [], refl, OfPoll, Answering}
 use Rattle.task_cell.proofs.Moved.{stands}
 use Rattle.task_cell.proofs.PollWays.{is_answering, ended_closed}
 use Rattle.task_cell.proofs.cell.Cell.answer_closed.Goals as goal

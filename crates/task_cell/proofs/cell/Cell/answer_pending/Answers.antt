@@ -1,8 +1,4 @@
-use Rattle.std.proofs.Common.{rules, ap, sym, subst, ◌<◌}
-use Rattle.task_core.specs.Word.{State, state_of}
-use Rattle.task_steps.proofs.Known.{steps_knowing}
-use Rattle.task_cell.specs.RunCalls.{AnswersPending}
-use Rattle.task_steps.proofs.RunOwed.{answers_pending}
+use Rattle.task_cell.proofs.Vocabulary.{rules, ap, sym, subst, ◌<◌, State, state_of, steps_knowing, AnswersPending, answers_pending}
 use Rattle.task_cell.proofs.RunGoes.{answered_pending}
 use Rattle.task_cell.proofs.cell.Cell.answer_pending.Goals as goal
 

@@ -1,5 +1,4 @@
-use Rattle.std.proofs.Common.{rules, sym, refl, ◌∙◌, subst, ◌<◌}
-use Rattle.task_core.specs.Word.{State}
+use Rattle.task_cell.proofs.Vocabulary.{rules, sym, refl, ◌∙◌, subst, ◌<◌, State}
 use Rattle.task_cell.proofs.Attempts.{seeing_first, may_exchange, may_load, seeing_next, seeing_missed, ends_at, changed, ended}
 use Rattle.task_cell.proofs.cell.Cell.attempt_from.Goals as goal
 

@@ -1,5 +1,4 @@
-use Rattle.std.proofs.Common.{ap, ◌∙◌, sym, true, false}
-use Rattle.task_laws.specs.declared.positions.Answer.TheVariants.{Ran}
+use Rattle.task_cell.proofs.Vocabulary.{ap, ◌∙◌, sym, true, false, Ran}
 use Rattle.task_cell.proofs.Moved.{stands, limit_is}
 use Rattle.task_cell.proofs.RunEnds.{cleared_first, left_pending, cleared_later, went_rescheduled, went_idle, went_orphaned, found_closed, found_idle, found_woken, found_orphaned}
 use Rattle.task_cell.proofs.cell.Cell.finish_pending.Goals as goal

@@ -1,7 +1,4 @@
-use Rattle.std.proofs.Common.{◌∙◌}
-use Rattle.task_laws.specs.declared.positions.Answer.TheVariants.{Nothing}
-use Rattle.task_laws.specs.declared.positions.Rest.TheVariants.{Task}
-use Rattle.task_laws.specs.declared.positions.NotifyingCall.TheVariants.{OfCancel}
+use Rattle.task_cell.proofs.Vocabulary.{◌∙◌, Nothing, Task, OfCancel}
 use Rattle.task_cell.proofs.Moved.{stands}
 use Rattle.task_cell.proofs.RunRest.{due_cell, cancel_has}
 use Rattle.task_cell.proofs.TaskMoves.{ends_noticed}

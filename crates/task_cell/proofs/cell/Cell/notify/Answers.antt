@@ -1,9 +1,4 @@
-use Rattle.std.proofs.Common.{rules, ap, sym, ◌∙◌, ◌≡◌, Bool, true, false, ◌||◌, refl}
-use Rattle.task_core.specs.Word.{state_of}
-use Rattle.task_steps.specs.declared.table.Slot.TheVariants.{Empty}
-use Rattle.task_steps.proofs.Allowed.{steps_always}
-use Rattle.task_steps.proofs.AwaiterOwed.{takes, releases_awaiter}
-use Rattle.task_steps.specs.Held.{held, awaiter_in}
+use Rattle.task_cell.proofs.Vocabulary.{rules, ap, sym, ◌∙◌, ◌≡◌, Bool, true, false, ◌||◌, refl, state_of, Empty, steps_always, takes, releases_awaiter, held, awaiter_in}
 use Rattle.task_cell.proofs.Notified.{taken_free, missed, notified}
 use Rattle.task_cell.proofs.Carried.{exchanges}
 use Rattle.task_cell.proofs.Moved.{stands, first_held}

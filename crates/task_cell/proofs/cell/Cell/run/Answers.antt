@@ -1,9 +1,4 @@
-use Rattle.std.proofs.Common.{◌∙◌, sym, ap, subst, []}
-use Rattle.std.specs.Arc.{arc_value}
-use Rattle.task_cell.specs.declared.cell.Cell.{Cell}
-use Rattle.task_cell.specs.RunCalls.{EndsUnready}
-use Rattle.task_cell.specs.Handed.{HandedOver}
-use Rattle.task_steps.specs.Steps.{future_first}
+use Rattle.task_cell.proofs.Vocabulary.{◌∙◌, sym, ap, subst, [], arc_value, Cell, EndsUnready, HandedOver, future_first}
 use Rattle.task_cell.proofs.Moved.{stands}
 use Rattle.task_cell.proofs.Running.{shut, started, polls_there, limit_started, run_closed, run_ready, run_pending}
 use Rattle.task_cell.proofs.cell.Cell.run.Goals as goal

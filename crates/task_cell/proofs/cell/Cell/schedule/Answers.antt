@@ -1,5 +1,4 @@
-use Rattle.std.proofs.Common.{refl}
-use Rattle.task_steps.specs.Standing.{as_runnable}
+use Rattle.task_cell.proofs.Vocabulary.{refl, as_runnable}
 use Rattle.task_cell.proofs.cell.Cell.schedule.Goals as goal
 
 pub deliver-requires-clause-party : goal.deliver-requires-clause-party

@@ -1,10 +1,4 @@
-use Rattle.std.proofs.Common.{[], subst}
-use Rattle.task_laws.specs.declared.positions.NotifyingCall.TheVariants.{OfClaim}
-use Rattle.task_laws.specs.declared.positions.Position.TheVariants.{TookOutput}
-use Rattle.task_laws.specs.Table.{notifies}
-use Rattle.task_cell.specs.Calls.{position, holds, StandsWith}
-use Rattle.task_steps.specs.Standing.{poll_number}
-use Rattle.task_steps.specs.Steps.{output_first}
+use Rattle.task_cell.proofs.Vocabulary.{[], subst, OfClaim, TookOutput, notifies, position, holds, StandsWith, poll_number, output_first}
 use Rattle.task_cell.proofs.Moved.{stands, held_is}
 use Rattle.task_cell.proofs.PollWays.{handed_out}
 use Rattle.task_cell.proofs.cell.Cell.take_output.Goals as goal
