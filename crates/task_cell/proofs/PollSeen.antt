@@ -1,7 +1,7 @@
 -- What a poll has seen of the task's end, and what an earlier poll has seen.
 use Rattle.task_cell.proofs.Vocabulary.{◌≡◌, Bool, true, false, not, ◌&&◌, ◌||◌, List, [], ◌∷◌, ◌++◌, Option, None, sym, ap, subst, Result, Err, Me, State, TaskPoll, Position, Look, EndCall, Slot}
 use Rattle.task_cell.proofs.Vocabulary.{Deed, View, Party, row, act, after, head_of, leaves_such, saw, saw_ended, has_output, has_ended, deeds, GoesWith, AnswerPath, waits, has_ended_since}
-use Rattle.task_cell.proofs.Vocabulary.{has_output_since, PollPath, finds_output, finds_ended, true_left, true_right}
+use Rattle.task_cell.proofs.Vocabulary.{has_output_since, PollPath, finds_output, finds_ended, true_left, true_right, arith}
 use Rattle.task_core.specs.declared.traits.TaskPoll.TheVariants.{Ready}
 use Rattle.task_cell.specs.PollPaths.{is_refused, looks_again}
 use Rattle.task_cell.proofs.Moved.{after-append}
@@ -42,9 +42,7 @@ pub not_both : {P : Type 0} (w : State) → has_ended w ≡ true → has_output 
 not_both w e f = by w.closed w.completed (w.scheduled || w.running) e f
   where
     by : {P : Type 0} (c d b : Bool) → (c && not b) ≡ true → (d && not c) ≡ true → P
-    by true true b e f = absurd (cc)
-    by true false b e f = absurd (cc)
-    by false d b e f = absurd (cc)
+    by c d b e f = absurd (grind arith)
 
 abbrev as_error : State → Result State State
 as_error w = Err w

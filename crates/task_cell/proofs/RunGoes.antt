@@ -6,7 +6,7 @@ use Rattle.task_cell.proofs.Vocabulary.{CompleteDetached, DropOutput, EndClosed,
 use Rattle.task_cell.proofs.Vocabulary.{Idle, Orphaned, IsFuture, IsOutput, future_first, output_first, Makes, Carried, all_fit, left_true, dropping_output, StandsWith, Stands, GoesWith, Goes}
 use Rattle.task_cell.proofs.Vocabulary.{limit_of, deeds, row, act, DiscardStart, found_open, found_closed, GivesUp, not_last, last, Releases, Completes, keeps, finds_detached, AnswersPending}
 use Rattle.task_cell.proofs.Vocabulary.{stays_pending, clears, EndsPending, is_rescheduled, is_idle, is_orphaned, ending_of, given_work, given_free, due_work, closed_already, completes, ends_pending}
-use Rattle.task_cell.proofs.Vocabulary.{MayTry, HasEnded, never_ends, Steps}
+use Rattle.task_cell.proofs.Vocabulary.{MayTry, HasEnded, never_ends, Steps, arith}
 use Rattle.std.specs.Prelude.{is_some}
 use Rattle.task_core.specs.Rows.{row as row_of}
 use Rattle.task_steps.specs.RunScripts.{giving_up, emptying, discarding, answering_ready, answering_pending, completing, ending_pending, finding_closed, ending_closed, completed_word, after_pending}
@@ -38,8 +38,7 @@ pub was_unclosed : (w : State) → is_some (if w.closed then None else Some (aft
 was_unclosed w e = by w.closed (after_pending w) e
   where
     by : (b : Bool) (v : State) → is_some (if b then None else Some v) ≡ true → b ≡ false
-    by false v e = refl
-    by true v e = absurd (cc)
+    by b v e = grind arith
 
 module _ {F T A : Type 0} where
   pub discarded : (p q : Party F T A) (w : State) → Stands (At Runnable) p → q.seat.table_id ≡ p.seat.table_id → Makes (discarding w) w p.seat.me q.seat.me

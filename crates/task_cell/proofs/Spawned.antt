@@ -2,7 +2,7 @@
 use Rattle.task_cell.proofs.Vocabulary.{◌≡◌, ℕ, zero, suc, ◌<◌, ◌≢◌, Bool, true, false, List, [], ◌∷◌, ◌++◌, length, get_or, set, sym, refl, ap, ◌∙◌, subst, inr, ⊎_elim, arith, length-set}
 use Rattle.task_cell.proofs.Vocabulary.{get_or-set_same, some, none, some-injective, some-ne-none, Me, gives, stepped, carried_after, rest, Valid, Allows, Splits, Final, Seen, number_of, Position, At}
 use Rattle.task_cell.proofs.Vocabulary.{Runnable, Task, Slot, Member, View, Party, member, view, fresh, laid_view, filling_view, opening_view, IsFuture, IsEmpty, AtHome, opening_at, Explains, Running}
-use Rattle.task_cell.proofs.Vocabulary.{RuleHolds, head_of, deeds, StandsWith, IsLastWord, law, leaves, retold, staged_more, first_more}
+use Rattle.task_cell.proofs.Vocabulary.{RuleHolds, head_of, deeds, StandsWith, IsLastWord, law, leaves, retold, staged_more, first_more, never}
 use mathlib.Core.Logic.{dite}
 use native.Mathlib.Decide.{ℕ_discrete}
 use lib.ListN.{get_elem?}
@@ -13,9 +13,6 @@ use Rattle.task_steps.specs.declared.table.Stage.TheVariants.{Laid, Filling, Spa
 use Rattle.task_steps.specs.Spawns.{opening_runnable, opening_task}
 use Rattle.task_steps.proofs.Explains.{inside, runs, regroups}
 use Rattle.atomic_table.proofs.Lists as lists
-
-never : true ≡ false → ⊥
-never e = cc
 
 module _ (F T A : Type 0) (limit : ℕ) where
   abbrev B : Type 0
@@ -40,7 +37,7 @@ module _ (F T A : Type 0) (limit : ℕ) where
   early s run id v ne at = by run.filled refl
     where
       by : (b : Bool) → run.filled ≡ b → Early s run id v
-      by true is = absurd (ne (run.staged id v (λ z. absurd (never (sym is ∙ z))) at))
+      by true is = absurd (ne (run.staged id v (λ z. never (sym z ∙ is)) at))
       by false is = dite (ℕ_discrete id 0)
           (λ e. record { early = is; first = e; stage = ap (λ (w : View). w.stage) (some-injective (opening_at (run.unfilled is).stage limit) v (sym (run.unfilled is).first ∙ (ap (λ (k : ℕ). get_elem? s.views k) (sym e) ∙ at))) })
           (λ e. absurd (ne (run.staged id v (λ z. e) at)))

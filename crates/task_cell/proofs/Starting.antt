@@ -1,12 +1,12 @@
 -- How a run takes a Runnable up.
-use Rattle.task_cell.proofs.Vocabulary.{◌≡◌, ℕ, Bool, true, false, not, Some, None, List, [], ◌∷◌, refl, sym, ap, ◌∙◌, inr, is_some, State, number_of, TakenUp, FuturePollBegins, At, FutureInHand}
-use Rattle.task_cell.proofs.Vocabulary.{Starting, Polling, Runnable, ClosedRun, TakeUpClosed, StartRun, StartPoll, written, Outcome, leaves_slots, Machine, scene, Slot, Deed, Party, Stands, deeds}
-use Rattle.task_cell.proofs.Vocabulary.{TakesUp, finds_closed, starts, queued, leads_found, row_found, Finds, takes_future, Steps, if◌then◌else◌, OwesEnd, MayTry, HasChanged, HasEnded}
+use Rattle.task_cell.proofs.Vocabulary.{◌≡◌, ℕ, true, false, not, Some, List, [], ◌∷◌, refl, sym, ap, ◌∙◌, inr, is_some, State, number_of, TakenUp, FuturePollBegins, At, FutureInHand, Starting}
+use Rattle.task_cell.proofs.Vocabulary.{Polling, Runnable, ClosedRun, TakeUpClosed, StartRun, StartPoll, written, Outcome, leaves_slots, Machine, scene, Slot, Deed, Party, Stands, deeds, TakesUp}
+use Rattle.task_cell.proofs.Vocabulary.{finds_closed, starts, queued, leads_found, row_found, Finds, takes_future, Steps, OwesEnd, MayTry, HasChanged, HasEnded, not_true}
 use Rattle.task_core.specs.Rows.{row}
 use Rattle.task_steps.specs.StartScripts.{taking_up_closed, starting_run}
 use Rattle.task_steps.proofs.Numbers.{same_word}
 use Rattle.task_cell.proofs.Moved.{moved}
-use Rattle.task_cell.proofs.Attempts.{may_at}
+use Rattle.task_cell.proofs.Attempts.{written_if, may_at}
 
 module _ (F T A : Type 0) (limit : ℕ) where
   takes_up_closed : (ds : List Deed) (l : List (ℕ × Slot F T A)) → OwesEnd F T A limit (λ w. w.closed) taking_up_closed (At Runnable) ds [] l
@@ -36,11 +36,7 @@ module _ (F T A : Type 0) (limit : ℕ) where
       (λ w v e m f here. starts_run (deeds p) [] w v (number_of w) (number_of v) (sym e) refl refl m f here) (takes_up_closed (deeds p) [])
 
 open_word : (w : State) → is_some (row 0 StartRun w) ≡ true → w.closed ≡ false
-open_word w e = not_closed w.closed (written StartRun w) e
-  where
-    not_closed : (b : Bool) (v : State) → is_some (if not b then Some v else None) ≡ true → b ≡ false
-    not_closed true v e = absurd (cc)
-    not_closed false v e = refl
+open_word w e = not_true w.closed (written_if (not w.closed) (written StartRun w) e)
 
 module _ {F T A : Type 0} where
   pub found_closed : (limit : ℕ) (w : State) (p q : Party F T A) → Stands (At Runnable) p → q.seat.table_id ≡ p.seat.table_id → HasEnded limit (λ _ w. w.closed) taking_up_closed w p.seat.me q.seat.me → TakesUp p q false

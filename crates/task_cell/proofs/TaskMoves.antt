@@ -1,6 +1,6 @@
 -- What the steps of a cancel and of a detach come to for the party that made them.
-use Rattle.task_cell.proofs.Vocabulary.{◌≡◌, ℕ, Bool, true, false, not, ◌&&◌, ◌||◌, List, [], ◌∷◌, ◌++◌, Option, Some, None, refl, sym, ap, subst, arith, is_some, nat_lt, nat_eq, if◌then◌else◌, State}
-use Rattle.task_cell.proofs.Vocabulary.{is_open, number_of, Answer, Nothing, Position, At, Deliverer, Emptier, OutputCloser, Detacher, CallEnding, AwaiterInHand, Rest, Task, Ended, ThenEnds, OfCancel}
+use Rattle.task_cell.proofs.Vocabulary.{◌≡◌, ℕ, Bool, true, false, not, ◌&&◌, ◌||◌, List, [], ◌∷◌, ◌++◌, Option, Some, None, refl, sym, ap, subst, arith, nat_lt, nat_eq, if◌then◌else◌, State, is_open}
+use Rattle.task_cell.proofs.Vocabulary.{number_of, Answer, Nothing, Position, At, Deliverer, Emptier, OutputCloser, Detacher, CallEnding, AwaiterInHand, Rest, Task, Ended, ThenEnds, OfCancel}
 use Rattle.task_cell.proofs.Vocabulary.{CancelOver, CancelBusy, CancelIdle, GiveUpOutput, DropOutput, DetachOrphan, DetachLast, Detach, EndCall, notifies, after_cancelling, owns_awaiter, Slot, Deed}
 use Rattle.task_cell.proofs.Vocabulary.{Party, Over, Busy, Unclaimed, has_work, output_first, Carries, Makes, position, Stands, Goes, deeds, row, act, rest_of, as_task, NotifyPath, none_there, taken}
 use Rattle.task_cell.proofs.Vocabulary.{WakePath, nobody, woken, TakesDue, takes_none, takes_one, Wakes, Notice, not_due, found_none, woke, Cancels, Detaches, GivesTaskUp, closed_by, given_up_by}
@@ -12,16 +12,12 @@ use Rattle.task_cell.specs.RunPaths.{not_due as none_due, missed as miss}
 use Rattle.task_steps.specs.TaskScripts.{cancelling, detaching, giving_task_up, finding_cancelled, cancelled, cancelled_word, detached}
 use Rattle.task_cell.specs.TaskPaths.{missed}
 use Rattle.task_cell.proofs.Moved.{moved, goes, goes_on, stands, position_is}
-use Rattle.task_cell.proofs.Attempts.{may_at}
+use Rattle.task_cell.proofs.Attempts.{written_if, may_at}
 
 -- a word that is written only where the test holds
 pub opened : (b : Bool) (v w : State) → Some v ≡ (if b then Some w else None) → (b ≡ true) × (v ≡ w)
 opened true v w e = (refl, cc)
 opened false v w e = absurd (cc)
-
-is_opened : (b : Bool) (v : State) → is_some (if b then Some v else None) ≡ true → b ≡ true
-is_opened true v e = refl
-is_opened false v e = absurd (cc)
 
 -- what was taken and woken, of a cancel
 noticed : (Woken : Type 0) (due found : Bool) (n k : List Deed) → NotifyPath due found n → WakePath Woken found k → Notice Woken due (n ++ k)
@@ -44,7 +40,7 @@ module _ {F T A : Type 0} where
   closes limit p q n w s cell c = made (w.scheduled || w.running) refl c.made
     where
       now : is_open w ≡ true
-      now = is_opened (is_open w) (cancelled w) c.written
+      now = written_if (is_open w) (cancelled w) c.written
 
       made : (b : Bool) → (w.scheduled || w.running) ≡ b → Makes (if b then CancelBusy ∷ [] else CancelIdle ∷ []) w p.seat.me q.seat.me → Cancels n p q (if b then Busy w.awaiter else Idle w.awaiter)
       made true is m = let x = moved (CancelBusy ∷ []) w (At (Task n)) [] p q s m in let at : Position = notifies w.awaiter (OfCancel n) in let i = idle_cancel w.awaiter n in

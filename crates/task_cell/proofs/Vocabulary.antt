@@ -70,7 +70,7 @@ pub use Rattle.task_steps.proofs.PollOwed.{takes_back, wakes_clone}
 pub use Rattle.task_steps.proofs.RunOwed.{answers_pending, answers_ready, closed_already, completes, discards, due_work, empties, ends_closed, ends_pending}
 pub use Rattle.task_steps.proofs.RunOwed.{given_free, given_work, gives_up}
 pub use Rattle.task_steps.proofs.Seats.{first_more, leaves, retold, splits, staged_more}
-pub use Rattle.task_steps.proofs.Seen.{left_true, true_left, true_right}
+pub use Rattle.task_steps.proofs.Seen.{left_true, not_true, true_left, true_right}
 pub use Rattle.task_steps.proofs.TaskOwed.{cancels, closed_claimed, detaches, drops_output, finds_over, gives_task_up, idle_cancel, last_orphan, neither}
 pub use Rattle.task_steps.proofs.TaskOwed.{none_left, over}
 pub use Rattle.task_steps.proofs.WakerOwed.{closes_orphan, drops_waker, fourth, gains, refuses_gain, third}
