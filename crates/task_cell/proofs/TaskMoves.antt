@@ -1,10 +1,10 @@
 -- What the steps of a cancel and of a detach come to for the party that made them.
 use Rattle.task_cell.proofs.Vocabulary.{◌≡◌, ℕ, Bool, true, false, not, ◌&&◌, ◌||◌, List, [], ◌∷◌, ◌++◌, Option, Some, None, refl, sym, ap, subst, arith, nat_lt, nat_eq, if◌then◌else◌, State, is_open}
-use Rattle.task_cell.proofs.Vocabulary.{number_of, Answer, Nothing, Position, At, Deliverer, Emptier, OutputCloser, Detacher, CallEnding, AwaiterInHand, Rest, Task, Ended, ThenEnds, OfCancel}
-use Rattle.task_cell.proofs.Vocabulary.{CancelOver, CancelBusy, CancelIdle, GiveUpOutput, DropOutput, DetachOrphan, DetachLast, Detach, EndCall, notifies, after_cancelling, owns_awaiter, Slot, Deed}
-use Rattle.task_cell.proofs.Vocabulary.{Party, Over, Busy, Unclaimed, has_work, output_first, Carries, Makes, position, Stands, Goes, deeds, row, act, rest_of, as_task, NotifyPath, none_there, taken}
-use Rattle.task_cell.proofs.Vocabulary.{WakePath, nobody, woken, TakesDue, takes_none, takes_one, Wakes, Notice, not_due, found_none, woke, Cancels, Detaches, GivesTaskUp, closed_by, given_up_by}
-use Rattle.task_cell.proofs.Vocabulary.{both, over, neither, none_left, last_orphan, closed_claimed, idle_cancel, finds_over, cancels, detaches, is_over, MayTry, HasChanged, HasEnded, never_ends}
+use Rattle.task_cell.proofs.Vocabulary.{number_of, Answer, Nothing, Position, At, Deliverer, Emptier, OutputCloser, Detacher, CallEnding, Rest, Task, Ended, ThenEnds, OfCancel, CancelOver, CancelBusy}
+use Rattle.task_cell.proofs.Vocabulary.{CancelIdle, GiveUpOutput, DropOutput, DetachOrphan, DetachLast, Detach, EndCall, notifies, after_cancelling, owns_awaiter, Slot, Deed, Party, Over, Busy}
+use Rattle.task_cell.proofs.Vocabulary.{Unclaimed, has_work, output_first, Carries, Makes, position, Stands, Goes, deeds, row, act, rest_of, as_task, NotifyPath, none_there, taken, WakePath, nobody}
+use Rattle.task_cell.proofs.Vocabulary.{woken, TakesDue, Wakes, Notice, not_due, found_none, woke, Cancels, Detaches, GivesTaskUp, closed_by, given_up_by, both, over, neither, none_left, last_orphan}
+use Rattle.task_cell.proofs.Vocabulary.{closed_claimed, idle_cancel, finds_over, cancels, detaches, is_over, MayTry, HasChanged, HasEnded, never_ends, is_some, after_taking}
 use Rattle.std.proofs.lemmas.Bool.Decides.{nat_tests}
 use Rattle.task_steps.specs.declared.words.Cancelled.TheVariants.{Idle}
 use Rattle.task_steps.specs.declared.words.Detached.TheVariants.{Shared, Last, Orphaned}
@@ -13,6 +13,7 @@ use Rattle.task_steps.specs.TaskScripts.{cancelling, detaching, giving_task_up, 
 use Rattle.task_cell.specs.TaskPaths.{missed}
 use Rattle.task_cell.proofs.Moved.{moved, goes, goes_on, stands, position_is}
 use Rattle.task_cell.proofs.Attempts.{written_if, may_at}
+use Rattle.task_cell.proofs.RunRest.{due_path}
 
 -- a word that is written only where the test holds
 pub opened : (b : Bool) (v w : State) → Some v ≡ (if b then Some w else None) → (b ≡ true) × (v ≡ w)
@@ -96,15 +97,10 @@ module _ {F T A : Type 0} where
   Ends Woken due n p q = (path : List Deed) × Notice Woken due path × Goes (path ++ act EndCall ∷ []) (as_task n) p q
 
   pub ends_noticed : (Woken : Type 0) (p q r t : Party F T A) (n : ℕ) (due : Bool) (x : Option A) → TakesDue (OfCancel n) due p q x → Wakes Woken (OfCancel n) x q r → Goes (act EndCall ∷ []) (rest_of (position r)) r t → Ends Woken due n p t
-  ends_noticed Woken p q r t n due x (takes_none path told g) k e = (
-    path ++ k.0,
-    noticed Woken due false path k.0 told k.1,
-    ends p r t (path ++ k.0) Nothing (Task n) (goes_on p q r path k.0 (CallEnding Nothing (Task n)) (CallEnding Nothing (Task n)) [] [] g k.2) e,
-  )
-  ends_noticed Woken p q r t n due x (takes_one i a path told g) k e = (
-    path ++ k.0,
-    noticed Woken due true path k.0 told k.1,
-    ends p r t (path ++ k.0) Nothing (Task n) (goes_on p q r path k.0 (AwaiterInHand i (OfCancel n)) (CallEnding Nothing (Task n)) [] [] g k.2) e,
+  ends_noticed Woken p q r t n due x d k e = let m = due_path (OfCancel n) due p q x d in (
+    m.1 ++ k.0,
+    noticed Woken due (is_some x) m.1 k.0 m.2 k.1,
+    ends p r t (m.1 ++ k.0) Nothing (Task n) (goes_on p q r m.1 k.0 (after_taking m.0 (OfCancel n)) (CallEnding Nothing (Task n)) [] [] m.3 k.2) e,
   )
 
 module _ (F T A : Type 0) (limit : ℕ) where
