@@ -31,9 +31,6 @@ pub end_ready_run-ended-requires-clause-cell : goal.end_ready_run-ended-requires
 end_ready_run-ended-requires-clause-cell g c = let s = started c.args.party c.begin_run-party.result.0 c.begin_run-party.result.1 c.begin_run-party.ensures c.if-not-started.false in let p = c.poll_future-share.ensures in
     p.seat ∙ (s.goes.cell ∙ (c.requires.cell.0 ∙ ap (λ z. z.table.shared.table_id) (sym (c.deref-in-Ready.ensures ∙ ap (λ z. arc_value z) (c.cell-in-Ready.ensures ∙ ap (λ z. z.cell) p.share)))))
 
-pub end_ready_run-ended-requires-clause-party : goal.end_ready_run-ended-requires-clause-party
-end_ready_run-ended-requires-clause-party g c = let p = c.poll_future-share.ensures in (_, p.once.2, p.once.4)
-
 pub returns-in-Ready-clause-path : goal.returns-in-Ready-clause-path
 returns-in-Ready-clause-path g c = let s = started c.args.party c.begin_run-party.result.0 c.begin_run-party.result.1 c.begin_run-party.ensures c.if-not-started.false in let p = c.poll_future-share.ensures in
     run_ready _ _ _ c.args.party c.begin_run-party.result.0 c.poll_future-share.result.1 c.end_ready_run-ended.result s c.poll_future-share.result.2 c.in-Ready.output c.in-Ready.is (future_first _ p.once.2 []) p.seat p.limit p.deeds p.once.4 (p.once.0, p.once.1, p.once.5) c.end_ready_run-ended.ensures
@@ -41,9 +38,6 @@ returns-in-Ready-clause-path g c = let s = started c.args.party c.begin_run-part
 pub end_pending_run-ended-requires-clause-cell : goal.end_pending_run-ended-requires-clause-cell
 end_pending_run-ended-requires-clause-cell g c = let s = started c.args.party c.begin_run-party.result.0 c.begin_run-party.result.1 c.begin_run-party.ensures c.if-not-started.false in let p = c.poll_future-share.ensures in
     (p.seat ∙ (s.goes.cell ∙ (c.requires.cell.0 ∙ ap (λ (z : Cell g.row.R.Denot g.row.F.Denot g.row.Q.Denot g.row.M.Denot g.row.A.Denot g.row.B.Denot g.row.F-Output.Denot g.F.Yields). z.table.shared.table_id) (sym (ap (λ z. arc_value z) (c.cell-in-Pending.ensures ∙ ap (λ z. z.cell) p.share))))), p.limit ∙ (limit_is c.args.party c.begin_run-party.result.0 _ _ _ s.goes ∙ (c.requires.cell.1 ∙ ap (λ (z : Cell g.row.R.Denot g.row.F.Denot g.row.Q.Denot g.row.M.Denot g.row.A.Denot g.row.B.Denot g.row.F-Output.Denot g.F.Yields). z.limit) (sym (ap (λ z. arc_value z) (c.cell-in-Pending.ensures ∙ ap (λ z. z.cell) p.share))))))
-
-pub end_pending_run-ended-requires-clause-party : goal.end_pending_run-ended-requires-clause-party
-end_pending_run-ended-requires-clause-party g c = let p = c.poll_future-share.ensures in (_, p.once.2, p.once.4, tt)
 
 pub returns-in-Pending-clause-path : goal.returns-in-Pending-clause-path
 returns-in-Pending-clause-path g c = let s = started c.args.party c.begin_run-party.result.0 c.begin_run-party.result.1 c.begin_run-party.ensures c.if-not-started.false in let p = c.poll_future-share.ensures in

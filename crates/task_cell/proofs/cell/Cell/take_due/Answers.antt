@@ -3,9 +3,6 @@ use Rattle.task_cell.specs.RunPaths.{not_due}
 use Rattle.task_cell.proofs.RunRest.{took_due}
 use Rattle.task_cell.proofs.cell.Cell.take_due.Goals as goal
 
-pub notify-requires-clause-party : goal.notify-requires-clause-party
-notify-requires-clause-party g c = let s = c.requires.party in (s.0, [], subst (λ b. Stands (notifies b s.0) c.args.party.now) c.if-due.true s.1)
-
 pub returns-then-due : goal.returns-then-due
 returns-then-due g c = λ way s. subst (λ b. TakesDue way b c.args.party.now c.notify.new.party (held c.notify.result)) (sym c.if-due.true)
     (took_due way c.args.party.now c.notify.new.party (held c.notify.result) (subst (λ b. Stands (notifies b way) c.args.party.now) c.if-due.true s) c.notify.ensures)

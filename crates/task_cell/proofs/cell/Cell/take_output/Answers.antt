@@ -3,9 +3,6 @@ use Rattle.task_cell.proofs.Moved.{stands, held_is}
 use Rattle.task_cell.proofs.PollWays.{handed_out}
 use Rattle.task_cell.proofs.cell.Cell.take_output.Goals as goal
 
-pub take_awaiter_of-requires-clause-party : goal.take_awaiter_of-requires-clause-party
-take_awaiter_of-requires-clause-party g c = let s = c.requires.party in (s.0, output_first s.1 s.2 [], s.3)
-
 pub hand_out-requires-clause-party : goal.hand_out-requires-clause-party
 hand_out-requires-clause-party g c = let s = c.requires.party in let p = c.args.party.now in let q = c.take_awaiter_of.new.party in let n = poll_number (position p) in let t = c.take_awaiter_of.ensures in
     (n, s.1, s.2, subst (λ held. StandsWith (TookOutput n) held q) (held_is p (notifies c.args.found.awaiter (OfClaim s.0)) (output_first s.1 s.2 []) s.3) (stands p q t.0 (TookOutput n) (holds p) t.2), s.4)
