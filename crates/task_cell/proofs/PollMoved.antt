@@ -100,23 +100,17 @@ module _ {F T A : Type 0} where
     goes = subst (λ at. GoesWith path (notifies w.awaiter (OfClaim (poll_number at))) (output_first c.0 c.1 []) p q) (sym (position_is p at [] s)) (subst (λ l. GoesWith path (notifies w.awaiter (OfClaim (poll_number at))) l p q) c.3 g.1);
   }
 
-  -- the first look of a poll
-  looked_first : (limit n : ℕ) (w : State) (p q : Party F T A) → Stands (as_task n) p → q.seat.table_id ≡ p.seat.table_id → HasChanged limit (λ _ w. row_of 0 ClaimOutput w) claiming w p.seat.me q.seat.me → Looks p q (Ok w)
-  looked_first limit n w p q s cell c = claims_output w (claimed w (as_task n) (ClaimOutput ∷ []) (row ClaimOutput w ∷ []) p q s cell c.made (written_if (has_output w) (written ClaimOutput w) c.written) refl refl refl (carried_output w.awaiter (n + 1) q.seat.me.1))
-
   first_holds : (w : State) (n : ℕ) (l : List (ℕ × Slot F T A)) → Carried (as_task n) (first_look w (n + 1)) [] l → l ≡ []
   first_holds w n l c = let f = first_free w (n + 1) in subst (λ (z : Bool × Bool). Carries false z.0 false z.1 (first_look w (n + 1)) [] l) (λ j. (f.0 j, f.1 j)) c
 
-  looked_in_vain : (limit n : ℕ) (w : State) (p q : Party F T A) → Stands (as_task n) p → q.seat.table_id ≡ p.seat.table_id → HasEnded limit (λ _ w. not (has_output w)) looking w p.seat.me q.seat.me → Looks p q (Err w)
-  looked_in_vain limit n w p q s cell e = let m = e.made in let l : ℕ = limit_of p in let path : List Deed = row Look w ∷ [] in
+  -- the first look of a poll
+  pub looks_so : (limit n : ℕ) (x : Result State State) (p q : Party F T A) → Stands (as_task n) p → q.seat.table_id ≡ p.seat.table_id → IfOk x (λ w. HasChanged limit (λ _ w. row_of 0 ClaimOutput w) claiming w p.seat.me q.seat.me)
+      → IfErr x (λ w. HasEnded limit (λ _ w. not (has_output w)) looking w p.seat.me q.seat.me) → Looks p q x
+  looks_so limit n (Ok w) p q s cell c e = claims_output w (claimed w (as_task n) (ClaimOutput ∷ []) (row ClaimOutput w ∷ []) p q s cell c.made (written_if (has_output w) (written ClaimOutput w) c.written) refl refl refl (carried_output w.awaiter (n + 1) q.seat.me.1))
+  looks_so limit n (Err w) p q s cell c e = let m = e.made in let l : ℕ = limit_of p in let path : List Deed = row Look w ∷ [] in
       let left : Bool → Option Outcome = (λ b. and_then (when b (leaves_slots (spot l (held_word (as_task n) w) m.slots) w (first_look (held_word (as_task n) w) (n + 1)) [] (TaskPollBegins (n + 1) ∷ []))) (λ o. leaves_by l o.word o.slots [] o.next)) in
       let g = went (Look ∷ []) w (as_task n) (first_look w (n + 1)) [] path p q s cell m (ap (λ b. next_of (left b)) e.at_end) (ap (λ b. born_of (left b)) e.at_end) refl in
       sees_none w (not_true (has_output w) e.at_end) (subst (λ at. Goes path (first_look w (poll_number at)) p q) (sym (position_is p (as_task n) [] s)) (subst (λ l. GoesWith path (first_look w (n + 1)) l p q) (first_holds w n q.seat.me.1 g.0) g.1))
-
-  pub looks_so : (limit n : ℕ) (x : Result State State) (p q : Party F T A) → Stands (as_task n) p → q.seat.table_id ≡ p.seat.table_id → IfOk x (λ w. HasChanged limit (λ _ w. row_of 0 ClaimOutput w) claiming w p.seat.me q.seat.me)
-      → IfErr x (λ w. HasEnded limit (λ _ w. not (has_output w)) looking w p.seat.me q.seat.me) → Looks p q x
-  looks_so limit n (Ok w) p q s cell c e = looked_first limit n w p q s cell c
-  looks_so limit n (Err w) p q s cell c e = looked_in_vain limit n w p q s cell e
 
   -- .. which finds the task ended where one before it did
   pub finds_it_ended : (limit : ℕ) (x : Result State State) (p q : Party F T A) → IfOk x (λ w. HasChanged limit (λ _ w. row_of 0 ClaimOutput w) claiming w p.seat.me q.seat.me) → IfErr x (λ w. HasEnded limit (λ _ w. not (has_output w)) looking w p.seat.me q.seat.me)

@@ -1,7 +1,7 @@
 -- What a poll has seen of the task's end, and what an earlier poll has seen.
-use Rattle.task_cell.proofs.Vocabulary.{◌≡◌, Bool, true, false, not, ◌&&◌, ◌||◌, List, [], ◌∷◌, ◌++◌, Option, None, sym, ap, subst, Result, Err, Me, State, TaskPoll, Position, Look, EndCall, Slot}
-use Rattle.task_cell.proofs.Vocabulary.{Deed, View, Party, row, act, after, head_of, leaves_such, saw, saw_ended, has_output, has_ended, deeds, GoesWith, AnswerPath, waits, has_ended_since}
-use Rattle.task_cell.proofs.Vocabulary.{has_output_since, PollPath, finds_output, finds_ended, true_left, true_right, arith}
+use Rattle.task_cell.proofs.Vocabulary.{◌≡◌, Bool, true, false, List, [], ◌∷◌, ◌++◌, Option, None, sym, ap, subst, Result, Err, Me, State, TaskPoll, Position, Look, EndCall, Slot, Deed, View, Party}
+use Rattle.task_cell.proofs.Vocabulary.{row, act, after, head_of, leaves_such, saw, saw_ended, has_output, has_ended, deeds, GoesWith, AnswerPath, waits, has_ended_since, has_output_since, PollPath}
+use Rattle.task_cell.proofs.Vocabulary.{finds_output, finds_ended, true_left, true_right, arith}
 use Rattle.task_core.specs.declared.traits.TaskPoll.TheVariants.{Ready}
 use Rattle.task_cell.specs.PollPaths.{is_refused, looks_again}
 use Rattle.task_cell.proofs.Moved.{after-append}
@@ -39,10 +39,7 @@ module _ {A T : Type 0} (cloned : A → Option A → Type 0) (woken woken_by_ref
 
 -- a word cannot be of a task that has ended and that has its output
 pub not_both : {P : Type 0} (w : State) → has_ended w ≡ true → has_output w ≡ true → P
-not_both w e f = by w.closed w.completed (w.scheduled || w.running) e f
-  where
-    by : {P : Type 0} (c d b : Bool) → (c && not b) ≡ true → (d && not c) ≡ true → P
-    by c d b e f = absurd (grind arith)
+not_both w e f = absurd (grind arith)
 
 abbrev as_error : State → Result State State
 as_error w = Err w

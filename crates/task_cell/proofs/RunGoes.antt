@@ -22,8 +22,7 @@ some_if true x = refl
 some_if false x = refl
 
 not_not : (b : Bool) → not (not b) ≡ b
-not_not true = refl
-not_not false = refl
+not_not b = grind arith
 
 -- the row fits exactly where another handle is left
 pub none_left : (w : State) (o : Option State) (b : Bool) → o ≡ row_of 0 GiveUpReference w → is_some o ≡ not b → not (nat_lt 1 w.references || w.task) ≡ b
@@ -35,10 +34,7 @@ alone_fits a limit w e = left_true (found limit a w) true e
 
 -- a run that ends without an output ends on an open task
 pub was_unclosed : (w : State) → is_some (if w.closed then None else Some (after_pending w)) ≡ true → w.closed ≡ false
-was_unclosed w e = by w.closed (after_pending w) e
-  where
-    by : (b : Bool) (v : State) → is_some (if b then None else Some v) ≡ true → b ≡ false
-    by b v e = grind arith
+was_unclosed w e = grind arith
 
 module _ {F T A : Type 0} where
   pub discarded : (p q : Party F T A) (w : State) → Stands (At Runnable) p → q.seat.table_id ≡ p.seat.table_id → Makes (discarding w) w p.seat.me q.seat.me

@@ -28,27 +28,20 @@ module _ {F T A : Type 0} where
   pub due_cell : (way : NotifyingCall) (due : Bool) (p q : Party F T A) (r : Option A) → TakesDue way due p q r → q.seat.table_id ≡ p.seat.table_id
   due_cell way due p q r d = (due_path way due p q r d).3.cell
 
-  -- an awaiter in hand was woken
-  pub woke : (Woken : Type 0) (way : NotifyingCall) (i : ℕ) (a : A) (p q : Party F T A) → Stands (AwaiterInHand i way) p → Woken → GoesWith (act WakeAwaiter ∷ []) (after_waking (way_of (position p))) (holds p) p q → Wakes Woken way (Some a) p q
-  woke Woken way i a p q s fact g = (
+  -- an awaiter in hand was woken, by what the party has
+  pub wakes_has : (Woken : Type 0) (way : NotifyingCall) (a : A) (r : Option A) (p q : Party F T A) → HasTaken way p r → r ≡ Some a → Woken
+      → GoesWith (act WakeAwaiter ∷ []) (after_waking (way_of (position p))) (holds p) p q → Wakes Woken way r p q
+  wakes_has Woken way a r p q (has_none s) e fact g = absurd (cc)
+  wakes_has Woken way a r p q (has_one i b s) e fact g = (
     act WakeAwaiter ∷ [],
     woken fact,
     subst (λ (z : NotifyingCall × List (ℕ × Slot F T A)). GoesWith (act WakeAwaiter ∷ []) (after_waking z.0) z.1 p q)
         (λ j. (ap way_of (moved.position_is p (AwaiterInHand i way) [] s) j, moved.held_is p (AwaiterInHand i way) [] s j)) g,
   )
 
-  pub woke_nobody : (Woken : Type 0) (way : NotifyingCall) (p : Party F T A) → Stands (after_waking way) p → Wakes Woken way None p p
-  woke_nobody Woken way p s = ([], nobody, record { cell = refl; is = s })
-
-  -- .. by what it has
-  pub wakes_has : (Woken : Type 0) (way : NotifyingCall) (a : A) (r : Option A) (p q : Party F T A) → HasTaken way p r → r ≡ Some a → Woken
-      → GoesWith (act WakeAwaiter ∷ []) (after_waking (way_of (position p))) (holds p) p q → Wakes Woken way r p q
-  wakes_has Woken way a r p q (has_none s) e fact g = absurd (cc)
-  wakes_has Woken way a r p q (has_one i b s) e fact g = woke Woken way i b p q s fact g
-
   pub wakes_none : (Woken : Type 0) (way : NotifyingCall) (r : Option A) (p : Party F T A) → HasTaken way p r → r ≡ None
       → Wakes Woken way r p p
-  wakes_none Woken way r p (has_none s) e = woke_nobody Woken way p s
+  wakes_none Woken way r p (has_none s) e = ([], nobody, record { cell = refl; is = s })
   wakes_none Woken way r p (has_one i b s) e = absurd (cc)
 
   pub has_hand : (way : NotifyingCall) (a : A) (r : Option A) (p : Party F T A) → HasTaken way p r → r ≡ Some a → (i : ℕ) × Stands (AwaiterInHand i way) p
@@ -104,10 +97,6 @@ module _ {F T A : Type 0} where
       (subst (λ (z : NotifyingCall). Goes (act DropFuture ∷ row Unschedule w ∷ []) (notifies w.awaiter z) q r)
       (ap closing_way (moved.position_is q (FutureInHand closer) held (moved.stands p q [] (FutureInHand closer) held g))) h)
 
-  discard_first : (d : Deed) (w : State) (held cleared : List (ℕ × Slot F T A)) (p q r s : Party F T A) → GoesWith (d ∷ []) (FutureInHand DroppedRunnable) held p q → GoesWith [] (FutureInHand DroppedRunnable) cleared q r
-      → Goes (act DropFuture ∷ row Unschedule w ∷ []) (notifies w.awaiter (closing_way (position r))) r s → Goes (d ∷ act DropFuture ∷ row Unschedule w ∷ []) (notifies w.awaiter OfDrop) p s
-  discard_first d w held cleared p q r s f g h = moved.goes_on p q s (d ∷ []) (act DropFuture ∷ row Unschedule w ∷ []) (FutureInHand DroppedRunnable) (notifies w.awaiter OfDrop) held [] f (unscheduled DroppedRunnable w cleared q r s g h)
-
   -- a Runnable's drop from p, step after step: to a and b by the drop of the future, to o with SCHEDULED cleared
   module _ (p a b : Party F T A) (start : (d : Deed) × (y : Slot F T A) × (z : Slot F T A) × DiscardStart d × GoesWith (d ∷ []) (FutureInHand DroppedRunnable) (future_first y z []) p a × IsFuture y)
       (clear : (at : Position) (y : Slot F T A) (held : List (ℕ × Slot F T A)) → StandsWith at ((0, y) ∷ held) a → GoesWith [] at ((0, Empty) ∷ held) a b) where
@@ -116,7 +105,8 @@ module _ {F T A : Type 0} where
 
     module _ (o : Party F T A) (w : State) (unschedule : Goes (act DropFuture ∷ row Unschedule w ∷ []) (notifies w.awaiter (closing_way (position b))) b o) (due : Bool) (is : due ≡ w.awaiter) where
       pub drop_closes : Goes (start.0 ∷ act DropFuture ∷ row Unschedule w ∷ []) (notifies w.awaiter OfDrop) p o
-      drop_closes = discard_first start.0 w (future_first start.1 start.2 []) (future_first Empty start.2 []) p a b o start.4 drop_clears unschedule
+      drop_closes = moved.goes_on p a o (start.0 ∷ []) (act DropFuture ∷ row Unschedule w ∷ []) (FutureInHand DroppedRunnable) (notifies w.awaiter OfDrop) (future_first start.1 start.2 []) [] start.4
+          (unscheduled DroppedRunnable w (future_first Empty start.2 []) a b o drop_clears unschedule)
 
       pub drop_notifies : Stands (notifies due OfDrop) o
       drop_notifies = subst (λ h. Stands (notifies h OfDrop) o) (sym is) (moved.stands p o (start.0 ∷ act DropFuture ∷ row Unschedule w ∷ []) (notifies w.awaiter OfDrop) [] drop_closes)

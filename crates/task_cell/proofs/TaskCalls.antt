@@ -100,9 +100,6 @@ module _ {F T A : Type 0} where
       (path ++ act EndCall ∷ [], is_last x.0 x.2, ends p r t path Nothing Ended (last_emptied p q r x e) end)
 
   -- an open task has no other handle
-  pub orphan_delivered : (p q r : Party F T A) (x : Detaches p q Orphaned) → Goes (act HandOver ∷ []) (handed_over (position q)) q r → Goes (row DetachOrphan x.0 ∷ act HandOver ∷ []) (CallEnding Nothing Ended) p r
-  orphan_delivered p q r x h = hands_over p q r (row DetachOrphan x.0 ∷ []) (ThenEnds Nothing) x.2 h
-
   pub detaches_orphaned : (Scheduled : Type 0) (p q r t : Party F T A) → Detaches p q Orphaned → Scheduled → Goes (act HandOver ∷ []) (handed_over (position q)) q r → Goes (act EndCall ∷ []) (rest_of (position r)) r t → Detaching Scheduled p t
   detaches_orphaned Scheduled p q r t x fact h end = let path : List Deed = row DetachOrphan x.0 ∷ act HandOver ∷ [] in
-      (path ++ act EndCall ∷ [], is_orphaned x.0 x.1 fact, ends p r t path Nothing Ended (orphan_delivered p q r x h) end)
+      (path ++ act EndCall ∷ [], is_orphaned x.0 x.1 fact, ends p r t path Nothing Ended (hands_over p q r (row DetachOrphan x.0 ∷ []) (ThenEnds Nothing) x.2 h) end)
