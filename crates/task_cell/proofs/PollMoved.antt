@@ -119,11 +119,6 @@ module _ {F T A : Type 0} where
   finds_it_ended limit (Err w) p q c e saw = (w, refl, e.knows.ended saw)
 
   -- .. and the look of one that has registered
-  claimed_again : (limit i : ℕ) (w : State) (p q : Party F T A) → Stands (Looking i) p → q.seat.table_id ≡ p.seat.table_id → HasChanged limit (λ _ w. row_of 0 ClaimOutput w) claiming_again w p.seat.me q.seat.me → LooksAgain p q (Ok w)
-  claimed_again limit i w p q s cell c = let m = c.made in let l : ℕ = limit_of p in let there = written_if (has_output w) (written ClaimOutput w) c.written in
-      let left : Position → Option Outcome = (λ at. and_then (Some (leaves_slots (spot l (held_word (Looking i) w) m.slots) w at [] [])) (λ o. leaves_by l o.word o.slots (ClaimOutput ∷ []) o.next)) in
-      claims_output_now w (claimed w (Looking i) (Look ∷ ClaimOutput ∷ []) (row Look w ∷ row ClaimOutput w ∷ []) p q s cell m there (ap (λ at. next_of (left at)) (sees_output w i there)) (ap (λ at. born_of (left at)) (sees_output w i there)) refl (carried_output w.awaiter i q.seat.me.1))
-
   looked_again_in_vain : (limit i : ℕ) (w : State) (p q : Party F T A) → Stands (Looking i) p → q.seat.table_id ≡ p.seat.table_id → HasEnded limit (λ _ w. not (has_output w)) looking_again w p.seat.me q.seat.me → LooksAgain p q (Err w)
   looked_again_in_vain limit i w p q s cell e = by (has_to_wait w) refl
     where
@@ -143,7 +138,9 @@ module _ {F T A : Type 0} where
 
   pub looks_again_so : (limit i : ℕ) (x : Result State State) (p q : Party F T A) → Stands (Looking i) p → q.seat.table_id ≡ p.seat.table_id → IfOk x (λ w. HasChanged limit (λ _ w. row_of 0 ClaimOutput w) claiming_again w p.seat.me q.seat.me)
       → IfErr x (λ w. HasEnded limit (λ _ w. not (has_output w)) looking_again w p.seat.me q.seat.me) → LooksAgain p q x
-  looks_again_so limit i (Ok w) p q s cell c e = claimed_again limit i w p q s cell c
+  looks_again_so limit i (Ok w) p q s cell c e = let m = c.made in let l : ℕ = limit_of p in let there = written_if (has_output w) (written ClaimOutput w) c.written in
+      let left : Position → Option Outcome = (λ at. and_then (Some (leaves_slots (spot l (held_word (Looking i) w) m.slots) w at [] [])) (λ o. leaves_by l o.word o.slots (ClaimOutput ∷ []) o.next)) in
+      claims_output_now w (claimed w (Looking i) (Look ∷ ClaimOutput ∷ []) (row Look w ∷ row ClaimOutput w ∷ []) p q s cell m there (ap (λ at. next_of (left at)) (sees_output w i there)) (ap (λ at. born_of (left at)) (sees_output w i there)) refl (carried_output w.awaiter i q.seat.me.1))
   looks_again_so limit i (Err w) p q s cell c e = looked_again_in_vain limit i w p q s cell e
 
 module _ (F T A : Type 0) (limit : ℕ) where

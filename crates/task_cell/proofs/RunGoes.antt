@@ -18,8 +18,7 @@ use Rattle.task_cell.proofs.Carried.{keeps_places, took_awaiter, gave_awaiter, t
 use Rattle.task_cell.proofs.Attempts.{may_at}
 
 some_if : (b : Bool) (x : State) → is_some (if b then Some x else None) ≡ b
-some_if true x = refl
-some_if false x = refl
+some_if b x = grind arith
 
 not_not : (b : Bool) → not (not b) ≡ b
 not_not b = grind arith
