@@ -117,8 +117,8 @@ module _ {F T A : Type 0} where
     at_end Idle (is_idle w a c d k) = (w, a, c, d, both (row EndIdle w ∷ act EndCall ∷ []) (At Ended) [] k)
     at_end Orphaned (is_orphaned w a c d k) = (w, a, c, d, both (row EndOrphaned w ∷ []) (Deliverer false (ThenEnds (Ran false))) [] k)
 
-    pub then_ends : (x : PendingEnd) → e ≡ x → After x
-    then_ends x is = at_end x (ended x is)
+    pub by_end : (x : PendingEnd) → e ≡ x → After x
+    by_end x is = at_end x (ended x is)
 
   module _ (Woken : Type 0) (Scheduled : Bool → Type 0) where
     pub found_closed : (held : List (ℕ × Slot F T A)) (p q r : Party F T A) → GoesWith (act AnswerPending ∷ act DropFuture ∷ []) PendingFutureDropped held p q → ClosesPending Woken q r → EndsUnready Woken Scheduled false p r

@@ -21,7 +21,7 @@ poll_future-share-requires-clause-cell g c = let s = started c.args.party c.begi
 
 pub poll_future-share-requires-clause-limit : goal.poll_future-share-requires-clause-limit
 poll_future-share-requires-clause-limit g c = let s = started c.args.party c.begin_run-party.result.0 c.begin_run-party.result.1 c.begin_run-party.ensures c.if-not-started.false in
-    limit_is c.args.party c.begin_run-party.result.0 _ _ _ s.goes ∙ c.requires.cell.1
+    limit_is _ _ _ _ _ s.goes ∙ c.requires.cell.1
 
 pub poll_future-share-requires-clause-party : goal.poll_future-share-requires-clause-party
 poll_future-share-requires-clause-party g c = let s = started c.args.party c.begin_run-party.result.0 c.begin_run-party.result.1 c.begin_run-party.ensures c.if-not-started.false in
@@ -37,7 +37,7 @@ returns-in-Ready-clause-path g c = let s = started c.args.party c.begin_run-part
 
 pub end_pending_run-ended-requires-clause-cell : goal.end_pending_run-ended-requires-clause-cell
 end_pending_run-ended-requires-clause-cell g c = let s = started c.args.party c.begin_run-party.result.0 c.begin_run-party.result.1 c.begin_run-party.ensures c.if-not-started.false in let p = c.poll_future-share.ensures in
-    (p.seat ∙ (s.goes.cell ∙ (c.requires.cell.0 ∙ ap (λ (z : Cell g.row.R.Denot g.row.F.Denot g.row.Q.Denot g.row.M.Denot g.row.A.Denot g.row.B.Denot g.row.F-Output.Denot g.F.Yields). z.table.shared.table_id) (sym (ap (λ z. arc_value z) (c.cell-in-Pending.ensures ∙ ap (λ z. z.cell) p.share))))), p.limit ∙ (limit_is c.args.party c.begin_run-party.result.0 _ _ _ s.goes ∙ (c.requires.cell.1 ∙ ap (λ (z : Cell g.row.R.Denot g.row.F.Denot g.row.Q.Denot g.row.M.Denot g.row.A.Denot g.row.B.Denot g.row.F-Output.Denot g.F.Yields). z.limit) (sym (ap (λ z. arc_value z) (c.cell-in-Pending.ensures ∙ ap (λ z. z.cell) p.share))))))
+    (p.seat ∙ (s.goes.cell ∙ (c.requires.cell.0 ∙ ap (λ (z : Cell g.row.R.Denot g.row.F.Denot g.row.Q.Denot g.row.M.Denot g.row.A.Denot g.row.B.Denot g.row.F-Output.Denot g.F.Yields). z.table.shared.table_id) (sym (ap (λ z. arc_value z) (c.cell-in-Pending.ensures ∙ ap (λ z. z.cell) p.share))))), p.limit ∙ (limit_is _ _ _ _ _ s.goes ∙ (c.requires.cell.1 ∙ ap (λ (z : Cell g.row.R.Denot g.row.F.Denot g.row.Q.Denot g.row.M.Denot g.row.A.Denot g.row.B.Denot g.row.F-Output.Denot g.F.Yields). z.limit) (sym (ap (λ z. arc_value z) (c.cell-in-Pending.ensures ∙ ap (λ z. z.cell) p.share))))))
 
 pub returns-in-Pending-clause-path : goal.returns-in-Pending-clause-path
 returns-in-Pending-clause-path g c = let s = started c.args.party c.begin_run-party.result.0 c.begin_run-party.result.1 c.begin_run-party.ensures c.if-not-started.false in let p = c.poll_future-share.ensures in
