@@ -1,13 +1,9 @@
 -- What a handle keeps of its party between two calls.
-use Rattle.std.proofs.Common.{◌≡◌, ℕ, true, List, [], ◌∷◌, ◌++◌, refl, ap, ◌∙◌, subst}
-use Rattle.task_laws.specs.declared.positions.Position.{Position}
-use Rattle.task_laws.specs.declared.positions.Position.TheVariants.{At}
-use Rattle.task_laws.specs.declared.positions.Rest.TheVariants.{Task}
-use Rattle.task_steps.specs.declared.table.Deed.{Deed}
+use Rattle.task_cell.proofs.Vocabulary.{◌≡◌, ℕ, true, List, [], ◌∷◌, ◌++◌, refl, ap, ◌∙◌, subst, Position, At, Task, Deed, member, view, deeds, position, holds, limit_of, Stands, Goes, as_task}
+use Rattle.task_cell.proofs.Vocabulary.{poll_number}
 use Rattle.task_cell.specs.declared.cell.Party.{Party}
-use Rattle.task_steps.specs.Rule.{member, view}
-use Rattle.task_cell.specs.Calls.{deeds, position, holds, limit_of, is_empty, Stands, Goes}
-use Rattle.task_steps.specs.Standing.{is_task, as_task, poll_number}
+use Rattle.task_cell.specs.Calls.{is_empty}
+use Rattle.task_steps.specs.Standing.{is_task}
 use Rattle.task_cell.proofs.Moved as moved
 
 none_held : {X : Type 0} (l : List X) → is_empty l ≡ true → l ≡ []

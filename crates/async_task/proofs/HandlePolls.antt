@@ -1,10 +1,8 @@
 -- A poll that hands out what is made of the output has the same path.
-use Rattle.std.proofs.Common.{◌≡◌, Bool, List, Option, Some, None, subst}
-use Rattle.task_core.specs.declared.traits.TaskPoll.{TaskPoll}
+use Rattle.task_cell.proofs.Vocabulary.{◌≡◌, Bool, List, Option, Some, None, subst, TaskPoll, Deed, AnswerPath, waits, has_ended_since, has_output_since, PollPath, finds_output, finds_ended}
 use Rattle.task_core.specs.declared.traits.TaskPoll.TheVariants.{Pending as Waits, Ready, Refused}
-use Rattle.task_steps.specs.declared.table.Deed.{Deed}
 use Rattle.task_cell.specs.declared.cell.Party.{Party}
-use Rattle.task_cell.specs.PollPaths.{AnswerPath, waits, has_ended_since, has_output_since, PollPath, finds_output, finds_ended, is_refused, looks_again}
+use Rattle.task_cell.specs.PollPaths.{is_refused, looks_again}
 use Rattle.async_task.specs.HandlePaths.{PollsOnce}
 
 -- the same answer, with what is made of the output

@@ -1,28 +1,23 @@
 -- One round of an attempt: what its load and its exchange leave to the next round, or to the caller.
-use Rattle.std.proofs.Common.{◌≡◌, ℕ, Bool, true, Option, Some, None, is_some, List, [], sym, refl, ap, ◌∙◌, subst, ◌==◌}
-use mathlib.Core.Option.{none}
+use Rattle.task_cell.proofs.Vocabulary.{◌≡◌, ℕ, Bool, true, false, Option, Some, None, is_some, List, [], sym, refl, ap, ◌∙◌, subst, ◌==◌, none, Me, step, Allows, State, state_of, number_of, Act, Slot, View}
+use Rattle.task_cell.proofs.Vocabulary.{RuleHolds, head_of, Makes, Machine, Position, Party, deeds, limit_of, StandsWith, Finds, Steps, OwesEnd, may_try, looked, missed, Names, having_seen, observed}
+use Rattle.task_cell.proofs.Vocabulary.{attempted, MayTry, HasChanged, HasEnded, if◌then◌else◌}
 use prog.Atomic.{either}
-use Rattle.atomic_table.specs.Table.{Me, step, Allows}
-use Rattle.task_core.specs.Word.{State, state_of, number_of}
 use Rattle.task_core.proofs.Bits.{state_of_number_of}
-use Rattle.task_core.specs.declared.acts.Act.{Act}
-use Rattle.task_steps.specs.declared.table.Slot.{Slot}
 use Rattle.task_steps.specs.declared.table.Tries.{Tries}
-use Rattle.task_steps.specs.declared.table.View.{View}
-use Rattle.task_steps.specs.Rule.{RuleHolds}
-use Rattle.task_steps.specs.Steps.{head_of, Makes}
-use Rattle.task_laws.specs.Machine.{Machine}
-use Rattle.task_laws.specs.declared.positions.Position.{Position}
-use Rattle.task_cell.specs.declared.cell.Party.{Party}
-use Rattle.task_cell.specs.Calls.{deeds, limit_of, StandsWith}
-use Rattle.task_steps.proofs.Advance.{Finds, Steps}
-use Rattle.task_steps.proofs.Allowed.{OwesEnd}
-use Rattle.task_steps.proofs.Attempts.{may_try}
 use Rattle.task_steps.specs.Knows.{Knows}
-use Rattle.task_steps.specs.Attempts.{looked, missed, Names, having_seen, observed, attempted, MayTry, HasChanged, HasEnded}
 
-names_looked : (w : State) (t : Option Tries) → Names w (looked w t)
-names_looked w t = refl
+-- a word was written where the test held
+pub if_some : (b : Bool) (x : Option State) → is_some (if b then x else None) ≡ true → (b ≡ true) × (is_some x ≡ true)
+if_some true x e = (refl, e)
+if_some false x e = absurd (cc)
+
+pub written_if : (b : Bool) (w : State) → is_some (if b then Some w else None) ≡ true → b ≡ true
+written_if b w e = (if_some b (Some w) e).0
+
+pub if_is : (b : Bool) (x : Option State) (v : State) → (if b then x else None) ≡ Some v → (b ≡ true) × (x ≡ Some v)
+if_is true x v e = (refl, e)
+if_is false x v e = absurd (cc)
 
 names_missed : (w : State) (t : Option Tries) → Names w (missed w t)
 names_missed w None = refl
@@ -56,7 +51,7 @@ module _ {F T A : Type 0} where
   pub seeing_next : (n : ℕ) (v w : State) (me now after : Me (Slot F T A) View) → Seeing v me now → w ≡ state_of n → after ≡ (having_seen (looked (state_of n) (head_of now.0.members).tries) now.0, now.1) → Seeing w me after
   seeing_next n v w me now after s e is = record {
     tries = looked w s.tries;
-    names = names_looked w s.tries;
+    names = refl;
     is = subst (λ (z : Me (Slot F T A) View × State). after ≡ (having_seen (looked z.1 (head_of z.0.0.members).tries) z.0.0, z.0.1)) (λ i. (s.is i, sym e i)) is;
   }
 
@@ -100,12 +95,6 @@ module _ {F T A : Type 0} where
   pub may_still : (limit id other : ℕ) (me now : Me (Slot F T A) View) (writes : ℕ → State → Option State) (ends : ℕ → State → Bool) (acts told : State → List Act) (w : State) → other ≡ id → Seeing w me now
       → MayTry limit 3 id me writes ends acts told → MayTry limit 3 other now writes ends acts told
   may_still limit id other me now writes ends acts told w e s may = subst (λ (z : ℕ × Me (Slot F T A) View). MayTry limit 3 z.0 z.1 writes ends acts told) (λ i. (sym e i, sym s.is i)) (record { loads = may.loads; exchanges = may.exchanges })
-
-  pub changed_on : (limit : ℕ) (writes : ℕ → State → Option State) (acts : State → List Act) (v w : State) (me now after : Me (Slot F T A) View) → Seeing v me now → HasChanged limit writes acts w now after → HasChanged limit writes acts w me after
-  changed_on limit writes acts v w me now after s x = let y = subst (λ (m : Me (Slot F T A) View). HasChanged limit writes acts w m after) s.is x in record { written = y.written; made = made_of (acts w) w s.tries me after y.made; knows = y.knows }
-
-  pub ended_on : (limit : ℕ) (ends : ℕ → State → Bool) (told : State → List Act) (v w : State) (me now after : Me (Slot F T A) View) → Seeing v me now → HasEnded limit ends told w now after → HasEnded limit ends told w me after
-  ended_on limit ends told v w me now after s x = let y = subst (λ (m : Me (Slot F T A) View). HasEnded limit ends told w m after) s.is x in record { at_end = y.at_end; made = made_of (told w) w s.tries me after y.made; knows = y.knows }
 
   -- what the rule allows a party that stands here, by what its change and its end owe
   pub may_at : (limit : ℕ) (p : Party F T A) (at : Position) (held : List (ℕ × Slot F T A)) → StandsWith at held p → (writes : ℕ → State → Option State) (ends : ℕ → State → Bool) (acts told : State → List Act) → ((w : State) → ends (limit_of p) w ≡ ends limit w)

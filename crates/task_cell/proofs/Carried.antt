@@ -1,15 +1,6 @@
 -- What a step comes to for the places of the party that made it.
-use Rattle.std.proofs.Common.{◌≡◌, ℕ, Bool, true, false, List, [], ◌∷◌, refl, sym, ap, ◌∙◌, subst}
-use Rattle.atomic_table.specs.Table.{Me, rest}
-use Rattle.task_laws.specs.declared.positions.Position.{Position}
-use Rattle.task_laws.specs.Holders.{owns_awaiter}
-use Rattle.task_steps.specs.declared.table.Slot.{Slot}
-use Rattle.task_steps.specs.declared.table.Deed.{Deed}
-use Rattle.task_steps.specs.declared.table.View.{View}
-use Rattle.task_cell.specs.declared.cell.Party.{Party}
-use Rattle.task_steps.specs.Rule.{has_work}
-use Rattle.task_steps.specs.Steps.{Works, Awaits, Carries, Carried}
-use Rattle.task_cell.specs.Calls.{GoesWith}
+use Rattle.task_cell.proofs.Vocabulary.{◌≡◌, ℕ, Bool, true, false, List, [], ◌∷◌, refl, sym, ap, ◌∙◌, subst, Me, rest, Position, owns_awaiter, Slot, Deed, View, Party, has_work, Works, Awaits}
+use Rattle.task_cell.proofs.Vocabulary.{Carries, Carried, GoesWith}
 
 module _ {F T A : Type 0} where
   carries_kept : (a c : Bool) (q : Position) (l l' : List (ℕ × Slot F T A)) → Carries a a c c q l l' → l' ≡ l

@@ -1,3 +1,4 @@
+pub mod Vocabulary
 pub mod Moved
 pub mod Attempts
 pub mod Carried

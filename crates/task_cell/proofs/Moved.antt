@@ -1,19 +1,6 @@
 -- What a step comes to for the party that made it.
-use Rattle.std.proofs.Common.{◌≡◌, ℕ, Bool, true, false, List, [], ◌∷◌, ◌++◌, refl, sym, ap, ◌∙◌, subst}
-use Rattle.atomic_table.specs.Table.{Me, rest}
-use Rattle.task_core.specs.Word.{State}
-use Rattle.task_laws.specs.declared.positions.Position.{Position}
-use Rattle.task_core.specs.declared.acts.Act.{Act}
-use Rattle.task_laws.specs.Table.{Slots}
-use Rattle.task_steps.specs.declared.table.Slot.{Slot}
-use Rattle.task_steps.specs.declared.table.Deed.{Deed}
-use Rattle.task_steps.specs.declared.table.View.{View}
-use Rattle.task_cell.specs.declared.cell.Party.{Party}
-use Rattle.task_laws.specs.Holders.{owns_awaiter}
-use Rattle.task_steps.specs.Rule.{member, view, has_work}
-use Rattle.task_steps.specs.Steps.{head_of, future_first, output_first, acted, Carries, Carried, Makes}
-use Rattle.task_cell.specs.Calls.{deeds, position, holds, limit_of, StandsWith, GoesWith}
-use Rattle.task_steps.specs.Deeds.{after}
+use Rattle.task_cell.proofs.Vocabulary.{◌≡◌, ℕ, List, [], ◌∷◌, ◌++◌, refl, sym, ap, ◌∙◌, subst, Me, rest, State, Position, Act, Slots, Slot, Deed, View, Party, member, view, head_of, future_first}
+use Rattle.task_cell.proofs.Vocabulary.{output_first, acted, Carried, Makes, deeds, position, holds, limit_of, StandsWith, GoesWith, after}
 
 pub after-append : (a b l : List Deed) → after (a ++ b) l ≡ after b (after a l)
 after-append [] b l = refl
@@ -71,19 +58,3 @@ module _ {F T A : Type 0} where
 
   pub output_held : (p : Party F T A) (at : Position) (y z : Slot F T A) → StandsWith at (output_first y z []) p → holds p ≡ output_first y z (rest (rest (holds p)))
   output_held p at y z s = let e = held_is p at (output_first y z []) s in e ∙ ap (output_first y z) (ap (λ l. rest (rest l)) (sym e))
-
--- a place that nobody takes or gives stays
-carries_nothing : {F T A : Type 0} (a c : Bool) (q : Position) (l l' : List (ℕ × Slot F T A)) → Carries {F = F} {T = T} {A = A} a a c c q l l' → l' ≡ l
-carries_nothing true true q l l' e = e
-carries_nothing true false q l l' e = e
-carries_nothing false true q l l' e = e
-carries_nothing false false q l l' e = e
-
--- a step without acts leaves the seat as it was
-pub still : {F T A : Type 0} (w : State) (at : Position) (held : List (ℕ × Slot F T A)) (p q : Party F T A) → StandsWith at held p → Makes [] w p.seat.me q.seat.me → q.seat.me ≡ p.seat.me
-still w at held p q s m = let x = moved [] w at held p q s m in
-    (λ i. (x.viewed i, carries_nothing (has_work at) (owns_awaiter at) at held q.seat.me.1 x.carried i)) ∙ sym s
-
--- a fact over a value and some other is one over the value that it equals
-pub fact_along : {C N : Type 0} (Fact : C → N → Type 0) (n : N) {x y : C} → x ≡ y → Fact x n → (n : N) × Fact y n
-fact_along Fact n e h = (n, subst (λ z. Fact z n) e h)

@@ -1,41 +1,20 @@
 -- What the steps of a notifier come to.
-use Rattle.std.proofs.Common.{◌≡◌, ℕ, Bool, true, false, not, ◌&&◌, ◌||◌, List, [], ◌∷◌, Option, Some, None, refl, sym, ap, ◌∙◌, subst}
-use Rattle.std.specs.Prelude.{if◌then◌else◌}
-use Rattle.task_core.specs.Word.{State}
-use Rattle.task_laws.specs.declared.positions.NotifyingCall.{NotifyingCall}
-use Rattle.task_laws.specs.declared.positions.Position.TheVariants.{Notifier, Releaser}
-use Rattle.task_core.specs.declared.acts.Act.TheVariants.{MissNotify, BeginNotify, TakeAwaiter, EndNotify}
-use Rattle.task_laws.specs.Table.{after_taking}
-use Rattle.task_steps.specs.declared.table.Slot.{Slot}
-use Rattle.task_steps.specs.declared.table.Slot.TheVariants.{Empty, Future, Output, Awaiter}
-use Rattle.task_steps.specs.declared.table.Deed.{Deed}
-use Rattle.task_cell.specs.declared.cell.Party.{Party}
-use Rattle.task_steps.specs.Rule.{Waits}
-use Rattle.task_steps.specs.Steps.{Makes}
-use Rattle.task_steps.specs.Scripts.{taking_awaiter, releasing_awaiter}
-use Rattle.task_steps.specs.Held.{awaiter_in}
-use Rattle.task_cell.specs.Calls.{Fits, position, holds, StandsWith, GoesWith, Notifies, misses, finds_none, takes_awaiter}
-use Rattle.task_steps.specs.Deeds.{row, act}
-use Rattle.task_steps.specs.Standing.{way_of}
+use Rattle.task_cell.proofs.Vocabulary.{◌≡◌, ℕ, Bool, true, false, not, ◌&&◌, ◌||◌, List, [], ◌∷◌, Option, Some, None, refl, sym, ap, ◌∙◌, subst, if◌then◌else◌, State, NotifyingCall, Notifier}
+use Rattle.task_cell.proofs.Vocabulary.{Releaser, MissNotify, BeginNotify, TakeAwaiter, EndNotify, after_taking, Slot, Empty, Awaiter, Deed, Party, Waits, Makes, taking_awaiter, releasing_awaiter}
+use Rattle.task_cell.proofs.Vocabulary.{awaiter_in, Fits, position, holds, StandsWith, GoesWith, Notifies, misses, finds_none, takes_awaiter, row, act, way_of, on_work, on_free, same_way, arith}
 use Rattle.task_cell.proofs.Moved as moved
 use Rattle.task_cell.proofs.Carried.{keeps_places, took_awaiter, gave_awaiter}
-use Rattle.task_steps.proofs.AwaiterOwed.{on_work, on_free, same_way}
 
 neither : (a b : Bool) → a ≡ false → b ≡ false → (a || b) ≡ false
-neither true b e f = absurd (cc)
-neither false b e f = f
+neither a b e f = grind arith
 
 -- the awaiter slot is free where nobody is at it
 free : (a b : Bool) → (a || b) ≡ false → (not a && not b) ≡ true
-free true b e = absurd (cc)
-free false true e = absurd (cc)
-free false false e = refl
+free a b e = grind arith
 
 pub awaiter_there : {F T A : Type 0} (y : Slot F T A) (a : A) → awaiter_in y ≡ Some a → y ≡ Awaiter a
-awaiter_there Empty a e = absurd (cc)
-awaiter_there (Future f) a e = absurd (cc)
-awaiter_there (Output x) a e = absurd (cc)
 awaiter_there (Awaiter b) a e = cc
+awaiter_there y a e = absurd (cc)
 
 module _ {F T A : Type 0} where
   -- the position and the places of a notifier, as contracts say them
@@ -79,13 +58,8 @@ module _ {F T A : Type 0} where
 
   found_there : (w v : State) (hand : Option ℕ) (y : Slot F T A) (p q : Party F T A) → Fits BeginNotify w → Waits hand y → GoesWith (row BeginNotify w ∷ act TakeAwaiter ∷ row EndNotify v ∷ []) (after_taking hand (way_of (position p))) (holds p) p q → Notifies p q (awaiter_in y)
   found_there w v None Empty p q b h g = finds_none w v b g
-  found_there w v None (Future f) p q b h g = absurd h
-  found_there w v None (Output x) p q b h g = absurd h
-  found_there w v None (Awaiter a) p q b h g = absurd h
-  found_there w v (Some i) Empty p q b h g = absurd h
-  found_there w v (Some i) (Future f) p q b h g = absurd h
-  found_there w v (Some i) (Output x) p q b h g = absurd h
   found_there w v (Some i) (Awaiter a) p q b h g = takes_awaiter w v i a b g
+  found_there w v hand y p q b h g = absurd h
 
   pub notified : (way : NotifyingCall) (held : List (ℕ × Slot F T A)) (w v : State) (hand : Option ℕ) (y : Slot F T A) (p q r : Party F T A) (found : Option A) → StandsWith (Notifier way) held p → Fits BeginNotify w → Waits hand y
       → GoesWith (row BeginNotify w ∷ act TakeAwaiter ∷ []) (Releaser hand way) ((2, Empty) ∷ held) p q → r.seat.table_id ≡ q.seat.table_id → Makes (releasing_awaiter v) v q.seat.me r.seat.me → found ≡ awaiter_in y → Notifies p r found

@@ -1,23 +1,11 @@
 -- The paths of a whole poll, put together from those of its looks, its registering and its end.
-use Rattle.std.proofs.Common.{◌≡◌, ℕ, Bool, true, false, Option, Some, None, List, [], ◌∷◌, ◌++◌, sym, ap, ◌∙◌, subst, inl, inr, ◌⊎◌, ⊎_elim}
-use Rattle.std.specs.Prelude.{if◌then◌else◌, Result, Ok, Err}
-use Rattle.task_core.specs.Word.{State}
-use Rattle.task_core.specs.declared.traits.TaskPoll.{TaskPoll}
+use Rattle.task_cell.proofs.Vocabulary.{◌≡◌, ℕ, Bool, true, false, Option, Some, None, List, [], ◌∷◌, ◌++◌, sym, ap, ◌∙◌, subst, inl, inr, ◌⊎◌, ⊎_elim, if◌then◌else◌, Result, Ok, Err, State, TaskPoll}
+use Rattle.task_cell.proofs.Vocabulary.{OfPoll, Notifier, Looking, Registrar, Look, ClaimOutput, HandOutOutput, RefuseClone, EndCall, first_look, Deed, Party, position, Goes, row, act, as_task}
+use Rattle.task_cell.proofs.Vocabulary.{poll_number, has_output, has_ended, has_to_wait, TakePath, TakePathIf, RegisterPath, AnswerPath, PollPath, ClaimsOutput, Looks, claims_output, sees_none}
+use Rattle.task_cell.proofs.Vocabulary.{LooksAgain, claims_output_now, has_to_wait_on, sees_end, Registers, is_registered, clone_refused, never}
 use Rattle.task_core.specs.declared.traits.TaskPoll.TheVariants.{Ready, Refused}
-use Rattle.task_laws.specs.declared.positions.NotifyingCall.TheVariants.{OfPoll}
-use Rattle.task_laws.specs.declared.positions.Position.TheVariants.{Notifier, Looking, Registrar}
-use Rattle.task_core.specs.declared.acts.Act.TheVariants.{Look, ClaimOutput, HandOutOutput, RefuseClone, EndCall}
-use Rattle.task_laws.specs.Table.{first_look}
-use Rattle.task_steps.specs.declared.table.Deed.{Deed}
-use Rattle.task_cell.specs.declared.cell.Party.{Party}
-use Rattle.task_cell.specs.Calls.{position, Goes}
-use Rattle.task_steps.specs.Deeds.{row, act}
-use Rattle.task_steps.specs.Standing.{as_task, poll_number}
-use Rattle.task_steps.specs.PollScripts.{has_output, has_ended, has_to_wait}
 use Rattle.task_cell.specs.PollPaths as paths
-use Rattle.task_cell.specs.PollPaths.{TakePath, TakePathIf, RegisterPath, AnswerPath, PollPath, ClaimsOutput, Looks, claims_output, sees_none, LooksAgain, claims_output_now, has_to_wait_on, sees_end, Registers, is_registered, clone_refused}
 use Rattle.task_cell.proofs.PollWays.{ends, then_goes, claimed_out}
-use Rattle.task_steps.proofs.Bools.{never}
 
 module _ {F T A : Type 0} where
   -- a look, by its answer

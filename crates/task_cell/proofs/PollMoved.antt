@@ -1,52 +1,22 @@
 -- What the looks of a poll and the steps of a registering come to for the party that made them.
-use Rattle.std.proofs.Common.{◌≡◌, ℕ, ◌+◌, Bool, true, false, not, ◌&&◌, ◌||◌, Option, Some, None, List, [], ◌∷◌, refl, sym, ap, ◌∙◌, subst, map, is_some}
-use Rattle.std.specs.Prelude.{if◌then◌else◌, Result, Ok, Err, IfOk, IfErr}
-use Rattle.atomic_table.specs.Table.{Me}
-use Rattle.task_core.specs.Word.{State, number_of}
-use Rattle.task_core.specs.Rows.{written, row as row_of}
-use Rattle.task_laws.specs.declared.positions.Position.{Position}
-use Rattle.task_laws.specs.Event.{TaskPollBegins}
-use Rattle.task_laws.specs.declared.positions.PollAnswer.TheVariants.{IsPending}
-use Rattle.task_laws.specs.declared.positions.NotifyingCall.TheVariants.{OfPoll, OfClaim}
-use Rattle.task_laws.specs.declared.positions.Position.TheVariants.{Looking, SawOutput, Answering, Notifier, Registrar, UnusedClone, Registered, TookBack, CloneInHand}
-use Rattle.task_core.specs.declared.acts.Act.{Act}
-use Rattle.task_core.specs.declared.acts.Act.TheVariants.{Look, CloneAwaiter, StoreAwaiter, FindNotify, BeginRegister, EndRegister, EndRegisterNotified, TakeAwaiter, ClaimOutput, EndCall}
-use Rattle.task_laws.specs.Table.{Slots, Outcome, leaves_slots, changes_slots, when, notifies, first_look, after_storing}
-use Rattle.task_laws.specs.Holders.{owns_awaiter}
-use Rattle.task_steps.specs.declared.table.Slot.{Slot}
-use Rattle.task_steps.specs.declared.table.Deed.{Deed}
-use Rattle.task_steps.specs.declared.table.View.{View}
-use Rattle.task_cell.specs.declared.cell.Party.{Party}
-use Rattle.task_steps.specs.Rule.{member, view, fresh, has_work, Waits}
-use Rattle.task_steps.specs.Steps.{head_of, and_then, spot, held_word, next_of, born_of, leaves_by, noted, acted, output_first, TakesOutput, Carries, Carried, Makes, saw_ended}
-use Rattle.task_cell.specs.Calls.{position, deeds, limit_of, StandsWith, Stands, GoesWith, Goes}
-use Rattle.task_steps.specs.Deeds.{after, row, act}
-use Rattle.task_steps.specs.PollScripts.{has_output, has_ended, has_to_wait, looking, claiming, looking_again, claiming_again, finding_notifier, beginning_register, ending_register, taking_back}
-use Rattle.task_cell.specs.PollPaths.{ClaimsOutput, Looks, claims_output, sees_none, LooksAgain, claims_output_now, has_to_wait_on, sees_end, BeginsRegister, begins, finds_one, EndsRegister, ends, finds_notified}
-use Rattle.task_steps.specs.Standing.{as_task, poll_number}
+use Rattle.task_cell.proofs.Vocabulary.{◌≡◌, ℕ, ◌+◌, Bool, true, false, not, ◌&&◌, ◌||◌, Option, Some, None, List, [], ◌∷◌, refl, sym, ap, ◌∙◌, subst, map, is_some, if◌then◌else◌, Result, Ok, Err}
+use Rattle.task_cell.proofs.Vocabulary.{IfOk, IfErr, Me, State, number_of, written, Position, TaskPollBegins, IsPending, OfPoll, OfClaim, Looking, SawOutput, Answering, Notifier, Registrar}
+use Rattle.task_cell.proofs.Vocabulary.{UnusedClone, Registered, TookBack, CloneInHand, Act, Look, CloneAwaiter, StoreAwaiter, FindNotify, BeginRegister, EndRegister, EndRegisterNotified, TakeAwaiter}
+use Rattle.task_cell.proofs.Vocabulary.{ClaimOutput, EndCall, Slots, Outcome, leaves_slots, changes_slots, when, notifies, first_look, after_storing, owns_awaiter, Slot, Deed, View, Party, member}
+use Rattle.task_cell.proofs.Vocabulary.{view, fresh, has_work, Waits, head_of, and_then, spot, held_word, next_of, born_of, leaves_by, noted, acted, output_first, TakesOutput, Carries, Carried, Makes}
+use Rattle.task_cell.proofs.Vocabulary.{saw_ended, position, deeds, limit_of, StandsWith, Stands, GoesWith, Goes, after, row, act, has_output, has_ended, has_to_wait, looking, claiming, looking_again}
+use Rattle.task_cell.proofs.Vocabulary.{claiming_again, finding_notifier, beginning_register, ending_register, taking_back, ClaimsOutput, Looks, claims_output, sees_none, LooksAgain}
+use Rattle.task_cell.proofs.Vocabulary.{claims_output_now, has_to_wait_on, sees_end, BeginsRegister, begins, finds_one, EndsRegister, ends, finds_notified, as_task, poll_number, Empty, Awaiter}
+use Rattle.task_cell.proofs.Vocabulary.{MayTry, HasChanged, HasEnded, first_free, has_waited, sees_output, looks, looks_again, begins_register, ends_register, takes_back, claims, claims_again}
+use Rattle.task_cell.proofs.Vocabulary.{finds_notifier, fits, not_true, left_true}
+use Rattle.task_core.specs.Rows.{row as row_of}
 use Rattle.task_cell.proofs.Moved.{position_is, held_is, stands, goes_on}
-use Rattle.task_steps.specs.declared.table.Slot.TheVariants.{Empty, Awaiter}
-use Rattle.task_steps.specs.Attempts.{MayTry, HasChanged, HasEnded}
-use Rattle.task_steps.proofs.PollOwed.{first_free, has_waited, sees_output, looks, looks_again, begins_register, ends_register, takes_back, claims, claims_again, finds_notifier, fits}
-use Rattle.task_cell.proofs.Attempts.{may_at}
+use Rattle.task_cell.proofs.Attempts.{written_if, may_at}
 use Rattle.task_cell.proofs.PollSeen.{not_both}
 
 -- a row that was made finds no notifier
 not_notifying : (b : Bool) (v : State) → is_some (if not b then Some v else None) ≡ true → b ≡ false
-not_notifying true v e = absurd (cc)
-not_notifying false v e = refl
-
-output_found : (b : Bool) (v : State) → is_some (if b then Some v else None) ≡ true → b ≡ true
-output_found true v e = refl
-output_found false v e = absurd (cc)
-
-is_first : (a b : Bool) → (a && b) ≡ true → a ≡ true
-is_first true b e = refl
-is_first false b e = absurd (cc)
-
-is_not : (b : Bool) → not b ≡ true → b ≡ false
-is_not true e = absurd (cc)
-is_not false e = refl
+not_notifying b v e = not_true b (written_if (not b) v e)
 
 -- a look that finds no output, and has not to wait, finds the task ended
 finds_end : (i : ℕ) (closed busy completed : Bool) → (if closed then busy else not completed) ≡ false → (completed && not closed) ≡ false
@@ -101,7 +71,7 @@ module _ {F T A : Type 0} where
   given_back i w y p q r s took cell m = let path : List Deed = row EndRegisterNotified w ∷ [] in let held : List (ℕ × Slot F T A) = (2, Empty) ∷ [] in
       let g = went (EndRegisterNotified ∷ []) w (TookBack i) (CloneInHand i) held path q r (stands p q [] (TookBack i) held took) cell m refl refl refl in (
         w,
-        is_first w.notifying true m.fits,
+        left_true w.notifying true m.fits,
         subst (λ at. Goes path (CloneInHand (poll_number at)) p r) (sym (position_is p (TookBack i) ((2, y) ∷ []) s)) (goes_on p q r [] path (TookBack i) (CloneInHand i) held [] took (subst (λ l. GoesWith path (CloneInHand i) l q r) g.0 g.1)),
       )
 
@@ -130,36 +100,25 @@ module _ {F T A : Type 0} where
     goes = subst (λ at. GoesWith path (notifies w.awaiter (OfClaim (poll_number at))) (output_first c.0 c.1 []) p q) (sym (position_is p at [] s)) (subst (λ l. GoesWith path (notifies w.awaiter (OfClaim (poll_number at))) l p q) c.3 g.1);
   }
 
-  -- the first look of a poll
-  looked_first : (limit n : ℕ) (w : State) (p q : Party F T A) → Stands (as_task n) p → q.seat.table_id ≡ p.seat.table_id → HasChanged limit (λ _ w. row_of 0 ClaimOutput w) claiming w p.seat.me q.seat.me → Looks p q (Ok w)
-  looked_first limit n w p q s cell c = claims_output w (claimed w (as_task n) (ClaimOutput ∷ []) (row ClaimOutput w ∷ []) p q s cell c.made (output_found (has_output w) (written ClaimOutput w) c.written) refl refl refl (carried_output w.awaiter (n + 1) q.seat.me.1))
-
   first_holds : (w : State) (n : ℕ) (l : List (ℕ × Slot F T A)) → Carried (as_task n) (first_look w (n + 1)) [] l → l ≡ []
   first_holds w n l c = let f = first_free w (n + 1) in subst (λ (z : Bool × Bool). Carries false z.0 false z.1 (first_look w (n + 1)) [] l) (λ j. (f.0 j, f.1 j)) c
 
-  looked_in_vain : (limit n : ℕ) (w : State) (p q : Party F T A) → Stands (as_task n) p → q.seat.table_id ≡ p.seat.table_id → HasEnded limit (λ _ w. not (has_output w)) looking w p.seat.me q.seat.me → Looks p q (Err w)
-  looked_in_vain limit n w p q s cell e = let m = e.made in let l : ℕ = limit_of p in let path : List Deed = row Look w ∷ [] in
-      let left : Bool → Option Outcome = (λ b. and_then (when b (leaves_slots (spot l (held_word (as_task n) w) m.slots) w (first_look (held_word (as_task n) w) (n + 1)) [] (TaskPollBegins (n + 1) ∷ []))) (λ o. leaves_by l o.word o.slots [] o.next)) in
-      let g = went (Look ∷ []) w (as_task n) (first_look w (n + 1)) [] path p q s cell m (ap (λ b. next_of (left b)) e.at_end) (ap (λ b. born_of (left b)) e.at_end) refl in
-      sees_none w (is_not (has_output w) e.at_end) (subst (λ at. Goes path (first_look w (poll_number at)) p q) (sym (position_is p (as_task n) [] s)) (subst (λ l. GoesWith path (first_look w (n + 1)) l p q) (first_holds w n q.seat.me.1 g.0) g.1))
-
+  -- the first look of a poll
   pub looks_so : (limit n : ℕ) (x : Result State State) (p q : Party F T A) → Stands (as_task n) p → q.seat.table_id ≡ p.seat.table_id → IfOk x (λ w. HasChanged limit (λ _ w. row_of 0 ClaimOutput w) claiming w p.seat.me q.seat.me)
       → IfErr x (λ w. HasEnded limit (λ _ w. not (has_output w)) looking w p.seat.me q.seat.me) → Looks p q x
-  looks_so limit n (Ok w) p q s cell c e = looked_first limit n w p q s cell c
-  looks_so limit n (Err w) p q s cell c e = looked_in_vain limit n w p q s cell e
+  looks_so limit n (Ok w) p q s cell c e = claims_output w (claimed w (as_task n) (ClaimOutput ∷ []) (row ClaimOutput w ∷ []) p q s cell c.made (written_if (has_output w) (written ClaimOutput w) c.written) refl refl refl (carried_output w.awaiter (n + 1) q.seat.me.1))
+  looks_so limit n (Err w) p q s cell c e = let m = e.made in let l : ℕ = limit_of p in let path : List Deed = row Look w ∷ [] in
+      let left : Bool → Option Outcome = (λ b. and_then (when b (leaves_slots (spot l (held_word (as_task n) w) m.slots) w (first_look (held_word (as_task n) w) (n + 1)) [] (TaskPollBegins (n + 1) ∷ []))) (λ o. leaves_by l o.word o.slots [] o.next)) in
+      let g = went (Look ∷ []) w (as_task n) (first_look w (n + 1)) [] path p q s cell m (ap (λ b. next_of (left b)) e.at_end) (ap (λ b. born_of (left b)) e.at_end) refl in
+      sees_none w (not_true (has_output w) e.at_end) (subst (λ at. Goes path (first_look w (poll_number at)) p q) (sym (position_is p (as_task n) [] s)) (subst (λ l. GoesWith path (first_look w (n + 1)) l p q) (first_holds w n q.seat.me.1 g.0) g.1))
 
   -- .. which finds the task ended where one before it did
   pub finds_it_ended : (limit : ℕ) (x : Result State State) (p q : Party F T A) → IfOk x (λ w. HasChanged limit (λ _ w. row_of 0 ClaimOutput w) claiming w p.seat.me q.seat.me) → IfErr x (λ w. HasEnded limit (λ _ w. not (has_output w)) looking w p.seat.me q.seat.me)
       → saw_ended (deeds p) ≡ true → (w : State) × (x ≡ Err w) × (has_ended w ≡ true)
-  finds_it_ended limit (Ok w) p q c e saw = not_both w (c.knows.ended saw) (output_found (has_output w) (written ClaimOutput w) c.written)
+  finds_it_ended limit (Ok w) p q c e saw = not_both w (c.knows.ended saw) (written_if (has_output w) (written ClaimOutput w) c.written)
   finds_it_ended limit (Err w) p q c e saw = (w, refl, e.knows.ended saw)
 
   -- .. and the look of one that has registered
-  claimed_again : (limit i : ℕ) (w : State) (p q : Party F T A) → Stands (Looking i) p → q.seat.table_id ≡ p.seat.table_id → HasChanged limit (λ _ w. row_of 0 ClaimOutput w) claiming_again w p.seat.me q.seat.me → LooksAgain p q (Ok w)
-  claimed_again limit i w p q s cell c = let m = c.made in let l : ℕ = limit_of p in let there = output_found (has_output w) (written ClaimOutput w) c.written in
-      let left : Position → Option Outcome = (λ at. and_then (Some (leaves_slots (spot l (held_word (Looking i) w) m.slots) w at [] [])) (λ o. leaves_by l o.word o.slots (ClaimOutput ∷ []) o.next)) in
-      claims_output_now w (claimed w (Looking i) (Look ∷ ClaimOutput ∷ []) (row Look w ∷ row ClaimOutput w ∷ []) p q s cell m there (ap (λ at. next_of (left at)) (sees_output w i there)) (ap (λ at. born_of (left at)) (sees_output w i there)) refl (carried_output w.awaiter i q.seat.me.1))
-
   looked_again_in_vain : (limit i : ℕ) (w : State) (p q : Party F T A) → Stands (Looking i) p → q.seat.table_id ≡ p.seat.table_id → HasEnded limit (λ _ w. not (has_output w)) looking_again w p.seat.me q.seat.me → LooksAgain p q (Err w)
   looked_again_in_vain limit i w p q s cell e = by (has_to_wait w) refl
     where
@@ -174,12 +133,14 @@ module _ {F T A : Type 0} where
           let is = has_waited w i f in let g = went (Look ∷ EndCall ∷ []) w (Looking i) (as_task i) [] path p q s cell m (ap (λ at. next_of (left m.slots (EndCall ∷ []) at)) is) (ap (λ at. born_of (left m.slots (EndCall ∷ []) at)) is) refl in
           has_to_wait_on w f (subst (λ at. Goes path (as_task (poll_number at)) p q) (sym (position_is p (Looking i) [] s)) (subst (λ l. GoesWith path (as_task i) l p q) g.0 g.1))
       by false f = let m = subst (λ b. Makes (if b then Look ∷ EndCall ∷ [] else Look ∷ []) w p.seat.me q.seat.me) f e.made in let path : List Deed = row Look w ∷ [] in
-          let is = finds_end i w.closed (w.scheduled || w.running) w.completed f (is_not (has_output w) e.at_end) in let g = went (Look ∷ []) w (Looking i) (Notifier (OfPoll i)) [] path p q s cell m (ap (λ at. next_of (left m.slots [] at)) is.0) (ap (λ at. born_of (left m.slots [] at)) is.0) refl in
+          let is = finds_end i w.closed (w.scheduled || w.running) w.completed f (not_true (has_output w) e.at_end) in let g = went (Look ∷ []) w (Looking i) (Notifier (OfPoll i)) [] path p q s cell m (ap (λ at. next_of (left m.slots [] at)) is.0) (ap (λ at. born_of (left m.slots [] at)) is.0) refl in
           sees_end w f is.1 (subst (λ at. Goes path (Notifier (OfPoll (poll_number at))) p q) (sym (position_is p (Looking i) [] s)) (subst (λ l. GoesWith path (Notifier (OfPoll i)) l p q) g.0 g.1))
 
   pub looks_again_so : (limit i : ℕ) (x : Result State State) (p q : Party F T A) → Stands (Looking i) p → q.seat.table_id ≡ p.seat.table_id → IfOk x (λ w. HasChanged limit (λ _ w. row_of 0 ClaimOutput w) claiming_again w p.seat.me q.seat.me)
       → IfErr x (λ w. HasEnded limit (λ _ w. not (has_output w)) looking_again w p.seat.me q.seat.me) → LooksAgain p q x
-  looks_again_so limit i (Ok w) p q s cell c e = claimed_again limit i w p q s cell c
+  looks_again_so limit i (Ok w) p q s cell c e = let m = c.made in let l : ℕ = limit_of p in let there = written_if (has_output w) (written ClaimOutput w) c.written in
+      let left : Position → Option Outcome = (λ at. and_then (Some (leaves_slots (spot l (held_word (Looking i) w) m.slots) w at [] [])) (λ o. leaves_by l o.word o.slots (ClaimOutput ∷ []) o.next)) in
+      claims_output_now w (claimed w (Looking i) (Look ∷ ClaimOutput ∷ []) (row Look w ∷ row ClaimOutput w ∷ []) p q s cell m there (ap (λ at. next_of (left at)) (sees_output w i there)) (ap (λ at. born_of (left at)) (sees_output w i there)) refl (carried_output w.awaiter i q.seat.me.1))
   looks_again_so limit i (Err w) p q s cell c e = looked_again_in_vain limit i w p q s cell e
 
 module _ (F T A : Type 0) (limit : ℕ) where

@@ -1,21 +1,10 @@
 -- The paths of a registering, put together from those of its parts.
-use Rattle.std.proofs.Common.{◌≡◌, ℕ, Bool, true, false, Option, Some, None, List, [], ◌∷◌, ◌++◌, refl, subst}
-use Rattle.task_core.specs.Word.{State}
-use Rattle.task_laws.specs.declared.positions.Position.TheVariants.{Looking, UnusedClone, Registered, TookBack, CloneInHand}
-use Rattle.task_core.specs.declared.acts.Act.TheVariants.{CloneAwaiter, StoreAwaiter, TakeAwaiter, FindNotify, BeginRegister, EndRegister, EndRegisterNotified, DropAwaiter, WakeAwaiter}
-use Rattle.task_laws.specs.Table.{after_storing}
-use Rattle.task_steps.specs.declared.table.Slot.{Slot}
-use Rattle.task_steps.specs.declared.table.Slot.TheVariants.{Awaiter}
-use Rattle.task_steps.specs.declared.table.Deed.{Deed}
-use Rattle.task_cell.specs.declared.cell.Party.{Party}
-use Rattle.task_steps.specs.Rule.{Waits}
-use Rattle.task_cell.specs.Calls.{position, holds, StandsWith, GoesWith, Goes}
-use Rattle.task_steps.specs.Deeds.{row, act}
+use Rattle.task_cell.proofs.Vocabulary.{◌≡◌, ℕ, Bool, true, false, Option, Some, None, List, [], ◌∷◌, ◌++◌, refl, subst, State, Looking, UnusedClone, Registered, TookBack, CloneInHand, CloneAwaiter}
+use Rattle.task_cell.proofs.Vocabulary.{StoreAwaiter, TakeAwaiter, FindNotify, BeginRegister, EndRegister, EndRegisterNotified, DropAwaiter, WakeAwaiter, after_storing, Slot, Awaiter, Deed, Party}
+use Rattle.task_cell.proofs.Vocabulary.{Waits, position, holds, StandsWith, GoesWith, Goes, row, act, RegisterPath, dropped_if, BeginsRegister, begins, finds_one, EndsRegister, ends, finds_notified}
+use Rattle.task_cell.proofs.Vocabulary.{poll_number, same_first}
 use Rattle.task_cell.specs.PollPaths as paths
-use Rattle.task_cell.specs.PollPaths.{RegisterPath, dropped_if, BeginsRegister, begins, finds_one, EndsRegister, ends, finds_notified}
-use Rattle.task_steps.specs.Standing.{poll_number}
 use Rattle.task_cell.proofs.Moved.{held_is, stands}
-use Rattle.task_steps.proofs.PollOwed.{same_first}
 use Rattle.task_cell.proofs.PollWays.{then_goes}
 
 -- the deeds of a Task that puts its clone in

@@ -1,22 +1,9 @@
 -- What a poll has seen of the task's end, and what an earlier poll has seen.
-use Rattle.std.proofs.Common.{◌≡◌, Bool, true, false, not, ◌&&◌, ◌||◌, List, [], ◌∷◌, ◌++◌, Option, None, sym, ap, subst}
-use Rattle.std.specs.Prelude.{Result, Err}
-use Rattle.atomic_table.specs.Table.{Me}
-use Rattle.task_core.specs.Word.{State}
-use Rattle.task_core.specs.declared.traits.TaskPoll.{TaskPoll}
+use Rattle.task_cell.proofs.Vocabulary.{◌≡◌, Bool, true, false, List, [], ◌∷◌, ◌++◌, Option, None, sym, ap, subst, Result, Err, Me, State, TaskPoll, Position, Look, EndCall, Slot, Deed, View, Party}
+use Rattle.task_cell.proofs.Vocabulary.{row, act, after, head_of, leaves_such, saw, saw_ended, has_output, has_ended, deeds, GoesWith, AnswerPath, waits, has_ended_since, has_output_since, PollPath}
+use Rattle.task_cell.proofs.Vocabulary.{finds_output, finds_ended, true_left, true_right, arith}
 use Rattle.task_core.specs.declared.traits.TaskPoll.TheVariants.{Ready}
-use Rattle.task_laws.specs.declared.positions.Position.{Position}
-use Rattle.task_core.specs.declared.acts.Act.TheVariants.{Look, EndCall}
-use Rattle.task_steps.specs.declared.table.Slot.{Slot}
-use Rattle.task_steps.specs.declared.table.Deed.{Deed}
-use Rattle.task_steps.specs.declared.table.View.{View}
-use Rattle.task_cell.specs.declared.cell.Party.{Party}
-use Rattle.task_steps.specs.Deeds.{row, act, after}
-use Rattle.task_steps.specs.Steps.{head_of, leaves_such, saw, saw_ended}
-use Rattle.task_steps.specs.PollScripts.{has_output, has_ended}
-use Rattle.task_cell.specs.Calls.{deeds, GoesWith}
-use Rattle.task_cell.specs.PollPaths.{AnswerPath, waits, has_ended_since, has_output_since, PollPath, finds_output, finds_ended, is_refused, looks_again}
-use Rattle.task_steps.proofs.Seen.{true_left, true_right}
+use Rattle.task_cell.specs.PollPaths.{is_refused, looks_again}
 use Rattle.task_cell.proofs.Moved.{after-append}
 
 -- what was seen before a path has been seen after it
@@ -52,12 +39,7 @@ module _ {A T : Type 0} (cloned : A → Option A → Type 0) (woken woken_by_ref
 
 -- a word cannot be of a task that has ended and that has its output
 pub not_both : {P : Type 0} (w : State) → has_ended w ≡ true → has_output w ≡ true → P
-not_both w e f = by w.closed w.completed (w.scheduled || w.running) e f
-  where
-    by : {P : Type 0} (c d b : Bool) → (c && not b) ≡ true → (d && not c) ≡ true → P
-    by true true b e f = absurd (cc)
-    by true false b e f = absurd (cc)
-    by false d b e f = absurd (cc)
+not_both w e f = absurd (grind arith)
 
 abbrev as_error : State → Result State State
 as_error w = Err w

@@ -1,40 +1,22 @@
 -- The paths of a poll, put together from those of its parts.
-use Rattle.std.proofs.Common.{◌≡◌, ℕ, Bool, true, false, Option, Some, None, List, [], ◌∷◌, ◌++◌, refl, sym, ap, ◌∙◌, subst}
-use Rattle.task_core.specs.Word.{State}
-use Rattle.task_laws.specs.declared.positions.Position.{Position}
-use Rattle.task_laws.specs.declared.positions.NotifyingCall.{NotifyingCall}
-use Rattle.task_laws.specs.declared.positions.NotifyingCall.TheVariants.{OfRun, OfDrop, OfCancel, OfPoll, OfClaim}
-use Rattle.task_laws.specs.declared.positions.Position.TheVariants.{Notifier, AwaiterInHand, TookOutput, Answering}
-use Rattle.task_core.specs.declared.acts.Act.TheVariants.{HandOutOutput, TakeAwaiter, DropAwaiter, WakeAwaiter, EndCall, BeginNotify, MissNotify, EndNotify}
-use Rattle.task_laws.specs.declared.positions.PollAnswer.TheVariants.{IsClosed}
-use Rattle.task_laws.specs.Table.{after_taking as on_from, after_waking, may_drop, notifies}
-use Rattle.task_steps.specs.declared.table.Slot.{Slot}
-use Rattle.task_steps.specs.declared.table.Deed.{Deed}
-use Rattle.task_cell.specs.declared.cell.Party.{Party}
-use Rattle.task_cell.specs.Calls.{Fits, position, holds, StandsWith, Stands, GoesWith, Goes, Notifies, misses, finds_none, takes_awaiter}
-use Rattle.task_steps.specs.Deeds.{row, act}
-use Rattle.task_steps.specs.Standing.{as_task, way_of, poll_number}
-use Rattle.task_steps.specs.Rule.{IsOutput}
-use Rattle.task_steps.specs.Steps.{output_first}
+use Rattle.task_cell.proofs.Vocabulary.{◌≡◌, ℕ, Bool, true, false, Option, Some, None, List, [], ◌∷◌, ◌++◌, refl, sym, ap, ◌∙◌, subst, State, Position, NotifyingCall, OfPoll, OfClaim, Notifier}
+use Rattle.task_cell.proofs.Vocabulary.{AwaiterInHand, TookOutput, Answering, HandOutOutput, TakeAwaiter, DropAwaiter, WakeAwaiter, EndCall, BeginNotify, MissNotify, EndNotify, IsClosed, after_waking}
+use Rattle.task_cell.proofs.Vocabulary.{may_drop, notifies, Slot, Deed, Party, Fits, position, holds, StandsWith, Stands, GoesWith, Goes, Notifies, misses, finds_none, takes_awaiter, row, act}
+use Rattle.task_cell.proofs.Vocabulary.{as_task, way_of, poll_number, IsOutput, output_first, TakePath, TakePathIf, ClaimsOutput, never}
+use Rattle.task_laws.specs.Table.{after_taking as on_from}
 use Rattle.task_cell.specs.PollPaths as paths
-use Rattle.task_cell.specs.PollPaths.{TakePath, TakePathIf, ClaimsOutput}
 use Rattle.task_cell.proofs.Moved.{goes_on, stands, position_is, held_is}
-use Rattle.task_steps.proofs.Bools.{never}
 
 -- the way on of a poll that may drop the awaiter
 some_goes_on : (way : NotifyingCall) (i : ℕ) → may_drop way ≡ true → on_from (Some i) way ≡ AwaiterInHand i way
-some_goes_on OfRun i e = never e
-some_goes_on OfDrop i e = never e
-some_goes_on (OfCancel n) i e = never e
 some_goes_on (OfPoll n) i e = refl
 some_goes_on (OfClaim n) i e = refl
+some_goes_on way i e = never e
 
 none_goes_on : (way : NotifyingCall) → may_drop way ≡ true → on_from None way ≡ after_waking way
-none_goes_on OfRun e = never e
-none_goes_on OfDrop e = never e
-none_goes_on (OfCancel n) e = never e
 none_goes_on (OfPoll n) e = refl
 none_goes_on (OfClaim n) e = refl
+none_goes_on way e = never e
 
 claimed_number : (b : Bool) (i : ℕ) → poll_number (notifies b (OfClaim i)) ≡ i
 claimed_number true i = refl
@@ -107,13 +89,10 @@ module _ {F T A : Type 0} where
           (ap (λ (at : Position). on_from None (way_of at)) (position_is p (Notifier way) held s) ∙ (none_goes_on way e ∙ ap (λ (at : Position). after_waking (way_of at)) (sym (position_is p (Notifier way) held s)))) g,
     )
 
-    nothing_by : (way : NotifyingCall) (held : List (ℕ × Slot F T A)) (p r : Party F T A) (x : Option A) → StandsWith (Notifier way) held p → may_drop way ≡ true → Notifies p r x → x ≡ None → Takes p r
-    nothing_by way held p r None s e (misses w f g) is = took_none way held p r (row MissNotify w ∷ []) s e (paths.misses w f) g
-    nothing_by way held p r None s e (finds_none w v f g) is = took_none way held p r (took w v) s e (paths.finds_none w v f) g
-    nothing_by way held p r (Some a) s e (takes_awaiter w v i b f g) is = absurd (cc)
-
     pub nothing : (way : NotifyingCall) (held : List (ℕ × Slot F T A)) (p r : Party F T A) (x : Option A) → StandsWith (Notifier way) held p → may_drop way ≡ true → Notifies p r x → x ≡ None → Takes p r
-    nothing way held p r x s e n is = nothing_by way held p r x s e n is
+    nothing way held p r None s e (misses w f g) is = took_none way held p r (row MissNotify w ∷ []) s e (paths.misses w f) g
+    nothing way held p r None s e (finds_none w v f g) is = took_none way held p r (took w v) s e (paths.finds_none w v f) g
+    nothing way held p r (Some a) s e (takes_awaiter w v i b f g) is = absurd (cc)
 
   -- a path, and then another whose end goes by where the first one ends
   pub then_goes : (p q r : Party F T A) (a b : List Deed) (at : Position) (held held' : List (ℕ × Slot F T A)) (f : Position → Position) → GoesWith a at held p q → GoesWith b (f (position q)) held' q r → GoesWith (a ++ b) (f at) held' p r

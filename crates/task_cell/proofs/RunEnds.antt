@@ -1,26 +1,13 @@
 -- What the calls that end a run come to, step after step.
-use Rattle.std.proofs.Common.{◌≡◌, ℕ, Bool, true, false, not, ◌&&◌, List, [], ◌∷◌, ◌++◌, ap, ◌∙◌}
-use Rattle.std.specs.Prelude.{nat_lt, ◌||◌}
-use Rattle.task_core.specs.Word.{State}
-use Rattle.task_laws.specs.declared.positions.Rest.TheVariants.{Ended}
-use Rattle.task_laws.specs.declared.positions.NotifyingCall.TheVariants.{OfRun}
-use Rattle.task_laws.specs.declared.positions.OnceDelivered.TheVariants.{ThenEnds}
-use Rattle.task_laws.specs.declared.positions.Position.{Position}
-use Rattle.task_laws.specs.declared.positions.Position.TheVariants.{At, Deliverer, Polling, Pending, Ready, PendingFutureDropped, OutputInHand}
-use Rattle.task_core.specs.declared.acts.Act.TheVariants.{AnswerReady, AnswerPending, DropFuture, StoreOutput, Complete, CompleteDetached, DropOutput, EndClosed, Reschedule, EndIdle, EndOrphaned, HandOver, EndCall}
-use Rattle.task_laws.specs.declared.positions.Answer.TheVariants.{Ran}
-use Rattle.task_laws.specs.Table.{notifies}
-use Rattle.task_steps.specs.declared.table.Slot.{Slot}
-use Rattle.task_steps.specs.declared.table.Deed.{Deed}
-use Rattle.task_cell.specs.declared.cell.Party.{Party}
+use Rattle.task_cell.proofs.Vocabulary.{◌≡◌, ℕ, Bool, true, false, not, ◌&&◌, List, [], ◌∷◌, ◌++◌, ap, ◌∙◌, nat_lt, State, Ended, OfRun, ThenEnds, Position, At, Deliverer, Polling, Pending, Ready}
+use Rattle.task_cell.proofs.Vocabulary.{PendingFutureDropped, OutputInHand, AnswerReady, AnswerPending, DropFuture, StoreOutput, Complete, CompleteDetached, DropOutput, EndClosed, Reschedule, EndIdle}
+use Rattle.task_cell.proofs.Vocabulary.{EndOrphaned, HandOver, EndCall, Ran, notifies, Slot, Deed, Party, Closed, Rescheduled, Idle, Orphaned, IsFuture, future_first, output_first, StandsWith}
+use Rattle.task_cell.proofs.Vocabulary.{GoesWith, Goes, row, act, kept, not_claimed, ready, closed_meanwhile, woken_meanwhile, idle, orphaned, Rests, Completes, keeps, finds_detached, Stores}
+use Rattle.task_cell.proofs.Vocabulary.{ClosesPending, EndsReady, EndsUnready, AnswersPending, stays_pending, clears, EndsPending, is_closed, is_rescheduled, is_idle, is_orphaned, subst}
+use Rattle.std.specs.Prelude.{◌||◌}
 use Rattle.task_steps.specs.declared.words.PendingEnd.{PendingEnd}
-use Rattle.task_steps.specs.declared.words.PendingEnd.TheVariants.{Closed, Rescheduled, Idle, Orphaned}
-use Rattle.task_steps.specs.Rule.{IsFuture}
-use Rattle.task_steps.specs.Steps.{future_first, output_first}
-use Rattle.task_cell.specs.Calls.{StandsWith, GoesWith, Goes}
-use Rattle.task_steps.specs.Deeds.{row, act}
-use Rattle.task_cell.specs.RunPaths.{kept, not_claimed, detached, ready, closed_meanwhile, woken_meanwhile, idle, orphaned}
-use Rattle.task_cell.specs.RunCalls.{Rests, Completes, keeps, finds_closed, finds_detached, Stores, ClosesPending, EndsReady, EndsUnready, AnswersPending, stays_pending, clears, EndsPending, is_closed, is_rescheduled, is_idle, is_orphaned}
+use Rattle.task_cell.specs.RunPaths.{StorePath, detached}
+use Rattle.task_cell.specs.RunCalls.{finds_closed}
 use Rattle.task_cell.proofs.Moved as moved
 
 unkept : (w : State) → w.task ≡ true → w.closed ≡ false → (w.task && not w.closed) ≡ true
@@ -33,10 +20,15 @@ module _ {F T A : Type 0} where
   completes_cell p q w (finds_closed y z h k g) = g.cell
   completes_cell p q w (finds_detached y z h g) = g.cell
 
+  -- an output that nobody will claim
+  unclaimed : (p q : Party F T A) (w : State) → Completes p q w → (w.task && not w.closed) ≡ false
+      → (path : List Deed) × (y : Slot F T A) × (z : Slot F T A) × StorePath w (path ++ act DropOutput ∷ []) × GoesWith path (OutputInHand w.awaiter) (output_first y z []) p q
+  unclaimed p q w (keeps h k g) e = let z = unkept w h k in absurd (cc)
+  unclaimed p q w (finds_closed y z h k g) e = (act DropFuture ∷ act StoreOutput ∷ row Complete w ∷ [], y, z, not_claimed h k, g)
+  unclaimed p q w (finds_detached y z h g) e = (act DropFuture ∷ act StoreOutput ∷ row CompleteDetached w ∷ [], y, z, detached h, g)
+
   pub output_left : (p q : Party F T A) (w : State) → Completes p q w → (w.task && not w.closed) ≡ false → (y : Slot F T A) × (z : Slot F T A) × StandsWith (OutputInHand w.awaiter) (output_first y z []) q
-  output_left p q w (keeps h k g) e = let z = unkept w h k in absurd (cc)
-  output_left p q w (finds_closed y z h k g) e = (y, z, moved.stands p q _ (OutputInHand w.awaiter) (output_first y z []) g)
-  output_left p q w (finds_detached y z h g) e = (y, z, moved.stands p q _ (OutputInHand w.awaiter) (output_first y z []) g)
+  output_left p q w c e = let x = unclaimed p q w c e in (x.1, x.2, moved.stands p q x.0 (OutputInHand w.awaiter) (output_first x.1 x.2 []) x.4)
 
   pub stores_kept : (p q : Party F T A) (w : State) → Completes p q w → (w.task && not w.closed) ≡ true → Stores w p q
   stores_kept p q w (keeps h k g) e = (_, kept h k, g)
@@ -45,19 +37,8 @@ module _ {F T A : Type 0} where
 
   pub stores_dropped : (p q r : Party F T A) (w : State) → Completes p q w → (w.task && not w.closed) ≡ false
       → ((due : Bool) (y z : Slot F T A) → StandsWith (OutputInHand due) (output_first y z []) q → Goes (act DropOutput ∷ []) (notifies due OfRun) q r) → Stores w p r
-  stores_dropped p q r w (keeps h k g) e drops = let z = unkept w h k in absurd (cc)
-  stores_dropped p q r w (finds_closed y z h k g) e drops = (
-    _,
-    not_claimed h k,
-    moved.goes_on p q r (act DropFuture ∷ act StoreOutput ∷ row Complete w ∷ []) (act DropOutput ∷ []) (OutputInHand w.awaiter) (notifies w.awaiter OfRun) (output_first y z []) [] g
-        (drops w.awaiter y z (moved.stands p q (act DropFuture ∷ act StoreOutput ∷ row Complete w ∷ []) (OutputInHand w.awaiter) (output_first y z []) g)),
-  )
-  stores_dropped p q r w (finds_detached y z h g) e drops = (
-    _,
-    detached h,
-    moved.goes_on p q r (act DropFuture ∷ act StoreOutput ∷ row CompleteDetached w ∷ []) (act DropOutput ∷ []) (OutputInHand w.awaiter) (notifies w.awaiter OfRun) (output_first y z []) [] g
-        (drops w.awaiter y z (moved.stands p q (act DropFuture ∷ act StoreOutput ∷ row CompleteDetached w ∷ []) (OutputInHand w.awaiter) (output_first y z []) g)),
-  )
+  stores_dropped p q r w c e drops = let x = unclaimed p q w c e in
+      (x.0 ++ act DropOutput ∷ [], x.3, moved.goes_on p q r x.0 (act DropOutput ∷ []) (OutputInHand w.awaiter) (notifies w.awaiter OfRun) (output_first x.1 x.2 []) [] x.4 (drops w.awaiter x.1 x.2 (moved.stands p q x.0 (OutputInHand w.awaiter) (output_first x.1 x.2 []) x.4)))
 
   pub ready_rest : (Woken : Type 0) (w : State) (held cleared : List (ℕ × Slot F T A)) (p q r s t : Party F T A) → GoesWith (act AnswerReady ∷ []) Ready held p q → GoesWith [] Ready cleared q r → Stores w r s → Rests Woken w.awaiter s t → EndsReady Woken p t
   ready_rest Woken w held cleared p q r s t f g x z = (
@@ -79,14 +60,6 @@ module _ {F T A : Type 0} where
         (moved.goes_on q r s (row EndClosed w ∷ []) x.0 (notifies w.awaiter OfRun) (At Ended) [] [] h.1 x.2),
   )
 
-  pending_clears : (held : List (ℕ × Slot F T A)) (p q : Party F T A) (b : Bool) → AnswersPending held p q b → b ≡ true → GoesWith (act AnswerPending ∷ act DropFuture ∷ []) PendingFutureDropped held p q
-  pending_clears held p q true (clears g) e = g
-  pending_clears held p q false (stays_pending g) e = absurd (cc)
-
-  pending_stays : (held : List (ℕ × Slot F T A)) (p q : Party F T A) (b : Bool) → AnswersPending held p q b → b ≡ false → GoesWith (act AnswerPending ∷ []) Pending held p q
-  pending_stays held p q true (clears g) e = absurd (cc)
-  pending_stays held p q false (stays_pending g) e = g
-
   -- after a poll that answered Pending, by how the run ends
   abbrev pub IsRescheduled : Party F T A → Party F T A → Type 0
   IsRescheduled p q = (w : State) × (w.closed ≡ false) × (w.scheduled ≡ true) × Goes (act AnswerPending ∷ row Reschedule w ∷ []) (Deliverer true (ThenEnds (Ran true))) p q
@@ -96,32 +69,6 @@ module _ {F T A : Type 0} where
 
   abbrev pub IsOrphaned : Party F T A → Party F T A → Type 0
   IsOrphaned p q = (w : State) × (w.closed ≡ false) × (w.scheduled ≡ false) × ((nat_lt 1 w.references || w.task) ≡ false) × Goes (act AnswerPending ∷ row EndOrphaned w ∷ []) (Deliverer false (ThenEnds (Ran false))) p q
-
-  closed_left : (held : List (ℕ × Slot F T A)) (p q : Party F T A) (e : PendingEnd) → EndsPending held p q e → e ≡ Closed → GoesWith (act DropFuture ∷ []) PendingFutureDropped held p q
-  closed_left held p q e (is_closed g) h = g
-  closed_left held p q e (is_rescheduled w a b g) h = absurd (cc)
-  closed_left held p q e (is_idle w a b d g) h = absurd (cc)
-  closed_left held p q e (is_orphaned w a b d g) h = absurd (cc)
-
-  rescheduled_left : (held : List (ℕ × Slot F T A)) (p q : Party F T A) (e : PendingEnd) → EndsPending held p q e → e ≡ Rescheduled → (w : State) × (w.closed ≡ false) × (w.scheduled ≡ true) × Goes (row Reschedule w ∷ []) (Deliverer true (ThenEnds (Ran true))) p q
-  rescheduled_left held p q e (is_closed g) h = absurd (cc)
-  rescheduled_left held p q e (is_rescheduled w a b g) h = (w, a, b, g)
-  rescheduled_left held p q e (is_idle w a b d g) h = absurd (cc)
-  rescheduled_left held p q e (is_orphaned w a b d g) h = absurd (cc)
-
-  idle_left : (held : List (ℕ × Slot F T A)) (p q : Party F T A) (e : PendingEnd) → EndsPending held p q e → e ≡ Idle
-      → (w : State) × (w.closed ≡ false) × (w.scheduled ≡ false) × ((nat_lt 1 w.references || w.task) ≡ true) × Goes (row EndIdle w ∷ act EndCall ∷ []) (At Ended) p q
-  idle_left held p q e (is_closed g) h = absurd (cc)
-  idle_left held p q e (is_rescheduled w a b g) h = absurd (cc)
-  idle_left held p q e (is_idle w a b d g) h = (w, a, b, d, g)
-  idle_left held p q e (is_orphaned w a b d g) h = absurd (cc)
-
-  orphan_left : (held : List (ℕ × Slot F T A)) (p q : Party F T A) (e : PendingEnd) → EndsPending held p q e → e ≡ Orphaned
-      → (w : State) × (w.closed ≡ false) × (w.scheduled ≡ false) × ((nat_lt 1 w.references || w.task) ≡ false) × Goes (row EndOrphaned w ∷ []) (Deliverer false (ThenEnds (Ran false))) p q
-  orphan_left held p q e (is_closed g) h = absurd (cc)
-  orphan_left held p q e (is_rescheduled w a b g) h = absurd (cc)
-  orphan_left held p q e (is_idle w a b d g) h = absurd (cc)
-  orphan_left held p q e (is_orphaned w a b d g) h = (w, a, b, d, g)
 
   -- a run that polls, and what the two steps tell that follow a poll which answered Pending
   abbrev pub IsPolling : Party F T A → Type 0
@@ -135,34 +82,43 @@ module _ {F T A : Type 0} where
 
   -- the task was found closed, or not
   pub cleared_first : (p q : Party F T A) (b : Bool) (s : IsPolling p) → Answers p q b → b ≡ true → GoesWith (act AnswerPending ∷ act DropFuture ∷ []) PendingFutureDropped (future_first s.0 s.1 []) p q
-  cleared_first p q b s f h = pending_clears (future_first s.0 s.1 []) p q b (f (future_first s.0 s.1 []) s.2) h
+  cleared_first p q b s f h = by (subst (λ b. AnswersPending (future_first s.0 s.1 []) p q b) h (f (future_first s.0 s.1 []) s.2))
+    where
+      by : AnswersPending (future_first s.0 s.1 []) p q true → GoesWith (act AnswerPending ∷ act DropFuture ∷ []) PendingFutureDropped (future_first s.0 s.1 []) p q
+      by (clears g) = g
 
   pub left_pending : (p q : Party F T A) (b : Bool) (s : IsPolling p) → Answers p q b → b ≡ false → GoesWith (act AnswerPending ∷ []) Pending (future_first s.0 s.1 []) p q
-  left_pending p q b s f h = pending_stays (future_first s.0 s.1 []) p q b (f (future_first s.0 s.1 []) s.2) h
+  left_pending p q b s f h = by (subst (λ b. AnswersPending (future_first s.0 s.1 []) p q b) h (f (future_first s.0 s.1 []) s.2))
+    where
+      by : AnswersPending (future_first s.0 s.1 []) p q false → GoesWith (act AnswerPending ∷ []) Pending (future_first s.0 s.1 []) p q
+      by (stays_pending g) = g
 
   -- .. and then how the run ended
   module _ (p q r : Party F T A) (b : Bool) (e : PendingEnd) (s : IsPolling p) (f : Answers p q b) (h : b ≡ false) (g : Ends q r e) where
     first : GoesWith (act AnswerPending ∷ []) Pending (future_first s.0 s.1 []) p q
     first = left_pending p q b s f h
 
-    ended : EndsPending (future_first s.0 s.1 []) q r e
-    ended = g s.0 s.1 (moved.stands p q (act AnswerPending ∷ []) Pending (future_first s.0 s.1 []) first)
+    ended : (x : PendingEnd) → e ≡ x → EndsPending (future_first s.0 s.1 []) q r x
+    ended x is = subst (λ x. EndsPending (future_first s.0 s.1 []) q r x) is (g s.0 s.1 (moved.stands p q (act AnswerPending ∷ []) Pending (future_first s.0 s.1 []) first))
 
     both : (path : List Deed) (at : Position) (held : List (ℕ × Slot F T A)) → GoesWith path at held q r → GoesWith (act AnswerPending ∷ path) at held p r
     both path at held x = moved.goes_on p q r (act AnswerPending ∷ []) path Pending at (future_first s.0 s.1 []) held first x
 
-    pub cleared_later : e ≡ Closed → GoesWith (act AnswerPending ∷ act DropFuture ∷ []) PendingFutureDropped (future_first s.0 s.1 []) p r
-    cleared_later is =
-        both (act DropFuture ∷ []) PendingFutureDropped (future_first s.0 s.1 []) (closed_left (future_first s.0 s.1 []) q r e ended is)
+    -- what each end comes to
+    abbrev pub After : PendingEnd → Type 0
+    After Closed = GoesWith (act AnswerPending ∷ act DropFuture ∷ []) PendingFutureDropped (future_first s.0 s.1 []) p r
+    After Rescheduled = IsRescheduled p r
+    After Idle = IsIdle p r
+    After Orphaned = IsOrphaned p r
 
-    pub went_rescheduled : e ≡ Rescheduled → IsRescheduled p r
-    went_rescheduled is = let x = rescheduled_left (future_first s.0 s.1 []) q r e ended is in (x.0, x.1, x.2, both (row Reschedule x.0 ∷ []) (Deliverer true (ThenEnds (Ran true))) [] x.3)
+    at_end : (x : PendingEnd) → EndsPending (future_first s.0 s.1 []) q r x → After x
+    at_end Closed (is_closed k) = both (act DropFuture ∷ []) PendingFutureDropped (future_first s.0 s.1 []) k
+    at_end Rescheduled (is_rescheduled w a c k) = (w, a, c, both (row Reschedule w ∷ []) (Deliverer true (ThenEnds (Ran true))) [] k)
+    at_end Idle (is_idle w a c d k) = (w, a, c, d, both (row EndIdle w ∷ act EndCall ∷ []) (At Ended) [] k)
+    at_end Orphaned (is_orphaned w a c d k) = (w, a, c, d, both (row EndOrphaned w ∷ []) (Deliverer false (ThenEnds (Ran false))) [] k)
 
-    pub went_idle : e ≡ Idle → IsIdle p r
-    went_idle is = let x = idle_left (future_first s.0 s.1 []) q r e ended is in (x.0, x.1, x.2, x.3, both (row EndIdle x.0 ∷ act EndCall ∷ []) (At Ended) [] x.4)
-
-    pub went_orphaned : e ≡ Orphaned → IsOrphaned p r
-    went_orphaned is = let x = orphan_left (future_first s.0 s.1 []) q r e ended is in (x.0, x.1, x.2, x.3, both (row EndOrphaned x.0 ∷ []) (Deliverer false (ThenEnds (Ran false))) [] x.4)
+    pub by_end : (x : PendingEnd) → e ≡ x → After x
+    by_end x is = at_end x (ended x is)
 
   module _ (Woken : Type 0) (Scheduled : Bool → Type 0) where
     pub found_closed : (held : List (ℕ × Slot F T A)) (p q r : Party F T A) → GoesWith (act AnswerPending ∷ act DropFuture ∷ []) PendingFutureDropped held p q → ClosesPending Woken q r → EndsUnready Woken Scheduled false p r

@@ -1,49 +1,27 @@
 -- What the steps of a run and of a Runnable's drop come to.
-use Rattle.std.proofs.Common.{◌≡◌, ℕ, Bool, true, false, not, ◌||◌, List, [], ◌∷◌, Option, Some, None, refl, sym, ap, ◌∙◌, subst}
-use Rattle.std.specs.Prelude.{if◌then◌else◌, nat_lt, is_some}
-use Rattle.atomic_table.specs.Table.{turned}
-use Rattle.task_core.specs.Word.{State, number_of}
-use Rattle.task_laws.specs.declared.positions.Answer.{Answer}
-use Rattle.task_laws.specs.declared.positions.Answer.TheVariants.{Ran}
-use Rattle.task_laws.specs.declared.positions.Rest.TheVariants.{Runnable, Ended}
-use Rattle.task_laws.specs.declared.positions.NotifyingCall.TheVariants.{OfRun}
-use Rattle.task_laws.specs.declared.positions.OnceDelivered.TheVariants.{ThenEnds}
-use Rattle.task_laws.specs.declared.positions.WithoutPoll.TheVariants.{DroppedRunnable}
-use Rattle.task_laws.specs.declared.positions.Position.{Position}
-use Rattle.task_laws.specs.declared.positions.Position.TheVariants.{At, Deliverer, GivingUp, Emptier, FutureInHand, Polling, Pending, Ready, PendingFutureDropped, OutputInHand}
-use Rattle.task_core.specs.declared.acts.Act.{Act}
-use Rattle.task_core.specs.declared.acts.Act.TheVariants.{GiveUpReference, GiveUpLastReference, EmptySlots, DiscardOpen, DiscardClosed, AnswerReady, AnswerPending, DropFuture, StoreOutput, Complete, CompleteDetached, DropOutput, EndClosed, Reschedule, EndIdle, EndCall, EndOrphaned}
-use Rattle.task_core.specs.Rows.{row as row_of, found, written}
-use Rattle.task_laws.specs.Table.{after_giving_up, notifies}
-use Rattle.task_steps.specs.declared.table.Slot.{Slot}
-use Rattle.task_steps.specs.declared.table.Deed.{Deed}
-use Rattle.task_cell.specs.declared.cell.Party.{Party}
-use Rattle.task_steps.specs.declared.words.PendingEnd.TheVariants.{Rescheduled, Idle, Orphaned}
-use Rattle.task_steps.specs.Rule.{IsFuture, IsOutput}
-use Rattle.task_steps.specs.Steps.{future_first, output_first, Makes, Carried, all_fit}
-use Rattle.task_steps.proofs.Seen.{left_true}
-use Rattle.task_steps.specs.Scripts.{dropping_output}
+use Rattle.task_cell.proofs.Vocabulary.{◌≡◌, ℕ, Bool, true, false, not, ◌||◌, List, [], ◌∷◌, Option, Some, None, refl, sym, ap, ◌∙◌, subst, if◌then◌else◌, nat_lt, turned, State, number_of, Answer}
+use Rattle.task_cell.proofs.Vocabulary.{Ran, Runnable, Ended, OfRun, ThenEnds, DroppedRunnable, Position, At, Deliverer, GivingUp, Emptier, FutureInHand, Polling, Pending, Ready, PendingFutureDropped}
+use Rattle.task_cell.proofs.Vocabulary.{OutputInHand, Act, GiveUpReference, GiveUpLastReference, EmptySlots, DiscardOpen, DiscardClosed, AnswerReady, AnswerPending, DropFuture, StoreOutput, Complete}
+use Rattle.task_cell.proofs.Vocabulary.{CompleteDetached, DropOutput, EndClosed, Reschedule, EndIdle, EndCall, EndOrphaned, found, written, after_giving_up, notifies, Slot, Deed, Party, Rescheduled}
+use Rattle.task_cell.proofs.Vocabulary.{Idle, Orphaned, IsFuture, IsOutput, future_first, output_first, Makes, Carried, all_fit, left_true, dropping_output, StandsWith, Stands, GoesWith, Goes}
+use Rattle.task_cell.proofs.Vocabulary.{limit_of, deeds, row, act, DiscardStart, found_open, found_closed, GivesUp, not_last, last, Releases, Completes, keeps, finds_detached, AnswersPending}
+use Rattle.task_cell.proofs.Vocabulary.{stays_pending, clears, EndsPending, is_rescheduled, is_idle, is_orphaned, ending_of, given_work, given_free, due_work, closed_already, completes, ends_pending}
+use Rattle.task_cell.proofs.Vocabulary.{MayTry, HasEnded, never_ends, Steps, arith}
+use Rattle.std.specs.Prelude.{is_some}
+use Rattle.task_core.specs.Rows.{row as row_of}
 use Rattle.task_steps.specs.RunScripts.{giving_up, emptying, discarding, answering_ready, answering_pending, completing, ending_pending, finding_closed, ending_closed, completed_word, after_pending}
-use Rattle.task_cell.specs.Calls.{StandsWith, Stands, GoesWith, Goes, limit_of, deeds}
-use Rattle.task_steps.specs.Deeds.{row, act}
-use Rattle.task_cell.specs.RunPaths.{leaves_others, leaves_none, DiscardStart, found_open, found_closed}
-use Rattle.task_cell.specs.RunCalls.{GivesUp, not_last, last, Releases, Completes, keeps, finds_closed, finds_detached, AnswersPending, stays_pending, clears, EndsPending, is_rescheduled, is_idle, is_orphaned}
-use Rattle.task_steps.specs.Found.{ending_of}
+use Rattle.task_cell.specs.RunPaths.{leaves_others, leaves_none}
+use Rattle.task_cell.specs.RunCalls.{finds_closed}
+use Rattle.task_steps.proofs.RunOwed.{finds_closed as finds_closed_task}
 use Rattle.task_cell.proofs.Moved as moved
 use Rattle.task_cell.proofs.Carried.{keeps_places, took_awaiter, gave_awaiter, took_work, gave_work}
-use Rattle.task_steps.proofs.RunOwed.{given_work, given_free, due_work, closed_already, completes, ends_pending, finds_closed as finds_closed_task}
-use Rattle.task_steps.specs.Attempts.{MayTry, HasEnded}
-use Rattle.task_steps.proofs.Attempts.{never_ends}
-use Rattle.task_steps.proofs.Advance.{Steps}
 use Rattle.task_cell.proofs.Attempts.{may_at}
 
 some_if : (b : Bool) (x : State) → is_some (if b then Some x else None) ≡ b
-some_if true x = refl
-some_if false x = refl
+some_if b x = grind arith
 
 not_not : (b : Bool) → not (not b) ≡ b
-not_not true = refl
-not_not false = refl
+not_not b = grind arith
 
 -- the row fits exactly where another handle is left
 pub none_left : (w : State) (o : Option State) (b : Bool) → o ≡ row_of 0 GiveUpReference w → is_some o ≡ not b → not (nat_lt 1 w.references || w.task) ≡ b
@@ -55,11 +33,7 @@ alone_fits a limit w e = left_true (found limit a w) true e
 
 -- a run that ends without an output ends on an open task
 pub was_unclosed : (w : State) → is_some (if w.closed then None else Some (after_pending w)) ≡ true → w.closed ≡ false
-was_unclosed w e = by w.closed (after_pending w) e
-  where
-    by : (b : Bool) (v : State) → is_some (if b then None else Some v) ≡ true → b ≡ false
-    by false v e = refl
-    by true v e = absurd (cc)
+was_unclosed w e = grind arith
 
 module _ {F T A : Type 0} where
   pub discarded : (p q : Party F T A) (w : State) → Stands (At Runnable) p → q.seat.table_id ≡ p.seat.table_id → Makes (discarding w) w p.seat.me q.seat.me

@@ -1,29 +1,11 @@
 -- What the calls of a run and of a Runnable's drop come to, step after step.
-use Rattle.std.proofs.Common.{◌≡◌, ℕ, Bool, true, false, List, [], ◌∷◌, ◌++◌, Option, Some, None, refl, sym, ap, ◌∙◌, subst}
-use Rattle.task_core.specs.Word.{State}
+use Rattle.task_cell.proofs.Vocabulary.{◌≡◌, ℕ, Bool, true, false, List, [], ◌∷◌, ◌++◌, Option, Some, None, refl, sym, ap, ◌∙◌, subst, State, Rest, Ended, NotifyingCall, OfRun, OfDrop, OfCancel}
+use Rattle.task_cell.proofs.Vocabulary.{DroppedRunnable, Position, At, CallEnding, Notifier, GivingUp, AwaiterInHand, FutureInHand, EndCall, WakeAwaiter, DropFuture, Unschedule, Answer, Ran, Nothing}
+use Rattle.task_cell.proofs.Vocabulary.{after_taking, after_waking, notifies, Slot, Empty, Deed, Party, IsFuture, future_first, position, holds, StandsWith, Stands, GoesWith, Goes, Notifies, misses}
+use Rattle.task_cell.proofs.Vocabulary.{finds_none, takes_awaiter, row, act, closing_way, way_of, rest_of, none_there, taken, nobody, woken, rests, DiscardStart, closed_run, Releases, TakesDue}
+use Rattle.task_cell.proofs.Vocabulary.{takes_none, takes_one, HasTaken, has_none, has_one, Wakes, Rests, Closes, Discards, is_some, after_giving_up, NotifyPath}
 use Rattle.task_laws.specs.declared.positions.WithoutPoll.{WithoutPoll}
-use Rattle.task_laws.specs.declared.positions.Rest.{Rest}
-use Rattle.task_laws.specs.declared.positions.Rest.TheVariants.{Ended}
-use Rattle.task_laws.specs.declared.positions.NotifyingCall.{NotifyingCall}
-use Rattle.task_laws.specs.declared.positions.NotifyingCall.TheVariants.{OfRun, OfDrop, OfCancel}
-use Rattle.task_laws.specs.declared.positions.WithoutPoll.TheVariants.{DroppedRunnable}
-use Rattle.task_laws.specs.declared.positions.Position.{Position}
-use Rattle.task_laws.specs.declared.positions.Position.TheVariants.{At, CallEnding, Notifier, GivingUp, AwaiterInHand, FutureInHand}
-use Rattle.task_core.specs.declared.acts.Act.TheVariants.{EndCall, WakeAwaiter, DropFuture, Unschedule}
-use Rattle.task_laws.specs.declared.positions.Answer.{Answer}
-use Rattle.task_laws.specs.declared.positions.Answer.TheVariants.{Ran, Nothing}
-use Rattle.task_laws.specs.Table.{after_taking, after_waking, notifies}
-use Rattle.task_steps.specs.declared.table.Slot.{Slot}
-use Rattle.task_steps.specs.declared.table.Slot.TheVariants.{Empty}
-use Rattle.task_steps.specs.declared.table.Deed.{Deed}
-use Rattle.task_cell.specs.declared.cell.Party.{Party}
-use Rattle.task_steps.specs.Rule.{IsFuture}
-use Rattle.task_steps.specs.Steps.{future_first}
-use Rattle.task_cell.specs.Calls.{position, holds, StandsWith, Stands, GoesWith, Goes, Notifies, misses, finds_none, takes_awaiter}
-use Rattle.task_steps.specs.Deeds.{row, act}
-use Rattle.task_steps.specs.Standing.{closing_way, way_of, rest_of}
-use Rattle.task_cell.specs.RunPaths.{missed, none_there, taken, nobody, woken, rests, DiscardStart, discards, closed_run}
-use Rattle.task_cell.specs.RunCalls.{Releases, TakesDue, takes_none, takes_one, HasTaken, has_none, has_one, Wakes, Rests, Closes, Discards}
+use Rattle.task_cell.specs.RunPaths.{missed, discards}
 use Rattle.task_cell.proofs.Moved as moved
 
 module _ {F T A : Type 0} where
@@ -37,32 +19,29 @@ module _ {F T A : Type 0} where
   took_due way p q r s (finds_none w v f g) = takes_none _ (none_there w v f) (at_way way None _ p q s g)
   took_due way p q r s (takes_awaiter w v i a f g) = takes_one i a _ (taken w v f) (at_way way (Some i) _ p q s g)
 
-  pub due_cell : (way : NotifyingCall) (due : Bool) (p q : Party F T A) (r : Option A) → TakesDue way due p q r
-      → q.seat.table_id ≡ p.seat.table_id
-  due_cell way due p q r (takes_none path n g) = g.cell
-  due_cell way due p q r (takes_one i a path n g) = g.cell
+  -- the path of what was taken, and whether an awaiter is in hand after it
+  pub due_path : (way : NotifyingCall) (due : Bool) (p q : Party F T A) (r : Option A) → TakesDue way due p q r
+      → (hand : Option ℕ) × (path : List Deed) × NotifyPath due (is_some r) path × Goes path (after_taking hand way) p q
+  due_path way due p q r (takes_none path n g) = (None, path, n, g)
+  due_path way due p q r (takes_one i a path n g) = (Some i, path, n, g)
 
-  -- an awaiter in hand was woken
-  pub woke : (Woken : Type 0) (way : NotifyingCall) (i : ℕ) (a : A) (p q : Party F T A) → Stands (AwaiterInHand i way) p → Woken → GoesWith (act WakeAwaiter ∷ []) (after_waking (way_of (position p))) (holds p) p q → Wakes Woken way (Some a) p q
-  woke Woken way i a p q s fact g = (
+  pub due_cell : (way : NotifyingCall) (due : Bool) (p q : Party F T A) (r : Option A) → TakesDue way due p q r → q.seat.table_id ≡ p.seat.table_id
+  due_cell way due p q r d = (due_path way due p q r d).3.cell
+
+  -- an awaiter in hand was woken, by what the party has
+  pub wakes_has : (Woken : Type 0) (way : NotifyingCall) (a : A) (r : Option A) (p q : Party F T A) → HasTaken way p r → r ≡ Some a → Woken
+      → GoesWith (act WakeAwaiter ∷ []) (after_waking (way_of (position p))) (holds p) p q → Wakes Woken way r p q
+  wakes_has Woken way a r p q (has_none s) e fact g = absurd (cc)
+  wakes_has Woken way a r p q (has_one i b s) e fact g = (
     act WakeAwaiter ∷ [],
     woken fact,
     subst (λ (z : NotifyingCall × List (ℕ × Slot F T A)). GoesWith (act WakeAwaiter ∷ []) (after_waking z.0) z.1 p q)
         (λ j. (ap way_of (moved.position_is p (AwaiterInHand i way) [] s) j, moved.held_is p (AwaiterInHand i way) [] s j)) g,
   )
 
-  pub woke_nobody : (Woken : Type 0) (way : NotifyingCall) (p : Party F T A) → Stands (after_waking way) p → Wakes Woken way None p p
-  woke_nobody Woken way p s = ([], nobody, record { cell = refl; is = s })
-
-  -- .. by what it has
-  pub wakes_has : (Woken : Type 0) (way : NotifyingCall) (a : A) (r : Option A) (p q : Party F T A) → HasTaken way p r → r ≡ Some a → Woken
-      → GoesWith (act WakeAwaiter ∷ []) (after_waking (way_of (position p))) (holds p) p q → Wakes Woken way r p q
-  wakes_has Woken way a r p q (has_none s) e fact g = absurd (cc)
-  wakes_has Woken way a r p q (has_one i b s) e fact g = woke Woken way i b p q s fact g
-
   pub wakes_none : (Woken : Type 0) (way : NotifyingCall) (r : Option A) (p : Party F T A) → HasTaken way p r → r ≡ None
       → Wakes Woken way r p p
-  wakes_none Woken way r p (has_none s) e = woke_nobody Woken way p s
+  wakes_none Woken way r p (has_none s) e = ([], nobody, record { cell = refl; is = s })
   wakes_none Woken way r p (has_one i b s) e = absurd (cc)
 
   pub has_hand : (way : NotifyingCall) (a : A) (r : Option A) (p : Party F T A) → HasTaken way p r → r ≡ Some a → (i : ℕ) × Stands (AwaiterInHand i way) p
@@ -74,8 +53,7 @@ module _ {F T A : Type 0} where
 
   -- in a run, what was taken is woken after the reference was given up
   pub run_gives_up : (due : Bool) (p q : Party F T A) (r : Option A) → TakesDue OfRun due p q r → (hand : Option ℕ) × Stands (GivingUp hand (Ran false)) q
-  run_gives_up due p q r (takes_none path n g) = (None, moved.stands p q path (GivingUp None (Ran false)) [] g)
-  run_gives_up due p q r (takes_one i a path n g) = (Some i, moved.stands p q path (GivingUp (Some i) (Ran false)) [] g)
+  run_gives_up due p q r d = let n = due_path OfRun due p q r d in (n.0, moved.stands p q n.1 (GivingUp n.0 (Ran false)) [] n.3)
 
   abbrev pub Released : Party F T A → Party F T A → Type 0
   Released q r = (hand : Option ℕ) (answer : Answer) → Stands (GivingUp hand answer) q → Releases hand answer q r
@@ -86,19 +64,12 @@ module _ {F T A : Type 0} where
 
   pub rested : (Woken : Type 0) (due : Bool) (p q q' s t : Party F T A) (r : Option A) → TakesDue OfRun due p q r → Released q q' → ((way : NotifyingCall) → HasTaken way q' r → Wakes Woken way r q' s)
       → (Stands (CallEnding (Ran false) Ended) s → Goes (act EndCall ∷ []) (At Ended) s t) → Rests Woken due p t
-  rested Woken due p q q' s t r (takes_none n np g) rel wake ends = let x = rel None (Ran false) (moved.stands p q n (GivingUp None (Ran false)) [] g) in
-      let k = wake OfRun (has_none (moved.stands q q' x.0 (CallEnding (Ran false) Ended) [] x.2)) in let z = ends (moved.stands q' s k.0 (CallEnding (Ran false) Ended) [] k.2) in (
-        n ++ (x.0 ++ (k.0 ++ act EndCall ∷ [])),
-        rests due false n x.0 k.0 np x.1 k.1,
-        moved.goes_on p q t n (x.0 ++ (k.0 ++ act EndCall ∷ [])) (GivingUp None (Ran false)) (At Ended) [] [] g
-            (moved.goes_on q q' t x.0 (k.0 ++ act EndCall ∷ []) (CallEnding (Ran false) Ended) (At Ended) [] [] x.2 (moved.goes_on q' s t k.0 (act EndCall ∷ []) (CallEnding (Ran false) Ended) (At Ended) [] [] k.2 z)),
-      )
-  rested Woken due p q q' s t r (takes_one i a n np g) rel wake ends = let x = rel (Some i) (Ran false) (moved.stands p q n (GivingUp (Some i) (Ran false)) [] g) in
-      let k = wake OfRun (has_one i a (moved.stands q q' x.0 (AwaiterInHand i OfRun) [] x.2)) in let z = ends (moved.stands q' s k.0 (CallEnding (Ran false) Ended) [] k.2) in (
-        n ++ (x.0 ++ (k.0 ++ act EndCall ∷ [])),
-        rests due true n x.0 k.0 np x.1 k.1,
-        moved.goes_on p q t n (x.0 ++ (k.0 ++ act EndCall ∷ [])) (GivingUp (Some i) (Ran false)) (At Ended) [] [] g
-            (moved.goes_on q q' t x.0 (k.0 ++ act EndCall ∷ []) (AwaiterInHand i OfRun) (At Ended) [] [] x.2 (moved.goes_on q' s t k.0 (act EndCall ∷ []) (CallEnding (Ran false) Ended) (At Ended) [] [] k.2 z)),
+  rested Woken due p q q' s t r d rel wake ends = let n = due_path OfRun due p q r d in let x = rel n.0 (Ran false) (moved.stands p q n.1 (GivingUp n.0 (Ran false)) [] n.3) in
+      let k = wake OfRun (run_has due p q q' r d rel) in let z = ends (moved.stands q' s k.0 (CallEnding (Ran false) Ended) [] k.2) in (
+        n.1 ++ (x.0 ++ (k.0 ++ act EndCall ∷ [])),
+        rests due (is_some r) n.1 x.0 k.0 n.2 x.1 k.1,
+        moved.goes_on p q t n.1 (x.0 ++ (k.0 ++ act EndCall ∷ [])) (GivingUp n.0 (Ran false)) (At Ended) [] [] n.3
+            (moved.goes_on q q' t x.0 (k.0 ++ act EndCall ∷ []) (after_giving_up n.0 (Ran false)) (At Ended) [] [] x.2 (moved.goes_on q' s t k.0 (act EndCall ∷ []) (CallEnding (Ran false) Ended) (At Ended) [] [] k.2 z)),
       )
 
   -- where the awaiter is in hand as soon as it was taken
@@ -111,18 +82,11 @@ module _ {F T A : Type 0} where
 
   discard_rest : (Woken : Type 0) (d : Deed) (w : State) (p o q s t u : Party F T A) (r : Option A) → DiscardStart d → Goes (d ∷ act DropFuture ∷ row Unschedule w ∷ []) (notifies w.awaiter OfDrop) p o → TakesDue OfDrop w.awaiter o q r
       → Wakes Woken OfDrop r q s → Releases None Nothing s t → Goes (act EndCall ∷ []) (At Ended) t u → Discards Woken p u
-  discard_rest Woken d w p o q s t u r start f (takes_none n np g) k x z = (
-    d ∷ act DropFuture ∷ row Unschedule w ∷ (n ++ (k.0 ++ (x.0 ++ act EndCall ∷ []))),
-    discards d w false n k.0 x.0 start np k.1 x.1,
-    moved.goes_on p o u (d ∷ act DropFuture ∷ row Unschedule w ∷ []) (n ++ (k.0 ++ (x.0 ++ act EndCall ∷ []))) (notifies w.awaiter OfDrop) (At Ended) [] [] f
-        (moved.goes_on o q u n (k.0 ++ (x.0 ++ act EndCall ∷ [])) (GivingUp None Nothing) (At Ended) [] [] g
-        (moved.goes_on q s u k.0 (x.0 ++ act EndCall ∷ []) (GivingUp None Nothing) (At Ended) [] [] k.2 (moved.goes_on s t u x.0 (act EndCall ∷ []) (CallEnding Nothing Ended) (At Ended) [] [] x.2 z))),
-  )
-  discard_rest Woken d w p o q s t u r start f (takes_one i a n np g) k x z = (
-    d ∷ act DropFuture ∷ row Unschedule w ∷ (n ++ (k.0 ++ (x.0 ++ act EndCall ∷ []))),
-    discards d w true n k.0 x.0 start np k.1 x.1,
-    moved.goes_on p o u (d ∷ act DropFuture ∷ row Unschedule w ∷ []) (n ++ (k.0 ++ (x.0 ++ act EndCall ∷ []))) (notifies w.awaiter OfDrop) (At Ended) [] [] f
-        (moved.goes_on o q u n (k.0 ++ (x.0 ++ act EndCall ∷ [])) (AwaiterInHand i OfDrop) (At Ended) [] [] g
+  discard_rest Woken d w p o q s t u r start f took k x z = let n = due_path OfDrop w.awaiter o q r took in (
+    d ∷ act DropFuture ∷ row Unschedule w ∷ (n.1 ++ (k.0 ++ (x.0 ++ act EndCall ∷ []))),
+    discards d w (is_some r) n.1 k.0 x.0 start n.2 k.1 x.1,
+    moved.goes_on p o u (d ∷ act DropFuture ∷ row Unschedule w ∷ []) (n.1 ++ (k.0 ++ (x.0 ++ act EndCall ∷ []))) (notifies w.awaiter OfDrop) (At Ended) [] [] f
+        (moved.goes_on o q u n.1 (k.0 ++ (x.0 ++ act EndCall ∷ [])) (after_taking n.0 OfDrop) (At Ended) [] [] n.3
         (moved.goes_on q s u k.0 (x.0 ++ act EndCall ∷ []) (GivingUp None Nothing) (At Ended) [] [] k.2 (moved.goes_on s t u x.0 (act EndCall ∷ []) (CallEnding Nothing Ended) (At Ended) [] [] x.2 z))),
   )
 
@@ -133,10 +97,6 @@ module _ {F T A : Type 0} where
       (subst (λ (z : NotifyingCall). Goes (act DropFuture ∷ row Unschedule w ∷ []) (notifies w.awaiter z) q r)
       (ap closing_way (moved.position_is q (FutureInHand closer) held (moved.stands p q [] (FutureInHand closer) held g))) h)
 
-  discard_first : (d : Deed) (w : State) (held cleared : List (ℕ × Slot F T A)) (p q r s : Party F T A) → GoesWith (d ∷ []) (FutureInHand DroppedRunnable) held p q → GoesWith [] (FutureInHand DroppedRunnable) cleared q r
-      → Goes (act DropFuture ∷ row Unschedule w ∷ []) (notifies w.awaiter (closing_way (position r))) r s → Goes (d ∷ act DropFuture ∷ row Unschedule w ∷ []) (notifies w.awaiter OfDrop) p s
-  discard_first d w held cleared p q r s f g h = moved.goes_on p q s (d ∷ []) (act DropFuture ∷ row Unschedule w ∷ []) (FutureInHand DroppedRunnable) (notifies w.awaiter OfDrop) held [] f (unscheduled DroppedRunnable w cleared q r s g h)
-
   -- a Runnable's drop from p, step after step: to a and b by the drop of the future, to o with SCHEDULED cleared
   module _ (p a b : Party F T A) (start : (d : Deed) × (y : Slot F T A) × (z : Slot F T A) × DiscardStart d × GoesWith (d ∷ []) (FutureInHand DroppedRunnable) (future_first y z []) p a × IsFuture y)
       (clear : (at : Position) (y : Slot F T A) (held : List (ℕ × Slot F T A)) → StandsWith at ((0, y) ∷ held) a → GoesWith [] at ((0, Empty) ∷ held) a b) where
@@ -145,7 +105,8 @@ module _ {F T A : Type 0} where
 
     module _ (o : Party F T A) (w : State) (unschedule : Goes (act DropFuture ∷ row Unschedule w ∷ []) (notifies w.awaiter (closing_way (position b))) b o) (due : Bool) (is : due ≡ w.awaiter) where
       pub drop_closes : Goes (start.0 ∷ act DropFuture ∷ row Unschedule w ∷ []) (notifies w.awaiter OfDrop) p o
-      drop_closes = discard_first start.0 w (future_first start.1 start.2 []) (future_first Empty start.2 []) p a b o start.4 drop_clears unschedule
+      drop_closes = moved.goes_on p a o (start.0 ∷ []) (act DropFuture ∷ row Unschedule w ∷ []) (FutureInHand DroppedRunnable) (notifies w.awaiter OfDrop) (future_first start.1 start.2 []) [] start.4
+          (unscheduled DroppedRunnable w (future_first Empty start.2 []) a b o drop_clears unschedule)
 
       pub drop_notifies : Stands (notifies due OfDrop) o
       drop_notifies = subst (λ h. Stands (notifies h OfDrop) o) (sym is) (moved.stands p o (start.0 ∷ act DropFuture ∷ row Unschedule w ∷ []) (notifies w.awaiter OfDrop) [] drop_closes)

@@ -1,24 +1,10 @@
 -- The parts of a run, put together.
-use Rattle.std.proofs.Common.{◌≡◌, ℕ, Bool, true, false, List, [], ◌∷◌, sym, ap, ◌∙◌, subst}
-use Rattle.atomic_table.specs.Table.{Me}
-use Rattle.task_core.specs.Word.{State}
-use Rattle.task_laws.specs.declared.positions.Position.TheVariants.{FutureInHand, Polling}
-use Rattle.task_laws.specs.declared.positions.WithoutPoll.TheVariants.{ClosedRun}
-use Rattle.task_core.specs.declared.acts.Act.TheVariants.{TakeUpClosed, StartRun, StartPoll}
+use Rattle.task_cell.proofs.Vocabulary.{◌≡◌, ℕ, Bool, true, false, List, [], ◌∷◌, ap, ◌∙◌, subst, Me, State, FutureInHand, Polling, ClosedRun, TakeUpClosed, StartRun, StartPoll, Slot, Deed, View}
+use Rattle.task_cell.proofs.Vocabulary.{Party, member, view, IsFuture, head_of, future_first, deeds, limit_of, StandsWith, GoesWith, Goes, row, act, as_ended, TakesUp, finds_closed, starts, RunPath}
+use Rattle.task_cell.proofs.Vocabulary.{Closes, EndsReady, EndsUnready}
 use Rattle.task_core.specs.declared.traits.Poll.{Poll}
 use Rattle.task_core.specs.declared.traits.Poll.TheVariants.{Pending as Unready, Ready as Answered}
-use Rattle.task_steps.specs.declared.table.Slot.{Slot}
-use Rattle.task_steps.specs.declared.table.Deed.{Deed}
-use Rattle.task_steps.specs.declared.table.View.{View}
-use Rattle.task_cell.specs.declared.cell.Party.{Party}
-use Rattle.task_steps.specs.Rule.{member, view, IsFuture}
-use Rattle.task_steps.specs.Steps.{head_of, future_first}
-use Rattle.task_cell.specs.Calls.{deeds, limit_of, StandsWith, GoesWith, Goes}
-use Rattle.task_steps.specs.Deeds.{row, act}
-use Rattle.task_steps.specs.Standing.{as_ended}
-use Rattle.task_cell.specs.Starts.{TakesUp, finds_closed, starts}
-use Rattle.task_cell.specs.RunPaths.{RunPath, finds_closed as closed_path, answers_ready, answers_pending}
-use Rattle.task_cell.specs.RunCalls.{Closes, EndsReady, EndsUnready}
+use Rattle.task_cell.specs.RunPaths.{finds_closed as closed_path, answers_ready, answers_pending}
 use Rattle.task_cell.proofs.Moved as moved
 
 module _ {F T A : Type 0} where
@@ -47,20 +33,13 @@ module _ {F T A : Type 0} where
   started p q b (finds_closed w y z e f g) is = absurd (cc)
   started p q b (starts w y z e f g) is = record { word = w; place = y; other = z; unclosed = e; future = f; goes = g }
 
-  pub polls_there : (p q : Party F T A) (s : Started p q) → StandsWith Polling (future_first s.place s.other []) q
-  polls_there p q s = s.goes.is ∙ ap (λ (z : ℕ × List Deed). (view z.0 (member Polling z.1 ∷ []), future_first s.place s.other []))
-      (λ i. (sym (ap (λ (m : Me (Slot F T A) View). m.0.limit) s.goes.is) i, sym (ap (λ (m : Me (Slot F T A) View). (head_of m.0.members).deeds) s.goes.is) i))
-
-  pub limit_started : (p q : Party F T A) → Started p q → limit_of q ≡ limit_of p
-  limit_started p q s = ap (λ (m : Me (Slot F T A) View). m.0.limit) s.goes.is
-
   -- after its poll
   polled : (p q r : Party F T A) (s : Started p q) (held : List (ℕ × Slot F T A)) → r.seat.table_id ≡ q.seat.table_id → limit_of r ≡ limit_of q → deeds r ≡ deeds q → StandsWith Polling held r
       → GoesWith (row StartRun s.word ∷ act StartPoll ∷ []) Polling held p r
   polled p q r s held cell limit did stands = record {
     cell = cell ∙ s.goes.cell;
     is = stands ∙ ap (λ (z : ℕ × List Deed). (view z.0 (member Polling z.1 ∷ []), held))
-        (λ i. ((limit ∙ limit_started p q s) i, (did ∙ ap (λ (m : Me (Slot F T A) View). (head_of m.0.members).deeds) s.goes.is) i));
+        (λ i. ((limit ∙ moved.limit_is p q _ _ _ s.goes) i, (did ∙ ap (λ (m : Me (Slot F T A) View). (head_of m.0.members).deeds) s.goes.is) i));
   }
 
   module _ {O : Type 0} (Polled : Poll O → Type 0) (Woken : Type 0) (Scheduled : Bool → Type 0) where

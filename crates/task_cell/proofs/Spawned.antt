@@ -1,33 +1,18 @@
 -- The rule at the spawn and at the end.
-use Rattle.std.proofs.Common.{◌≡◌, ℕ, zero, suc, ◌<◌, ◌≢◌, Bool, true, false, List, [], ◌∷◌, ◌++◌, length, get_or, set, sym, refl, ap, ◌∙◌, subst, inr, ⊎_elim, arith, length-set, get_or-set_same}
-use mathlib.Core.Option.{some, none, some-injective, some-ne-none}
+use Rattle.task_cell.proofs.Vocabulary.{◌≡◌, ℕ, zero, suc, ◌<◌, ◌≢◌, Bool, true, false, List, [], ◌∷◌, ◌++◌, length, get_or, set, sym, refl, ap, ◌∙◌, subst, inr, ⊎_elim, arith, length-set}
+use Rattle.task_cell.proofs.Vocabulary.{get_or-set_same, some, none, some-injective, some-ne-none, Me, gives, stepped, carried_after, rest, Valid, Allows, Splits, Final, Seen, number_of, Position, At}
+use Rattle.task_cell.proofs.Vocabulary.{Runnable, Task, Slot, Member, View, Party, member, view, fresh, laid_view, filling_view, opening_view, IsFuture, IsEmpty, AtHome, opening_at, Explains, Running}
+use Rattle.task_cell.proofs.Vocabulary.{RuleHolds, head_of, deeds, StandsWith, IsLastWord, law, leaves, retold, staged_more, first_more, never}
 use mathlib.Core.Logic.{dite}
 use native.Mathlib.Decide.{ℕ_discrete}
 use lib.ListN.{get_elem?}
-use Rattle.atomic_table.specs.Table.{State as Board, Me, Act, takes, gives, stepped, carried_after, rest, Valid, Allows, Splits, Final, Seen}
-use Rattle.atomic_table.proofs.Lists as lists
-use Rattle.task_core.specs.Word.{number_of}
-use Rattle.task_laws.specs.declared.positions.Position.{Position}
-use Rattle.task_laws.specs.declared.positions.Position.TheVariants.{At}
-use Rattle.task_laws.specs.declared.positions.Rest.TheVariants.{Runnable, Task}
+use Rattle.atomic_table.specs.Table.{State as Board, Act, takes}
 use Rattle.task_laws.proofs.Theorem.{laws_of}
-use Rattle.task_steps.specs.declared.table.Slot.{Slot}
-use Rattle.task_steps.specs.declared.table.Member.{Member}
 use Rattle.task_steps.specs.declared.table.Stage.{Stage}
 use Rattle.task_steps.specs.declared.table.Stage.TheVariants.{Laid, Filling, Spawned}
-use Rattle.task_steps.specs.declared.table.View.{View}
-use Rattle.task_cell.specs.declared.cell.Party.{Party}
-use Rattle.task_steps.specs.Rule.{member, view, fresh, laid_view, filling_view, opening_view, IsFuture, IsEmpty, AtHome, opening_at, Explains, Running, RuleHolds}
-use Rattle.task_steps.specs.Steps.{head_of}
-use Rattle.task_cell.specs.Calls.{deeds, StandsWith}
-use Rattle.task_cell.specs.LastWord.{IsLastWord}
 use Rattle.task_steps.specs.Spawns.{opening_runnable, opening_task}
 use Rattle.task_steps.proofs.Explains.{inside, runs, regroups}
-use Rattle.task_steps.proofs.Facts.{law}
-use Rattle.task_steps.proofs.Seats.{leaves, retold, staged_more, first_more}
-
-never : true ≡ false → ⊥
-never e = cc
+use Rattle.atomic_table.proofs.Lists as lists
 
 module _ (F T A : Type 0) (limit : ℕ) where
   abbrev B : Type 0
@@ -52,7 +37,7 @@ module _ (F T A : Type 0) (limit : ℕ) where
   early s run id v ne at = by run.filled refl
     where
       by : (b : Bool) → run.filled ≡ b → Early s run id v
-      by true is = absurd (ne (run.staged id v (λ z. absurd (never (sym is ∙ z))) at))
+      by true is = absurd (ne (run.staged id v (λ z. never (sym z ∙ is)) at))
       by false is = dite (ℕ_discrete id 0)
           (λ e. record { early = is; first = e; stage = ap (λ (w : View). w.stage) (some-injective (opening_at (run.unfilled is).stage limit) v (sym (run.unfilled is).first ∙ (ap (λ (k : ℕ). get_elem? s.views k) (sym e) ∙ at))) })
           (λ e. absurd (ne (run.staged id v (λ z. e) at)))

@@ -1,29 +1,12 @@
 -- How a run takes a Runnable up.
-use Rattle.std.proofs.Common.{◌≡◌, ℕ, Bool, true, false, not, Some, None, List, [], ◌∷◌, refl, sym, ap, ◌∙◌, inr, is_some}
-use Rattle.task_core.specs.Word.{State, number_of}
-use Rattle.task_laws.specs.Event.{TakenUp, FuturePollBegins}
-use Rattle.task_laws.specs.declared.positions.Position.TheVariants.{At, FutureInHand, Starting, Polling}
-use Rattle.task_laws.specs.declared.positions.Rest.TheVariants.{Runnable}
-use Rattle.task_laws.specs.declared.positions.WithoutPoll.TheVariants.{ClosedRun}
-use Rattle.task_core.specs.declared.acts.Act.TheVariants.{TakeUpClosed, StartRun, StartPoll}
-use Rattle.task_core.specs.Rows.{written, row}
-use Rattle.task_laws.specs.Table.{Outcome, leaves_slots}
-use Rattle.task_laws.specs.Machine.{Machine, scene}
-use Rattle.task_steps.specs.declared.table.Slot.{Slot}
-use Rattle.task_steps.specs.declared.table.Deed.{Deed}
-use Rattle.task_cell.specs.declared.cell.Party.{Party}
-use Rattle.task_cell.specs.Calls.{Stands, deeds}
+use Rattle.task_cell.proofs.Vocabulary.{◌≡◌, ℕ, true, false, not, Some, List, [], ◌∷◌, refl, sym, ap, ◌∙◌, inr, is_some, State, number_of, TakenUp, FuturePollBegins, At, FutureInHand, Starting}
+use Rattle.task_cell.proofs.Vocabulary.{Polling, Runnable, ClosedRun, TakeUpClosed, StartRun, StartPoll, written, Outcome, leaves_slots, Machine, scene, Slot, Deed, Party, Stands, deeds, TakesUp}
+use Rattle.task_cell.proofs.Vocabulary.{finds_closed, starts, queued, leads_found, row_found, Finds, takes_future, Steps, OwesEnd, MayTry, HasChanged, HasEnded, not_true}
+use Rattle.task_core.specs.Rows.{row}
 use Rattle.task_steps.specs.StartScripts.{taking_up_closed, starting_run}
-use Rattle.task_cell.specs.Starts.{TakesUp, finds_closed, starts}
 use Rattle.task_steps.proofs.Numbers.{same_word}
-use Rattle.task_steps.proofs.Facts.{queued}
-use Rattle.task_steps.proofs.Acts.{leads_found, row_found}
-use Rattle.task_steps.proofs.Advance.{Finds, takes_future, Steps}
 use Rattle.task_cell.proofs.Moved.{moved}
-use Rattle.std.specs.Prelude.{if◌then◌else◌}
-use Rattle.task_steps.proofs.Allowed.{OwesEnd}
-use Rattle.task_steps.specs.Attempts.{MayTry, HasChanged, HasEnded}
-use Rattle.task_cell.proofs.Attempts.{may_at}
+use Rattle.task_cell.proofs.Attempts.{written_if, may_at}
 
 module _ (F T A : Type 0) (limit : ℕ) where
   takes_up_closed : (ds : List Deed) (l : List (ℕ × Slot F T A)) → OwesEnd F T A limit (λ w. w.closed) taking_up_closed (At Runnable) ds [] l
@@ -53,11 +36,7 @@ module _ (F T A : Type 0) (limit : ℕ) where
       (λ w v e m f here. starts_run (deeds p) [] w v (number_of w) (number_of v) (sym e) refl refl m f here) (takes_up_closed (deeds p) [])
 
 open_word : (w : State) → is_some (row 0 StartRun w) ≡ true → w.closed ≡ false
-open_word w e = not_closed w.closed (written StartRun w) e
-  where
-    not_closed : (b : Bool) (v : State) → is_some (if not b then Some v else None) ≡ true → b ≡ false
-    not_closed true v e = absurd (cc)
-    not_closed false v e = refl
+open_word w e = not_true w.closed (written_if (not w.closed) (written StartRun w) e)
 
 module _ {F T A : Type 0} where
   pub found_closed : (limit : ℕ) (w : State) (p q : Party F T A) → Stands (At Runnable) p → q.seat.table_id ≡ p.seat.table_id → HasEnded limit (λ _ w. w.closed) taking_up_closed w p.seat.me q.seat.me → TakesUp p q false

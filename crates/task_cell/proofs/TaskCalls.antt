@@ -1,26 +1,14 @@
 -- A cancel and a detach, put together from their steps.
-use Rattle.std.proofs.Common.{◌≡◌, ℕ, Bool, true, false, List, [], ◌∷◌, ◌++◌, Option, None, refl, sym, subst}
-use Rattle.task_core.specs.Word.{State}
-use Rattle.task_laws.specs.declared.positions.Answer.{Answer}
-use Rattle.task_laws.specs.declared.positions.Answer.TheVariants.{Nothing}
-use Rattle.task_laws.specs.declared.positions.Position.TheVariants.{Deliverer, Emptier, OutputCloser, CallEnding}
-use Rattle.task_laws.specs.declared.positions.Rest.TheVariants.{Ended}
-use Rattle.task_laws.specs.declared.positions.NotifyingCall.TheVariants.{OfCancel}
+use Rattle.task_cell.proofs.Vocabulary.{◌≡◌, ℕ, Bool, true, false, List, [], ◌∷◌, ◌++◌, Option, None, refl, sym, subst, State, Answer, Nothing, Deliverer, Emptier, OutputCloser, CallEnding, Ended}
+use Rattle.task_cell.proofs.Vocabulary.{OfCancel, ThenEnds, CancelOver, CancelBusy, CancelIdle, GiveUpOutput, DropOutput, DetachOrphan, DetachLast, Detach, EmptySlots, EndCall, HandOver, notifies}
+use Rattle.task_cell.proofs.Vocabulary.{after_cancelling, after_handing_over, after_giving_up, Slot, Deed, Party, Over, Busy, Unclaimed, output_first, Fits, position, StandsWith, Stands, GoesWith}
+use Rattle.task_cell.proofs.Vocabulary.{Goes, row, act, as_task, as_ended, handed_over, rest_of, Notice, CancelPath, is_busy, DetachPath, drops_output_last, is_shared, is_last, Cancels, Detaches}
+use Rattle.task_cell.proofs.Vocabulary.{GivesTaskUp}
 use Rattle.task_laws.specs.declared.positions.OnceDelivered.{OnceDelivered}
-use Rattle.task_laws.specs.declared.positions.OnceDelivered.TheVariants.{ThenEnds}
-use Rattle.task_core.specs.declared.acts.Act.TheVariants.{CancelOver, CancelBusy, CancelIdle, GiveUpOutput, DropOutput, DetachOrphan, DetachLast, Detach, EmptySlots, EndCall, HandOver}
-use Rattle.task_laws.specs.Table.{notifies, after_cancelling, after_handing_over, after_giving_up}
-use Rattle.task_steps.specs.declared.table.Slot.{Slot}
-use Rattle.task_steps.specs.declared.table.Deed.{Deed}
-use Rattle.task_cell.specs.declared.cell.Party.{Party}
 use Rattle.task_steps.specs.declared.words.Cancelled.{Cancelled}
-use Rattle.task_steps.specs.declared.words.Cancelled.TheVariants.{Over, Busy, Idle}
-use Rattle.task_steps.specs.declared.words.Detached.TheVariants.{Unclaimed, Shared, Last, Orphaned}
-use Rattle.task_steps.specs.Steps.{output_first}
-use Rattle.task_cell.specs.Calls.{Fits, position, StandsWith, Stands, GoesWith, Goes}
-use Rattle.task_steps.specs.Deeds.{row, act}
-use Rattle.task_steps.specs.Standing.{as_task, as_ended, handed_over, rest_of}
-use Rattle.task_cell.specs.TaskPaths.{Notice, CancelPath, is_over, is_busy, is_idle, DetachPath, drops_output, drops_output_last, is_shared, is_last, is_orphaned, Cancels, Detaches, GivesTaskUp}
+use Rattle.task_steps.specs.declared.words.Cancelled.TheVariants.{Idle}
+use Rattle.task_steps.specs.declared.words.Detached.TheVariants.{Shared, Last, Orphaned}
+use Rattle.task_cell.specs.TaskPaths.{is_over, is_idle, drops_output, is_orphaned}
 use Rattle.task_cell.proofs.Moved.{goes_on, stands, position_is}
 use Rattle.task_cell.proofs.TaskMoves.{Ends, ends}
 
@@ -112,9 +100,6 @@ module _ {F T A : Type 0} where
       (path ++ act EndCall ∷ [], is_last x.0 x.2, ends p r t path Nothing Ended (last_emptied p q r x e) end)
 
   -- an open task has no other handle
-  pub orphan_delivered : (p q r : Party F T A) (x : Detaches p q Orphaned) → Goes (act HandOver ∷ []) (handed_over (position q)) q r → Goes (row DetachOrphan x.0 ∷ act HandOver ∷ []) (CallEnding Nothing Ended) p r
-  orphan_delivered p q r x h = hands_over p q r (row DetachOrphan x.0 ∷ []) (ThenEnds Nothing) x.2 h
-
   pub detaches_orphaned : (Scheduled : Type 0) (p q r t : Party F T A) → Detaches p q Orphaned → Scheduled → Goes (act HandOver ∷ []) (handed_over (position q)) q r → Goes (act EndCall ∷ []) (rest_of (position r)) r t → Detaching Scheduled p t
   detaches_orphaned Scheduled p q r t x fact h end = let path : List Deed = row DetachOrphan x.0 ∷ act HandOver ∷ [] in
-      (path ++ act EndCall ∷ [], is_orphaned x.0 x.1 fact, ends p r t path Nothing Ended (orphan_delivered p q r x h) end)
+      (path ++ act EndCall ∷ [], is_orphaned x.0 x.1 fact, ends p r t path Nothing Ended (hands_over p q r (row DetachOrphan x.0 ∷ []) (ThenEnds Nothing) x.2 h) end)

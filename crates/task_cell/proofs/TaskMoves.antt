@@ -1,50 +1,24 @@
 -- What the steps of a cancel and of a detach come to for the party that made them.
-use Rattle.std.proofs.Common.{◌≡◌, ℕ, Bool, true, false, not, ◌&&◌, ◌||◌, List, [], ◌∷◌, ◌++◌, Option, Some, None, refl, sym, ap, subst, arith, is_some}
-use Rattle.std.specs.Prelude.{nat_lt, nat_eq, if◌then◌else◌}
+use Rattle.task_cell.proofs.Vocabulary.{◌≡◌, ℕ, Bool, true, false, not, ◌&&◌, ◌||◌, List, [], ◌∷◌, ◌++◌, Option, Some, None, refl, sym, ap, subst, arith, nat_lt, nat_eq, if◌then◌else◌, State, is_open}
+use Rattle.task_cell.proofs.Vocabulary.{number_of, Answer, Nothing, Position, At, Deliverer, Emptier, OutputCloser, Detacher, CallEnding, Rest, Task, Ended, ThenEnds, OfCancel, CancelOver, CancelBusy}
+use Rattle.task_cell.proofs.Vocabulary.{CancelIdle, GiveUpOutput, DropOutput, DetachOrphan, DetachLast, Detach, EndCall, notifies, after_cancelling, owns_awaiter, Slot, Deed, Party, Over, Busy}
+use Rattle.task_cell.proofs.Vocabulary.{Unclaimed, has_work, output_first, Carries, Makes, position, Stands, Goes, deeds, row, act, rest_of, as_task, NotifyPath, none_there, taken, WakePath, nobody}
+use Rattle.task_cell.proofs.Vocabulary.{woken, TakesDue, Wakes, Notice, not_due, found_none, woke, Cancels, Detaches, GivesTaskUp, closed_by, given_up_by, both, over, neither, none_left, last_orphan}
+use Rattle.task_cell.proofs.Vocabulary.{closed_claimed, idle_cancel, finds_over, cancels, detaches, is_over, MayTry, HasChanged, HasEnded, never_ends, is_some, after_taking}
 use Rattle.std.proofs.lemmas.Bool.Decides.{nat_tests}
-use Rattle.task_core.specs.Word.{State, is_open, number_of}
-use Rattle.task_laws.specs.declared.positions.Answer.{Answer}
-use Rattle.task_laws.specs.declared.positions.Answer.TheVariants.{Nothing}
-use Rattle.task_laws.specs.declared.positions.Position.{Position}
-use Rattle.task_laws.specs.declared.positions.Position.TheVariants.{At, Deliverer, Emptier, OutputCloser, Detacher, CallEnding, AwaiterInHand}
-use Rattle.task_laws.specs.declared.positions.Rest.{Rest}
-use Rattle.task_laws.specs.declared.positions.Rest.TheVariants.{Task, Ended}
-use Rattle.task_laws.specs.declared.positions.OnceDelivered.TheVariants.{ThenEnds}
-use Rattle.task_laws.specs.declared.positions.NotifyingCall.TheVariants.{OfCancel}
-use Rattle.task_core.specs.declared.acts.Act.TheVariants.{CancelOver, CancelBusy, CancelIdle, GiveUpOutput, DropOutput, DetachOrphan, DetachLast, Detach, EndCall}
-use Rattle.task_laws.specs.Table.{notifies, after_cancelling}
-use Rattle.task_laws.specs.Holders.{owns_awaiter}
-use Rattle.task_steps.specs.declared.table.Slot.{Slot}
-use Rattle.task_steps.specs.declared.table.Deed.{Deed}
-use Rattle.task_cell.specs.declared.cell.Party.{Party}
-use Rattle.task_steps.specs.declared.words.Cancelled.TheVariants.{Over, Busy, Idle}
-use Rattle.task_steps.specs.declared.words.Detached.TheVariants.{Unclaimed, Shared, Last, Orphaned}
-use Rattle.task_steps.specs.Rule.{has_work}
-use Rattle.task_steps.specs.Steps.{output_first, Carries, Makes}
-use Rattle.task_cell.specs.Calls.{position, Stands, Goes, deeds}
-use Rattle.task_steps.specs.Deeds.{row, act}
-use Rattle.task_steps.specs.Standing.{rest_of, as_task}
-use Rattle.task_cell.specs.RunPaths.{NotifyPath, not_due as none_due, missed as miss, none_there, taken, WakePath, nobody, woken}
-use Rattle.task_cell.specs.RunCalls.{TakesDue, takes_none, takes_one, Wakes}
+use Rattle.task_steps.specs.declared.words.Cancelled.TheVariants.{Idle}
+use Rattle.task_steps.specs.declared.words.Detached.TheVariants.{Shared, Last, Orphaned}
+use Rattle.task_cell.specs.RunPaths.{not_due as none_due, missed as miss}
 use Rattle.task_steps.specs.TaskScripts.{cancelling, detaching, giving_task_up, finding_cancelled, cancelled, cancelled_word, detached}
-use Rattle.task_cell.specs.TaskPaths.{Notice, not_due, missed, found_none, woke, Cancels, Detaches, GivesTaskUp}
-use Rattle.task_steps.specs.Found.{closed_by, given_up_by}
+use Rattle.task_cell.specs.TaskPaths.{missed}
 use Rattle.task_cell.proofs.Moved.{moved, goes, goes_on, stands, position_is}
-use Rattle.task_steps.proofs.Acts.{both}
-use Rattle.task_steps.proofs.TaskOwed.{over, neither, none_left, last_orphan, closed_claimed, idle_cancel, finds_over, cancels, detaches}
-use Rattle.task_steps.specs.WakerScripts.{is_over}
-use Rattle.task_steps.specs.Attempts.{MayTry, HasChanged, HasEnded}
-use Rattle.task_steps.proofs.Attempts.{never_ends}
-use Rattle.task_cell.proofs.Attempts.{may_at}
+use Rattle.task_cell.proofs.Attempts.{written_if, may_at}
+use Rattle.task_cell.proofs.RunRest.{due_path}
 
 -- a word that is written only where the test holds
 pub opened : (b : Bool) (v w : State) → Some v ≡ (if b then Some w else None) → (b ≡ true) × (v ≡ w)
 opened true v w e = (refl, cc)
 opened false v w e = absurd (cc)
-
-is_opened : (b : Bool) (v : State) → is_some (if b then Some v else None) ≡ true → b ≡ true
-is_opened true v e = refl
-is_opened false v e = absurd (cc)
 
 -- what was taken and woken, of a cancel
 noticed : (Woken : Type 0) (due found : Bool) (n k : List Deed) → NotifyPath due found n → WakePath Woken found k → Notice Woken due (n ++ k)
@@ -67,7 +41,7 @@ module _ {F T A : Type 0} where
   closes limit p q n w s cell c = made (w.scheduled || w.running) refl c.made
     where
       now : is_open w ≡ true
-      now = is_opened (is_open w) (cancelled w) c.written
+      now = written_if (is_open w) (cancelled w) c.written
 
       made : (b : Bool) → (w.scheduled || w.running) ≡ b → Makes (if b then CancelBusy ∷ [] else CancelIdle ∷ []) w p.seat.me q.seat.me → Cancels n p q (if b then Busy w.awaiter else Idle w.awaiter)
       made true is m = let x = moved (CancelBusy ∷ []) w (At (Task n)) [] p q s m in let at : Position = notifies w.awaiter (OfCancel n) in let i = idle_cancel w.awaiter n in
@@ -123,15 +97,10 @@ module _ {F T A : Type 0} where
   Ends Woken due n p q = (path : List Deed) × Notice Woken due path × Goes (path ++ act EndCall ∷ []) (as_task n) p q
 
   pub ends_noticed : (Woken : Type 0) (p q r t : Party F T A) (n : ℕ) (due : Bool) (x : Option A) → TakesDue (OfCancel n) due p q x → Wakes Woken (OfCancel n) x q r → Goes (act EndCall ∷ []) (rest_of (position r)) r t → Ends Woken due n p t
-  ends_noticed Woken p q r t n due x (takes_none path told g) k e = (
-    path ++ k.0,
-    noticed Woken due false path k.0 told k.1,
-    ends p r t (path ++ k.0) Nothing (Task n) (goes_on p q r path k.0 (CallEnding Nothing (Task n)) (CallEnding Nothing (Task n)) [] [] g k.2) e,
-  )
-  ends_noticed Woken p q r t n due x (takes_one i a path told g) k e = (
-    path ++ k.0,
-    noticed Woken due true path k.0 told k.1,
-    ends p r t (path ++ k.0) Nothing (Task n) (goes_on p q r path k.0 (AwaiterInHand i (OfCancel n)) (CallEnding Nothing (Task n)) [] [] g k.2) e,
+  ends_noticed Woken p q r t n due x d k e = let m = due_path (OfCancel n) due p q x d in (
+    m.1 ++ k.0,
+    noticed Woken due (is_some x) m.1 k.0 m.2 k.1,
+    ends p r t (m.1 ++ k.0) Nothing (Task n) (goes_on p q r m.1 k.0 (after_taking m.0 (OfCancel n)) (CallEnding Nothing (Task n)) [] [] m.3 k.2) e,
   )
 
 module _ (F T A : Type 0) (limit : ℕ) where

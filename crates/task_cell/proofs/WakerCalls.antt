@@ -1,18 +1,7 @@
 -- A waker's drop, put together from its steps.
-use Rattle.std.proofs.Common.{false, List, [], ◌∷◌, ◌++◌}
-use Rattle.task_core.specs.Word.{State}
-use Rattle.task_laws.specs.declared.positions.Answer.TheVariants.{Nothing}
-use Rattle.task_laws.specs.declared.positions.Position.TheVariants.{Deliverer, CallEnding, OrphanHolder}
-use Rattle.task_laws.specs.declared.positions.Rest.TheVariants.{Ended}
-use Rattle.task_laws.specs.declared.positions.OnceDelivered.TheVariants.{ThenEnds}
-use Rattle.task_core.specs.declared.acts.Act.TheVariants.{DropWaker, DropLastWaker, OrphanTask, CloseOrphan, EmptySlots, EndCall, HandOver}
-use Rattle.task_steps.specs.declared.table.Deed.{Deed}
-use Rattle.task_cell.specs.declared.cell.Party.{Party}
-use Rattle.task_steps.specs.declared.words.Dropped.TheVariants.{Shared, Last, Orphaned}
-use Rattle.task_cell.specs.Calls.{position, Goes}
-use Rattle.task_steps.specs.Deeds.{row, act}
-use Rattle.task_steps.specs.Standing.{as_ended, rest_of}
-use Rattle.task_cell.specs.WakerPaths.{WakerDropPath, leaves_others, leaves_none, leaves_orphan, DropsWaker}
+use Rattle.task_cell.proofs.Vocabulary.{false, List, [], ◌∷◌, ◌++◌, State, Nothing, Deliverer, CallEnding, OrphanHolder, Ended, ThenEnds, DropWaker, DropLastWaker, OrphanTask, CloseOrphan, EmptySlots}
+use Rattle.task_cell.proofs.Vocabulary.{EndCall, HandOver, Deed, Party, Shared, Last, position, Goes, row, act, as_ended, rest_of, WakerDropPath, leaves_others, leaves_none, leaves_orphan, DropsWaker}
+use Rattle.task_steps.specs.declared.words.Dropped.TheVariants.{Orphaned}
 use Rattle.task_cell.proofs.Moved.{goes_on}
 use Rattle.task_cell.proofs.TaskMoves.{ends}
 use Rattle.task_cell.proofs.TaskCalls.{Empties, empties}

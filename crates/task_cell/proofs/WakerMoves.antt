@@ -1,73 +1,34 @@
 -- What the steps of a lent waker, and of a waker's drop, come to for the party that made them.
-use Rattle.std.proofs.Common.{◌≡◌, ℕ, Bool, true, false, not, ◌&&◌, List, [], ◌∷◌, Option, Some, None, IfSome, is_some, refl, sym, ap, ◌∙◌, subst}
-use Rattle.std.specs.Prelude.{nat_lt, if◌then◌else◌}
-use Rattle.atomic_table.specs.Table.{Me}
-use Rattle.task_core.specs.Word.{State, is_open, number_of}
-use Rattle.task_core.specs.Rows.{written, row as row_of}
-use Rattle.task_laws.specs.Table.{Slots, is_held}
-use Rattle.task_laws.specs.declared.positions.Answer.TheVariants.{Nothing}
-use Rattle.task_laws.specs.declared.positions.Rest.TheVariants.{Waker, Lent, Ended}
-use Rattle.task_laws.specs.declared.positions.OnceDelivered.TheVariants.{ThenEnds}
-use Rattle.task_laws.specs.declared.positions.Position.{Position}
-use Rattle.task_laws.specs.declared.positions.Position.TheVariants.{At, Deliverer, Emptier, OrphanHolder}
-use Rattle.task_core.specs.declared.acts.Act.{Act}
-use Rattle.task_core.specs.declared.acts.Act.TheVariants.{GainReference, FindLimit, RefuseGain, DropWaker, DropLastWaker, OrphanTask, CloseOrphan, WakeOver, WakeScheduled, WakeRunning, WakeIdle, EndCall}
-use Rattle.task_steps.specs.declared.table.Slot.{Slot}
-use Rattle.task_steps.specs.declared.table.Deed.{Deed}
-use Rattle.task_steps.specs.declared.table.Member.{Member}
-use Rattle.task_steps.specs.declared.table.View.{View}
-use Rattle.task_cell.specs.declared.cell.Party.{Party}
-use Rattle.task_steps.specs.declared.words.Dropped.TheVariants.{Shared, Last, Orphaned}
-use Rattle.task_steps.specs.Rule.{member, view, fresh}
-use Rattle.task_steps.specs.Steps.{head_of, acted, Carried, Makes}
-use Rattle.task_cell.specs.Calls.{deeds, limit_of, IsNew, Stands, Goes}
-use Rattle.task_steps.specs.Deeds.{row, act, after}
-use Rattle.task_steps.specs.Standing.{as_waker, as_deliverer}
-use Rattle.task_cell.specs.WakerPaths as paths
-use Rattle.task_steps.specs.Attempts.{MayTry, HasChanged, HasEnded}
-use Rattle.task_cell.proofs.Attempts.{may_at}
-use Rattle.task_steps.proofs.Bools.{never}
-use Rattle.task_steps.proofs.WakerOwed as owed
-use Rattle.task_steps.specs.WakerScripts.{others_left, gaining, gained_word, at_limit, finding_limit, refusing_gain, is_over, finding_over, waking_task, woken_word, woken_if_held, dropping_waker, closing_orphan}
+use Rattle.task_cell.proofs.Vocabulary.{◌≡◌, ℕ, Bool, true, false, not, ◌&&◌, List, [], ◌∷◌, Option, Some, None, IfSome, is_some, refl, sym, ap, ◌∙◌, subst, nat_lt, if◌then◌else◌, Me, State, is_open}
+use Rattle.task_cell.proofs.Vocabulary.{number_of, written, Slots, is_held, Nothing, Waker, Lent, Ended, ThenEnds, Position, At, Deliverer, Emptier, OrphanHolder, Act, GainReference, FindLimit}
+use Rattle.task_cell.proofs.Vocabulary.{RefuseGain, DropWaker, DropLastWaker, OrphanTask, CloseOrphan, WakeOver, WakeScheduled, WakeRunning, WakeIdle, EndCall, Slot, Deed, Member, View, Party, Shared}
+use Rattle.task_cell.proofs.Vocabulary.{Last, member, view, fresh, head_of, acted, Carried, Makes, deeds, limit_of, IsNew, Stands, Goes, row, act, after, as_waker, as_deliverer, MayTry, HasChanged}
+use Rattle.task_cell.proofs.Vocabulary.{HasEnded, others_left, gaining, gained_word, at_limit, finding_limit, refusing_gain, is_over, finding_over, waking_task, woken_word, woken_if_held}
+use Rattle.task_cell.proofs.Vocabulary.{dropping_waker, closing_orphan, GainsShare, is_refused, goes_on_to, is_gained, finds_limit, is_scheduled, is_running, Gains, gains_none, gains_one, WakesTask}
+use Rattle.task_cell.proofs.Vocabulary.{makes_none, makes_one, DropsWaker, dropped_by, both, gains, third, fourth, not_true}
+use Rattle.task_core.specs.Rows.{row as row_of}
+use Rattle.task_steps.specs.declared.words.Dropped.TheVariants.{Orphaned}
 use Rattle.task_steps.specs.Beside.{without_newest, newest}
-use Rattle.task_cell.specs.WakerPaths.{GainsShare, is_refused, goes_on_to, is_gained, finds_limit, is_scheduled, is_running, is_idle, Gains, gains_none, gains_one, WakesTask, makes_none, makes_one, DropsWaker}
-use Rattle.task_steps.specs.Found.{dropped_by}
-use Rattle.task_steps.proofs.Acts.{both}
-use Rattle.task_cell.proofs.Carried.{keeps_places}
-use Rattle.task_cell.proofs.Moved.{moved, goes}
+use Rattle.task_cell.specs.WakerPaths.{is_idle}
 use Rattle.task_steps.specs.Seats.{is_spent}
 use Rattle.atomic_table.specs.Seated.{TableId}
-use Rattle.task_steps.proofs.WakerOwed.{gains, third, fourth}
+use Rattle.task_cell.specs.WakerPaths as paths
+use Rattle.task_cell.proofs.Attempts.{if_some, written_if, if_is, may_at}
+use Rattle.task_steps.proofs.WakerOwed as owed
+use Rattle.task_cell.proofs.Carried.{keeps_places}
+use Rattle.task_cell.proofs.Moved.{moved, goes}
 
 -- whether the count had room, and the task was open, by the word that was written
 has_room : (limit : ℕ) (w : State) → is_some (gained_word limit w) ≡ true → nat_lt w.references limit ≡ true
-has_room limit w e = by (is_held w) (nat_lt w.references limit) (written GainReference w) e
-  where
-    by : (a b : Bool) (v : State) → is_some (if a then (if b then Some v else None) else None) ≡ true → b ≡ true
-    by true true v e = refl
-    by true false v e = absurd (cc)
-    by false b v e = absurd (cc)
+has_room limit w e = written_if (nat_lt w.references limit) (written GainReference w) (if_some (is_held w) (row_of limit GainReference w) e).1
 
 was_open : (limit : ℕ) (w : State) → is_some (woken_if_held limit w) ≡ true → is_open w ≡ true
-was_open limit w e = by (is_held w) (is_open w) (woken_word w) e
-  where
-    by : (a b : Bool) (v : State) → is_some (if a then (if b then Some v else None) else None) ≡ true → b ≡ true
-    by true true v e = refl
-    by true false v e = absurd (cc)
-    by false b v e = absurd (cc)
-
-is_not : (b : Bool) → not b ≡ true → b ≡ false
-is_not true e = never e
-is_not false e = refl
+was_open limit w e = written_if (is_open w) (woken_word w) (if_some (is_held w) (if is_open w then Some (woken_word w) else None) e).1
 
 -- no wake is there yet, and no run
-both_idle : (w : State) → (not w.scheduled && not w.running) ≡ true → (w.scheduled ≡ false) × (w.running ≡ false)
-both_idle w e = by w.scheduled w.running e
-  where
-    by : (a b : Bool) → (not a && not b) ≡ true → (a ≡ false) × (b ≡ false)
-    by false false e = (refl, refl)
-    by false true e = absurd (cc)
-    by true b e = absurd (cc)
+both_idle : (a b : Bool) → (not a && not b) ≡ true → (a ≡ false) × (b ≡ false)
+both_idle true b e = absurd (cc)
+both_idle false b e = (refl, not_true b e)
 
 module _ {F T A : Type 0} where
   -- the seat of a lent waker after acts by which it comes back, with what they added
@@ -138,7 +99,7 @@ module _ {F T A : Type 0} where
 
   pub gains_nothing : (limit : ℕ) (w : State) (p q : Party F T A) → Stands (At Lent) p → q.seat.table_id ≡ p.seat.table_id → HasEnded limit at_limit finding_limit w p.seat.me q.seat.me → Gains limit p q None
   gains_nothing limit w p q s cell x = let path : List Deed = row FindLimit w ∷ act EndCall ∷ [] in
-      gains_none path (finds_limit w (is_not (nat_lt w.references limit) x.at_end)) (record { cell = cell; is = back w (finding_limit w) path [] p q s (λ slots l ds. refl) x.made })
+      gains_none path (finds_limit w (not_true (nat_lt w.references limit) x.at_end)) (record { cell = cell; is = back w (finding_limit w) path [] p q s (λ slots l ds. refl) x.made })
 
   -- a wake of a task that is over
   pub wakes_over : (limit : ℕ) (w : State) (p q : Party F T A) → Stands (At Lent) p → q.seat.table_id ≡ p.seat.table_id → HasEnded limit is_over finding_over w p.seat.me q.seat.me → WakesTask p q None
@@ -158,12 +119,12 @@ module _ {F T A : Type 0} where
 
   -- .. of one that was idle: the seat after the row, and what it comes to when the deliverer has left it
   pub beside_deliverer : (limit : ℕ) (w : State) (p q : Party F T A) → Stands (At Lent) p → HasChanged limit woken_if_held waking_task w p.seat.me q.seat.me → (not w.scheduled && not w.running) ≡ true → Beside (row WakeIdle w ∷ act EndCall ∷ []) (fresh as_deliverer ∷ []) p q
-  beside_deliverer limit w p q s x idle = let i = both_idle w idle in back w (WakeIdle ∷ EndCall ∷ []) (row WakeIdle w ∷ act EndCall ∷ []) (fresh as_deliverer ∷ []) p q s (λ slots l ds. refl)
+  beside_deliverer limit w p q s x idle = let i = both_idle w.scheduled w.running idle in back w (WakeIdle ∷ EndCall ∷ []) (row WakeIdle w ∷ act EndCall ∷ []) (fresh as_deliverer ∷ []) p q s (λ slots l ds. refl)
       (subst (λ (z : Bool × Bool). Makes (if z.0 then WakeScheduled ∷ EndCall ∷ [] else (if z.1 then WakeRunning ∷ EndCall ∷ [] else WakeIdle ∷ EndCall ∷ [])) w p.seat.me q.seat.me) (λ j. (i.0 j, i.1 j)) x.made)
 
   pub wakes_idle : (limit : ℕ) (w : State) (p q t d : Party F T A) → Stands (At Lent) p → q.seat.table_id ≡ p.seat.table_id → HasChanged limit woken_if_held waking_task w p.seat.me q.seat.me → (not w.scheduled && not w.running) ≡ true
       → t.seat.table_id ≡ q.seat.table_id → t.seat.me ≡ (without_newest q.seat.me.0, q.seat.me.1) → d.seat.table_id ≡ q.seat.table_id → d.seat.me ≡ (newest q.seat.me.0, []) → WakesTask p t (Some d)
-  wakes_idle limit w p q t d s cell x idle there is there' is' = let path : List Deed = row WakeIdle w ∷ act EndCall ∷ [] in let b = beside_deliverer limit w p q s x idle in let i = both_idle w idle in
+  wakes_idle limit w p q t d s cell x idle there is there' is' = let path : List Deed = row WakeIdle w ∷ act EndCall ∷ [] in let b = beside_deliverer limit w p q s x idle in let i = both_idle w.scheduled w.running idle in
       makes_one path d (is_idle w (fourth (is_open w) w.scheduled w.running (was_open limit w x.written) i.0 i.1)) (leaves_newest path (fresh as_deliverer) p q t b cell there is) (is_newest path as_deliverer p q d b cell there' is')
 
   -- the row of a waker's drop
@@ -187,25 +148,11 @@ module _ (F T A : Type 0) (limit : ℕ) where
   -- the rule allows a lent waker to gain a reference, and to wake
   pub may_gain : (p : Party F T A) → Stands (At Lent) p → limit_of p ≡ limit → MayTry limit 3 p.seat.id p.seat.me gained_word at_limit gaining finding_limit
   may_gain p s is = may_at limit p (At Lent) [] s gained_word at_limit gaining finding_limit (λ w. ap (λ l. at_limit l w) is)
-      (λ w v e m f here. let x = held_room w v e in gains F T A limit Lent (deeds p) [] [] w v (number_of w) (number_of v) refl x.0 x.1 refl refl m f here)
+      (λ w v e m f here. let x = if_is (is_held w) (row_of limit GainReference w) v e in gains F T A limit Lent (deeds p) [] [] w v (number_of w) (number_of v) refl x.0 (sym x.1) refl refl m f here)
       (owed.finds_limit F T A limit Lent (deeds p) [] [] refl)
-    where
-      held_room : (w v : State) → gained_word limit w ≡ Some v → (is_held w ≡ true) × (Some v ≡ row_of limit GainReference w)
-      held_room w v e = by (is_held w) (row_of limit GainReference w) e
-        where
-          by : (b : Bool) (x : Option State) → (if b then x else None) ≡ Some v → (b ≡ true) × (Some v ≡ x)
-          by true x e = (refl, sym e)
-          by false x e = absurd (cc)
 
   pub may_wake : (p : Party F T A) → Stands (At Lent) p → MayTry limit 3 p.seat.id p.seat.me woken_if_held is_over waking_task finding_over
   may_wake p s = may_at limit p (At Lent) [] s woken_if_held is_over waking_task finding_over (λ w. refl)
-      (λ w v e m f here. let x = held_open w v e in owed.wakes F T A limit Lent (deeds p) [] [] w (number_of w) (number_of v) refl x.0 x.1 refl (ap number_of x.2) m f here)
+      (λ w v e m f here. let x = if_is (is_held w) (if is_open w then Some (woken_word w) else None) v e in let y = if_is (is_open w) (Some (woken_word w)) v x.1 in let same = y.1 in let is : v ≡ woken_word w = cc in
+      owed.wakes F T A limit Lent (deeds p) [] [] w (number_of w) (number_of v) refl x.0 y.0 refl (ap number_of is) m f here)
       (owed.finds_over F T A limit Lent (deeds p) [] [] refl)
-    where
-      held_open : (w v : State) → woken_if_held limit w ≡ Some v → (is_held w ≡ true) × (is_open w ≡ true) × (v ≡ woken_word w)
-      held_open w v e = by (is_held w) (is_open w) (woken_word w) e
-        where
-          by : (a b : Bool) (u : State) → (if a then (if b then Some u else None) else None) ≡ Some v → (a ≡ true) × (b ≡ true) × (v ≡ u)
-          by true true u e = (refl, refl, cc)
-          by true false u e = absurd (cc)
-          by false b u e = absurd (cc)

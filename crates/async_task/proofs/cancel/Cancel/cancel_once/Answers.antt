@@ -1,6 +1,4 @@
-use Rattle.std.proofs.Common.{◌≡◌, true, sym, subst}
-use Rattle.task_steps.specs.PollScripts.{has_ended}
-use Rattle.task_steps.specs.Steps.{saw_ended}
+use Rattle.task_cell.proofs.Vocabulary.{◌≡◌, true, sym, subst, has_ended, saw_ended}
 use Rattle.task_cell.proofs.PollSeen.{deeds_after, saw_after}
 use Rattle.async_task.proofs.cancel.Cancel.cancel_once.Goals as goal
 

@@ -1,10 +1,5 @@
-use Rattle.std.proofs.Common.{ap, subst, List, false}
-use Rattle.std.specs.Arc.{arc_value}
-use Rattle.task_steps.specs.declared.table.Deed.{Deed}
+use Rattle.task_cell.proofs.Vocabulary.{ap, subst, List, false, arc_value, Deed, Goes, position, HandedOver, CancelPath}
 use Rattle.task_cell.specs.declared.cell.Cell.{Cell}
-use Rattle.task_cell.specs.Calls.{Goes, position}
-use Rattle.task_cell.specs.Handed.{HandedOver}
-use Rattle.task_cell.specs.TaskPaths.{CancelPath}
 use Rattle.async_task.proofs.HandleParties.{stands_task}
 use Rattle.async_task.proofs.task.TaskParty.cancel.Goals as goal
 

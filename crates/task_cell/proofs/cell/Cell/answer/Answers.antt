@@ -1,12 +1,4 @@
-use Rattle.std.proofs.Common.{◌∷◌, [], sym, ◌∙◌}
-use Rattle.std.specs.Prelude.{Ok, Err}
-use Rattle.task_laws.specs.declared.positions.NotifyingCall.TheVariants.{OfPoll}
-use Rattle.task_laws.specs.declared.positions.Position.TheVariants.{Notifier}
-use Rattle.task_core.specs.declared.acts.Act.TheVariants.{Look, ClaimOutput, EndCall}
-use Rattle.task_cell.specs.Calls.{position}
-use Rattle.task_steps.specs.Deeds.{row, act}
-use Rattle.task_cell.specs.PollPaths.{waits}
-use Rattle.task_steps.specs.Standing.{poll_number}
+use Rattle.task_cell.proofs.Vocabulary.{◌∷◌, [], sym, ◌∙◌, Ok, Err, OfPoll, Notifier, Look, ClaimOutput, EndCall, position, row, act, waits, poll_number}
 use Rattle.task_cell.proofs.Moved.{stands}
 use Rattle.task_cell.proofs.PollWays.{has_claimed}
 use Rattle.task_cell.proofs.PollAnswers.{seen_again, waited, saw_end, answers_ended, answers_output}

@@ -1,13 +1,7 @@
-use Rattle.task_laws.specs.declared.positions.PollAnswer.TheVariants.{IsClosed}
-use Rattle.std.proofs.Common.{[], refl}
-use Rattle.task_laws.specs.declared.positions.NotifyingCall.TheVariants.{OfPoll}
-use Rattle.task_laws.specs.declared.positions.Position.TheVariants.{Answering}
+use Rattle.task_cell.proofs.Vocabulary.{IsClosed, Answering}
 use Rattle.task_cell.proofs.Moved.{stands}
 use Rattle.task_cell.proofs.PollWays.{is_answering, ended_closed}
 use Rattle.task_cell.proofs.cell.Cell.answer_closed.Goals as goal
-
-pub take_awaiter-requires-clause-party : goal.take_awaiter-requires-clause-party
-take_awaiter-requires-clause-party g c = let s = c.requires.party in (OfPoll s.0, [], s.1, refl)
 
 pub end_poll-requires-clause-party : goal.end_poll-requires-clause-party
 end_poll-requires-clause-party g c = let s = c.requires.party in let t = c.take_awaiter.ensures in

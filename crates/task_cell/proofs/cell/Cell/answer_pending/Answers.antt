@@ -1,16 +1,9 @@
-use Rattle.std.proofs.Common.{rules, ap, sym, subst, ◌<◌}
-use Rattle.task_core.specs.Word.{State, state_of}
-use Rattle.task_steps.proofs.Known.{steps_knowing}
-use Rattle.task_cell.specs.RunCalls.{AnswersPending}
-use Rattle.task_steps.proofs.RunOwed.{answers_pending}
+use Rattle.task_cell.proofs.Vocabulary.{rules, ap, sym, subst, state_of, steps_knowing, AnswersPending, answers_pending}
 use Rattle.task_cell.proofs.RunGoes.{answered_pending}
 use Rattle.task_cell.proofs.cell.Cell.answer_pending.Goals as goal
 
 pub load-found-requires : goal.load-found-requires
 load-found-requires g c = (search rules, search rules, steps_knowing _ _ _ _ _ _ _ _ _ _ _ _ _ (search rules) (ap (λ m. m.0) c.requires.party.1) (answers_pending _ _ _ _ _ _ _))
-
-pub returns-clause-room : goal.returns-clause-room
-returns-clause-room g c = subst (λ (w : State). w.references < 72057594037927935) (sym c.from_bits.ensures) c.load-found.ensures.2.1.room
 
 pub returns-clause-path : goal.returns-clause-path
 returns-clause-path g c = λ held s. let l = c.load-found.ensures in

@@ -1,4 +1,4 @@
-use Rattle.std.proofs.Common.{sym, None, ◌∙◌}
+use Rattle.task_cell.proofs.Vocabulary.{sym, None, ◌∙◌}
 use Rattle.task_cell.proofs.Attempts.{seeing_first, seeing_next, ends_at, seen_on, may_still}
 use Rattle.task_cell.proofs.cell.Cell.attempt.Goals as goal
 

@@ -1,13 +1,9 @@
-use Rattle.std.proofs.Common.{rules, sym, refl, ◌∙◌, subst, ◌<◌}
-use Rattle.task_core.specs.Word.{State}
+use Rattle.task_cell.proofs.Vocabulary.{rules, sym, refl, ◌∙◌, subst, ◌<◌, State}
 use Rattle.task_cell.proofs.Attempts.{seeing_first, may_exchange, may_load, seeing_next, seeing_missed, ends_at, changed, ended}
 use Rattle.task_cell.proofs.cell.Cell.attempt_from.Goals as goal
 
 pub loop-init : goal.loop-init
 loop-init g c = let s = c.requires.seen in record { cell = refl; seat = refl; room = c.requires.room; seeing = seeing_first c.args.word c.args.party.now.seat.me s.0 s.1 s.2 }
-
-pub next-requires-in-loop : goal.next-requires-in-loop
-next-requires-in-loop g c = record { room = c.loop.invariant.room }
 
 pub compare_exchange-found-requires : goal.compare_exchange-found-requires
 compare_exchange-found-requires g c = let i = c.loop.invariant in let self = c.args.self.now in (
@@ -15,9 +11,6 @@ compare_exchange-found-requires g c = let i = c.loop.invariant in let self = c.a
   search rules,
   may_exchange self.limit _ _ _ _ _ _ g.P.Change.writes g.P.Change.ends g.P.Change.acts g.P.Change.told c.loop.word c.in-Some-next.next _ _ self.limited.0 self.sized.1 i.seat i.seeing c.requires.allowed (sym c.in-Some-next.is ∙ c.next-in-loop.ensures) c.bits.ensures c.bits-in-Some-next.ensures,
 )
-
-pub returns-then-found-bits-clause-cell : goal.returns-then-found-bits-clause-cell
-returns-then-found-bits-clause-cell g c = c.compare_exchange-found.ensures.0 ∙ c.loop.invariant.cell
 
 pub returns-then-found-bits-clause-changed : goal.returns-then-found-bits-clause-changed
 returns-then-found-bits-clause-changed g c = let e = c.compare_exchange-found.ensures in let is = c.if-found-bits.true ∙ c.bits-in-Some-next-2.ensures in
@@ -34,9 +27,6 @@ loop-preserved-in-Some-next g c = let i = c.loop.invariant in let e = c.compare_
 pub load-requires : goal.load-requires
 load-requires g c = let i = c.loop.invariant in let self = c.args.self.now in
     (i.cell ∙ c.requires.cell, search rules, may_load self.limit _ _ _ _ _ _ g.P.Change.writes g.P.Change.ends g.P.Change.acts g.P.Change.told c.loop.word self.limited.0 self.sized.1 i.seat i.seeing c.requires.allowed)
-
-pub returns-then-is_end-clause-cell : goal.returns-then-is_end-clause-cell
-returns-then-is_end-clause-cell g c = c.load.ensures.0 ∙ c.loop.invariant.cell
 
 pub returns-then-is_end-clause-ended : goal.returns-then-is_end-clause-ended
 returns-then-is_end-clause-ended g c = let e = c.load.ensures in let over = sym c.is_end.ensures ∙ c.if-is_end.true in

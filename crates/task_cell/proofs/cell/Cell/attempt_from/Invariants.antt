@@ -1,4 +1,4 @@
-use Rattle.std.proofs.Common.{◌≡◌, ◌<◌}
+use Rattle.task_cell.proofs.Vocabulary.{◌≡◌, ◌<◌}
 use Rattle.task_cell.proofs.Attempts.{Seeing}
 use Rattle.task_cell.proofs.cell.Cell.attempt_from.Given as goal
 

@@ -1,4 +1,4 @@
-use Rattle.std.proofs.Common.{rules}
+use Rattle.task_cell.proofs.Vocabulary.{rules}
 use Rattle.task_steps.proofs.Lending.{enters}
 use Rattle.task_cell.proofs.cell.Cell.borrow.Goals as goal
 

@@ -1,4 +1,4 @@
-use Rattle.std.proofs.Common.{◌∙◌, ap, sym, refl}
+use Rattle.task_cell.proofs.Vocabulary.{◌∙◌, ap, sym, refl}
 use Rattle.task_cell.proofs.Moved.{stands, limit_is}
 use Rattle.task_cell.proofs.TaskCalls.{closed_busy, closed_idle, cancels_over, cancels_busy, cancels_idle}
 use Rattle.task_cell.proofs.cell.Cell.cancel.Goals as goal

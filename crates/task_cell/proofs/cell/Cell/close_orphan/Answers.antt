@@ -1,6 +1,4 @@
-use Rattle.std.proofs.Common.{rules, ap}
-use Rattle.task_steps.proofs.Allowed.{steps_always}
-use Rattle.task_steps.proofs.WakerOwed.{closes_orphan}
+use Rattle.task_cell.proofs.Vocabulary.{rules, ap, steps_always, closes_orphan}
 use Rattle.task_cell.proofs.WakerMoves as moves
 use Rattle.task_cell.proofs.cell.Cell.close_orphan.Goals as goal
 

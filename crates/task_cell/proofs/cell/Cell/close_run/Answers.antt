@@ -1,14 +1,4 @@
-use Rattle.std.proofs.Common.{◌∙◌, sym, subst, ◌∷◌, []}
-use Rattle.task_laws.specs.declared.positions.NotifyingCall.TheVariants.{OfRun}
-use Rattle.task_laws.specs.declared.positions.WithoutPoll.TheVariants.{ClosedRun}
-use Rattle.task_laws.specs.declared.positions.Position.TheVariants.{FutureInHand}
-use Rattle.task_core.specs.declared.acts.Act.TheVariants.{DropFuture, Unschedule}
-use Rattle.task_laws.specs.Table.{notifies}
-use Rattle.task_steps.specs.declared.table.Slot.TheVariants.{Empty}
-use Rattle.task_cell.specs.Calls.{Stands}
-use Rattle.task_steps.specs.Deeds.{row, act}
-use Rattle.task_cell.specs.RunCalls.{Rests}
-use Rattle.task_steps.specs.Steps.{future_first}
+use Rattle.task_cell.proofs.Vocabulary.{◌∙◌, sym, subst, ◌∷◌, [], OfRun, ClosedRun, FutureInHand, DropFuture, Unschedule, notifies, Empty, Stands, row, act, Rests, future_first}
 use Rattle.task_cell.proofs.Moved.{stands}
 use Rattle.task_cell.proofs.RunRest.{unscheduled, close_rest}
 use Rattle.task_cell.proofs.cell.Cell.close_run.Goals as goal

@@ -1,5 +1,4 @@
-use Rattle.std.proofs.Common.{sym, subst}
-use Rattle.task_cell.specs.TaskPaths.{Cancels}
+use Rattle.task_cell.proofs.Vocabulary.{sym, subst, Cancels}
 use Rattle.task_cell.proofs.TaskMoves.{may_cancel, closes, looks_over}
 use Rattle.task_cell.proofs.cell.Cell.close_task.Goals as goal
 

@@ -1,7 +1,4 @@
-use Rattle.std.proofs.Common.{◌∷◌, []}
-use Rattle.task_steps.specs.Steps.{output_first}
-use Rattle.task_laws.specs.declared.positions.Position.TheVariants.{Ready}
-use Rattle.task_steps.specs.declared.table.Slot.TheVariants.{Output}
+use Rattle.task_cell.proofs.Vocabulary.{◌∷◌, [], output_first, Ready, Output}
 use Rattle.task_cell.proofs.RunGoes.{may_complete, completed, completes_then, turns}
 use Rattle.task_cell.proofs.Carried.{exchanges}
 use Rattle.task_cell.proofs.Moved.{stands}

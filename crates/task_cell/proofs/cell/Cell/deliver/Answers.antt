@@ -1,6 +1,4 @@
-use Rattle.std.proofs.Common.{ap, ◌∙◌, subst}
-use Rattle.std.specs.Arc.{arc_value}
-use Rattle.task_cell.specs.declared.cell.Cell.{Cell}
+use Rattle.task_cell.proofs.Vocabulary.{ap, ◌∙◌, subst, arc_value, Cell}
 use Rattle.task_cell.proofs.cell.Cell.deliver.Goals as goal
 
 pub returns-clause-fact : goal.returns-clause-fact

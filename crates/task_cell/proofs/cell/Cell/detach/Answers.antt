@@ -1,10 +1,4 @@
-use Rattle.std.proofs.Common.{◌∷◌, ◌∙◌, ap, sym, [], false, refl}
-use Rattle.task_laws.specs.declared.positions.Answer.TheVariants.{Nothing}
-use Rattle.task_laws.specs.declared.positions.Rest.TheVariants.{Ended}
-use Rattle.task_laws.specs.declared.positions.OnceDelivered.TheVariants.{ThenEnds}
-use Rattle.task_laws.specs.declared.positions.Position.TheVariants.{Deliverer, CallEnding}
-use Rattle.task_core.specs.declared.acts.Act.TheVariants.{GiveUpOutput, DropOutput, DetachLast, EmptySlots}
-use Rattle.task_steps.specs.Deeds.{row, act}
+use Rattle.task_cell.proofs.Vocabulary.{◌∷◌, ◌∙◌, ap, sym, [], false, refl, Nothing, Ended, ThenEnds, Deliverer, CallEnding, GiveUpOutput, DropOutput, DetachLast, EmptySlots, row, act}
 use Rattle.task_cell.proofs.Moved.{stands}
 use Rattle.task_cell.proofs.TaskCalls.{unclaimed_last, last_emptied, detaches_unclaimed_last, detaches_unclaimed, detaches_shared, detaches_last, detaches_orphaned}
 use Rattle.task_cell.proofs.cell.Cell.detach.Goals as goal

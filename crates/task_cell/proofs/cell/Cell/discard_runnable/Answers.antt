@@ -1,9 +1,4 @@
-use Rattle.std.proofs.Common.{◌∙◌, [], ◌∷◌, None}
-use Rattle.task_laws.specs.declared.positions.NotifyingCall.TheVariants.{OfDrop}
-use Rattle.task_laws.specs.declared.positions.Answer.TheVariants.{Nothing}
-use Rattle.task_laws.specs.declared.positions.Rest.TheVariants.{Ended}
-use Rattle.task_laws.specs.declared.positions.WithoutPoll.TheVariants.{DroppedRunnable}
-use Rattle.task_steps.specs.declared.table.Slot.TheVariants.{Empty}
+use Rattle.task_cell.proofs.Vocabulary.{◌∙◌, [], ◌∷◌, None, OfDrop, Nothing, Ended, DroppedRunnable, Empty}
 use Rattle.task_cell.proofs.Moved.{stands}
 use Rattle.task_cell.proofs.RunRest.{drop_clears, drop_closes, drop_notifies, drop_takes_cell, drop_has, drop_wakes, drop_gives_up, drop_releases, drop_leaves, drop_ends}
 use Rattle.task_cell.proofs.cell.Cell.discard_runnable.Goals as goal

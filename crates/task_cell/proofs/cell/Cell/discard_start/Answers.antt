@@ -1,7 +1,4 @@
-use Rattle.std.proofs.Common.{rules, ap}
-use Rattle.task_core.specs.Word.{state_of}
-use Rattle.task_steps.proofs.Allowed.{steps_always}
-use Rattle.task_steps.proofs.RunOwed.{discards}
+use Rattle.task_cell.proofs.Vocabulary.{rules, ap, state_of, steps_always, discards}
 use Rattle.task_cell.proofs.RunGoes.{discarded}
 use Rattle.task_cell.proofs.cell.Cell.discard_start.Goals as goal
 

@@ -1,13 +1,4 @@
-use Rattle.std.proofs.Common.{rules, ap, ◌∷◌, []}
-use Rattle.task_core.specs.Word.{state_of}
-use Rattle.task_steps.proofs.Allowed.{steps_always}
-use Rattle.task_laws.specs.declared.positions.Position.TheVariants.{OutputInHand}
-use Rattle.task_laws.specs.declared.positions.NotifyingCall.TheVariants.{OfRun}
-use Rattle.task_core.specs.declared.acts.Act.TheVariants.{DropOutput}
-use Rattle.task_laws.specs.Table.{notifies}
-use Rattle.task_steps.specs.Steps.{output_first}
-use Rattle.task_steps.specs.Deeds.{act}
-use Rattle.task_steps.specs.declared.table.Slot.TheVariants.{Empty}
+use Rattle.task_cell.proofs.Vocabulary.{rules, ap, ◌∷◌, [], state_of, steps_always, OutputInHand, OfRun, DropOutput, notifies, output_first, act, Empty}
 use Rattle.task_steps.proofs.RunOwed.{drops_output}
 use Rattle.task_cell.proofs.RunGoes.{dropped_output}
 use Rattle.task_cell.proofs.Moved.{stands, output_held, goes_on}

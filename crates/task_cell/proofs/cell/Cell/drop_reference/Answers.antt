@@ -1,6 +1,4 @@
-use Rattle.std.proofs.Common.{rules, ap}
-use Rattle.task_steps.proofs.Allowed.{steps_always}
-use Rattle.task_steps.proofs.WakerOwed.{drops_waker}
+use Rattle.task_cell.proofs.Vocabulary.{rules, ap, steps_always, drops_waker}
 use Rattle.task_cell.proofs.cell.Cell.drop_reference.Goals as goal
 
 pub fetch_sub-found-requires : goal.fetch_sub-found-requires

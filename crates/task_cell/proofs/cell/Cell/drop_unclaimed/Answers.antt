@@ -1,15 +1,6 @@
-use Rattle.std.proofs.Common.{rules, ap, ◌∷◌, [], sym, ◌∙◌, subst}
-use Rattle.std.specs.Prelude.{nat_eq}
-use Rattle.task_core.specs.Word.{State}
-use Rattle.task_laws.specs.declared.positions.Position.TheVariants.{OutputCloser, Detacher}
-use Rattle.task_core.specs.declared.acts.Act.TheVariants.{DropOutput}
-use Rattle.task_steps.specs.declared.table.Slot.TheVariants.{Empty}
-use Rattle.task_steps.specs.Steps.{head_of, saw_closed, output_first}
-use Rattle.task_steps.specs.Deeds.{act}
-use Rattle.task_cell.specs.TaskPaths.{GivesTaskUp}
-use Rattle.task_steps.proofs.Known.{steps_knowing}
+use Rattle.task_cell.proofs.Vocabulary.{rules, ap, ◌∷◌, [], sym, ◌∙◌, subst, nat_eq, State, OutputCloser, Detacher, DropOutput, Empty, head_of, saw_closed, output_first, act, GivesTaskUp}
+use Rattle.task_cell.proofs.Vocabulary.{steps_knowing, gives_task_up}
 use Rattle.task_cell.proofs.Moved.{stands, goes_on}
-use Rattle.task_steps.proofs.TaskOwed.{gives_task_up}
 use Rattle.task_cell.proofs.TaskMoves.{gives_rest}
 use Rattle.task_cell.proofs.cell.Cell.drop_unclaimed.Goals as goal
 

@@ -1,8 +1,4 @@
-use Rattle.std.proofs.Common.{false, ◌∙◌, ap, sym, []}
-use Rattle.task_laws.specs.declared.positions.Answer.TheVariants.{Nothing}
-use Rattle.task_laws.specs.declared.positions.Rest.TheVariants.{Ended}
-use Rattle.task_laws.specs.declared.positions.OnceDelivered.TheVariants.{ThenEnds}
-use Rattle.task_laws.specs.declared.positions.Position.TheVariants.{Deliverer, CallEnding}
+use Rattle.task_cell.proofs.Vocabulary.{false, ◌∙◌, ap, sym, [], Nothing, Ended, ThenEnds, Deliverer, CallEnding}
 use Rattle.task_cell.proofs.Moved.{stands}
 use Rattle.task_cell.proofs.WakerCalls.{drops_shared, last_emptied, drops_last, orphan_closed, drops_orphaned}
 use Rattle.task_cell.proofs.cell.Cell.drop_waker.Goals as goal

@@ -1,12 +1,4 @@
-use Rattle.std.proofs.Common.{rules, ap, ◌∷◌, []}
-use Rattle.task_core.specs.Word.{state_of}
-use Rattle.task_steps.proofs.Allowed.{steps_always}
-use Rattle.task_laws.specs.declared.positions.Position.TheVariants.{Emptier}
-use Rattle.task_steps.specs.declared.table.Slot.TheVariants.{Empty}
-use Rattle.task_core.specs.declared.acts.Act.TheVariants.{EmptySlots}
-use Rattle.task_laws.specs.Table.{after_giving_up}
-use Rattle.task_steps.specs.Deeds.{act}
-use Rattle.task_steps.proofs.RunOwed.{empties}
+use Rattle.task_cell.proofs.Vocabulary.{rules, ap, ◌∷◌, [], state_of, steps_always, Emptier, Empty, EmptySlots, after_giving_up, act, empties}
 use Rattle.task_cell.proofs.RunGoes.{emptied}
 use Rattle.task_cell.proofs.Moved.{stands, first_held, goes_on}
 use Rattle.task_cell.proofs.cell.Cell.empty.Goals as goal

@@ -1,5 +1,4 @@
-use Rattle.std.proofs.Common.{rules, ap}
-use Rattle.task_steps.proofs.Allowed.{steps_always}
+use Rattle.task_cell.proofs.Vocabulary.{rules, ap, steps_always}
 use Rattle.task_steps.proofs.AwaiterOwed.{ends}
 use Rattle.task_cell.proofs.cell.Cell.end.Goals as goal
 

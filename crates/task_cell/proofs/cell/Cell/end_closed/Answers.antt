@@ -1,13 +1,4 @@
-use Rattle.std.proofs.Common.{◌≡◌, true, rules, ap, sym, subst, ◌∷◌, []}
-use Rattle.task_core.specs.Word.{state_of}
-use Rattle.task_steps.proofs.Allowed.{steps_always}
-use Rattle.task_laws.specs.declared.positions.Position.TheVariants.{PendingFutureDropped}
-use Rattle.task_laws.specs.declared.positions.NotifyingCall.TheVariants.{OfRun}
-use Rattle.task_core.specs.declared.acts.Act.TheVariants.{EndClosed}
-use Rattle.task_laws.specs.Table.{notifies}
-use Rattle.task_cell.specs.Calls.{Goes}
-use Rattle.task_steps.specs.Deeds.{row}
-use Rattle.task_steps.proofs.RunOwed.{ends_closed}
+use Rattle.task_cell.proofs.Vocabulary.{◌≡◌, true, rules, ap, sym, subst, ◌∷◌, [], state_of, steps_always, PendingFutureDropped, OfRun, EndClosed, notifies, Goes, row, ends_closed}
 use Rattle.task_cell.proofs.RunGoes.{ended_closed}
 use Rattle.task_cell.proofs.Moved.{future_held}
 use Rattle.task_cell.proofs.cell.Cell.end_closed.Goals as goal

@@ -1,6 +1,4 @@
-use Rattle.std.proofs.Common.{sym, subst, []}
-use Rattle.task_steps.specs.Steps.{future_first}
-use Rattle.task_cell.specs.RunCalls.{EndsPending, is_closed}
+use Rattle.task_cell.proofs.Vocabulary.{sym, subst, [], future_first, EndsPending, is_closed}
 use Rattle.task_cell.proofs.RunGoes.{may_end, ended_pending, found_closed_meanwhile, was_unclosed}
 use Rattle.task_cell.proofs.cell.Cell.end_pending.Goals as goal
 

@@ -1,4 +1,4 @@
-use Rattle.task_steps.specs.declared.table.Slot.TheVariants.{Awaiter}
+use Rattle.task_cell.proofs.Vocabulary.{Awaiter}
 use Rattle.task_cell.proofs.PollMoved.{may_give_back, ended, notified}
 use Rattle.task_cell.proofs.cell.Cell.end_register.Goals as goal
 

@@ -1,5 +1,4 @@
-use Rattle.std.proofs.Common.{rules, sym, ap, ◌∙◌, []}
-use Rattle.task_steps.specs.Rule.{laid_view}
+use Rattle.task_cell.proofs.Vocabulary.{rules, sym, ap, ◌∙◌, [], laid_view}
 use Rattle.task_cell.proofs.Spawned.{fills, spawns, parts, filled}
 use Rattle.task_cell.proofs.cell.Cell.fill.Goals as goal
 

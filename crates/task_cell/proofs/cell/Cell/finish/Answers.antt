@@ -1,12 +1,7 @@
-use Rattle.std.proofs.Common.{◌∙◌, [], false}
-use Rattle.task_laws.specs.declared.positions.NotifyingCall.TheVariants.{OfRun}
-use Rattle.task_laws.specs.declared.positions.Answer.TheVariants.{Ran}
-use Rattle.task_laws.specs.declared.positions.Rest.TheVariants.{Ended}
-use Rattle.task_laws.specs.declared.positions.Position.TheVariants.{CallEnding}
+use Rattle.task_cell.proofs.Vocabulary.{◌∙◌, [], false, OfRun, Ran, Ended, CallEnding, held}
 use Rattle.task_cell.proofs.Moved.{stands}
 use Rattle.task_cell.proofs.RunRest.{run_gives_up, due_cell, run_has, rested, ended_call}
 use Rattle.task_cell.proofs.cell.Cell.finish.Goals as goal
-use Rattle.task_steps.specs.Held.{held}
 
 pub release-requires-clause-party : goal.release-requires-clause-party
 release-requires-clause-party g c = let d = c.take_due-awaiter.ensures OfRun c.requires.party in

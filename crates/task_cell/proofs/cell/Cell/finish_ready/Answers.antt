@@ -1,13 +1,4 @@
-use Rattle.std.proofs.Common.{◌∙◌, sym, subst, ◌∷◌, []}
-use Rattle.task_laws.specs.declared.positions.NotifyingCall.TheVariants.{OfRun}
-use Rattle.task_laws.specs.declared.positions.Position.TheVariants.{Ready}
-use Rattle.task_core.specs.declared.acts.Act.TheVariants.{AnswerReady}
-use Rattle.task_laws.specs.Table.{notifies}
-use Rattle.task_steps.specs.declared.table.Slot.TheVariants.{Empty}
-use Rattle.task_cell.specs.Calls.{Stands}
-use Rattle.task_steps.specs.Deeds.{act}
-use Rattle.task_cell.specs.RunCalls.{Rests}
-use Rattle.task_steps.specs.Steps.{future_first}
+use Rattle.task_cell.proofs.Vocabulary.{◌∙◌, sym, subst, ◌∷◌, [], OfRun, Ready, AnswerReady, notifies, Empty, Stands, act, Rests, future_first}
 use Rattle.task_cell.proofs.Moved.{stands}
 use Rattle.task_cell.proofs.RunEnds.{ready_rest}
 use Rattle.task_cell.proofs.cell.Cell.finish_ready.Goals as goal

@@ -1,6 +1,4 @@
-use Rattle.std.proofs.Common.{[]}
-use Rattle.task_laws.specs.declared.positions.Answer.TheVariants.{Nothing}
-use Rattle.task_steps.specs.Standing.{as_ended}
+use Rattle.task_cell.proofs.Vocabulary.{[], Nothing, as_ended}
 use Rattle.task_cell.proofs.Moved.{stands, position_is}
 use Rattle.task_cell.proofs.cell.Cell.finish_wake.Goals as goal
 

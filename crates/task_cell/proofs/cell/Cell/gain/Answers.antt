@@ -1,5 +1,4 @@
-use Rattle.std.proofs.Common.{rules, ◌∙◌, ap, []}
-use Rattle.task_steps.proofs.WakerSeats.{parts_newest}
+use Rattle.task_cell.proofs.Vocabulary.{rules, ◌∙◌, ap, [], parts_newest}
 use Rattle.task_cell.proofs.WakerMoves.{may_gain, beside_waker, gains_waker, gains_nothing}
 use Rattle.task_cell.proofs.cell.Cell.gain.Goals as goal
 

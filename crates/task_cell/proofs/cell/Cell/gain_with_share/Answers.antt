@@ -1,5 +1,4 @@
-use Rattle.std.proofs.Common.{ap, Some, None}
-use Rattle.task_cell.specs.WakerPaths.{is_refused}
+use Rattle.task_cell.proofs.Vocabulary.{ap, Some, None, is_refused}
 use Rattle.task_cell.proofs.WakerMoves.{shares, gain_new}
 use Rattle.task_cell.proofs.cell.Cell.gain_with_share.Goals as goal
 

@@ -1,5 +1,4 @@
-use Rattle.std.proofs.Common.{sym, subst}
-use Rattle.task_cell.specs.TaskPaths.{Detaches}
+use Rattle.task_cell.proofs.Vocabulary.{sym, subst, Detaches}
 use Rattle.task_cell.proofs.TaskMoves.{may_detach, gives_up}
 use Rattle.task_cell.proofs.cell.Cell.give_task_up.Goals as goal
 

@@ -1,11 +1,6 @@
-use Rattle.std.proofs.Common.{rules, ap, subst, ◌∙◌}
-use Rattle.task_core.specs.Word.{state_of}
-use Rattle.task_steps.proofs.Allowed.{steps_always}
-use Rattle.task_steps.proofs.RunOwed.{gives_up}
-use Rattle.task_cell.proofs.RunGoes.{gave_up, none_left}
-use Rattle.task_cell.specs.RunCalls.{GivesUp}
+use Rattle.task_cell.proofs.Vocabulary.{rules, ap, subst, ◌∙◌, state_of, steps_always, gives_up, GivesUp, GiveUpReference}
 use Rattle.task_core.specs.Rows.{row}
-use Rattle.task_core.specs.declared.acts.Act.TheVariants.{GiveUpReference}
+use Rattle.task_cell.proofs.RunGoes.{gave_up, none_left}
 use Rattle.task_cell.proofs.cell.Cell.give_up.Goals as goal
 
 pub fetch_sub-found-requires : goal.fetch_sub-found-requires

@@ -1,9 +1,4 @@
-use Rattle.std.proofs.Common.{rules, ap, ◌∷◌, [], refl}
-use Rattle.task_laws.specs.declared.positions.Position.TheVariants.{TookOutput}
-use Rattle.task_steps.specs.declared.table.Slot.TheVariants.{Empty}
-use Rattle.task_steps.specs.Steps.{output_first}
-use Rattle.task_steps.proofs.Allowed.{steps_always}
-use Rattle.task_steps.proofs.PollOwed.{hands_out}
+use Rattle.task_cell.proofs.Vocabulary.{rules, ap, ◌∷◌, [], refl, TookOutput, Empty, output_first, steps_always, hands_out}
 use Rattle.task_cell.proofs.RunGoes.{at_rest}
 use Rattle.task_cell.proofs.Carried.{exchanges}
 use Rattle.task_cell.proofs.Moved.{stands, output_held}

@@ -1,5 +1,4 @@
-use Rattle.std.proofs.Common.{rules, ap}
-use Rattle.task_steps.proofs.Seats.{splits}
+use Rattle.task_cell.proofs.Vocabulary.{rules, ap, splits}
 use Rattle.task_cell.proofs.cell.Cell.hand_over.Goals as goal
 
 pub split_seat-seat-requires : goal.split_seat-seat-requires

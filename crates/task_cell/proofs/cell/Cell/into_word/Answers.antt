@@ -1,5 +1,4 @@
-use Rattle.std.proofs.Common.{ℕ, ◌<◌, ap, subst, false, ◌∙◌, get_or, set}
-use Rattle.task_cell.specs.LastWord.{IsLastWord}
+use Rattle.task_cell.proofs.Vocabulary.{ℕ, ◌<◌, ap, subst, false, ◌∙◌, get_or, set, IsLastWord}
 use Rattle.task_cell.proofs.Spawned.{last_word, cleared}
 use Rattle.task_cell.proofs.cell.Cell.into_word.Goals as goal
 

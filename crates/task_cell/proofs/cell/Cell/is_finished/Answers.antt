@@ -1,6 +1,4 @@
-use Rattle.std.proofs.Common.{rules, ap}
-use Rattle.task_steps.proofs.Known.{steps_knowing}
-use Rattle.task_steps.proofs.Owed.{looks_finished}
+use Rattle.task_cell.proofs.Vocabulary.{rules, ap, steps_knowing, looks_finished}
 use Rattle.task_cell.proofs.cell.Cell.is_finished.Goals as goal
 
 pub load-found-requires : goal.load-found-requires

@@ -1,14 +1,8 @@
-use Rattle.std.proofs.Common.{◌∙◌}
-use Rattle.task_laws.specs.declared.positions.Answer.TheVariants.{Nothing}
-use Rattle.task_laws.specs.declared.positions.Rest.TheVariants.{Task}
-use Rattle.task_laws.specs.declared.positions.NotifyingCall.TheVariants.{OfCancel}
+use Rattle.task_cell.proofs.Vocabulary.{◌∙◌, Nothing, Task, OfCancel}
 use Rattle.task_cell.proofs.Moved.{stands}
 use Rattle.task_cell.proofs.RunRest.{due_cell, cancel_has}
 use Rattle.task_cell.proofs.TaskMoves.{ends_noticed}
 use Rattle.task_cell.proofs.cell.Cell.leave_closed.Goals as goal
-
-pub take_due-awaiter-requires-clause-party : goal.take_due-awaiter-requires-clause-party
-take_due-awaiter-requires-clause-party g c = let s = c.requires.party in (OfCancel s.0, s.1)
 
 pub wake_taken-requires-clause-cell : goal.wake_taken-requires-clause-cell
 wake_taken-requires-clause-cell g c = let s = c.requires.party in due_cell _ _ _ _ _ (c.take_due-awaiter.ensures (OfCancel s.0) s.1) ∙ c.requires.cell

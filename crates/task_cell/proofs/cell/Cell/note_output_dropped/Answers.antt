@@ -1,8 +1,5 @@
-use Rattle.std.proofs.Common.{rules, ap}
-use Rattle.task_laws.specs.declared.positions.Position.TheVariants.{OutputCloser}
-use Rattle.task_steps.proofs.Allowed.{steps_always}
+use Rattle.task_cell.proofs.Vocabulary.{rules, ap, OutputCloser, steps_always, drops_output}
 use Rattle.task_cell.proofs.Moved.{output_held}
-use Rattle.task_steps.proofs.TaskOwed.{drops_output}
 use Rattle.task_cell.proofs.cell.Cell.note_output_dropped.Goals as goal
 
 pub load-requires : goal.load-requires

@@ -1,6 +1,4 @@
-use Rattle.std.proofs.Common.{rules, ap}
-use Rattle.task_steps.proofs.Allowed.{steps_always}
-use Rattle.task_steps.proofs.AwaiterOwed.{wakes}
+use Rattle.task_cell.proofs.Vocabulary.{rules, ap, steps_always, wakes}
 use Rattle.task_cell.proofs.cell.Cell.note_woken.Goals as goal
 
 pub load-requires : goal.load-requires

@@ -1,9 +1,4 @@
-use Rattle.std.proofs.Common.{rules, ap, sym, ◌∙◌, ◌≡◌, Bool, true, false, ◌||◌, refl}
-use Rattle.task_core.specs.Word.{state_of}
-use Rattle.task_steps.specs.declared.table.Slot.TheVariants.{Empty}
-use Rattle.task_steps.proofs.Allowed.{steps_always}
-use Rattle.task_steps.proofs.AwaiterOwed.{takes, releases_awaiter}
-use Rattle.task_steps.specs.Held.{held, awaiter_in}
+use Rattle.task_cell.proofs.Vocabulary.{rules, ap, sym, ◌∙◌, ◌≡◌, true, ◌||◌, state_of, Empty, steps_always, takes, releases_awaiter, held, awaiter_in, true_left, true_right}
 use Rattle.task_cell.proofs.Notified.{taken_free, missed, notified}
 use Rattle.task_cell.proofs.Carried.{exchanges}
 use Rattle.task_cell.proofs.Moved.{stands, first_held}
@@ -14,19 +9,11 @@ pub fetch_or-found-requires : goal.fetch_or-found-requires
 fetch_or-found-requires g c = let s = c.requires.party in
     (search rules, search rules, steps_always _ _ _ _ _ _ _ _ _ _ _ _ _ (search rules) (ap (λ m. m.0) s.2) (takes _ _ _ _ s.0 _ _ _))
 
-left : (a b : Bool) → a ≡ true → (a || b) ≡ true
-left true b e = refl
-left false b e = absurd (cc)
-
-right : (a b : Bool) → b ≡ true → (a || b) ≡ true
-right true b e = refl
-right false b e = e
-
 pub returns-then-notifying : goal.returns-then-notifying
 returns-then-notifying g c = let s = c.requires.party in let w = state_of c.fetch_or-found.result in let b = c.from_bits-found.ensures in
     let is : (w.notifying || w.registering) ≡ true = elim c.then-notifying.branch [
-      | then-notifying-via-then-notifying z ↦ left w.notifying w.registering (ap (λ w. w.notifying) (sym b) ∙ (sym c.notifying.ensures ∙ z.if-notifying.true))
-      | then-notifying-via-else-notifying+then-registering z ↦ right w.notifying w.registering (ap (λ w. w.registering) (sym b) ∙ (sym z.registering.ensures ∙ z.if-registering.true))
+      | then-notifying-via-then-notifying z ↦ true_left w.notifying w.registering (ap (λ w. w.notifying) (sym b) ∙ (sym c.notifying.ensures ∙ z.if-notifying.true))
+      | then-notifying-via-else-notifying+then-registering z ↦ true_right w.notifying w.registering (ap (λ w. w.registering) (sym b) ∙ (sym z.registering.ensures ∙ z.if-registering.true))
     ] in missed s.0 s.1 _ _ w s.2 c.fetch_or-found.ensures.0 c.fetch_or-found.ensures.2 is
 
 pub take_out-requires : goal.take_out-requires

@@ -1,11 +1,4 @@
-use Rattle.std.proofs.Common.{◌∷◌, [], ◌++◌, sym, ◌∙◌, refl, true, false}
-use Rattle.std.specs.Prelude.{Ok, Err}
-use Rattle.task_laws.specs.declared.positions.NotifyingCall.TheVariants.{OfPoll}
-use Rattle.task_laws.specs.declared.positions.Position.TheVariants.{Notifier, Registrar, Looking}
-use Rattle.task_core.specs.declared.acts.Act.TheVariants.{Look, ClaimOutput}
-use Rattle.task_cell.specs.Calls.{position}
-use Rattle.task_steps.specs.Deeds.{row}
-use Rattle.task_steps.specs.Standing.{poll_number}
+use Rattle.task_cell.proofs.Vocabulary.{◌∷◌, [], ◌++◌, sym, ◌∙◌, refl, true, false, Ok, Err, OfPoll, Notifier, Registrar, Looking, Look, ClaimOutput, position, row, poll_number}
 use Rattle.task_cell.proofs.Moved.{stands}
 use Rattle.task_cell.proofs.PollSeen.{poll_saw, still_ended}
 use Rattle.task_cell.proofs.PollWays.{has_claimed}

@@ -1,11 +1,4 @@
-use Rattle.std.proofs.Common.{ap, ◌∙◌, subst, refl, ◌∷◌, []}
-use Rattle.std.specs.Arc.{arc_value}
-use Rattle.atomic_table.specs.Table.{rest}
-use Rattle.task_laws.specs.declared.positions.Position.TheVariants.{Polling}
-use Rattle.task_steps.specs.Steps.{future_first}
-use Rattle.task_steps.specs.Rule.{view, member}
-use Rattle.task_cell.specs.Calls.{StandsWith, deeds, limit_of}
-use Rattle.task_steps.proofs.PollOwed.{same_first}
+use Rattle.task_cell.proofs.Vocabulary.{ap, ◌∙◌, subst, refl, ◌∷◌, [], arc_value, rest, Polling, future_first, view, member, StandsWith, deeds, limit_of, same_first}
 use Rattle.task_cell.proofs.cell.Cell.poll_future.Goals as goal
 
 pub returns-clause-once : goal.returns-clause-once

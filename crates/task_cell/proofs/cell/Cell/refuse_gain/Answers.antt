@@ -1,8 +1,4 @@
-use Rattle.std.proofs.Common.{rules, ap, refl}
-use Rattle.task_core.specs.Word.{state_of}
-use Rattle.task_steps.proofs.Allowed.{steps_always}
-use Rattle.task_laws.specs.declared.positions.Rest.TheVariants.{Lent}
-use Rattle.task_steps.proofs.WakerOwed.{refuses_gain}
+use Rattle.task_cell.proofs.Vocabulary.{rules, ap, refl, state_of, steps_always, Lent, refuses_gain}
 use Rattle.task_cell.proofs.WakerMoves.{refuses}
 use Rattle.task_cell.proofs.cell.Cell.refuse_gain.Goals as goal
 

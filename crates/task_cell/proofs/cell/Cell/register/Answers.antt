@@ -1,5 +1,4 @@
-use Rattle.std.proofs.Common.{subst}
-use Rattle.task_cell.specs.PollPaths.{is_registered, clone_refused}
+use Rattle.task_cell.proofs.Vocabulary.{subst, is_registered, clone_refused}
 use Rattle.task_cell.proofs.cell.Cell.register.Goals as goal
 
 pub returns-in_default : goal.returns-in_default

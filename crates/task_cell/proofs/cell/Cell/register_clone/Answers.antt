@@ -1,4 +1,4 @@
-use Rattle.std.proofs.Common.{subst, true, false}
+use Rattle.task_cell.proofs.Vocabulary.{subst, true, false}
 use Rattle.task_cell.proofs.Moved.{stands}
 use Rattle.task_cell.proofs.PollRegisters.{has_begun, has_ended, stores_clone, takes_back, same_clone, woken_at_once, registered, was_given_back, was_notified}
 use Rattle.task_cell.proofs.cell.Cell.register_clone.Goals as goal

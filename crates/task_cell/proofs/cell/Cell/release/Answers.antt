@@ -1,4 +1,4 @@
-use Rattle.std.proofs.Common.{◌∙◌}
+use Rattle.task_cell.proofs.Vocabulary.{◌∙◌}
 use Rattle.task_cell.proofs.RunGoes.{gives_cell, last_stands, releases_last, releases_other}
 use Rattle.task_cell.proofs.cell.Cell.release.Goals as goal
 

@@ -1,11 +1,6 @@
-use Rattle.std.proofs.Common.{◌∙◌, sym, ap, subst, []}
-use Rattle.std.specs.Arc.{arc_value}
-use Rattle.task_cell.specs.declared.cell.Cell.{Cell}
-use Rattle.task_cell.specs.RunCalls.{EndsUnready}
-use Rattle.task_cell.specs.Handed.{HandedOver}
-use Rattle.task_steps.specs.Steps.{future_first}
-use Rattle.task_cell.proofs.Moved.{stands}
-use Rattle.task_cell.proofs.Running.{shut, started, polls_there, limit_started, run_closed, run_ready, run_pending}
+use Rattle.task_cell.proofs.Vocabulary.{◌∙◌, sym, ap, subst, [], arc_value, Cell, EndsUnready, HandedOver, future_first}
+use Rattle.task_cell.proofs.Moved.{stands, limit_is}
+use Rattle.task_cell.proofs.Running.{shut, started, run_closed, run_ready, run_pending}
 use Rattle.task_cell.proofs.cell.Cell.run.Goals as goal
 
 pub end_closed_run-ended-requires-clause-cell : goal.end_closed_run-ended-requires-clause-cell
@@ -26,18 +21,15 @@ poll_future-share-requires-clause-cell g c = let s = started c.args.party c.begi
 
 pub poll_future-share-requires-clause-limit : goal.poll_future-share-requires-clause-limit
 poll_future-share-requires-clause-limit g c = let s = started c.args.party c.begin_run-party.result.0 c.begin_run-party.result.1 c.begin_run-party.ensures c.if-not-started.false in
-    limit_started c.args.party c.begin_run-party.result.0 s ∙ c.requires.cell.1
+    limit_is _ _ _ _ _ s.goes ∙ c.requires.cell.1
 
 pub poll_future-share-requires-clause-party : goal.poll_future-share-requires-clause-party
 poll_future-share-requires-clause-party g c = let s = started c.args.party c.begin_run-party.result.0 c.begin_run-party.result.1 c.begin_run-party.ensures c.if-not-started.false in
-    (s.place, s.other, polls_there c.args.party c.begin_run-party.result.0 s, s.future)
+    (s.place, s.other, stands c.args.party c.begin_run-party.result.0 _ _ _ s.goes, s.future)
 
 pub end_ready_run-ended-requires-clause-cell : goal.end_ready_run-ended-requires-clause-cell
 end_ready_run-ended-requires-clause-cell g c = let s = started c.args.party c.begin_run-party.result.0 c.begin_run-party.result.1 c.begin_run-party.ensures c.if-not-started.false in let p = c.poll_future-share.ensures in
     p.seat ∙ (s.goes.cell ∙ (c.requires.cell.0 ∙ ap (λ z. z.table.shared.table_id) (sym (c.deref-in-Ready.ensures ∙ ap (λ z. arc_value z) (c.cell-in-Ready.ensures ∙ ap (λ z. z.cell) p.share)))))
-
-pub end_ready_run-ended-requires-clause-party : goal.end_ready_run-ended-requires-clause-party
-end_ready_run-ended-requires-clause-party g c = let p = c.poll_future-share.ensures in (_, p.once.2, p.once.4)
 
 pub returns-in-Ready-clause-path : goal.returns-in-Ready-clause-path
 returns-in-Ready-clause-path g c = let s = started c.args.party c.begin_run-party.result.0 c.begin_run-party.result.1 c.begin_run-party.ensures c.if-not-started.false in let p = c.poll_future-share.ensures in
@@ -45,10 +37,7 @@ returns-in-Ready-clause-path g c = let s = started c.args.party c.begin_run-part
 
 pub end_pending_run-ended-requires-clause-cell : goal.end_pending_run-ended-requires-clause-cell
 end_pending_run-ended-requires-clause-cell g c = let s = started c.args.party c.begin_run-party.result.0 c.begin_run-party.result.1 c.begin_run-party.ensures c.if-not-started.false in let p = c.poll_future-share.ensures in
-    (p.seat ∙ (s.goes.cell ∙ (c.requires.cell.0 ∙ ap (λ (z : Cell g.row.R.Denot g.row.F.Denot g.row.Q.Denot g.row.M.Denot g.row.A.Denot g.row.B.Denot g.row.F-Output.Denot g.F.Yields). z.table.shared.table_id) (sym (ap (λ z. arc_value z) (c.cell-in-Pending.ensures ∙ ap (λ z. z.cell) p.share))))), p.limit ∙ (limit_started c.args.party c.begin_run-party.result.0 s ∙ (c.requires.cell.1 ∙ ap (λ (z : Cell g.row.R.Denot g.row.F.Denot g.row.Q.Denot g.row.M.Denot g.row.A.Denot g.row.B.Denot g.row.F-Output.Denot g.F.Yields). z.limit) (sym (ap (λ z. arc_value z) (c.cell-in-Pending.ensures ∙ ap (λ z. z.cell) p.share))))))
-
-pub end_pending_run-ended-requires-clause-party : goal.end_pending_run-ended-requires-clause-party
-end_pending_run-ended-requires-clause-party g c = let p = c.poll_future-share.ensures in (_, p.once.2, p.once.4, tt)
+    (p.seat ∙ (s.goes.cell ∙ (c.requires.cell.0 ∙ ap (λ (z : Cell g.row.R.Denot g.row.F.Denot g.row.Q.Denot g.row.M.Denot g.row.A.Denot g.row.B.Denot g.row.F-Output.Denot g.F.Yields). z.table.shared.table_id) (sym (ap (λ z. arc_value z) (c.cell-in-Pending.ensures ∙ ap (λ z. z.cell) p.share))))), p.limit ∙ (limit_is _ _ _ _ _ s.goes ∙ (c.requires.cell.1 ∙ ap (λ (z : Cell g.row.R.Denot g.row.F.Denot g.row.Q.Denot g.row.M.Denot g.row.A.Denot g.row.B.Denot g.row.F-Output.Denot g.F.Yields). z.limit) (sym (ap (λ z. arc_value z) (c.cell-in-Pending.ensures ∙ ap (λ z. z.cell) p.share))))))
 
 pub returns-in-Pending-clause-path : goal.returns-in-Pending-clause-path
 returns-in-Pending-clause-path g c = let s = started c.args.party c.begin_run-party.result.0 c.begin_run-party.result.1 c.begin_run-party.ensures c.if-not-started.false in let p = c.poll_future-share.ensures in

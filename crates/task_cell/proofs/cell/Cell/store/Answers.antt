@@ -1,7 +1,4 @@
-use Rattle.std.proofs.Common.{rules, ap, sym, ◌∙◌}
-use Rattle.task_steps.proofs.Allowed.{steps_always}
-use Rattle.task_steps.proofs.PollOwed.{drops_stored, same_first}
-use Rattle.task_steps.specs.Held.{held}
+use Rattle.task_cell.proofs.Vocabulary.{rules, ap, sym, ◌∙◌, steps_always, drops_stored, same_first, held}
 use Rattle.task_cell.proofs.Notified.{awaiter_there}
 use Rattle.task_cell.proofs.cell.Cell.store.Goals as goal
 

@@ -1,4 +1,4 @@
-use Rattle.std.proofs.Common.{◌∙◌, sym}
+use Rattle.task_cell.proofs.Vocabulary.{◌∙◌, sym}
 use Rattle.task_cell.proofs.RunEnds.{completes_cell, output_left, stores_kept, stores_dropped}
 use Rattle.task_cell.proofs.cell.Cell.store_output.Goals as goal
 

@@ -1,7 +1,6 @@
-use Rattle.std.proofs.Common.{ap, subst}
+use Rattle.task_cell.proofs.Vocabulary.{ap, subst, held}
 use Rattle.task_cell.proofs.PollWays.{in_hand, hand_stands, dropped, woke, nothing}
 use Rattle.task_cell.proofs.cell.Cell.take_awaiter.Goals as goal
-use Rattle.task_steps.specs.Held.{held}
 
 pub note_dropped-requires-clause-party : goal.note_dropped-requires-clause-party
 note_dropped-requires-clause-party g c = let s = c.requires.party in

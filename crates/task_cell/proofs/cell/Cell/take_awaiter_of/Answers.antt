@@ -1,5 +1,4 @@
-use Rattle.std.proofs.Common.{refl, sym, ◌∙◌}
-use Rattle.task_laws.specs.declared.positions.NotifyingCall.TheVariants.{OfClaim}
+use Rattle.task_cell.proofs.Vocabulary.{refl, sym, ◌∙◌, OfClaim}
 use Rattle.task_cell.proofs.PollWays.{notifies_so, taken_if, none_taken}
 use Rattle.task_cell.proofs.cell.Cell.take_awaiter_of.Goals as goal
 

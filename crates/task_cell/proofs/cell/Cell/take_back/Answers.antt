@@ -1,9 +1,4 @@
-use Rattle.std.proofs.Common.{rules, ap, ◌∷◌, [], refl}
-use Rattle.task_core.specs.Word.{state_of}
-use Rattle.task_laws.specs.declared.positions.Position.TheVariants.{TookBack}
-use Rattle.task_steps.specs.declared.table.Slot.TheVariants.{Awaiter, Empty}
-use Rattle.task_steps.proofs.Allowed.{steps_always}
-use Rattle.task_steps.proofs.PollOwed.{ends_notified}
+use Rattle.task_cell.proofs.Vocabulary.{rules, ap, ◌∷◌, [], refl, state_of, TookBack, Awaiter, Empty, steps_always, ends_notified}
 use Rattle.task_cell.proofs.RunGoes.{at_rest}
 use Rattle.task_cell.proofs.Carried.{exchanges}
 use Rattle.task_cell.proofs.Moved.{stands, first_held}

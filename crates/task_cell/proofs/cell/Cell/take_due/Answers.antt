@@ -1,14 +1,7 @@
-use Rattle.std.proofs.Common.{sym, subst, [], refl, None}
-use Rattle.task_laws.specs.Table.{notifies}
-use Rattle.task_cell.specs.Calls.{Stands}
-use Rattle.task_cell.specs.RunCalls.{TakesDue, takes_none}
+use Rattle.task_cell.proofs.Vocabulary.{sym, subst, [], refl, None, notifies, Stands, TakesDue, takes_none, held}
 use Rattle.task_cell.specs.RunPaths.{not_due}
 use Rattle.task_cell.proofs.RunRest.{took_due}
 use Rattle.task_cell.proofs.cell.Cell.take_due.Goals as goal
-use Rattle.task_steps.specs.Held.{held}
-
-pub notify-requires-clause-party : goal.notify-requires-clause-party
-notify-requires-clause-party g c = let s = c.requires.party in (s.0, [], subst (λ b. Stands (notifies b s.0) c.args.party.now) c.if-due.true s.1)
 
 pub returns-then-due : goal.returns-then-due
 returns-then-due g c = λ way s. subst (λ b. TakesDue way b c.args.party.now c.notify.new.party (held c.notify.result)) (sym c.if-due.true)

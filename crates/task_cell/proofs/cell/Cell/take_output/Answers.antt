@@ -1,16 +1,7 @@
-use Rattle.std.proofs.Common.{[], subst}
-use Rattle.task_laws.specs.declared.positions.NotifyingCall.TheVariants.{OfClaim}
-use Rattle.task_laws.specs.declared.positions.Position.TheVariants.{TookOutput}
-use Rattle.task_laws.specs.Table.{notifies}
-use Rattle.task_cell.specs.Calls.{position, holds, StandsWith}
-use Rattle.task_steps.specs.Standing.{poll_number}
-use Rattle.task_steps.specs.Steps.{output_first}
+use Rattle.task_cell.proofs.Vocabulary.{[], subst, OfClaim, TookOutput, notifies, position, holds, StandsWith, poll_number, output_first}
 use Rattle.task_cell.proofs.Moved.{stands, held_is}
 use Rattle.task_cell.proofs.PollWays.{handed_out}
 use Rattle.task_cell.proofs.cell.Cell.take_output.Goals as goal
-
-pub take_awaiter_of-requires-clause-party : goal.take_awaiter_of-requires-clause-party
-take_awaiter_of-requires-clause-party g c = let s = c.requires.party in (s.0, output_first s.1 s.2 [], s.3)
 
 pub hand_out-requires-clause-party : goal.hand_out-requires-clause-party
 hand_out-requires-clause-party g c = let s = c.requires.party in let p = c.args.party.now in let q = c.take_awaiter_of.new.party in let n = poll_number (position p) in let t = c.take_awaiter_of.ensures in

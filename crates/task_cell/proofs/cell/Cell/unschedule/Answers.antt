@@ -1,8 +1,5 @@
-use Rattle.std.proofs.Common.{rules, ap}
-use Rattle.task_laws.specs.declared.positions.Position.TheVariants.{FutureInHand}
-use Rattle.task_steps.proofs.Allowed.{steps_always}
+use Rattle.task_cell.proofs.Vocabulary.{rules, ap, FutureInHand, steps_always, unschedules}
 use Rattle.task_cell.proofs.Moved.{future_held}
-use Rattle.task_steps.proofs.Owed.{unschedules}
 use Rattle.task_cell.proofs.cell.Cell.unschedule.Goals as goal
 
 pub fetch_and-found-requires : goal.fetch_and-found-requires

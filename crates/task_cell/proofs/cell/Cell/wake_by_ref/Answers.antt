@@ -1,5 +1,4 @@
-use Rattle.std.proofs.Common.{rules, sym, ◌∙◌, ap, []}
-use Rattle.task_steps.proofs.WakerSeats.{parts_newest}
+use Rattle.task_cell.proofs.Vocabulary.{rules, sym, ◌∙◌, ap, [], parts_newest}
 use Rattle.task_cell.proofs.WakerMoves.{may_wake, beside_deliverer, wakes_idle, wakes_busy, wakes_over}
 use Rattle.task_cell.proofs.cell.Cell.wake_by_ref.Goals as goal
 

@@ -1,4 +1,4 @@
-use Rattle.std.proofs.Common.{ap}
+use Rattle.task_cell.proofs.Vocabulary.{ap}
 use Rattle.task_cell.proofs.WakerMoves.{fresh_stands, spent_by_wake, is_spent_at, wake_gives}
 use Rattle.task_cell.proofs.cell.Cell.wake_by_reference.Goals as goal
 

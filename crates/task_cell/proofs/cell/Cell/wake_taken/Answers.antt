@@ -1,5 +1,4 @@
-use Rattle.std.proofs.Common.{[], ap}
-use Rattle.task_steps.specs.Held.{held}
+use Rattle.task_cell.proofs.Vocabulary.{[], ap, held}
 use Rattle.task_cell.proofs.RunRest.{wakes_has, wakes_none, has_hand}
 use Rattle.task_cell.proofs.cell.Cell.wake_taken.Goals as goal
 

@@ -1,9 +1,4 @@
-use Rattle.std.proofs.Common.{ap, ◌∙◌, subst, List}
-use Rattle.std.specs.Arc.{arc_value}
-use Rattle.task_steps.specs.declared.table.Deed.{Deed}
-use Rattle.task_cell.specs.declared.cell.Cell.{Cell}
-use Rattle.task_cell.specs.Handed.{HandedOver, PolledOnce}
-use Rattle.task_cell.specs.RunPaths.{RunPath}
+use Rattle.task_cell.proofs.Vocabulary.{ap, ◌∙◌, subst, List, arc_value, Deed, Cell, HandedOver, PolledOnce, RunPath}
 use Rattle.task_cell.proofs.cell.Runnable.run.Goals as goal
 
 pub returns-then-woken : goal.returns-then-woken

@@ -1,7 +1,4 @@
-use Rattle.std.proofs.Common.{ap, ◌∙◌, subst, false}
-use Rattle.std.specs.Arc.{arc_value}
-use Rattle.task_cell.specs.declared.cell.Cell.{Cell}
-use Rattle.task_cell.specs.Handed.{HandedOver}
+use Rattle.task_cell.proofs.Vocabulary.{ap, ◌∙◌, subst, false, arc_value, Cell, HandedOver}
 use Rattle.task_cell.proofs.cell.Runnable.schedule.Goals as goal
 
 pub returns : goal.returns
