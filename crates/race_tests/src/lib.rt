@@ -5,6 +5,8 @@
 #[cfg(test)]
 mod awaiter;
 #[cfg(test)]
+mod handles;
+#[cfg(test)]
 mod raced;
 #[cfg(test)]
 mod registration_tests;

@@ -3,8 +3,8 @@ ghost use Rattle.std.specs.Prelude.{⊤};
 
 use crate::awaiter::RaceAwaiter;
 use async_task::{
-    Future, ParkedRunnable, ParkedWaker, Poll, Runnable, Schedule, ScheduleInfo, Task, TaskWaker,
-    Yields, spawn,
+    Cancel, Future, ParkedRunnable, ParkedWaker, Poll, Runnable, Schedule, ScheduleInfo, Task,
+    TaskWaker, Yields, spawn,
 };
 use fixtures::counters::{Counter, Counters, Counts};
 use std::alloc::{AllocError, Global};
@@ -25,6 +25,16 @@ pub type RaceRunnable<'x, R> = Runnable<
 
 /// A Task of a race.
 pub type RaceTask<'x, R> = Task<
+    R,
+    RaceFuture,
+    RaceScheduler,
+    (),
+    RaceAwaiter,
+    &'x RaceSurroundings<R>,
+>;
+
+/// The handle whose first poll cancels the task of a race.
+pub type RaceCancel<'x, R> = Cancel<
     R,
     RaceFuture,
     RaceScheduler,
@@ -215,6 +225,11 @@ impl<R: Wait + Drop> RaceSurroundings<R> {
         true
     }
 
+    /// Takes the Runnable out of the queue and drops it, which cancels its task. False where there is none.
+    pub fn discard_next(&self) -> bool {
+        self.receive().is_some()
+    }
+
     /// Keeps the waker of a round, for the thread that acts on it.
     pub fn keep<'x>(&'x self, waker: RaceWaker<'x, R>) {
         let parked = waker.park();
@@ -233,6 +248,11 @@ impl<R: Wait + Drop> RaceSurroundings<R> {
         Some(parked.unpark(self))
     }
 
+    // Takes the waker that was kept, and drops it. False where there is none.
+    fn discard_kept(&self) -> bool {
+        self.take_kept().is_some()
+    }
+
     /// What the future of the round waits for happens.
     pub fn happen(&self) {
         self.has_happened.store(true, Ordering::SeqCst);
@@ -248,7 +268,7 @@ impl<R: Wait + Drop> RaceSurroundings<R> {
         } = self.counters.counts();
         let dropped = (future_drops, scheduler_drops) == (rounds, rounds);
         let outputs = self.counters.output_drops.get() == self.outputs.get();
-        let left = self.receive().is_some() || self.take_kept().is_some();
+        let left = self.discard_next() || self.discard_kept();
         let doubled = self.counters.overlaps.get() != 0 || self.second_runnables.get() != 0;
         dropped && outputs && !left && !doubled
     }

@@ -1,6 +1,7 @@
 //! Races of a poll that registers its awaiter with a party that ends the task, and so takes out the awaiter of the poll before.
 
 use crate::awaiter::RaceAwaiter;
+use crate::handles;
 use crate::raced::{RaceOutput, RaceSurroundings, RaceTask};
 use crate::rounds::{Rounds, Tally};
 use async_task::{TaskClosed, TaskPoll};
@@ -42,7 +43,9 @@ impl Ending {
             Ending::Run => {
                 surroundings.run_next();
             }
-            Ending::Discard => drop(surroundings.receive()),
+            Ending::Discard => {
+                surroundings.discard_next();
+            }
         }
     }
 }
@@ -72,29 +75,24 @@ fn poll_once<R: Wait + Abort + Drop + Copy>(
     ending: Ending,
     round: u64,
 ) -> (bool, bool) {
-    let Ok(first) = RaceAwaiter::new(alloc) else {
-        panic!(rt; "no memory for the first awaiter");
-    };
-    let Ok(second) = RaceAwaiter::new(alloc) else {
-        panic!(rt; "no memory for the second awaiter");
-    };
-    let Ok((runnable, mut task)) = surroundings.spawn(true) else {
-        panic!(rt; "no memory for a task");
-    };
-    let registered = matches!(task.poll(&first), TaskPoll::Pending);
+    let first = handles::awaiter(rt, alloc);
+    let second = handles::awaiter(rt, alloc);
+    let (runnable, mut task) = handles::spawn(rt, surroundings, true);
+    let registered = handles::is_pending(&mut task, &first);
     surroundings.queue(runnable);
     rounds.open(rt, round);
     rounds.start(round, 1);
-    let mut polled = task.poll(&second);
+    let mut polled = handles::poll(&mut task, &second);
     rounds.close(rt, round);
     let is_woken = second.is_woken();
     let met = second.reference_wakes() != 0;
     let waits = matches!(polled, TaskPoll::Pending);
     if waits {
-        polled = task.poll(&second);
+        polled = handles::poll(&mut task, &second);
     }
     let told = ending.is_told_by(&polled) && (is_woken || !waits);
-    drop((polled, task));
+    drop(polled);
+    handles::drop_task(task);
     let all_ended = first.clones() == first.ends() && second.clones() == second.ends();
     let right = registered && told && all_ended && surroundings.ended(round.wrapping_add(1));
     (met, right)
@@ -174,7 +172,7 @@ fn poll_beside<'x, R: Wait + Threads + Drop + Copy + Send + Sync>(
         let Ok(ends) = ends else {
             return false;
         };
-        let polled = task.poll(second);
+        let polled = handles::poll(&mut task, second);
         ends.join(rt) && ending.is_told_by(&polled)
     })
 }
@@ -190,7 +188,7 @@ fn poll_meeting<R: Wait + Threads + Drop + Copy + Send + Sync>(
     let first = RaceAwaiter::new(alloc)?;
     let second = RaceAwaiter::new(alloc)?;
     let (runnable, mut task) = surroundings.spawn(true)?;
-    let registered = matches!(task.poll(&first), TaskPoll::Pending);
+    let registered = handles::is_pending(&mut task, &first);
     surroundings.queue(runnable);
     let told = poll_beside(&rt, &surroundings, task, &first, &second, ending);
     let counted = [

@@ -2,9 +2,10 @@
 ghost use Rattle.std.specs.Prelude.{⊤};
 
 use crate::awaiter::RaceAwaiter;
-use crate::raced::{RaceFuture, RaceOutput, RaceScheduler, RaceSurroundings, RaceTask};
+use crate::handles;
+use crate::raced::{RaceCancel, RaceOutput, RaceSurroundings, RaceTask};
 use crate::rounds::{Calls, LEAST_MET, Rounds, Tally};
-use async_task::{Cancel, TaskClosed, TaskPoll};
+use async_task::{TaskClosed, TaskPoll};
 use fixtures::counters::Counter;
 use std::alloc::{AllocError, Global};
 use std::process::Abort;
@@ -18,16 +19,6 @@ const ROUNDS: u64 = 10_000;
 
 // How often a thread looks for what it waits for, at most.
 const TURNS: u32 = 10_000_000;
-
-// The handle whose first poll cancels the task of a race.
-type RaceCancel<'x, R> = Cancel<
-    R,
-    RaceFuture,
-    RaceScheduler,
-    (),
-    RaceAwaiter,
-    &'x RaceSurroundings<R>,
->;
 
 // What the first thread does with the Task.
 #[derive(Clone, Copy)]
@@ -60,26 +51,26 @@ impl Act {
         let mut task = task;
         match self {
             Act::Drop => {
-                drop(task);
+                handles::drop_task(task);
                 Left::Nothing
             }
             Act::Detach => {
-                task.detach();
+                handles::detach(task);
                 Left::Nothing
             }
             Act::Poll => {
-                let polled = task.poll(awaiter);
+                let polled = handles::poll(&mut task, awaiter);
                 Left::Task(task, polled)
             }
             Act::Cancel => {
                 let mut cancel = task.cancel();
-                let polled = cancel.poll(awaiter);
+                let polled = handles::poll_cancel(&mut cancel, awaiter);
                 Left::Cancel(cancel, polled)
             }
             Act::Await => {
-                let mut polled = task.poll(awaiter);
+                let mut polled = handles::poll(&mut task, awaiter);
                 if matches!(polled, TaskPoll::Pending) && await_wake(awaiter) {
-                    polled = task.poll(awaiter);
+                    polled = handles::poll(&mut task, awaiter);
                 }
                 Left::Task(task, polled)
             }
@@ -109,20 +100,39 @@ impl<'x, R: Wait + Drop> Left<'x, R> {
     fn is_right(self, awaiter: &RaceAwaiter) -> bool {
         match self {
             Left::Nothing => true,
-            Left::Task(mut task, polled) => match polled {
-                TaskPoll::Pending => {
-                    awaiter.is_woken() && matches!(task.poll(awaiter), TaskPoll::Ready(Ok(_)))
-                }
-                answered => matches!(answered, TaskPoll::Ready(Ok(_))),
-            },
-            Left::Cancel(mut cancel, polled) => match polled {
-                TaskPoll::Pending => {
-                    awaiter.is_woken() && matches!(cancel.poll(awaiter), TaskPoll::Ready(None))
-                }
-                answered => matches!(answered, TaskPoll::Ready(_)),
-            },
+            Left::Task(task, polled) => is_task_right(task, polled, awaiter),
+            Left::Cancel(cancel, polled) => is_cancel_right(cancel, polled, awaiter),
         }
     }
+}
+
+// Whether a Task was answered as it must be: with an output, now or at a poll after a wake.
+fn is_task_right<R: Wait + Drop>(
+    mut task: RaceTask<'_, R>,
+    polled: TaskPoll<Result<RaceOutput, TaskClosed>>,
+    awaiter: &RaceAwaiter,
+) -> bool {
+    let waits = matches!(polled, TaskPoll::Pending);
+    let ready = matches!(polled, TaskPoll::Ready(Ok(_)));
+    drop(polled);
+    let right = ready || waits && awaiter.is_woken() && handles::is_ready(&mut task, awaiter);
+    handles::drop_task(task);
+    right
+}
+
+// Whether a Cancel was answered as it must be: ready, or without an output at a poll after a wake.
+fn is_cancel_right<R: Wait + Drop>(
+    mut cancel: RaceCancel<'_, R>,
+    polled: TaskPoll<Option<RaceOutput>>,
+    awaiter: &RaceAwaiter,
+) -> bool {
+    let waits = matches!(polled, TaskPoll::Pending);
+    let ready = matches!(polled, TaskPoll::Ready(_));
+    drop(polled);
+    let right = ready
+        || waits && awaiter.is_woken() && handles::is_cancel_empty(&mut cancel, awaiter);
+    handles::drop_cancel(cancel);
+    right
 }
 
 // What the threads of a race share.
@@ -166,7 +176,7 @@ impl<R: Wait + Drop + Copy> Race<R> {
             let is_over = self.acted.get() == acts;
             if let Some(runnable) = self.surroundings.receive() {
                 self.runs.begin();
-                runnable.run();
+                handles::run(runnable);
                 self.runs.end();
             } else if is_over {
                 return;
@@ -184,9 +194,7 @@ impl<R: Wait + Drop + Copy> Race<R> {
             self.rounds.start(round, 3);
             self.wakes.begin();
             self.surroundings.happen();
-            if let Some(waker) = waker {
-                waker.wake();
-            }
+            handles::wake(waker);
             self.wakes.end();
             self.acted.add_one();
             self.rounds.close(&self.rt, round);
@@ -197,16 +205,10 @@ impl<R: Wait + Drop + Copy> Race<R> {
 impl<R: Wait + Abort + Drop + Copy> Race<R> {
     // What the first thread does in one round. Whether its act overlapped a run or the wake is counted, and whether all ended as it must.
     fn act_once(&self, alloc: Global, act: Act, round: u64) {
-        let Ok(awaiter) = RaceAwaiter::new(alloc) else {
-            panic!(self.rt; "no memory for an awaiter");
-        };
-        let Ok((runnable, task)) = self.surroundings.spawn(false) else {
-            panic!(self.rt; "no memory for a task");
-        };
-        let Some(waker) = runnable.waker() else {
-            panic!(self.rt; "the first waker was refused");
-        };
-        self.surroundings.keep(waker);
+        let awaiter = handles::awaiter(&self.rt, alloc);
+        let (runnable, task) = handles::spawn(&self.rt, &self.surroundings, false);
+        self.surroundings
+            .keep(handles::waker_of(&self.rt, &runnable));
         self.surroundings.queue(runnable);
         self.rounds.open(&self.rt, round);
         self.rounds.start(round, 1);

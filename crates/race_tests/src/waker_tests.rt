@@ -1,5 +1,6 @@
 //! A race of the last waker's drop with the end of a run.
 
+use crate::handles;
 use crate::raced::RaceSurroundings;
 use crate::rounds::{Calls, LEAST_MET, Rounds, Tally};
 use std::alloc::Global;
@@ -25,7 +26,7 @@ fn drop_all<R: Wait + Drop>(
         let waker = surroundings.take_kept();
         rounds.start(round, thread);
         drops.begin();
-        drop(waker);
+        handles::drop_waker(waker);
         drops.end();
         rounds.close(rt, round);
     }
@@ -41,18 +42,14 @@ fn run_once<R: Wait + Abort + Drop + Copy>(
     round: u64,
 ) -> (bool, bool) {
     let is_ready = round % 2 == 0;
-    let Ok((runnable, task)) = surroundings.spawn(is_ready) else {
-        panic!(rt; "no memory for a task");
-    };
-    let Some(waker) = runnable.waker() else {
-        panic!(rt; "the first waker was refused");
-    };
-    task.detach();
+    let (runnable, task) = handles::spawn(rt, surroundings, is_ready);
+    let waker = handles::waker_of(rt, &runnable);
+    handles::detach(task);
     surroundings.keep(waker);
     rounds.open(rt, round);
     rounds.start(round, 1);
     let ended_before = drops.ended();
-    let rescheduled = runnable.run();
+    let rescheduled = handles::run(runnable);
     let met = drops.overlap(ended_before);
     rounds.close(rt, round);
     let handed_over = surroundings.run_next();

@@ -2,8 +2,7 @@
 ghost use Rattle.std.specs.Prelude.{IfOk};
 ghost use Rattle.worked_rows.specs.Agreement.{AgreesAt};
 
-use async_task::{TaskClosed, TaskPoll};
-use fixtures::answers::is_ready_with;
+use crate::calls;
 use fixtures::counters::Counts;
 use fixtures::fixture::{Fixture, Outcome};
 use fixtures::future::Behaviour;
@@ -15,13 +14,13 @@ pub fn cancel_join<R: Wait + Drop + Copy>(fixture: &Fixture<R>) -> Result<Outcom
     ensures { IfOk result (AgreesAt 1 0 1 1) }
 {
     let flag = fixture.flag(1)?;
-    let (runnable, mut task) = fixture.spawn(Behaviour::Ready(1))?;
-    let waits = matches!(task.poll(&flag), TaskPoll::Pending) && flag.wakes() == 0;
-    let rescheduled = runnable.run();
+    let (runnable, mut task) = calls::spawn(fixture, Behaviour::Ready(1))?;
+    let waits = calls::is_pending(&mut task, &flag) && flag.wakes() == 0;
+    let rescheduled = calls::run(runnable);
     let woken = flag.wakes() == 1;
-    let polled = task.poll(&flag);
-    let joined = is_ready_with(&polled, 1) && fixture.counts() == Counts::new(1, 0, 1, 0);
-    drop(task);
+    let joined = calls::is_ready(&mut task, &flag, 1)
+        && fixture.counts() == Counts::new(1, 0, 1, 0);
+    calls::drop_task(task);
     let agrees = waits && !rescheduled && woken && joined && flag.wakes() == 1;
     Ok(fixture.end(agrees, Counts::new(1, 0, 1, 1)))
 }
@@ -31,20 +30,20 @@ pub fn closed_poll<R: Wait + Drop + Copy>(fixture: &Fixture<R>) -> Result<Outcom
     ensures { IfOk result (AgreesAt 0 0 1 0) }
 {
     let flag = fixture.flag(1)?;
-    let (runnable, mut task) = fixture.spawn(Behaviour::Ready(1))?;
-    let waits = matches!(task.poll(&flag), TaskPoll::Pending) && flag.wakes() == 0;
-    drop(runnable);
+    let (runnable, mut task) = calls::spawn(fixture, Behaviour::Ready(1))?;
+    let waits = calls::is_pending(&mut task, &flag) && flag.wakes() == 0;
+    calls::drop_runnable(runnable);
     let woken = flag.wakes() == 1;
-    let finished = task.is_finished();
-    let closed = matches!(task.poll(&flag), TaskPoll::Ready(Err(TaskClosed)));
-    let still_closed = matches!(task.poll(&flag), TaskPoll::Ready(Err(TaskClosed)));
+    let finished = calls::is_finished(&mut task);
+    let closed = calls::is_closed(&mut task, &flag);
+    let still_closed = calls::is_closed(&mut task, &flag);
     let mut fallible = task.fallible();
-    let empty = matches!(fallible.poll(&flag), TaskPoll::Ready(None));
-    let still_empty = matches!(fallible.poll(&flag), TaskPoll::Ready(None));
+    let empty = calls::is_fallible_empty(&mut fallible, &flag);
+    let still_empty = calls::is_fallible_empty(&mut fallible, &flag);
     let over = closed && still_closed && empty && still_empty;
     let agrees = waits && woken && finished && over && flag.wakes() == 1;
     let outcome = fixture.end(agrees, Counts::new(0, 0, 1, 0));
-    drop(fallible);
+    calls::drop_fallible(fallible);
     Ok(outcome)
 }
 
@@ -55,15 +54,16 @@ pub fn refused_clone<R: Wait + Drop + Copy>(fixture: &Fixture<R>) -> Result<Outc
     let stored = fixture.flag(1)?;
     let refusing = fixture.flag(2)?;
     refusing.refuse_next_clone();
-    let (runnable, mut task) = fixture.spawn(Behaviour::Ready(1))?;
-    let waits = matches!(task.poll(&stored), TaskPoll::Pending);
-    let refused = matches!(task.poll(&refusing), TaskPoll::Refused) && stored.wakes() == 0;
-    let unchanged = fixture.shows(&task, 0x131)?;
-    runnable.run();
+    let (runnable, mut task) = calls::spawn(fixture, Behaviour::Ready(1))?;
+    let waits = calls::is_pending(&mut task, &stored);
+    let refused = calls::is_refused(&mut task, &refusing) && stored.wakes() == 0;
+    let unchanged = calls::task_shows(fixture, &task, 0x131);
+    calls::run(runnable);
     let woken = stored.wakes() == 1 && refusing.wakes() == 0;
-    let agrees = waits && refused && unchanged && woken;
+    let agrees = waits && refused && matches!(unchanged, Ok(true)) && woken;
     let outcome = fixture.end(agrees, Counts::new(1, 0, 1, 0));
-    drop(task);
+    calls::drop_task(task);
+    unchanged?;
     Ok(outcome)
 }
 
@@ -72,11 +72,11 @@ pub fn awaiter_completes<R: Wait + Drop + Copy>(fixture: &Fixture<R>) -> Result<
     ensures { IfOk result (AgreesAt 1 0 1 1) }
 {
     let flag = fixture.flag(1)?;
-    let (runnable, mut task) = fixture.spawn(Behaviour::Ready(1))?;
-    let waits = matches!(task.poll(&flag), TaskPoll::Pending);
-    task.detach();
+    let (runnable, mut task) = calls::spawn(fixture, Behaviour::Ready(1))?;
+    let waits = calls::is_pending(&mut task, &flag);
+    calls::detach(task);
     let unwoken = flag.wakes() == 0;
-    runnable.run();
+    calls::run(runnable);
     let woken = flag.wakes() == 1;
     Ok(fixture.end(waits && unwoken && woken, Counts::new(1, 0, 1, 1)))
 }
@@ -86,10 +86,10 @@ pub fn awaiter_orphan<R: Wait + Drop + Copy>(fixture: &Fixture<R>) -> Result<Out
     ensures { IfOk result (AgreesAt 1 1 1 1) }
 {
     let flag = fixture.flag(1)?;
-    let (runnable, mut task) = fixture.spawn(Behaviour::Pending)?;
-    let waits = matches!(task.poll(&flag), TaskPoll::Pending);
-    task.detach();
-    let rescheduled = runnable.run();
+    let (runnable, mut task) = calls::spawn(fixture, Behaviour::Pending)?;
+    let waits = calls::is_pending(&mut task, &flag);
+    calls::detach(task);
+    let rescheduled = calls::run(runnable);
     let closing = fixture.surroundings.infos_are(&[false]);
     let closed = fixture.surroundings.run_next() == Some(false);
     let forgotten = flag.wakes() == 0 && flag.clones() == 1 && flag.drops() == 1;
@@ -102,11 +102,10 @@ pub fn sum<R: Wait + Drop + Copy>(fixture: &Fixture<R>) -> Result<Outcome, Alloc
     ensures { IfOk result (AgreesAt 1 0 1 0) }
 {
     let flag = fixture.flag(1)?;
-    let (runnable, mut task) = fixture.spawn(Behaviour::Sum(1, 2))?;
-    let rescheduled = runnable.run();
-    let polled = task.poll(&flag);
-    let agrees = !rescheduled && is_ready_with(&polled, 3);
+    let (runnable, mut task) = calls::spawn(fixture, Behaviour::Sum(1, 2))?;
+    let rescheduled = calls::run(runnable);
+    let agrees = calls::is_ready(&mut task, &flag, 3) && !rescheduled;
     let outcome = fixture.end(agrees, Counts::new(1, 0, 1, 0));
-    drop(task);
+    calls::drop_task(task);
     Ok(outcome)
 }

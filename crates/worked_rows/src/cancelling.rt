@@ -2,10 +2,12 @@
 ghost use Rattle.std.specs.Prelude.{IfOk};
 ghost use Rattle.worked_rows.specs.Agreement.{AgreesAt};
 
-use async_task::TaskPoll;
+use crate::calls;
+use crate::calls::RowCancel;
 use fixtures::answers::is_some_with;
 use fixtures::counters::Counts;
 use fixtures::fixture::{Fixture, Outcome};
+use fixtures::flag::Flag;
 use fixtures::future::Behaviour;
 use std::alloc::AllocError;
 use std::sync::Wait;
@@ -14,10 +16,10 @@ use std::sync::Wait;
 pub fn cancel_and_run<R: Wait + Drop + Copy>(fixture: &Fixture<R>) -> Result<Outcome, AllocError>
     ensures { IfOk result (AgreesAt 0 0 1 1) }
 {
-    let (runnable, task) = fixture.spawn(Behaviour::Ready(1))?;
-    drop(task);
+    let (runnable, task) = calls::spawn(fixture, Behaviour::Ready(1))?;
+    calls::drop_task(task);
     let kept = fixture.counts() == Counts::new(0, 0, 0, 0);
-    let rescheduled = runnable.run();
+    let rescheduled = calls::run(runnable);
     let agrees = kept && !rescheduled;
     Ok(fixture.end(agrees, Counts::new(0, 0, 1, 1)))
 }
@@ -27,18 +29,18 @@ pub fn cancel_future<R: Wait + Drop + Copy>(fixture: &Fixture<R>) -> Result<Outc
     ensures { IfOk result (AgreesAt 0 0 1 0) }
 {
     let flag = fixture.flag(1)?;
-    let (runnable, task) = fixture.spawn(Behaviour::Ready(1))?;
+    let (runnable, task) = calls::spawn(fixture, Behaviour::Ready(1))?;
     let mut cancel = task.cancel();
-    let waits = matches!(cancel.poll(&flag), TaskPoll::Pending);
-    let finished = cancel.is_finished();
+    let waits = calls::is_cancel_pending(&mut cancel, &flag);
+    let finished = calls::is_cancel_finished(&mut cancel);
     let unwoken = flag.wakes() == 0 && fixture.counts() == Counts::new(0, 0, 0, 0);
-    let rescheduled = runnable.run();
+    let rescheduled = calls::run(runnable);
     let dropped = flag.wakes() == 1 && fixture.counts() == Counts::new(0, 0, 1, 0);
-    let empty = matches!(cancel.poll(&flag), TaskPoll::Ready(None));
+    let empty = calls::is_cancel_empty(&mut cancel, &flag);
     let woken_once = flag.wakes() == 1;
     let agrees = waits && finished && unwoken && !rescheduled && dropped && empty && woken_once;
     let outcome = fixture.end(agrees, Counts::new(0, 0, 1, 0));
-    drop(cancel);
+    calls::drop_cancel(cancel);
     Ok(outcome)
 }
 
@@ -47,17 +49,26 @@ pub fn run_and_cancel<R: Wait + Drop + Copy>(fixture: &Fixture<R>) -> Result<Out
     ensures { IfOk result (AgreesAt 1 0 1 1) }
 {
     let flag = fixture.flag(1)?;
-    let (runnable, task) = fixture.spawn(Behaviour::Ready(1))?;
-    let rescheduled = runnable.run();
+    let (runnable, task) = calls::spawn(fixture, Behaviour::Ready(1))?;
+    let rescheduled = calls::run(runnable);
     let ran = fixture.counts() == Counts::new(1, 0, 1, 0) && fixture.output_drops() == 0;
     let mut cancel = task.cancel();
-    let polled = cancel.poll(&flag);
+    let claimed = claims_output(fixture, &mut cancel, &flag);
+    calls::drop_cancel(cancel);
+    let agrees = !rescheduled && ran && claimed && fixture.output_drops() == 1;
+    Ok(fixture.end(agrees, Counts::new(1, 0, 1, 1)))
+}
+
+// Polls a Cancel: whether it is ready with the number 1, and the output is dropped when what the poll answered is.
+fn claims_output<R: Wait + Drop + Copy>(
+    fixture: &Fixture<R>,
+    cancel: &mut RowCancel<'_, R>,
+    flag: &Flag,
+) -> bool {
+    let polled = cancel.poll(flag);
     let claimed = is_some_with(&polled, 1) && fixture.output_drops() == 0;
     drop(polled);
-    let output_dropped = fixture.output_drops() == 1;
-    drop(cancel);
-    let agrees = !rescheduled && ran && claimed && output_dropped && fixture.output_drops() == 1;
-    Ok(fixture.end(agrees, Counts::new(1, 0, 1, 1)))
+    claimed && fixture.output_drops() == 1
 }
 
 /// The first poll of a Cancel cancels the task also where its awaiter cannot be cloned.
@@ -66,17 +77,19 @@ pub fn cancel_refused<R: Wait + Drop + Copy>(fixture: &Fixture<R>) -> Result<Out
 {
     let flag = fixture.flag(1)?;
     flag.refuse_next_clone();
-    let (runnable, task) = fixture.spawn(Behaviour::Ready(1))?;
+    let (runnable, task) = calls::spawn(fixture, Behaviour::Ready(1))?;
     let mut cancel = task.cancel();
-    let refused = matches!(cancel.poll(&flag), TaskPoll::Refused);
-    let closed = fixture.shows(&runnable, 0x119)?;
-    let finished = cancel.is_finished();
-    let rescheduled = runnable.run();
-    let empty = matches!(cancel.poll(&flag), TaskPoll::Ready(None));
+    let refused = calls::is_cancel_refused(&mut cancel, &flag);
+    let closed = calls::runnable_shows(fixture, &runnable, 0x119);
+    let finished = calls::is_cancel_finished(&mut cancel);
+    let rescheduled = calls::run(runnable);
+    let empty = calls::is_cancel_empty(&mut cancel, &flag);
     let unwoken = flag.wakes() == 0;
-    let agrees = refused && closed && finished && !rescheduled && empty && unwoken;
+    let shown = matches!(closed, Ok(true));
+    let agrees = refused && shown && finished && !rescheduled && empty && unwoken;
     let outcome = fixture.end(agrees, Counts::new(0, 0, 1, 0));
-    drop(cancel);
+    calls::drop_cancel(cancel);
+    closed?;
     Ok(outcome)
 }
 
@@ -85,9 +98,9 @@ pub fn drop_in_poll<R: Wait + Drop + Copy>(fixture: &Fixture<R>) -> Result<Outco
     ensures { IfOk result (AgreesAt 1 0 1 1) }
 {
     let surroundings = &fixture.surroundings;
-    let (runnable, task) = fixture.spawn(Behaviour::DropTask(1))?;
+    let (runnable, task) = calls::spawn(fixture, Behaviour::DropTask(1))?;
     surroundings.keep_task(task);
-    let rescheduled = runnable.run();
+    let rescheduled = calls::run(runnable);
     let taken = surroundings.take_task().is_none();
     let agrees = !rescheduled && taken && fixture.output_drops() == 1;
     Ok(fixture.end(agrees, Counts::new(1, 0, 1, 1)))

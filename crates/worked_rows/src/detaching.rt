@@ -2,6 +2,7 @@
 ghost use Rattle.std.specs.Prelude.{IfOk};
 ghost use Rattle.worked_rows.specs.Agreement.{AgreesAt};
 
+use crate::calls;
 use fixtures::counters::Counts;
 use fixtures::fixture::{Fixture, Outcome};
 use fixtures::future::Behaviour;
@@ -12,10 +13,10 @@ use std::sync::Wait;
 pub fn drop_and_detach<R: Wait + Drop + Copy>(fixture: &Fixture<R>) -> Result<Outcome, AllocError>
     ensures { IfOk result (AgreesAt 0 0 1 1) }
 {
-    let (runnable, task) = fixture.spawn(Behaviour::Ready(1))?;
-    drop(runnable);
+    let (runnable, task) = calls::spawn(fixture, Behaviour::Ready(1))?;
+    calls::drop_runnable(runnable);
     let dropped = fixture.counts() == Counts::new(0, 0, 1, 0);
-    task.detach();
+    calls::detach(task);
     Ok(fixture.end(dropped, Counts::new(0, 0, 1, 1)))
 }
 
@@ -23,10 +24,10 @@ pub fn drop_and_detach<R: Wait + Drop + Copy>(fixture: &Fixture<R>) -> Result<Ou
 pub fn detach_and_drop<R: Wait + Drop + Copy>(fixture: &Fixture<R>) -> Result<Outcome, AllocError>
     ensures { IfOk result (AgreesAt 0 0 1 1) }
 {
-    let (runnable, task) = fixture.spawn(Behaviour::Ready(1))?;
-    task.detach();
+    let (runnable, task) = calls::spawn(fixture, Behaviour::Ready(1))?;
+    calls::detach(task);
     let kept = fixture.counts() == Counts::new(0, 0, 0, 0);
-    drop(runnable);
+    calls::drop_runnable(runnable);
     Ok(fixture.end(kept, Counts::new(0, 0, 1, 1)))
 }
 
@@ -34,10 +35,10 @@ pub fn detach_and_drop<R: Wait + Drop + Copy>(fixture: &Fixture<R>) -> Result<Ou
 pub fn detach_and_run<R: Wait + Drop + Copy>(fixture: &Fixture<R>) -> Result<Outcome, AllocError>
     ensures { IfOk result (AgreesAt 1 0 1 1) }
 {
-    let (runnable, task) = fixture.spawn(Behaviour::Ready(1))?;
-    task.detach();
+    let (runnable, task) = calls::spawn(fixture, Behaviour::Ready(1))?;
+    calls::detach(task);
     let kept = fixture.counts() == Counts::new(0, 0, 0, 0);
-    let rescheduled = runnable.run();
+    let rescheduled = calls::run(runnable);
     let output_dropped = fixture.output_drops() == 1;
     let agrees = kept && !rescheduled && output_dropped;
     Ok(fixture.end(agrees, Counts::new(1, 0, 1, 1)))
@@ -47,11 +48,11 @@ pub fn detach_and_run<R: Wait + Drop + Copy>(fixture: &Fixture<R>) -> Result<Out
 pub fn run_and_detach<R: Wait + Drop + Copy>(fixture: &Fixture<R>) -> Result<Outcome, AllocError>
     ensures { IfOk result (AgreesAt 1 0 1 1) }
 {
-    let (runnable, task) = fixture.spawn(Behaviour::Ready(1))?;
-    let rescheduled = runnable.run();
+    let (runnable, task) = calls::spawn(fixture, Behaviour::Ready(1))?;
+    let rescheduled = calls::run(runnable);
     let ran = fixture.counts() == Counts::new(1, 0, 1, 0);
     let output_kept = fixture.output_drops() == 0;
-    task.detach();
+    calls::detach(task);
     let output_dropped = fixture.output_drops() == 1;
     let agrees = !rescheduled && ran && output_kept && output_dropped;
     Ok(fixture.end(agrees, Counts::new(1, 0, 1, 1)))
@@ -61,9 +62,9 @@ pub fn run_and_detach<R: Wait + Drop + Copy>(fixture: &Fixture<R>) -> Result<Out
 pub fn last_run<R: Wait + Drop + Copy>(fixture: &Fixture<R>) -> Result<Outcome, AllocError>
     ensures { IfOk result (AgreesAt 1 1 1 1) }
 {
-    let (runnable, task) = fixture.spawn(Behaviour::Pending)?;
-    task.detach();
-    let rescheduled = runnable.run();
+    let (runnable, task) = calls::spawn(fixture, Behaviour::Pending)?;
+    calls::detach(task);
+    let rescheduled = calls::run(runnable);
     let surroundings = &fixture.surroundings;
     let closing = fixture.counts() == Counts::new(1, 1, 0, 0)
         && surroundings.queued() == 1

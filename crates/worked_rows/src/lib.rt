@@ -6,6 +6,7 @@
 #![tactic(auto)]
 
 pub mod awaiting;
+mod calls;
 pub mod cancelling;
 pub mod detaching;
 pub mod priority;

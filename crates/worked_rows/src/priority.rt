@@ -4,7 +4,9 @@ ghost use Rattle.worked_rows.specs.Agreement.{AgreesAt};
 
 use async_task::{TaskClosed, TaskPoll};
 use fixtures::counters::Counts;
+use fixtures::executor::PriorityTask;
 use fixtures::fixture::{Fixture, Outcome};
+use fixtures::flag::Flag;
 use fixtures::future::Behaviour;
 use std::alloc::AllocError;
 use std::sync::Wait;
@@ -63,8 +65,13 @@ pub fn priority_full<R: Wait + Drop + Copy>(fixture: &Fixture<R>) -> Result<Outc
     first_runnable.schedule();
     second_runnable.schedule();
     let one = queue.run_next() == Some((1, false)) && queue.run_next().is_none();
-    let closed = matches!(second.poll(&flag), TaskPoll::Ready(Err(TaskClosed)));
+    let closed = is_closed(&mut second, &flag);
     let outcome = fixture.end(one && closed, Counts::new(1, 2, 2, 0));
     drop((first, second));
     Ok(outcome)
+}
+
+// Whether a poll of the Task answers that the task is closed.
+fn is_closed<R: Wait + Drop>(task: &mut PriorityTask<'_, R>, flag: &Flag) -> bool {
+    matches!(task.poll(flag), TaskPoll::Ready(Err(TaskClosed)))
 }

@@ -2,8 +2,7 @@
 ghost use Rattle.std.specs.Prelude.{IfOk};
 ghost use Rattle.worked_rows.specs.Agreement.{AgreesAt};
 
-use async_task::TaskPoll;
-use fixtures::answers::is_ready_with;
+use crate::calls;
 use fixtures::counters::Counts;
 use fixtures::fixture::{Fixture, Outcome};
 use fixtures::future::Behaviour;
@@ -19,8 +18,7 @@ where
     R: Wait + Threads + Drop + Copy + Send + Sync,
     ensures { IfOk result (AgreesAt 1 1 0 0) }
 {
-    let (runnable, task) = fixture.spawn(Behaviour::Pending)?;
-    let waker = runnable.waker().ok_or(AllocError)?;
+    let (runnable, waker, task) = calls::spawn_with_waker(fixture, Behaviour::Pending)?;
     let rt = fixture.rt;
     let surroundings = &fixture.surroundings;
     let rendezvous = &surroundings.rendezvous;
@@ -28,14 +26,14 @@ where
     let joined = thread::scope(thread::scope_env(), &rt, |scope| {
         let second = scope.spawn(move || {
             let polled = rendezvous.await_poll();
-            waker.wake_by_ref();
+            calls::wake_by_ref(&waker);
             rendezvous.release();
             (polled, waker)
         });
         let Ok(second) = second else {
             return None;
         };
-        let rescheduled = runnable.run();
+        let rescheduled = calls::run(runnable);
         let (polled, waker) = second.join(&rt);
         Some((polled && rescheduled, waker))
     });
@@ -44,8 +42,8 @@ where
     };
     let agrees = woken && rendezvous.met() && surroundings.infos_are(&[true]);
     let outcome = fixture.end(agrees, Counts::new(1, 1, 0, 0));
-    drop(waker);
-    drop(task);
+    calls::drop_waker(waker);
+    calls::drop_task(task);
     Ok(outcome)
 }
 
@@ -55,11 +53,11 @@ where
     R: Wait + Threads + Drop + Copy + Send + Sync,
     ensures { IfOk result (AgreesAt 2 1 1 1) }
 {
-    let (runnable, task) = fixture.spawn(Behaviour::KeepPending)?;
+    let (runnable, task) = calls::spawn(fixture, Behaviour::KeepPending)?;
     let rt = fixture.rt;
     let surroundings = &fixture.surroundings;
     let rendezvous = &surroundings.rendezvous;
-    runnable.run();
+    calls::run(runnable);
     surroundings.wake_kept();
     let Some(received) = surroundings.receive() else {
         return Ok(fixture.give_up());
@@ -68,7 +66,7 @@ where
     let cancelled = thread::scope(thread::scope_env(), &rt, |scope| {
         let second = scope.spawn(move || {
             let polled = rendezvous.await_poll();
-            drop(task);
+            calls::drop_task(task);
             let unchanged = fixture.counts() == Counts::new(2, 1, 0, 0);
             rendezvous.release();
             polled && unchanged
@@ -76,12 +74,12 @@ where
         let Ok(second) = second else {
             return false;
         };
-        let rescheduled = received.run();
+        let rescheduled = calls::run(received);
         second.join(&rt) && !rescheduled
     });
     let unscheduled = surroundings.queued() == 0 && surroundings.infos_are(&[false]);
     let closed = fixture.counts() == Counts::new(2, 1, 1, 0);
-    drop(surroundings.take_kept());
+    calls::drop_kept(surroundings);
     let agrees = cancelled && rendezvous.met() && unscheduled && closed;
     Ok(fixture.end(agrees, Counts::new(2, 1, 1, 1)))
 }
@@ -113,15 +111,15 @@ where
     R: Wait + Threads + Drop + Copy + Send + Sync,
     ensures { IfOk result (AgreesAt 2 1 1 1) }
 {
-    let (runnable, task) = fixture.spawn(Behaviour::KeepPending)?;
+    let (runnable, task) = calls::spawn(fixture, Behaviour::KeepPending)?;
     let rt = fixture.rt;
     let surroundings = &fixture.surroundings;
     let rendezvous = &surroundings.rendezvous;
-    runnable.run();
+    calls::run(runnable);
     let Some(waker) = surroundings.take_kept() else {
         return Ok(fixture.give_up());
     };
-    waker.wake_by_ref();
+    calls::wake_by_ref(&waker);
     let Some(received) = surroundings.receive() else {
         return Ok(fixture.give_up());
     };
@@ -136,10 +134,10 @@ where
         let Ok(second) = second else {
             return false;
         };
-        let rescheduled = received.run();
+        let rescheduled = calls::run(received);
         second.join(&rt) && !rescheduled
     });
-    drop(surroundings.take_kept());
+    calls::drop_kept(surroundings);
     let agrees = closed && rendezvous.met();
     Ok(fixture.end(agrees, Counts::new(2, 1, 1, 1)))
 }
@@ -153,14 +151,14 @@ fn wake_and_drop<'x, R: Wait + Drop + Copy>(
 ) -> bool {
     let polled_twice = Counts::new(2, 1, 0, 0);
     if wakes_first {
-        waker.wake();
+        calls::wake(waker);
         let unchanged = fixture.counts() == polled_twice;
-        drop(task);
+        calls::drop_task(task);
         unchanged && fixture.counts() == polled_twice
     } else {
-        drop(task);
+        calls::drop_task(task);
         let unchanged = fixture.counts() == polled_twice;
-        waker.wake();
+        calls::wake(waker);
         unchanged && fixture.counts() == polled_twice
     }
 }
@@ -189,7 +187,7 @@ where
     R: Wait + Threads + Drop + Copy + Send + Sync,
     ensures { IfOk result (AgreesAt 1 0 1 1) }
 {
-    let (runnable, task) = fixture.spawn(Behaviour::Ready(1))?;
+    let (runnable, task) = calls::spawn(fixture, Behaviour::Ready(1))?;
     let rt = fixture.rt;
     let rendezvous = &fixture.surroundings.rendezvous;
     rendezvous.arm();
@@ -197,9 +195,9 @@ where
         let second = scope.spawn(move || {
             let polled = rendezvous.await_poll();
             if detaches {
-                task.detach();
+                calls::detach(task);
             } else {
-                drop(task);
+                calls::drop_task(task);
             }
             let unchanged = fixture.counts() == Counts::new(1, 0, 0, 0);
             let output_kept = fixture.output_drops() == 0;
@@ -209,7 +207,7 @@ where
         let Ok(second) = second else {
             return false;
         };
-        let rescheduled = runnable.run();
+        let rescheduled = calls::run(runnable);
         let output_dropped = fixture.output_drops() == 1;
         second.join(&rt) && !rescheduled && output_dropped
     });
@@ -225,21 +223,21 @@ where
 {
     let flag = fixture.flag(1)?;
     let awaiter = &flag;
-    let (runnable, mut task) = fixture.spawn(Behaviour::Ready(1))?;
+    let (runnable, mut task) = calls::spawn(fixture, Behaviour::Ready(1))?;
     let rt = fixture.rt;
     let rendezvous = &fixture.surroundings.rendezvous;
     rendezvous.arm();
     let joined = thread::scope(thread::scope_env(), &rt, |scope| {
         let second = scope.spawn(move || {
             let polled = rendezvous.await_poll();
-            let waits = matches!(task.poll(awaiter), TaskPoll::Pending) && awaiter.wakes() == 0;
+            let waits = calls::is_pending(&mut task, awaiter) && awaiter.wakes() == 0;
             rendezvous.release();
             (polled && waits, task)
         });
         let Ok(second) = second else {
             return None;
         };
-        let rescheduled = runnable.run();
+        let rescheduled = calls::run(runnable);
         let (waits, task) = second.join(&rt);
         Some((waits && !rescheduled, task))
     });
@@ -247,10 +245,9 @@ where
         return Ok(fixture.give_up());
     };
     let woken = flag.wakes() == 1;
-    let polled = task.poll(&flag);
-    let completed = is_ready_with(&polled, 1) && flag.wakes() == 1;
+    let completed = calls::is_ready(&mut task, &flag, 1) && flag.wakes() == 1;
     let agrees = waits && rendezvous.met() && woken && completed;
     let outcome = fixture.end(agrees, Counts::new(1, 0, 1, 0));
-    drop(task);
+    calls::drop_task(task);
     Ok(outcome)
 }

@@ -2,7 +2,8 @@
 ghost use Rattle.std.specs.Prelude.{IfOk};
 ghost use Rattle.worked_rows.specs.Agreement.{AgreesAt};
 
-use async_task::{TaskClosed, TaskPoll};
+use crate::calls;
+use async_task::TaskPoll;
 use fixtures::answers::is_ready_with;
 use fixtures::counters::Counts;
 use fixtures::executor::PriorityTask;
@@ -17,19 +18,19 @@ use std::sync::Wait;
 pub fn schedule_counter<R: Wait + Drop + Copy>(fixture: &Fixture<R>) -> Result<Outcome, AllocError>
     ensures { IfOk result (AgreesAt 0 3 0 0) }
 {
-    let (runnable, task) = fixture.spawn(Behaviour::Pending)?;
+    let (runnable, task) = calls::spawn(fixture, Behaviour::Pending)?;
     let surroundings = &fixture.surroundings;
-    runnable.schedule();
+    calls::schedule(runnable);
     let mut queued = surroundings.queued() == 1;
     for _ in 0..2u8 {
         if let Some(received) = surroundings.receive() {
-            received.schedule();
+            calls::schedule(received);
         }
         queued = queued && surroundings.queued() == 1;
     }
     let agrees = queued && surroundings.infos_are(&[false, false, false]);
     let outcome = fixture.end(agrees, Counts::new(0, 3, 0, 0));
-    drop(task);
+    calls::drop_task(task);
     Ok(outcome)
 }
 
@@ -83,12 +84,12 @@ pub fn clear_queue<R: Wait + Drop + Copy>(fixture: &Fixture<R>) -> Result<Outcom
     ensures { IfOk result (AgreesAt 0 3 3 0) }
 {
     let flags = (fixture.flag(1)?, fixture.flag(2)?, fixture.flag(3)?);
-    let (first_runnable, mut first) = fixture.spawn(Behaviour::Ready(1))?;
-    let (second_runnable, mut second) = fixture.spawn(Behaviour::Ready(2))?;
-    let (third_runnable, mut third) = fixture.spawn(Behaviour::Ready(3))?;
-    first_runnable.schedule();
-    second_runnable.schedule();
-    third_runnable.schedule();
+    let (first_runnable, mut first) = calls::spawn(fixture, Behaviour::Ready(1))?;
+    let (second_runnable, mut second) = calls::spawn(fixture, Behaviour::Ready(2))?;
+    let (third_runnable, mut third) = calls::spawn(fixture, Behaviour::Ready(3))?;
+    calls::schedule(first_runnable);
+    calls::schedule(second_runnable);
+    calls::schedule(third_runnable);
     let queued = fixture.surroundings.queued() == 3;
     let wait = waits(&mut first, &flags.0)
         && waits(&mut second, &flags.1)
@@ -106,12 +107,12 @@ pub fn clear_queue<R: Wait + Drop + Copy>(fixture: &Fixture<R>) -> Result<Outcom
 
 // Whether a poll of the Task answers pending, with the awaiter not woken.
 fn waits<R: Wait + Drop>(task: &mut RowTask<'_, R>, flag: &Flag) -> bool {
-    matches!(task.poll(flag), TaskPoll::Pending) && flag.wakes() == 0
+    calls::is_pending(task, flag) && flag.wakes() == 0
 }
 
 // Whether the awaiter was woken once, and a poll of the Task answers that the task is closed, without another wake.
 fn is_woken_once_and_closed<R: Wait + Drop>(task: &mut RowTask<'_, R>, flag: &Flag) -> bool {
     let woken = flag.wakes() == 1;
-    let closed = matches!(task.poll(flag), TaskPoll::Ready(Err(TaskClosed)));
+    let closed = calls::is_closed(task, flag);
     woken && closed && flag.wakes() == 1
 }
