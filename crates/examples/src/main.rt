@@ -2,6 +2,8 @@
 #![tactic(auto)]
 
 mod borrowed;
+mod boxed;
+mod boxed_steps;
 mod channel;
 mod channel_worker;
 mod cleanup;
@@ -15,7 +17,10 @@ mod priorities;
 mod timer;
 mod two_kinds;
 
+use boxed::Step;
+use boxed_steps::{Brings, Doubles, Place};
 use std::io;
+use std::rc::Rc;
 use two_kinds::Kind;
 
 fn main(rt: HostRuntime) -> io::Result<()> {
@@ -42,6 +47,13 @@ fn main(rt: HostRuntime) -> io::Result<()> {
     println!(rt;
         "two_kinds: {:?}",
         two_kinds::answer_of(rt, alloc, Kind::Bytes("seven bytes"))
+    )?;
+    let place = Rc::new(alloc, Place::default())?;
+    let doubles: Box<dyn Step> = Box::new(alloc, Doubles(place.clone()?))?;
+    let brings: Box<dyn Step> = Box::new(alloc, Brings(21, place))?;
+    println!(rt;
+        "boxed: {:?}",
+        boxed::answers_of(rt, alloc, [doubles, brings])
     )?;
     println!(rt;
         "timer: {:?}",
