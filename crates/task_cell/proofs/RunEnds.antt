@@ -1,7 +1,7 @@
 -- What the calls that end a run come to, step after step.
-use Rattle.task_cell.proofs.Vocabulary.{◌≡◌, ℕ, Bool, true, false, not, ◌&&◌, List, [], ◌∷◌, ◌++◌, ap, ◌∙◌, nat_lt, State, Ended, OfRun, ThenEnds, Position, At, Deliverer, Polling, Pending, Ready}
+use Rattle.task_cell.proofs.Vocabulary.{◌≡◌, ℕ, Bool, true, false, not, ◌&&◌, List, [], ◌∷◌, ◌++◌, ap, ◌∙◌, nat_lt, State, Ended, OfRun, ThenEnds, Position, At, Deliverer, Pending, Ready}
 use Rattle.task_cell.proofs.Vocabulary.{PendingFutureDropped, OutputInHand, AnswerReady, AnswerPending, DropFuture, StoreOutput, Complete, CompleteDetached, DropOutput, EndClosed, Reschedule, EndIdle}
-use Rattle.task_cell.proofs.Vocabulary.{EndOrphaned, HandOver, EndCall, Ran, notifies, Slot, Deed, Party, Closed, Rescheduled, Idle, Orphaned, IsFuture, future_first, output_first, StandsWith}
+use Rattle.task_cell.proofs.Vocabulary.{EndOrphaned, HandOver, EndCall, Ran, notifies, Slot, Deed, Party, Closed, Rescheduled, Idle, Orphaned, future_first, output_first, StandsWith}
 use Rattle.task_cell.proofs.Vocabulary.{GoesWith, Goes, row, act, kept, not_claimed, ready, closed_meanwhile, woken_meanwhile, idle, orphaned, Rests, Completes, keeps, finds_detached, Stores}
 use Rattle.task_cell.proofs.Vocabulary.{ClosesPending, EndsReady, EndsUnready, AnswersPending, stays_pending, clears, EndsPending, is_closed, is_rescheduled, is_idle, is_orphaned, subst}
 use Rattle.std.specs.Prelude.{◌||◌}
@@ -70,49 +70,43 @@ module _ {F T A : Type 0} where
   abbrev pub IsOrphaned : Party F T A → Party F T A → Type 0
   IsOrphaned p q = (w : State) × (w.closed ≡ false) × (w.scheduled ≡ false) × ((nat_lt 1 w.references || w.task) ≡ false) × Goes (act AnswerPending ∷ row EndOrphaned w ∷ []) (Deliverer false (ThenEnds (Ran false))) p q
 
-  -- a run that polls, and what the two steps tell that follow a poll which answered Pending
-  abbrev pub IsPolling : Party F T A → Type 0
-  IsPolling p = (y : Slot F T A) × (z : Slot F T A) × StandsWith Polling (future_first y z []) p × IsFuture y
-
-  abbrev pub Answers : Party F T A → Party F T A → Bool → Type 0
-  Answers p q b = (held : List (ℕ × Slot F T A)) → StandsWith Polling held p → AnswersPending held p q b
-
+  -- what the step tells that follows a poll which answered Pending
   abbrev pub Ends : Party F T A → Party F T A → PendingEnd → Type 0
   Ends q r e = (y z : Slot F T A) → StandsWith Pending (future_first y z []) q → EndsPending (future_first y z []) q r e
 
   -- the task was found closed, or not
-  pub cleared_first : (p q : Party F T A) (b : Bool) (s : IsPolling p) → Answers p q b → b ≡ true → GoesWith (act AnswerPending ∷ act DropFuture ∷ []) PendingFutureDropped (future_first s.0 s.1 []) p q
-  cleared_first p q b s f h = by (subst (λ b. AnswersPending (future_first s.0 s.1 []) p q b) h (f (future_first s.0 s.1 []) s.2))
+  pub cleared_first : (held : List (ℕ × Slot F T A)) (p q : Party F T A) (b : Bool) → AnswersPending held p q b → b ≡ true → GoesWith (act AnswerPending ∷ act DropFuture ∷ []) PendingFutureDropped held p q
+  cleared_first held p q b f h = by (subst (λ b. AnswersPending held p q b) h f)
     where
-      by : AnswersPending (future_first s.0 s.1 []) p q true → GoesWith (act AnswerPending ∷ act DropFuture ∷ []) PendingFutureDropped (future_first s.0 s.1 []) p q
+      by : AnswersPending held p q true → GoesWith (act AnswerPending ∷ act DropFuture ∷ []) PendingFutureDropped held p q
       by (clears g) = g
 
-  pub left_pending : (p q : Party F T A) (b : Bool) (s : IsPolling p) → Answers p q b → b ≡ false → GoesWith (act AnswerPending ∷ []) Pending (future_first s.0 s.1 []) p q
-  left_pending p q b s f h = by (subst (λ b. AnswersPending (future_first s.0 s.1 []) p q b) h (f (future_first s.0 s.1 []) s.2))
+  pub left_pending : (held : List (ℕ × Slot F T A)) (p q : Party F T A) (b : Bool) → AnswersPending held p q b → b ≡ false → GoesWith (act AnswerPending ∷ []) Pending held p q
+  left_pending held p q b f h = by (subst (λ b. AnswersPending held p q b) h f)
     where
-      by : AnswersPending (future_first s.0 s.1 []) p q false → GoesWith (act AnswerPending ∷ []) Pending (future_first s.0 s.1 []) p q
+      by : AnswersPending held p q false → GoesWith (act AnswerPending ∷ []) Pending held p q
       by (stays_pending g) = g
 
   -- .. and then how the run ended
-  module _ (p q r : Party F T A) (b : Bool) (e : PendingEnd) (s : IsPolling p) (f : Answers p q b) (h : b ≡ false) (g : Ends q r e) where
-    first : GoesWith (act AnswerPending ∷ []) Pending (future_first s.0 s.1 []) p q
-    first = left_pending p q b s f h
+  module _ (p q r : Party F T A) (b : Bool) (e : PendingEnd) (y z : Slot F T A) (f : AnswersPending (future_first y z []) p q b) (h : b ≡ false) (g : Ends q r e) where
+    first : GoesWith (act AnswerPending ∷ []) Pending (future_first y z []) p q
+    first = left_pending (future_first y z []) p q b f h
 
-    ended : (x : PendingEnd) → e ≡ x → EndsPending (future_first s.0 s.1 []) q r x
-    ended x is = subst (λ x. EndsPending (future_first s.0 s.1 []) q r x) is (g s.0 s.1 (moved.stands p q (act AnswerPending ∷ []) Pending (future_first s.0 s.1 []) first))
+    ended : (x : PendingEnd) → e ≡ x → EndsPending (future_first y z []) q r x
+    ended x is = subst (λ x. EndsPending (future_first y z []) q r x) is (g y z (moved.stands p q (act AnswerPending ∷ []) Pending (future_first y z []) first))
 
     both : (path : List Deed) (at : Position) (held : List (ℕ × Slot F T A)) → GoesWith path at held q r → GoesWith (act AnswerPending ∷ path) at held p r
-    both path at held x = moved.goes_on p q r (act AnswerPending ∷ []) path Pending at (future_first s.0 s.1 []) held first x
+    both path at held x = moved.goes_on p q r (act AnswerPending ∷ []) path Pending at (future_first y z []) held first x
 
     -- what each end comes to
     abbrev pub After : PendingEnd → Type 0
-    After Closed = GoesWith (act AnswerPending ∷ act DropFuture ∷ []) PendingFutureDropped (future_first s.0 s.1 []) p r
+    After Closed = GoesWith (act AnswerPending ∷ act DropFuture ∷ []) PendingFutureDropped (future_first y z []) p r
     After Rescheduled = IsRescheduled p r
     After Idle = IsIdle p r
     After Orphaned = IsOrphaned p r
 
-    at_end : (x : PendingEnd) → EndsPending (future_first s.0 s.1 []) q r x → After x
-    at_end Closed (is_closed k) = both (act DropFuture ∷ []) PendingFutureDropped (future_first s.0 s.1 []) k
+    at_end : (x : PendingEnd) → EndsPending (future_first y z []) q r x → After x
+    at_end Closed (is_closed k) = both (act DropFuture ∷ []) PendingFutureDropped (future_first y z []) k
     at_end Rescheduled (is_rescheduled w a c k) = (w, a, c, both (row Reschedule w ∷ []) (Deliverer true (ThenEnds (Ran true))) [] k)
     at_end Idle (is_idle w a c d k) = (w, a, c, d, both (row EndIdle w ∷ act EndCall ∷ []) (At Ended) [] k)
     at_end Orphaned (is_orphaned w a c d k) = (w, a, c, d, both (row EndOrphaned w ∷ []) (Deliverer false (ThenEnds (Ran false))) [] k)

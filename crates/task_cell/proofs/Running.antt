@@ -1,7 +1,9 @@
 -- The parts of a run, put together.
-use Rattle.task_cell.proofs.Vocabulary.{◌≡◌, ℕ, Bool, true, false, List, [], ◌∷◌, ap, ◌∙◌, subst, Me, State, FutureInHand, Polling, ClosedRun, TakeUpClosed, StartRun, StartPoll, Slot, Deed, View}
-use Rattle.task_cell.proofs.Vocabulary.{Party, member, view, IsFuture, head_of, future_first, deeds, limit_of, StandsWith, GoesWith, Goes, row, act, as_ended, TakesUp, finds_closed, starts, RunPath}
-use Rattle.task_cell.proofs.Vocabulary.{Closes, EndsReady, EndsUnready}
+use Rattle.task_cell.proofs.Vocabulary.{◌≡◌, ℕ, Bool, true, false, List, [], ◌∷◌, subst, State, FutureInHand, Polling, ClosedRun, TakeUpClosed, StartRun, StartPoll, Slot, Deed}
+use Rattle.task_cell.proofs.Vocabulary.{Party, IsFuture, future_first, limit_of, GoesWith, Goes, row, act, as_ended, TakesUp, finds_closed, starts, RunPath}
+use Rattle.task_cell.proofs.Vocabulary.{Closes, EndsReady, EndsUnready, AnswersPending, stays_pending, clears, AnswerReady, Ready}
+use Rattle.std.specs.Prelude.{◌<◌}
+use Rattle.task_cell.specs.RunCalls.{NotesAnswer, notes_ready, notes_pending}
 use Rattle.task_core.specs.declared.traits.Poll.{Poll}
 use Rattle.task_core.specs.declared.traits.Poll.TheVariants.{Pending as Unready, Ready as Answered}
 use Rattle.task_cell.specs.RunPaths.{finds_closed as closed_path, answers_ready, answers_pending}
@@ -33,23 +35,36 @@ module _ {F T A : Type 0} where
   started p q b (finds_closed w y z e f g) is = absurd (cc)
   started p q b (starts w y z e f g) is = record { word = w; place = y; other = z; unclosed = e; future = f; goes = g }
 
-  -- after its poll
-  polled : (p q r : Party F T A) (s : Started p q) (held : List (ℕ × Slot F T A)) → r.seat.table_id ≡ q.seat.table_id → limit_of r ≡ limit_of q → deeds r ≡ deeds q → StandsWith Polling held r
-      → GoesWith (row StartRun s.word ∷ act StartPoll ∷ []) Polling held p r
-  polled p q r s held cell limit did stands = record {
-    cell = cell ∙ s.goes.cell;
-    is = stands ∙ ap (λ (z : ℕ × List Deed). (view z.0 (member Polling z.1 ∷ []), held))
-        (λ i. ((limit ∙ moved.limit_is p q _ _ _ s.goes) i, (did ∙ ap (λ (m : Me (Slot F T A) View). (head_of m.0.members).deeds) s.goes.is) i));
-  }
+  -- what is written down of a poll, by a party that has done nothing since it began to poll
+  pub notes_on : {O : Type 0} (held : List (ℕ × Slot F T A)) (p q r : Party F T A) (w : State) (v : Poll O) → GoesWith [] Polling held p q → NotesAnswer held q r w v → NotesAnswer held p r w v
+  notes_on held p q r w v g (notes_ready x h) = notes_ready x (moved.goes_on p q r _ _ _ _ _ _ g h)
+  notes_on held p q r w v g (notes_pending room (stays_pending h)) = notes_pending room (stays_pending (moved.goes_on p q r _ _ _ _ _ _ g h))
+  notes_on held p q r w v g (notes_pending room (clears h)) = notes_pending room (clears (moved.goes_on p q r _ _ _ _ _ _ g h))
+
+  pub noted_cell : {O : Type 0} (held : List (ℕ × Slot F T A)) (p q : Party F T A) (w : State) (v : Poll O) → NotesAnswer held p q w v → q.seat.table_id ≡ p.seat.table_id
+  noted_cell held p q w v (notes_ready x g) = g.cell
+  noted_cell held p q w v (notes_pending room (stays_pending g)) = g.cell
+  noted_cell held p q w v (notes_pending room (clears g)) = g.cell
+
+  pub noted_limit : {O : Type 0} (held : List (ℕ × Slot F T A)) (p q : Party F T A) (w : State) (v : Poll O) → NotesAnswer held p q w v → limit_of q ≡ limit_of p
+  noted_limit held p q w v (notes_ready x g) = moved.limit_is p q _ _ _ g
+  noted_limit held p q w v (notes_pending room (stays_pending g)) = moved.limit_is p q _ _ _ g
+  noted_limit held p q w v (notes_pending room (clears g)) = moved.limit_is p q _ _ _ g
+
+  pub noted_ready : {O : Type 0} (held : List (ℕ × Slot F T A)) (p q : Party F T A) (w : State) (v : Poll O) (x : O) → NotesAnswer held p q w v → v ≡ Answered x → GoesWith (act AnswerReady ∷ []) Ready held p q
+  noted_ready held p q w v x (notes_ready y g) is = g
+  noted_ready held p q w v x (notes_pending room a) is = absurd (cc)
+
+  pub noted_pending : {O : Type 0} (held : List (ℕ × Slot F T A)) (p q : Party F T A) (w : State) (v : Poll O) → NotesAnswer held p q w v → v ≡ Unready → (w.references < 72057594037927935) × AnswersPending held p q w.closed
+  noted_pending held p q w v (notes_ready y g) is = absurd (cc)
+  noted_pending held p q w v (notes_pending room a) is = (room, a)
 
   module _ {O : Type 0} (Polled : Poll O → Type 0) (Woken : Type 0) (Scheduled : Bool → Type 0) where
     pub run_closed : (p q r : Party F T A) → Shut p q → Closes Woken q r → (path : List Deed) × RunPath Polled Woken Scheduled false path × Goes path as_ended p r
     run_closed p q r s c = (row TakeUpClosed s.word ∷ c.0, closed_path s.word c.0 s.closed c.1, moved.goes_on p q r _ _ _ _ _ _ s.goes c.2)
 
-    pub run_ready : (p q r t : Party F T A) (s : Started p q) (v : Poll O) (x : O) → v ≡ Answered x → (held : List (ℕ × Slot F T A)) → r.seat.table_id ≡ q.seat.table_id → limit_of r ≡ limit_of q → deeds r ≡ deeds q → StandsWith Polling held r
-        → Polled v → EndsReady Woken r t → (path : List Deed) × RunPath Polled Woken Scheduled false path × Goes path as_ended p t
-    run_ready p q r t s v x is held cell limit did stands fact e = (row StartRun s.word ∷ act StartPoll ∷ e.0, answers_ready s.word x e.0 s.unclosed (subst Polled is fact) e.1, moved.goes_on p r t _ _ _ _ _ _ (polled p q r s held cell limit did stands) e.2)
+    pub run_ready : (p q t : Party F T A) (s : Started p q) (v : Poll O) (x : O) → v ≡ Answered x → Polled v → EndsReady Woken q t → (path : List Deed) × RunPath Polled Woken Scheduled false path × Goes path as_ended p t
+    run_ready p q t s v x is fact e = (row StartRun s.word ∷ act StartPoll ∷ e.0, answers_ready s.word x e.0 s.unclosed (subst Polled is fact) e.1, moved.goes_on p q t _ _ _ _ _ _ s.goes e.2)
 
-    pub run_pending : (p q r t : Party F T A) (s : Started p q) (v : Poll O) → v ≡ Unready → (b : Bool) (held : List (ℕ × Slot F T A)) → r.seat.table_id ≡ q.seat.table_id → limit_of r ≡ limit_of q → deeds r ≡ deeds q → StandsWith Polling held r
-        → Polled v → EndsUnready Woken Scheduled b r t → (path : List Deed) × RunPath Polled Woken Scheduled b path × Goes path as_ended p t
-    run_pending p q r t s v is b held cell limit did stands fact e = (row StartRun s.word ∷ act StartPoll ∷ e.0, answers_pending s.word b e.0 s.unclosed (subst Polled is fact) e.1, moved.goes_on p r t _ _ _ _ _ _ (polled p q r s held cell limit did stands) e.2)
+    pub run_pending : (p q t : Party F T A) (s : Started p q) (v : Poll O) → v ≡ Unready → (b : Bool) → Polled v → EndsUnready Woken Scheduled b q t → (path : List Deed) × RunPath Polled Woken Scheduled b path × Goes path as_ended p t
+    run_pending p q t s v is b fact e = (row StartRun s.word ∷ act StartPoll ∷ e.0, answers_pending s.word b e.0 s.unclosed (subst Polled is fact) e.1, moved.goes_on p q t _ _ _ _ _ _ s.goes e.2)

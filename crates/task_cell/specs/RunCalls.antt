@@ -1,12 +1,14 @@
 -- What the steps of a run and of a Runnable's drop come to.
-use Rattle.std.specs.Prelude.{◌≡◌, ℕ, ◌||◌, nat_lt, Bool, true, false, List, [], ◌∷◌, Option, Some, None, is_some}
+use Rattle.std.specs.Prelude.{◌≡◌, ◌<◌, ℕ, ◌||◌, nat_lt, Bool, true, false, List, [], ◌∷◌, Option, Some, None, is_some}
 use Rattle.task_core.specs.Word.{State}
 use Rattle.task_laws.specs.declared.positions.Answer.{Answer}
 use Rattle.task_laws.specs.declared.positions.Position.TheVariants.{At, AwaiterInHand, Deliverer, Emptier, Pending, PendingFutureDropped}
-use Rattle.task_laws.specs.declared.positions.Position.TheVariants.{OutputInHand}
+use Rattle.task_laws.specs.declared.positions.Position.TheVariants.{OutputInHand, Ready}
 use Rattle.task_core.specs.declared.acts.Act.TheVariants.{GiveUpReference, GiveUpLastReference, DropFuture, StoreOutput, Complete}
 use Rattle.task_core.specs.declared.acts.Act.TheVariants.{CompleteDetached, AnswerPending, Reschedule, EndIdle, EndCall, EndOrphaned}
-use Rattle.task_core.specs.declared.acts.Act.TheVariants.{EndClosed}
+use Rattle.task_core.specs.declared.acts.Act.TheVariants.{AnswerReady, EndClosed}
+use Rattle.task_core.specs.declared.traits.Poll.{Poll}
+use Rattle.task_core.specs.declared.traits.Poll.TheVariants.{Pending as Unready, Ready as Answered}
 use Rattle.task_laws.specs.declared.positions.Answer.TheVariants.{Ran}
 use Rattle.task_laws.specs.declared.positions.Rest.TheVariants.{Ended}
 use Rattle.task_laws.specs.declared.positions.OnceDelivered.TheVariants.{ThenEnds}
@@ -51,6 +53,11 @@ module _ {F T A : Type 0} where
   pub data AnswersPending (held : List (ℕ × Slot F T A)) (p q : Party F T A) : Bool → Type 0 where
     stays_pending : GoesWith (act AnswerPending ∷ []) Pending held p q → AnswersPending held p q false
     clears : GoesWith (act AnswerPending ∷ act DropFuture ∷ []) PendingFutureDropped held p q → AnswersPending held p q true
+
+  -- what a poll answered was written down, on this word
+  pub data NotesAnswer {O : Type 0} (held : List (ℕ × Slot F T A)) (p q : Party F T A) (w : State) : Poll O → Type 0 where
+    notes_ready : (x : O) → GoesWith (act AnswerReady ∷ []) Ready held p q → NotesAnswer held p q w (Answered x)
+    notes_pending : w.references < 72057594037927935 → AnswersPending held p q w.closed → NotesAnswer held p q w Unready
 
   -- a run has ended without an output, or has found the task closed
   pub data EndsPending (held : List (ℕ × Slot F T A)) (p q : Party F T A) : PendingEnd → Type 0 where

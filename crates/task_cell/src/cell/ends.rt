@@ -37,15 +37,15 @@ impl<R: Drop, F: Yields, Q: Drop, M: Drop, A: Drop, B: Allocator> Cell<R, F, Q, 
         self.table.shared.load::<Always<Ending>>(&mut party.seat, 0);
     }
 
-    // The poll has answered Ready. One load.
-    pub(crate) fn answer_ready(&self, party: &mut Party<F, Kept<F>, A>)
+    // The poll has answered Ready: the word that was found. One load.
+    pub(crate) fn answer_ready(&self, party: &mut Party<F, Kept<F>, A>) -> Word
         requires cell { IsOf self.now party.old }
         requires party { (held : List (ℕ × Slot F _ A)) × StandsWith Polling held party.old }
         ensures { (held : List (ℕ × Slot F _ A)) → StandsWith Polling held party.old → GoesWith (act AnswerReady ∷ []) Ready held party.old party.new }
     {
-        self.table
-            .shared
-            .load::<Always<AnsweringReady>>(&mut party.seat, 0);
+        let shared = &self.table.shared;
+        let found = shared.load::<Always<AnsweringReady>>(&mut party.seat, 0);
+        Word::from_bits(found)
     }
 
     // The poll has answered Pending: the word that was found. Where it shows a closed task, the future is to be dropped. One load.

@@ -1,5 +1,5 @@
 //! The poll of the future, and the waker that it is lent.
-ghost use Rattle.std.specs.Prelude.{◌≡◌, ℕ, ◌∷◌, []};
+ghost use Rattle.std.specs.Prelude.{◌≡◌, ℕ, ◌∷◌, [], List};
 ghost use Rattle.std.specs.Arc.{arc_value};
 ghost use Rattle.task_laws.specs.declared.positions.Position.TheVariants.{Polling};
 ghost use Rattle.task_core.specs.Poll.{IfReady};
@@ -8,18 +8,21 @@ ghost use Rattle.task_steps.specs.declared.table.Slot.TheVariants.{Future as Lie
 ghost use Rattle.task_steps.specs.Rule.{IsFuture};
 ghost use Rattle.task_steps.specs.Steps.{future_first};
 ghost use Rattle.task_cell.specs.Belongs.{IsOf};
-ghost use Rattle.task_cell.specs.Calls.{StandsWith, deeds, limit_of};
+ghost use Rattle.task_cell.specs.Calls.{StandsWith, limit_of};
 ghost use Rattle.task_cell.specs.Handed.{LentTo};
+ghost use Rattle.task_cell.specs.RunCalls.{NotesAnswer};
 
 use super::waker::WakerSeat;
 use super::{Cell, Party, Runnable, Share, TaskWaker};
 use std::alloc::Allocator;
 use std::sync::{Arc, Wait};
+use task_core::word::Word;
 use task_core::{Future, Poll, Schedule, Wake, Yields};
 use task_steps::table::{Kept, polled};
 
 impl<R: Wait + Drop, F: Yields, Q: Drop, M: Drop, A: Wake, B: Allocator> Cell<R, F, Q, M, A, B> {
-    // One poll of a run that has started, with a waker that it is lent. No lock is held, and the future stays in its place.
+    // One poll of a run that has started, with a waker that it is lent; what it answers is written down, on the word that is told last. No lock is held,
+    // and the future stays in its place.
     pub(crate) fn poll_future<X: Copy>(
         share: Share<R, F, Q, M, A, B>,
         party: Party<F, Kept<F>, A>,
@@ -28,6 +31,7 @@ impl<R: Wait + Drop, F: Yields, Q: Drop, M: Drop, A: Wake, B: Allocator> Cell<R,
         Share<R, F, Q, M, A, B>,
         Party<F, Kept<F>, A>,
         Poll<F::Output>,
+        Word,
     )
     where
         F: Future<TaskWaker<R, F, Q, M, A, X, B>>,
@@ -36,10 +40,7 @@ impl<R: Wait + Drop, F: Yields, Q: Drop, M: Drop, A: Wake, B: Allocator> Cell<R,
         requires limit { limit_of party ≡ (arc_value share.cell).limit }
         requires party { (y : Slot F _ A) × (z : Slot F _ A) × StandsWith Polling (future_first y z []) party × IsFuture y }
         ensures share { result.0 ≡ share }
-        ensures seat { result.1.seat.table_id ≡ party.seat.table_id }
-        ensures limit { limit_of result.1 ≡ limit_of party }
-        ensures deeds { deeds result.1 ≡ deeds party }
-        ensures once { (f : F) × (g : F) × (z : Slot F _ A) × StandsWith Polling (future_first (Lies f) z []) party × StandsWith Polling (future_first (Lies g) z []) result.1 × LentTo F.polled (arc_value share.cell) around f result.2 g }
+        ensures once { (f : F) × (g : F) × (z : Slot F _ A) × StandsWith Polling (future_first (Lies f) z []) party × NotesAnswer (future_first (Lies g) z []) party result.1 result.3 result.2 × LentTo F.polled (arc_value share.cell) around f result.2 g }
         ensures meets { IfReady result.2 F.Yields.meets }
     {
         let Party { mut seat } = party;
@@ -52,6 +53,32 @@ impl<R: Wait + Drop, F: Yields, Q: Drop, M: Drop, A: Wake, B: Allocator> Cell<R,
             &waker,
         );
         let (inner, _) = waker.into_parts();
-        (inner.into_share(), Party { seat }, answer)
+        let share = inner.into_share();
+        let (party, found) = share.cell().note_answer(Party { seat }, &answer);
+        (share, party, answer, found)
+    }
+}
+
+impl<R: Wait + Drop, F: Yields, Q: Drop, M: Drop, A: Wake, B: Allocator> Cell<R, F, Q, M, A, B> {
+    // Writes down what the poll has answered, so that the party no longer stands where it may poll: the word that was found.
+    fn note_answer(
+        &self,
+        mut party: Party<F, Kept<F>, A>,
+        answer: &Poll<F::Output>,
+    ) -> (Party<F, Kept<F>, A>, Word)
+        requires cell { IsOf self.now party }
+        requires party { (held : List (ℕ × Slot F _ A)) × StandsWith Polling held party }
+        ensures { (held : List (ℕ × Slot F _ A)) → StandsWith Polling held party → NotesAnswer held party result.0 result.1 answer.now }
+    {
+        match answer {
+            Poll::Ready(_) => {
+                let found = self.answer_ready(&mut party);
+                (party, found)
+            }
+            Poll::Pending => {
+                let found = self.answer_pending(&mut party);
+                (party, found)
+            }
+        }
     }
 }

@@ -1,20 +1,20 @@
 //! The steps of a run and of a Runnable's drop.
-ghost use Rattle.std.specs.Prelude.{◌≡◌, ℕ, ◌∷◌, []};
+ghost use Rattle.std.specs.Prelude.{◌≡◌, ◌<◌, ℕ, ◌∷◌, []};
 ghost use Rattle.std.specs.Arc.{arc_value};
 ghost use Rattle.task_laws.specs.declared.positions.WithoutPoll.TheVariants.{ClosedRun};
 ghost use Rattle.task_laws.specs.declared.positions.WithoutPoll.{WithoutPoll};
-ghost use Rattle.task_laws.specs.declared.positions.Position.TheVariants.{FutureInHand, Ready, PendingFutureDropped, Polling};
-ghost use Rattle.task_core.specs.declared.acts.Act.TheVariants.{DropFuture, Unschedule};
+ghost use Rattle.task_laws.specs.declared.positions.Position.TheVariants.{FutureInHand, Ready, PendingFutureDropped};
+ghost use Rattle.task_core.specs.declared.acts.Act.TheVariants.{AnswerReady, DropFuture, Unschedule};
 ghost use Rattle.task_laws.specs.Table.{notifies};
 ghost use Rattle.task_steps.specs.declared.table.Slot.{Slot};
 ghost use Rattle.task_cell.specs.Belongs.{IsOf};
 ghost use Rattle.task_cell.specs.Handed.{HandedOver};
-ghost use Rattle.task_cell.specs.Calls.{StandsWith, Goes, position, limit_of};
+ghost use Rattle.task_cell.specs.Calls.{StandsWith, Goes, GoesWith, position, limit_of};
 ghost use Rattle.task_steps.specs.Deeds.{row, act};
 ghost use Rattle.task_steps.specs.Standing.{closing_way};
 ghost use Rattle.task_steps.specs.Rule.{IsEmpty, IsFuture};
 ghost use Rattle.task_steps.specs.Steps.{future_first};
-ghost use Rattle.task_cell.specs.RunCalls.{Stores, ClosesPending, Closes, EndsReady, EndsUnready};
+ghost use Rattle.task_cell.specs.RunCalls.{Stores, AnswersPending, ClosesPending, Closes, EndsReady, EndsUnready};
 
 use super::{Cell, Party, Runnable};
 use std::alloc::Allocator;
@@ -87,31 +87,31 @@ impl<R: Drop, F: Yields, Q: Drop, M: Drop, A: Wake, B: Allocator> Cell<R, F, Q, 
 }
 
 impl<R: Wait + Drop, F: Yields, Q: Drop, M: Drop, A: Wake, B: Allocator> Cell<R, F, Q, M, A, B> {
-    // A run, from where its poll answered Ready.
+    // A run, from where its poll has answered Ready, as the party that polled.
     pub(crate) fn finish_ready(&self, party: &mut Party<F, Kept<F>, A>, output: Held<Kept<F>>)
         requires cell { IsOf self.now party.old }
-        requires party { (y : Slot F _ A) × (z : Slot F _ A) × StandsWith Polling (future_first y z []) party.old }
-        ensures { EndsReady ((a : A) × A.woken a) party.old party.new }
+        requires party { (y : Slot F _ A) × (z : Slot F _ A) × StandsWith Ready (future_first y z []) party.old }
+        ensures { (p : _) (y z : Slot F _ A) → GoesWith (act AnswerReady ∷ []) Ready (future_first y z []) p party.old → EndsReady ((a : A) × A.woken a) p party.new }
     {
-        self.answer_ready(party);
         self.clear(party, 0);
         let found = self.store_output(party, output);
         self.finish(party, found.awaiter());
     }
 
-    // A run, from where its poll answered Pending. Whether the task was woken meanwhile.
+    // A run, from where its poll has answered Pending on the word `found`. Whether the task was woken meanwhile.
     pub(crate) fn finish_pending<X: Copy>(
         this: &Arc<Self, B>,
         party: &mut Party<F, Kept<F>, A>,
+        found: Word,
         around: X,
     ) -> bool
     where
         Q: Schedule<Runnable<R, F, Q, M, A, X, B>>,
         requires cell { IsOf (arc_value this.now) party.old × (limit_of party.old ≡ (arc_value this.now).limit) }
-        requires party { (y : Slot F _ A) × (z : Slot F _ A) × StandsWith Polling (future_first y z []) party.old × IsFuture y }
-        ensures { EndsUnready ((a : A) × A.woken a) (HandedOver Q.scheduled (arc_value this.now) around) result party.old party.new }
+        requires room { found.references < 72057594037927935 }
+        requires party { (p : _) × (y : Slot F _ A) × (z : Slot F _ A) × AnswersPending (future_first y z []) p party.old found.closed × IsFuture y }
+        ensures { (p : _) (y z : Slot F _ A) → AnswersPending (future_first y z []) p party.old found.closed → EndsUnready ((a : A) × A.woken a) (HandedOver Q.scheduled (arc_value this.now) around) result p party.new }
     {
-        let found = this.answer_pending(party);
         if found.closed() {
             this.finish_cleared(party);
             return false;

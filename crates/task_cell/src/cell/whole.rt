@@ -1,7 +1,7 @@
 //! A whole run.
-ghost use Rattle.std.specs.Prelude.{◌≡◌, ℕ, ◌∷◌, [], List};
+ghost use Rattle.std.specs.Prelude.{◌≡◌, ◌<◌, ℕ, ◌∷◌, [], List};
 ghost use Rattle.std.specs.Arc.{arc_value};
-ghost use Rattle.task_laws.specs.declared.positions.Position.TheVariants.{FutureInHand, Polling};
+ghost use Rattle.task_laws.specs.declared.positions.Position.TheVariants.{FutureInHand, Ready};
 ghost use Rattle.task_laws.specs.declared.positions.WithoutPoll.TheVariants.{ClosedRun};
 ghost use Rattle.task_steps.specs.declared.table.Deed.{Deed};
 ghost use Rattle.task_steps.specs.declared.table.Slot.{Slot};
@@ -9,15 +9,18 @@ ghost use Rattle.task_steps.specs.Rule.{IsFuture};
 ghost use Rattle.task_steps.specs.Steps.{future_first};
 ghost use Rattle.task_cell.specs.Belongs.{IsOf};
 ghost use Rattle.task_cell.specs.Handed.{HandedOver, PolledOnce};
-ghost use Rattle.task_cell.specs.Calls.{Stands, StandsWith, Goes, limit_of};
+ghost use Rattle.task_cell.specs.Calls.{Stands, StandsWith, Goes, GoesWith, limit_of};
+ghost use Rattle.task_core.specs.declared.acts.Act.TheVariants.{AnswerReady};
+ghost use Rattle.task_steps.specs.Deeds.{act};
 ghost use Rattle.task_steps.specs.Standing.{as_runnable, as_ended};
 ghost use Rattle.task_cell.specs.Starts.{TakesUp};
 ghost use Rattle.task_cell.specs.RunPaths.{RunPath};
-ghost use Rattle.task_cell.specs.RunCalls.{Closes, EndsReady, EndsUnready};
+ghost use Rattle.task_cell.specs.RunCalls.{AnswersPending, Closes, EndsReady, EndsUnready};
 
 use super::{Cell, Party, Runnable, Share, TaskWaker};
 use std::alloc::Allocator;
 use std::sync::{Arc, Wait};
+use task_core::word::Word;
 use task_core::{Future, Poll, Schedule, Wake, Yields};
 use task_steps::places::Held;
 use task_steps::table::Kept;
@@ -44,7 +47,7 @@ impl<R: Wait + Drop, F: Yields, Q: Drop, M: Drop, A: Wake, B: Allocator> Cell<R,
             let ended = share.cell().end_closed_run(party);
             return (share, ended, false);
         }
-        let (share, party, answer) = Cell::poll_future(share, party, around);
+        let (share, party, answer, found) = Cell::poll_future(share, party, around);
         match answer {
             Poll::Ready(output) => {
                 let ended = share
@@ -53,7 +56,7 @@ impl<R: Wait + Drop, F: Yields, Q: Drop, M: Drop, A: Wake, B: Allocator> Cell<R,
                 (share, ended, false)
             }
             Poll::Pending => {
-                let (ended, woken) = Cell::end_pending_run(share.cell(), party, around);
+                let (ended, woken) = Cell::end_pending_run(share.cell(), party, found, around);
                 (share, ended, woken)
             }
         }
@@ -86,8 +89,8 @@ impl<R: Wait + Drop, F: Yields, Q: Drop, M: Drop, A: Wake, B: Allocator> Cell<R,
         output: Held<Kept<F>>,
     ) -> Party<F, Kept<F>, A>
         requires cell { IsOf self.now party }
-        requires party { (y : Slot F _ A) × (z : Slot F _ A) × StandsWith Polling (future_first y z []) party }
-        ensures { EndsReady ((a : A) × A.woken a) party result }
+        requires party { (y : Slot F _ A) × (z : Slot F _ A) × StandsWith Ready (future_first y z []) party }
+        ensures { (p : _) (y z : Slot F _ A) → GoesWith (act AnswerReady ∷ []) Ready (future_first y z []) p party → EndsReady ((a : A) × A.woken a) p result }
     {
         self.finish_ready(&mut party, output);
         party
@@ -96,15 +99,17 @@ impl<R: Wait + Drop, F: Yields, Q: Drop, M: Drop, A: Wake, B: Allocator> Cell<R,
     fn end_pending_run<X: Copy>(
         this: &Arc<Self, B>,
         mut party: Party<F, Kept<F>, A>,
+        found: Word,
         around: X,
     ) -> (Party<F, Kept<F>, A>, bool)
     where
         Q: Schedule<Runnable<R, F, Q, M, A, X, B>>,
         requires cell { IsOf (arc_value this.now) party × (limit_of party ≡ (arc_value this.now).limit) }
-        requires party { (y : Slot F _ A) × (z : Slot F _ A) × StandsWith Polling (future_first y z []) party × IsFuture y }
-        ensures { EndsUnready ((a : A) × A.woken a) (HandedOver Q.scheduled (arc_value this.now) around) result.1 party result.0 }
+        requires room { found.references < 72057594037927935 }
+        requires party { (p : _) × (y : Slot F _ A) × (z : Slot F _ A) × AnswersPending (future_first y z []) p party found.closed × IsFuture y }
+        ensures { (p : _) (y z : Slot F _ A) → AnswersPending (future_first y z []) p party found.closed → EndsUnready ((a : A) × A.woken a) (HandedOver Q.scheduled (arc_value this.now) around) result.1 p result.0 }
     {
-        let woken = Cell::finish_pending(this, &mut party, around);
+        let woken = Cell::finish_pending(this, &mut party, found, around);
         (party, woken)
     }
 }

@@ -1,25 +1,25 @@
-use Rattle.task_cell.proofs.Vocabulary.{◌∙◌, sym, subst, ◌∷◌, [], OfRun, Ready, AnswerReady, notifies, Empty, Stands, act, Rests, future_first}
+use Rattle.task_cell.proofs.Vocabulary.{◌∙◌, sym, subst, ◌∷◌, [], OfRun, Ready, notifies, Empty, Stands, Rests, future_first}
 use Rattle.task_cell.proofs.Moved.{stands}
 use Rattle.task_cell.proofs.RunEnds.{ready_rest}
 use Rattle.task_cell.proofs.cell.Cell.finish_ready.Goals as goal
 
-pub clear-requires-clause-cell : goal.clear-requires-clause-cell
-clear-requires-clause-cell g c = let s = c.requires.party in let f = c.answer_ready.ensures (future_first s.0 s.1 []) s.2 in let at = stands c.args.party.now c.answer_ready.new.party (act AnswerReady ∷ []) Ready (future_first s.0 s.1 []) f in f.cell ∙ c.requires.cell
-
 pub clear-requires-clause-party : goal.clear-requires-clause-party
-clear-requires-clause-party g c = let s = c.requires.party in let f = c.answer_ready.ensures (future_first s.0 s.1 []) s.2 in let at = stands c.args.party.now c.answer_ready.new.party (act AnswerReady ∷ []) Ready (future_first s.0 s.1 []) f in (Ready, s.0, (1, s.1) ∷ [], at)
+clear-requires-clause-party g c = let s = c.requires.party in (Ready, s.0, (1, s.1) ∷ [], s.2)
 
 pub store_output-found-requires-clause-cell : goal.store_output-found-requires-clause-cell
-store_output-found-requires-clause-cell g c = let s = c.requires.party in let f = c.answer_ready.ensures (future_first s.0 s.1 []) s.2 in let at = stands c.args.party.now c.answer_ready.new.party (act AnswerReady ∷ []) Ready (future_first s.0 s.1 []) f in let x = c.clear.ensures Ready s.0 ((1, s.1) ∷ []) at in let at' = stands c.answer_ready.new.party c.clear.new.party [] Ready (future_first Empty s.1 []) x in x.cell ∙ (f.cell ∙ c.requires.cell)
+store_output-found-requires-clause-cell g c = let s = c.requires.party in let x = c.clear.ensures Ready s.0 ((1, s.1) ∷ []) s.2 in x.cell ∙ c.requires.cell
 
 pub store_output-found-requires-clause-party : goal.store_output-found-requires-clause-party
-store_output-found-requires-clause-party g c = let s = c.requires.party in let f = c.answer_ready.ensures (future_first s.0 s.1 []) s.2 in let at = stands c.args.party.now c.answer_ready.new.party (act AnswerReady ∷ []) Ready (future_first s.0 s.1 []) f in let x = c.clear.ensures Ready s.0 ((1, s.1) ∷ []) at in let at' = stands c.answer_ready.new.party c.clear.new.party [] Ready (future_first Empty s.1 []) x in (Empty, s.1, at', tt)
+store_output-found-requires-clause-party g c = let s = c.requires.party in let x = c.clear.ensures Ready s.0 ((1, s.1) ∷ []) s.2 in (Empty, s.1, stands c.args.party.now c.clear.new.party [] Ready (future_first Empty s.1 []) x, tt)
 
 pub finish-requires-clause-cell : goal.finish-requires-clause-cell
-finish-requires-clause-cell g c = let s = c.requires.party in let f = c.answer_ready.ensures (future_first s.0 s.1 []) s.2 in let at = stands c.args.party.now c.answer_ready.new.party (act AnswerReady ∷ []) Ready (future_first s.0 s.1 []) f in let x = c.clear.ensures Ready s.0 ((1, s.1) ∷ []) at in let at' = stands c.answer_ready.new.party c.clear.new.party [] Ready (future_first Empty s.1 []) x in let w = c.store_output-found.result in let h = c.store_output-found.ensures Empty s.1 at' in h.2.cell ∙ (x.cell ∙ (f.cell ∙ c.requires.cell))
+finish-requires-clause-cell g c = let s = c.requires.party in let x = c.clear.ensures Ready s.0 ((1, s.1) ∷ []) s.2 in let h = c.store_output-found.ensures Empty s.1 (stands c.args.party.now c.clear.new.party [] Ready (future_first Empty s.1 []) x) in
+    h.2.cell ∙ (x.cell ∙ c.requires.cell)
 
 pub finish-requires-clause-party : goal.finish-requires-clause-party
-finish-requires-clause-party g c = let s = c.requires.party in let f = c.answer_ready.ensures (future_first s.0 s.1 []) s.2 in let at = stands c.args.party.now c.answer_ready.new.party (act AnswerReady ∷ []) Ready (future_first s.0 s.1 []) f in let x = c.clear.ensures Ready s.0 ((1, s.1) ∷ []) at in let at' = stands c.answer_ready.new.party c.clear.new.party [] Ready (future_first Empty s.1 []) x in let w = c.store_output-found.result in let h = c.store_output-found.ensures Empty s.1 at' in subst (λ b. Stands (notifies b OfRun) c.store_output-found.new.party) (sym c.awaiter.ensures) (stands c.clear.new.party c.store_output-found.new.party h.0 (notifies w.awaiter OfRun) [] h.2)
+finish-requires-clause-party g c = let s = c.requires.party in let x = c.clear.ensures Ready s.0 ((1, s.1) ∷ []) s.2 in let w = c.store_output-found.result in let h = c.store_output-found.ensures Empty s.1 (stands c.args.party.now c.clear.new.party [] Ready (future_first Empty s.1 []) x) in
+    subst (λ b. Stands (notifies b OfRun) c.store_output-found.new.party) (sym c.awaiter.ensures) (stands c.clear.new.party c.store_output-found.new.party h.0 (notifies w.awaiter OfRun) [] h.2)
 
 pub returns : goal.returns
-returns g c = let s = c.requires.party in let f = c.answer_ready.ensures (future_first s.0 s.1 []) s.2 in let at = stands c.args.party.now c.answer_ready.new.party (act AnswerReady ∷ []) Ready (future_first s.0 s.1 []) f in let x = c.clear.ensures Ready s.0 ((1, s.1) ∷ []) at in let at' = stands c.answer_ready.new.party c.clear.new.party [] Ready (future_first Empty s.1 []) x in let w = c.store_output-found.result in let h = c.store_output-found.ensures Empty s.1 at' in ready_rest _ w (future_first s.0 s.1 []) (future_first Empty s.1 []) c.args.party.now c.answer_ready.new.party c.clear.new.party c.store_output-found.new.party c.finish.new.party f x h (subst (λ b. Rests ((a : g.row.A.Denot) × g.A.Wake.woken a) b c.store_output-found.new.party c.finish.new.party) c.awaiter.ensures c.finish.ensures)
+returns g c = let s = c.requires.party in let x = c.clear.ensures Ready s.0 ((1, s.1) ∷ []) s.2 in let w = c.store_output-found.result in let h = c.store_output-found.ensures Empty s.1 (stands c.args.party.now c.clear.new.party [] Ready (future_first Empty s.1 []) x) in
+    λ p y z f. ready_rest _ w (future_first y z []) (future_first Empty s.1 []) p c.args.party.now c.clear.new.party c.store_output-found.new.party c.finish.new.party f x h (subst (λ b. Rests ((a : g.row.A.Denot) × g.A.Wake.woken a) b c.store_output-found.new.party c.finish.new.party) c.awaiter.ensures c.finish.ensures)
