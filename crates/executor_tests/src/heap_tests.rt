@@ -3,6 +3,7 @@
 use crate::tray::Tray;
 use crate::{calls, tray};
 use fixtures::counters::{Counters, Counts};
+use fixtures::flag::Flag;
 use fixtures::future::Behaviour;
 use linked_list_allocator::LocalHeap;
 use std::alloc::Global;
@@ -139,5 +140,60 @@ fn wakers_ask_for_no_memory(rt: HostRuntime) {
     assert_eq!(rt;
         (counters.counts(), heap.used()),
         (Counts::new(3, 3, 1, 1), 0)
+    );
+}
+
+// What was seen of three tasks that were polled in a full heap, before and after each ended: whether the Task was pending and then
+// ready, the FallibleTask and the Cancel pending and then without an output; and whether nothing more was used.
+type Polled = ([(bool, bool); 3], bool);
+
+// Spawns three tasks and fills the heap. Polls the Task of the first, a FallibleTask of the second and a Cancel of the third, each
+// before and after the task ends: the first and the third are run, the Runnable of the second is dropped.
+fn poll_in_full_heap<R: Wait + Abort + Drop + Copy>(
+    rt: R,
+    alloc: Global,
+    heap: &LocalHeap,
+    counters: &Arc<Counters>,
+    flag: &Flag,
+) -> Polled {
+    let tray = Tray::new(rt);
+    let (first, mut task) = tray::spawn_in(heap, &tray, counters, Behaviour::Ready(1));
+    let (second, other) = tray::spawn_in(heap, &tray, counters, Behaviour::Ready(1));
+    let (third, last) = tray::spawn_in(heap, &tray, counters, Behaviour::Ready(1));
+    let mut fallible = other.fallible();
+    let mut cancel = last.cancel();
+    let filling = tray::fill(rt, alloc, heap);
+    let used = heap.used();
+    let task_waits = tray::is_pending(&mut task, flag);
+    let fallible_waits = tray::is_fallible_pending(&mut fallible, flag);
+    let cancel_waits = tray::is_cancel_pending(&mut cancel, flag);
+    let is_same = heap.used() == used;
+    tray::run(first);
+    tray::drop_runnable(second);
+    tray::run(third);
+    let task_ends = tray::ends_ready(task, flag, 1);
+    let fallible_ends = tray::ends_fallible(fallible, flag);
+    let cancel_ends = tray::ends_cancel(cancel, flag);
+    drop(filling);
+    let seen = [
+        (task_waits, task_ends),
+        (fallible_waits, fallible_ends),
+        (cancel_waits, cancel_ends),
+    ];
+    (seen, is_same)
+}
+
+// Polls that register an awaiter, and those that find the task ended, in a full heap: each awaiter is cloned once, and woken once.
+#[test]
+fn polls_ask_for_no_memory(rt: HostRuntime) {
+    let counters = calls::counters(rt, rt.alloc());
+    let heap = calls::heap(rt, rt.alloc(), tray::HEAP);
+    let flag = calls::flag(rt, rt.alloc(), 1);
+    let seen = poll_in_full_heap(rt, rt.alloc(), &heap, &counters, &flag);
+    assert_eq!(rt; seen, ([(true, true); 3], true));
+    assert_eq!(rt; (flag.clones(), flag.wakes(), flag.drops()), (3, 3, 0));
+    assert_eq!(rt;
+        (counters.counts(), heap.used()),
+        (Counts::new(1, 0, 3, 3), 0)
     );
 }

@@ -4,9 +4,10 @@ ghost use Rattle.fixtures.specs.Behaviour.{IsPolled};
 
 use crate::calls;
 use async_task::{
-    Builder, Future, ParkedRunnable, Poll, Runnable, Schedule, ScheduleInfo, Task, TaskWaker,
-    Yields,
+    Builder, Cancel, FallibleTask, Future, ParkedRunnable, Poll, Runnable, Schedule, ScheduleInfo,
+    Task, TaskPoll, TaskWaker, Yields,
 };
+use fixtures::answers::is_ready_with;
 use fixtures::counters::{Counters, Counts};
 use fixtures::flag::Flag;
 use fixtures::future::{Behaviour, Output, RowFuture};
@@ -36,6 +37,28 @@ pub type TrayRunnable<'x, 'heap, R> = Runnable<
 
 /// A Task of such a task.
 pub type TrayTask<'x, 'heap, R> = Task<
+    R,
+    TrayFuture,
+    TrayScheduler,
+    u64,
+    Flag,
+    &'x Tray<'heap, R>,
+    &'heap LocalHeap,
+>;
+
+/// A Task of such a task that answers `None` where the task is closed.
+pub type TrayFallible<'x, 'heap, R> = FallibleTask<
+    R,
+    TrayFuture,
+    TrayScheduler,
+    u64,
+    Flag,
+    &'x Tray<'heap, R>,
+    &'heap LocalHeap,
+>;
+
+/// The handle whose first poll cancels such a task.
+pub type TrayCancel<'x, 'heap, R> = Cancel<
     R,
     TrayFuture,
     TrayScheduler,
@@ -230,6 +253,46 @@ pub fn finished<R: Wait + Drop>(task: &mut TrayTask<'_, '_, R>) -> (bool, u64) {
 pub fn detach<R: Wait + Drop>(task: TrayTask<'_, '_, R>, counters: &Counters) -> Counts {
     task.detach();
     counters.counts()
+}
+
+/// Polls a Task: whether it is pending.
+pub fn is_pending<R: Wait + Drop>(task: &mut TrayTask<'_, '_, R>, awaiter: &Flag) -> bool {
+    matches!(task.poll(awaiter), TaskPoll::Pending)
+}
+
+/// Polls a Task, and drops it: whether it was ready with that number.
+pub fn ends_ready<R: Wait + Drop>(
+    mut task: TrayTask<'_, '_, R>,
+    awaiter: &Flag,
+    number: u64,
+) -> bool {
+    is_ready_with(&task.poll(awaiter), number)
+}
+
+/// Polls a FallibleTask: whether it is pending.
+pub fn is_fallible_pending<R: Wait + Drop>(
+    task: &mut TrayFallible<'_, '_, R>,
+    awaiter: &Flag,
+) -> bool {
+    matches!(task.poll(awaiter), TaskPoll::Pending)
+}
+
+/// Polls a FallibleTask, and drops it: whether it was ready without an output.
+pub fn ends_fallible<R: Wait + Drop>(mut task: TrayFallible<'_, '_, R>, awaiter: &Flag) -> bool {
+    matches!(task.poll(awaiter), TaskPoll::Ready(None))
+}
+
+/// Polls a Cancel: whether it is pending.
+pub fn is_cancel_pending<R: Wait + Drop>(
+    cancel: &mut TrayCancel<'_, '_, R>,
+    awaiter: &Flag,
+) -> bool {
+    matches!(cancel.poll(awaiter), TaskPoll::Pending)
+}
+
+/// Polls a Cancel, and drops it: whether it was ready without an output.
+pub fn ends_cancel<R: Wait + Drop>(mut cancel: TrayCancel<'_, '_, R>, awaiter: &Flag) -> bool {
+    matches!(cancel.poll(awaiter), TaskPoll::Ready(None))
 }
 
 /// Drops a Task.

@@ -2,18 +2,45 @@
 ghost use Rattle.std.specs.Prelude.{⊤};
 
 use async_task::Wake;
-use fixtures::counters::Counter;
+use fixtures::counters::{Counter, Counters};
 use fixtures::rendezvous::Rendezvous;
 use std::alloc::{AllocError, Global};
 use std::hint::spin_loop;
 use std::sync::Arc;
 
-// How many turns a clone takes.
-const CLONE: u32 = 4;
+// How often a clone looks whether the future has been dropped.
+const LOOKS: u32 = 1_000;
+
+// What a clone waits for: that so many futures were dropped, and then a number of turns.
+#[derive(Drop)]
+struct AfterDrop {
+    counters: Arc<Counters>,
+    future_drops: u64,
+    turns: u64,
+}
+
+impl AfterDrop {
+    // It does not wait long for a thread that cannot run.
+    fn wait(&self) {
+        for _ in 0..LOOKS {
+            if self.counters.future_drops.get() >= self.future_drops {
+                break;
+            }
+            spin_loop();
+        }
+    }
+
+    fn pause(&self) {
+        for _ in 0..self.turns {
+            spin_loop();
+        }
+    }
+}
 
 // What an awaiter and its clones share.
 #[derive(Drop)]
 struct Shared {
+    after_drop: Option<AfterDrop>,
     clones: Counter,
     wakes: Counter,
     reference_wakes: Counter,
@@ -29,7 +56,27 @@ pub struct RaceAwaiter {
 impl RaceAwaiter {
     /// An awaiter that has counted nothing.
     pub fn new(alloc: Global) -> Result<RaceAwaiter, AllocError> {
+        RaceAwaiter::make(alloc, None)
+    }
+
+    /// An awaiter that is cloned so many turns after so many futures were dropped: right before their runs take out an awaiter.
+    pub fn after_drop(
+        alloc: Global,
+        counters: Arc<Counters>,
+        future_drops: u64,
+        turns: u64,
+    ) -> Result<RaceAwaiter, AllocError> {
+        let after_drop = AfterDrop {
+            counters,
+            future_drops,
+            turns,
+        };
+        RaceAwaiter::make(alloc, Some(after_drop))
+    }
+
+    fn make(alloc: Global, after_drop: Option<AfterDrop>) -> Result<RaceAwaiter, AllocError> {
         let shared = Shared {
+            after_drop,
             clones: Counter::new(),
             wakes: Counter::new(),
             reference_wakes: Counter::new(),
@@ -102,10 +149,11 @@ impl Wake for RaceAwaiter {
         self.shared.reference_wakes.add_one();
     }
 
-    // It takes some turns, so that a notifier may come between the first look of a poll and its registration.
+    // It may wait, so that a notifier comes between the first look of a poll and its registration.
     fn try_clone(&self) -> Option<RaceAwaiter> {
-        for _ in 0..CLONE {
-            spin_loop();
+        if let Some(after_drop) = &self.shared.after_drop {
+            after_drop.wait();
+            after_drop.pause();
         }
         let shared = Arc::try_clone(&self.shared).ok()?;
         shared.clones.add_one();

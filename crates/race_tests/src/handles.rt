@@ -16,6 +16,19 @@ pub fn awaiter<R: Wait + Abort>(rt: &R, alloc: Global) -> RaceAwaiter {
     }
 }
 
+/// An awaiter that is cloned so many turns after the future of this round was dropped. Stops where there is no memory.
+pub fn late_awaiter<R: Wait + Abort + Drop + Copy>(
+    rt: &R,
+    surroundings: &RaceSurroundings<R>,
+    round: u64,
+    turns: u64,
+) -> RaceAwaiter {
+    match surroundings.late_awaiter(round, turns) {
+        Ok(awaiter) => awaiter,
+        Err(_) => panic!(rt; "no memory for an awaiter"),
+    }
+}
+
 /// Spawns the task of a round. Stops where there is no memory.
 pub fn spawn<'x, R: Wait + Abort + Drop + Copy>(
     rt: &R,

@@ -180,6 +180,12 @@ impl<R: Wait + Drop + Copy> RaceSurroundings<R> {
         })
     }
 
+    /// An awaiter that is cloned so many turns after the future of this round was dropped. Rounds are counted from 0.
+    pub fn late_awaiter(&self, round: u64, turns: u64) -> Result<RaceAwaiter, AllocError> {
+        let counters = Arc::try_clone(&self.counters)?;
+        RaceAwaiter::after_drop(self.alloc, counters, round.wrapping_add(1), turns)
+    }
+
     /// Spawns the task of a round. What its future waits for has happened, or has not.
     pub fn spawn(
         &self,

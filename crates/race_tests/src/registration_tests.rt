@@ -3,7 +3,7 @@
 use crate::awaiter::RaceAwaiter;
 use crate::handles;
 use crate::raced::{RaceOutput, RaceSurroundings, RaceTask};
-use crate::rounds::{Rounds, Tally};
+use crate::rounds::{LEAST_MET, Rounds, Tally};
 use async_task::{TaskClosed, TaskPoll};
 use std::alloc::{AllocError, Global};
 use std::process::Abort;
@@ -13,11 +13,11 @@ use std::thread;
 use std::thread::Threads;
 
 // How many rounds each race has. By hand there may be more.
-const ROUNDS: u64 = 10_000;
+const ROUNDS: u64 = 30_000;
 
-// How many rounds must find a notifier at the registration: none, since a round seldom does, and the test at the end forces one.
-// More than there are rounds makes each race fail, and tell how often it met one.
-const LEAST_MET: u64 = 0;
+// The awaiter of a round's second poll is cloned this many turns after the future was dropped, or fewer, in each round another number:
+// the poll then begins to register at another point beside the notifier.
+const TURNS: u64 = 16;
 
 // How the second thread ends the task.
 #[derive(Clone, Copy)]
@@ -76,7 +76,7 @@ fn poll_once<R: Wait + Abort + Drop + Copy>(
     round: u64,
 ) -> (bool, bool) {
     let first = handles::awaiter(rt, alloc);
-    let second = handles::awaiter(rt, alloc);
+    let second = handles::late_awaiter(rt, surroundings, round, round % TURNS);
     let (runnable, mut task) = handles::spawn(rt, surroundings, true);
     let registered = handles::is_pending(&mut task, &first);
     surroundings.queue(runnable);
