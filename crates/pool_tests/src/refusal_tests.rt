@@ -1,10 +1,7 @@
 //! Tests of queues that are refused memory: what the items stand in is of a small heap, which is filled. And which queue a worker looks at first.
 use crate::guest::{
-    Errand, Guest, GuestPool, GuestTask, Guests, is_closed, output_of, shares_and_polls,
-    spawn_guest,
+    Errand, GuestPool, GuestTask, Guests, is_closed, output_of, shares_and_polls, spawn_guest,
 };
-use awaiters::Nobody;
-use executor::Turns;
 use linked_list_allocator::LocalHeap;
 use std::alloc::{AllocError, Global};
 use std::sync::{Arc, Wait};
@@ -222,20 +219,6 @@ fn spawn_tasks<'x, R: Wait + Drop + Copy>(
     Ok(tasks)
 }
 
-// How many of the tasks a worker runs.
-fn run_tasks<R: Wait + Drop + Copy>(
-    pool: &GuestPool<R>,
-    turns: &mut Turns<R, Guest, Nobody>,
-) -> usize {
-    let mut ran = 0usize;
-    for _ in 0..TASKS {
-        if pool.tick(turns) {
-            ran = ran.saturating_add(1);
-        }
-    }
-    ran
-}
-
 // How many of the tasks have answered, and how many are closed.
 fn count_ends<R: Wait + Drop + Copy>(tasks: &mut Vec<GuestTask<'_, R>>) -> (usize, usize) {
     let mut answered = 0usize;
@@ -257,7 +240,12 @@ fn a_pool_goes_on_past_a_runnable_that_its_queue_drops(rt: HostRuntime) -> Resul
     let pool = GuestPool::new(rt, rt.alloc(), 1)?;
     let mut turns = pool.turns(0)?;
     let mut tasks = spawn_tasks(&pool, &guests)?;
-    let ran = run_tasks(&pool, &mut turns);
+    let mut ran = 0usize;
+    for _ in 0..TASKS {
+        if pool.tick(&mut turns) {
+            ran = ran.saturating_add(1);
+        }
+    }
     let (answered, closed) = count_ends(&mut tasks);
     drop(tasks);
     let (left, _) = shares_and_polls(&guests);
