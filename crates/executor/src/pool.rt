@@ -73,7 +73,7 @@ impl<R: Wait + Drop + Copy, F: Yields, A: Wake> Pool<R, F, A> {
         Ok(Pool {
             rt,
             alloc,
-            crew: Crew::new(alloc, workers, ROOM)?,
+            crew: Crew::new(alloc, alloc, workers, ROOM)?,
             stopped: AtomicBool::new(false),
             wakers: Store::new(alloc)?,
             tasks: Store::new(alloc)?,

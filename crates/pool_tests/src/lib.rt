@@ -1,4 +1,4 @@
-//! The tests of the pool: its workers, what futures keep, waiting for a task, storms of wakes, cancels, and hostile use.
+//! The tests of the pool: its workers, what futures keep, waiting for a task, storms of wakes, cancels, refused memory, and hostile use.
 //! It stands on `executor`. Nothing is public. The page is docs/EXECUTOR_POOL.md.
 #![tactic(auto)]
 
@@ -8,6 +8,8 @@ mod cancel_tests;
 mod guest;
 #[cfg(test)]
 mod hostile_tests;
+#[cfg(test)]
+mod refusal_tests;
 #[cfg(test)]
 mod storm_tests;
 #[cfg(test)]

@@ -9,7 +9,7 @@ use lib.Seq.{set-get_or}
 use prog.Atomic.{either}
 use Rattle.atomic_table.specs.Table.{State, Me, Act, Valid, carried_after, stepped, step, opening, keeps, takes, gives, Allows, Enters}
 use Rattle.atomic_table.proofs.Lists.{set_here, set_else, set_again, at_longer, at_snoc}
-use Rattle.work_queues.specs.Board.{IsAwake, IsOwed, Stands, Orderly, HasQueue, Locks, Unlocks, Rouses, LooksAtWorker, LiesDown, LooksAtQueue}
+use Rattle.work_queues.specs.Board.{IsAwake, IsOwed, Stands, Orderly, Locks, Unlocks, Rouses, LooksAtWorker, LiesDown, LooksAtQueue}
 
 exchanged : (n old new : ℕ) (F : ℕ → Type 0) → (n ≡ old → F new) → (n ≢ old → F n) → F (either (eqb n old) new n)
 exchanged n old new F hit miss = dite (ℕ_discrete n old) (λ e. subst (λ b. F (either b new n)) (sym (eq-eqb n old e)) (hit e)) (λ ne. subst (λ b. F (either b new n)) (sym (ne_eqb n old ne)) (miss ne))

@@ -1,7 +1,7 @@
 -- The rule of a board of n workers. Word i up to n is that of queue i: 0 empty, 1 locked, 2 it shows items. Word n + 1 + j is that of
 -- worker j: 0 awake.
 -- The view of a seat is how many queues it owes a look: those below that number.
-use Rattle.std.specs.Prelude.{◌≡◌, ◌≢◌, ℕ, ◌+◌, ◌-◌, ◌<◌, ◌≤◌, ◌⊎◌, List, [], ◌∷◌, length, slice_index}
+use Rattle.std.specs.Prelude.{◌≡◌, ◌≢◌, ℕ, ◌+◌, ◌<◌, ◌≤◌, ◌⊎◌, List, [], ◌∷◌, length, slice_index}
 use mathlib.Core.Option.{Option, some}
 use lib.ListN.{get_elem?}
 use Rattle.atomic_table.specs.Table.{State, Me, Step, rest}

@@ -7,8 +7,9 @@ ghost use Rattle.work_queues.specs.Board.{HasQueue, Changes};
 
 use crate::moving::shift;
 use crate::rule::{Enter, Lock, LookAtWorker, Order, Rouse, Unlock};
+use crate::woken::Woken;
 use atomic_table::{Refused, Seat, Table};
-use std::alloc::{AllocError, AllocFailed, Global};
+use std::alloc::{AllocError, AllocFailed, Allocator, Global};
 use std::collections::VecDeque;
 use std::sync::Wait;
 use std::thread::yield_now;
@@ -27,26 +28,26 @@ pub(crate) const AWAKE: u64 = 0;
 pub(crate) const ASLEEP: u64 = 1;
 
 // What a thread does at the board. It has no `Drop`, so it ends in `leave`, which asks that no look is owed.
-pub(crate) struct Visit<T> {
-    pub(crate) seat: Seat<VecDeque<T>, u64>,
+pub(crate) struct Visit<T, A: Allocator> {
+    pub(crate) seat: Seat<VecDeque<T, A>, u64>,
 }
 
-/// A queue for each worker, one more for what comes from outside, and a word for each worker that says whether it sleeps. The items are dropped with it.
+/// A queue for each worker, one more for what comes from outside, and a word for each worker that says whether it sleeps. `A` is where the queues take their memory. The items are dropped with it.
 #[derive(Drop)]
-pub struct Board<T> {
-    pub(crate) table: Table<VecDeque<T>, u64, usize, Order, Global>,
+pub struct Board<T, A: Allocator = Global> {
+    pub(crate) table: Table<VecDeque<T, A>, u64, usize, Order, Global>,
     pub(crate) workers: usize,
     ghost sized: { (table.shared.table_id.words ≡ workers + 1 + workers) × (table.shared.table_id.slots ≡ workers + 1) × (table.shared.key ≡ workers) × (0 < workers) × (workers ≤ 1024) },
 }
 
 // What the word of a queue shows of it.
-fn shown<T>(queue: &VecDeque<T>) -> u64
+fn shown<T, A: Allocator>(queue: &VecDeque<T, A>) -> u64
     ensures { result ≡ 0 → queue.now.items ≡ [] }
 {
     if queue.is_empty() { EMPTY } else { FILLED }
 }
 
-pub(crate) fn leave<T>(visit: Visit<T>)
+pub(crate) fn leave<T, A: Allocator>(visit: Visit<T, A>)
     requires { visit.seat.me.0 ≡ 0 }
 {
     let Visit { seat } = visit;
@@ -63,22 +64,33 @@ fn words(alloc: Global, count: usize) -> Result<Vec<u64>, AllocError>
     Ok(words)
 }
 
-fn queues<T: Drop>(alloc: Global, count: usize, room: usize) -> Result<Vec<VecDeque<T>>, AllocError>
-    ensures { IfOk result (λ queues. (length queues.items ≡ count) × ((i : ℕ) (queue : _) → get_elem? queues.items i ≡ some queue → queue.items ≡ [])) }
+// So many empty queues, each with room for `room` items.
+fn queues<T: Drop, A: Allocator + Copy>(
+    alloc: Global,
+    items: A,
+    count: usize,
+    room: usize,
+) -> Result<Vec<VecDeque<T, A>>, AllocError>
+    ensures { IfOk result (λ queues. (length queues.items ≡ count) × ((i : ℕ) (queue : _) → get_elem? queues.items i ≡ some queue → (queue.items ≡ []) × (room ≤ deque_capacity queue))) }
 {
     let mut queues = Vec::new(alloc);
     for _ in 0..count {
-        queues.push(VecDeque::with_capacity(alloc, room)?)?;
+        queues.push(VecDeque::with_capacity(items, room)?)?;
     }
     Ok(queues)
 }
 
-impl<T: Drop> Board<T> {
-    /// A board with empty queues, and room for so many items in each before it asks for more memory. No worker is asleep. There are at least one worker and at most `MOST_WORKERS`, whatever `workers` is. An error says that there was no memory.
-    pub fn new(alloc: Global, workers: usize, room: usize) -> Result<Board<T>, AllocError> {
+impl<T: Drop, A: Allocator + Copy> Board<T, A> {
+    /// A board with empty queues, and room for so many items in each before it asks `items` for more memory. All else is of `alloc`. No worker is asleep. There are at least one worker and at most `MOST_WORKERS`, whatever `workers` is. An error says that there was no memory.
+    pub fn new(
+        alloc: Global,
+        items: A,
+        workers: usize,
+        room: usize,
+    ) -> Result<Board<T, A>, AllocError> {
         let workers = workers.max(1).min(MOST_WORKERS);
         let words = words(alloc, workers + 1 + workers)?;
-        let queues = queues(alloc, workers + 1, room)?;
+        let queues = queues(alloc, items, workers + 1, room)?;
         match Table::new(alloc, &words, queues, &workers) {
             Ok((table, _seat)) => Ok(Board { table, workers }),
             Err(Refused { slots: _ }) => Err(AllocError),
@@ -86,7 +98,7 @@ impl<T: Drop> Board<T> {
     }
 }
 
-impl<T> Board<T> {
+impl<T, A: Allocator> Board<T, A> {
     /// How many workers it has. Their queues have the numbers below it, and the queue for what comes from outside has this number.
     pub fn workers(&self) -> usize
         ensures { result ≡ self.now.workers }
@@ -94,25 +106,21 @@ impl<T> Board<T> {
         self.workers
     }
 
-    /// Puts an item at the back of a queue, and wakes a worker if one sleeps. `Ok` has the worker that is to be woken. `Err` hands the item back, where the queue was full and there was no memory for more.
-    pub fn push<R: Wait>(&self, rt: &R, queue: usize, item: T) -> Result<Option<usize>, T>
+    /// Puts an item at the back of a queue, and answers the worker that is to be woken, if one slept and the queue has items. `Err` hands the item back, where the queue was full and there was no memory for more.
+    pub fn push<R: Wait>(&self, rt: &R, queue: usize, item: T) -> (Result<(), T>, Option<Woken>)
         requires { queue ≤ self.now.workers }
-        ensures refused { IfErr result (λ back. back ≡ item) }
-        ensures woken { IfOk result (λ worker. IfSome worker (λ w. w < self.now.workers)) }
+        ensures refused { IfErr result.0 (λ back. back ≡ item) }
+        ensures woken { IfSome result.1 (λ woken. woken.worker < self.now.workers) }
     {
         let mut visit = self.lock(rt, queue);
         let pushed = self.push_at(&mut visit, queue, item);
-        let woken = self.give_back(visit, queue);
-        match pushed {
-            Ok(()) => Ok(woken),
-            Err(item) => Err(item),
-        }
+        (pushed, self.give_back(visit, queue))
     }
 
     /// Takes the item at the front of a queue, if it has one, and the worker that is to be woken for what is left.
-    pub fn pop<R: Wait>(&self, rt: &R, queue: usize) -> (Option<T>, Option<usize>)
+    pub fn pop<R: Wait>(&self, rt: &R, queue: usize) -> (Option<T>, Option<Woken>)
         requires { queue ≤ self.now.workers }
-        ensures { IfSome result.1 (λ w. w < self.now.workers) }
+        ensures { IfSome result.1 (λ woken. woken.worker < self.now.workers) }
     {
         let mut visit = self.lock(rt, queue);
         let item = self.pop_at(&mut visit, queue);
@@ -120,9 +128,14 @@ impl<T> Board<T> {
     }
 
     /// Takes half of a queue from its front, rounded up, as far as `batch` has room, and the worker that is to be woken for what is left.
-    pub fn take_half<R: Wait>(&self, rt: &R, queue: usize, batch: &mut VecDeque<T>) -> Option<usize>
+    pub fn take_half<R: Wait>(
+        &self,
+        rt: &R,
+        queue: usize,
+        batch: &mut VecDeque<T, A>,
+    ) -> Option<Woken>
         requires { queue ≤ self.now.workers }
-        ensures { IfSome result (λ w. w < self.now.workers) }
+        ensures { IfSome result (λ woken. woken.worker < self.now.workers) }
     {
         let mut visit = self.lock(rt, queue);
         self.take_half_at(&mut visit, queue, batch);
@@ -130,16 +143,21 @@ impl<T> Board<T> {
     }
 
     /// Puts the items of `batch` at the back of a queue, in their order, and answers the worker that is to be woken. What the queue has no room for, where it is refused memory, stays in `batch`.
-    pub fn put_all<R: Wait>(&self, rt: &R, queue: usize, batch: &mut VecDeque<T>) -> Option<usize>
+    pub fn put_all<R: Wait>(
+        &self,
+        rt: &R,
+        queue: usize,
+        batch: &mut VecDeque<T, A>,
+    ) -> Option<Woken>
         requires { queue ≤ self.now.workers }
-        ensures { IfSome result (λ w. w < self.now.workers) }
+        ensures { IfSome result (λ woken. woken.worker < self.now.workers) }
     {
         let mut visit = self.lock(rt, queue);
         self.put_all_at(&mut visit, queue, batch);
         self.give_back(visit, queue)
     }
 
-    fn push_at(&self, visit: &mut Visit<T>, queue: usize, item: T) -> Result<(), T>
+    fn push_at(&self, visit: &mut Visit<T, A>, queue: usize, item: T) -> Result<(), T>
         requires { (visit.old.seat.table_id ≡ self.now.table.shared.table_id) × HasQueue queue visit.old.seat.me }
         ensures id { visit.new.seat.table_id ≡ visit.old.seat.table_id }
         ensures queue { Changes (λ held left. left.items ≡ (if is_ok result then held.items ++ item ∷ [] else held.items)) queue visit.old.seat.me visit.new.seat.me }
@@ -152,7 +170,7 @@ impl<T> Board<T> {
         }
     }
 
-    fn pop_at(&self, visit: &mut Visit<T>, queue: usize) -> Option<T>
+    fn pop_at(&self, visit: &mut Visit<T, A>, queue: usize) -> Option<T>
         requires { (visit.old.seat.table_id ≡ self.now.table.shared.table_id) × HasQueue queue visit.old.seat.me }
         ensures id { visit.new.seat.table_id ≡ visit.old.seat.table_id }
         ensures queue { Changes (λ held left. held.items ≡ option_to_list result ++ left.items) queue visit.old.seat.me visit.new.seat.me }
@@ -162,7 +180,7 @@ impl<T> Board<T> {
         held.pop_front()
     }
 
-    fn take_half_at(&self, visit: &mut Visit<T>, queue: usize, batch: &mut VecDeque<T>)
+    fn take_half_at(&self, visit: &mut Visit<T, A>, queue: usize, batch: &mut VecDeque<T, A>)
         requires { (visit.old.seat.table_id ≡ self.now.table.shared.table_id) × HasQueue queue visit.old.seat.me }
         ensures id { visit.new.seat.table_id ≡ visit.old.seat.table_id }
         ensures order { Changes (λ held left. batch.new.items ++ left.items ≡ batch.old.items ++ held.items) queue visit.old.seat.me visit.new.seat.me }
@@ -173,10 +191,11 @@ impl<T> Board<T> {
         shift(held, batch, half);
     }
 
-    fn put_all_at(&self, visit: &mut Visit<T>, queue: usize, batch: &mut VecDeque<T>)
+    fn put_all_at(&self, visit: &mut Visit<T, A>, queue: usize, batch: &mut VecDeque<T, A>)
         requires { (visit.old.seat.table_id ≡ self.now.table.shared.table_id) × HasQueue queue visit.old.seat.me }
         ensures id { visit.new.seat.table_id ≡ visit.old.seat.table_id }
         ensures order { Changes (λ held left. left.items ++ batch.new.items ≡ held.items ++ batch.old.items) queue visit.old.seat.me visit.new.seat.me }
+        ensures moved { Changes (λ held left. (deque_capacity held ≤ deque_capacity left) × (deque_len left ≡ deque_len held + min (deque_len batch.old) (deque_capacity left - deque_len held))) queue visit.old.seat.me visit.new.seat.me }
     {
         let held = visit.seat.slot_mut(&self.table.shared, queue);
         let _ = held.reserve(batch.len());
@@ -185,10 +204,10 @@ impl<T> Board<T> {
     }
 
     // Unlocks the queue, and wakes a worker if the queue has items.
-    fn give_back(&self, visit: Visit<T>, queue: usize) -> Option<usize>
+    fn give_back(&self, visit: Visit<T, A>, queue: usize) -> Option<Woken>
         requires id { visit.seat.table_id ≡ self.now.table.shared.table_id }
         requires queue { (queue ≤ self.now.workers) × HasQueue queue visit.seat.me }
-        ensures { IfSome result (λ worker. worker < self.now.workers) }
+        ensures { IfSome result (λ woken. woken.worker < self.now.workers) }
     {
         let (visit, has_items) = self.unlock(visit, queue);
         if has_items {
@@ -198,7 +217,7 @@ impl<T> Board<T> {
         None
     }
 
-    pub(crate) fn visit(&self) -> Visit<T>
+    pub(crate) fn visit(&self) -> Visit<T, A>
         ensures { (result.seat.table_id ≡ self.now.table.shared.table_id) × (result.seat.me.0 ≡ 0) }
     {
         let seat = self.table.shared.load_new_seat::<Enter>(0).1;
@@ -206,7 +225,7 @@ impl<T> Board<T> {
     }
 
     // `None` where another thread has the queue.
-    fn try_lock(&self, queue: usize) -> Option<Visit<T>>
+    fn try_lock(&self, queue: usize) -> Option<Visit<T, A>>
         requires { queue ≤ self.now.workers }
         ensures { IfSome result (λ visit. (visit.seat.table_id ≡ self.now.table.shared.table_id) × HasQueue queue visit.seat.me) }
     {
@@ -220,7 +239,7 @@ impl<T> Board<T> {
         None
     }
 
-    fn lock<R: Wait>(&self, rt: &R, queue: usize) -> Visit<T>
+    fn lock<R: Wait>(&self, rt: &R, queue: usize) -> Visit<T, A>
         requires { queue ≤ self.now.workers }
         ensures { (result.seat.table_id ≡ self.now.table.shared.table_id) × HasQueue queue result.seat.me }
     {
@@ -234,7 +253,7 @@ impl<T> Board<T> {
     }
 
     // Gives the queue back. Where it has items, which is the answer, the visit owes a look at the workers.
-    fn unlock(&self, visit: Visit<T>, queue: usize) -> (Visit<T>, bool)
+    fn unlock(&self, visit: Visit<T, A>, queue: usize) -> (Visit<T, A>, bool)
         requires id { visit.seat.table_id ≡ self.now.table.shared.table_id }
         requires queue { (queue ≤ self.now.workers) × HasQueue queue visit.seat.me }
         ensures id { result.0.seat.table_id ≡ self.now.table.shared.table_id }
@@ -247,30 +266,34 @@ impl<T> Board<T> {
     }
 
     // Looks for a worker that sleeps, and makes it awake. It answers which.
-    fn call(&self, mut visit: Visit<T>) -> Option<usize>
+    fn call(&self, mut visit: Visit<T, A>) -> Option<Woken>
         requires { visit.seat.table_id ≡ self.now.table.shared.table_id }
-        ensures { IfSome result (λ worker. worker < self.now.workers) }
+        ensures { IfSome result (λ woken. woken.worker < self.now.workers) }
     {
         for worker in 0..self.workers {
-            if self.rouse(&mut visit, worker) {
+            if let Some(woken) = self.rouse(&mut visit, worker) {
                 leave(visit);
-                return Some(worker);
+                return Some(woken);
             }
         }
         leave(visit);
         None
     }
 
-    // Whether it slept. No look is owed after it.
-    fn rouse(&self, visit: &mut Visit<T>, worker: usize) -> bool
+    // Looks at a worker, and makes it awake. It answers the worker if it slept. No look is owed after it.
+    fn rouse(&self, visit: &mut Visit<T, A>, worker: usize) -> Option<Woken>
         requires { (visit.old.seat.table_id ≡ self.now.table.shared.table_id) × (worker < self.now.workers) }
-        ensures { (visit.new.seat.table_id ≡ visit.old.seat.table_id) × (visit.new.seat.me.0 ≡ 0) }
+        ensures seat { (visit.new.seat.table_id ≡ visit.old.seat.table_id) × (visit.new.seat.me.0 ≡ 0) }
+        ensures woken { IfSome result (λ woken. woken.worker ≡ worker) }
     {
         let shared = &self.table.shared;
         let word = self.workers + 1 + worker;
         if shared.load::<LookAtWorker>(&mut visit.seat, word) == AWAKE {
-            return false;
+            return None;
         }
-        shared.swap::<Rouse>(&mut visit.seat, word, AWAKE) == ASLEEP
+        if shared.swap::<Rouse>(&mut visit.seat, word, AWAKE) == ASLEEP {
+            return Some(Woken::new(worker));
+        }
+        None
     }
 }

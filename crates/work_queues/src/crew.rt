@@ -4,7 +4,8 @@ ghost use Rattle.std.specs.Arc.{arc_value};
 
 use crate::bells::Bells;
 use crate::board::Board;
-use std::alloc::{AllocError, Global};
+use crate::woken::Woken;
+use std::alloc::{AllocError, Allocator, Global};
 use std::collections::VecDeque;
 use std::sync::{Arc, Wait};
 
@@ -14,22 +15,22 @@ const BATCH: usize = 256;
 /// A worker looks at the queue for what comes from outside first, once in so many looks.
 const OUTSIDE_FIRST: u64 = 61;
 
-/// The board of a pool and its bells. The items that are left are dropped with it.
+/// The board of a pool and its bells. `A` is where the queues take their memory. The items that are left are dropped with it.
 #[derive(Drop)]
-pub struct Crew<T> {
-    board: Board<T>,
+pub struct Crew<T, A: Allocator = Global> {
+    board: Board<T, A>,
     bells: Arc<Bells>,
 }
 
 /// What one worker keeps for itself.
 #[derive(Drop)]
-pub struct Worker<T> {
+pub struct Worker<T, A: Allocator = Global> {
     number: usize,
     looks: u64,
-    batch: VecDeque<T>,
+    batch: VecDeque<T, A>,
 }
 
-impl<T> Worker<T> {
+impl<T, A: Allocator> Worker<T, A> {
     /// Its number: that of its queue.
     pub fn number(&self) -> usize
         ensures { result ≡ self.now.number }
@@ -38,10 +39,15 @@ impl<T> Worker<T> {
     }
 }
 
-impl<T: Drop> Crew<T> {
-    /// Empty queues for so many workers, at least one and at most `MOST_WORKERS`, with room for `room` items in each before it asks for more memory. An error says that there was no memory.
-    pub fn new(alloc: Global, workers: usize, room: usize) -> Result<Crew<T>, AllocError> {
-        let board = Board::new(alloc, workers, room)?;
+impl<T: Drop, A: Allocator + Copy> Crew<T, A> {
+    /// Empty queues for so many workers, at least one and at most `MOST_WORKERS`, with room for `room` items in each before it asks `items` for more memory. All else is of `alloc`. An error says that there was no memory.
+    pub fn new(
+        alloc: Global,
+        items: A,
+        workers: usize,
+        room: usize,
+    ) -> Result<Crew<T, A>, AllocError> {
+        let board = Board::new(alloc, items, workers, room)?;
         let bells = Bells::new(alloc, board.workers())?;
         Ok(Crew {
             board,
@@ -49,14 +55,14 @@ impl<T: Drop> Crew<T> {
         })
     }
 
-    /// What the worker of this number keeps. An error says that there was no memory, or that there is no such worker.
-    pub fn worker(&self, alloc: Global, number: usize) -> Result<Worker<T>, AllocError>
+    /// What the worker of this number keeps: its hands take their memory of `items`. An error says that there was no memory, or that there is no such worker.
+    pub fn worker(&self, items: A, number: usize) -> Result<Worker<T, A>, AllocError>
         ensures { IfOk result (λ worker. (worker.number ≡ number) × (number < self.now.board.workers)) }
     {
         if number >= self.board.workers() {
             return Err(AllocError);
         }
-        let batch = VecDeque::with_capacity(alloc, BATCH)?;
+        let batch = VecDeque::with_capacity(items, BATCH)?;
         Ok(Worker {
             number,
             looks: 0,
@@ -65,7 +71,7 @@ impl<T: Drop> Crew<T> {
     }
 }
 
-impl<T> Crew<T> {
+impl<T, A: Allocator> Crew<T, A> {
     /// How many workers it has.
     pub fn workers(&self) -> usize
         ensures { result ≡ self.now.board.workers }
@@ -80,9 +86,9 @@ impl<T> Crew<T> {
         &self.bells
     }
 
-    fn ring(&self, woken: Option<usize>) {
-        if let Some(worker) = woken {
-            self.bells.ring(worker);
+    fn ring(&self, woken: Option<Woken>) {
+        if let Some(woken) = woken {
+            woken.ring(&self.bells);
         }
     }
 
@@ -91,9 +97,9 @@ impl<T> Crew<T> {
         ensures { IfErr result (λ back. back ≡ item) }
     {
         let queue = worker.min(self.board.workers());
-        let woken = self.board.push(rt, queue, item)?;
+        let (pushed, woken) = self.board.push(rt, queue, item);
         self.ring(woken);
-        Ok(())
+        pushed
     }
 
     /// Takes the item at the front of a worker's queue, or, where there is no worker of this number, of the queue for what comes from outside. `None` where it is empty.
@@ -105,7 +111,7 @@ impl<T> Crew<T> {
     }
 
     // One item of another queue, and up to half of the others into the own queue.
-    fn steal<R: Wait>(&self, rt: &R, worker: &mut Worker<T>, from: usize) -> Option<T> {
+    fn steal<R: Wait>(&self, rt: &R, worker: &mut Worker<T, A>, from: usize) -> Option<T> {
         let from = from.min(self.board.workers());
         let woken = self.board.take_half(rt, from, &mut worker.batch);
         self.ring(woken);
@@ -118,7 +124,7 @@ impl<T> Crew<T> {
         first
     }
 
-    fn find_elsewhere<R: Wait>(&self, rt: &R, worker: &mut Worker<T>) -> Option<T> {
+    fn find_elsewhere<R: Wait>(&self, rt: &R, worker: &mut Worker<T, A>) -> Option<T> {
         let workers = self.board.workers();
         if let Some(item) = self.steal(rt, worker, workers) {
             return Some(item);
@@ -133,7 +139,7 @@ impl<T> Crew<T> {
     }
 
     /// The next item for this worker: what a batch left in its hands, then that at the front of its queue, then half of what came from outside or of another worker's queue. Once in 61 looks what came from outside is first.
-    pub fn find<R: Wait>(&self, rt: &R, worker: &mut Worker<T>) -> Option<T> {
+    pub fn find<R: Wait>(&self, rt: &R, worker: &mut Worker<T, A>) -> Option<T> {
         if let Some(item) = worker.batch.pop_front() {
             return Some(item);
         }
@@ -150,7 +156,7 @@ impl<T> Crew<T> {
     }
 
     /// Sleeps, if no queue has an item and there was no interruption since `interruptions` were counted. It may also return for no reason.
-    pub fn rest<R: Wait>(&self, rt: &R, worker: &Worker<T>, interruptions: u64) {
+    pub fn rest<R: Wait>(&self, rt: &R, worker: &Worker<T, A>, interruptions: u64) {
         let number = worker.number;
         if number >= self.board.workers() {
             return;

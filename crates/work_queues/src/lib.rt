@@ -1,7 +1,7 @@
 //! The queues of a pool of workers, and their sleep: what a pool keeps of its items, whatever they are.
 //! It stands on the kit's `atomic_table`, whose rule says when a worker may sleep.
 //! A user of a pool calls nothing of it. A pool calls `Crew`, `Worker` and `Bells`.
-//! `Board`, `Sleeper`, `shift` and the structs of `rule` are public to carry the claims.
+//! `Board`, `Sleeper`, `Woken`, `shift` and the structs of `rule` are public to carry the claims.
 //! The page is docs/EXECUTOR_POOL.md.
 #![tactic(auto)]
 
@@ -11,9 +11,11 @@ pub mod crew;
 pub mod moving;
 pub mod rule;
 pub mod sleeping;
+pub mod woken;
 
 pub use bells::Bells;
 pub use board::Board;
 pub use crew::{Crew, Worker};
 pub use moving::shift;
 pub use sleeping::Sleeper;
+pub use woken::Woken;

@@ -4,16 +4,17 @@ ghost use Rattle.work_queues.specs.Sleep.{IsAsleep};
 
 use crate::board::{ASLEEP, AWAKE, Board, FILLED, Visit, leave};
 use crate::rule::{LieDown, LookAtQueue, Rouse};
+use std::alloc::{Allocator, Global};
 
 /// A worker that has lain down. It has no `Drop`, so it ends in `Board::get_up`.
-pub struct Sleeper<T> {
-    visit: Visit<T>,
+pub struct Sleeper<T, A: Allocator = Global> {
+    visit: Visit<T, A>,
     worker: usize,
 }
 
-impl<T> Board<T> {
+impl<T, A: Allocator> Board<T, A> {
     /// The worker counts as asleep from here on, and owes a look at each queue before it may sleep: `has_items`.
-    pub fn lie_down(&self, worker: usize) -> Sleeper<T>
+    pub fn lie_down(&self, worker: usize) -> Sleeper<T, A>
         requires { worker < self.now.workers }
         ensures { IsAsleep self.now result × (result.visit.seat.me.0 ≡ self.now.workers + 1) }
     {
@@ -25,7 +26,7 @@ impl<T> Board<T> {
     }
 
     /// Looks at each queue, until one has items.
-    pub fn has_items(&self, sleeper: &mut Sleeper<T>) -> bool
+    pub fn has_items(&self, sleeper: &mut Sleeper<T, A>) -> bool
         requires { IsAsleep self.now sleeper.old × (sleeper.old.visit.seat.me.0 ≡ self.now.workers + 1) }
         ensures same { IsAsleep self.now sleeper.new }
         ensures none { result ≡ false → sleeper.new.visit.seat.me.0 ≡ 0 }
@@ -46,14 +47,14 @@ impl<T> Board<T> {
     }
 
     /// Whether nobody has woken the worker since it lay down. Only a worker that owes no look may ask, and then sleep.
-    pub fn may_sleep(&self, sleeper: &Sleeper<T>) -> bool
+    pub fn may_sleep(&self, sleeper: &Sleeper<T, A>) -> bool
         requires { IsAsleep self.now sleeper.now × (sleeper.now.visit.seat.me.0 ≡ 0) }
     {
         self.table.shared.peek(self.workers + 1 + sleeper.worker) == ASLEEP
     }
 
     /// Ends the sleep: the worker is awake.
-    pub fn get_up(&self, sleeper: Sleeper<T>)
+    pub fn get_up(&self, sleeper: Sleeper<T, A>)
         requires { IsAsleep self.now sleeper }
     {
         let Sleeper { mut visit, worker } = sleeper;

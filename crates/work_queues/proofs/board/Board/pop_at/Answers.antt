@@ -6,7 +6,7 @@ pub slot_mut-held-requires : goal.slot_mut-held-requires
 slot_mut-held-requires g c = (search rules, lends _ _ c.requires.1)
 
 pub returns-clause-queue : goal.returns-clause-queue
-returns-clause-queue g c = changes _ _ _ _ _ c.requires.1 c.slot_mut-held.ensures.value c.pop_front.ensures.items
+returns-clause-queue g c = changes _ _ _ _ _ c.requires.1 c.slot_mut-held.ensures.value (search rules)
 
 pub returns-clause-found : goal.returns-clause-found
-returns-clause-found g c = changes _ _ _ _ _ c.requires.1 c.slot_mut-held.ensures.value c.pop_front.ensures.variant
+returns-clause-found g c = changes _ _ _ _ _ c.requires.1 c.slot_mut-held.ensures.value (search rules)

@@ -1,4 +1,4 @@
-use Rattle.std.proofs.Common.{rules, arith, eqb-true, ◌≢◌, ◌≡◌}
+use Rattle.std.proofs.Common.{rules}
 use mathlib.Core.Option.{none}
 use Rattle.work_queues.proofs.Orders.{enters, locks}
 use Rattle.work_queues.proofs.Slots.{locked}

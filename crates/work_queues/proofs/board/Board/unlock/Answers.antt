@@ -1,4 +1,4 @@
-use Rattle.std.proofs.Common.{rules, ap, ◌∙◌, ◌∷◌}
+use Rattle.std.proofs.Common.{rules}
 use Rattle.work_queues.proofs.Orders.{unlocks}
 use Rattle.work_queues.proofs.Slots.{lends, has_only}
 use Rattle.work_queues.proofs.board.Board.unlock.Goals as goal
