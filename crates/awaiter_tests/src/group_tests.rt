@@ -62,16 +62,25 @@ fn members_come_out_in_the_order_in_which_they_end(rt: HostRuntime) {
     );
 }
 
-// Pushes a task that has run to its output, and one that was cancelled: how they come out, and what comes after them.
+// Pushes a task that has run to its output, and one that was cancelled.
+fn push_both<'x, R: Wait + Drop + Copy>(
+    line: &'x Line<R>,
+    group: &mut LineGroup<'x, R>,
+) -> Option<()> {
+    let answered = line.spawn(0, Errand::Answer(15))?;
+    line.run();
+    push_task(group, answered);
+    let closed = line.spawn(0, Errand::Answer(16))?;
+    line.drop_next();
+    push_task(group, closed);
+    Some(())
+}
+
+// Pushes two tasks that have ended: how they come out, and what comes after them.
 fn push_ended<R: Wait + Drop + Copy>(rt: R, alloc: Global) -> Result<[CameOut; 3], AllocError> {
     let line = Line::new(rt, alloc, 1)?;
     let mut group: LineGroup<'_, R> = TaskGroup::new(rt, alloc, 2)?;
-    let answered = line.spawn(0, Errand::Answer(15)).ok_or(AllocError)?;
-    line.run();
-    let closed = line.spawn(0, Errand::Answer(16)).ok_or(AllocError)?;
-    line.drop_next();
-    push_task(&mut group, answered);
-    push_task(&mut group, closed);
+    push_both(&line, &mut group).ok_or(AllocError)?;
     Ok([
         next_of(&mut group),
         next_of(&mut group),
