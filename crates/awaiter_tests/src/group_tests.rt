@@ -1,30 +1,39 @@
-//! Groups: the order in which members come out, a group that is full, and the ways to let all go.
-use crate::line::{Errand, Line, LineGroup};
+//! Groups: the order in which members come out, those that ended before their push, a group that is full, and the ways to let all go.
+use crate::line::{Errand, Line, LineGroup, LineTask};
+use async_task::TaskClosed;
 use std::alloc::{AllocError, Global};
 use std::sync::Wait;
 use task_group::TaskGroup;
 
-// The number and the answer of the next member: `None` where there is none, or where it has none.
-fn next_of<R: Wait + Drop + Copy>(group: &mut LineGroup<'_, R>) -> Option<(usize, u64)> {
+// The number and the answer of a member that came out.
+type CameOut = Option<(usize, Result<u64, TaskClosed>)>;
+
+// Waits for the next member: `None` where there is none.
+fn next_of<R: Wait + Drop + Copy>(group: &mut LineGroup<'_, R>) -> CameOut {
     let ended = group.next().ok()??;
-    Some((ended.number, ended.answer.ok()?))
+    Some((ended.number, ended.answer))
 }
 
-// Pushes a task to a group: whether there was room.
+// Pushes a Task to a group: whether there was room.
+fn push_task<'x, R: Wait + Drop + Copy>(
+    group: &mut LineGroup<'x, R>,
+    task: LineTask<'x, R>,
+) -> bool {
+    group.push(task).is_ok()
+}
+
+// Spawns a task and pushes it to a group: whether there was room.
 fn push<'x, R: Wait + Drop + Copy>(
     line: &'x Line<R>,
     group: &mut LineGroup<'x, R>,
     errand: Errand,
 ) -> Result<bool, AllocError> {
     let task = line.spawn(0, errand).ok_or(AllocError)?;
-    Ok(group.push(task).is_ok())
+    Ok(push_task(group, task))
 }
 
 // Three tasks, of which the first ends last: how they come out, and what comes after them.
-fn in_order<R: Wait + Drop + Copy>(
-    rt: R,
-    alloc: Global,
-) -> Result<[Option<(usize, u64)>; 4], AllocError> {
+fn in_order<R: Wait + Drop + Copy>(rt: R, alloc: Global) -> Result<[CameOut; 4], AllocError> {
     let line = Line::new(rt, alloc, 1)?;
     let mut group: LineGroup<'_, R> = TaskGroup::new(rt, alloc, 3)?;
     push(&line, &mut group, Errand::GiveWay(10))?;
@@ -44,7 +53,47 @@ fn members_come_out_in_the_order_in_which_they_end(rt: HostRuntime) {
     let seen = in_order(rt, rt.alloc());
     assert_eq!(rt;
         seen,
-        Ok([Some((1, 11)), Some((2, 12)), Some((0, 10)), None])
+        Ok([
+            Some((1, Ok(11))),
+            Some((2, Ok(12))),
+            Some((0, Ok(10))),
+            None
+        ])
+    );
+}
+
+// Pushes a task that has run to its output, and one that was cancelled.
+fn push_both<'x, R: Wait + Drop + Copy>(
+    line: &'x Line<R>,
+    group: &mut LineGroup<'x, R>,
+) -> Option<()> {
+    let answered = line.spawn(0, Errand::Answer(15))?;
+    line.run();
+    push_task(group, answered);
+    let closed = line.spawn(0, Errand::Answer(16))?;
+    line.drop_next();
+    push_task(group, closed);
+    Some(())
+}
+
+// Pushes two tasks that have ended: how they come out, and what comes after them.
+fn push_ended<R: Wait + Drop + Copy>(rt: R, alloc: Global) -> Result<[CameOut; 3], AllocError> {
+    let line = Line::new(rt, alloc, 1)?;
+    let mut group: LineGroup<'_, R> = TaskGroup::new(rt, alloc, 2)?;
+    push_both(&line, &mut group).ok_or(AllocError)?;
+    Ok([
+        next_of(&mut group),
+        next_of(&mut group),
+        next_of(&mut group),
+    ])
+}
+
+#[test]
+fn tasks_that_ended_before_their_push_come_out(rt: HostRuntime) {
+    let seen = push_ended(rt, rt.alloc());
+    assert_eq!(rt;
+        seen,
+        Ok([Some((0, Ok(15))), Some((1, Err(TaskClosed))), None])
     );
 }
 
@@ -104,9 +153,6 @@ fn an_abort_and_a_drop_cancel_what_a_detach_lets_go_on(rt: HostRuntime) {
 // The numbers of two members that are spawned in a group with room for one.
 type Numbers = [Option<usize>; 2];
 
-// The number and the answer of a member that came out.
-type CameOut = Option<(usize, u64)>;
-
 // Spawns two members of a group: their numbers.
 fn spawn_both<'x, R: Wait + Drop + Copy>(
     line: &'x Line<R>,
@@ -132,5 +178,16 @@ fn spawn_two<R: Wait + Drop + Copy>(
 #[test]
 fn a_full_group_spawns_nothing(rt: HostRuntime) {
     let seen = spawn_two(rt, rt.alloc());
-    assert_eq!(rt; seen, Ok(([Some(0), None], Some((0, 13)))));
+    assert_eq!(rt; seen, Ok(([Some(0), None], Some((0, Ok(13))))));
+}
+
+// Whether a group with that room is refused.
+fn is_refused<R: Wait + Drop + Copy>(rt: R, alloc: Global, room: usize) -> bool {
+    let group: Result<LineGroup<'_, R>, AllocError> = TaskGroup::new(rt, alloc, room);
+    group.is_err()
+}
+
+#[test]
+fn a_group_that_no_memory_can_hold_is_refused(rt: HostRuntime) {
+    assert!(rt; is_refused(rt, rt.alloc(), usize::MAX));
 }

@@ -16,3 +16,5 @@ mod line;
 mod mailbox_tests;
 #[cfg(test)]
 mod nobody_tests;
+#[cfg(test)]
+mod spawn_tests;

@@ -215,6 +215,12 @@ impl<R: Wait + Drop + Copy> Line<R> {
         }
     }
 
+    /// Drops the Runnable that has waited longest, which cancels its task.
+    pub fn drop_next(&self) {
+        let next = self.queue.lock(&self.rt).pop_front();
+        drop(next);
+    }
+
     // Runs the Runnable that has waited longest: whether there was one.
     fn run_next(&self) -> bool {
         let next = self.queue.lock(&self.rt).pop_front();

@@ -31,3 +31,13 @@ fn a_mailbox_keeps_the_order_and_each_number_once(rt: HostRuntime) {
         Ok(([true, true, false], [Some(2), Some(0), None, Some(0)]))
     );
 }
+
+// Whether a mailbox with that room is refused.
+fn is_refused<R: Wait + Drop + Copy>(rt: R, alloc: Global, room: usize) -> bool {
+    Mailbox::new(rt, alloc, room).is_err()
+}
+
+#[test]
+fn a_mailbox_that_no_memory_can_hold_is_refused(rt: HostRuntime) {
+    assert!(rt; is_refused(rt, rt.alloc(), usize::MAX));
+}

@@ -12,7 +12,7 @@ use Rattle.kit_bridge.specs.declared.awaits.AwaitError.{AwaitError}
 use Rattle.kit_bridge.specs.declared.awaits.AwaitError.TheVariants.{Closed, Refused}
 
 -- a clone of an awaiter has its slot
-abbrev pub SharesSlot : KitAwaiter → Option KitAwaiter → Type 0
+abbrev pub SharesSlot : {B : Type 0} → KitAwaiter B → Option (KitAwaiter B) → Type 0
 SharesSlot awaiter clone = IfSome clone (λ other. arc_value other.slot ≡ arc_value awaiter.slot)
 
 -- the answer to the kit, by that of the Task, which is None where it is closed
@@ -23,7 +23,7 @@ answered Refuses = Ready (Err Refused)
 answered Waits = Pending
 
 -- the Task is polled once with this awaiter, its party is p before and q after, and the kit is told the answer
-abbrev pub PollsTask : {F T U : Type 0} → KitAwaiter → Party F T KitAwaiter → Party F T KitAwaiter → Poll (Result U AwaitError) → Type 0
+abbrev pub PollsTask : {F T U B : Type 0} → KitAwaiter B → Party F T (KitAwaiter B) → Party F T (KitAwaiter B) → Poll (Result U AwaitError) → Type 0
 PollsTask {U = U} awaiter p q answer =
     (polled : TaskPoll (Option U)) × PollsOnce SharesSlot (λ _. ⊤) (λ _. ⊤) (λ _ _ same. same ≡ false) awaiter p q polled
     × (answer ≡ answered polled)

@@ -7,7 +7,7 @@ ghost use Rattle.kit_bridge.specs.Answers.{SharesSlot};
 use async_task::Wake;
 use futures::spin;
 use futures::task::{Context, Poll, Source, Waker};
-use std::alloc::{AllocError, Global};
+use std::alloc::{AllocError, Allocator, Global};
 use std::sync::{Arc, Mutex};
 
 // Where the kit's waker lies until the task is over.
@@ -19,13 +19,13 @@ struct Slot {
 
 /// An awaiter whose wake takes the kit's waker that was registered last, and wakes it.
 #[derive(Drop)]
-pub struct KitAwaiter {
-    slot: Arc<Slot>,
+pub struct KitAwaiter<B: Allocator = Global> {
+    slot: Arc<Slot, B>,
 }
 
-impl KitAwaiter {
-    /// An awaiter with no waker yet. An `Err` says that memory was refused; nothing stays allocated then.
-    pub fn new(alloc: Global) -> Result<KitAwaiter, AllocError> {
+impl<B: Allocator> KitAwaiter<B> {
+    /// An awaiter with no waker yet. Its memory comes from `alloc`. An `Err` says that it was refused; nothing stays allocated then.
+    pub fn new(alloc: B) -> Result<KitAwaiter<B>, AllocError> {
         let slot = Slot {
             source: Source::new(),
             waker: Mutex::new(None),
@@ -46,7 +46,7 @@ impl KitAwaiter {
     }
 }
 
-impl Wake for KitAwaiter {
+impl<B: Allocator> Wake for KitAwaiter<B> {
     ghost woken = { λ _. ⊤ };
 
     ghost woken_by_ref = { λ _. ⊤ };
@@ -70,13 +70,13 @@ impl Wake for KitAwaiter {
         }
     }
 
-    fn try_clone(&self) -> Option<KitAwaiter> {
+    fn try_clone(&self) -> Option<KitAwaiter<B>> {
         let slot = Arc::try_clone(&self.slot).ok()?;
         Some(KitAwaiter { slot })
     }
 
     // Two shares of a slot cannot be told to be of one: a wake too many polls the kit's task once more.
-    fn will_wake(&self, _other: &KitAwaiter) -> bool {
+    fn will_wake(&self, _other: &KitAwaiter<B>) -> bool {
         false
     }
 }

@@ -27,23 +27,23 @@ pub enum AwaitError {
 #[derive(Drop)]
 pub struct Awaits<R: Wait + Drop, F: Yields, Q: Drop, M: Drop, X: Copy, B: Allocator = Global>
 where
-    Q: Schedule<Runnable<R, F, Q, M, KitAwaiter, X, B>>,
+    Q: Schedule<Runnable<R, F, Q, M, KitAwaiter<B>, X, B>>,
 {
-    task: Task<R, F, Q, M, KitAwaiter, X, B>,
-    awaiter: KitAwaiter,
+    task: Task<R, F, Q, M, KitAwaiter<B>, X, B>,
+    awaiter: KitAwaiter<B>,
 }
 
 impl<R: Wait + Drop, F: Yields, Q: Drop, M: Drop, X: Copy, B: Allocator> Awaits<R, F, Q, M, X, B>
 where
-    Q: Schedule<Runnable<R, F, Q, M, KitAwaiter, X, B>>,
+    Q: Schedule<Runnable<R, F, Q, M, KitAwaiter<B>, X, B>>,
 {
     /// Wraps a Task. The memory of its awaiter is taken here, from `alloc`.
     ///
     /// An `Err` says that memory was refused, and hands the Task back as it was.
     pub fn new(
-        alloc: Global,
-        task: Task<R, F, Q, M, KitAwaiter, X, B>,
-    ) -> Result<Awaits<R, F, Q, M, X, B>, Task<R, F, Q, M, KitAwaiter, X, B>>
+        alloc: B,
+        task: Task<R, F, Q, M, KitAwaiter<B>, X, B>,
+    ) -> Result<Awaits<R, F, Q, M, X, B>, Task<R, F, Q, M, KitAwaiter<B>, X, B>>
         ensures task { IfOk result (λ awaits. awaits.task ≡ task) }
         ensures returned { IfErr result (λ refused. refused ≡ task) }
     {
@@ -54,7 +54,7 @@ where
     }
 
     /// Gives the Task back. An awaiter that a poll registered stays registered until the Task is polled again.
-    pub fn into_task(self) -> Task<R, F, Q, M, KitAwaiter, X, B>
+    pub fn into_task(self) -> Task<R, F, Q, M, KitAwaiter<B>, X, B>
         ensures { result ≡ self.task }
     {
         let Awaits { task, awaiter: _ } = self;
@@ -65,7 +65,7 @@ where
 impl<R: Wait + Drop, F: Yields, Q: Drop, M: Drop, X: Copy, B: Allocator> Future
     for Awaits<R, F, Q, M, X, B>
 where
-    Q: Schedule<Runnable<R, F, Q, M, KitAwaiter, X, B>>,
+    Q: Schedule<Runnable<R, F, Q, M, KitAwaiter<B>, X, B>>,
 {
     type Output = Result<F::Output, AwaitError>;
 

@@ -4,8 +4,10 @@ ghost use Rattle.std.specs.Prelude.{⊤};
 use crate::{AwaitError, Awaits, KitAwaiter};
 use async_task::{Future, Poll, Runnable, Schedule, ScheduleInfo, Task, Wake, Yields, spawn};
 use futures::executor::block_on;
-use futures::future::{Either, join, select};
-use std::alloc::{AllocError, Global};
+use futures::future::{Either, join, ready, select};
+use linked_list_allocator::LocalHeap;
+use std::alloc::{AllocError, AllocGlobal, Global};
+use std::random::RandomSource;
 use std::sync::atomic::{AtomicU64, Ordering};
 use std::sync::{Arc, Wait};
 use std::{io, thread};
@@ -167,5 +169,112 @@ fn a_task_that_is_given_back_goes_on(rt: HostRuntime) -> io::Result<()> {
         None => Err(AwaitError::Refused),
     };
     assert_eq!(rt; answer, Ok(5));
+    Ok(())
+}
+
+// Room for a task and an awaiter, and more.
+const HEAP: usize = 4096;
+
+// The handles of a task whose memory, with that of its awaiter, is of a heap.
+type HeapWork<'heap, R> = Runnable<
+    R,
+    Count,
+    DropAll,
+    (),
+    KitAwaiter<&'heap LocalHeap>,
+    (),
+    &'heap LocalHeap,
+>;
+
+type HeapJob<'heap, R> = Task<
+    R,
+    Count,
+    DropAll,
+    (),
+    KitAwaiter<&'heap LocalHeap>,
+    (),
+    &'heap LocalHeap,
+>;
+
+type HeapAwaited<'heap, R> = Awaits<R, Count, DropAll, (), (), &'heap LocalHeap>;
+
+// Takes what is left of a heap: whatever is asked of it afterwards is refused.
+fn fill(alloc: Global, heap: &LocalHeap) -> Result<Vec<Vec<u8, &LocalHeap>>, AllocError> {
+    let mut filling = Vec::new(alloc);
+    for _ in 0..HEAP {
+        let Ok(block) = Vec::with_capacity(heap, 1) else {
+            break;
+        };
+        filling.push(block)?;
+    }
+    Ok(filling)
+}
+
+// Wraps a Task while its heap is full: whether it was refused, and the Task.
+fn wrap_in_full_heap<'heap, R: Wait + Drop + Copy>(
+    alloc: Global,
+    heap: &'heap LocalHeap,
+    task: HeapJob<'heap, R>,
+) -> Result<(bool, HeapJob<'heap, R>), AllocError> {
+    let filling = fill(alloc, heap)?;
+    let wrapped = Awaits::new(heap, task);
+    drop(filling);
+    Ok(match wrapped {
+        Ok(awaits) => (false, awaits.into_task()),
+        Err(task) => (true, task),
+    })
+}
+
+// A task in a heap that answers 6 at its first poll: its Runnable, and its Task as a future of the kit, which was refused before.
+fn bridged_later<'heap, R: Wait + Drop + Copy>(
+    rt: R,
+    alloc: Global,
+    heap: &'heap LocalHeap,
+    dropped: &Arc<AtomicU64>,
+) -> Result<(bool, HeapWork<'heap, R>, HeapAwaited<'heap, R>), AllocError> {
+    let future = Count {
+        left: 0,
+        answer: 6,
+        dropped: Arc::try_clone(dropped)?,
+    };
+    let (runnable, task) = spawn(rt, heap, future, DropAll, ()).ok().ok_or(AllocError)?;
+    let (refused, task) = wrap_in_full_heap(alloc, heap, task)?;
+    let awaits = Awaits::new(heap, task).ok().ok_or(AllocError)?;
+    Ok((refused, runnable, awaits))
+}
+
+// Lets the kit poll a bridge once: the bridge, where that was pending.
+fn poll_once<'heap, R: Wait + RandomSource + AllocGlobal + Drop + Copy>(
+    rt: R,
+    awaits: HeapAwaited<'heap, R>,
+) -> io::Result<Option<HeapAwaited<'heap, R>>> {
+    match block_on(&rt, select(awaits, ready(())))? {
+        Either::Left(_) => Ok(None),
+        Either::Right((_, awaits)) => Ok(Some(awaits)),
+    }
+}
+
+// Polls such a task, runs it and waits for it: whether the first bridge was refused, and what the second one answered.
+fn wait_after_refusal<R: Wait + RandomSource + AllocGlobal + Drop + Copy>(
+    rt: R,
+    alloc: Global,
+    heap: &LocalHeap,
+    dropped: &Arc<AtomicU64>,
+) -> io::Result<(bool, Result<u64, AwaitError>)> {
+    let (refused, runnable, awaits) = bridged_later(rt, alloc, heap, dropped)?;
+    let Some(pending) = poll_once(rt, awaits)? else {
+        return Ok((refused, Err(AwaitError::Refused)));
+    };
+    runnable.run();
+    Ok((refused, block_on(&rt, pending)?))
+}
+
+#[test]
+fn a_bridge_that_was_refused_memory_is_made_later(rt: HostRuntime) -> io::Result<()> {
+    let dropped = Arc::new(rt.alloc(), AtomicU64::new(0))?;
+    let heap = LocalHeap::new(rt.alloc(), HEAP)?;
+    let seen = wait_after_refusal(rt, rt.alloc(), &heap, &dropped)?;
+    assert_eq!(rt; seen, (true, Ok(6)));
+    assert_eq!(rt; (heap.used(), dropped.load(Ordering::SeqCst)), (0, 1));
     Ok(())
 }

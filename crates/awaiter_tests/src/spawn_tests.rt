@@ -1,0 +1,188 @@
+//! Spawns of a group that are refused memory, each of their requests in turn.
+ghost use Rattle.std.specs.Prelude.{⊤};
+
+use async_task::{Future, Poll, Schedule, ScheduleInfo, Yields};
+use benchmarks::counting::Counting;
+use linked_list_allocator::LocalHeap;
+use std::alloc::{AllocError, Global};
+use std::sync::Wait;
+use task_group::{GroupSpawnError, TaskGroup};
+
+// A schedule value takes so many numbers that the shared cell, in which it stands, needs a larger block than all that a
+// spawn asks for before it. So there are heaps in which only the last request is refused.
+const WIDTH: usize = 64;
+
+// The largest heap that is tried, which has room for a task and more, in blocks of 16 bytes.
+const BLOCKS: u16 = 256;
+
+// A future that answers its number.
+#[derive(Drop)]
+struct Number(u64);
+
+impl Yields for Number {
+    type Output = u64;
+}
+
+impl<W> Future<W> for Number {
+    ghost polled = { λ _ _ _ _. ⊤ };
+
+    fn poll(&mut self, _waker: &W) -> Poll<u64> {
+        Poll::Ready(self.0)
+    }
+}
+
+// A schedule value that drops each Runnable, which cancels its task.
+#[derive(Drop)]
+struct Nowhere {
+    numbers: [u64; WIDTH],
+}
+
+impl<N: Drop> Schedule<N> for Nowhere {
+    ghost scheduled = { λ _ _ _. ⊤ };
+
+    fn schedule(&self, _runnable: N, _info: ScheduleInfo) {}
+}
+
+// The memory of the tasks: a heap whose requests are counted. It owns the heap, since the prover does not take the drop of a
+// group whose allocator has a reference behind a reference.
+type Heap = Counting<LocalHeap>;
+
+type HeapGroup<'heap, R> = TaskGroup<R, Number, Nowhere, (), (), &'heap Heap>;
+
+// The number of a member that came out, and whether it was closed.
+type CameOut = Option<(usize, bool)>;
+
+// What a spawn came to.
+#[derive(Clone, Copy, Debug, PartialEq, Eq)]
+enum Spawned {
+    // It was granted, and this came out of the group.
+    Granted(CameOut),
+    // It was refused: whether all was handed back and the group as it was, whether nothing of the heap was taken then, and
+    // what came out of the group after a spawn of what was handed back, where there is room.
+    Refused {
+        is_whole: bool,
+        is_unused: bool,
+        later: CameOut,
+    },
+}
+
+// A spawn that was refused, as it has to be.
+const HANDED_BACK: Spawned = Spawned::Refused {
+    is_whole: true,
+    is_unused: true,
+    later: Some((0, true)),
+};
+
+// A heap of that many blocks of 16 bytes.
+fn heap_of(alloc: Global, blocks: u16) -> Result<Heap, AllocError> {
+    Ok(Counting::new(LocalHeap::new(alloc, 16 * usize::from(blocks))?))
+}
+
+// Whether nothing of a heap of that many blocks is taken: all of it can be had at once.
+fn is_unused(heap: &Heap, blocks: u16) -> bool {
+    let all: Result<Vec<u8, &Heap>, AllocError> = Vec::with_capacity(
+        heap,
+        16 * usize::from(blocks),
+    );
+    all.is_ok()
+}
+
+// Waits for the next member.
+fn next_of<R: Wait + Drop + Copy>(group: &mut HeapGroup<'_, R>) -> CameOut {
+    let ended = group.next().ok()??;
+    Some((ended.number, ended.answer.is_err()))
+}
+
+// Whether a refused spawn handed back what it was given, and says that the group was not full.
+fn is_handed_back(refused: &GroupSpawnError<Number, Nowhere>) -> bool {
+    !refused.is_full && refused.future.0 == 5 && refused.schedule.numbers == [3; WIDTH]
+}
+
+// Spawns what was handed back where there is room: what comes out.
+fn spawn_again<'heap, R: Wait + Drop + Copy>(
+    group: &mut HeapGroup<'heap, R>,
+    roomy: &'heap Heap,
+    refused: GroupSpawnError<Number, Nowhere>,
+) -> CameOut {
+    let GroupSpawnError {
+        is_full: _,
+        future,
+        schedule,
+    } = refused;
+    group.spawn(roomy, future, schedule, ()).ok()?;
+    next_of(group)
+}
+
+// One spawn of a group, over a heap of that many blocks: how many requests it made, and what it came to. The group ends here.
+fn spawn_once<'heap, R: Wait + Drop + Copy>(
+    rt: R,
+    alloc: Global,
+    heap: &'heap Heap,
+    blocks: u16,
+    roomy: &'heap Heap,
+) -> Result<(u64, Spawned), AllocError> {
+    let mut group: HeapGroup<'heap, R> = TaskGroup::new(rt, alloc, 1)?;
+    let schedule = Nowhere {
+        numbers: [3; WIDTH],
+    };
+    let spawned = group.spawn(heap, Number(5), schedule, ());
+    let requests = heap.allocations();
+    match spawned {
+        Ok(_) => Ok((requests, Spawned::Granted(next_of(&mut group)))),
+        Err(refused) => {
+            let is_whole = is_handed_back(&refused) && group.is_empty();
+            let is_unused = is_unused(heap, blocks);
+            let later = spawn_again(&mut group, roomy, refused);
+            Ok((
+                requests,
+                Spawned::Refused {
+                    is_whole,
+                    is_unused,
+                    later,
+                },
+            ))
+        }
+    }
+}
+
+// The same with heaps of its own, and whether nothing of them is taken when the group has ended.
+fn spawn_in<R: Wait + Drop + Copy>(
+    rt: R,
+    alloc: Global,
+    blocks: u16,
+) -> Result<(u64, Spawned, bool), AllocError> {
+    let heap = heap_of(alloc, blocks)?;
+    let roomy = heap_of(alloc, BLOCKS)?;
+    let (requests, spawned) = spawn_once(rt, alloc, &heap, blocks, &roomy)?;
+    let are_unused = is_unused(&heap, blocks) && is_unused(&roomy, BLOCKS);
+    Ok((requests, spawned, are_unused))
+}
+
+// Spawns over heaps each of which has one block more than the one before, until one does not hand everything back: which
+// requests were refused before, and what was seen of that one.
+fn spawn_in_turn<R: Wait + Drop + Copy>(
+    rt: R,
+    alloc: Global,
+) -> Result<([bool; 5], (u64, Spawned, bool)), AllocError> {
+    let mut refused = [false; 5];
+    for blocks in 1..BLOCKS {
+        let seen = spawn_in(rt, alloc, blocks)?;
+        let (requests, spawned, are_unused) = seen;
+        match refused.get_mut(requests as usize) {
+            Some(request) if spawned == HANDED_BACK && are_unused => *request = true,
+            _ => return Ok((refused, seen)),
+        }
+    }
+    Err(AllocError)
+}
+
+// In turn each of the four requests is refused. The group has its own memory before.
+#[test]
+fn a_group_hands_back_what_a_spawn_was_refused(rt: HostRuntime) {
+    let seen = spawn_in_turn(rt, rt.alloc());
+    let granted = Spawned::Granted(Some((0, true)));
+    assert_eq!(rt;
+        seen,
+        Ok(([false, true, true, true, true], (4, granted, true)))
+    );
+}
