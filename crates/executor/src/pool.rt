@@ -2,6 +2,7 @@
 ghost use Rattle.std.specs.Prelude.{⊤, ◌≡◌, ◌-◌, ◌+◌, ◌<◌, [], drop, true, false, IfOk, IfErr, OnOk, vec_len, vec_capacity};
 
 use crate::kept::{KeptTask, KeptWaker, cancel_kept};
+use crate::mail::Mail;
 use async_task::{Future, Runnable, Schedule, ScheduleInfo, Task, TaskWaker, Wake, Yields, spawn};
 use handle_store::Store;
 use std::alloc::{AllocError, Global};
@@ -37,6 +38,7 @@ pub struct Pool<R: Wait + Drop + Copy, F: Yields, A: Wake> {
     stopped: AtomicBool,
     pub(crate) wakers: Store<KeptWaker<R, F, A>>,
     pub(crate) tasks: Store<KeptTask<R, F, A>>,
+    pub(crate) mail: Arc<Mail<R>>,
 }
 
 /// What one worker keeps for its turns.
@@ -77,6 +79,7 @@ impl<R: Wait + Drop + Copy, F: Yields, A: Wake> Pool<R, F, A> {
             stopped: AtomicBool::new(false),
             wakers: Store::new(alloc)?,
             tasks: Store::new(alloc)?,
+            mail: Mail::new(rt, alloc)?,
         })
     }
 
@@ -212,7 +215,7 @@ impl<R: Wait + Drop + Copy, F: Yields, A: Wake> Pool<R, F, A> {
         }
     }
 
-    /// Sleeps, if there is nothing for this worker to do and the bells counted no interruption since `interruptions`. It may also return for no reason. It is for loops of a user's own around `tick`.
+    /// Sleeps, if there is nothing for this worker to do and the bells counted no interruption since `interruptions`. It may also return for no reason. It is for loops of a user's own around `tick`: one asks for the interruptions, then calls `collect`, `wake_posted` and `tick`, and rests where neither of the last two found anything.
     pub fn rest(&self, turns: &Turns<R, F, A>, interruptions: u64) {
         self.crew.rest(&self.rt, &turns.worker, interruptions);
     }
