@@ -112,7 +112,7 @@ impl<R: Wait + Drop + Copy, F: Yields, A: Wake> Pool<R, F, A> {
         self.tasks.len(&self.rt)
     }
 
-    /// What a thread needs to be the worker of this number. An error says that there was no memory, or that there is no such worker. Two threads may not be one worker: both would sleep where one is woken.
+    /// What a thread needs to be the worker of this number. An error says that there was no memory, or that there is no such worker. Two threads may not be one worker: both would sleep where one is woken. Nor may a pool be given the turns of another one.
     pub fn turns(&self, worker: usize) -> Result<Turns<R, F, A>, AllocError>
         ensures { IfOk result (λ turns. turns.worker.number ≡ worker) }
     {
@@ -221,7 +221,9 @@ impl<R: Wait + Drop + Copy, F: Yields, A: Wake> Pool<R, F, A> {
     }
 
     /// The bells of the workers. An awaiter may hold them, to have a sleeping worker look once more.
-    pub fn bells(&self) -> &Arc<Bells> {
+    pub fn bells(&self) -> &Arc<Bells>
+        ensures { result.now ≡ self.now.crew.bells }
+    {
         self.crew.bells()
     }
 
