@@ -4,6 +4,7 @@ ghost use Rattle.awaiters.specs.Posted.{room_of};
 
 use awaiters::Numbers;
 use std::alloc::{AllocError, Global};
+use std::sync::atomic::{AtomicBool, Ordering};
 use std::sync::{Arc, Mutex, Wait};
 
 /// Numbers that were posted, each at most once, in their order. Room for a number is taken with the place of its waker, so a post needs no memory.
@@ -12,6 +13,8 @@ pub(crate) struct Mail<R: Wait + Drop + Copy> {
     rt: R,
     alloc: Global,
     numbers: Mutex<Numbers>,
+    // False only where no number waits: then a worker takes no lock. It is written under the lock.
+    may_wait: AtomicBool,
 }
 
 // Has room for the numbers below `room`, and at least twice as many as before where there was less. What waits keeps its order. Where memory is refused nothing has changed.
@@ -37,6 +40,7 @@ impl<R: Wait + Drop + Copy> Mail<R> {
             rt,
             alloc,
             numbers: Mutex::new(Numbers::new(alloc, 0)?),
+            may_wait: AtomicBool::new(false),
         };
         Ok(Arc::new(alloc, mail)?)
     }
@@ -50,11 +54,23 @@ impl<R: Wait + Drop + Copy> Mail<R> {
     // Posts a number. True where it joins the others: it did not wait yet, and there is room for it.
     pub(crate) fn post(&self, number: usize) -> bool {
         let mut numbers = self.numbers.lock(&self.rt);
-        number < numbers.room() && numbers.post(number)
+        let joins = number < numbers.room() && numbers.post(number);
+        if joins {
+            self.may_wait.store(true, Ordering::SeqCst);
+        }
+        joins
     }
 
     // Takes out the number that has waited longest.
     pub(crate) fn take(&self) -> Option<usize> {
-        self.numbers.lock(&self.rt).take()
+        if !self.may_wait.load(Ordering::SeqCst) {
+            return None;
+        }
+        let mut numbers = self.numbers.lock(&self.rt);
+        let taken = numbers.take();
+        if taken.is_none() {
+            self.may_wait.store(false, Ordering::SeqCst);
+        }
+        taken
     }
 }
