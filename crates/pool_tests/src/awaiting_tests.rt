@@ -57,20 +57,22 @@ enum Errand {
     Stay,
 }
 
-/// The places of a link that waits: of its waker, and of the Task that it awaits.
+/// The places of a link that waits: of its waker, and of the Tasks that it still awaits.
 #[derive(Drop)]
 struct Places<R: Wait + Drop + Copy> {
     own: Key<R>,
-    awaited: Key<R>,
+    first: Option<Key<R>>,
+    second: Option<Key<R>>,
 }
 
-/// A future that spawns another one with one link less below it, awaits it, and answers one more; or does the errand, where none is below it. It answers
-/// 0 where something was refused.
+/// A future that does its errand where no link is below it. Otherwise it spawns one with one link less below it, and where it has a second errand one more with none, awaits them, and answers one more than they do together. What was refused or closed counts as 0.
 #[derive(Drop)]
 struct Link<R: Wait + Drop + Copy> {
     below: u64,
     errand: Errand,
+    second: Option<Errand>,
     places: Option<Places<R>>,
+    sum: u64,
     own: Option<Key<R>>,
     counts: Arc<Counts>,
 }
@@ -93,7 +95,9 @@ fn new_link<R: Wait + Drop + Copy>(
     Ok(Link {
         below,
         errand,
+        second: None,
         places: None,
+        sum: 0,
         own: None,
         counts: Arc::try_clone(counts)?,
     })
@@ -110,31 +114,90 @@ fn spawn_link<'x, R: Wait + Drop + Copy>(
     pool.spawn_on(worker, future).ok().ok_or(AllocError)
 }
 
+// Spawns a link that awaits two, which do these errands.
+fn spawn_pair<'x, R: Wait + Drop + Copy>(
+    pool: &'x LinkPool<R>,
+    first: Errand,
+    second: Errand,
+    counts: &Arc<Counts>,
+) -> Result<LinkTask<'x, R>, AllocError> {
+    let mut future = new_link(1, first, counts)?;
+    future.second = Some(second);
+    pool.spawn(future).ok().ok_or(AllocError)
+}
+
+// Spawns a link for another one, and keeps its Task.
+fn spawn_kept<'x, R: Wait + Drop + Copy>(
+    waker: &LinkWaker<'x, R>,
+    below: u64,
+    errand: Errand,
+    counts: &Arc<Counts>,
+) -> Option<Key<R>> {
+    let (pool, worker) = waker.around();
+    let key = place_for_task(pool)?;
+    let task = spawn_link(pool, worker, below, errand, counts).ok()?;
+    keep_task(task, &key).ok()?;
+    Some(key)
+}
+
+// One poll of the link at a place, for that of this waker. Where it is not pending the place is given up: its answer, 0 where it was closed or refused.
+fn poll_link<'x, R: Wait + Drop + Copy>(
+    waker: &LinkWaker<'x, R>,
+    own: &Key<R>,
+    place: &mut Option<Key<R>>,
+) -> Poll<u64> {
+    let Some(awaited) = &*place else {
+        return Poll::Ready(0);
+    };
+    let answer = match await_kept(waker, own, awaited) {
+        Some(TaskPoll::Pending) => return Poll::Pending,
+        Some(TaskPoll::Ready(Ok(answer))) => answer,
+        _ => 0,
+    };
+    *place = None;
+    Poll::Ready(answer)
+}
+
+// Adds an answer to a sum. False where there is none yet.
+fn add_answer(sum: &mut u64, answer: Poll<u64>) -> bool {
+    match answer {
+        Poll::Ready(answer) => {
+            *sum = sum.saturating_add(answer);
+            true
+        }
+        Poll::Pending => false,
+    }
+}
+
 impl<R: Wait + Drop + Copy> Link<R> {
-    // Spawns the next link, and keeps its Task.
+    // Spawns the links that this one awaits.
     fn spawn_next<'x>(&self, waker: &LinkWaker<'x, R>) -> Option<Places<R>> {
-        let (pool, worker) = waker.around();
-        let own = place_for_waker(pool)?;
-        let awaited = place_for_task(pool)?;
+        let own = place_for_waker(waker.around().0)?;
         let below = self.below.saturating_sub(1);
-        let task = spawn_link(pool, worker, below, self.errand, &self.counts).ok()?;
-        keep_task(task, &awaited).ok()?;
-        Some(Places { own, awaited })
+        let first = spawn_kept(waker, below, self.errand, &self.counts);
+        let second = match self.second {
+            Some(errand) => spawn_kept(waker, 0, errand, &self.counts),
+            None => None,
+        };
+        Some(Places { own, first, second })
     }
 
-    // One poll of the next link, which is spawned by the first.
+    // One poll of each of these, which are spawned by the first.
     fn await_next<'x>(&mut self, waker: &LinkWaker<'x, R>) -> Poll<u64> {
         if self.places.is_none() {
             self.places = self.spawn_next(waker);
         }
-        let Some(places) = &self.places else {
+        let Some(places) = &mut self.places else {
             return Poll::Ready(0);
         };
-        match await_kept(waker, &places.own, &places.awaited) {
-            Some(TaskPoll::Pending) => Poll::Pending,
-            Some(TaskPoll::Ready(Ok(answer))) => Poll::Ready(answer.saturating_add(1)),
-            _ => Poll::Ready(0),
+        let first = poll_link(waker, &places.own, &mut places.first);
+        let second = poll_link(waker, &places.own, &mut places.second);
+        let first_is_over = add_answer(&mut self.sum, first);
+        let second_is_over = add_answer(&mut self.sum, second);
+        if first_is_over && second_is_over {
+            return Poll::Ready(self.sum.saturating_add(1));
         }
+        Poll::Pending
     }
 
     // Keeps the waker, and then says that it was kept once more.
@@ -265,6 +328,19 @@ fn a_task_awaits_a_task(rt: HostRuntime) -> Result<(), Fail> {
     let left = Arc::strong_count(&counts);
     assert_eq!(rt; answer, Ok(2));
     assert_eq!(rt; (polls, places, left), ((2, 4), (0, 0), 1));
+    Ok(())
+}
+
+// One child ends long before the other: the parent is polled as it is spawned, and once more for each.
+#[test]
+fn a_task_awaits_two_tasks(rt: HostRuntime) -> Result<(), Fail> {
+    let counts = Counts::new(rt.alloc())?;
+    let pool = LinkPool::new(rt, rt.alloc(), 1)?;
+    let mut task = spawn_pair(&pool, Errand::GiveWay(1), Errand::GiveWay(9), &counts)?;
+    let mut turns = pool.turns(0)?;
+    let answer = pool.block_on(&mut turns, &mut task);
+    let polls = polls(&counts);
+    assert_eq!(rt; (answer, polls), (Ok(3), (3, 12)));
     Ok(())
 }
 
