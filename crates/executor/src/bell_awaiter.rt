@@ -31,6 +31,7 @@ impl<R: Wait + Drop + Copy> BellAwaiter<R> {
     /// It asks for no memory. `None` says that the bells or the mail of the pool have as many owners as can be counted.
     pub fn new<F: Yields, A: Wake>(pool: &Pool<R, F, A>, worker: usize) -> Option<BellAwaiter<R>>
         ensures bells { IfSome result (λ awaiter. arc_value awaiter.bells ≡ arc_value pool.now.crew.bells) }
+        ensures mail { IfSome result (λ awaiter. arc_value awaiter.mail ≡ arc_value pool.now.mail) }
         ensures wakes { IfSome result (λ awaiter. awaiter.wakes ≡ Wakes.Worker worker) }
     {
         BellAwaiter::share(pool.bells(), &pool.mail, Wakes::Worker(worker))
