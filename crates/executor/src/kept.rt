@@ -104,7 +104,7 @@ pub fn keep_task<'x, R: Wait + Drop + Copy, F: Yields, A: Wake>(
     task: PoolTask<'x, R, F, A>,
     key: &Key<R>,
 ) -> Result<(), PoolTask<'x, R, F, A>>
-    ensures refused { IfErr result (λ back. (back.inner ≡ task.inner) × (back.around ≡ task.around)) }
+    ensures refused { IfErr result (λ back. (back.inner ≡ task.entry.inner) × (back.around ≡ task.entry.around)) }
 {
     let place = task.around();
     let pool = place.0;
