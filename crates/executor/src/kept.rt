@@ -1,8 +1,12 @@
 //! Wakers and Tasks that futures keep: the pool has them by number, and a future has the keys.
-ghost use Rattle.std.specs.Prelude.{⊤};
+ghost use Rattle.std.specs.Prelude.{⊤, ◌≡◌, IfSome, IfErr};
+ghost use Rattle.task_cell.specs.PollPaths.{IfOutput};
 
+use crate::bell_awaiter::BellAwaiter;
 use crate::pool::{Place, Pool, PoolTask, PoolWaker, ToPool};
-use async_task::{Runnable, Schedule, ScheduleInfo, Task, TaskPoll, TaskWaker, Wake, Yields};
+use async_task::{
+    Runnable, Schedule, ScheduleInfo, Task, TaskClosed, TaskPoll, TaskWaker, Wake, Yields,
+};
 use handle_store::Key;
 use std::sync::Wait;
 
@@ -22,11 +26,13 @@ impl<R: Wait + Drop + Copy, F: Yields, A: Wake> Schedule<Runnable<R, F, ToPool, 
     }
 }
 
-/// Takes a place for a waker. `None` where there was no memory for it.
+/// Takes a place for a waker, and room for its number in the mail of the pool. `None` where there was no memory for them.
 pub fn place_for_waker<R: Wait + Drop + Copy, F: Yields, A: Wake>(
     pool: &Pool<R, F, A>,
 ) -> Option<Key<R>> {
-    pool.wakers.reserve(pool.rt)
+    let key = pool.wakers.reserve(pool.rt)?;
+    pool.mail.make_room(key.number()).ok()?;
+    Some(key)
 }
 
 /// Keeps a clone of a waker at the place of a key, and drops what was there. False where the clone was refused, or the key is of another pool: every
@@ -71,6 +77,19 @@ pub fn wake_kept<'x, R: Wait + Drop + Copy, F: Yields, A: Wake>(
     }
 }
 
+/// Wakes the task whose number an awaiter posted first, as `wake_kept` does. False where none is posted. Each worker does it between its turns, and a loop around `Pool::tick` has to.
+pub fn wake_posted<'x, R: Wait + Drop + Copy, F: Yields, A: Wake>(
+    place: Place<'x, R, F, A>,
+) -> bool {
+    match place.0.mail.take() {
+        Some(number) => {
+            wake_kept(place, number);
+            true
+        }
+        None => false,
+    }
+}
+
 /// Takes a place for a Task. `None` where there was no memory for it.
 pub fn place_for_task<R: Wait + Drop + Copy, F: Yields, A: Wake>(
     pool: &Pool<R, F, A>,
@@ -84,7 +103,9 @@ pub fn place_for_task<R: Wait + Drop + Copy, F: Yields, A: Wake>(
 pub fn keep_task<'x, R: Wait + Drop + Copy, F: Yields, A: Wake>(
     task: PoolTask<'x, R, F, A>,
     key: &Key<R>,
-) -> Result<(), PoolTask<'x, R, F, A>> {
+) -> Result<(), PoolTask<'x, R, F, A>>
+    ensures refused { IfErr result (λ back. (back.inner ≡ task.entry.inner) × (back.around ≡ task.entry.around)) }
+{
     let place = task.around();
     let pool = place.0;
     match pool.tasks.put(&pool.rt, key, task.with_around(())) {
@@ -102,12 +123,14 @@ pub fn keep_task<'x, R: Wait + Drop + Copy, F: Yields, A: Wake>(
 }
 
 /// Polls the Task at the place of a key, with this awaiter. `None` where there is no Task, as while another thread polls it, or the key is of another
-/// pool. A Task that answers `Ready` is gone after it.
+/// pool. A Task that answers `Ready` is gone after it, and any other is there still. The output meets what the type of the future states.
 pub fn poll_kept<'x, R: Wait + Drop + Copy, F: Yields, A: Wake>(
     place: Place<'x, R, F, A>,
     key: &Key<R>,
     awaiter: &A,
-) -> Option<TaskPoll<Result<F::Output, async_task::TaskClosed>>> {
+) -> Option<TaskPoll<Result<F::Output, TaskClosed>>>
+    ensures meets { IfSome result (λ answer. IfOutput answer (λ output. ∥ F.Yields.meets output ∥₁)) }
+{
     let kept = place.0.tasks.take_of(&place.0.rt, key)?;
     let mut task = kept.with_around(place);
     let answer = task.poll(awaiter);
@@ -115,6 +138,27 @@ pub fn poll_kept<'x, R: Wait + Drop + Copy, F: Yields, A: Wake>(
         drop(keep_task(task, key));
     }
     Some(answer)
+}
+
+/// Polls the Task at the place `awaited` for the task of this waker, which is woken where that Task may have an answer: it keeps the waker at its place
+/// first, and then polls as `poll_kept` does. So no wake is missed where the task that waits is pending after it.
+///
+/// `Refused` also says that the waker was not kept, as where `own` is of another pool.
+pub fn await_kept<'x, R: Wait + Drop + Copy, F: Yields>(
+    waker: &PoolWaker<'x, R, F, BellAwaiter<R>>,
+    own: &Key<R>,
+    awaited: &Key<R>,
+) -> Option<TaskPoll<Result<F::Output, TaskClosed>>>
+    ensures meets { IfSome result (λ answer. IfOutput answer (λ output. ∥ F.Yields.meets output ∥₁)) }
+{
+    let place = waker.around();
+    if !keep_waker(waker, own) {
+        return Some(TaskPoll::Refused);
+    }
+    let Some(awaiter) = BellAwaiter::of_kept(place.0, own.number()) else {
+        return Some(TaskPoll::Refused);
+    };
+    poll_kept(place, awaited, &awaiter)
 }
 
 /// Drops what is left at the places of keys that were dropped: wakers, and Tasks, whose tasks are cancelled. Each worker does it between its turns.

@@ -7,13 +7,14 @@
 
 pub mod bell_awaiter;
 pub mod kept;
+mod mail;
 pub mod pool;
 pub mod running;
 
 pub use bell_awaiter::BellAwaiter;
 pub use kept::{
-    KeptTask, KeptWaker, collect, keep_task, keep_waker, place_for_task, place_for_waker,
-    poll_kept, wake_kept,
+    KeptTask, KeptWaker, await_kept, collect, keep_task, keep_waker, place_for_task,
+    place_for_waker, poll_kept, wake_kept, wake_posted,
 };
 pub use pool::{Place, Pool, PoolRunnable, PoolTask, PoolWaker, ToPool, Turns};
 pub use running::BlockOnError;

@@ -2,6 +2,7 @@
 ghost use Rattle.std.specs.Prelude.{⊤, ◌≡◌, ◌-◌, ◌+◌, ◌<◌, [], drop, true, false, IfOk, IfErr, OnOk, vec_len, vec_capacity};
 
 use crate::kept::{KeptTask, KeptWaker, cancel_kept};
+use crate::mail::Mail;
 use async_task::{Future, Runnable, Schedule, ScheduleInfo, Task, TaskWaker, Wake, Yields, spawn};
 use handle_store::Store;
 use std::alloc::{AllocError, Global};
@@ -37,6 +38,7 @@ pub struct Pool<R: Wait + Drop + Copy, F: Yields, A: Wake> {
     stopped: AtomicBool,
     pub(crate) wakers: Store<KeptWaker<R, F, A>>,
     pub(crate) tasks: Store<KeptTask<R, F, A>>,
+    pub(crate) mail: Arc<Mail<R>>,
 }
 
 /// What one worker keeps for its turns.
@@ -77,6 +79,7 @@ impl<R: Wait + Drop + Copy, F: Yields, A: Wake> Pool<R, F, A> {
             stopped: AtomicBool::new(false),
             wakers: Store::new(alloc)?,
             tasks: Store::new(alloc)?,
+            mail: Mail::new(rt, alloc)?,
         })
     }
 
@@ -109,7 +112,7 @@ impl<R: Wait + Drop + Copy, F: Yields, A: Wake> Pool<R, F, A> {
         self.tasks.len(&self.rt)
     }
 
-    /// What a thread needs to be the worker of this number. An error says that there was no memory, or that there is no such worker. Two threads may not be one worker: both would sleep where one is woken.
+    /// What a thread needs to be the worker of this number. An error says that there was no memory, or that there is no such worker. Two threads may not be one worker: both would sleep where one is woken. Nor may a pool be given the turns of another one.
     pub fn turns(&self, worker: usize) -> Result<Turns<R, F, A>, AllocError>
         ensures { IfOk result (λ turns. turns.worker.number ≡ worker) }
     {
@@ -212,13 +215,15 @@ impl<R: Wait + Drop + Copy, F: Yields, A: Wake> Pool<R, F, A> {
         }
     }
 
-    /// Sleeps, if there is nothing for this worker to do and the bells counted no interruption since `interruptions`. It may also return for no reason. It is for loops of a user's own around `tick`.
+    /// Sleeps, if there is nothing for this worker to do and the bells counted no interruption since `interruptions`. It may also return for no reason. It is for loops of a user's own around `tick`: one asks for the interruptions, then calls `collect`, `wake_posted` and `tick`, and rests where neither of the last two found anything.
     pub fn rest(&self, turns: &Turns<R, F, A>, interruptions: u64) {
         self.crew.rest(&self.rt, &turns.worker, interruptions);
     }
 
     /// The bells of the workers. An awaiter may hold them, to have a sleeping worker look once more.
-    pub fn bells(&self) -> &Arc<Bells> {
+    pub fn bells(&self) -> &Arc<Bells>
+        ensures { result.now ≡ self.now.crew.bells }
+    {
         self.crew.bells()
     }
 

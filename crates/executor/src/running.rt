@@ -6,7 +6,7 @@ ghost use Rattle.task_steps.specs.Steps.{saw_ended};
 ghost use Rattle.task_cell.specs.Calls.{deeds};
 
 use crate::bell_awaiter::BellAwaiter;
-use crate::kept::collect;
+use crate::kept::{collect, wake_posted};
 use crate::pool::{Pool, PoolTask, PoolWaker, Turns};
 use async_task::{Future, TaskPoll, Wake, Yields};
 use std::alloc::AllocError;
@@ -24,13 +24,16 @@ pub enum BlockOnError {
 }
 
 impl<R: Wait + Drop + Copy, F: Yields, A: Wake> Pool<R, F, A> {
-    // Frees what keys left, and runs one task, or sleeps where there is none and the bells counted no interruption since `interruptions`.
+    // Frees what keys left, wakes one task whose number was posted, and runs one task. Where there is neither it sleeps, if the bells counted no
+    // interruption since `interruptions`: each post is followed by one.
     fn turn<'x>(&'x self, turns: &mut Turns<R, F, A>, interruptions: u64)
     where
         F: Future<PoolWaker<'x, R, F, A>>,
     {
-        collect((self, turns.worker.number()));
-        if !self.tick(turns) {
+        let place = (self, turns.worker.number());
+        collect(place);
+        let woke = wake_posted(place);
+        if !self.tick(turns) && !woke {
             self.rest(turns, interruptions);
         }
     }
@@ -73,17 +76,17 @@ impl<R: Wait + Drop + Copy, F: Yields, A: Wake> Pool<R, F, A> {
     }
 }
 
-impl<R: Wait + Drop + Copy, F: Yields> Pool<R, F, BellAwaiter> {
+impl<R: Wait + Drop + Copy, F: Yields> Pool<R, F, BellAwaiter<R>> {
     /// Is a worker until the task of this Task is over, and sleeps where there is nothing to do. Other workers may run meanwhile, or none.
     ///
     /// The output meets what the type of the future states.
     pub fn block_on<'x>(
         &'x self,
-        turns: &mut Turns<R, F, BellAwaiter>,
-        task: &mut PoolTask<'x, R, F, BellAwaiter>,
+        turns: &mut Turns<R, F, BellAwaiter<R>>,
+        task: &mut PoolTask<'x, R, F, BellAwaiter<R>>,
     ) -> Result<F::Output, BlockOnError>
     where
-        F: Future<PoolWaker<'x, R, F, BellAwaiter>>,
+        F: Future<PoolWaker<'x, R, F, BellAwaiter<R>>>,
         ensures meets { IfOk result (λ output. ∥ F.Yields.meets output ∥₁) }
         ensures closed { result ≡ Err BlockOnError.Closed → saw_ended (deeds task.new.inner.party) ≡ true }
         ensures ended { saw_ended (deeds task.old.inner.party) ≡ true → IsErr result }
@@ -91,10 +94,15 @@ impl<R: Wait + Drop + Copy, F: Yields> Pool<R, F, BellAwaiter> {
         ensures around { task.new.around ≡ task.old.around }
     {
         let worker = turns.worker.number();
-        let awaiter = BellAwaiter::new(self.bells(), worker).ok_or(BlockOnError::Refused)?;
+        let awaiter = BellAwaiter::new(self, worker).ok_or(BlockOnError::Refused)?;
         for _ in self.rt.forever() {
             let interruptions = self.bells().interruptions();
-            match task.poll(&awaiter) {
+            let answer = task.poll(&awaiter);
+            if !matches!(answer, TaskPoll::Pending) {
+                // What woke this worker may have been meant for a task that another one has to run now.
+                self.bells().interrupt();
+            }
+            match answer {
                 TaskPoll::Ready(Ok(output)) => return Ok(output),
                 TaskPoll::Ready(Err(_)) => return Err(BlockOnError::Closed),
                 TaskPoll::Refused => return Err(BlockOnError::Refused),

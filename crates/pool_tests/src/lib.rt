@@ -1,7 +1,9 @@
-//! The tests of the pool: its workers, what futures keep, waiting for a task, storms of wakes, cancels, refused memory, and hostile use.
+//! The tests of the pool: its workers, what futures keep, tasks that await tasks, storms of wakes, cancels, refused memory, and hostile use.
 //! It stands on `executor`. Nothing is public. The page is docs/EXECUTOR_POOL.md.
 #![tactic(auto)]
 
+#[cfg(test)]
+mod awaiting_tests;
 #[cfg(test)]
 mod cancel_tests;
 #[cfg(test)]

@@ -4,7 +4,7 @@ use executor::{BellAwaiter, BlockOnError, Pool};
 use std::test::Fail;
 use std::thread;
 
-type WaitedPool<R> = Pool<R, Guest, BellAwaiter>;
+type WaitedPool<R> = Pool<R, Guest, BellAwaiter<R>>;
 
 // The thread that waits runs the other task of the pool, too, as far as it comes before.
 #[test]

@@ -1,4 +1,4 @@
-use Rattle.std.proofs.Common.{◌≡◌, ◌∙◌, ap, drop, arith, rules}
+use Rattle.std.proofs.Common.{◌∙◌, ap, drop, arith, rules}
 use Rattle.executor.proofs.Counted.{drop-one}
 use Rattle.executor.proofs.pool.Pool.spawn_many.Goals as goal
 

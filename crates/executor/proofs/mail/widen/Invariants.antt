@@ -1,0 +1,12 @@
+use Rattle.std.proofs.Common.{◌≡◌, length}
+use Rattle.awaiters.specs.Posted.{posted, room_of}
+use Rattle.executor.proofs.mail.widen.Given as goal
+
+abbrev pub invariant-loop-number : goal.invariant-loop-number
+invariant-loop-number l = record {
+  left : room_of l.numbers ≡ room_of l.initial.numbers;
+  room : room_of l.wider ≡ room_of l.initial.wider;
+}
+
+abbrev pub decreases-loop-number : goal.decreases-loop-number
+decreases-loop-number l = length (posted l.numbers)
