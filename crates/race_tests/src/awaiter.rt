@@ -8,18 +8,20 @@ use std::alloc::{AllocError, Global};
 use std::hint::spin_loop;
 use std::sync::Arc;
 
+// How many turns a clone takes that waits for nothing.
+const CLONE: u64 = 4;
+
 // How often a clone looks whether the future has been dropped.
 const LOOKS: u32 = 1_000;
 
-// What a clone waits for: that so many futures were dropped, and then a number of turns.
+// What a clone waits for: that so many futures were dropped.
 #[derive(Drop)]
-struct AfterDrop {
+struct Drops {
     counters: Arc<Counters>,
     future_drops: u64,
-    turns: u64,
 }
 
-impl AfterDrop {
+impl Drops {
     // It does not wait long for a thread that cannot run.
     fn wait(&self) {
         for _ in 0..LOOKS {
@@ -29,18 +31,13 @@ impl AfterDrop {
             spin_loop();
         }
     }
-
-    fn pause(&self) {
-        for _ in 0..self.turns {
-            spin_loop();
-        }
-    }
 }
 
 // What an awaiter and its clones share.
 #[derive(Drop)]
 struct Shared {
-    after_drop: Option<AfterDrop>,
+    after: Option<Drops>,
+    turns: u64,
     clones: Counter,
     wakes: Counter,
     reference_wakes: Counter,
@@ -56,7 +53,7 @@ pub struct RaceAwaiter {
 impl RaceAwaiter {
     /// An awaiter that has counted nothing.
     pub fn new(alloc: Global) -> Result<RaceAwaiter, AllocError> {
-        RaceAwaiter::make(alloc, None)
+        RaceAwaiter::make(alloc, None, CLONE)
     }
 
     /// An awaiter that is cloned so many turns after so many futures were dropped: right before their runs take out an awaiter.
@@ -66,17 +63,17 @@ impl RaceAwaiter {
         future_drops: u64,
         turns: u64,
     ) -> Result<RaceAwaiter, AllocError> {
-        let after_drop = AfterDrop {
+        let after = Drops {
             counters,
             future_drops,
-            turns,
         };
-        RaceAwaiter::make(alloc, Some(after_drop))
+        RaceAwaiter::make(alloc, Some(after), turns)
     }
 
-    fn make(alloc: Global, after_drop: Option<AfterDrop>) -> Result<RaceAwaiter, AllocError> {
+    fn make(alloc: Global, after: Option<Drops>, turns: u64) -> Result<RaceAwaiter, AllocError> {
         let shared = Shared {
-            after_drop,
+            after,
+            turns,
             clones: Counter::new(),
             wakes: Counter::new(),
             reference_wakes: Counter::new(),
@@ -149,11 +146,13 @@ impl Wake for RaceAwaiter {
         self.shared.reference_wakes.add_one();
     }
 
-    // It may wait, so that a notifier comes between the first look of a poll and its registration.
+    // It takes some turns, so that a notifier may come between the first look of a poll and its registration.
     fn try_clone(&self) -> Option<RaceAwaiter> {
-        if let Some(after_drop) = &self.shared.after_drop {
-            after_drop.wait();
-            after_drop.pause();
+        if let Some(drops) = &self.shared.after {
+            drops.wait();
+        }
+        for _ in 0..self.shared.turns {
+            spin_loop();
         }
         let shared = Arc::try_clone(&self.shared).ok()?;
         shared.clones.add_one();

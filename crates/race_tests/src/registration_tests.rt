@@ -15,8 +15,8 @@ use std::thread::Threads;
 // How many rounds each race has. By hand there may be more.
 const ROUNDS: u64 = 30_000;
 
-// The awaiter of a round's second poll is cloned this many turns after the future was dropped, or fewer, in each round another number:
-// the poll then begins to register at another point beside the notifier.
+// The awaiter of a round's second poll is cloned fewer turns than these after the future was dropped, in each round another number: so
+// the poll begins to register at another point beside the notifier.
 const TURNS: u64 = 16;
 
 // How the second thread ends the task.
