@@ -9,7 +9,7 @@ use Rattle.task_cell.proofs.Vocabulary.{makes_none, makes_one, DropsWaker, dropp
 use Rattle.task_core.specs.Rows.{row as row_of}
 use Rattle.task_steps.specs.declared.words.Dropped.TheVariants.{Orphaned}
 use Rattle.task_steps.specs.Beside.{without_newest, newest}
-use Rattle.task_cell.specs.WakerPaths.{is_idle}
+use Rattle.task_cell.specs.WakerPaths.{is_idle, GainPath, TaskWakePath}
 use Rattle.task_steps.specs.Seats.{is_spent}
 use Rattle.atomic_table.specs.Seated.{TableId}
 use Rattle.task_cell.specs.WakerPaths as paths
@@ -46,20 +46,27 @@ module _ {F T A : Type 0} where
   fresh_stands l p is = is ∙ ap (λ (z : ℕ × List Deed). (view z.0 (member (At Lent) z.1 ∷ []), []))
       (λ i. (sym (ap (λ (x : Me (Slot F T A) View). x.0.limit) is) i, sym (ap (λ (x : Me (Slot F T A) View). (head_of x.0.members).deeds) is) i))
 
-  -- the party of a call by reference may be let go, before the call and after it
-  pub is_spent_at : (l : ℕ) (p : Party F T A) → p.seat.me ≡ (view l (fresh (At Lent) ∷ []), []) → is_spent p.seat.me.0 ≡ true
-  is_spent_at l p is = ap (λ (x : Me (Slot F T A) View). is_spent x.0) is
+  -- the party of a call by reference may be let go after the call
+  is_spent_after : (first last : Deed) (p q : Party F T A) → Goes (first ∷ last ∷ []) (At Lent) p q → is_spent q.seat.me.0 ≡ true
+  is_spent_after first last p q g = ap (λ (x : Me (Slot F T A) View). is_spent x.0) g.is
 
-  is_spent_after : (path : List Deed) (p q : Party F T A) → Goes path (At Lent) p q → is_spent q.seat.me.0 ≡ true
-  is_spent_after path p q g = ap (λ (x : Me (Slot F T A) View). is_spent x.0) g.is
+  spent_by_row : (woken : Bool) (path : List Deed) (p q : Party F T A) → TaskWakePath woken path → Goes path (At Lent) p q → is_spent q.seat.me.0 ≡ true
+  spent_by_row _ _ p q (paths.is_over w f) g = is_spent_after (row WakeOver w) (act EndCall) p q g
+  spent_by_row _ _ p q (is_scheduled w f) g = is_spent_after (row WakeScheduled w) (act EndCall) p q g
+  spent_by_row _ _ p q (is_running w f) g = is_spent_after (row WakeRunning w) (act EndCall) p q g
+  spent_by_row _ _ p q (is_idle w f) g = is_spent_after (row WakeIdle w) (act EndCall) p q g
 
   pub spent_by_wake : (p q : Party F T A) (made : Option (Party F T A)) → WakesTask p q made → is_spent q.seat.me.0 ≡ true
-  spent_by_wake p q None (makes_none path w g) = is_spent_after path p q g
-  spent_by_wake p q (Some d) (makes_one path x w g n) = is_spent_after path p q g
+  spent_by_wake p q None (makes_none path w g) = spent_by_row false path p q w g
+  spent_by_wake p q (Some d) (makes_one path x w g n) = spent_by_row true path p q w g
+
+  spent_by_count : (limit : ℕ) (gained : Bool) (path : List Deed) (p q : Party F T A) → GainPath limit gained path → Goes path (At Lent) p q → is_spent q.seat.me.0 ≡ true
+  spent_by_count limit _ _ p q (is_gained w room) g = is_spent_after (row GainReference w) (act EndCall) p q g
+  spent_by_count limit _ _ p q (finds_limit w room) g = is_spent_after (row FindLimit w) (act EndCall) p q g
 
   pub spent_by_gain : (limit : ℕ) (p q : Party F T A) (b : Bool) → GainsShare limit p q b → is_spent q.seat.me.0 ≡ true
-  spent_by_gain limit p q false (is_refused g) = is_spent_after (act RefuseGain ∷ act EndCall ∷ []) p q g
-  spent_by_gain limit p q _ (goes_on_to b path w g) = is_spent_after path p q g
+  spent_by_gain limit p q false (is_refused g) = is_spent_after (act RefuseGain) (act EndCall) p q g
+  spent_by_gain limit p q _ (goes_on_to b path w g) = spent_by_count limit b path p q w g
 
   -- what a wake by reference makes
   pub wake_gives : (limit : ℕ) (table : TableId) (p q : Party F T A) (made : Option (Party F T A)) → p.seat.table_id ≡ table → limit_of p ≡ limit → WakesTask p q made

@@ -4,6 +4,7 @@ use Rattle.task_laws.specs.declared.positions.Position.{Position}
 use Rattle.task_laws.specs.declared.positions.Position.TheVariants.{At}
 use Rattle.task_laws.specs.declared.positions.Rest.TheVariants.{Runnable, Ended, Lent}
 use Rattle.task_core.specs.declared.acts.Act.TheVariants.{HandOver}
+use Rattle.task_steps.specs.declared.table.Deed.{Deed}
 use Rattle.task_steps.specs.declared.table.Member.{Member}
 use Rattle.task_steps.specs.declared.table.Stage.{Stage}
 use Rattle.task_steps.specs.declared.table.Stage.TheVariants.{Laid}
@@ -21,11 +22,11 @@ handing_over v =
 abbrev pub runnable_of : View → View
 runnable_of v = view v.limit (fresh (At Runnable) ∷ [])
 
--- nobody needs the party any more: it has ended, or was lent, and holds nothing
-abbrev pub needs_nobody : Position → Bool
-needs_nobody (At Ended) = true
-needs_nobody (At Lent) = true
-needs_nobody _ = false
+-- nobody needs a party any more that stands there and did that: it has ended, or was lent for a call, and has made one
+abbrev pub needs_nobody : Position → List Deed → Bool
+needs_nobody (At Ended) deeds = true
+needs_nobody (At Lent) (newest ∷ older) = true
+needs_nobody at deeds = false
 
 -- nobody will step with the seat again: no task was spawned by it, or its first party may be let go
 abbrev pub is_spent : View → Bool
@@ -37,4 +38,4 @@ is_spent v = is_laid v.stage || none_left v.members
 
     none_left : List Member → Bool
     none_left [] = true
-    none_left (u ∷ us) = needs_nobody u.at
+    none_left (u ∷ us) = needs_nobody u.at u.deeds

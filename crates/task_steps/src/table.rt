@@ -126,7 +126,7 @@ pub fn polled<W, F: Future<W>, A>(slot: &mut Slot<F, Kept<F>, A>, waker: &W) -> 
     }
 }
 
-/// Lets a seat go that nobody will step with again: it was laid only, or its first party has ended, or was lent and is given up.
+/// Lets a seat go that nobody will step with again: it was laid only, or its first party has ended, or was lent for a call and has made one.
 pub fn discard<F, T, A>(seat: Seat<Slot<F, T, A>, View>)
     requires { is_spent seat.me.0 ≡ true }
 {

@@ -39,11 +39,13 @@ impl<R: Wait + Drop, F: Yields, Q: Drop, M: Drop, A: Drop, B: Allocator> Cell<R,
         ensures cell { IfSome result (λ gained. arc_value gained.0.cell ≡ arc_value this.now) }
         ensures waker { IfSome result (λ gained. IsNew as_waker party.old gained.1) }
     {
-        let Ok(share) = Arc::try_clone(this) else {
-            this.refuse_gain(party);
-            return None;
+        let share = match Cell::try_share(this) {
+            Ok(share) => share,
+            Err(refused) => {
+                this.refuse_gain(party, refused);
+                return None;
+            }
         };
-        let share = Share::of(share);
         match this.gain(party, word) {
             Some(waker) => Some((share, waker)),
             None => {
@@ -72,12 +74,6 @@ impl<R: Wait + Drop, F: Yields, Q: Drop, M: Drop, A: Drop, B: Allocator> Cell<R,
         ensures deliverer { IfSome result (λ d. IsOf self.now d × (d.seat.me ≡ (view self.now.limit (fresh as_deliverer ∷ []), []))) }
     {
         let (word, mut party) = self.borrow();
-        if !word.is_open() {
-            // The flags of a task that is over never go out, and a wake of it changes nothing.
-            let Party { seat } = party;
-            discard(seat);
-            return None;
-        }
         let deliverer = self.wake_by_ref(&mut party, word);
         let Party { seat } = party;
         discard(seat);

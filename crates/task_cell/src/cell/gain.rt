@@ -7,6 +7,7 @@ ghost use Rattle.task_steps.specs.Deeds.{act};
 ghost use Rattle.task_steps.specs.Standing.{as_lent};
 ghost use Rattle.task_cell.specs.WakerPaths.{Gains};
 
+use super::share::RefusedShare;
 use super::{Cell, Party};
 use std::alloc::Allocator;
 use std::sync::Wait;
@@ -17,8 +18,8 @@ use task_steps::table::Kept;
 use task_steps::waker::{Gaining, Parting, RefusingGain};
 
 impl<R: Drop, F: Yields, Q: Drop, M: Drop, A: Drop, B: Allocator> Cell<R, F, Q, M, A, B> {
-    // Ends a gain whose memory was refused: it made no row. One load.
-    pub(crate) fn refuse_gain(&self, party: &mut Party<F, Kept<F>, A>)
+    // Ends a gain whose share was refused: it made no row. One load.
+    pub(crate) fn refuse_gain(&self, party: &mut Party<F, Kept<F>, A>, refused: RefusedShare)
         requires cell { IsOf self.now party.old }
         requires party { Stands as_lent party.old }
         ensures path { Goes (act RefuseGain ∷ act EndCall ∷ []) as_lent party.old party.new }
@@ -26,6 +27,7 @@ impl<R: Drop, F: Yields, Q: Drop, M: Drop, A: Drop, B: Allocator> Cell<R, F, Q, 
         self.table
             .shared
             .load::<Always<RefusingGain>>(&mut party.seat, 0);
+        refused.end();
     }
 }
 

@@ -3,7 +3,7 @@ ghost use Rattle.std.specs.Prelude.{◌≡◌, IfOk, IfErr};
 ghost use Rattle.std.specs.Arc.{arc_value};
 
 use super::Cell;
-use std::alloc::{Allocator, Global};
+use std::alloc::{AllocError, Allocator, Global};
 use std::sync::{Arc, Wait};
 use task_core::{Wake, Yields};
 
@@ -52,6 +52,30 @@ impl<R: Drop, F: Yields, Q: Drop, M: Drop, A: Drop, B: Allocator> Share<R, F, Q,
         match self.try_unwrap() {
             Ok(cell) => drop(cell),
             Err(share) => share.give_up(),
+        }
+    }
+}
+
+/// That a share was refused. It must be spent: it ends the gain that asked for the share.
+pub(crate) struct RefusedShare {
+    error: AllocError,
+}
+
+impl RefusedShare {
+    // Spends it.
+    pub(crate) fn end(self) {
+        let RefusedShare { error: _ } = self;
+    }
+}
+
+impl<R, F: Yields, Q, M, A, B: Allocator> Cell<R, F, Q, M, A, B> {
+    // One more share of the cell, or that it was refused.
+    pub(crate) fn try_share(this: &Arc<Self, B>) -> Result<Share<R, F, Q, M, A, B>, RefusedShare>
+        ensures { IfOk result (λ share. arc_value share.cell ≡ arc_value this.now) }
+    {
+        match Arc::try_clone(this) {
+            Ok(cell) => Ok(Share { cell }),
+            Err(error) => Err(RefusedShare { error }),
         }
     }
 }

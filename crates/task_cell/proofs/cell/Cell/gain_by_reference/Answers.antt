@@ -1,3 +1,4 @@
+use Rattle.task_cell.proofs.Vocabulary.{rules}
 use Rattle.task_cell.proofs.WakerMoves.{fresh_stands, spent_by_gain}
 use Rattle.task_cell.proofs.cell.Cell.gain_by_reference.Goals as goal
 
@@ -5,4 +6,4 @@ pub gain_with_share-gained-requires-clause-party : goal.gain_with_share-gained-r
 gain_with_share-gained-requires-clause-party g c = fresh_stands _ c.borrow-word.result.1 c.borrow-word.ensures.party
 
 pub discard-requires : goal.discard-requires
-discard-requires g c = spent_by_gain _ c.borrow-word.result.1 c.gain_with_share-gained.new.party _ c.gain_with_share-gained.ensures.path
+discard-requires g c = search (spent_by_gain, rules)

@@ -1,12 +1,9 @@
-use Rattle.task_cell.proofs.Vocabulary.{ap}
-use Rattle.task_cell.proofs.WakerMoves.{fresh_stands, spent_by_wake, is_spent_at, wake_gives}
+use Rattle.task_cell.proofs.Vocabulary.{rules, ap}
+use Rattle.task_cell.proofs.WakerMoves.{fresh_stands, spent_by_wake, wake_gives}
 use Rattle.task_cell.proofs.cell.Cell.wake_by_reference.Goals as goal
 
 pub discard-requires : goal.discard-requires
-discard-requires g c = is_spent_at _ c.borrow-word.result.1 c.borrow-word.ensures.party
-
-pub discard-requires-2 : goal.discard-requires-2
-discard-requires-2 g c = spent_by_wake c.borrow-word.result.1 c.wake_by_ref-deliverer.new.party c.wake_by_ref-deliverer.result c.wake_by_ref-deliverer.ensures.path
+discard-requires g c = search (spent_by_wake, rules)
 
 pub wake_by_ref-deliverer-requires-clause-party : goal.wake_by_ref-deliverer-requires-clause-party
 wake_by_ref-deliverer-requires-clause-party g c = fresh_stands _ c.borrow-word.result.1 c.borrow-word.ensures.party
