@@ -1,7 +1,8 @@
 //! The cell, a party of it, which must be spent, and the handles that the cell hands out.
-ghost use Rattle.std.specs.Prelude.{◌≡◌, ℕ, ◌<◌, [], ◌∷◌};
+ghost use Rattle.std.specs.Prelude.{◌≡◌, ℕ, ◌<◌, [], ◌∷◌, true};
 ghost use Rattle.std.specs.Arc.{arc_value};
 ghost use Rattle.task_steps.specs.Rule.{view, fresh};
+ghost use Rattle.task_steps.specs.Seats.{is_spent};
 ghost use Rattle.task_cell.specs.Calls.{limit_of, position, deeds, Stands};
 ghost use Rattle.task_steps.specs.Standing.{as_runnable, as_ended};
 
@@ -24,7 +25,7 @@ pub struct Cell<R, F: Yields, Q, M, A, B: Allocator = Global> {
     ghost sized: { (table.shared.table_id.words ≡ 1) × (table.shared.table_id.slots ≡ 3) },
 }
 
-/// One party of a task at one position. It must be spent: only calls of the cell move it, and only an ended one may be let go.
+/// One party of a task at one position. It must be spent: only calls of the cell move it, and it may be let go only once it has ended, or was lent for a call and has made it.
 pub struct Party<F, T, A> {
     pub(crate) seat: Seat<Slot<F, T, A>, View>,
 }
@@ -36,6 +37,23 @@ impl<F, T, A> Party<F, T, A> {
     {
         let Party { seat } = self;
         discard(seat);
+    }
+
+    // Lets the party of a call by reference go, which has made the call.
+    pub(crate) fn give_back(self)
+        requires { is_spent self.seat.me.0 ≡ true }
+    {
+        let Party { seat } = self;
+        discard(seat);
+    }
+
+    // The seat of a handle, which nobody steps with before the handle is taken apart.
+    pub(crate) fn into_resting(self) -> RestingSeat<F, T, A>
+        requires { self.seat.me.1 ≡ [] }
+        ensures { (result.seat.table_id ≡ self.seat.table_id) × (result.seat.view ≡ self.seat.me.0) }
+    {
+        let Party { seat } = self;
+        RestingSeat::new(seat)
     }
 }
 
@@ -64,10 +82,9 @@ impl<R: Wait + Drop, F: Yields, Q: Drop, M: Drop, A: Wake, B: Allocator> Runnabl
         requires party { party.seat.me ≡ (view (arc_value share.cell).limit (fresh as_runnable ∷ []), []) }
         ensures { result.share ≡ share }
     {
-        let Party { seat } = party;
         RunnableSeat {
             share,
-            resting: RestingSeat::new(seat),
+            resting: party.into_resting(),
         }
     }
 

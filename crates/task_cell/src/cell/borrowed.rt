@@ -12,7 +12,7 @@ use std::alloc::Allocator;
 use std::sync::{Arc, Wait};
 use task_core::Yields;
 use task_core::word::Word;
-use task_steps::table::{Kept, discard};
+use task_steps::table::Kept;
 use task_steps::waker::Borrowing;
 
 impl<R: Wait + Drop, F: Yields, Q: Drop, M: Drop, A: Drop, B: Allocator> Cell<R, F, Q, M, A, B> {
@@ -64,8 +64,7 @@ impl<R: Wait + Drop, F: Yields, Q: Drop, M: Drop, A: Drop, B: Allocator> Cell<R,
     {
         let (word, mut party) = this.borrow();
         let gained = Cell::gain_with_share(this, &mut party, word);
-        let Party { seat } = party;
-        discard(seat);
+        party.give_back();
         gained
     }
 
@@ -75,8 +74,7 @@ impl<R: Wait + Drop, F: Yields, Q: Drop, M: Drop, A: Drop, B: Allocator> Cell<R,
     {
         let (word, mut party) = self.borrow();
         let deliverer = self.wake_by_ref(&mut party, word);
-        let Party { seat } = party;
-        discard(seat);
+        party.give_back();
         deliverer
     }
 }

@@ -40,10 +40,9 @@ impl<R, F: Yields, Q, M, A, B: Allocator> WakerSeat<R, F, Q, M, A, B> {
         requires party { party.seat.me ≡ (view (arc_value share.cell).limit (fresh as_waker ∷ []), []) }
         ensures { result.share ≡ share }
     {
-        let Party { seat } = party;
         WakerSeat {
             share,
-            hold: Hold::Owned(RestingSeat::new(seat)),
+            hold: Hold::Owned(party.into_resting()),
         }
     }
 

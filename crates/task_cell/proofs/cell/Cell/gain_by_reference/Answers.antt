@@ -5,5 +5,5 @@ use Rattle.task_cell.proofs.cell.Cell.gain_by_reference.Goals as goal
 pub gain_with_share-gained-requires-clause-party : goal.gain_with_share-gained-requires-clause-party
 gain_with_share-gained-requires-clause-party g c = fresh_stands _ c.borrow-word.result.1 c.borrow-word.ensures.party
 
-pub discard-requires : goal.discard-requires
-discard-requires g c = search (spent_by_gain, rules)
+pub give_back-requires : goal.give_back-requires
+give_back-requires g c = search (spent_by_gain, rules)

@@ -2,8 +2,8 @@ use Rattle.task_cell.proofs.Vocabulary.{rules, ap}
 use Rattle.task_cell.proofs.WakerMoves.{fresh_stands, spent_by_wake, wake_gives}
 use Rattle.task_cell.proofs.cell.Cell.wake_by_reference.Goals as goal
 
-pub discard-requires : goal.discard-requires
-discard-requires g c = search (spent_by_wake, rules)
+pub give_back-requires : goal.give_back-requires
+give_back-requires g c = search (spent_by_wake, rules)
 
 pub wake_by_ref-deliverer-requires-clause-party : goal.wake_by_ref-deliverer-requires-clause-party
 wake_by_ref-deliverer-requires-clause-party g c = fresh_stands _ c.borrow-word.result.1 c.borrow-word.ensures.party
