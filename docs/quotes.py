@@ -1,62 +1,112 @@
 #!/usr/bin/env python3
-"""quotes.py --check compares the code blocks of README.md and docs/GUIDE.md with the files that they are quoted from, and looks for the tests that
-docs/API.md names. quotes.py FOLDER writes the files below FOLDER as a reader who types the blocks in would, to try them in another repository.
+"""quotes.py --check compares the code blocks of README.md and of four pages with the files that they are quoted from, and looks for what pages name:
+the tests of docs/API.md, and each name with an underscore on the pages of NAMING. quotes.py FOLDER writes the files below FOLDER as a reader who types
+the blocks of README.md and docs/GUIDE.md in would, to try them in another repository.
 
-A block between fences is quoted from the file that the last path in backticks before it names. All blocks of a file, in their order, with a blank line
-between two, are the whole file. Of crates.txt a block is some lines.
+A block between fences is quoted from the file that the last path in backticks before it names. In README.md and docs/GUIDE.md all blocks of a file, in
+their order, with a blank line between two, are the whole file. Elsewhere a block is lines of it that stand together, moved to the left. Of crates.txt a
+block is some lines. What is indented by four instead, as commands are, is no quotation.
 """
 import pathlib
 import re
 import sys
+import textwrap
 
 HERE = pathlib.Path(__file__).resolve().parent.parent
 PATH = re.compile(r"`(crates/[\w./]+|crates\.txt)`")
+FENCED = re.compile(r"^```\w*\n(.*?)^```\n", re.MULTILINE | re.DOTALL)
+WHOLE = ("README.md", "docs/GUIDE.md")
+EXCERPTS = ("docs/EXECUTORS.md", "docs/EXECUTOR_POOL.md", "docs/KIT_BRIDGE.md")
+# the pages that name hardly anything but what this repository has, and what they name of the kit
+NAMING = ("docs/RULES.md", "docs/PROOFS.md", "docs/MACHINE.md", "docs/API.md") + EXCERPTS
+OF_THE_KIT = {"from_event_fd", "from_raw_fd"}
+# a definition of Rust or of a spec, a clause of a contract, a variable; or a field, a parameter or a constructor
+DEFINED = re.compile(
+    r"\b(?:fn|struct|enum|trait|mod|const|static|type|let|mut|ghost|requires|ensures|abbrev pub|pub data|pub record)\s+(\w+)"
+    r"|^\s*(?:pub )?(\w+)\s*:", re.MULTILINE)
 
 
 def blocks_of(page):
-    """The blocks of a page by the file that they are quoted from."""
-    parts = re.split(r"^```\w*\n(.*?)^```\n", (HERE / page).read_text(encoding="utf-8"), flags=re.MULTILINE | re.DOTALL)
+    """The blocks of a page, in their order, by the file that they are quoted from."""
+    parts = FENCED.split((HERE / page).read_text(encoding="utf-8"))
     blocks, before = {}, []
     for text, block in zip(parts[::2], parts[1::2]):
         before += [path for path in PATH.findall(text) if (HERE / path).is_file()]
         if not before:
             sys.exit(f"{page}: no file is named before the block that begins with {block.splitlines()[0]}")
         blocks.setdefault(before[-1], []).append(block)
-    return {path: "\n".join(texts) for path, texts in blocks.items()}
+    return blocks
 
 
-def agrees(path, typed):
-    """Whether what is typed in is the file, or of crates.txt lines of it."""
+def agrees(page, path, blocks):
+    """Whether these blocks are the file, or where they need not be all of it stand in it."""
     text = (HERE / path).read_text(encoding="utf-8")
-    return set(typed.split("\n")) <= set(text.split("\n")) if path == "crates.txt" else typed == text
+    if path == "crates.txt":
+        return set("\n".join(blocks).split("\n")) <= set(text.split("\n"))
+    if page in WHOLE:
+        return "\n".join(blocks) == text
+    moved = [[textwrap.indent(block, " " * 4 * depth) for depth in range(10)] for block in blocks]
+    return all(any("\n" + block in "\n" + text for block in depths) for depths in moved)
+
+
+def sources(*patterns):
+    """The files of all crates that fit one of these patterns."""
+    return [path for pattern in patterns for path in (HERE / "crates").glob("*/" + pattern)]
+
+
+def code():
+    """The text of each file that defines anything."""
+    return [path.read_text(encoding="utf-8") for path in sources("src/**/*.rt", "specs/**/*.antt", "proofs/**/*.antt")]
 
 
 def lost_tests():
     """The names in the brackets at the end of a line of API.md that are no test."""
-    texts = [path.read_text(encoding="utf-8") for path in (HERE / "crates").glob("*/src/**/*.rt")]
-    tests = {name for text in texts for name in re.findall(r"#\[test\]\s+fn (\w+)", text)}
+    tests = {name for text in code() for name in re.findall(r"#\[test\]\s+fn (\w+)", text)}
     lines = (HERE / "docs/API.md").read_text(encoding="utf-8").splitlines()
     last = [line.rsplit(" (", 1)[1] for line in lines if line.startswith("- ") and line.endswith(")")]
     return [name for brackets in last for name in re.findall(r"`(\w+)`", brackets) if name not in tests]
 
 
+def lost_names():
+    """The names with an underscore in the text of a page that nothing in this repository has, each with its page. A path is not looked at."""
+    known = OF_THE_KIT | set(re.findall(r"\w+", (HERE / "crates.txt").read_text(encoding="utf-8")))
+    known |= {path.stem for path in sources("src/**/*.rt", "must-fail/*.edit")}
+    known |= {name for text in code() for pair in DEFINED.findall(text) for name in pair}
+    for page in NAMING:
+        text = FENCED.sub("", (HERE / page).read_text(encoding="utf-8"))
+        spans = [span for span in re.findall(r"`([^`\n]+)`", text) if "/" not in span]
+        names = {name for span in spans for name in re.findall(r"\b[a-z]\w*_\w+", span)}
+        yield from ((page, name) for name in sorted(names - known))
+
+
+def check():
+    """Prints what is not as the code has it, and answers whether anything was."""
+    wrong = [f"docs/API.md: no test has the name {name}" for name in lost_tests()]
+    wrong += [f"{page}: nothing has the name {name}" for page, name in lost_names()]
+    for page in WHOLE + EXCERPTS:
+        for path, blocks in blocks_of(page).items():
+            if not agrees(page, path, blocks):
+                wrong.append(f"{page}: the blocks of {path} are not its text")
+    print("".join(line + "\n" for line in wrong), end="")
+    return bool(wrong)
+
+
+def write(folder):
+    """Writes the files as they are typed in."""
+    for page in WHOLE:
+        for path, blocks in blocks_of(page).items():
+            target = pathlib.Path(folder) / path
+            target.parent.mkdir(parents=True, exist_ok=True)
+            with open(target, "a" if path == "crates.txt" else "w", encoding="utf-8") as file:
+                file.write("\n".join(blocks))
+
+
 def main():
     if len(sys.argv) != 2 or sys.argv[1] in ("-h", "--help"):
         sys.exit(__doc__)
-    different = bool(lost_tests())
-    for name in lost_tests():
-        print(f"docs/API.md: no test has the name {name}")
-    for page in ("README.md", "docs/GUIDE.md"):
-        for path, typed in blocks_of(page).items():
-            if sys.argv[1] != "--check":
-                target = pathlib.Path(sys.argv[1]) / path
-                target.parent.mkdir(parents=True, exist_ok=True)
-                with open(target, "a" if path == "crates.txt" else "w", encoding="utf-8") as file:
-                    file.write(typed)
-            elif not agrees(path, typed):
-                different = True
-                print(f"{page}: the blocks of {path} are not its text")
-    sys.exit(1 if different else 0)
+    if sys.argv[1] == "--check":
+        sys.exit(1 if check() else 0)
+    write(sys.argv[1])
 
 
 if __name__ == "__main__":
