@@ -13,7 +13,7 @@ use std::sync::Wait;
 pub enum BlockOnError {
     /// The task is closed: no output will come.
     Closed,
-    /// Memory was refused. The Task is as it was but for its polls, and may be waited for again.
+    /// Memory for the mailbox, or a clone of the awaiter, was refused. The Task is as it was but for its polls, and may be waited for again.
     Refused,
 }
 

@@ -35,7 +35,7 @@ impl<R: Wait + Drop, F: Yields, Q: Drop, M: Drop, A: Wake, X: Copy, B: Allocator
         self.around
     }
 
-    /// A waker of the task, which holds a reference. `None` where the count of references is at the limit, or where memory was refused; nothing has changed then.
+    /// A waker of the task, which holds a reference. `None` where the count of references is at the limit, or where a share of the cell was refused; nothing has changed then.
     pub fn waker(&self) -> Option<TaskWaker<R, F, Q, M, A, X, B>>
     where
         Q: Schedule<Runnable<R, F, Q, M, A, X, B>>,

@@ -33,7 +33,7 @@ where
         }
     }
 
-    /// One more waker of the same task, which holds a reference. `None` where the count of references is at the limit, or where memory was refused; nothing has changed then.
+    /// One more waker of the same task, which holds a reference. `None` where the count of references is at the limit, or where a share of the cell was refused; nothing has changed then.
     pub fn try_clone(&self) -> Option<Self>
         ensures cell { IfSome result (λ waker. arc_value waker.inner.share.cell ≡ arc_value self.now.inner.share.cell) }
         ensures around { IfSome result (λ waker. waker.around ≡ self.now.around) }
