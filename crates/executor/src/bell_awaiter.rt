@@ -5,6 +5,7 @@ ghost use Rattle.std.specs.Arc.{arc_value};
 use crate::mail::Mail;
 use crate::pool::Pool;
 use async_task::{Wake, Yields};
+use std::alloc::Allocator;
 use std::sync::{Arc, Wait};
 use work_queues::Bells;
 
@@ -29,7 +30,10 @@ impl<R: Wait + Drop + Copy> BellAwaiter<R> {
     /// An awaiter that wakes the worker of this number. Where there is no such worker, its wake does nothing.
     ///
     /// It asks for no memory. `None` says that the bells or the mail of the pool have as many owners as can be counted.
-    pub fn new<F: Yields, A: Wake>(pool: &Pool<R, F, A>, worker: usize) -> Option<BellAwaiter<R>>
+    pub fn new<F: Yields, A: Wake, B: Allocator + Copy>(
+        pool: &Pool<R, F, A, B>,
+        worker: usize,
+    ) -> Option<BellAwaiter<R>>
         ensures bells { IfSome result (λ awaiter. arc_value awaiter.bells ≡ arc_value pool.now.crew.bells) }
         ensures mail { IfSome result (λ awaiter. arc_value awaiter.mail ≡ arc_value pool.now.mail) }
         ensures wakes { IfSome result (λ awaiter. awaiter.wakes ≡ Wakes.Worker worker) }
@@ -41,8 +45,8 @@ impl<R: Wait + Drop + Copy> BellAwaiter<R> {
     /// no waker is kept there at that time, nothing is woken: keep the waker first, and poll the awaited Task then, as `await_kept` does.
     ///
     /// It asks for no memory, and `None` is as that of `new`.
-    pub fn of_kept<F: Yields, A: Wake>(
-        pool: &Pool<R, F, A>,
+    pub fn of_kept<F: Yields, A: Wake, B: Allocator + Copy>(
+        pool: &Pool<R, F, A, B>,
         number: usize,
     ) -> Option<BellAwaiter<R>>
         ensures bells { IfSome result (λ awaiter. arc_value awaiter.bells ≡ arc_value pool.now.crew.bells) }

@@ -8,6 +8,7 @@ use async_task::{
     Runnable, Schedule, ScheduleInfo, Task, TaskClosed, TaskPoll, TaskWaker, Wake, Yields,
 };
 use handle_store::Key;
+use std::alloc::Allocator;
 use std::sync::Wait;
 
 /// A waker as the pool keeps it.
@@ -27,8 +28,8 @@ impl<R: Wait + Drop + Copy, F: Yields, A: Wake> Schedule<Runnable<R, F, ToPool, 
 }
 
 /// Takes a place for a waker, and room for its number in the mail of the pool. `None` where there was no memory for them.
-pub fn place_for_waker<R: Wait + Drop + Copy, F: Yields, A: Wake>(
-    pool: &Pool<R, F, A>,
+pub fn place_for_waker<R: Wait + Drop + Copy, F: Yields, A: Wake, B: Allocator + Copy>(
+    pool: &Pool<R, F, A, B>,
 ) -> Option<Key<R>> {
     let key = pool.wakers.reserve(pool.rt)?;
     pool.mail.make_room(key.number()).ok()?;
@@ -37,8 +38,8 @@ pub fn place_for_waker<R: Wait + Drop + Copy, F: Yields, A: Wake>(
 
 /// Keeps a clone of a waker at the place of a key, and drops what was there. False where the clone was refused, or the key is of another pool: every
 /// place is as it was then. After a shutdown the waker is woken at once, which cancels its task.
-pub fn keep_waker<'x, R: Wait + Drop + Copy, F: Yields, A: Wake>(
-    waker: &PoolWaker<'x, R, F, A>,
+pub fn keep_waker<'x, R: Wait + Drop + Copy, F: Yields, A: Wake, B: Allocator + Copy>(
+    waker: &PoolWaker<'x, R, F, A, B>,
     key: &Key<R>,
 ) -> bool {
     let place = waker.around();
@@ -64,8 +65,8 @@ pub fn keep_waker<'x, R: Wait + Drop + Copy, F: Yields, A: Wake>(
 }
 
 /// Wakes the task whose waker is kept under this number, on the queue of the worker of this place. False where no waker is there. The waker is gone after it.
-pub fn wake_kept<'x, R: Wait + Drop + Copy, F: Yields, A: Wake>(
-    place: Place<'x, R, F, A>,
+pub fn wake_kept<'x, R: Wait + Drop + Copy, F: Yields, A: Wake, B: Allocator + Copy>(
+    place: Place<'x, R, F, A, B>,
     number: usize,
 ) -> bool {
     match place.0.wakers.take(&place.0.rt, number) {
@@ -78,8 +79,8 @@ pub fn wake_kept<'x, R: Wait + Drop + Copy, F: Yields, A: Wake>(
 }
 
 /// Wakes the task whose number an awaiter posted first, as `wake_kept` does. False where none is posted. Each worker does it between its turns, and a loop around `Pool::tick` has to.
-pub fn wake_posted<'x, R: Wait + Drop + Copy, F: Yields, A: Wake>(
-    place: Place<'x, R, F, A>,
+pub fn wake_posted<'x, R: Wait + Drop + Copy, F: Yields, A: Wake, B: Allocator + Copy>(
+    place: Place<'x, R, F, A, B>,
 ) -> bool {
     match place.0.mail.take() {
         Some(number) => {
@@ -91,8 +92,8 @@ pub fn wake_posted<'x, R: Wait + Drop + Copy, F: Yields, A: Wake>(
 }
 
 /// Takes a place for a Task. `None` where there was no memory for it.
-pub fn place_for_task<R: Wait + Drop + Copy, F: Yields, A: Wake>(
-    pool: &Pool<R, F, A>,
+pub fn place_for_task<R: Wait + Drop + Copy, F: Yields, A: Wake, B: Allocator + Copy>(
+    pool: &Pool<R, F, A, B>,
 ) -> Option<Key<R>> {
     pool.tasks.reserve(pool.rt)
 }
@@ -100,10 +101,10 @@ pub fn place_for_task<R: Wait + Drop + Copy, F: Yields, A: Wake>(
 /// Keeps a Task at the place of a key, and drops what was there, which cancels that task. After a shutdown the Task is dropped at once, too.
 ///
 /// `Err` has the Task back, where the key is of another pool: every place is as it was then.
-pub fn keep_task<'x, R: Wait + Drop + Copy, F: Yields, A: Wake>(
-    task: PoolTask<'x, R, F, A>,
+pub fn keep_task<'x, R: Wait + Drop + Copy, F: Yields, A: Wake, B: Allocator + Copy>(
+    task: PoolTask<'x, R, F, A, B>,
     key: &Key<R>,
-) -> Result<(), PoolTask<'x, R, F, A>>
+) -> Result<(), PoolTask<'x, R, F, A, B>>
     ensures refused { IfErr result (λ back. (back.inner ≡ task.entry.inner) × (back.around ≡ task.entry.around)) }
 {
     let place = task.around();
@@ -124,8 +125,8 @@ pub fn keep_task<'x, R: Wait + Drop + Copy, F: Yields, A: Wake>(
 
 /// Polls the Task at the place of a key, with this awaiter. `None` where there is no Task, as while another thread polls it, or the key is of another
 /// pool. A Task that answers `Ready` is gone after it, and any other is there still. The output meets what the type of the future states.
-pub fn poll_kept<'x, R: Wait + Drop + Copy, F: Yields, A: Wake>(
-    place: Place<'x, R, F, A>,
+pub fn poll_kept<'x, R: Wait + Drop + Copy, F: Yields, A: Wake, B: Allocator + Copy>(
+    place: Place<'x, R, F, A, B>,
     key: &Key<R>,
     awaiter: &A,
 ) -> Option<TaskPoll<Result<F::Output, TaskClosed>>>
@@ -144,8 +145,8 @@ pub fn poll_kept<'x, R: Wait + Drop + Copy, F: Yields, A: Wake>(
 /// first, and then polls as `poll_kept` does. So no wake is missed where the task that waits is pending after it.
 ///
 /// `Refused` also says that the waker was not kept, as where `own` is of another pool.
-pub fn await_kept<'x, R: Wait + Drop + Copy, F: Yields>(
-    waker: &PoolWaker<'x, R, F, BellAwaiter<R>>,
+pub fn await_kept<'x, R: Wait + Drop + Copy, F: Yields, B: Allocator + Copy>(
+    waker: &PoolWaker<'x, R, F, BellAwaiter<R>, B>,
     own: &Key<R>,
     awaited: &Key<R>,
 ) -> Option<TaskPoll<Result<F::Output, TaskClosed>>>
@@ -162,12 +163,16 @@ pub fn await_kept<'x, R: Wait + Drop + Copy, F: Yields>(
 }
 
 /// Drops what is left at the places of keys that were dropped: wakers, and Tasks, whose tasks are cancelled. Each worker does it between its turns.
-pub fn collect<'x, R: Wait + Drop + Copy, F: Yields, A: Wake>(place: Place<'x, R, F, A>) {
+pub fn collect<'x, R: Wait + Drop + Copy, F: Yields, A: Wake, B: Allocator + Copy>(
+    place: Place<'x, R, F, A, B>,
+) {
     collect_wakers(place);
     collect_tasks(place);
 }
 
-fn collect_wakers<'x, R: Wait + Drop + Copy, F: Yields, A: Wake>(place: Place<'x, R, F, A>) {
+fn collect_wakers<'x, R: Wait + Drop + Copy, F: Yields, A: Wake, B: Allocator + Copy>(
+    place: Place<'x, R, F, A, B>,
+) {
     let pool = place.0;
     for _ in pool.rt.forever() {
         match pool.wakers.collect(&pool.rt) {
@@ -178,7 +183,9 @@ fn collect_wakers<'x, R: Wait + Drop + Copy, F: Yields, A: Wake>(place: Place<'x
     }
 }
 
-fn collect_tasks<'x, R: Wait + Drop + Copy, F: Yields, A: Wake>(place: Place<'x, R, F, A>) {
+fn collect_tasks<'x, R: Wait + Drop + Copy, F: Yields, A: Wake, B: Allocator + Copy>(
+    place: Place<'x, R, F, A, B>,
+) {
     let pool = place.0;
     for _ in pool.rt.forever() {
         match pool.tasks.collect(&pool.rt) {
@@ -190,8 +197,8 @@ fn collect_tasks<'x, R: Wait + Drop + Copy, F: Yields, A: Wake>(place: Place<'x,
 }
 
 // Drops the Task at a place, which cancels its task.
-fn drop_kept<'x, R: Wait + Drop + Copy, F: Yields, A: Wake>(
-    place: Place<'x, R, F, A>,
+fn drop_kept<'x, R: Wait + Drop + Copy, F: Yields, A: Wake, B: Allocator + Copy>(
+    place: Place<'x, R, F, A, B>,
     number: usize,
 ) {
     if let Some(task) = place.0.tasks.take(&place.0.rt, number) {
@@ -200,8 +207,8 @@ fn drop_kept<'x, R: Wait + Drop + Copy, F: Yields, A: Wake>(
 }
 
 // Cancels what is kept: after the shutdown a wake cancels its task.
-pub(crate) fn cancel_kept<'x, R: Wait + Drop + Copy, F: Yields, A: Wake>(
-    place: Place<'x, R, F, A>,
+pub(crate) fn cancel_kept<'x, R: Wait + Drop + Copy, F: Yields, A: Wake, B: Allocator + Copy>(
+    place: Place<'x, R, F, A, B>,
 ) {
     for number in 0..place.0.wakers.bound(&place.0.rt) {
         wake_kept(place, number);

@@ -5,7 +5,7 @@ use crate::kept::{KeptTask, KeptWaker, cancel_kept};
 use crate::mail::Mail;
 use async_task::{Future, Runnable, Schedule, ScheduleInfo, Task, TaskWaker, Wake, Yields, spawn};
 use handle_store::Store;
-use std::alloc::{AllocError, Global};
+use std::alloc::{AllocError, Allocator, Global};
 use std::collections::VecDeque;
 use std::sync::atomic::{AtomicBool, Ordering};
 use std::sync::{Arc, Wait};
@@ -15,26 +15,34 @@ use work_queues::{Bells, Crew, Worker};
 const ROOM: usize = 64;
 
 /// What the handles of a pool carry: the pool, and the number of the worker on which they were made or woken. It stands for a thread local. A thread that is no worker has the number of workers, or any above it.
-pub type Place<'x, R, F, A> = (&'x Pool<R, F, A>, usize);
+pub type Place<'x, R, F, A, B = Global> = (&'x Pool<R, F, A, B>, usize);
 
 /// A Runnable of a pool.
-pub type PoolRunnable<'x, R, F, A> = Runnable<R, F, ToPool, (), A, Place<'x, R, F, A>>;
+pub type PoolRunnable<'x, R, F, A, B = Global> = Runnable<
+    R,
+    F,
+    ToPool,
+    (),
+    A,
+    Place<'x, R, F, A, B>,
+>;
 
 /// The Task of a task of a pool.
-pub type PoolTask<'x, R, F, A> = Task<R, F, ToPool, (), A, Place<'x, R, F, A>>;
+pub type PoolTask<'x, R, F, A, B = Global> = Task<R, F, ToPool, (), A, Place<'x, R, F, A, B>>;
 
 /// The waker by which the future of a pool is polled.
-pub type PoolWaker<'x, R, F, A> = TaskWaker<R, F, ToPool, (), A, Place<'x, R, F, A>>;
+pub type PoolWaker<'x, R, F, A, B = Global> = TaskWaker<R, F, ToPool, (), A, Place<'x, R, F, A, B>>;
 
 // A Runnable as the queues hold it.
 type Queued<R, F, A> = Runnable<R, F, ToPool, (), A, ()>;
 
-/// The queues of a pool of workers. `F` is the one type of its futures, `A` that of the awaiters of their Tasks. With the pool the Runnables that are left are dropped, which cancels their tasks.
+/// The queues of a pool of workers. `F` is the one type of its futures, `A` that of the awaiters of their Tasks, and `B` is where its queues take their memory. With the pool the Runnables that are left are dropped, which cancels their tasks.
 #[derive(Drop)]
-pub struct Pool<R: Wait + Drop + Copy, F: Yields, A: Wake> {
+pub struct Pool<R: Wait + Drop + Copy, F: Yields, A: Wake, B: Allocator = Global> {
     pub(crate) rt: R,
     pub(crate) alloc: Global,
-    crew: Crew<Queued<R, F, A>>,
+    items: B,
+    crew: Crew<Queued<R, F, A>, B>,
     stopped: AtomicBool,
     pub(crate) wakers: Store<KeptWaker<R, F, A>>,
     pub(crate) tasks: Store<KeptTask<R, F, A>>,
@@ -43,19 +51,21 @@ pub struct Pool<R: Wait + Drop + Copy, F: Yields, A: Wake> {
 
 /// What one worker keeps for its turns.
 #[derive(Drop)]
-pub struct Turns<R: Wait + Drop + Copy, F: Yields, A: Wake> {
-    pub(crate) worker: Worker<Queued<R, F, A>>,
+pub struct Turns<R: Wait + Drop + Copy, F: Yields, A: Wake, B: Allocator = Global> {
+    pub(crate) worker: Worker<Queued<R, F, A>, B>,
 }
 
 /// The schedule value of a pool: a Runnable goes to the queue of the worker on which its task was woken, and else to that for what comes from outside.
 #[derive(Drop)]
 pub struct ToPool;
 
-impl<'x, R: Wait + Drop + Copy, F: Yields, A: Wake> Schedule<PoolRunnable<'x, R, F, A>> for ToPool {
+impl<'x, R: Wait + Drop + Copy, F: Yields, A: Wake, B: Allocator + Copy> Schedule<
+    PoolRunnable<'x, R, F, A, B>,
+> for ToPool {
     ghost scheduled = { λ _ _ _. ⊤ };
 
     // A Runnable that no queue has memory for, or that comes after the shutdown, is dropped: its task is cancelled.
-    fn schedule(&self, runnable: PoolRunnable<'x, R, F, A>, _info: ScheduleInfo) {
+    fn schedule(&self, runnable: PoolRunnable<'x, R, F, A, B>, _info: ScheduleInfo) {
         let (pool, worker) = runnable.around();
         if pool.is_shut_down() {
             drop(runnable);
@@ -72,10 +82,23 @@ impl<'x, R: Wait + Drop + Copy, F: Yields, A: Wake> Schedule<PoolRunnable<'x, R,
 impl<R: Wait + Drop + Copy, F: Yields, A: Wake> Pool<R, F, A> {
     /// A pool of so many workers, at least one and at most `work_queues::board::MOST_WORKERS`. Its workers do not run yet. `rt` is what its threads wait by, `alloc` where all memory comes from. An error says that there was no memory.
     pub fn new(rt: R, alloc: Global, workers: usize) -> Result<Pool<R, F, A>, AllocError> {
+        Pool::with_queues_in(rt, alloc, alloc, workers)
+    }
+}
+
+impl<R: Wait + Drop + Copy, F: Yields, A: Wake, B: Allocator + Copy> Pool<R, F, A, B> {
+    /// A pool as `new` makes it, whose queues take their memory from `items`, as do the workers for what they have in their hands. All else is of `alloc`.
+    pub fn with_queues_in(
+        rt: R,
+        alloc: Global,
+        items: B,
+        workers: usize,
+    ) -> Result<Pool<R, F, A, B>, AllocError> {
         Ok(Pool {
             rt,
             alloc,
-            crew: Crew::new(alloc, alloc, workers, ROOM)?,
+            items,
+            crew: Crew::new(alloc, items, workers, ROOM)?,
             stopped: AtomicBool::new(false),
             wakers: Store::new(alloc)?,
             tasks: Store::new(alloc)?,
@@ -90,7 +113,7 @@ impl<R: Wait + Drop + Copy, F: Yields, A: Wake> Pool<R, F, A> {
         self.rt
     }
 
-    /// Where its memory comes from.
+    /// Where its memory comes from, but for that of its queues.
     pub fn alloc(&self) -> Global
         ensures { result ≡ self.now.alloc }
     {
@@ -113,22 +136,22 @@ impl<R: Wait + Drop + Copy, F: Yields, A: Wake> Pool<R, F, A> {
     }
 
     /// What a thread needs to be the worker of this number. An error says that there was no memory, or that there is no such worker. Two threads may not be one worker: both would sleep where one is woken. Nor may a pool be given the turns of another one.
-    pub fn turns(&self, worker: usize) -> Result<Turns<R, F, A>, AllocError>
+    pub fn turns(&self, worker: usize) -> Result<Turns<R, F, A, B>, AllocError>
         ensures { IfOk result (λ turns. turns.worker.number ≡ worker) }
     {
-        let worker = self.crew.worker(self.alloc, worker)?;
+        let worker = self.crew.worker(self.items, worker)?;
         Ok(Turns { worker })
     }
 
     /// Spawns a task from a thread that is no worker, and schedules it. `Err` has the future back, where there was no memory for the task.
-    pub fn spawn(&self, future: F) -> Result<PoolTask<'_, R, F, A>, F>
+    pub fn spawn(&self, future: F) -> Result<PoolTask<'_, R, F, A, B>, F>
         ensures refused { IfErr result (λ back. back ≡ future) }
     {
         self.spawn_on(self.crew.workers(), future)
     }
 
     /// Spawns a task at the queue of a worker, as that which polls the spawning future: `waker.around().1`.
-    pub fn spawn_on(&self, worker: usize, future: F) -> Result<PoolTask<'_, R, F, A>, F>
+    pub fn spawn_on(&self, worker: usize, future: F) -> Result<PoolTask<'_, R, F, A, B>, F>
         ensures place { IfOk result (λ task. task.around.1 ≡ worker) }
         ensures refused { IfErr result (λ back. back ≡ future) }
     {
@@ -148,7 +171,7 @@ impl<R: Wait + Drop + Copy, F: Yields, A: Wake> Pool<R, F, A> {
         &'x self,
         worker: usize,
         futures: &mut VecDeque<F>,
-        tasks: &mut Vec<PoolTask<'x, R, F, A>>,
+        tasks: &mut Vec<PoolTask<'x, R, F, A, B>>,
     ) -> Result<(), AllocError>
         ensures all { OnOk result (futures.new.items ≡ []) }
         ensures left { futures.new.items ≡ drop (vec_len tasks.new - vec_len tasks.old) futures.old.items }
@@ -167,7 +190,7 @@ impl<R: Wait + Drop + Copy, F: Yields, A: Wake> Pool<R, F, A> {
         &'x self,
         worker: usize,
         futures: &mut VecDeque<F>,
-        tasks: &mut Vec<PoolTask<'x, R, F, A>>,
+        tasks: &mut Vec<PoolTask<'x, R, F, A, B>>,
     ) -> bool
         requires { vec_len tasks.old < vec_capacity tasks.old }
         ensures spawned { result ≡ true → (futures.new.items ≡ drop 1 futures.old.items) × (vec_len tasks.new ≡ vec_len tasks.old + 1) × (vec_capacity tasks.new ≡ vec_capacity tasks.old) }
@@ -202,9 +225,9 @@ impl<R: Wait + Drop + Copy, F: Yields, A: Wake> Pool<R, F, A> {
     }
 
     /// Runs one task, if there is one for this worker: its own, one that came from outside, or one of another worker. It answers whether there was one.
-    pub fn tick<'x>(&'x self, turns: &mut Turns<R, F, A>) -> bool
+    pub fn tick<'x>(&'x self, turns: &mut Turns<R, F, A, B>) -> bool
     where
-        F: Future<PoolWaker<'x, R, F, A>>,
+        F: Future<PoolWaker<'x, R, F, A, B>>,
     {
         match self.crew.find(&self.rt, &mut turns.worker) {
             Some(runnable) => {
@@ -216,7 +239,7 @@ impl<R: Wait + Drop + Copy, F: Yields, A: Wake> Pool<R, F, A> {
     }
 
     /// Sleeps, if there is nothing for this worker to do and the bells counted no interruption since `interruptions`. It may also return for no reason. It is for loops of a user's own around `tick`: one asks for the interruptions, then calls `collect`, `wake_posted` and `tick`, and rests where neither of the last two found anything.
-    pub fn rest(&self, turns: &Turns<R, F, A>, interruptions: u64) {
+    pub fn rest(&self, turns: &Turns<R, F, A, B>, interruptions: u64) {
         self.crew.rest(&self.rt, &turns.worker, interruptions);
     }
 

@@ -9,7 +9,7 @@ use crate::bell_awaiter::BellAwaiter;
 use crate::kept::{collect, wake_posted};
 use crate::pool::{Pool, PoolTask, PoolWaker, Turns};
 use async_task::{Future, TaskPoll, Wake, Yields};
-use std::alloc::AllocError;
+use std::alloc::{AllocError, Allocator};
 use std::sync::Wait;
 
 /// Why `Pool::block_on` has no output.
@@ -23,12 +23,12 @@ pub enum BlockOnError {
     ShutDown,
 }
 
-impl<R: Wait + Drop + Copy, F: Yields, A: Wake> Pool<R, F, A> {
+impl<R: Wait + Drop + Copy, F: Yields, A: Wake, B: Allocator + Copy> Pool<R, F, A, B> {
     // Frees what keys left, wakes one task whose number was posted, and runs one task. Where there is neither it sleeps, if the bells counted no
     // interruption since `interruptions`: each post is followed by one.
-    fn turn<'x>(&'x self, turns: &mut Turns<R, F, A>, interruptions: u64)
+    fn turn<'x>(&'x self, turns: &mut Turns<R, F, A, B>, interruptions: u64)
     where
-        F: Future<PoolWaker<'x, R, F, A>>,
+        F: Future<PoolWaker<'x, R, F, A, B>>,
     {
         let place = (self, turns.worker.number());
         collect(place);
@@ -39,9 +39,9 @@ impl<R: Wait + Drop + Copy, F: Yields, A: Wake> Pool<R, F, A> {
     }
 
     /// Is a worker until the pool is shut down, and sleeps where there is nothing to do. After it no Runnable is left that this worker can find.
-    pub fn work<'x>(&'x self, turns: &mut Turns<R, F, A>)
+    pub fn work<'x>(&'x self, turns: &mut Turns<R, F, A, B>)
     where
-        F: Future<PoolWaker<'x, R, F, A>>,
+        F: Future<PoolWaker<'x, R, F, A, B>>,
     {
         for _ in self.rt.forever() {
             let interruptions = self.bells().interruptions();
@@ -57,7 +57,7 @@ impl<R: Wait + Drop + Copy, F: Yields, A: Wake> Pool<R, F, A> {
     /// Is the worker of this number until the pool is shut down, as `work` is. An error says that there was no memory to begin, or that there is no such worker.
     pub fn run<'x>(&'x self, worker: usize) -> Result<(), AllocError>
     where
-        F: Future<PoolWaker<'x, R, F, A>>,
+        F: Future<PoolWaker<'x, R, F, A, B>>,
     {
         let mut turns = self.turns(worker)?;
         self.work(&mut turns);
@@ -65,7 +65,7 @@ impl<R: Wait + Drop + Copy, F: Yields, A: Wake> Pool<R, F, A> {
     }
 
     /// What each of the workers needs, in the order of their numbers, for a run of all of them with `work`. An error says that there was no memory.
-    pub fn all_turns(&self) -> Result<Vec<Turns<R, F, A>>, AllocError>
+    pub fn all_turns(&self) -> Result<Vec<Turns<R, F, A, B>>, AllocError>
         ensures each { IfOk result (λ all. (i : ℕ) (turns : _) → get_elem? all.items i ≡ some turns → turns.worker.number ≡ i) }
     {
         let mut all = Vec::new(self.alloc);
@@ -76,17 +76,17 @@ impl<R: Wait + Drop + Copy, F: Yields, A: Wake> Pool<R, F, A> {
     }
 }
 
-impl<R: Wait + Drop + Copy, F: Yields> Pool<R, F, BellAwaiter<R>> {
+impl<R: Wait + Drop + Copy, F: Yields, B: Allocator + Copy> Pool<R, F, BellAwaiter<R>, B> {
     /// Is a worker until the task of this Task is over, and sleeps where there is nothing to do. Other workers may run meanwhile, or none.
     ///
     /// The output meets what the type of the future states.
     pub fn block_on<'x>(
         &'x self,
-        turns: &mut Turns<R, F, BellAwaiter<R>>,
-        task: &mut PoolTask<'x, R, F, BellAwaiter<R>>,
+        turns: &mut Turns<R, F, BellAwaiter<R>, B>,
+        task: &mut PoolTask<'x, R, F, BellAwaiter<R>, B>,
     ) -> Result<F::Output, BlockOnError>
     where
-        F: Future<PoolWaker<'x, R, F, BellAwaiter<R>>>,
+        F: Future<PoolWaker<'x, R, F, BellAwaiter<R>, B>>,
         ensures meets { IfOk result (λ output. ∥ F.Yields.meets output ∥₁) }
         ensures closed { result ≡ Err BlockOnError.Closed → saw_ended (deeds task.new.inner.party) ≡ true }
         ensures ended { saw_ended (deeds task.old.inner.party) ≡ true → IsErr result }

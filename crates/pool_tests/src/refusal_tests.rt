@@ -1,15 +1,22 @@
 //! Tests of queues that are refused memory: what the items stand in is of a small heap, which is filled. And which queue a worker looks at first.
-use crate::guest::{
-    Errand, GuestPool, GuestTask, Guests, is_closed, output_of, shares_and_polls, spawn_guest,
-};
+ghost use Rattle.std.specs.Prelude.{⊤};
+
+use crate::guest::{Guests, shares_and_polls};
+use async_task::{Future, Poll, TaskPoll, Yields};
+use awaiters::Nobody;
+use executor::{Pool, PoolTask, Turns};
 use linked_list_allocator::LocalHeap;
 use std::alloc::{AllocError, Global};
+use std::sync::atomic::Ordering;
 use std::sync::{Arc, Wait};
 use std::test::Fail;
 use work_queues::{Bells, Board, Crew, Worker};
 
 /// Room for two queues, and for what a worker has in its hands.
 const HEAP: usize = 4096;
+
+/// Room for the queues of a pool of one worker, and for what that has in its hands.
+const POOL_HEAP: usize = 32_768;
 
 /// How many items each queue has room for.
 const ROOM: usize = 2;
@@ -206,49 +213,108 @@ fn each_61st_look_is_first_for_what_came_from_outside(rt: HostRuntime) -> Result
     Ok(())
 }
 
-// Spawns the tasks from outside. Each answers at its first poll.
-fn spawn_tasks<'x, R: Wait + Drop + Copy>(
-    pool: &'x GuestPool<R>,
+/// A future that answers 1 at its first poll, whatever it is lent.
+#[derive(Drop)]
+struct Prompt {
+    guests: Arc<Guests>,
+}
+
+impl Yields for Prompt {
+    type Output = u64;
+}
+
+impl<W> Future<W> for Prompt {
+    ghost polled = { λ _ _ _ _. ⊤ };
+
+    fn poll(&mut self, _waker: &W) -> Poll<u64> {
+        self.guests.polls.fetch_add(1, Ordering::SeqCst);
+        Poll::Ready(1)
+    }
+}
+
+type HeapPool<'heap, R> = Pool<R, Prompt, Nobody, &'heap LocalHeap>;
+
+type HeapTask<'x, 'heap, R> = PoolTask<'x, R, Prompt, Nobody, &'heap LocalHeap>;
+
+// Spawns one task from outside.
+fn spawn_prompt<'x, 'heap, R: Wait + Drop + Copy>(
+    pool: &'x HeapPool<'heap, R>,
     guests: &Arc<Guests>,
-) -> Result<Vec<GuestTask<'x, R>>, AllocError> {
+) -> Result<HeapTask<'x, 'heap, R>, AllocError> {
+    let guests = Arc::try_clone(guests)?;
+    pool.spawn(Prompt { guests }).ok().ok_or(AllocError)
+}
+
+// Spawns all tasks from outside.
+fn spawn_prompts<'x, 'heap, R: Wait + Drop + Copy>(
+    pool: &'x HeapPool<'heap, R>,
+    guests: &Arc<Guests>,
+) -> Result<Vec<HeapTask<'x, 'heap, R>>, AllocError> {
     let mut tasks = Vec::with_capacity(pool.alloc(), TASKS)?;
     for _ in 0..TASKS {
-        let task = spawn_guest(pool, pool.workers(), Errand::GiveWay(0), guests)?;
-        tasks.push(task)?;
+        tasks.push(spawn_prompt(pool, guests)?)?;
     }
     Ok(tasks)
 }
 
-// How many of the tasks have answered, and how many are closed.
-fn count_ends<R: Wait + Drop + Copy>(tasks: &mut Vec<GuestTask<'_, R>>) -> (usize, usize) {
+// Runs tasks until none is left, at most one more than there are: how many ran.
+fn run_prompts<'heap, R: Wait + Drop + Copy>(
+    pool: &HeapPool<'heap, R>,
+    turns: &mut Turns<R, Prompt, Nobody, &'heap LocalHeap>,
+) -> usize {
+    let mut ran = 0usize;
+    for _ in 0..=TASKS {
+        if pool.tick(turns) {
+            ran = ran.saturating_add(1);
+        }
+    }
+    ran
+}
+
+// How many of the tasks have answered 1, and how many are closed.
+fn count_ends<R: Wait + Drop + Copy>(tasks: &mut Vec<HeapTask<'_, '_, R>>) -> (usize, usize) {
     let mut answered = 0usize;
     let mut closed = 0usize;
     for task in tasks.iter_mut() {
-        if output_of(task) == Some(1) {
-            answered = answered.saturating_add(1);
-        } else if is_closed(task) {
-            closed = closed.saturating_add(1);
+        match task.poll(&Nobody) {
+            TaskPoll::Ready(Ok(1)) => answered = answered.saturating_add(1),
+            TaskPoll::Ready(Err(_)) => closed = closed.saturating_add(1),
+            _ => {}
         }
     }
     (answered, closed)
 }
 
-// Under `rt try --test --fail-alloc N` the queue can be refused memory for the last task, which is then closed. Else all answer.
+// What a pool comes to whose queues are of a heap that is full, and then has room again: how many tasks ran, answered and were closed; and whether one
+// more ran and answered.
+fn fill_and_spawn<R: Wait + Drop + Copy>(
+    rt: R,
+    alloc: Global,
+    heap: &LocalHeap,
+    guests: &Arc<Guests>,
+) -> Result<(usize, (usize, usize), (bool, bool)), AllocError> {
+    let pool = HeapPool::with_queues_in(rt, alloc, heap, 1)?;
+    let mut turns = pool.turns(0)?;
+    let filling = fill(alloc, heap)?;
+    let mut tasks = spawn_prompts(&pool, guests)?;
+    let ran = run_prompts(&pool, &mut turns);
+    let ends = count_ends(&mut tasks);
+    drop(filling);
+    let mut later = spawn_prompt(&pool, guests)?;
+    let ran_later = pool.tick(&mut turns);
+    let answered_later = matches!(later.poll(&Nobody), TaskPoll::Ready(Ok(1)));
+    Ok((ran, ends, (ran_later, answered_later)))
+}
+
+// The queue has room for 64 Runnables. The 65th is dropped, which closes its task, and nothing else is lost.
 #[test]
 fn a_pool_goes_on_past_a_runnable_that_its_queue_drops(rt: HostRuntime) -> Result<(), Fail> {
-    let guests = Guests::new(rt.alloc(), TASKS as u64)?;
-    let pool = GuestPool::new(rt, rt.alloc(), 1)?;
-    let mut turns = pool.turns(0)?;
-    let mut tasks = spawn_tasks(&pool, &guests)?;
-    let mut ran = 0usize;
-    for _ in 0..TASKS {
-        if pool.tick(&mut turns) {
-            ran = ran.saturating_add(1);
-        }
-    }
-    let (answered, closed) = count_ends(&mut tasks);
-    drop(tasks);
-    let (left, _) = shares_and_polls(&guests);
-    assert!(rt; ran == answered && answered.saturating_add(closed) == TASKS && left == 1);
+    let heap = LocalHeap::new(rt.alloc(), POOL_HEAP)?;
+    let guests = Guests::new(rt.alloc(), 0)?;
+    let (ran, ends, later) = fill_and_spawn(rt, rt.alloc(), &heap, &guests)?;
+    let left = shares_and_polls(&guests);
+    assert_eq!(rt; (ran, ends, later), (64, (64, 1), (true, true)));
+    assert_eq!(rt; left, (1, 65));
+    assert_eq!(rt; heap.used(), 0);
     Ok(())
 }
