@@ -101,7 +101,7 @@ pub struct Start {
 pub struct Measured {
     /// How many tasks ended.
     pub ended: u64,
-    /// The time from before the first spawn to the end of the last task.
+    /// The time from before the first spawn until the threads had ended or, of a group, until all outputs were there.
     pub elapsed: Duration,
     /// By how much the memory of the program grew until all tasks were spawned. `None` where the system does not tell.
     pub grown: Option<u64>,

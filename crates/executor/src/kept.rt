@@ -4,10 +4,10 @@ ghost use Rattle.task_cell.specs.PollPaths.{IfOutput};
 
 use crate::bell_awaiter::BellAwaiter;
 use crate::pool::{Place, Pool, PoolTask, PoolWaker, ToPool};
+use crate::store::Key;
 use async_task::{
     Runnable, Schedule, ScheduleInfo, Task, TaskClosed, TaskPoll, TaskWaker, Wake, Yields,
 };
-use handle_store::Key;
 use std::alloc::Allocator;
 use std::sync::Wait;
 

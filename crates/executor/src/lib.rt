@@ -1,6 +1,6 @@
 //! A pool of threads that run the tasks of `async_task` and steal from one another.
-//! It stands on `async_task` and on `work_queues`, which has the queues and the sleep of the workers.
-//! A user calls `Pool`, `Turns` for loops of its own, and the functions of `kept`; a future reaches the pool by `waker.around()`.
+//! It stands on `async_task`, on `work_queues`, which has the queues and the sleep of the workers, and on the kit's `slab`.
+//! A user calls `Pool`, `Turns` for loops of its own, and the functions of `kept`; a future reaches the pool by `waker.around()`, and keeps `Key`s.
 //! Nothing is public only to carry a claim; the claims on queues and sleep are those of `work_queues`.
 //! The page is docs/EXECUTOR_POOL.md.
 #![tactic(auto)]
@@ -10,6 +10,7 @@ pub mod kept;
 mod mail;
 pub mod pool;
 pub mod running;
+pub mod store;
 
 pub use bell_awaiter::BellAwaiter;
 pub use kept::{
@@ -18,3 +19,4 @@ pub use kept::{
 };
 pub use pool::{Place, Pool, PoolRunnable, PoolTask, PoolWaker, ToPool, Turns};
 pub use running::BlockOnError;
+pub use store::{Key, Store};

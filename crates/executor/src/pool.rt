@@ -3,8 +3,8 @@ ghost use Rattle.std.specs.Prelude.{⊤, ◌≡◌, ◌-◌, ◌+◌, ◌<◌, [
 
 use crate::kept::{KeptTask, KeptWaker, cancel_kept};
 use crate::mail::Mail;
+use crate::store::Store;
 use async_task::{Future, Runnable, Schedule, ScheduleInfo, Task, TaskWaker, Wake, Yields, spawn};
-use handle_store::Store;
 use std::alloc::{AllocError, Allocator, Global};
 use std::collections::VecDeque;
 use std::sync::atomic::{AtomicBool, Ordering};

@@ -1,4 +1,4 @@
-//! The tests of tasks under schedule values and surroundings of other kinds: a queue by priority, a slot, a heap, threads.
+//! The tests of tasks under schedule values and surroundings of other kinds: a queue by priority, a slot, a heap, threads that race.
 //! It stands on `fixtures`, `priority_heap` and `benchmarks`. Nothing is public. The page is docs/ROWS.md.
 #![tactic(auto)]
 
@@ -8,6 +8,8 @@ mod calls;
 mod heap_tests;
 #[cfg(test)]
 mod priority_tests;
+#[cfg(test)]
+mod races;
 #[cfg(test)]
 mod refusal_tests;
 #[cfg(test)]

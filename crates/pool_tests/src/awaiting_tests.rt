@@ -3,10 +3,9 @@ ghost use Rattle.std.specs.Prelude.{⊤};
 
 use async_task::{Future, Poll, TaskPoll, Wake, Yields};
 use executor::{
-    BellAwaiter, BlockOnError, Pool, PoolTask, PoolWaker, await_kept, collect, keep_task,
+    BellAwaiter, BlockOnError, Key, Pool, PoolTask, PoolWaker, await_kept, collect, keep_task,
     keep_waker, place_for_task, place_for_waker, poll_kept, wake_posted,
 };
-use handle_store::Key;
 use std::alloc::{AllocError, Global};
 use std::sync::atomic::{AtomicU64, Ordering};
 use std::sync::{Arc, Wait};

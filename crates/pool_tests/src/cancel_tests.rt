@@ -3,8 +3,9 @@ ghost use Rattle.std.specs.Prelude.{⊤};
 
 use async_task::{Future, Poll, Yields};
 use awaiters::Nobody;
-use executor::{Pool, PoolWaker, collect, keep_task, keep_waker, place_for_task, place_for_waker};
-use handle_store::Key;
+use executor::{
+    Key, Pool, PoolWaker, collect, keep_task, keep_waker, place_for_task, place_for_waker,
+};
 use std::alloc::{AllocError, Global};
 use std::sync::atomic::{AtomicU64, Ordering};
 use std::sync::{Arc, Wait};

@@ -4,8 +4,7 @@ use crate::guest::{
 };
 use async_task::TaskPoll;
 use awaiters::Nobody;
-use executor::{keep_task, place_for_task, poll_kept, wake_kept};
-use handle_store::Key;
+use executor::{Key, keep_task, place_for_task, poll_kept, wake_kept};
 use std::alloc::AllocError;
 use std::sync::{Arc, Wait};
 use std::test::Fail;

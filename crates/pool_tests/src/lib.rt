@@ -5,13 +5,19 @@
 #[cfg(test)]
 mod awaiting_tests;
 #[cfg(test)]
+mod borrow_tests;
+#[cfg(test)]
 mod cancel_tests;
 #[cfg(test)]
 mod guest;
 #[cfg(test)]
 mod hostile_tests;
 #[cfg(test)]
+mod kind_tests;
+#[cfg(test)]
 mod refusal_tests;
+#[cfg(test)]
+mod store_tests;
 #[cfg(test)]
 mod storm_tests;
 #[cfg(test)]

@@ -3,8 +3,7 @@ ghost use Rattle.std.specs.Prelude.{⊤};
 
 use async_task::{Future, Poll, TaskPoll, Yields};
 use awaiters::Nobody;
-use executor::{Pool, PoolTask, PoolWaker, collect, keep_waker, place_for_waker, wake_kept};
-use handle_store::Key;
+use executor::{Key, Pool, PoolTask, PoolWaker, collect, keep_waker, place_for_waker, wake_kept};
 use std::alloc::{AllocError, Global};
 use std::collections::VecDeque;
 use std::sync::atomic::{AtomicU64, Ordering};

@@ -4,10 +4,9 @@ ghost use Rattle.std.specs.Prelude.{⊤};
 use async_task::{Future, Poll, TaskPoll, Yields};
 use awaiters::Nobody;
 use executor::{
-    Pool, PoolTask, PoolWaker, keep_task, keep_waker, place_for_task, place_for_waker, poll_kept,
-    wake_kept,
+    Key, Pool, PoolTask, PoolWaker, keep_task, keep_waker, place_for_task, place_for_waker,
+    poll_kept, wake_kept,
 };
-use handle_store::Key;
 use std::alloc::AllocError;
 use std::sync::atomic::{AtomicU64, Ordering};
 use std::sync::{Arc, Wait};

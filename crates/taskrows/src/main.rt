@@ -1,9 +1,18 @@
-//! The program that runs the worked rows. docs/ROWS.md says what it prints.
+//! The program that runs the worked rows: those that its arguments ask for, and what is printed of each.
+//! It stands on `worked_rows` and `local_task`.
+//! A user calls nothing of it, and nothing is public only to carry a claim.
+//! The page is docs/ROWS.md.
 #![tactic(auto)]
 
-use row_table::rows::rows;
+use crate::rows::rows;
 use std::process::ExitCode;
 use std::{env, io};
+
+mod local;
+mod rows;
+mod table;
+#[cfg(test)]
+mod tests;
 
 fn main(rt: HostRuntime) -> io::Result<ExitCode> {
     let mut args = Vec::new(rt.alloc());
@@ -15,6 +24,3 @@ fn main(rt: HostRuntime) -> io::Result<ExitCode> {
     let status = rows(rt, rt.alloc(), args.as_slice(), &mut out, &mut err);
     Ok(ExitCode::from(status))
 }
-
-#[cfg(test)]
-mod tests;

@@ -1,9 +1,9 @@
 //! Tests of the program.
 
+use crate::rows::{print_row, print_total, rows};
+use crate::table::Row;
 use fixtures::counters::Counts;
 use fixtures::fixture::Outcome;
-use row_table::rows::{print_row, print_total, rows};
-use row_table::table::Row;
 use std::alloc::AllocError;
 use std::io;
 use std::test::Fail;

@@ -1,11 +1,11 @@
 //! What the arguments ask for, and what is printed of them.
 
+use crate::arguments::{Request, answer, asked};
+use crate::names::{ACTS, name};
+use crate::row::Shown;
 use std::alloc::Global;
 use std::io;
 use std::test::Fail;
-use trace_table::arguments::{Request, answer, asked};
-use trace_table::names::{ACTS, name};
-use trace_table::row::Shown;
 
 // A writer that fails.
 #[derive(Drop)]

@@ -1,11 +1,11 @@
 //! What lines say, and what is expected where one cannot be read.
 
+use crate::line::{Expected, content, is_blank, read_limit, read_step};
+use crate::names::{ACTS, name};
+use crate::nearest::nearest;
 use std::test::Fail;
 use task_core::acts::Act;
 use task_replay::machine::Step;
-use trace_table::line::{Expected, content, is_blank, read_limit, read_step};
-use trace_table::names::{ACTS, name};
-use trace_table::nearest::nearest;
 
 #[test]
 fn each_act_is_read_by_its_name(rt: HostRuntime) -> Result<(), Fail> {

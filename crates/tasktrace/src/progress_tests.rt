@@ -1,5 +1,8 @@
 //! How far each party is in its call: how many steps it has left at most, and an act that it may make now.
 
+use crate::progress::{act_there, steps_left};
+use crate::row::Shown;
+use crate::trace::trace;
 use std::test::Fail;
 use task_core::acts::Act;
 use task_core::acts::Act::*;
@@ -11,9 +14,6 @@ use task_laws::positions::PollAnswer::*;
 use task_laws::positions::Position::*;
 use task_laws::positions::WithoutPoll::*;
 use task_laws::positions::{Position, Rest};
-use trace_table::progress::{act_there, steps_left};
-use trace_table::row::Shown;
-use trace_table::trace::trace;
 
 const HEAD: &str = "| Step | Act | Word | Flags | Count | Future | Output | Awaiter | Parties |
 |---|---|---|---|---|---|---|---|---|

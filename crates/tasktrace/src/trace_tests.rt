@@ -1,9 +1,9 @@
 //! Whole inputs, and what is printed of them.
 
+use crate::row::Shown;
+use crate::trace::trace;
 use std::io;
 use std::test::Fail;
-use trace_table::row::Shown;
-use trace_table::trace::trace;
 
 // A writer that takes so many bytes and then fails, and may fail to flush.
 #[derive(Drop)]

@@ -1,6 +1,6 @@
 //! The worked rows: short sequences of calls whose counters and answers are known.
 //! It stands on `fixtures` and `async_task`.
-//! A user calls nothing of it; `row_table` runs each row.
+//! A user calls nothing of it; `taskrows` runs each row.
 //! Nothing is public only to carry a claim.
 //! The page is docs/ROWS.md.
 #![tactic(auto)]

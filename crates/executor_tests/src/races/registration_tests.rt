@@ -1,0 +1,209 @@
+//! Races of a poll that registers its awaiter with a party that ends the task, and so takes out the awaiter of the poll before.
+
+use crate::races::awaiter::RaceAwaiter;
+use crate::races::handles;
+use crate::races::raced::{RaceOutput, RaceSurroundings, RaceTask};
+use crate::races::rounds::{LEAST_MET, Rounds, Tally};
+use async_task::{TaskClosed, TaskPoll};
+use std::alloc::{AllocError, Global};
+use std::process::Abort;
+use std::sync::Wait;
+use std::test::Fail;
+use std::thread;
+use std::thread::Threads;
+
+// How many rounds each race has. By hand there may be more.
+const ROUNDS: u64 = 30_000;
+
+// The awaiter of a round's second poll is cloned fewer turns than these after the future was dropped, in each round another number: so
+// the poll begins to register at another point beside the notifier.
+const TURNS: u64 = 16;
+
+// How the second thread ends the task.
+#[derive(Clone, Copy)]
+enum Ending {
+    // It runs the Runnable, and the future answers ready.
+    Run,
+    // It drops the Runnable, which cancels the task.
+    Discard,
+}
+
+impl Ending {
+    // Whether this is the answer of a poll of a task that ended so.
+    fn is_told_by(self, polled: &TaskPoll<Result<RaceOutput, TaskClosed>>) -> bool {
+        match self {
+            Ending::Run => matches!(polled, TaskPoll::Ready(Ok(_))),
+            Ending::Discard => matches!(polled, TaskPoll::Ready(Err(_))),
+        }
+    }
+
+    // Ends the task whose Runnable is queued.
+    fn end<R: Wait + Drop>(self, surroundings: &RaceSurroundings<R>) {
+        match self {
+            Ending::Run => {
+                surroundings.run_next();
+            }
+            Ending::Discard => {
+                surroundings.discard_next();
+            }
+        }
+    }
+}
+
+// What the second thread does.
+fn end_all<R: Wait + Drop>(
+    rt: &R,
+    rounds: &Rounds,
+    surroundings: &RaceSurroundings<R>,
+    ending: Ending,
+) {
+    for round in 0..ROUNDS {
+        rounds.open(rt, round);
+        rounds.start(round, 2);
+        ending.end(surroundings);
+        rounds.close(rt, round);
+    }
+}
+
+// One round: a second poll of the Task, beside the end. Whether it met the notifier where it began to register, which alone
+// wakes by reference; and whether it came to its end as it must: ready, or woken and then ready; each clone ended.
+fn poll_once<R: Wait + Abort + Drop + Copy>(
+    rt: &R,
+    alloc: Global,
+    rounds: &Rounds,
+    surroundings: &RaceSurroundings<R>,
+    ending: Ending,
+    round: u64,
+) -> (bool, bool) {
+    let first = handles::awaiter(rt, alloc);
+    let second = handles::late_awaiter(rt, surroundings, round, round % TURNS);
+    let (runnable, mut task) = handles::spawn(rt, surroundings, true);
+    let registered = handles::is_pending(&mut task, &first);
+    surroundings.queue(runnable);
+    rounds.open(rt, round);
+    rounds.start(round, 1);
+    let mut polled = handles::poll(&mut task, &second);
+    rounds.close(rt, round);
+    let is_woken = second.is_woken();
+    let met = second.reference_wakes() != 0;
+    let waits = matches!(polled, TaskPoll::Pending);
+    if waits {
+        polled = handles::poll(&mut task, &second);
+    }
+    let told = ending.is_told_by(&polled) && (is_woken || !waits);
+    drop(polled);
+    handles::drop_task(task);
+    let all_ended = first.clones() == first.ends() && second.clones() == second.ends();
+    let right = registered && told && all_ended && surroundings.ended(round.wrapping_add(1));
+    (met, right)
+}
+
+// All rounds of a race, by two threads.
+fn play<R: Wait + Threads + Abort + Drop + Copy + Send + Sync>(
+    rt: R,
+    alloc: Global,
+    rounds: &Rounds,
+    surroundings: &RaceSurroundings<R>,
+    tally: &Tally,
+    ending: Ending,
+) {
+    thread::scope(thread::scope_env(), &rt, |scope| {
+        let ends = scope.spawn(move || end_all(&rt, rounds, surroundings, ending));
+        if ends.is_err() {
+            return;
+        }
+        for round in 0..ROUNDS {
+            let (met, right) = poll_once(&rt, alloc, rounds, surroundings, ending, round);
+            tally.count(met, right);
+        }
+    });
+}
+
+// A race: how many rounds there were, how many did not come to their end as they must, how many outputs there were; and how many
+// met a notifier.
+fn race<R: Wait + Threads + Abort + Drop + Copy + Send + Sync>(
+    rt: R,
+    alloc: Global,
+    ending: Ending,
+) -> Result<([u64; 3], u64), AllocError> {
+    let surroundings = RaceSurroundings::new(rt, alloc)?;
+    let rounds = Rounds::new(2);
+    let tally = Tally::new();
+    play(rt, alloc, &rounds, &surroundings, &tally, ending);
+    let counts = [tally.rounds(), tally.faults(), surroundings.outputs()];
+    Ok((counts, tally.met()))
+}
+
+#[test]
+fn a_poll_registers_beside_a_run_that_completes(rt: HostRuntime) -> Result<(), Fail> {
+    let (counts, met) = race(rt, rt.alloc(), Ending::Run)?;
+    assert_eq!(rt; counts, [ROUNDS, 0, ROUNDS]);
+    assert!(rt; LEAST_MET <= met, "{met} polls met a notifier");
+    Ok(())
+}
+
+#[test]
+fn a_poll_registers_beside_a_drop_of_the_runnable(rt: HostRuntime) -> Result<(), Fail> {
+    let (counts, met) = race(rt, rt.alloc(), Ending::Discard)?;
+    assert_eq!(rt; counts, [ROUNDS, 0, 0]);
+    assert!(rt; LEAST_MET <= met, "{met} polls met a notifier");
+    Ok(())
+}
+
+// The second poll of a task, whose first awaiter is dropped by it while the second thread ends the task. Whether that thread came
+// while it was dropped, and the poll is ready as the task ended.
+fn poll_beside<'x, R: Wait + Threads + Drop + Copy + Send + Sync>(
+    rt: &R,
+    surroundings: &'x RaceSurroundings<R>,
+    mut task: RaceTask<'x, R>,
+    first: &RaceAwaiter,
+    second: &RaceAwaiter,
+    ending: Ending,
+) -> bool {
+    let rendezvous = first.rendezvous();
+    rendezvous.arm();
+    thread::scope(thread::scope_env(), rt, |scope| {
+        let ends = scope.spawn(move || {
+            let dropping = rendezvous.await_poll();
+            ending.end(surroundings);
+            rendezvous.release();
+            dropping
+        });
+        let Ok(ends) = ends else {
+            return false;
+        };
+        let polled = handles::poll(&mut task, second);
+        ends.join(rt) && ending.is_told_by(&polled)
+    })
+}
+
+// A poll that finds a notifier where its registration ends, whatever the schedule: while it drops the awaiter of the poll
+// before, the second thread ends the task. Whether the poll is ready, its own clone was woken, and the other was dropped.
+fn poll_meeting<R: Wait + Threads + Drop + Copy + Send + Sync>(
+    rt: R,
+    alloc: Global,
+    ending: Ending,
+) -> Result<bool, AllocError> {
+    let surroundings = RaceSurroundings::new(rt, alloc)?;
+    let first = RaceAwaiter::new(alloc)?;
+    let second = RaceAwaiter::new(alloc)?;
+    let (runnable, mut task) = surroundings.spawn(true)?;
+    let registered = handles::is_pending(&mut task, &first);
+    surroundings.queue(runnable);
+    let told = poll_beside(&rt, &surroundings, task, &first, &second, ending);
+    let counted = [
+        (first.clones(), first.wakes(), first.reference_wakes()),
+        (second.clones(), second.wakes(), second.reference_wakes()),
+    ];
+    let ends = (first.ends(), second.ends());
+    let right = registered && told && first.rendezvous().met() && surroundings.ended(1);
+    Ok(right && counted == [(1, 0, 0), (1, 1, 0)] && ends == (1, 1))
+}
+
+#[test]
+fn a_registration_ends_beside_a_notifier(rt: HostRuntime) -> Result<(), Fail> {
+    let run = poll_meeting(rt, rt.alloc(), Ending::Run)?;
+    let discard = poll_meeting(rt, rt.alloc(), Ending::Discard)?;
+    assert_eq!(rt; (run, discard), (true, true));
+    Ok(())
+}

@@ -1,0 +1,289 @@
+//! Races of each call that ends a Task, or awaits its output, with a run and a wake, on three threads.
+ghost use Rattle.std.specs.Prelude.{⊤};
+
+use crate::races::awaiter::RaceAwaiter;
+use crate::races::handles;
+use crate::races::raced::{RaceCancel, RaceOutput, RaceSurroundings, RaceTask};
+use crate::races::rounds::{Calls, LEAST_MET, Rounds, Tally};
+use async_task::{TaskClosed, TaskPoll};
+use fixtures::counters::Counter;
+use std::alloc::{AllocError, Global};
+use std::process::Abort;
+use std::sync::Wait;
+use std::test::Fail;
+use std::thread;
+use std::thread::{Threads, yield_now};
+
+// How many rounds each race has. By hand there may be more.
+const ROUNDS: u64 = 10_000;
+
+// How often a thread looks for what it waits for, at most.
+const TURNS: u32 = 10_000_000;
+
+// What the first thread does with the Task.
+#[derive(Clone, Copy)]
+enum Act {
+    Drop,
+    Detach,
+    // One poll.
+    Poll,
+    // A cancel, with one poll of it.
+    Cancel,
+    // Polls until there is an output, each after a wake.
+    Await,
+}
+
+// What was answered to the first thread, and the handle that it has left.
+#[derive(Drop)]
+enum Left<'x, R: Wait + Drop> {
+    Nothing,
+    Task(RaceTask<'x, R>, TaskPoll<Result<RaceOutput, TaskClosed>>),
+    Cancel(RaceCancel<'x, R>, TaskPoll<Option<RaceOutput>>),
+}
+
+impl Act {
+    // Does it.
+    fn perform<'x, R: Wait + Drop>(
+        self,
+        task: RaceTask<'x, R>,
+        awaiter: &RaceAwaiter,
+    ) -> Left<'x, R> {
+        let mut task = task;
+        match self {
+            Act::Drop => {
+                handles::drop_task(task);
+                Left::Nothing
+            }
+            Act::Detach => {
+                handles::detach(task);
+                Left::Nothing
+            }
+            Act::Poll => {
+                let polled = handles::poll(&mut task, awaiter);
+                Left::Task(task, polled)
+            }
+            Act::Cancel => {
+                let mut cancel = task.cancel();
+                let polled = handles::poll_cancel(&mut cancel, awaiter);
+                Left::Cancel(cancel, polled)
+            }
+            Act::Await => {
+                let mut polled = handles::poll(&mut task, awaiter);
+                if matches!(polled, TaskPoll::Pending) && await_wake(awaiter) {
+                    polled = handles::poll(&mut task, awaiter);
+                }
+                Left::Task(task, polled)
+            }
+        }
+    }
+
+    // Whether it ends with an output whatever the schedule.
+    fn gets_output(self) -> bool {
+        matches!(self, Act::Poll | Act::Await)
+    }
+}
+
+// Waits until the awaiter is woken. False where it never was.
+fn await_wake(awaiter: &RaceAwaiter) -> bool {
+    for _ in 0..TURNS {
+        if awaiter.is_woken() {
+            return true;
+        }
+        yield_now();
+    }
+    false
+}
+
+impl<'x, R: Wait + Drop> Left<'x, R> {
+    // Whether the first thread was answered as it must be, once all threads have acted: what was pending is ready now, and
+    // its awaiter was woken.
+    fn is_right(self, awaiter: &RaceAwaiter) -> bool {
+        match self {
+            Left::Nothing => true,
+            Left::Task(task, polled) => is_task_right(task, polled, awaiter),
+            Left::Cancel(cancel, polled) => is_cancel_right(cancel, polled, awaiter),
+        }
+    }
+}
+
+// Whether a Task was answered as it must be: with an output, now or at a poll after a wake.
+fn is_task_right<R: Wait + Drop>(
+    mut task: RaceTask<'_, R>,
+    polled: TaskPoll<Result<RaceOutput, TaskClosed>>,
+    awaiter: &RaceAwaiter,
+) -> bool {
+    let waits = matches!(polled, TaskPoll::Pending);
+    let ready = matches!(polled, TaskPoll::Ready(Ok(_)));
+    drop(polled);
+    let right = ready || waits && awaiter.is_woken() && handles::is_ready(&mut task, awaiter);
+    handles::drop_task(task);
+    right
+}
+
+// Whether a Cancel was answered as it must be: ready, or without an output at a poll after a wake.
+fn is_cancel_right<R: Wait + Drop>(
+    mut cancel: RaceCancel<'_, R>,
+    polled: TaskPoll<Option<RaceOutput>>,
+    awaiter: &RaceAwaiter,
+) -> bool {
+    let waits = matches!(polled, TaskPoll::Pending);
+    let ready = matches!(polled, TaskPoll::Ready(_));
+    drop(polled);
+    let right = ready
+        || waits && awaiter.is_woken() && handles::is_cancel_empty(&mut cancel, awaiter);
+    handles::drop_cancel(cancel);
+    right
+}
+
+// What the threads of a race share.
+#[derive(Drop)]
+struct Race<R: Wait + Drop> {
+    rt: R,
+    rounds: Rounds,
+    surroundings: RaceSurroundings<R>,
+    runs: Calls,
+    wakes: Calls,
+    acted: Counter,
+    tally: Tally,
+}
+
+impl<R: Wait + Drop + Copy> Race<R> {
+    fn new(rt: R, alloc: Global) -> Result<Race<R>, AllocError> {
+        Ok(Race {
+            rt,
+            rounds: Rounds::new(3),
+            surroundings: RaceSurroundings::new(rt, alloc)?,
+            runs: Calls::new(),
+            wakes: Calls::new(),
+            acted: Counter::new(),
+            tally: Tally::new(),
+        })
+    }
+
+    // What the second thread does: it runs whatever is queued, until the other two have acted and nothing is left.
+    fn run_all(&self) {
+        for round in 0..ROUNDS {
+            self.rounds.open(&self.rt, round);
+            self.rounds.start(round, 2);
+            self.run_queued(round.wrapping_add(1).wrapping_mul(2));
+            self.rounds.close(&self.rt, round);
+        }
+    }
+
+    // Runs what is queued, until so many acts were done and nothing is left.
+    fn run_queued(&self, acts: u64) {
+        for _ in 0..TURNS {
+            let is_over = self.acted.get() == acts;
+            if let Some(runnable) = self.surroundings.receive() {
+                self.runs.begin();
+                handles::run(runnable);
+                self.runs.end();
+            } else if is_over {
+                return;
+            } else {
+                yield_now();
+            }
+        }
+    }
+
+    // What the third thread does: what the future waits for happens, and the task is woken.
+    fn wake_all(&self) {
+        for round in 0..ROUNDS {
+            self.rounds.open(&self.rt, round);
+            let waker = self.surroundings.take_kept();
+            self.rounds.start(round, 3);
+            self.wakes.begin();
+            self.surroundings.happen();
+            handles::wake(waker);
+            self.wakes.end();
+            self.acted.add_one();
+            self.rounds.close(&self.rt, round);
+        }
+    }
+}
+
+impl<R: Wait + Abort + Drop + Copy> Race<R> {
+    // What the first thread does in one round. Whether its act overlapped a run or the wake is counted, and whether all ended as it must.
+    fn act_once(&self, alloc: Global, act: Act, round: u64) {
+        let awaiter = handles::awaiter(&self.rt, alloc);
+        let (runnable, task) = handles::spawn(&self.rt, &self.surroundings, false);
+        self.surroundings
+            .keep(handles::waker_of(&self.rt, &runnable));
+        self.surroundings.queue(runnable);
+        self.rounds.open(&self.rt, round);
+        self.rounds.start(round, 1);
+        let (runs_before, wakes_before) = (self.runs.ended(), self.wakes.ended());
+        let left = act.perform(task, &awaiter);
+        let met = self.runs.overlap(runs_before) || self.wakes.overlap(wakes_before);
+        self.acted.add_one();
+        self.rounds.close(&self.rt, round);
+        let answered = left.is_right(&awaiter);
+        let none_lost = awaiter.clones() == awaiter.ends();
+        let ended = self.surroundings.ended(round.wrapping_add(1));
+        self.tally.count(met, answered && none_lost && ended);
+    }
+}
+
+// All rounds of a race, by three threads.
+fn play<R: Wait + Threads + Abort + Drop + Copy + Send + Sync>(
+    race: &Race<R>,
+    alloc: Global,
+    act: Act,
+) {
+    let rt = race.rt;
+    thread::scope(thread::scope_env(), &rt, |scope| {
+        if scope.spawn(move || race.run_all()).is_err() {
+            return;
+        }
+        if scope.spawn(move || race.wake_all()).is_err() {
+            panic!(rt; "no third thread");
+        }
+        for round in 0..ROUNDS {
+            race.act_once(alloc, act, round);
+        }
+    });
+}
+
+// A race: each round must come to its end as it must, and some must meet what the race is for.
+fn race_act<R: Wait + Threads + Abort + Drop + Copy + Send + Sync>(
+    rt: R,
+    alloc: Global,
+    act: Act,
+) -> Result<(), Fail> {
+    let race = Race::new(rt, alloc)?;
+    play(&race, alloc, act);
+    let met = race.tally.met();
+    let outputs = race.surroundings.outputs();
+    assert_eq!(rt; (race.tally.rounds(), race.tally.faults()), (ROUNDS, 0));
+    assert!(rt;
+        outputs == ROUNDS || !act.gets_output(),
+        "{outputs} outputs"
+    );
+    assert!(rt; LEAST_MET <= met, "{met} acts overlapped a run or a wake");
+    Ok(())
+}
+
+#[test]
+fn a_drop_beside_a_run_and_a_wake(rt: HostRuntime) -> Result<(), Fail> {
+    race_act(rt, rt.alloc(), Act::Drop)
+}
+
+#[test]
+fn a_detach_beside_a_run_and_a_wake(rt: HostRuntime) -> Result<(), Fail> {
+    race_act(rt, rt.alloc(), Act::Detach)
+}
+
+#[test]
+fn a_poll_beside_a_run_and_a_wake(rt: HostRuntime) -> Result<(), Fail> {
+    race_act(rt, rt.alloc(), Act::Poll)
+}
+
+#[test]
+fn a_cancel_beside_a_run_and_a_wake(rt: HostRuntime) -> Result<(), Fail> {
+    race_act(rt, rt.alloc(), Act::Cancel)
+}
+
+#[test]
+fn an_await_beside_a_run_and_a_wake(rt: HostRuntime) -> Result<(), Fail> {
+    race_act(rt, rt.alloc(), Act::Await)
+}
