@@ -124,7 +124,7 @@ pub fn keep_task<'x, R: Wait + Drop + Copy, F: Yields, A: Wake, B: Allocator + C
 }
 
 /// Polls the Task at the place of a key, with this awaiter. `None` where there is no Task, as while another thread polls it, or the key is of another
-/// pool. A Task that answers `Ready` is gone after it, and any other is there still. The output meets what the type of the future states.
+/// pool. A Task that answers `Ready` is gone after it, and any other is there still, unless the pool was shut down. The output meets what the type of the future states.
 pub fn poll_kept<'x, R: Wait + Drop + Copy, F: Yields, A: Wake, B: Allocator + Copy>(
     place: Place<'x, R, F, A, B>,
     key: &Key<R>,
@@ -166,8 +166,8 @@ pub fn await_kept<'x, R: Wait + Drop + Copy, F: Yields, B: Allocator + Copy>(
 pub fn collect<'x, R: Wait + Drop + Copy, F: Yields, A: Wake, B: Allocator + Copy>(
     place: Place<'x, R, F, A, B>,
 ) {
-    collect_wakers(place);
     collect_tasks(place);
+    collect_wakers(place);
 }
 
 fn collect_wakers<'x, R: Wait + Drop + Copy, F: Yields, A: Wake, B: Allocator + Copy>(

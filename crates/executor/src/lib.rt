@@ -1,6 +1,6 @@
 //! A pool of threads that run the tasks of `async_task` and steal from one another.
-//! It stands on `async_task`, on `work_queues`, which has the queues and the sleep of the workers, and on the kit's `slab`.
-//! A user calls `Pool`, `Turns` for loops of its own, and the functions of `kept`; a future reaches the pool by `waker.around()`, and keeps `Key`s.
+//! It stands on `async_task`, on `work_queues`, which has the queues and the sleep of the workers, on `awaiters`, and on the kit's `slab`.
+//! A user calls `Pool`, `Turns` for loops of its own, and the functions of `kept`; a future reaches the pool by `waker.around()`, and keeps `Key`s. `Store` also serves other executors.
 //! Nothing is public only to carry a claim; the claims on queues and sleep are those of `work_queues`.
 //! The page is docs/EXECUTOR_POOL.md.
 #![tactic(auto)]

@@ -216,7 +216,9 @@ impl<R: Wait + Drop + Copy, F: Yields, A: Wake, B: Allocator + Copy> Pool<R, F, 
         self.stopped.store(true, Ordering::SeqCst);
         self.crew.bells().interrupt_all();
         cancel_kept((self, self.workers()));
-        self.cancel_queued();
+        for queue in 0..=self.workers() {
+            self.cancel_queue(queue);
+        }
     }
 
     /// Whether the pool was shut down.
@@ -238,8 +240,12 @@ impl<R: Wait + Drop + Copy, F: Yields, A: Wake, B: Allocator + Copy> Pool<R, F, 
         }
     }
 
-    /// Sleeps, if there is nothing for this worker to do and the bells counted no interruption since `interruptions`. It may also return for no reason. It is for loops of a user's own around `tick`: one asks for the interruptions, then calls `collect`, `wake_posted` and `tick`, and rests where neither of the last two found anything.
+    /// Sleeps, if there is nothing for this worker to do, the pool was not shut down, and the bells counted no interruption since `interruptions`. It may also return for no reason. It is for loops of a user's own around `tick`: one asks for the interruptions, then calls `collect`, `wake_posted` and `tick`, and rests where neither of the last two found anything.
     pub fn rest(&self, turns: &Turns<R, F, A, B>, interruptions: u64) {
+        // A caller who counted the interruptions after the shutdown would sleep for ever.
+        if self.is_shut_down() {
+            return;
+        }
         self.crew.rest(&self.rt, &turns.worker, interruptions);
     }
 
@@ -260,10 +266,14 @@ impl<R: Wait + Drop + Copy, F: Yields, A: Wake, B: Allocator + Copy> Pool<R, F, 
         }
     }
 
-    // .. and those of all queues. A worker does it once more as it ends, since it may have moved Runnables past the shutdown.
-    pub(crate) fn cancel_queued(&self) {
-        for queue in 0..=self.workers() {
-            self.cancel_queue(queue);
+    // Drops the Runnables that this worker has in its hands, and those that it finds. A worker does it as it ends, since it may have moved Runnables
+    // past the shutdown.
+    pub(crate) fn cancel_found(&self, turns: &mut Turns<R, F, A, B>) {
+        for _ in self.rt.forever() {
+            match self.crew.find(&self.rt, &mut turns.worker) {
+                Some(runnable) => drop(runnable),
+                None => return,
+            }
         }
     }
 }

@@ -50,8 +50,8 @@ impl<R: Wait + Drop + Copy, F: Yields, A: Wake, B: Allocator + Copy> Pool<R, F, 
             }
             self.turn(turns, interruptions);
         }
+        self.cancel_found(turns);
         collect((self, turns.worker.number()));
-        self.cancel_queued();
     }
 
     /// Is the worker of this number until the pool is shut down, as `work` is. An error says that there was no memory to begin, or that there is no such worker.
@@ -101,6 +101,9 @@ impl<R: Wait + Drop + Copy, F: Yields, B: Allocator + Copy> Pool<R, F, BellAwait
             if !matches!(answer, TaskPoll::Pending) {
                 // What woke this worker may have been meant for a task that another one has to run now.
                 self.bells().interrupt();
+                if self.is_shut_down() {
+                    self.cancel_found(turns);
+                }
             }
             match answer {
                 TaskPoll::Ready(Ok(output)) => return Ok(output),
@@ -109,6 +112,7 @@ impl<R: Wait + Drop + Copy, F: Yields, B: Allocator + Copy> Pool<R, F, BellAwait
                 TaskPoll::Pending => {}
             }
             if self.is_shut_down() {
+                self.cancel_found(turns);
                 return Err(BlockOnError::ShutDown);
             }
             self.turn(turns, interruptions);

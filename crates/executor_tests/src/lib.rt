@@ -1,4 +1,4 @@
-//! The tests of tasks under schedule values and surroundings of other kinds: a queue by priority, a slot, a heap, threads that race.
+//! The tests of tasks under schedule values of other kinds (a queue by priority, a slot, a heap), of refused memory, and of threads that race.
 //! It stands on `fixtures`, `priority_heap` and `benchmarks`. Nothing is public. The page is docs/ROWS.md.
 #![tactic(auto)]
 

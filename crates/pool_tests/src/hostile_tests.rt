@@ -115,6 +115,18 @@ fn a_key_of_another_pool_keeps_no_task(rt: HostRuntime) -> Result<(), Fail> {
     Ok(())
 }
 
+// The interruptions are counted after the shutdown, so they do not keep it from a sleep.
+#[test]
+fn a_rest_after_the_shutdown_returns(rt: HostRuntime) -> Result<(), Fail> {
+    let pool = GuestPool::new(rt, rt.alloc(), 1)?;
+    let turns = pool.turns(0)?;
+    pool.shutdown();
+    let interruptions = pool.bells().interruptions();
+    pool.rest(&turns, interruptions);
+    assert!(rt; interruptions > 0 && pool.is_shut_down());
+    Ok(())
+}
+
 // Also a second shutdown, and no futures to spawn.
 #[test]
 fn a_pool_that_was_shut_down_cancels_what_comes(rt: HostRuntime) -> Result<(), Fail> {

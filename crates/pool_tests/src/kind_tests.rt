@@ -94,12 +94,12 @@ impl<'x, R: Wait + Drop + Copy, A: Wake> Future<PoolWaker<'x, R, Kind, A>> for K
 }
 
 // A future that gives way so often.
-fn polls(left: u64) -> Kind {
+fn polled_future(left: u64) -> Kind {
     Kind::Polls(Polls { left, polled: 0 })
 }
 
 // A future that looks for a byte.
-fn finds(text: &'static str, byte: u8) -> Kind {
+fn finding_future(text: &'static str, byte: u8) -> Kind {
     Kind::Finds(Finds {
         text,
         byte,
@@ -121,9 +121,9 @@ fn spawned<'x, R: Wait + Drop + Copy>(
 #[test]
 fn one_worker_runs_futures_of_two_types(rt: HostRuntime) -> Result<(), Fail> {
     let pool = KindPool::new(rt, rt.alloc(), 1)?;
-    let mut first = spawned(&pool, polls(3))?;
-    let mut second = spawned(&pool, finds("async-task", b'-'))?;
-    let mut third = spawned(&pool, finds("async-task", b'_'))?;
+    let mut first = spawned(&pool, polled_future(3))?;
+    let mut second = spawned(&pool, finding_future("async-task", b'-'))?;
+    let mut third = spawned(&pool, finding_future("async-task", b'_'))?;
     let mut turns = pool.turns(0)?;
     let first = pool.block_on(&mut turns, &mut first);
     let second = pool.block_on(&mut turns, &mut second);
@@ -136,8 +136,8 @@ fn one_worker_runs_futures_of_two_types(rt: HostRuntime) -> Result<(), Fail> {
 #[test]
 fn two_workers_run_futures_of_two_types(rt: HostRuntime) -> Result<(), Fail> {
     let pool = KindPool::new(rt, rt.alloc(), 2)?;
-    let mut first = spawned(&pool, polls(1000))?;
-    let mut second = spawned(&pool, finds("runnable", b'z'))?;
+    let mut first = spawned(&pool, polled_future(1000))?;
+    let mut second = spawned(&pool, finding_future("runnable", b'z'))?;
     let mut turns = pool.turns(0)?;
     let (ran, (first, second)) = thread::join(
         &rt,

@@ -1,6 +1,6 @@
 //! The program that runs the worked rows: those that its arguments ask for, and what is printed of each.
 //! It stands on `worked_rows` and `local_task`.
-//! A user calls nothing of it, and nothing is public only to carry a claim.
+//! A user runs it. Nothing is public only to carry a claim.
 //! The page is docs/ROWS.md.
 #![tactic(auto)]
 

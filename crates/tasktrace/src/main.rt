@@ -1,6 +1,6 @@
 //! The program that plays the steps that it reads from standard input, and prints how the task stands after each.
 //! It stands on `task_replay`, on `task_progress` for the steps that are left, and on the kit's `strsim`.
-//! A user calls nothing of it, and nothing is public only to carry a claim.
+//! A user runs it. Nothing is public only to carry a claim.
 //! The page is docs/TRACES.md.
 #![tactic(auto)]
 
