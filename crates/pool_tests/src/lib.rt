@@ -1,11 +1,9 @@
-//! The tests of the pool: its workers, what futures keep, futures that borrow or are of two types, tasks that await tasks, storms of wakes, cancels,
+//! The tests of the pool: its workers, what futures keep, futures of two types, tasks that await tasks, storms of wakes, cancels,
 //! refused memory, and hostile use. It stands on `executor`, `work_queues` and `awaiters`. Nothing is public. The page is docs/EXECUTOR_POOL.md.
 #![tactic(auto)]
 
 #[cfg(test)]
 mod awaiting_tests;
-#[cfg(test)]
-mod borrow_tests;
 #[cfg(test)]
 mod cancel_tests;
 #[cfg(test)]
