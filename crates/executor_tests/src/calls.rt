@@ -1,8 +1,8 @@
 //! What the tests begin with, each in a function that stops where there is no memory.
 
-use fixtures::counters::Counters;
+use counted_values::counters::Counters;
+use counted_values::flag::Flag;
 use fixtures::fixture::Fixture;
-use fixtures::flag::Flag;
 use linked_list_allocator::LocalHeap;
 use std::alloc::Global;
 use std::process::Abort;

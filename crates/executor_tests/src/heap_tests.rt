@@ -2,9 +2,9 @@
 
 use crate::tray::Tray;
 use crate::{calls, tray};
-use fixtures::counters::{Counters, Counts};
-use fixtures::flag::Flag;
-use fixtures::future::Behaviour;
+use counted_values::behaviour::Behaviour;
+use counted_values::counters::{Counters, Counts};
+use counted_values::flag::Flag;
 use linked_list_allocator::LocalHeap;
 use std::alloc::Global;
 use std::process::Abort;

@@ -2,11 +2,12 @@
 
 use crate::calls;
 use async_task::ParkedRunnable;
-use fixtures::counters::Counts;
+use counted_values::behaviour::Behaviour;
+use counted_values::counters::Counts;
+use counted_values::flag::Flag;
 use fixtures::executor::{PriorityQueue, PriorityRunnable, PriorityScheduler, PriorityTask};
 use fixtures::fixture::Fixture;
-use fixtures::flag::Flag;
-use fixtures::future::{Behaviour, RowFuture};
+use fixtures::future::RowFuture;
 use priority_heap::PriorityHeap;
 use std::alloc::{AllocError, Global};
 use std::process::Abort;

@@ -7,10 +7,11 @@ use async_task::{
     Yields, spawn,
 };
 use benchmarks::counting::Counting;
-use fixtures::answers::is_ready_with;
-use fixtures::counters::{Counter, Counters, Counts};
-use fixtures::flag::Flag;
-use fixtures::future::{Behaviour, Output, RowFuture};
+use counted_values::behaviour::Behaviour;
+use counted_values::counters::{Counter, Counters, Counts};
+use counted_values::flag::Flag;
+use counted_values::output::{Output, is_ready_with};
+use fixtures::future::RowFuture;
 use fixtures::surroundings::Scheduler;
 use linked_list_allocator::LocalHeap;
 use std::alloc::{Allocator, Global};

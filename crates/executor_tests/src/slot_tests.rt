@@ -5,7 +5,7 @@ use async_task::{
     Builder, Future, ParkedRunnable, Poll, Runnable, Schedule, ScheduleInfo, Task, TaskWaker,
     WithInfo, Yields,
 };
-use fixtures::flag::Flag;
+use counted_values::flag::Flag;
 use std::alloc::Global;
 use std::collections::VecDeque;
 use std::mem;

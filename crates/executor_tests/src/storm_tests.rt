@@ -1,9 +1,9 @@
 //! A test of wakes by four threads while a fifth one runs the task.
 
 use crate::calls;
-use fixtures::counters::{Counter, Counts};
+use counted_values::behaviour::Behaviour;
+use counted_values::counters::{Counter, Counts};
 use fixtures::fixture::Fixture;
-use fixtures::future::Behaviour;
 use fixtures::surroundings::{RowRunnable, RowWaker};
 use std::process::Abort;
 use std::sync::Wait;

@@ -1,16 +1,17 @@
 //! Tasks whose memory is of a heap, their surroundings, and calls of their handles that answer plain data.
 ghost use Rattle.std.specs.Prelude.{⊤};
-ghost use Rattle.fixtures.specs.Behaviour.{IsPolled};
+ghost use Rattle.counted_values.specs.Behaviour.{IsPolled};
 
 use crate::calls;
 use async_task::{
     Builder, Cancel, FallibleTask, Future, ParkedRunnable, Poll, Runnable, Schedule, ScheduleInfo,
     Task, TaskPoll, TaskWaker, Yields,
 };
-use fixtures::answers::is_ready_with;
-use fixtures::counters::{Counters, Counts};
-use fixtures::flag::Flag;
-use fixtures::future::{Behaviour, Output, RowFuture};
+use counted_values::behaviour::Behaviour;
+use counted_values::counters::{Counters, Counts};
+use counted_values::flag::Flag;
+use counted_values::output::{Output, is_ready_with};
+use fixtures::future::RowFuture;
 use fixtures::surroundings::Scheduler;
 use linked_list_allocator::LocalHeap;
 use std::alloc::Global;

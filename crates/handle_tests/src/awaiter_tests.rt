@@ -2,10 +2,10 @@
 
 use crate::calls;
 use crate::watched::{Ends, Watched, WatchedRunnable, WatchedTask, spawn_watched};
-use fixtures::counters::{Counters, Counts};
+use counted_values::behaviour::Behaviour;
+use counted_values::counters::{Counters, Counts};
+use counted_values::flag::Flag;
 use fixtures::fixture::Fixture;
-use fixtures::flag::Flag;
-use fixtures::future::Behaviour;
 use std::alloc::{AllocError, Global};
 use std::process::Abort;
 use std::sync::{Arc, Wait};

@@ -2,12 +2,13 @@
 
 use crate::calls;
 use async_task::Builder;
-use fixtures::answers::is_ready_with;
-use fixtures::counters::{Counter, Counters};
+use counted_values::behaviour::Behaviour;
+use counted_values::counters::{Counter, Counters};
+use counted_values::flag::Flag;
+use counted_values::output::is_ready_with;
 use fixtures::executor::{PriorityQueue, PriorityRunnable, PriorityScheduler, PriorityTask};
 use fixtures::fixture::Fixture;
-use fixtures::flag::Flag;
-use fixtures::future::{Behaviour, RowFuture};
+use fixtures::future::RowFuture;
 use fixtures::surroundings::{RowRunnable, RowTask, Scheduler};
 use std::alloc::{AllocError, Global};
 use std::fmt;

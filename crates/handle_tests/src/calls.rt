@@ -2,10 +2,11 @@
 //! by these while its handles live, lets them go, and compares at its end.
 
 use async_task::{Cancel, TaskClosed, TaskPoll};
-use fixtures::answers::is_ready_with;
+use counted_values::behaviour::Behaviour;
+use counted_values::flag::Flag;
+use counted_values::output::is_ready_with;
 use fixtures::fixture::Fixture;
-use fixtures::flag::Flag;
-use fixtures::future::{Behaviour, RowFuture};
+use fixtures::future::RowFuture;
 use fixtures::surroundings::{RowRunnable, RowTask, RowWaker, Scheduler, Surroundings};
 use std::alloc::Global;
 use std::process::Abort;

@@ -1,8 +1,9 @@
 //! A test of the calls of the cell itself.
 
-use fixtures::counters::Counters;
-use fixtures::flag::Flag;
-use fixtures::future::{Behaviour, RowFuture};
+use counted_values::behaviour::Behaviour;
+use counted_values::counters::Counters;
+use counted_values::flag::Flag;
+use fixtures::future::RowFuture;
 use fixtures::surroundings::{BareRunnable, Scheduler};
 use std::alloc::Global;
 use std::sync::Arc;

@@ -2,10 +2,10 @@
 
 use crate::calls;
 use crate::calls::RowCancel;
-use fixtures::counters::Counts;
+use counted_values::behaviour::Behaviour;
+use counted_values::counters::Counts;
+use counted_values::flag::Flag;
 use fixtures::fixture::Fixture;
-use fixtures::flag::Flag;
-use fixtures::future::Behaviour;
 use fixtures::surroundings::{RowRunnable, RowTask, RowWaker};
 use std::alloc::Global;
 use std::process::Abort;

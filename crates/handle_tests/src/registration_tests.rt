@@ -2,10 +2,10 @@
 
 use crate::watched::{Ends, Watched, WatchedRunnable, WatchedTask, spawn_watched};
 use async_task::{TaskClosed, TaskPoll};
-use fixtures::answers::is_ready_with;
-use fixtures::counters::{Counters, Counts};
+use counted_values::behaviour::Behaviour;
+use counted_values::counters::{Counters, Counts};
+use counted_values::output::{Output, is_ready_with};
 use fixtures::fixture::Fixture;
-use fixtures::future::{Behaviour, Output};
 use std::alloc::{AllocError, Global};
 use std::process::Abort;
 use std::string::String;

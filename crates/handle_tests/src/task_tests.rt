@@ -2,11 +2,12 @@
 
 use crate::calls;
 use async_task::{FallibleTask, TaskClosed, TaskPoll};
-use fixtures::answers::{is_ready_with, is_some_with};
-use fixtures::counters::Counts;
+use counted_values::behaviour::Behaviour;
+use counted_values::counters::Counts;
+use counted_values::flag::Flag;
+use counted_values::output::{Output, is_ready_with, is_some_with};
 use fixtures::fixture::Fixture;
-use fixtures::flag::Flag;
-use fixtures::future::{Behaviour, Output, RowFuture};
+use fixtures::future::RowFuture;
 use fixtures::surroundings::{RowRunnable, RowTask, Scheduler, Surroundings};
 use std::alloc::Global;
 use std::process::Abort;

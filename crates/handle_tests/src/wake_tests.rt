@@ -2,10 +2,10 @@
 
 use crate::calls;
 use async_task::Wake;
-use fixtures::counters::Counts;
+use counted_values::behaviour::Behaviour;
+use counted_values::counters::Counts;
+use counted_values::flag::Flag;
 use fixtures::fixture::Fixture;
-use fixtures::flag::Flag;
-use fixtures::future::Behaviour;
 use fixtures::surroundings::RowRunnable;
 use std::process::Abort;
 use std::sync::Wait;

@@ -2,11 +2,12 @@
 
 use crate::calls;
 use async_task::{Runnable, Task, TaskPoll, Wake, spawn};
-use fixtures::answers::is_ready_with;
-use fixtures::counters::{Counters, Counts};
+use counted_values::behaviour::Behaviour;
+use counted_values::counters::{Counters, Counts};
+use counted_values::flag::Flag;
+use counted_values::output::is_ready_with;
 use fixtures::fixture::Fixture;
-use fixtures::flag::Flag;
-use fixtures::future::{Behaviour, RowFuture};
+use fixtures::future::RowFuture;
 use fixtures::surroundings::{RowWaker, Scheduler, Surroundings};
 use std::alloc::{AllocError, Global};
 use std::mem;

@@ -2,8 +2,9 @@
 ghost use Rattle.std.specs.Prelude.{⊤};
 
 use async_task::{Runnable, Task, Wake, spawn};
-use fixtures::counters::{Counter, Counters};
-use fixtures::future::{Behaviour, RowFuture};
+use counted_values::behaviour::Behaviour;
+use counted_values::counters::{Counter, Counters};
+use fixtures::future::RowFuture;
 use fixtures::rendezvous::Rendezvous;
 use fixtures::surroundings::Scheduler;
 use std::alloc::{AllocError, Global};

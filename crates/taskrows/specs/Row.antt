@@ -1,6 +1,6 @@
 use Rattle.std.specs.Prelude.{◌≡◌, IsTrue}
-use Rattle.fixtures.specs.declared.counters.Counts.{Counts}
-use Rattle.fixtures.specs.declared.fixture.Outcome.{Outcome}
+use Rattle.counted_values.specs.declared.counters.Counts.{Counts}
+use Rattle.counted_values.specs.declared.outcome.Outcome.{Outcome}
 use Rattle.worked_rows.specs.Agreement.{counts}
 use Rattle.taskrows.specs.declared.table.Row.{Row}
 use Rattle.taskrows.specs.declared.table.Row.TheVariants.{DropAndDetach, DetachAndDrop, DetachAndRun, RunAndDetach}

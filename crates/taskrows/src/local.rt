@@ -3,10 +3,13 @@ ghost use Rattle.std.specs.Prelude.{IfOk};
 ghost use Rattle.worked_rows.specs.Agreement.{AgreesAt};
 
 use async_task::{TaskPoll, Wake};
-use fixtures::counters::Counts;
-use fixtures::fixture::{Fixture, Outcome};
-use fixtures::flag::Flag;
-use fixtures::future::{Behaviour, Output, RowFuture};
+use counted_values::behaviour::Behaviour;
+use counted_values::counters::Counts;
+use counted_values::flag::Flag;
+use counted_values::outcome::Outcome;
+use counted_values::output::Output;
+use fixtures::fixture::Fixture;
+use fixtures::future::RowFuture;
 use local_task::{LocalTask, Settled, Start};
 use std::alloc::AllocError;
 use std::sync::Wait;

@@ -4,7 +4,7 @@ ghost use Rattle.std.specs.Prelude.{IsTrue, IsSome, IfSome, IfOk, IsOkAnd};
 ghost use Rattle.taskrows.specs.Arguments.{AskForRows, AskForHelp};
 
 use crate::table::Row;
-use fixtures::fixture::Outcome;
+use counted_values::outcome::Outcome;
 use std::alloc::{AllocError, Global};
 use std::io;
 use std::sync::Wait;

@@ -2,7 +2,8 @@
 ghost use Rattle.std.specs.Prelude.{IfOk};
 
 use crate::local;
-use fixtures::fixture::{Fixture, Outcome};
+use counted_values::outcome::Outcome;
+use fixtures::fixture::Fixture;
 use std::alloc::{AllocError, Global};
 use std::fmt;
 use std::sync::Wait;

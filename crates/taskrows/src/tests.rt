@@ -2,8 +2,8 @@
 
 use crate::rows::{print_row, print_total, rows};
 use crate::table::Row;
-use fixtures::counters::Counts;
-use fixtures::fixture::Outcome;
+use counted_values::counters::Counts;
+use counted_values::outcome::Outcome;
 use std::alloc::AllocError;
 use std::io;
 use std::test::Fail;

@@ -1,6 +1,6 @@
 use Rattle.std.specs.Prelude.{◌≡◌, ℕ, IsTrue}
-use Rattle.fixtures.specs.declared.counters.Counts.{Counts}
-use Rattle.fixtures.specs.declared.fixture.Outcome.{Outcome}
+use Rattle.counted_values.specs.declared.counters.Counts.{Counts}
+use Rattle.counted_values.specs.declared.outcome.Outcome.{Outcome}
 
 -- these polls, schedule calls, drops of the future and drops of the schedule value
 abbrev pub counts : ℕ → ℕ → ℕ → ℕ → Counts

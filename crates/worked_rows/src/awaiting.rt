@@ -3,9 +3,10 @@ ghost use Rattle.std.specs.Prelude.{IfOk};
 ghost use Rattle.worked_rows.specs.Agreement.{AgreesAt};
 
 use crate::calls;
-use fixtures::counters::Counts;
-use fixtures::fixture::{Fixture, Outcome};
-use fixtures::future::Behaviour;
+use counted_values::behaviour::Behaviour;
+use counted_values::counters::Counts;
+use counted_values::outcome::Outcome;
+use fixtures::fixture::Fixture;
 use std::alloc::AllocError;
 use std::sync::Wait;
 

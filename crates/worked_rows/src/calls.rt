@@ -2,10 +2,11 @@
 //! so each is proved once, and a row costs little more.
 
 use async_task::{Cancel, FallibleTask, TaskClosed, TaskPoll};
-use fixtures::answers::is_ready_with;
+use counted_values::behaviour::Behaviour;
+use counted_values::flag::Flag;
+use counted_values::output::is_ready_with;
 use fixtures::fixture::Fixture;
-use fixtures::flag::Flag;
-use fixtures::future::{Behaviour, RowFuture};
+use fixtures::future::RowFuture;
 use fixtures::surroundings::{RowRunnable, RowTask, RowWaker, Scheduler, Surroundings};
 use std::alloc::AllocError;
 use std::sync::Wait;

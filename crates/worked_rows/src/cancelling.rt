@@ -4,11 +4,12 @@ ghost use Rattle.worked_rows.specs.Agreement.{AgreesAt};
 
 use crate::calls;
 use crate::calls::RowCancel;
-use fixtures::answers::is_some_with;
-use fixtures::counters::Counts;
-use fixtures::fixture::{Fixture, Outcome};
-use fixtures::flag::Flag;
-use fixtures::future::Behaviour;
+use counted_values::behaviour::Behaviour;
+use counted_values::counters::Counts;
+use counted_values::flag::Flag;
+use counted_values::outcome::Outcome;
+use counted_values::output::is_some_with;
+use fixtures::fixture::Fixture;
 use std::alloc::AllocError;
 use std::sync::Wait;
 

@@ -3,11 +3,12 @@ ghost use Rattle.std.specs.Prelude.{IfOk};
 ghost use Rattle.worked_rows.specs.Agreement.{AgreesAt};
 
 use async_task::{TaskClosed, TaskPoll};
-use fixtures::counters::Counts;
+use counted_values::behaviour::Behaviour;
+use counted_values::counters::Counts;
+use counted_values::flag::Flag;
+use counted_values::outcome::Outcome;
 use fixtures::executor::PriorityTask;
-use fixtures::fixture::{Fixture, Outcome};
-use fixtures::flag::Flag;
-use fixtures::future::Behaviour;
+use fixtures::fixture::Fixture;
 use std::alloc::AllocError;
 use std::sync::Wait;
 

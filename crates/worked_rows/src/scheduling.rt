@@ -4,12 +4,13 @@ ghost use Rattle.worked_rows.specs.Agreement.{AgreesAt};
 
 use crate::calls;
 use async_task::TaskPoll;
-use fixtures::answers::is_ready_with;
-use fixtures::counters::Counts;
+use counted_values::behaviour::Behaviour;
+use counted_values::counters::Counts;
+use counted_values::flag::Flag;
+use counted_values::outcome::Outcome;
+use counted_values::output::is_ready_with;
 use fixtures::executor::PriorityTask;
-use fixtures::fixture::{Fixture, Outcome};
-use fixtures::flag::Flag;
-use fixtures::future::Behaviour;
+use fixtures::fixture::Fixture;
 use fixtures::surroundings::RowTask;
 use std::alloc::AllocError;
 use std::sync::Wait;

@@ -2,7 +2,7 @@
 ghost use Rattle.std.specs.Prelude.{⊤};
 
 use async_task::Wake;
-use fixtures::counters::{Counter, Counters};
+use counted_values::counters::{Counter, Counters};
 use fixtures::rendezvous::Rendezvous;
 use std::alloc::{AllocError, Global};
 use std::hint::spin_loop;

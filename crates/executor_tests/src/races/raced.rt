@@ -6,7 +6,7 @@ use async_task::{
     Cancel, Future, ParkedRunnable, ParkedWaker, Poll, Runnable, Schedule, ScheduleInfo, Task,
     TaskWaker, Yields, spawn,
 };
-use fixtures::counters::{Counter, Counters, Counts};
+use counted_values::counters::{Counter, Counters, Counts};
 use std::alloc::{AllocError, Global};
 use std::hint::spin_loop;
 use std::mem;

@@ -1,6 +1,6 @@
 //! The rounds of a race: how its threads begin each together, and what is counted over all of them.
 
-use fixtures::counters::Counter;
+use counted_values::counters::Counter;
 use std::hint::spin_loop;
 use std::sync::Wait;
 use std::sync::atomic::{AtomicU64, Ordering};

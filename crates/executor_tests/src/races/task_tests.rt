@@ -6,7 +6,7 @@ use crate::races::handles;
 use crate::races::raced::{RaceCancel, RaceOutput, RaceSurroundings, RaceTask};
 use crate::races::rounds::{Calls, LEAST_MET, Rounds, Tally};
 use async_task::{TaskClosed, TaskPoll};
-use fixtures::counters::Counter;
+use counted_values::counters::Counter;
 use std::alloc::{AllocError, Global};
 use std::process::Abort;
 use std::sync::Wait;

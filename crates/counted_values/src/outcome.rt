@@ -1,0 +1,36 @@
+//! How a row ended.
+ghost use Rattle.std.specs.Prelude.{◌≡◌, ◌↔◌, IsTrue, false};
+
+use crate::counters::Counts;
+
+/// What a row answers.
+#[derive(Clone, Copy, Debug)]
+pub struct Outcome {
+    /// The counters at its end.
+    pub counts: Counts,
+    /// Whether all that it saw is what the row states.
+    pub agrees: bool,
+}
+
+impl Outcome {
+    /// The end of a row with these counters: it agrees where what it saw did, and where its counters are the expected ones.
+    pub fn of(counts: Counts, agrees: bool, expected: Counts) -> Outcome
+        ensures counts { result.counts ≡ counts }
+        ensures agrees { IsTrue result.agrees ↔ (IsTrue agrees × (counts ≡ expected)) }
+    {
+        Outcome {
+            counts,
+            agrees: agrees && counts == expected,
+        }
+    }
+
+    /// The end of a row that could not go on: it does not agree.
+    pub fn given_up(counts: Counts) -> Outcome
+        ensures { result.agrees ≡ false }
+    {
+        Outcome {
+            counts,
+            agrees: false,
+        }
+    }
+}
