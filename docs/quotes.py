@@ -18,7 +18,9 @@ FENCED = re.compile(r"^```\w*\n(.*?)^```\n", re.MULTILINE | re.DOTALL)
 WHOLE = ("README.md", "docs/GUIDE.md")
 EXCERPTS = ("docs/EXECUTORS.md", "docs/EXECUTOR_POOL.md", "docs/KIT_BRIDGE.md")
 # the pages that name hardly anything but what this repository has, and what they name of the kit
-NAMING = ("docs/RULES.md", "docs/PROOFS.md", "docs/MACHINE.md", "docs/API.md") + EXCERPTS
+NAMING = WHOLE + EXCERPTS + (
+    "docs/API.md", "docs/ARCHITECTURE.md", "docs/DEVELOPING.md", "docs/EXAMPLES.md", "docs/MACHINE.md", "docs/PROOFS.md", "docs/ROWS.md", "docs/RULES.md",
+    "docs/TRACES.md")
 OF_THE_KIT = {"from_event_fd", "from_raw_fd"}
 # a definition of Rust or of a spec, a clause of a contract, a variable; or a field, a parameter or a constructor
 DEFINED = re.compile(

@@ -40,12 +40,16 @@ impl Yields for Member {
 #[derive(Drop)]
 pub struct ToLine;
 
+/// A Runnable of a line.
 pub type LineRunnable<'x, R> = Runnable<R, Member, ToLine, (), Awaiter<R>, &'x Line<R>>;
 
+/// A Task of a line.
 pub type LineTask<'x, R> = Task<R, Member, ToLine, (), Awaiter<R>, &'x Line<R>>;
 
+/// A waker of a line.
 pub type LineWaker<'x, R> = TaskWaker<R, Member, ToLine, (), Awaiter<R>, &'x Line<R>>;
 
+/// A group of Tasks of a line.
 pub type LineGroup<'x, R> = TaskGroup<R, Member, ToLine, (), &'x Line<R>>;
 
 type KeptTask<R> = Task<R, Member, ToLine, (), Awaiter<R>, ()>;

@@ -98,24 +98,21 @@ impl<R: Wait + Drop + Copy, F: Yields, B: Allocator + Copy> Pool<R, F, BellAwait
         for _ in self.rt.forever() {
             let interruptions = self.bells().interruptions();
             let answer = task.poll(&awaiter);
+            let ends = self.is_shut_down();
+            if ends {
+                self.cancel_found(turns);
+            }
             if !matches!(answer, TaskPoll::Pending) {
                 // What woke this worker may have been meant for a task that another one has to run now.
                 self.bells().interrupt();
-                if self.is_shut_down() {
-                    self.cancel_found(turns);
-                }
             }
             match answer {
                 TaskPoll::Ready(Ok(output)) => return Ok(output),
                 TaskPoll::Ready(Err(_)) => return Err(BlockOnError::Closed),
                 TaskPoll::Refused => return Err(BlockOnError::Refused),
-                TaskPoll::Pending => {}
+                TaskPoll::Pending if ends => return Err(BlockOnError::ShutDown),
+                TaskPoll::Pending => self.turn(turns, interruptions),
             }
-            if self.is_shut_down() {
-                self.cancel_found(turns);
-                return Err(BlockOnError::ShutDown);
-            }
-            self.turn(turns, interruptions);
         }
         unreachable!()
     }

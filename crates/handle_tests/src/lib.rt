@@ -1,5 +1,5 @@
 //! The tests of handles that no worked row makes: of the builder, of Tasks and wakers, and of the cell under them.
-//! It stands on `fixtures`. Nothing is public. The page is docs/ROWS.md.
+//! It stands on `fixtures` and `counted_values`. Nothing is public. The page is docs/PROOFS.md.
 #![tactic(auto)]
 
 #[cfg(test)]

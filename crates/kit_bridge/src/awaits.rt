@@ -19,7 +19,7 @@ use std::sync::Wait;
 pub enum AwaitError {
     /// The task is closed: no output will come.
     Closed,
-    /// The awaiter was refused a share of itself. The Task is as it was but for its polls, and may be polled again.
+    /// The awaiter was refused a share of itself, or the kit its lock. The Task is as it was but for its polls, and may be polled again.
     Refused,
 }
 

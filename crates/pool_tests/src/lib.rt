@@ -5,6 +5,8 @@
 #[cfg(test)]
 mod awaiting_tests;
 #[cfg(test)]
+mod borrow_tests;
+#[cfg(test)]
 mod cancel_tests;
 #[cfg(test)]
 mod guest;

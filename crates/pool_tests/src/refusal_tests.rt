@@ -245,13 +245,14 @@ fn spawn_prompt<'x, 'heap, R: Wait + Drop + Copy>(
     pool.spawn(Prompt { guests }).ok().ok_or(AllocError)
 }
 
-// Spawns all tasks from outside.
+// Spawns so many tasks from outside.
 fn spawn_prompts<'x, 'heap, R: Wait + Drop + Copy>(
     pool: &'x HeapPool<'heap, R>,
     guests: &Arc<Guests>,
+    count: usize,
 ) -> Result<Vec<HeapTask<'x, 'heap, R>>, AllocError> {
-    let mut tasks = Vec::with_capacity(pool.alloc(), TASKS)?;
-    for _ in 0..TASKS {
+    let mut tasks = Vec::with_capacity(pool.alloc(), count)?;
+    for _ in 0..count {
         tasks.push(spawn_prompt(pool, guests)?)?;
     }
     Ok(tasks)
@@ -296,7 +297,7 @@ fn fill_and_spawn<R: Wait + Drop + Copy>(
     let pool = HeapPool::with_queues_in(rt, alloc, heap, 1)?;
     let mut turns = pool.turns(0)?;
     let filling = fill(alloc, heap)?;
-    let mut tasks = spawn_prompts(&pool, guests)?;
+    let mut tasks = spawn_prompts(&pool, guests, TASKS)?;
     let ran = run_prompts(&pool, &mut turns);
     let ends = count_ends(&mut tasks);
     drop(filling);
@@ -315,6 +316,40 @@ fn a_pool_goes_on_past_a_runnable_that_its_queue_drops(rt: HostRuntime) -> Resul
     let left = shares_and_polls(&guests);
     assert_eq!(rt; (ran, ends, later), (64, (64, 1), (true, true)));
     assert_eq!(rt; left, (1, 65));
+    assert_eq!(rt; heap.used(), 0);
+    Ok(())
+}
+
+// What becomes of 200 tasks where the one worker has Runnables in its hands as the pool is shut down: how many have answered and how many are closed,
+// after the shutdown and once the worker has ended.
+fn shut_down_beside_full_hands<R: Wait + Drop + Copy>(
+    rt: R,
+    alloc: Global,
+    heap: &LocalHeap,
+    guests: &Arc<Guests>,
+) -> Result<((usize, usize), (usize, usize)), AllocError> {
+    let pool = HeapPool::with_queues_in(rt, alloc, heap, 1)?;
+    let mut turns = pool.turns(0)?;
+    let mut tasks = spawn_prompts(&pool, guests, 200)?;
+    let filling = fill(alloc, heap)?;
+    pool.tick(&mut turns);
+    pool.shutdown();
+    let after_shutdown = count_ends(&mut tasks);
+    pool.work(&mut turns);
+    let after_work = count_ends(&mut tasks);
+    drop(filling);
+    Ok((after_shutdown, after_work))
+}
+
+// The batch is 100 of the 200: the worker runs one, its queue has room for 64, and 35 stay in its hands. An output that was taken is not there again.
+#[test]
+fn a_worker_that_ends_cancels_what_it_has_in_its_hands(rt: HostRuntime) -> Result<(), Fail> {
+    let heap = LocalHeap::new(rt.alloc(), 2 * POOL_HEAP)?;
+    let guests = Guests::new(rt.alloc(), 0)?;
+    let ends = shut_down_beside_full_hands(rt, rt.alloc(), &heap, &guests)?;
+    let left = shares_and_polls(&guests);
+    assert_eq!(rt; ends, ((1, 164), (0, 200)));
+    assert_eq!(rt; left, (1, 1));
     assert_eq!(rt; heap.used(), 0);
     Ok(())
 }

@@ -2,7 +2,7 @@
 //! It stands on the Runnable of `task_cell`.
 //! A user calls `PriorityHeap`.
 //! Nothing is public only to carry a claim.
-//! The page is docs/GUIDE.md.
+//! The page is docs/PROOFS.md.
 #![tactic(auto)]
 
 pub mod heap;

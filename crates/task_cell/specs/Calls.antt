@@ -49,7 +49,7 @@ module _ {F T A : Type 0} where
   Goes path at p q = GoesWith path at [] p q
 
 module _ {F T A : Type 0} where
-  -- a party of the same cell, of its own, that has done nothing yet
+  -- a party of the same cell, of its own, of which no deed is known
   pub record IsNew (at : Position) (p q : Party F T A) : Type 0 where
     pub cell : q.seat.table_id ≡ p.seat.table_id
     pub is : q.seat.me ≡ (view (limit_of p) (fresh at ∷ []), [])

@@ -7,7 +7,7 @@ use async_task::{TaskClosed, Yields};
 /// A member that has ended, and what its Task answered. An output meets what the type of the future states.
 #[derive(Drop)]
 pub struct Ended<F: Yields> {
-    /// The number that `push` gave the member.
+    /// The number that `push` or `spawn` gave the member.
     pub number: usize,
     /// The output, or that the task was closed without one.
     pub answer: Result<F::Output, TaskClosed>,

@@ -10,7 +10,7 @@ use slab::Slab;
 use std::alloc::{AllocError, Allocator, Global};
 use std::sync::{Arc, Wait};
 
-/// A poll of a member was refused its awaiter. The member is still in the group, and is looked at again by the next call of `next`.
+/// A poll of a member was refused its awaiter. The member is still in the group, and a later call of `next` polls it again.
 #[derive(Clone, Copy, Debug, PartialEq, Eq)]
 pub struct AwaiterRefused;
 
@@ -145,7 +145,7 @@ where
     /// Waits for the next member that ends, and takes it out of the group. `None` where the group is empty.
     ///
     /// Members come out in the order in which their tasks ended. An `Err` says that the poll of a member was refused its awaiter:
-    /// the group is as it was, and the next call polls that member again.
+    /// the group is as it was, and a later call polls that member again.
     pub fn next(&mut self) -> Result<Option<Ended<F>>, AwaiterRefused>
         ensures over { is_over result ≡ true → slab_len self.old.members ≡ 0 }
         ensures empty { slab_len self.old.members ≡ 0 → is_over result ≡ true }

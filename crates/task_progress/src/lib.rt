@@ -26,7 +26,7 @@ ghost use Rattle.task_laws.specs.Table.{rule};
 /// - All calls in progress can end without a new one (`calls_end`), and a run without new calls never sticks before they have (`never_stuck`).
 /// - A wake that is due stays due while no call begins, or the task is over (`wake_stays_due`). Where no call is in progress, one Runnable exists, and
 ///   its run polls (`wake_is_polled`).
-/// - From every state, the rest of the calls in progress and at most two more lead to rest, and a due wake to a poll, or the task is over
+/// - After every list of steps, the rest of the calls in progress and at most two more lead to rest, and a due wake to a poll, or the task is over
 ///   (`comes_to_rest`). Once a run has started, calls that end lead to rest, or to a closed task (`run_leads_to_rest`). A closed task makes no
 ///   Runnable more (`closed_makes_none`), and without one it is at rest whenever no call is in progress (`closed_leads_to_rest`).
 /// - Where no call is in progress and no Runnable exists, an open task has a waker or its Task. One that is over has dropped its future once, has woken

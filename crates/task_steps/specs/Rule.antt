@@ -40,7 +40,7 @@ trying p l t = record { at = p; deeds = l; tries = t }
 abbrev pub member : Position → List Deed → Member
 member p l = trying p l None
 
--- a party that has done nothing yet
+-- a party of which no deed is known
 abbrev pub fresh : Position → Member
 fresh p = member p []
 

@@ -1,6 +1,6 @@
 //! The queues of a pool of workers, and their sleep: what a pool keeps of its items, whatever they are.
 //! It stands on the kit's `atomic_table`, whose rule says when a worker may sleep.
-//! A user of a pool calls nothing of it. A pool calls `Crew`, `Worker` and `Bells`.
+//! A user of a pool calls only `interrupt` and `interruptions` of its `Bells`. A pool calls `Crew`, `Worker` and `Bells`.
 //! `Board`, `Sleeper`, `Woken`, `shift` and the structs of `rule` are public to carry the claims.
 //! The page is docs/EXECUTOR_POOL.md.
 #![tactic(auto)]
