@@ -1,5 +1,5 @@
 //! The pool: spawn, the turns of its workers, and the shutdown.
-ghost use Rattle.std.specs.Prelude.{⊤, ◌≡◌, ◌-◌, ◌+◌, ◌<◌, [], drop, true, false, IfOk, IfErr, OnOk, vec_len, vec_capacity};
+ghost use Rattle.std.specs.Prelude.{⊤, ◌≡◌, ◌-◌, ◌+◌, ◌<◌, [], drop, true, false, IfOk, IfErr, IfSome, OnOk, vec_len, vec_capacity};
 
 use crate::kept::{KeptTask, KeptWaker, cancel_kept};
 use crate::mail::Mail;
@@ -226,21 +226,30 @@ impl<R: Wait + Drop + Copy, F: Yields, A: Wake, B: Allocator + Copy> Pool<R, F, 
         self.stopped.load(Ordering::SeqCst)
     }
 
-    /// Runs one task, if there is one for this worker: its own, one that came from outside, or one of another worker. It answers whether there was one.
+    /// The next Runnable for this worker, if there is one: its own, one that came from outside, or one of another worker. Run it; its drop cancels its task.
+    pub fn next(&self, turns: &mut Turns<R, F, A, B>) -> Option<PoolRunnable<'_, R, F, A, B>>
+        ensures place { IfSome result (λ runnable. runnable.around.1 ≡ turns.old.worker.number) }
+    {
+        let worker = turns.worker.number();
+        let runnable = self.crew.find(&self.rt, &mut turns.worker)?;
+        Some(runnable.with_around((self, worker)))
+    }
+
+    /// Runs one task, if there is one for this worker, as `next` says. It answers whether there was one.
     pub fn tick<'x>(&'x self, turns: &mut Turns<R, F, A, B>) -> bool
     where
         F: Future<PoolWaker<'x, R, F, A, B>>,
     {
-        match self.crew.find(&self.rt, &mut turns.worker) {
+        match self.next(turns) {
             Some(runnable) => {
-                runnable.with_around((self, turns.worker.number())).run();
+                runnable.run();
                 true
             }
             None => false,
         }
     }
 
-    /// Sleeps, if there is nothing for this worker to do, the pool was not shut down, and the bells counted no interruption since `interruptions`. It may also return for no reason. It is for loops of a user's own around `tick`: one asks for the interruptions, then calls `collect`, `wake_posted` and `tick`, and rests where neither of the last two found anything.
+    /// Sleeps, if there is nothing for this worker to do, the pool was not shut down, and the bells counted no interruption since `interruptions`. It may also return for no reason. `take_turn` calls it where it is due.
     pub fn rest(&self, turns: &Turns<R, F, A, B>, interruptions: u64) {
         // A caller who counted the interruptions after the shutdown would sleep for ever.
         if self.is_shut_down() {

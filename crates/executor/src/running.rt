@@ -1,5 +1,5 @@
 //! The turns of workers: one worker, what all workers need, and a worker that waits for one Task.
-ghost use Rattle.std.specs.Prelude.{⊤, ◌≡◌, ℕ, ◌<◌, true, IfOk, IsErr, vec_len};
+ghost use Rattle.std.specs.Prelude.{⊤, ◌≡◌, ℕ, ◌<◌, true, IfOk, IfSome, IsErr, vec_len};
 ghost use mathlib.Core.Option.{some};
 ghost use lib.ListN.{get_elem?};
 ghost use Rattle.task_steps.specs.Steps.{saw_ended};
@@ -7,7 +7,7 @@ ghost use Rattle.task_cell.specs.Calls.{deeds};
 
 use crate::bell_awaiter::BellAwaiter;
 use crate::kept::{collect, wake_posted};
-use crate::pool::{Pool, PoolTask, PoolWaker, Turns};
+use crate::pool::{Pool, PoolRunnable, PoolTask, PoolWaker, Turns};
 use async_task::{Future, TaskPoll, Wake, Yields};
 use std::alloc::{AllocError, Allocator};
 use std::sync::Wait;
@@ -24,34 +24,56 @@ pub enum BlockOnError {
 }
 
 impl<R: Wait + Drop + Copy, F: Yields, A: Wake, B: Allocator + Copy> Pool<R, F, A, B> {
-    // Frees what keys left, wakes one task whose number was posted, and runs one task. Where there is neither it sleeps, if the bells counted no
-    // interruption since `interruptions`: each post is followed by one.
-    fn turn<'x>(&'x self, turns: &mut Turns<R, F, A, B>, interruptions: u64)
-    where
-        F: Future<PoolWaker<'x, R, F, A, B>>,
+    /// A turn of a worker but for the run of what it takes: frees what keys left, wakes one task whose number was posted, and takes the next Runnable. Where there is neither it sleeps, if the bells counted no interruption since `interruptions`: so ask for them before the last look at what the loop waits for. Run what it answers.
+    pub fn take_turn(
+        &self,
+        turns: &mut Turns<R, F, A, B>,
+        interruptions: u64,
+    ) -> Option<PoolRunnable<'_, R, F, A, B>>
+        ensures place { IfSome result (λ runnable. runnable.around.1 ≡ turns.old.worker.number) }
     {
         let place = (self, turns.worker.number());
         collect(place);
         let woke = wake_posted(place);
-        if !self.tick(turns) && !woke {
+        let next = self.next(turns);
+        if next.is_none() && !woke {
             self.rest(turns, interruptions);
         }
+        next
     }
 
-    /// Is a worker until the pool is shut down, and sleeps where there is nothing to do. After it no Runnable is left that this worker can find.
+    /// The next Runnable for this worker, for which it sleeps where there is none. Run it. `None` once the pool is shut down: then no Runnable is left that this worker can find.
+    pub fn await_next(
+        &self,
+        turns: &mut Turns<R, F, A, B>,
+    ) -> Option<PoolRunnable<'_, R, F, A, B>> {
+        for _ in self.rt.forever() {
+            let interruptions = self.bells().interruptions();
+            if self.is_shut_down() {
+                self.cancel_found(turns);
+                collect((self, turns.worker.number()));
+                return None;
+            }
+            if let Some(runnable) = self.take_turn(turns, interruptions) {
+                return Some(runnable);
+            }
+        }
+        unreachable!()
+    }
+
+    /// Is a worker until the pool is shut down: runs each Runnable that `await_next` answers.
     pub fn work<'x>(&'x self, turns: &mut Turns<R, F, A, B>)
     where
         F: Future<PoolWaker<'x, R, F, A, B>>,
     {
         for _ in self.rt.forever() {
-            let interruptions = self.bells().interruptions();
-            if self.is_shut_down() {
-                break;
+            match self.await_next(turns) {
+                Some(runnable) => {
+                    runnable.run();
+                }
+                None => return,
             }
-            self.turn(turns, interruptions);
         }
-        self.cancel_found(turns);
-        collect((self, turns.worker.number()));
     }
 
     /// Is the worker of this number until the pool is shut down, as `work` is. An error says that there was no memory to begin, or that there is no such worker.
@@ -111,7 +133,11 @@ impl<R: Wait + Drop + Copy, F: Yields, B: Allocator + Copy> Pool<R, F, BellAwait
                 TaskPoll::Ready(Err(_)) => return Err(BlockOnError::Closed),
                 TaskPoll::Refused => return Err(BlockOnError::Refused),
                 TaskPoll::Pending if ends => return Err(BlockOnError::ShutDown),
-                TaskPoll::Pending => self.turn(turns, interruptions),
+                TaskPoll::Pending => {
+                    if let Some(runnable) = self.take_turn(turns, interruptions) {
+                        runnable.run();
+                    }
+                }
             }
         }
         unreachable!()

@@ -4,13 +4,13 @@ ghost use Rattle.std.specs.Prelude.{⊤};
 use async_task::{Future, Poll, TaskPoll, Wake, Yields};
 use awaiters::Nobody;
 use executor::{Pool, PoolTask, PoolWaker, Turns};
-use std::alloc::AllocError;
+use std::alloc::{AllocError, Global};
 use std::sync::Wait;
 use std::sync::atomic::{AtomicU64, Ordering};
 use std::test::Fail;
 use std::thread;
 
-/// A future that sums a slice of its caller's, a number a poll, and counts itself out at the end.
+/// A future that sums a slice of its caller's, a number a poll, and ends the pool as the last of those that count together.
 #[derive(Drop)]
 struct SumOf<'d> {
     numbers: &'d [u64],
@@ -34,12 +34,14 @@ impl<'d> Yields for SumOf<'d> {
     type Output = u64;
 }
 
-impl<'d, W: Wake> Future<W> for SumOf<'d> {
+impl<'d, 'x, R: Wait + Drop + Copy, A: Wake> Future<PoolWaker<'x, R, SumOf<'d>, A>> for SumOf<'d> {
     ghost polled = { λ _ _ _ _. ⊤ };
 
-    fn poll(&mut self, waker: &W) -> Poll<u64> {
+    fn poll(&mut self, waker: &PoolWaker<'x, R, SumOf<'d>, A>) -> Poll<u64> {
         let Some(number) = self.numbers.get(self.next) else {
-            self.unfinished.fetch_sub(1, Ordering::SeqCst);
+            if self.unfinished.fetch_sub(1, Ordering::SeqCst) == 1 {
+                waker.around().0.shutdown();
+            }
             return Poll::Ready(self.sum);
         };
         self.sum = self.sum.wrapping_add(*number);
@@ -70,74 +72,52 @@ fn output_of<'x, 'd, R: Wait + Drop + Copy>(task: &mut SumTask<'x, 'd, R>) -> Op
     }
 }
 
-// Runs tasks until all that count have ended.
-fn run_all<'d, R: Wait + Drop + Copy>(
-    pool: &SumPool<'d, R>,
-    turns: &mut Turns<R, SumOf<'d>, Nobody>,
-    unfinished: &AtomicU64,
-) {
-    for _ in pool.rt().forever() {
-        if unfinished.load(Ordering::SeqCst) == 0 {
-            return;
-        }
-        if !pool.tick(turns) {
-            thread::yield_now();
-        }
-    }
-}
-
-#[test]
-fn one_thread_runs_futures_that_borrow(rt: HostRuntime) -> Result<(), Fail> {
-    let mut numbers = Vec::new(rt.alloc());
-    for number in 1..101u64 {
+// The sums of these are 1275 up to 50, and 5050 up to 100.
+fn numbers_up_to(alloc: Global, last: u64) -> Result<Vec<u64>, AllocError> {
+    let mut numbers = Vec::new(alloc);
+    for number in 1..=last {
         numbers.push(number)?;
     }
-    let (low, high) = numbers.split_at(50);
-    let unfinished = AtomicU64::new(2);
-    let pool = SumPool::new(rt, rt.alloc(), 1)?;
-    let mut first = spawned(&pool, low, &unfinished)?;
-    let mut second = spawned(&pool, high, &unfinished)?;
-    let mut turns = pool.turns(0)?;
-    run_all(&pool, &mut turns, &unfinished);
-    let (first, second) = (output_of(&mut first), output_of(&mut second));
-    assert!(rt; first == Some(1275) && second == Some(3775));
-    Ok(())
+    Ok(numbers)
+}
+
+// Is a worker until the shutdown. `Pool::work` would do the same, but the prover takes no call of it for futures that borrow.
+fn work<'d, R: Wait + Drop + Copy>(pool: &SumPool<'d, R>, turns: &mut Turns<R, SumOf<'d>, Nobody>) {
+    for _ in pool.rt().forever() {
+        let Some(runnable) = pool.await_next(turns) else {
+            return;
+        };
+        runnable.run();
+    }
 }
 
 #[test]
-fn one_thread_ticks_itself(rt: HostRuntime) -> Result<(), Fail> {
-    let numbers = [1u64, 2, 3];
-    let unfinished = AtomicU64::new(1);
+fn one_worker_runs_futures_that_borrow(rt: HostRuntime) -> Result<(), Fail> {
+    let low = numbers_up_to(rt.alloc(), 50)?;
+    let high = numbers_up_to(rt.alloc(), 100)?;
+    let unfinished = AtomicU64::new(2);
     let pool = SumPool::new(rt, rt.alloc(), 1)?;
-    let mut first = spawned(&pool, &numbers, &unfinished)?;
+    let mut first = spawned(&pool, low.as_slice(), &unfinished)?;
+    let mut second = spawned(&pool, high.as_slice(), &unfinished)?;
     let mut turns = pool.turns(0)?;
-    for _ in 0..4 {
-        pool.tick(&mut turns);
-    }
-    let first = output_of(&mut first);
-    assert!(rt; first == Some(6));
+    work(&pool, &mut turns);
+    let (first, second) = (output_of(&mut first), output_of(&mut second));
+    assert!(rt; first == Some(1275) && second == Some(5050));
     Ok(())
 }
 
 #[test]
 fn two_workers_run_futures_that_borrow(rt: HostRuntime) -> Result<(), Fail> {
-    let mut numbers = Vec::new(rt.alloc());
-    for number in 1..101u64 {
-        numbers.push(number)?;
-    }
-    let (low, high) = numbers.split_at(50);
+    let low = numbers_up_to(rt.alloc(), 50)?;
+    let high = numbers_up_to(rt.alloc(), 100)?;
     let unfinished = AtomicU64::new(2);
     let pool = SumPool::new(rt, rt.alloc(), 2)?;
-    let mut first = spawned(&pool, low, &unfinished)?;
-    let mut second = spawned(&pool, high, &unfinished)?;
-    let mut all = pool.all_turns()?;
-    thread::for_each_mut(
-        &rt,
-        &mut all,
-        2,
-        &|_, turns| run_all(&pool, turns, &unfinished),
-    );
+    let mut first = spawned(&pool, low.as_slice(), &unfinished)?;
+    let mut second = spawned(&pool, high.as_slice(), &unfinished)?;
+    let mut one = pool.turns(0)?;
+    let mut other = pool.turns(1)?;
+    thread::join(&rt, || work(&pool, &mut one), || work(&pool, &mut other));
     let (first, second) = (output_of(&mut first), output_of(&mut second));
-    assert!(rt; first == Some(1275) && second == Some(3775));
+    assert!(rt; first == Some(1275) && second == Some(5050));
     Ok(())
 }
