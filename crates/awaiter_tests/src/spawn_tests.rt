@@ -2,7 +2,7 @@
 ghost use Rattle.std.specs.Prelude.{⊤};
 
 use async_task::{Future, Poll, Schedule, ScheduleInfo, Yields};
-use benchmarks::counting::Counting;
+use bench_report::counting::Counting;
 use linked_list_allocator::LocalHeap;
 use std::alloc::{AllocError, Global};
 use std::sync::Wait;

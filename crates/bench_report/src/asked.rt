@@ -29,21 +29,39 @@ pub enum Request {
 pub fn asked(args: &[String]) -> Option<Request>
     ensures known { IsSome result → BeginWithKnownWord args.now }
 {
-    match args {
-        [word] if word.as_str() == "--help" => Some(Request::Help),
-        [word] if word.as_str() == "check" => Some(Request::Check),
-        [word] if word.as_str() == "run" => Some(Request::Run(TASKS)),
-        [word, count] if word.as_str() == "run" => Some(Request::Run(tasks_of(count)?)),
-        [word] if word.as_str() == "grow" => Some(Request::Grow),
-        [word, executor, line, threads, count] if word.as_str() == "one" => {
-            let executor = Executor::named(executor)?;
-            let line = Line::named(line)?;
-            let threads = threads_of(threads)?;
-            let tasks = tasks_of(count)?;
-            Some(Request::One(executor, line, Size { tasks, threads }))
-        }
+    let (word, more) = args.split_first()?;
+    match word.as_str() {
+        "--help" if more.is_empty() => Some(Request::Help),
+        "check" if more.is_empty() => Some(Request::Check),
+        "grow" if more.is_empty() => Some(Request::Grow),
+        "run" => run(more),
+        "one" => one(more),
         _ => None,
     }
+}
+
+// All lines, where the word `run` is followed by a number of tasks, or by nothing.
+fn run(more: &[String]) -> Option<Request> {
+    let Some((count, beyond)) = more.split_first() else {
+        return Some(Request::Run(TASKS));
+    };
+    if beyond.is_empty() {
+        Some(Request::Run(tasks_of(count)?))
+    } else {
+        None
+    }
+}
+
+// One measurement, where the word `one` is followed by its executor, its line, its threads and its tasks.
+fn one(more: &[String]) -> Option<Request> {
+    let [executor, line, threads, count] = more else {
+        return None;
+    };
+    let executor = Executor::named(executor)?;
+    let line = Line::named(line)?;
+    let threads = threads_of(threads)?;
+    let tasks = tasks_of(count)?;
+    Some(Request::One(executor, line, Size { tasks, threads }))
 }
 
 // A number of tasks, which is not 0.

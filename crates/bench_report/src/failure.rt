@@ -1,9 +1,10 @@
-//! Why a line has no answer.
+//! Why a measurement has no answer, and the status of a program that says so.
+ghost use Rattle.std.specs.Prelude.{◌≡◌, ◌≤◌, IsErr};
 
 use std::alloc::{AllocError, AllocFailed};
 use std::{fmt, io};
 
-/// Why a line has no answer.
+/// Why a measurement has no answer.
 #[derive(Drop)]
 pub enum Failure {
     /// There was no memory.
@@ -12,6 +13,10 @@ pub enum Failure {
     Lost(u64, u64),
     /// A group answered for so many of its tasks, of so many.
     Unanswered(u64, u64),
+    /// A call did not do what is to be measured: there was no output, or nothing was scheduled; or nothing was measured.
+    Unexpected,
+    /// A thread could not be started.
+    NoThread,
     /// The clock, an executor or a writer failed.
     Io(io::Error),
 }
@@ -42,7 +47,20 @@ impl fmt::Display for Failure {
             Failure::Unanswered(answered, wanted) => {
                 write!(f, "a group answered for {answered} of {wanted} tasks")
             }
+            Failure::Unexpected => write!(f, "a call did not do what is to be measured"),
+            Failure::NoThread => write!(f, "no thread could be started"),
             Failure::Io(error) => write!(f, "{error}"),
         }
     }
+}
+
+// The status of this program; a failure is told on `err`.
+pub(crate) fn status_of<E: io::Write>(program: &str, done: Result<(), Failure>, err: &mut E) -> u8
+    ensures status { result ≤ 1 }
+    ensures failed { IsErr done → result ≡ 1 }
+{
+    if let Err(failure) = &done {
+        let _ = writeln!(err, "{program}: {failure}");
+    }
+    u8::from(done.is_err())
 }

@@ -1,15 +1,24 @@
-//! What `executorbench` is asked for, what it counts, and what it prints, without the executors that it measures.
+//! What the programs `executorbench` and `taskbench` are asked for, what they count, and what they print, without the tasks that they measure;
+//! and an allocator that counts.
 //! It stands on no other crate.
-//! A user calls nothing of it; the program `executorbench` calls `answer`, and counts by `Tally`.
+//! A user calls nothing of it. The two programs call `report::answer` and `operations::answer`; tests use `counting`.
 //! Nothing is public only to carry a claim.
 //! The page is docs/PERFORMANCE.md.
 #![tactic(auto)]
 
 pub mod asked;
+pub mod benchmark;
+#[cfg(test)]
+mod count_tests;
+pub mod counting;
+#[cfg(test)]
+mod execution_tests;
 pub mod failure;
 pub mod lines;
 pub mod memory;
+#[cfg(test)]
+mod operation_tests;
+pub mod operations;
 pub mod report;
 pub mod tally;
-#[cfg(test)]
-mod tests;
+pub mod times;

@@ -1,13 +1,13 @@
-//! The answer to the arguments, and what is printed.
-ghost use Rattle.std.specs.Prelude.{◌≡◌, ◌≤◌, IsErr};
+//! What `executorbench` answers to its arguments, and what it prints.
+ghost use Rattle.std.specs.Prelude.{◌≡◌, ◌≤◌};
 ghost use Rattle.bench_report.specs.Arguments.{BeginWithKnownWord};
 
 use crate::asked::{Request, asked};
-use crate::failure::Failure;
+use crate::failure::{Failure, status_of};
 use crate::lines::{Executor, Line, Size};
 use crate::tally::Measured;
+use crate::times::per_second;
 use std::alloc::Global;
-use std::time::Duration;
 use std::{fmt, io};
 
 const USAGE: &str =
@@ -83,18 +83,7 @@ where
         return 2;
     };
     let printed = print(alloc, request, measure, out);
-    status_of(printed, err)
-}
-
-// The status; a failure is told on `err`.
-fn status_of<E: io::Write>(printed: Result<(), Failure>, err: &mut E) -> u8
-    ensures status { result ≤ 1 }
-    ensures failed { IsErr printed → result ≡ 1 }
-{
-    if let Err(failure) = &printed {
-        let _ = writeln!(err, "executorbench: {failure}");
-    }
-    u8::from(printed.is_err())
+    status_of("executorbench", printed, err)
 }
 
 fn print<M, O: io::Write>(
@@ -266,13 +255,6 @@ fn print_help<O: io::Write>(out: &mut O) -> Result<(), Failure> {
         writeln!(out, "    {name}")?;
     }
     Ok(())
-}
-
-/// How many of these there were in a second; in no time, none.
-pub fn per_second(number: u64, elapsed: Duration) -> u64 {
-    let scaled = u128::from(number).saturating_mul(1_000_000_000);
-    let rate = scaled.checked_div(elapsed.as_nanos()).unwrap_or(0);
-    u64::try_from(rate).unwrap_or(u64::MAX)
 }
 
 // The part of one task.

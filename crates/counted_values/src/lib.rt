@@ -1,4 +1,5 @@
-//! What rows and tests hand to their tasks and look at afterwards: counters, an awaiter, outputs, what a future is to answer, and how a row ended.
+//! What rows and tests hand to their tasks and look at afterwards: counters, an awaiter, outputs, what a future is to answer, and how a row ended;
+//! and the names of the rows, with what `taskrows` prints of them.
 //! It stands on `task_core`.
 //! A user calls nothing of it; rows and tests do.
 //! Nothing is public only to carry a claim.
@@ -10,3 +11,7 @@ pub mod counters;
 pub mod flag;
 pub mod outcome;
 pub mod output;
+pub mod report;
+pub mod row;
+#[cfg(test)]
+mod tests;

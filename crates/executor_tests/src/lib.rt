@@ -1,5 +1,5 @@
 //! The tests of tasks under schedule values of other kinds (a queue by priority, a slot, a heap), of refused memory, and of threads that race.
-//! It stands on `fixtures`, `priority_heap` and `benchmarks`. Nothing is public. The page is docs/PROOFS.md.
+//! It stands on `fixtures`, `priority_heap` and `bench_report`. Nothing is public. The page is docs/PROOFS.md.
 #![tactic(auto)]
 
 #[cfg(test)]

@@ -6,7 +6,7 @@ use async_task::{
     Builder, Future, Poll, Runnable, Schedule, ScheduleInfo, SpawnError, Task, TaskPoll, TaskWaker,
     Yields, spawn,
 };
-use benchmarks::counting::Counting;
+use bench_report::counting::Counting;
 use counted_values::behaviour::Behaviour;
 use counted_values::counters::{Counter, Counters, Counts};
 use counted_values::flag::Flag;

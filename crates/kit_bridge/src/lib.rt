@@ -7,8 +7,6 @@
 
 mod awaiter;
 mod awaits;
-#[cfg(test)]
-mod tests;
 
 pub use awaiter::KitAwaiter;
 pub use awaits::{AwaitError, Awaits};

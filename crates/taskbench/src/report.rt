@@ -1,90 +1,65 @@
-//! The answer to the arguments, and what is printed.
-ghost use Rattle.std.specs.Prelude.{◌≡◌, ◌≤◌, [], IsErr};
+//! What is done for the arguments, and what is printed of it.
 
-use crate::asked::{Request, asked};
-use benchmarks::benchmark::Benchmark;
-use benchmarks::contended::Contention;
-use benchmarks::failure::Failure;
-use benchmarks::measure::{self, Hundredths};
-use benchmarks::requests;
+use crate::benchmark::perform;
+use crate::{contended, measure, requests};
+use bench_report::benchmark::{Benchmark, Contention};
+use bench_report::failure::Failure;
+use bench_report::operations::{Command, print_help};
+use bench_report::times::Hundredths;
 use std::alloc::Global;
 use std::io;
 use std::rt::Clock;
 use std::sync::Wait;
 use std::thread::Threads;
 
-const USAGE: &str = "usage: taskbench [run | quick | perform NAME COUNT]";
+// How many operations of each benchmark a check asks for.
+const FEW: u64 = 3;
 
-const HELP: &str = "
-Measures the operations of the library, and prints a line for each. Without arguments it does nothing.
-
-    run                   each benchmark, by 15 repetitions
-    quick                 .. by 5
-    perform NAME COUNT    so many operations of one benchmark, of which nothing is printed
-    --help                this text
-
-The names:
-
-";
-
-/// Does what the arguments ask for, and answers the status.
+/// Does what the arguments ask for.
 ///
-/// Without arguments it does nothing. Times are printed on `out`, a line for each benchmark, and its name on `err` before it is measured.
-/// After the benchmarks of one thread stand the allocations and bytes of one operation, of those that have a name for them.
-/// The status is 0; 1 where a benchmark or a writer failed, which is told on `err`; and 2, with a line on `err`, where it is not known what is asked for.
-pub fn answer<R, W: io::Write, E: io::Write>(
+/// Times are printed on `out`, a line for each benchmark, and its name on `err` before it is measured. After the benchmarks of one thread stand the
+/// allocations and bytes of one operation, of those that have a name for them.
+pub fn act<R, W: io::Write, E: io::Write>(
     rt: R,
     alloc: Global,
-    args: &[String],
+    command: Command,
     out: &mut W,
     err: &mut E,
-) -> u8
+) -> Result<(), Failure>
 where
     R: Clock + Threads + Wait + Drop + Copy + Send + Sync,
-    ensures status { result ≤ 2 }
-    ensures nothing { args.now ≡ [] → result ≡ 0 }
 {
-    let Some(request) = asked(args) else {
-        let _ = writeln!(err, "{USAGE}");
-        return 2;
-    };
-    match request {
-        Request::DoNothing => 0,
-        Request::Help => {
-            let printed = print_help(out);
-            status_of(printed, err)
-        }
-        Request::Measure(repetitions) => {
-            let printed = print_all(rt, alloc, repetitions, out, err);
-            status_of(printed, err)
-        }
-        Request::Perform(benchmark, count) => {
-            let performed = benchmark.perform(rt, alloc, count);
-            status_of(performed, err)
+    match command {
+        Command::DoNothing => Ok(()),
+        Command::Help => print_help(out),
+        Command::Check => print_check(rt, alloc, out),
+        Command::Measure(repetitions) => print_all(rt, alloc, repetitions, out, err),
+        Command::Perform(benchmark, count) => {
+            perform(benchmark, rt, alloc, count)?;
+            Ok(())
         }
     }
 }
 
-// The status; a failure is told on `err`.
-fn status_of<T: Drop, E: io::Write>(outcome: Result<T, Failure>, err: &mut E) -> u8
-    ensures status { result ≤ 1 }
-    ensures failed { IsErr outcome → result ≡ 1 }
+// How many of few operations each benchmark did, that those of several threads have an answer, and how often a spawn and a clone allocate.
+fn print_check<R, W: io::Write>(rt: R, alloc: Global, out: &mut W) -> Result<(), Failure>
+where
+    R: Clock + Threads + Wait + Drop + Copy + Send + Sync,
 {
-    match outcome {
-        Ok(_) => 0,
-        Err(failure) => {
-            let _ = writeln!(err, "taskbench: {failure}");
-            1
-        }
-    }
-}
-
-// What may be written: the arguments, and the names of the benchmarks that can be performed.
-fn print_help<W: io::Write>(out: &mut W) -> Result<(), Failure> {
-    write!(out, "{USAGE}\n{HELP}")?;
     for benchmark in Benchmark::ALL {
         let name = benchmark.name();
-        writeln!(out, "    {name}")?;
+        let done = perform(benchmark, rt, alloc, FEW)?;
+        writeln!(out, "{name} {done}")?;
+    }
+    for contention in Contention::ALL {
+        let name = contention.name();
+        contended::measure(contention, rt, alloc, 2, 1)?;
+        writeln!(out, "{name}")?;
+    }
+    for benchmark in [Benchmark::SpawnDropDrop, Benchmark::CloneDrop] {
+        let name = benchmark.name();
+        let counted = requests::count_requests(rt, alloc, benchmark)?.allocations;
+        writeln!(out, "{name} allocations {counted}")?;
     }
     out.flush()?;
     Ok(())
@@ -189,7 +164,7 @@ where
 {
     let name = contention.name();
     writeln!(err, "{name}_t{threads}")?;
-    let measured = contention.measure(rt, alloc, threads, repetitions)?;
+    let measured = contended::measure(contention, rt, alloc, threads, repetitions)?;
     let median = Hundredths(measured.time.median);
     let least = Hundredths(measured.time.least);
     let rate = measured.per_second;

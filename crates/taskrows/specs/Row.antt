@@ -2,16 +2,16 @@ use Rattle.std.specs.Prelude.{◌≡◌, IsTrue}
 use Rattle.counted_values.specs.declared.counters.Counts.{Counts}
 use Rattle.counted_values.specs.declared.outcome.Outcome.{Outcome}
 use Rattle.worked_rows.specs.Agreement.{counts}
-use Rattle.taskrows.specs.declared.table.Row.{Row}
-use Rattle.taskrows.specs.declared.table.Row.TheVariants.{DropAndDetach, DetachAndDrop, DetachAndRun, RunAndDetach}
-use Rattle.taskrows.specs.declared.table.Row.TheVariants.{CancelAndRun, CancelJoin, LastRun, RefusedClone}
-use Rattle.taskrows.specs.declared.table.Row.TheVariants.{AwaiterCompletes, AwaiterOrphan, ScheduleCounter, Sum}
-use Rattle.taskrows.specs.declared.table.Row.TheVariants.{Waker, WakerClone, WakerWake, WakeDropped, DropLastWaker}
-use Rattle.taskrows.specs.declared.table.Row.TheVariants.{WakeDuringRun, CancelDuringRun}
-use Rattle.taskrows.specs.declared.table.Row.TheVariants.{Limit, ClosedPoll, CancelFuture, Priorities, Local, RunAndCancel, DropInSchedule}
-use Rattle.taskrows.specs.declared.table.Row.TheVariants.{WakeAndCancel, CancelAndWake, DetachDuringRun, DropDuringRun, PollDuringRun}
-use Rattle.taskrows.specs.declared.table.Row.TheVariants.{CancelRefused, ClearQueue, WakeIntoDrop, DropInPoll, Priority, PriorityYield}
-use Rattle.taskrows.specs.declared.table.Row.TheVariants.{PriorityFull}
+use Rattle.counted_values.specs.declared.row.Row.{Row}
+use Rattle.counted_values.specs.declared.row.Row.TheVariants.{DropAndDetach, DetachAndDrop, DetachAndRun, RunAndDetach}
+use Rattle.counted_values.specs.declared.row.Row.TheVariants.{CancelAndRun, CancelJoin, LastRun, RefusedClone}
+use Rattle.counted_values.specs.declared.row.Row.TheVariants.{AwaiterCompletes, AwaiterOrphan, ScheduleCounter, Sum}
+use Rattle.counted_values.specs.declared.row.Row.TheVariants.{Waker, WakerClone, WakerWake, WakeDropped, DropLastWaker}
+use Rattle.counted_values.specs.declared.row.Row.TheVariants.{WakeDuringRun, CancelDuringRun}
+use Rattle.counted_values.specs.declared.row.Row.TheVariants.{Limit, ClosedPoll, CancelFuture, Priorities, Local, RunAndCancel, DropInSchedule}
+use Rattle.counted_values.specs.declared.row.Row.TheVariants.{WakeAndCancel, CancelAndWake, DetachDuringRun, DropDuringRun, PollDuringRun}
+use Rattle.counted_values.specs.declared.row.Row.TheVariants.{CancelRefused, ClearQueue, WakeIntoDrop, DropInPoll, Priority, PriorityYield}
+use Rattle.counted_values.specs.declared.row.Row.TheVariants.{PriorityFull}
 
 -- the numbers that the table of the rows has for a row
 abbrev pub counts_of : Row → Counts

@@ -1,26 +1,26 @@
-//! The program that runs the worked rows: those that its arguments ask for, and what is printed of each.
-//! It stands on `worked_rows` and `local_task`.
+//! The program that runs the worked rows.
+//! It stands on `worked_rows` and `local_task`, and on `counted_values` for the arguments and what is printed.
 //! A user runs it. Nothing is public only to carry a claim.
 //! The page is docs/ROWS.md.
 #![tactic(auto)]
 
-use crate::rows::rows;
+use counted_values::report::answer;
+use counted_values::row::Row;
 use std::process::ExitCode;
 use std::{env, io};
 
 mod local;
-mod rows;
 mod table;
-#[cfg(test)]
-mod tests;
 
 fn main(rt: HostRuntime) -> io::Result<ExitCode> {
-    let mut args = Vec::new(rt.alloc());
+    let alloc = rt.alloc();
+    let mut args = Vec::new(alloc);
     for arg in env::args(&rt)?.skip(1) {
         args.push(arg)?;
     }
     let mut out = io::writer(&rt);
     let mut err = rt.stderr();
-    let status = rows(rt, rt.alloc(), args.as_slice(), &mut out, &mut err);
+    let run = |row: Row| table::run(row, rt, alloc);
+    let status = answer(args.as_slice(), &run, &mut out, &mut err);
     Ok(ExitCode::from(status))
 }

@@ -3,6 +3,7 @@
 use crate::arguments::{Request, answer, asked};
 use crate::names::{ACTS, name};
 use crate::row::Shown;
+use crate::trace_tests::HEAD;
 use std::alloc::Global;
 use std::io;
 use std::test::Fail;
@@ -24,11 +25,6 @@ impl io::Write for Full {
 // A task that is spawned and run for one step.
 const INPUT: &str = "limit 4\n0 start-run\n";
 
-const HEAD: &str = "| Step | Act | Word | Flags | Count | Future | Output | Awaiter | Parties |
-|---|---|---|---|---|---|---|---|---|
-| 0 | spawn | 0x111 | SCHEDULED TASK | 1 | cell | empty | empty | 0 At(Runnable), 1 At(Task(0)), 2 At(Lent) |
-";
-
 const CHANGED: &str =
     "| 1 | 0 start-run | 0x112 | RUNNING TASK | 1 | party 0 | empty | empty | 0 Starting |\n";
 
@@ -40,55 +36,58 @@ const PROGRESS: &str =
 
 const USAGE: &str = "usage: tasktrace [--all | --progress | --help]\n";
 
-// The status, and what is printed on `out` and `err`.
-fn answered(alloc: Global, args: &[&str]) -> Result<(u8, Vec<u8>, Vec<u8>), Fail> {
+// The status, and what is printed.
+#[derive(Drop)]
+struct Told {
+    status: u8,
+    out: String,
+    err: String,
+}
+
+// What the program answers to a line of arguments.
+fn answered(alloc: Global, line: &str) -> Result<Told, Fail> {
     let mut words = Vec::new(alloc);
-    for arg in args {
-        words.push(String::from_str(alloc, *arg)?)?;
+    for word in line.split_whitespace() {
+        words.push(String::from_str(alloc, word)?)?;
     }
     let mut out = Vec::new(alloc);
     let mut err = Vec::new(alloc);
-    let status = answer(
-        alloc,
-        words.as_slice(),
-        INPUT.as_bytes(),
-        &mut out,
-        &mut err,
-    );
-    Ok((status, out, err))
+    let input = INPUT.as_bytes();
+    let status = answer(alloc, words.as_slice(), input, &mut out, &mut err);
+    let out = String::from_utf8(out)?;
+    let err = String::from_utf8(err)?;
+    Ok(Told { status, out, err })
+}
+
+// Whether this row is printed below the head.
+fn prints(alloc: Global, line: &str, row: &str) -> Result<bool, Fail> {
+    let told = answered(alloc, line)?;
+    let wanted = format!(in alloc; "{HEAD}{row}")?;
+    Ok(told.status == 0 && told.err.is_empty() && told.out == wanted)
 }
 
 #[test]
 fn each_argument_asks_for_its_rows(rt: HostRuntime) -> Result<(), Fail> {
-    let cases: [(&[&str], &str); 3] = [
-        (&[], CHANGED),
-        (&["--all"], ALL),
-        (&["--progress"], PROGRESS),
-    ];
-    for (args, row) in cases {
-        let (status, out, err) = answered(rt.alloc(), args)?;
-        let wanted = format!(in rt.alloc(); "{HEAD}{row}")?;
-        assert_eq!(rt; (status, err.len()), (0, 0), "{row}");
-        assert_eq!(rt; out.as_slice(), wanted.as_bytes());
+    for (line, row) in [("", CHANGED), ("--all", ALL), ("--progress", PROGRESS)] {
+        assert!(rt; prints(rt.alloc(), line, row)?, "{line}");
     }
     Ok(())
 }
 
 #[test]
 fn other_arguments_are_told_the_usage(rt: HostRuntime) -> Result<(), Fail> {
-    let cases: [&[&str]; 7] = [
-        &["--al"],
-        &["--progres"],
-        &["--all", "--progress"],
-        &["all"],
-        &["steps.txt"],
-        &["--all", "--all"],
-        &["--all", "--help"],
-    ];
-    for args in cases {
-        let (status, out, err) = answered(rt.alloc(), args)?;
-        assert_eq!(rt; (status, out.len()), (2, 0));
-        assert_eq!(rt; err.as_slice(), USAGE.as_bytes());
+    for line in [
+        "--al",
+        "--progres",
+        "--all --progress",
+        "all",
+        "steps.txt",
+        "--all --all",
+        "--all --help",
+    ] {
+        let told = answered(rt.alloc(), line)?;
+        let is_usage = told.out.is_empty() && told.err.as_str() == USAGE;
+        assert!(rt; is_usage && told.status == 2, "{line}");
     }
     Ok(())
 }
@@ -96,18 +95,10 @@ fn other_arguments_are_told_the_usage(rt: HostRuntime) -> Result<(), Fail> {
 // The help begins with the usage, tells each argument, and ends with a line for each act.
 #[test]
 fn the_help_lists_what_may_be_written(rt: HostRuntime) -> Result<(), Fail> {
-    let alloc = rt.alloc();
-    let (status, out, err) = answered(alloc, &["--help"])?;
-    let mut acts = String::new(alloc);
-    for act in ACTS {
-        let act = name(act);
-        let line = format!(in alloc; "    {act}\n")?;
-        acts.push_str(line.as_str())?;
-    }
-    assert_eq!(rt; (status, err.len()), (0, 0));
-    assert!(rt; out.as_slice().starts_with(USAGE.as_bytes()));
-    assert!(rt; out.as_slice().ends_with(acts.as_str().as_bytes()));
-    let text = String::from_utf8(out)?;
+    let told = answered(rt.alloc(), "--help")?;
+    let text = told.out.as_str();
+    let is_alone = told.err.is_empty() && told.status == 0;
+    assert!(rt; is_alone && text.starts_with(USAGE) && text.ends_with("    end-call\n"));
     for word in [
         "    --all ",
         "    --progress ",
@@ -116,32 +107,45 @@ fn the_help_lists_what_may_be_written(rt: HostRuntime) -> Result<(), Fail> {
         "`PARTY ACT`",
         "`#`",
     ] {
-        assert!(rt; text.as_str().contains(word), "{word}");
+        assert!(rt; text.contains(word), "{word}");
     }
     Ok(())
 }
 
 #[test]
+fn the_help_lists_each_act(rt: HostRuntime) -> Result<(), Fail> {
+    let alloc = rt.alloc();
+    let told = answered(alloc, "--help")?;
+    let mut acts = String::new(alloc);
+    for act in ACTS {
+        let act = name(act);
+        let line = format!(in alloc; "    {act}\n")?;
+        acts.push_str(line.as_str())?;
+    }
+    assert!(rt; told.out.as_str().ends_with(acts.as_str()));
+    Ok(())
+}
+
+// What a line of arguments asks for.
+fn asked_by(alloc: Global, line: &str) -> Result<Option<Request>, Fail> {
+    let mut words = Vec::new(alloc);
+    for word in line.split_whitespace() {
+        words.push(String::from_str(alloc, word)?)?;
+    }
+    Ok(asked(words.as_slice()))
+}
+
+#[test]
 fn a_request_is_read_from_the_arguments(rt: HostRuntime) -> Result<(), Fail> {
-    let all = [String::from_str(rt.alloc(), "--all")?];
-    let progress = [String::from_str(rt.alloc(), "--progress")?];
-    let help = [String::from_str(rt.alloc(), "--help")?];
-    let other = [String::from_str(rt.alloc(), "-h")?];
-    let seen = [
-        asked(&[]),
-        asked(&all),
-        asked(&progress),
-        asked(&help),
-        asked(&other),
-    ];
-    let expected = [
-        Some(Request::Trace(Shown::Changed)),
-        Some(Request::Trace(Shown::All)),
-        Some(Request::Trace(Shown::Progress)),
-        Some(Request::Help),
-        None,
-    ];
-    assert_eq!(rt; seen, expected);
+    for (line, request) in [
+        ("", Some(Request::Trace(Shown::Changed))),
+        ("--all", Some(Request::Trace(Shown::All))),
+        ("--progress", Some(Request::Trace(Shown::Progress))),
+        ("--help", Some(Request::Help)),
+        ("-h", None),
+    ] {
+        assert!(rt; asked_by(rt.alloc(), line)? == request, "{line}");
+    }
     Ok(())
 }
 
@@ -153,6 +157,6 @@ fn a_writer_that_fails_gives_status_one(rt: HostRuntime) -> Result<(), Fail> {
     let mut taken = Vec::new(alloc);
     let helped = answer(alloc, &help, INPUT.as_bytes(), &mut Full, &mut taken);
     let refused = answer(alloc, &other, INPUT.as_bytes(), &mut taken, &mut Full);
-    assert_eq!(rt; (helped, refused, taken.len()), (1, 1, 0));
+    assert!(rt; helped == 1 && refused == 1 && taken.is_empty());
     Ok(())
 }

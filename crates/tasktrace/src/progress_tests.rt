@@ -2,7 +2,7 @@
 
 use crate::progress::{act_there, steps_left};
 use crate::row::Shown;
-use crate::trace::trace;
+use crate::trace_tests::{READY, prints};
 use std::test::Fail;
 use task_core::acts::Act;
 use task_core::acts::Act::*;
@@ -15,24 +15,7 @@ use task_laws::positions::Position::*;
 use task_laws::positions::WithoutPoll::*;
 use task_laws::positions::{Position, Rest};
 
-const HEAD: &str = "| Step | Act | Word | Flags | Count | Future | Output | Awaiter | Parties |
-|---|---|---|---|---|---|---|---|---|
-| 0 | spawn | 0x111 | SCHEDULED TASK | 1 | cell | empty | empty | 0 At(Runnable), 1 At(Task(0)), 2 At(Lent) |
-";
-
-// A run whose poll answers Ready, and the Task that drops afterwards.
-const READY: &str = "limit 4
-0 start-run
-0 start-poll
-0 answer-ready
-0 drop-future
-0 store-output
-0 complete
-0 give-up-reference
-0 end-call
-1 claim-output
-";
-
+// The rows of a run whose poll answers Ready, and of the Task that drops afterwards.
 const READY_ROWS: &str = "\
 | 1 | 0 start-run | 0x112 | RUNNING TASK | 1 | party 0 | empty | empty | 0 Starting (13 left, may start-poll), 1 At(Task(0)), 2 At(Lent) |
 | 2 | 0 start-poll | 0x112 | RUNNING TASK | 1 | party 0 | empty | empty | 0 Polling (12 left, may answer-pending), 1 At(Task(0)), 2 At(Lent) |
@@ -86,14 +69,11 @@ const DROPPED_ROWS: &str = "\
 
 #[test]
 fn a_row_shows_how_far_each_party_is(rt: HostRuntime) -> Result<(), Fail> {
-    let alloc = rt.alloc();
     for (input, rows) in [(READY, READY_ROWS), (DROPPED, DROPPED_ROWS)] {
-        let mut out = Vec::new(alloc);
-        let mut err = Vec::new(alloc);
-        let status = trace(alloc, Shown::Progress, input.as_bytes(), &mut out, &mut err);
-        let wanted = format!(in alloc; "{HEAD}{rows}")?;
-        assert_eq!(rt; (status, err.len()), (0, 0));
-        assert_eq!(rt; out.as_slice(), wanted.as_bytes());
+        assert!(rt;
+            prints(rt.alloc(), Shown::Progress, input, rows)?,
+            "{input}"
+        );
     }
     Ok(())
 }

@@ -2,6 +2,7 @@
 
 use crate::row::Shown;
 use crate::trace::trace;
+use std::alloc::Global;
 use std::io;
 use std::test::Fail;
 
@@ -29,13 +30,38 @@ impl io::Write for Limited {
     }
 }
 
-const HEAD: &str = "| Step | Act | Word | Flags | Count | Future | Output | Awaiter | Parties |
+// The status, and what is printed.
+#[derive(Drop)]
+struct Told {
+    status: u8,
+    out: String,
+    err: String,
+}
+
+fn traced(alloc: Global, shown: Shown, input: &[u8]) -> Result<Told, Fail> {
+    let mut out = Vec::new(alloc);
+    let mut err = Vec::new(alloc);
+    let status = trace(alloc, shown, input, &mut out, &mut err);
+    let out = String::from_utf8(out)?;
+    let err = String::from_utf8(err)?;
+    Ok(Told { status, out, err })
+}
+
+// Whether all steps are played, and these rows are printed below the head.
+pub(crate) fn prints(alloc: Global, shown: Shown, input: &str, rows: &str) -> Result<bool, Fail> {
+    let told = traced(alloc, shown, input.as_bytes())?;
+    let wanted = format!(in alloc; "{HEAD}{rows}")?;
+    Ok(told.status == 0 && told.err.is_empty() && told.out == wanted)
+}
+
+pub(crate) const HEAD: &str =
+    "| Step | Act | Word | Flags | Count | Future | Output | Awaiter | Parties |
 |---|---|---|---|---|---|---|---|---|
 | 0 | spawn | 0x111 | SCHEDULED TASK | 1 | cell | empty | empty | 0 At(Runnable), 1 At(Task(0)), 2 At(Lent) |
 ";
 
 // A run whose poll answers Ready, and the Task that drops afterwards.
-const READY: &str = "limit 4
+pub(crate) const READY: &str = "limit 4
 0 start-run
 0 start-poll
 0 answer-ready
@@ -109,21 +135,13 @@ const REGISTER_ROWS: &str = "\
 
 #[test]
 fn a_row_is_printed_for_each_step(rt: HostRuntime) -> Result<(), Fail> {
-    let alloc = rt.alloc();
-    for (input, rows) in [
+    let lives = [
         (READY, READY_ROWS),
         (IDLE, IDLE_ROWS),
         (REGISTER, REGISTER_ROWS),
-    ] {
-        let mut out = Vec::new(alloc);
-        let mut err = Vec::new(alloc);
-        assert_eq!(rt;
-            trace(alloc, Shown::All, input.as_bytes(), &mut out, &mut err),
-            0
-        );
-        let wanted = format!(in alloc; "{HEAD}{rows}")?;
-        assert_eq!(rt; out.as_slice(), wanted.as_bytes());
-        assert_eq!(rt; err.len(), 0);
+    ];
+    for (input, rows) in lives {
+        assert!(rt; prints(rt.alloc(), Shown::All, input, rows)?, "{input}");
     }
     Ok(())
 }
@@ -162,14 +180,11 @@ const BY_REFERENCE_CHANGES: &str = "\
 
 #[test]
 fn a_row_shows_what_its_step_changed(rt: HostRuntime) -> Result<(), Fail> {
-    let alloc = rt.alloc();
     for (input, changes) in [(IDLE, IDLE_CHANGES), (BY_REFERENCE, BY_REFERENCE_CHANGES)] {
-        let mut out = Vec::new(alloc);
-        let mut err = Vec::new(alloc);
-        let status = trace(alloc, Shown::Changed, input.as_bytes(), &mut out, &mut err);
-        let wanted = format!(in alloc; "{HEAD}{changes}")?;
-        assert_eq!(rt; (status, err.len()), (0, 0));
-        assert_eq!(rt; out.as_slice(), wanted.as_bytes());
+        assert!(rt;
+            prints(rt.alloc(), Shown::Changed, input, changes)?,
+            "{input}"
+        );
     }
     Ok(())
 }
@@ -205,23 +220,18 @@ const REFUSED: [(u64, &str, &str); 7] = [
     (0, "0 gain-reference", "no word fits at this limit."),
 ];
 
+// Whether this step is refused for this reason, and nothing is printed before that but the head.
+fn is_refused(alloc: Global, limit: u64, step: &str, reason: &str) -> Result<bool, Fail> {
+    let input = format!(in alloc; "limit {limit}\n{step}\n1 look\n")?;
+    let told = traced(alloc, Shown::All, input.as_str().as_bytes())?;
+    let wanted = format!(in alloc; "{HEAD}\nStep 1, `{step}`, is not allowed: {reason}\n")?;
+    Ok(told.status == 1 && told.err.is_empty() && told.out == wanted)
+}
+
 #[test]
 fn a_refused_step_is_told_with_its_reason(rt: HostRuntime) -> Result<(), Fail> {
-    let alloc = rt.alloc();
     for (limit, step, reason) in REFUSED {
-        let input = format!(in alloc; "limit {limit}\n{step}\n1 look\n")?;
-        let mut out = Vec::new(alloc);
-        let mut err = Vec::new(alloc);
-        let status = trace(
-            alloc,
-            Shown::All,
-            input.as_str().as_bytes(),
-            &mut out,
-            &mut err,
-        );
-        let wanted = format!(in alloc; "{HEAD}\nStep 1, `{step}`, is not allowed: {reason}\n")?;
-        assert_eq!(rt; (status, err.len()), (1, 0), "{step}");
-        assert_eq!(rt; out.as_slice(), wanted.as_bytes(), "{step}");
+        assert!(rt; is_refused(rt.alloc(), limit, step, reason)?, "{step}");
     }
     Ok(())
 }
@@ -256,9 +266,16 @@ const DROPPED: &str = "limit 4
 2 gain-reference
 ";
 
+// Whether the step 11 is refused for this reason.
+fn ends_refused(alloc: Global, input: &str, step: &str, reason: &str) -> Result<bool, Fail> {
+    let told = traced(alloc, Shown::All, input.as_bytes())?;
+    let wanted = format!(in alloc; "\nStep 11, `{step}`, is not allowed: {reason}\n")?;
+    let is_last = told.out.as_str().ends_with(wanted.as_str());
+    Ok(told.status == 1 && told.err.is_empty() && is_last)
+}
+
 #[test]
 fn a_lent_waker_is_refused_where_no_handle_is_left(rt: HostRuntime) -> Result<(), Fail> {
-    let alloc = rt.alloc();
     let cases = [
         (
             ORPHANED,
@@ -272,22 +289,13 @@ fn a_lent_waker_is_refused_where_no_handle_is_left(rt: HostRuntime) -> Result<()
         ),
     ];
     for (input, step, reason) in cases {
-        let mut out = Vec::new(alloc);
-        let mut err = Vec::new(alloc);
-        let status = trace(alloc, Shown::All, input.as_bytes(), &mut out, &mut err);
-        let wanted = format!(in alloc; "\nStep 11, `{step}`, is not allowed: {reason}\n")?;
-        assert_eq!(rt; (status, err.len()), (1, 0), "{step}");
-        assert!(rt;
-            out.as_slice().ends_with(wanted.as_str().as_bytes()),
-            "{step}"
-        );
+        assert!(rt; ends_refused(rt.alloc(), input, step, reason)?, "{step}");
     }
     Ok(())
 }
 
 #[test]
 fn a_line_that_cannot_be_read_is_named(rt: HostRuntime) -> Result<(), Fail> {
-    let alloc = rt.alloc();
     let cases: [(&[u8], &str); 10] = [
         (b"", "line 1: expected `limit` and a number below 2^64\n"),
         (
@@ -321,26 +329,30 @@ fn a_line_that_cannot_be_read_is_named(rt: HostRuntime) -> Result<(), Fail> {
         ),
         (b"limit 4\n\xFF\n", "line 2: expected text in UTF-8\n"),
     ];
-    for (input, told) in cases {
-        let mut out = Vec::new(alloc);
-        let mut err = Vec::new(alloc);
-        assert_eq!(rt;
-            trace(alloc, Shown::All, input, &mut out, &mut err),
-            2,
-            "{told}"
-        );
-        assert_eq!(rt; err.as_slice(), told.as_bytes());
-        let begun = input.starts_with(b"limit");
-        let rows = if begun { HEAD } else { "" };
-        assert_eq!(rt; out.as_slice(), rows.as_bytes());
+    for (input, text) in cases {
+        assert!(rt; is_unread(rt.alloc(), input, text)?, "{text}");
     }
     Ok(())
 }
 
-#[test]
-fn a_writer_that_fails_gives_status_one(rt: HostRuntime) -> Result<(), Fail> {
-    let alloc = rt.alloc();
+// Whether this is told of a line that cannot be read, and nothing is printed but the head, if the limit was read.
+fn is_unread(alloc: Global, input: &[u8], text: &str) -> Result<bool, Fail> {
+    let told = traced(alloc, Shown::All, input)?;
+    let begun = input.starts_with(b"limit");
+    let rows = if begun { HEAD } else { "" };
+    Ok(told.status == 2 && told.err.as_str() == text && told.out.as_str() == rows)
+}
+
+// The status, where `out` takes so many bytes and then fails, and may fail to flush.
+fn status_of(alloc: Global, input: &str, left: usize, flushes: bool) -> (u8, usize) {
+    let mut limited = Limited { left, flushes };
     let mut err = Vec::new(alloc);
+    let status = trace(alloc, Shown::All, input.as_bytes(), &mut limited, &mut err);
+    (status, err.len())
+}
+
+#[test]
+fn a_writer_that_fails_gives_status_one(rt: HostRuntime) {
     let whole = HEAD.len().saturating_add(READY_ROWS.len());
     for (left, flushes) in [
         (0, true),
@@ -349,45 +361,28 @@ fn a_writer_that_fails_gives_status_one(rt: HostRuntime) -> Result<(), Fail> {
         (whole.saturating_sub(1), true),
         (whole, false),
     ] {
-        let mut limited = Limited { left, flushes };
-        let status = trace(alloc, Shown::All, READY.as_bytes(), &mut limited, &mut err);
-        assert_eq!(rt; status, 1, "after {left} bytes");
+        let (status, _) = status_of(rt.alloc(), READY, left, flushes);
+        assert!(rt; status == 1, "after {left} bytes");
     }
+}
+
+#[test]
+fn another_writer_that_fails_gives_status_one(rt: HostRuntime) {
     let mut full = Limited {
         left: 0,
         flushes: true,
     };
-    let mut out = Vec::new(alloc);
-    assert_eq!(rt;
-        trace(
-            alloc,
-            Shown::All,
-            b"0 look\n".as_slice(),
-            &mut out,
-            &mut full
-        ),
-        1
-    );
-    Ok(())
+    let mut out = Vec::new(rt.alloc());
+    let input = b"0 look\n".as_slice();
+    let status = trace(rt.alloc(), Shown::All, input, &mut out, &mut full);
+    assert!(rt; status == 1);
 }
 
 // What was printed of the steps before is flushed also where the trace ends early: where that fails it is told, and the status is 1.
 #[test]
 fn a_trace_that_ends_early_is_flushed(rt: HostRuntime) {
     for input in ["limit 4\n7 look\n", "limit 4\nlook\n"] {
-        let mut unflushed = Limited {
-            left: 4000,
-            flushes: false,
-        };
-        let mut err = Vec::new(rt.alloc());
-        let status = trace(
-            rt.alloc(),
-            Shown::All,
-            input.as_bytes(),
-            &mut unflushed,
-            &mut err,
-        );
-        assert_eq!(rt; status, 1, "{input}");
-        assert!(rt; err.len() > 0, "{input}");
+        let (status, told) = status_of(rt.alloc(), input, 4000, false);
+        assert!(rt; status == 1 && told > 0, "{input}");
     }
 }

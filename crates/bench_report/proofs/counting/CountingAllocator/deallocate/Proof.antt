@@ -1,0 +1,82 @@
+-- The allocator below takes the block back.
+use Rattle.std.proofs.Common.{◌≡◌, List, [], ◌∷◌, refl, ap, w64, Bor}
+use Rattle.std.proofs.alloc.Calls.{Gives}
+use Rattle.std.proofs.raw_atomic.Walks.{proved}
+use Rattle.std.specs.Allocator.{owned_block}
+use Rattle.std.specs.declared.alloc.Allocator.{Ghosts}
+use base.Fml.{ftrue}
+use base.Logic.{emp, id⊢}
+use contract.BorrowLft.{◌⊑◌}
+use contract.Monad.{fact, fact_i}
+use contract.Running.{tables}
+use denote.Builtin.{usize, unit}
+use denote.Exit.{yes}
+use denote.Memory.{hidden_shr}
+use denote.Param.{param}
+use denote.Plain.{uint_vals, uint_Tells}
+use denote.RattleType.{RattleType, owns}
+use denote.RawPtr.{RawPtr, rawptr_vals, rawptr_Tells, rawptr_Lawful}
+use denote.Ref.{shr_vals}
+use denote.Signature.{plain, types_at, type_at}
+use denote.Steps.{nothing, heard, only}
+use denote.Triple.Call.{calls_at}
+use denote.Triple.Clauses.{Lasts, lasts}
+use denote.Triple.Entry.{alive}
+use denote.Triple.Spec.{triple_of}
+use denote.Triple.Table.{framed}
+use denote.Triple.Walked.{Stays, stay_dropped, walk_of, ends_at, Goes-dropped}
+use mir.MapTy.{inst_fn}
+use mir.Syntax.{Dict}
+use mir.Val.{Val, vunit}
+use prog.Memory.{size, align, capped}
+use types.ByLocal.{alloc_all, pass_all, free_all, look_at, get, sets, lands_as}
+use types.Kit.{Item, ‵, raw, ◌⊛◌, some, later, ◌$◌, ◌∵◌, !, qed, done, move, drop, use0, use1, split, join, pick, rewrite, fsplit, fjoin, feq_l, feq_i, suffices, group, await}
+use types.Run.{of_opd, unit_lit, no_more, and_then, returns, enter}
+use Rattle.bench_report.proofs.Passing.{given, itself}
+use Rattle.bench_report.proofs.counting.Counting.below.Met as lent
+use Rattle.bench_report.proofs.counting.CountingAllocator.deallocate.Code as code
+use Rattle.bench_report.proofs.counting.CountingAllocator.deallocate.Statement.{statement}
+use Rattle.bench_report.specs.contracts.counting.Counting.below as lends
+use Rattle.bench_report.specs.contracts.counting.CountingAllocator.deallocate as here
+
+abbrev stayed : (B : RattleType) (ghosts : Ghosts B.Denot) (calls destruct : Dict) → Stays (here.ended B ghosts calls destruct).signature.params (here.ended B ghosts calls destruct).kept
+stayed B ghosts calls destruct = (stay_dropped (itself B) yes, (stay_dropped (plain (λ _. RawPtr)) yes, (stay_dropped (plain (λ _. usize)) yes, (stay_dropped (plain (λ _. usize)) yes, tt))))
+
+pub deallocate_spec : {M : Type 1} → statement M
+deallocate_spec 𝓤 𝓛 𝓜 𝓡 wired B laws ghosts calls destruct met drops =
+    let T = here.ended B ghosts calls destruct in let c = here.clauses B ghosts calls destruct 𝓛 𝓜.mem 𝓡.returns in let W = walk_of 𝓛 T (stayed B ghosts calls destruct) c in
+    let number = Goes-dropped 𝓛 2 (plain (λ _. usize)) yes (λ κs x w. refl) in
+    proved 𝓛 T (stayed B ghosts calls destruct) c 𝓜 𝓡 (Goes-dropped 𝓛 2 (itself B) yes (λ κs x w. refl), (Goes-dropped 𝓛 2 (plain (λ _. RawPtr)) yes (λ κs x w. refl), (number, (number, tt))))
+    (here.Key.name (given B calls destruct)) (inst_fn (given B calls destruct) code.function) (code.unfolded 𝓤 𝓛.H 𝓜 𝓡 wired (B, tt) calls destruct)
+    (λ κs. (shr_vals, (rawptr_vals, (uint_vals w64, (uint_vals w64, tt))))) (λ κs. ((λ r vs s. s.0), (rawptr_Tells, (uint_Tells w64, (uint_Tells w64, tt)))))
+    (λ κs qs bounds a τ are.
+    let self = a.0 in let place = a.1.0 in let bytes = a.1.1.0 in let alignment = a.1.1.1.0 in
+    let y : W.Ghost = ((κs, qs, bounds, a, (shr_vals self, (rawptr_vals place, (uint_vals w64 bytes, (uint_vals w64 alignment, tt))))), τ) in
+    let Lives = fact 𝓤 (κs.1.0 ⊑ B.lives) in let Asked = fact 𝓤 ((capped (size τ) ≡ bytes) × (capped (align τ) ≡ alignment)) in
+    let Alive : Item 𝓤 = raw (alive 𝓛 T.signature κs qs) in
+    let Lend = triple_of 𝓛 (lends.signature B) (lends.spec B ghosts calls destruct 𝓛 𝓜.mem 𝓡.returns) in
+    let z : Lend.Ghost = ((κs, qs, bounds, (self, tt), (shr_vals self, tt)), tt) in
+    let Give = Gives (record { row = B; laws = laws; g = ghosts; d = calls; drops = destruct }) 𝓛 𝓜.mem 𝓡.returns in
+    qed 𝓛 ((Alive ⊛ ‵ (owns (types_at T.signature.params κs) a y.0.4)) ∷ (raw Lives ⊛ raw Asked ⊛ ‵ (owned_block (ghosts.dealloc_token self.now.below) τ place)) ∷ []) ∵
+    move ! (1 ∷ []) $ split ! $ heard ! _ (λ lives. move ! (1 ∷ []) $ split ! $ move ! (1 ∷ []) $ fsplit ! $
+    -- [`self`; the other parameters; the tokens; what is asked, with the block]
+    nothing ! $ move ! (1 ∷ 0 ∷ []) $ fjoin ! $ move ! (2 ∷ 0 ∷ []) $ join ! $
+    nothing ! $ use0 𝓛 (raw Lives) (fact_i 𝓤 (κs.1.0 ⊑ B.lives) (emp 𝓤) lives) $ join ! $ move ! (1 ∷ 0 ∷ []) $ join ! $ use1 𝓛 (raw (Lend.pre z)) (id⊢ 𝓤 _) $
+    enter ! _ _ _ _ _ $ alloc_all ! (λ l. pass_all ! refl ((tt, tt), (((rawptr_Lawful 𝓛).typed place _ refl).0, ((tt, record { fits = are.1.1.0.1 }), ((tt, record { fits = are.1.1.1.0.1 }), tt)))) $
+    calls_at ! (framed 𝓤 𝓛.H 𝓜 (tables 𝓤 𝓛.H 𝓜 𝓡 𝓡.env)) Lend (lent.met 𝓤 𝓛 𝓜 𝓡 (code.calls-bench_report::counting::Counting::below 𝓡.env wired) B laws ghosts calls destruct met drops) z (and_then ! (get ! refl) (no_more !)) (λ v.
+    use1 𝓛 (later (some (λ (x : Bor B.Denot). (Alive ⊛ ‵ ((type_at (lends.signature B).result κs).own_val x (v ∷ []))) ⊛
+    some (λ (ws : Lasts (lends.ended B ghosts calls destruct) κs z.0.3). ‵ (lasts (lends.ended B ghosts calls destruct) κs z.0.3 ws) ⊛ raw (fact 𝓤 (x.now ≡ self.now.below)))))) (id⊢ 𝓤 _) $
+    await ! tt $ pick ! (λ x. split ! $ split ! $ move ! (2 ∷ []) $ pick ! (λ ws. split ! $ drop ! $ heard ! (x.now ≡ self.now.below) (λ same.
+    move ! (1 ∷ []) $ fsplit ! $ feq_l ! (λ at. lands_as ! (ap only at) refl (tt, tt) $
+    rewrite ! 0 (λ (h : B.Denot). ‵ (hidden_shr (param 0 B) κs.0 h x.ref_ptr.0 x.ref_ptr.1)) same refl $
+    -- [the `&` to the allocator below; the tokens; the other parameters; what is asked, with the block]
+    let z' : Give.Ghost = ((κs, qs, bounds, (record { ref_ptr = x.ref_ptr; now = self.now.below }, (place, (bytes, (alignment, tt)))), (shr_vals x, (rawptr_vals place, (uint_vals w64 bytes, (uint_vals w64 alignment, tt))))), τ) in
+    feq_i ! (List Val) (shr_vals x) (shr_vals x) refl $ fjoin ! $ move ! (0 ∷ 2 ∷ []) $ fjoin ! $ move ! (1 ∷ 0 ∷ []) $ join ! $
+    use0 𝓛 (raw Lives) (fact_i 𝓤 (κs.1.0 ⊑ B.lives) (emp 𝓤) lives) $ move ! (0 ∷ 2 ∷ []) $ join ! $ move ! (1 ∷ 0 ∷ []) $ join ! $ use1 𝓛 (raw (Give.pre z')) (id⊢ 𝓤 _) $
+    calls_at ! (framed 𝓤 𝓛.H 𝓜 (tables 𝓤 𝓛.H 𝓜 𝓡 𝓡.env)) Give (met.deallocate destruct) z' (and_then ! (get ! refl) (and_then ! (get ! refl) (and_then ! (get ! refl) (and_then ! (get ! refl) (no_more !))))) (λ v'.
+    use1 𝓛 (later (some (λ (u : Unit {0}). (Alive ⊛ ‵ (unit.own_val u (v' ∷ []))) ⊛ some (λ (ws : Lasts T κs a). ‵ (lasts T κs a ws) ⊛ ‵ ftrue)))) (id⊢ 𝓤 _) $
+    await ! tt $ pick ! (λ u. split ! $ move ! (1 ∷ []) $ drop ! $ split ! $ move ! (1 ∷ []) $ feq_l ! (λ over. lands_as ! (ap only over) refl (tt, tt) $
+    sets ! (of_opd ! (unit_lit !)) refl (tt, tt) $ returns ! (look_at ! 0 refl) $ free_all ! refl $
+    suffices ! _ (ends_at 𝓛 T (stayed B ghosts calls destruct) c y vunit tt (tt, (tt, (tt, (tt, tt)))) (tt, (tt, (tt, (tt, tt))))) $
+    nothing ! $ feq_i ! (List Val) (vunit ∷ []) (vunit ∷ []) refl $
+    nothing ! $ nothing ! $ fjoin ! $ nothing ! $ fjoin ! $ nothing ! $ fjoin ! $ nothing ! $ fjoin ! $ move ! (3 ∷ 0 ∷ 1 ∷ 2 ∷ []) $ group ! 3 $ done !)))))))))))

@@ -1,0 +1,102 @@
+//! What `taskbench` is asked for, and its answer.
+ghost use Rattle.std.specs.Prelude.{◌≡◌, ◌≤◌, [], IsSome, IfSome};
+ghost use Rattle.bench_report.specs.declared.operations.Command.TheVariants.{DoNothing};
+
+use crate::benchmark::Benchmark;
+use crate::failure::{Failure, status_of};
+use std::io;
+
+const USAGE: &str = "usage: taskbench [check | run | quick | perform NAME COUNT]";
+
+const HELP: &str = "
+Measures the operations of the library, and prints a line for each. Without arguments it does nothing.
+
+    check                 few operations of each benchmark, and no times: how many it did, and what a spawn and a clone allocate
+    run                   each benchmark, by 15 repetitions
+    quick                 .. by 5
+    perform NAME COUNT    so many operations of one benchmark, of which nothing is printed
+    --help                this text
+
+The names:
+
+";
+
+// How often each benchmark is measured.
+const REPETITIONS: u32 = 15;
+
+const QUICK_REPETITIONS: u32 = 5;
+
+/// What the arguments ask for.
+#[derive(Clone, Copy, Debug, PartialEq, Eq)]
+pub enum Command {
+    /// Nothing: there are none.
+    DoNothing,
+    /// What may be written.
+    Help,
+    /// Few operations of each benchmark, and no time.
+    Check,
+    /// The times of all benchmarks, each measured so often.
+    Measure(u32),
+    /// So many operations of one benchmark, and no time.
+    Perform(Benchmark, u64),
+}
+
+/// What the arguments ask for, or `None` where that is not known.
+pub fn asked(args: &[String]) -> Option<Command>
+    ensures known { args.now ≡ [] → IsSome result }
+    ensures nothing { args.now ≡ [] → IfSome result (λ command. command ≡ DoNothing) }
+{
+    let Some((word, more)) = args.split_first() else {
+        return Some(Command::DoNothing);
+    };
+    match word.as_str() {
+        "--help" if more.is_empty() => Some(Command::Help),
+        "check" if more.is_empty() => Some(Command::Check),
+        "run" if more.is_empty() => Some(Command::Measure(REPETITIONS)),
+        "quick" if more.is_empty() => Some(Command::Measure(QUICK_REPETITIONS)),
+        "perform" => performed(more),
+        _ => None,
+    }
+}
+
+// Operations of one benchmark, where the word `perform` is followed by its name and their number.
+fn performed(more: &[String]) -> Option<Command> {
+    let [name, count] = more else {
+        return None;
+    };
+    let benchmark = Benchmark::named(name)?;
+    let count = count.parse::<u64>().ok()?;
+    Some(Command::Perform(benchmark, count))
+}
+
+/// Has `act` do what the arguments ask for, and answers the status.
+///
+/// Without arguments nothing is done. The status is 0; 1 where `act` failed, which is told on `err`; and 2, with the usage on `err`, where it is
+/// not known what is asked for.
+pub fn answer<D, E: io::Write>(args: &[String], act: &D, err: &mut E) -> u8
+where
+    D: Fn(Command) -> Result<(), Failure>,
+    requires { D.IsAlwaysCallable act.now }
+    ensures status { result ≤ 2 }
+    ensures nothing { args.now ≡ [] → result ≡ 0 }
+{
+    let Some(command) = asked(args) else {
+        let _ = writeln!(err, "{USAGE}");
+        return 2;
+    };
+    match command {
+        Command::DoNothing => 0,
+        _ => status_of("taskbench", act(command), err),
+    }
+}
+
+/// Prints what may be written: the arguments, and the names of the benchmarks that can be performed.
+pub fn print_help<W: io::Write>(out: &mut W) -> Result<(), Failure> {
+    write!(out, "{USAGE}\n{HELP}")?;
+    for benchmark in Benchmark::ALL {
+        let name = benchmark.name();
+        writeln!(out, "    {name}")?;
+    }
+    out.flush()?;
+    Ok(())
+}
