@@ -1,7 +1,10 @@
-//! The tests of tasks under schedule values of other kinds (a queue by priority, a slot, a heap), of refused memory, and of threads that race.
-//! It stands on `fixtures`, `priority_heap` and `bench_report`. Nothing is public. The page is docs/PROOFS.md.
+//! The tests of tasks under executors of other kinds (a queue by priority, a slot, a heap), of what awaits them (awaiters, groups, the kit's futures),
+//! of refused memory, and of threads that race.
+//! It stands on `fixtures`, `priority_heap`, `awaiters`, `task_group`, `kit_bridge` and `bench_report`. Nothing is public. The page is docs/PROOFS.md.
 #![tactic(auto)]
 
+#[cfg(test)]
+mod awaiting;
 #[cfg(test)]
 mod calls;
 #[cfg(test)]

@@ -1,5 +1,5 @@
 //! Groups: the order in which members come out, those that ended before their push, a group that is full, and the ways to let all go.
-use crate::line::{Errand, Line, LineGroup, LineTask};
+use super::line::{Errand, Line, LineGroup, LineTask};
 use async_task::TaskClosed;
 use std::alloc::{AllocError, Global};
 use std::sync::Wait;

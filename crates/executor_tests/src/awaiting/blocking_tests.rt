@@ -1,5 +1,5 @@
 //! `block_on`, of a task that has ended, of one that another thread runs, and of one that is closed.
-use crate::line::{Errand, Line, LineTask};
+use super::line::{Errand, Line, LineTask};
 use awaiters::{BlockOnError, block_on};
 use std::alloc::{AllocError, Global};
 use std::sync::Wait;

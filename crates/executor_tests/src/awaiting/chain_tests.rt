@@ -1,5 +1,5 @@
 //! Tasks that await one another: a chain, and a ring.
-use crate::line::{Errand, Line, LineTask};
+use super::line::{Errand, Line, LineTask};
 use async_task::TaskPoll;
 use awaiters::{Awaiter, Mailbox};
 use std::alloc::{AllocError, Global};
