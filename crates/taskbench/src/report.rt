@@ -15,6 +15,9 @@ use std::thread::Threads;
 // How many operations of each benchmark a check asks for.
 const FEW: u64 = 3;
 
+// One more than the tasks of an executor, of which there are then two, since they come in whole executors.
+const BEYOND: u64 = 1001;
+
 /// Does what the arguments ask for.
 ///
 /// Times are printed on `out`, a line for each benchmark, and its name on `err` before it is measured. After the benchmarks of one thread stand the
@@ -32,7 +35,7 @@ where
     match command {
         Command::DoNothing => Ok(()),
         Command::Help => print_help(out),
-        Command::Check => print_check(rt, alloc, out),
+        Command::Check => print_check(rt, alloc, out, err),
         Command::Measure(repetitions) => print_all(rt, alloc, repetitions, out, err),
         Command::Perform(benchmark, count) => {
             perform(benchmark, rt, alloc, count)?;
@@ -41,27 +44,60 @@ where
     }
 }
 
-// How many of few operations each benchmark did, that those of several threads have an answer, and how often a spawn and a clone allocate.
-fn print_check<R, W: io::Write>(rt: R, alloc: Global, out: &mut W) -> Result<(), Failure>
+// What each benchmark does, and no time.
+fn print_check<R, W: io::Write, E: io::Write>(
+    rt: R,
+    alloc: Global,
+    out: &mut W,
+    err: &mut E,
+) -> Result<(), Failure>
 where
     R: Clock + Threads + Wait + Drop + Copy + Send + Sync,
 {
-    for benchmark in Benchmark::ALL {
-        let name = benchmark.name();
-        let done = perform(benchmark, rt, alloc, FEW)?;
-        writeln!(out, "{name} {done}")?;
+    print_all_done(rt, alloc, out)?;
+    print_contended(rt, alloc, out)?;
+    for benchmark in [Benchmark::SpawnDropDrop, Benchmark::CloneDrop] {
+        print_requests(rt, alloc, benchmark, benchmark.name(), out, err)?;
     }
+    Ok(())
+}
+
+// How many operations each benchmark did that was to do few, and an executor that was to run one task more than it has.
+fn print_all_done<R: Wait + Drop + Copy, W: io::Write>(
+    rt: R,
+    alloc: Global,
+    out: &mut W,
+) -> Result<(), Failure> {
+    for benchmark in Benchmark::ALL {
+        print_done(rt, alloc, benchmark, FEW, out)?;
+    }
+    print_done(rt, alloc, Benchmark::Execute1000Yield10, BEYOND, out)
+}
+
+// How many operations a benchmark did that was to do so many.
+fn print_done<R: Wait + Drop + Copy, W: io::Write>(
+    rt: R,
+    alloc: Global,
+    benchmark: Benchmark,
+    count: u64,
+    out: &mut W,
+) -> Result<(), Failure> {
+    let name = benchmark.name();
+    let done = perform(benchmark, rt, alloc, count)?;
+    writeln!(out, "{name} {done}")?;
+    Ok(())
+}
+
+// The names of the benchmarks of several threads, each once it has an answer.
+fn print_contended<R, W: io::Write>(rt: R, alloc: Global, out: &mut W) -> Result<(), Failure>
+where
+    R: Clock + Threads + Wait + Drop + Copy + Send + Sync,
+{
     for contention in Contention::ALL {
         let name = contention.name();
         contended::measure(contention, rt, alloc, 2, 1)?;
         writeln!(out, "{name}")?;
     }
-    for benchmark in [Benchmark::SpawnDropDrop, Benchmark::CloneDrop] {
-        let name = benchmark.name();
-        let counted = requests::count_requests(rt, alloc, benchmark)?.allocations;
-        writeln!(out, "{name} allocations {counted}")?;
-    }
-    out.flush()?;
     Ok(())
 }
 
