@@ -8,16 +8,10 @@
 
 pub mod asked;
 pub mod benchmark;
-#[cfg(test)]
-mod count_tests;
 pub mod counting;
-#[cfg(test)]
-mod execution_tests;
 pub mod failure;
 pub mod lines;
 pub mod memory;
-#[cfg(test)]
-mod operation_tests;
 pub mod operations;
 pub mod report;
 pub mod tally;

@@ -121,13 +121,23 @@ where
             let size = Size { tasks, threads };
             let pool = measure(Executor::Pool, line, size)?.ended;
             let futures = measure(Executor::Futures, line, size)?.ended;
-            let name = line.name();
-            writeln!(
-                out,
-                "{name} threads {threads} ended pool {pool} futures {futures}"
-            )?;
+            print_ended(line, threads, (pool, futures), out)?;
         }
     }
+    Ok(())
+}
+
+fn print_ended<O: io::Write>(
+    line: Line,
+    threads: usize,
+    (pool, futures): (u64, u64),
+    out: &mut O,
+) -> Result<(), Failure> {
+    let name = line.name();
+    writeln!(
+        out,
+        "{name} threads {threads} ended pool {pool} futures {futures}"
+    )?;
     Ok(())
 }
 
@@ -246,14 +256,17 @@ where
 fn print_help<O: io::Write>(out: &mut O) -> Result<(), Failure> {
     write!(out, "{USAGE}\n{HELP}")?;
     for line in Line::ALL {
-        let name = line.name();
-        writeln!(out, "    {name}")?;
+        print_name(line.name(), out)?;
     }
     writeln!(out)?;
     for executor in Executor::ALL {
-        let name = executor.name();
-        writeln!(out, "    {name}")?;
+        print_name(executor.name(), out)?;
     }
+    Ok(())
+}
+
+fn print_name<O: io::Write>(name: &str, out: &mut O) -> Result<(), Failure> {
+    writeln!(out, "    {name}")?;
     Ok(())
 }
 

@@ -13,5 +13,3 @@ pub mod outcome;
 pub mod output;
 pub mod report;
 pub mod row;
-#[cfg(test)]
-mod tests;

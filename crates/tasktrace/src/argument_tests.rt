@@ -44,12 +44,18 @@ struct Told {
     err: String,
 }
 
-// What the program answers to a line of arguments.
-fn answered(alloc: Global, line: &str) -> Result<Told, Fail> {
+// The words of a line of arguments.
+fn words_of(alloc: Global, line: &str) -> Result<Vec<String>, Fail> {
     let mut words = Vec::new(alloc);
     for word in line.split_whitespace() {
         words.push(String::from_str(alloc, word)?)?;
     }
+    Ok(words)
+}
+
+// What the program answers to a line of arguments.
+fn answered(alloc: Global, line: &str) -> Result<Told, Fail> {
+    let words = words_of(alloc, line)?;
     let mut out = Vec::new(alloc);
     let mut err = Vec::new(alloc);
     let input = INPUT.as_bytes();
@@ -128,11 +134,7 @@ fn the_help_lists_each_act(rt: HostRuntime) -> Result<(), Fail> {
 
 // What a line of arguments asks for.
 fn asked_by(alloc: Global, line: &str) -> Result<Option<Request>, Fail> {
-    let mut words = Vec::new(alloc);
-    for word in line.split_whitespace() {
-        words.push(String::from_str(alloc, word)?)?;
-    }
-    Ok(asked(words.as_slice()))
+    Ok(asked(words_of(alloc, line)?.as_slice()))
 }
 
 #[test]

@@ -1,9 +1,9 @@
 //! Tests of the arguments of `taskbench`.
 
-use crate::benchmark::Benchmark;
-use crate::execution_tests::words_of;
-use crate::failure::Failure;
-use crate::operations::{Command, answer, asked, print_help};
+use crate::words::words_of;
+use bench_report::benchmark::Benchmark;
+use bench_report::failure::Failure;
+use bench_report::operations::{Command, answer, asked, print_help};
 use std::alloc::{AllocError, Global};
 use std::test::Fail;
 
@@ -52,6 +52,13 @@ fn other_words_are_not_understood(rt: HostRuntime) -> Result<(), Fail> {
     Ok(())
 }
 
+// Whether the help is printed, and its text.
+fn help(alloc: Global) -> Result<(bool, String), Fail> {
+    let mut out = Vec::new(alloc);
+    let is_printed = print_help(&mut out).is_ok();
+    Ok((is_printed, String::from_utf8(out)?))
+}
+
 // The status, and what is told of a failure, where whatever is to be done fails.
 fn failing(alloc: Global, line: &str) -> Result<(u8, String), Fail> {
     let fail = |_: Command| -> Result<(), Failure> { Err(Failure::Unexpected) };
@@ -72,27 +79,35 @@ fn each_status_is_told(rt: HostRuntime) -> Result<(), Fail> {
     Ok(())
 }
 
-// The help begins with the usage, tells each argument, and ends with a line for each benchmark.
+// The help begins with the usage, tells each argument, and ends with the last benchmark.
 #[test]
 fn the_help_lists_what_may_be_written(rt: HostRuntime) -> Result<(), Fail> {
     let alloc = rt.alloc();
-    let mut out = Vec::new(alloc);
-    let printed = print_help(&mut out).is_ok();
-    let text = String::from_utf8(out)?;
+    let (is_printed, text) = help(alloc)?;
     let begins = text.as_str().starts_with("usage: taskbench [");
     let ends = text
         .as_str()
         .ends_with("    e_executor_n10000_k10_per_task\n");
-    assert!(rt; printed && begins && ends);
+    assert!(rt; is_printed && begins && ends);
     for word in ["check", "run", "quick", "perform NAME COUNT", "--help"] {
         let word = format!(in alloc; "\n    {word} ")?;
         assert!(rt; text.as_str().contains(word.as_str()));
     }
+    Ok(())
+}
+
+#[test]
+fn the_help_lists_each_benchmark(rt: HostRuntime) -> Result<(), Fail> {
+    let alloc = rt.alloc();
+    let (_, text) = help(alloc)?;
     for benchmark in Benchmark::ALL {
         let name = benchmark.name();
-        let word = format!(in alloc; "\n    {name}\n")?;
-        assert!(rt; text.as_str().contains(word.as_str()));
-        assert!(rt; Benchmark::named(name) == Some(benchmark));
+        let line = format!(in alloc; "\n    {name}\n")?;
+        let is_listed = text.as_str().contains(line.as_str());
+        assert!(rt;
+            is_listed && Benchmark::named(name) == Some(benchmark),
+            "{name}"
+        );
     }
     Ok(())
 }

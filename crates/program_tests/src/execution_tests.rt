@@ -1,35 +1,18 @@
 //! Tests of the arguments of `executorbench`, and of what it prints.
 
-use crate::asked::{MOST_THREADS, Request, asked};
-use crate::failure::Failure;
-use crate::lines::{Executor, Line, Size};
-use crate::report::answer;
-use crate::tally::Measured;
+use crate::words::{Told, words_of};
+use bench_report::asked::{MOST_THREADS, Request, asked};
+use bench_report::failure::Failure;
+use bench_report::lines::{Executor, Line, Size};
+use bench_report::report::answer;
+use bench_report::tally::Measured;
 use std::alloc::{AllocError, Global};
 use std::test::Fail;
 use std::time::Duration;
 
-// The words of a line of arguments.
-pub(crate) fn words_of(alloc: Global, line: &str) -> Result<Vec<String>, AllocError> {
-    let mut words = Vec::new(alloc);
-    for word in line.split_whitespace() {
-        let word = String::from_str(alloc, word)?;
-        words.push(word).map_err(|_| AllocError)?;
-    }
-    Ok(words)
-}
-
 // What a line of arguments asks for.
 fn asked_by(alloc: Global, line: &str) -> Result<Option<Request>, AllocError> {
     Ok(asked(words_of(alloc, line)?.as_slice()))
-}
-
-// What the program answers to a line of arguments.
-#[derive(Drop)]
-struct Told {
-    status: u8,
-    out: String,
-    err: String,
 }
 
 // The answer where a task needs a millisecond and 100 bytes of the pool, and two milliseconds and no known memory of the kit. More than
@@ -45,9 +28,7 @@ fn answer_to(alloc: Global, line: &str, most: u64) -> Result<Told, Fail> {
     let mut out = Vec::new(alloc);
     let mut err = Vec::new(alloc);
     let status = answer(alloc, words.as_slice(), &measure, &mut out, &mut err);
-    let out = String::from_utf8(out)?;
-    let err = String::from_utf8(err)?;
-    Ok(Told { status, out, err })
+    Told::new(status, out, err)
 }
 
 fn measured_by(executor: Executor, ended: u64) -> Measured {

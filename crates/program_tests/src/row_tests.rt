@@ -1,9 +1,10 @@
-//! Tests of what `taskrows` prints.
+//! Tests of the arguments of `taskrows`, and of what it prints.
 
-use crate::counters::Counts;
-use crate::outcome::Outcome;
-use crate::report::answer;
-use crate::row::Row;
+use crate::words::{Told, words_of};
+use counted_values::counters::Counts;
+use counted_values::outcome::Outcome;
+use counted_values::report::answer;
+use counted_values::row::Row;
 use std::alloc::{AllocError, Global};
 use std::io;
 use std::test::Fail;
@@ -48,11 +49,6 @@ fn status_of<W: io::Write, E: io::Write>(
     out: &mut W,
     err: &mut E,
 ) -> Result<u8, AllocError> {
-    let mut words = Vec::new(alloc);
-    for word in line.split_whitespace() {
-        let word = String::from_str(alloc, word)?;
-        words.push(word).map_err(|_| AllocError)?;
-    }
     let run = |_: Row| -> Result<Outcome, AllocError> {
         let counts = Counts::new(1, 2, 3, 4);
         match end {
@@ -61,24 +57,15 @@ fn status_of<W: io::Write, E: io::Write>(
             End::NoMemory => Err(AllocError),
         }
     };
-    Ok(answer(words.as_slice(), &run, out, err))
+    Ok(answer(words_of(alloc, line)?.as_slice(), &run, out, err))
 }
 
 // What the program answers to a line of arguments.
-#[derive(Drop)]
-struct Told {
-    status: u8,
-    out: String,
-    err: String,
-}
-
 fn answered(alloc: Global, line: &str, end: End) -> Result<Told, Fail> {
     let mut out = Vec::new(alloc);
     let mut err = Vec::new(alloc);
     let status = status_of(alloc, line, end, &mut out, &mut err)?;
-    let out = String::from_utf8(out)?;
-    let err = String::from_utf8(err)?;
-    Ok(Told { status, out, err })
+    Told::new(status, out, err)
 }
 
 const USAGE: &str = "usage: taskrows [threads | all]\n";
@@ -124,6 +111,32 @@ fn each_end_of_a_row_is_told(rt: HostRuntime) -> Result<(), Fail> {
         let told = answered(rt.alloc(), "threads", end)?;
         let is_told = told.out.as_str() == text && told.err.is_empty() && told.status == status;
         assert!(rt; is_told, "{text}");
+    }
+    Ok(())
+}
+
+// Whether each row that is told in one text is also told in another.
+fn tells_each_row(all: &str, rows: &str) -> bool {
+    for line in rows.lines() {
+        if !line.starts_with("rows ok: ") && !all.contains(line) {
+            return false;
+        }
+    }
+    true
+}
+
+// 38 rows are the 31 that need no threads, and 7 others.
+#[test]
+fn all_rows_are_those_without_threads_and_with(rt: HostRuntime) -> Result<(), Fail> {
+    let alloc = rt.alloc();
+    let all = answered(alloc, "all", End::Agrees)?.out;
+    let without = answered(alloc, "", End::Agrees)?.out;
+    let has_counts = all.as_str().ends_with("\nrows ok: 38 of 38\n")
+        && without.as_str().ends_with("\nrows ok: 31 of 31\n");
+    assert!(rt; has_counts && tells_each_row(all.as_str(), without.as_str()));
+    assert!(rt; tells_each_row(all.as_str(), AGREEING));
+    for line in AGREEING.lines() {
+        assert!(rt; !without.as_str().contains(line), "{line}");
     }
     Ok(())
 }

@@ -1,11 +1,11 @@
 //! Tests of what is counted: tasks, blocks, times and failures.
 
-use crate::counting::Counting;
-use crate::failure::Failure;
-use crate::memory::resident_of;
-use crate::tally::{Measured, Tally};
-use crate::times::{Hundredths, hundredths_of_one, per_second, summarize};
-use std::alloc::{AllocError, AllocFailed};
+use bench_report::counting::Counting;
+use bench_report::failure::Failure;
+use bench_report::memory::resident_of;
+use bench_report::tally::{Measured, Tally};
+use bench_report::times::{Hundredths, hundredths_of_one, per_second, summarize};
+use std::alloc::{AllocError, AllocFailed, Allocator};
 use std::io;
 use std::test::Fail;
 use std::time::Duration;
@@ -77,20 +77,26 @@ fn times_are_shown_in_nanoseconds(rt: HostRuntime) -> Result<(), Fail> {
     Ok(())
 }
 
+// How many blocks were asked for, and of how many bytes.
+fn counted<B: Allocator>(counting: &Counting<B>) -> (u64, u64) {
+    (counting.allocations(), counting.bytes())
+}
+
 // Five `u32` are 20 bytes, fourteen 56, and a `u64` is 8. A row that grows is a new block, and what is given back is not counted.
 #[test]
 fn blocks_are_counted_with_their_bytes(rt: HostRuntime) -> Result<(), Fail> {
     let counting = Counting::new(rt.alloc());
-    assert_eq!(rt; (counting.allocations(), counting.bytes()), (0, 0));
+    let none = counted(&counting);
     let mut row = Vec::with_capacity(&counting, 5)?;
     row.push(1u32)?;
-    assert_eq!(rt; (counting.allocations(), counting.bytes()), (1, 20));
+    let of_row = counted(&counting);
     drop(Box::new(&counting, 7u64)?);
-    assert_eq!(rt; (counting.allocations(), counting.bytes()), (2, 28));
+    let of_box = counted(&counting);
     row.try_reserve_exact(13)?;
-    assert_eq!(rt; (counting.allocations(), counting.bytes()), (3, 84));
+    let grown = counted(&counting);
     drop(row);
-    assert_eq!(rt; (counting.allocations(), counting.bytes()), (3, 84));
+    assert!(rt; none == (0, 0) && of_row == (1, 20) && of_box == (2, 28));
+    assert!(rt; grown == (3, 84) && counted(&counting) == grown);
     Ok(())
 }
 
@@ -101,6 +107,5 @@ fn a_refused_request_is_counted(rt: HostRuntime) {
     let above = Counting::new(&below);
     let refused: Result<Vec<u8, _>, AllocError> = Vec::with_capacity(&above, 1 << 60);
     assert!(rt; refused.is_err());
-    assert_eq!(rt; (above.allocations(), above.bytes()), (1, 1 << 60));
-    assert_eq!(rt; (below.allocations(), below.bytes()), (1, 1 << 60));
+    assert!(rt; counted(&above) == (1, 1 << 60) && counted(&below) == (1, 1 << 60));
 }

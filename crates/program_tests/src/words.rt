@@ -1,0 +1,31 @@
+//! The words of a line of arguments, and what a program answers to them.
+
+use std::alloc::{AllocError, Global};
+use std::test::Fail;
+
+/// The words between the spaces.
+pub fn words_of(alloc: Global, line: &str) -> Result<Vec<String>, AllocError> {
+    let mut words = Vec::new(alloc);
+    for word in line.split_whitespace() {
+        let word = String::from_str(alloc, word)?;
+        words.push(word).map_err(|_| AllocError)?;
+    }
+    Ok(words)
+}
+
+/// A status, and what was written to the output and for errors.
+#[derive(Drop)]
+pub struct Told {
+    pub status: u8,
+    pub out: String,
+    pub err: String,
+}
+
+impl Told {
+    /// A failure says that one of the texts is not UTF-8.
+    pub fn new(status: u8, out: Vec<u8>, err: Vec<u8>) -> Result<Told, Fail> {
+        let out = String::from_utf8(out)?;
+        let err = String::from_utf8(err)?;
+        Ok(Told { status, out, err })
+    }
+}
