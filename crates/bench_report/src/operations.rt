@@ -4,6 +4,7 @@ ghost use Rattle.bench_report.specs.declared.operations.Command.TheVariants.{DoN
 
 use crate::benchmark::Benchmark;
 use crate::failure::{Failure, status_of};
+use crate::report::print_name;
 use std::io;
 
 const USAGE: &str = "usage: taskbench [check | run | quick | perform NAME COUNT]";
@@ -94,8 +95,7 @@ where
 pub fn print_help<W: io::Write>(out: &mut W) -> Result<(), Failure> {
     write!(out, "{USAGE}\n{HELP}")?;
     for benchmark in Benchmark::ALL {
-        let name = benchmark.name();
-        writeln!(out, "    {name}")?;
+        print_name(benchmark.name(), out)?;
     }
     out.flush()?;
     Ok(())

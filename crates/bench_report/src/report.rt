@@ -265,7 +265,7 @@ fn print_help<O: io::Write>(out: &mut O) -> Result<(), Failure> {
     Ok(())
 }
 
-fn print_name<O: io::Write>(name: &str, out: &mut O) -> Result<(), Failure> {
+pub(crate) fn print_name<O: io::Write>(name: &str, out: &mut O) -> Result<(), Failure> {
     writeln!(out, "    {name}")?;
     Ok(())
 }

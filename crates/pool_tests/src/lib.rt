@@ -17,6 +17,8 @@ mod kind_tests;
 #[cfg(test)]
 mod refusal_tests;
 #[cfg(test)]
+mod search_tests;
+#[cfg(test)]
 mod store_tests;
 #[cfg(test)]
 mod storm_tests;

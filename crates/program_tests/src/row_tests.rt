@@ -115,10 +115,19 @@ fn each_end_of_a_row_is_told(rt: HostRuntime) -> Result<(), Fail> {
     Ok(())
 }
 
+fn has_line(text: &str, wanted: &str) -> bool {
+    for line in text.lines() {
+        if line == wanted {
+            return true;
+        }
+    }
+    false
+}
+
 // Whether each row that is told in one text is also told in another.
 fn tells_each_row(all: &str, rows: &str) -> bool {
     for line in rows.lines() {
-        if !line.starts_with("rows ok: ") && !all.contains(line) {
+        if !line.starts_with("rows ok: ") && !has_line(all, line) {
             return false;
         }
     }
@@ -136,7 +145,7 @@ fn all_rows_are_those_without_threads_and_with(rt: HostRuntime) -> Result<(), Fa
     assert!(rt; has_counts && tells_each_row(all.as_str(), without.as_str()));
     assert!(rt; tells_each_row(all.as_str(), AGREEING));
     for line in AGREEING.lines() {
-        assert!(rt; !without.as_str().contains(line), "{line}");
+        assert!(rt; !has_line(without.as_str(), line), "{line}");
     }
     Ok(())
 }

@@ -12,12 +12,13 @@ use atomic_table::{Refused, Seat, Table};
 use std::alloc::{AllocError, AllocFailed, Allocator, Global};
 use std::collections::VecDeque;
 use std::sync::Wait;
+use std::sync::atomic::{AtomicUsize, Ordering};
 use std::thread::yield_now;
 
 /// The most workers of a board.
 pub const MOST_WORKERS: usize = 1024;
 
-const EMPTY: u64 = 0;
+pub(crate) const EMPTY: u64 = 0;
 
 const LOCKED: u64 = 1;
 
@@ -26,6 +27,9 @@ pub(crate) const FILLED: u64 = 2;
 pub(crate) const AWAKE: u64 = 0;
 
 pub(crate) const ASLEEP: u64 = 1;
+
+/// No worker has this number.
+pub(crate) const NOBODY: usize = usize::MAX;
 
 // What a thread does at the board. It has no `Drop`, so it ends in `leave`, which asks that no look is owed.
 pub(crate) struct Visit<T, A: Allocator> {
@@ -37,6 +41,8 @@ pub(crate) struct Visit<T, A: Allocator> {
 pub struct Board<T, A: Allocator = Global> {
     pub(crate) table: Table<VecDeque<T, A>, u64, usize, Order, Global>,
     pub(crate) workers: usize,
+    // The worker that searches, or `NOBODY`.
+    pub(crate) searcher: AtomicUsize,
     ghost sized: { (table.shared.table_id.words ≡ workers + 1 + workers) × (table.shared.table_id.slots ≡ workers + 1) × (table.shared.key ≡ workers) × (0 < workers) × (workers ≤ 1024) },
 }
 
@@ -92,7 +98,11 @@ impl<T: Drop, A: Allocator + Copy> Board<T, A> {
         let words = words(alloc, workers + 1 + workers)?;
         let queues = queues(alloc, items, workers + 1, room)?;
         match Table::new(alloc, &words, queues, &workers) {
-            Ok((table, _seat)) => Ok(Board { table, workers }),
+            Ok((table, _seat)) => Ok(Board {
+                table,
+                workers,
+                searcher: AtomicUsize::new(NOBODY),
+            }),
             Err(Refused { slots: _ }) => Err(AllocError),
         }
     }
@@ -265,11 +275,17 @@ impl<T, A: Allocator> Board<T, A> {
         (Visit { seat }, shown != EMPTY)
     }
 
-    // Looks for a worker that sleeps, and makes it awake. It answers which.
-    fn call(&self, mut visit: Visit<T, A>) -> Option<Woken>
+    // Looks at the worker that searches, which is enough where it is awake, or else for one that sleeps, and makes it awake. It answers which.
+    pub(crate) fn call(&self, mut visit: Visit<T, A>) -> Option<Woken>
         requires { visit.seat.table_id ≡ self.now.table.shared.table_id }
         ensures { IfSome result (λ woken. woken.worker < self.now.workers) }
     {
+        let searcher = self.searcher.load(Ordering::SeqCst);
+        if searcher < self.workers {
+            let woken = self.rouse(&mut visit, searcher);
+            leave(visit);
+            return woken;
+        }
         for worker in 0..self.workers {
             if let Some(woken) = self.rouse(&mut visit, worker) {
                 leave(visit);

@@ -7,6 +7,8 @@ use crate::board::Board;
 use crate::woken::Woken;
 use std::alloc::{AllocError, Allocator, Global};
 use std::collections::VecDeque;
+use std::hint::spin_loop;
+use std::sync::atomic::{AtomicU64, Ordering};
 use std::sync::{Arc, Wait};
 
 /// How many items a worker takes from another queue at once, at most.
@@ -15,11 +17,19 @@ const BATCH: usize = 256;
 /// A worker looks at the queue for what comes from outside first, once in so many looks.
 const OUTSIDE_FIRST: u64 = 61;
 
+/// How often a worker that found nothing looks again before it lies down: for some tens of microseconds.
+const LOOKS: usize = 1024;
+
+/// It looks at all queues once in so many looks, and else only at counts that no worker writes for its own items.
+const LOOKS_A_ROUND: usize = 64;
+
 /// The board of a pool and its bells. `A` is where the queues take their memory. The items that are left are dropped with it.
 #[derive(Drop)]
 pub struct Crew<T, A: Allocator = Global> {
     board: Board<T, A>,
     bells: Arc<Bells>,
+    // How often items came from outside.
+    arrivals: AtomicU64,
 }
 
 /// What one worker keeps for itself.
@@ -52,6 +62,7 @@ impl<T: Drop, A: Allocator + Copy> Crew<T, A> {
         Ok(Crew {
             board,
             bells: Arc::new(alloc, bells)?,
+            arrivals: AtomicU64::new(0),
         })
     }
 
@@ -98,6 +109,9 @@ impl<T, A: Allocator> Crew<T, A> {
     {
         let queue = worker.min(self.board.workers());
         let (pushed, woken) = self.board.push(rt, queue, item);
+        if queue == self.board.workers() {
+            self.arrivals.fetch_add(1, Ordering::SeqCst);
+        }
         self.ring(woken);
         pushed
     }
@@ -124,18 +138,50 @@ impl<T, A: Allocator> Crew<T, A> {
         first
     }
 
+    // Takes no lock of a queue that is empty, nor of one whose worker is about to empty it.
     fn find_elsewhere<R: Wait>(&self, rt: &R, worker: &mut Worker<T, A>) -> Option<T> {
         let workers = self.board.workers();
-        if let Some(item) = self.steal(rt, worker, workers) {
-            return Some(item);
-        }
-        let number = worker.number % workers;
-        for step in 1..workers {
-            if let Some(item) = self.steal(rt, worker, (number + step) % workers) {
+        if !self.board.is_empty(workers) {
+            if let Some(item) = self.steal(rt, worker, workers) {
                 return Some(item);
             }
         }
+        let number = worker.number % workers;
+        for step in 1..workers {
+            let from = (number + step) % workers;
+            if self.board.is_left(from) {
+                if let Some(item) = self.steal(rt, worker, from) {
+                    return Some(item);
+                }
+            }
+        }
         None
+    }
+
+    // Looks for a while, as the one worker that searches. True where there is something to do.
+    fn search(&self, worker: usize, interruptions: u64) -> bool {
+        if !self.board.begin_search(worker) {
+            return false;
+        }
+        let finds = self.sees_work(worker, interruptions);
+        self.ring(self.board.end_search());
+        finds
+    }
+
+    fn sees_work(&self, worker: usize, interruptions: u64) -> bool {
+        let arrivals = self.arrivals.load(Ordering::SeqCst);
+        for look in 0..LOOKS {
+            if self.bells.interruptions() != interruptions
+                || self.arrivals.load(Ordering::SeqCst) != arrivals
+            {
+                return true;
+            }
+            if look % LOOKS_A_ROUND == 0 && self.board.has_some_for(worker) {
+                return true;
+            }
+            spin_loop();
+        }
+        false
     }
 
     /// The next item for this worker: what a batch left in its hands, then that at the front of its queue, then half of what came from outside or of another worker's queue. Once in 61 looks what came from outside is first.
@@ -155,10 +201,10 @@ impl<T, A: Allocator> Crew<T, A> {
         self.find_elsewhere(rt, worker)
     }
 
-    /// Sleeps, if no queue has an item and there was no interruption since `interruptions` were counted. It may also return for no reason.
+    /// Searches for a while, and then sleeps, if no queue has an item and there was no interruption since `interruptions` were counted. It may also return for no reason.
     pub fn rest<R: Wait>(&self, rt: &R, worker: &Worker<T, A>, interruptions: u64) {
         let number = worker.number;
-        if number >= self.board.workers() {
+        if number >= self.board.workers() || self.search(number, interruptions) {
             return;
         }
         let mut sleeper = self.board.lie_down(number);

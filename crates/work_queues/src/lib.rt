@@ -10,6 +10,7 @@ pub mod board;
 pub mod crew;
 pub mod moving;
 pub mod rule;
+pub mod searching;
 pub mod sleeping;
 pub mod woken;
 
