@@ -16,7 +16,7 @@ use Rattle.task_cell.specs.WakerPaths as paths
 use Rattle.task_cell.proofs.Attempts.{if_some, written_if, if_is, may_at}
 use Rattle.task_steps.proofs.WakerOwed as owed
 use Rattle.task_cell.proofs.Carried.{keeps_places}
-use Rattle.task_cell.proofs.Moved.{moved, goes}
+use Rattle.task_cell.proofs.Moved.{moved, goes, stands}
 
 -- whether the count had room, and the task was open, by the word that was written
 has_room : (limit : ℕ) (w : State) → is_some (gained_word limit w) ≡ true → nat_lt w.references limit ≡ true
@@ -47,24 +47,27 @@ module _ {F T A : Type 0} where
       (λ i. (sym (ap (λ (x : Me (Slot F T A) View). x.0.limit) is) i, sym (ap (λ (x : Me (Slot F T A) View). (head_of x.0.members).deeds) is) i))
 
   -- the party of a call by reference may be let go after the call
-  is_spent_after : (first last : Deed) (p q : Party F T A) → Goes (first ∷ last ∷ []) (At Lent) p q → is_spent q.seat.me.0 ≡ true
-  is_spent_after first last p q g = ap (λ (x : Me (Slot F T A) View). is_spent x.0) g.is
+  abbrev MayGo : Party F T A → Type 0
+  MayGo q = Stands (At Lent) q × (is_spent q.seat.me.0 ≡ true)
 
-  spent_by_row : (woken : Bool) (path : List Deed) (p q : Party F T A) → TaskWakePath woken path → Goes path (At Lent) p q → is_spent q.seat.me.0 ≡ true
+  is_spent_after : (first last : Deed) (p q : Party F T A) → Goes (first ∷ last ∷ []) (At Lent) p q → MayGo q
+  is_spent_after first last p q g = (stands p q (first ∷ last ∷ []) (At Lent) [] g, ap (λ (x : Me (Slot F T A) View). is_spent x.0) g.is)
+
+  spent_by_row : (woken : Bool) (path : List Deed) (p q : Party F T A) → TaskWakePath woken path → Goes path (At Lent) p q → MayGo q
   spent_by_row _ _ p q (paths.is_over w f) g = is_spent_after (row WakeOver w) (act EndCall) p q g
   spent_by_row _ _ p q (is_scheduled w f) g = is_spent_after (row WakeScheduled w) (act EndCall) p q g
   spent_by_row _ _ p q (is_running w f) g = is_spent_after (row WakeRunning w) (act EndCall) p q g
   spent_by_row _ _ p q (is_idle w f) g = is_spent_after (row WakeIdle w) (act EndCall) p q g
 
-  pub spent_by_wake : (p q : Party F T A) (made : Option (Party F T A)) → WakesTask p q made → is_spent q.seat.me.0 ≡ true
+  pub spent_by_wake : (p q : Party F T A) (made : Option (Party F T A)) → WakesTask p q made → MayGo q
   spent_by_wake p q None (makes_none path w g) = spent_by_row false path p q w g
   spent_by_wake p q (Some d) (makes_one path x w g n) = spent_by_row true path p q w g
 
-  spent_by_count : (limit : ℕ) (gained : Bool) (path : List Deed) (p q : Party F T A) → GainPath limit gained path → Goes path (At Lent) p q → is_spent q.seat.me.0 ≡ true
+  spent_by_count : (limit : ℕ) (gained : Bool) (path : List Deed) (p q : Party F T A) → GainPath limit gained path → Goes path (At Lent) p q → MayGo q
   spent_by_count limit _ _ p q (is_gained w room) g = is_spent_after (row GainReference w) (act EndCall) p q g
   spent_by_count limit _ _ p q (finds_limit w room) g = is_spent_after (row FindLimit w) (act EndCall) p q g
 
-  pub spent_by_gain : (limit : ℕ) (p q : Party F T A) (b : Bool) → GainsShare limit p q b → is_spent q.seat.me.0 ≡ true
+  pub spent_by_gain : (limit : ℕ) (p q : Party F T A) (b : Bool) → GainsShare limit p q b → MayGo q
   spent_by_gain limit p q false (is_refused g) = is_spent_after (act RefuseGain) (act EndCall) p q g
   spent_by_gain limit p q _ (goes_on_to b path w g) = spent_by_count limit b path p q w g
 

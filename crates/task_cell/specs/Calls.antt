@@ -11,7 +11,7 @@ use Rattle.task_steps.specs.declared.table.Deed.{Deed}
 use Rattle.task_cell.specs.declared.cell.Party.{Party}
 use Rattle.task_steps.specs.Rule.{member, view, fresh}
 use Rattle.task_steps.specs.Deeds.{row, act, after}
-use Rattle.task_steps.specs.Standing.{way_of}
+use Rattle.task_steps.specs.Standing.{way_of, as_runnable, as_waker}
 use Rattle.task_steps.specs.Steps.{head_of}
 
 -- the table has the row for this word; no limit is asked for
@@ -39,6 +39,11 @@ module _ {F T A : Type 0} where
 
   abbrev pub Stands : Position → Party F T A → Type 0
   Stands at p = StandsWith at [] p
+
+  -- a Runnable or a waker that has done nothing, alone on its seat
+  pub data IsFreshHandle (p : Party F T A) : Type 0 where
+    is_runnable : (limit : ℕ) → p.seat.me ≡ (view limit (fresh as_runnable ∷ []), []) → IsFreshHandle p
+    is_waker : (limit : ℕ) → p.seat.me ≡ (view limit (fresh as_waker ∷ []), []) → IsFreshHandle p
 
   -- q is the party p after this path: it stands here now, and has these places
   pub record GoesWith (path : List Deed) (at : Position) (held : List (ℕ × Slot F T A)) (p q : Party F T A) : Type 0 where

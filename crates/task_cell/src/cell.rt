@@ -3,8 +3,8 @@ ghost use Rattle.std.specs.Prelude.{◌≡◌, ℕ, ◌<◌, [], ◌∷◌, true
 ghost use Rattle.std.specs.Arc.{arc_value};
 ghost use Rattle.task_steps.specs.Rule.{view, fresh};
 ghost use Rattle.task_steps.specs.Seats.{is_spent};
-ghost use Rattle.task_cell.specs.Calls.{limit_of, position, deeds, Stands};
-ghost use Rattle.task_steps.specs.Standing.{as_runnable, as_ended};
+ghost use Rattle.task_cell.specs.Calls.{limit_of, deeds, Stands, IsFreshHandle};
+ghost use Rattle.task_steps.specs.Standing.{as_runnable, as_ended, as_lent};
 
 use atomic_table::Seat;
 use std::alloc::{Allocator, Global};
@@ -31,25 +31,25 @@ pub struct Party<F, T, A> {
 }
 
 impl<F, T, A> Party<F, T, A> {
-    /// Lets an ended party go.
+    /// Lets an ended party go, which is alone on its seat.
     pub fn let_go(self)
-        requires { position self ≡ as_ended }
+        requires { Stands as_ended self }
     {
         let Party { seat } = self;
         discard(seat);
     }
 
-    // Lets the party of a call by reference go, which has made the call.
+    // Lets the party of a call by reference go, which has made the call, and is alone on its seat.
     pub(crate) fn give_back(self)
-        requires { is_spent self.seat.me.0 ≡ true }
+        requires { Stands as_lent self × (is_spent self.seat.me.0 ≡ true) }
     {
         let Party { seat } = self;
         discard(seat);
     }
 
-    // The seat of a handle, which nobody steps with before the handle is taken apart.
+    // The seat of a Runnable or a waker that has done nothing, with which nobody steps before the handle is taken apart.
     pub(crate) fn into_resting(self) -> RestingSeat<F, T, A>
-        requires { self.seat.me.1 ≡ [] }
+        requires { IsFreshHandle self }
         ensures { (result.seat.table_id ≡ self.seat.table_id) × (result.seat.view ≡ self.seat.me.0) }
     {
         let Party { seat } = self;

@@ -28,7 +28,7 @@ needs_nobody (At Ended) deeds = true
 needs_nobody (At Lent) (newest ∷ older) = true
 needs_nobody at deeds = false
 
--- nobody will step with the seat again: no task was spawned by it, or its first party may be let go
+-- nobody will step with the seat again: no task was spawned by it, or it has one party at most, which may be let go
 abbrev pub is_spent : View → Bool
 is_spent v = is_laid v.stage || none_left v.members
   where
@@ -38,4 +38,5 @@ is_spent v = is_laid v.stage || none_left v.members
 
     none_left : List Member → Bool
     none_left [] = true
-    none_left (u ∷ us) = needs_nobody u.at u.deeds
+    none_left (u ∷ []) = needs_nobody u.at u.deeds
+    none_left (u ∷ w ∷ us) = false

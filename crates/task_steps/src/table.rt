@@ -126,9 +126,10 @@ pub fn polled<W, F: Future<W>, A>(slot: &mut Slot<F, Kept<F>, A>, waker: &W) -> 
     }
 }
 
-/// Lets a seat go that nobody will step with again: it was laid only, or its first party has ended, or was lent for a call and has made one.
+/// Lets a seat go that nobody will step with again, and that has no place of the table: it was laid only, or its one party has ended, or was lent for a call and has made one.
 pub fn discard<F, T, A>(seat: Seat<Slot<F, T, A>, View>)
-    requires { is_spent seat.me.0 ≡ true }
+    requires spent { is_spent seat.me.0 ≡ true }
+    requires places { seat.me.1 ≡ [] }
 {
     let Seat { .. } = seat;
 }
