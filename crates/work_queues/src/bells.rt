@@ -5,11 +5,12 @@ use std::alloc::{AllocError, Global};
 use std::sync::Wait;
 use std::sync::atomic::{AtomicU64, Ordering};
 
-/// A bell for each worker, and a count of interruptions.
+/// A bell for each worker, whether a thread has it, and a count of interruptions.
 #[derive(Drop)]
 pub struct Bells {
     bells: Vec<AtomicU64>,
     resting: Vec<AtomicU64>,
+    taken: Vec<AtomicU64>,
     interruptions: AtomicU64,
 }
 
@@ -27,8 +28,24 @@ impl Bells {
         Ok(Bells {
             bells: zeros(alloc, workers)?,
             resting: zeros(alloc, workers)?,
+            taken: zeros(alloc, workers)?,
             interruptions: AtomicU64::new(0),
         })
+    }
+
+    // Takes the number of a worker, where there is one and no thread has it.
+    pub(crate) fn take(&self, worker: usize) -> bool {
+        match self.taken.get(worker) {
+            Some(taken) => taken.swap(1, Ordering::SeqCst) == 0,
+            None => false,
+        }
+    }
+
+    // Gives the number of a worker back, which another thread may take from here on.
+    pub(crate) fn give_back(&self, worker: usize) {
+        if let Some(taken) = self.taken.get(worker) {
+            taken.store(0, Ordering::SeqCst);
+        }
     }
 
     /// Wakes this worker, if there is one of this number.

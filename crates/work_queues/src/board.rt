@@ -1,5 +1,5 @@
 //! The board of a pool: a queue for each worker and one for all, and which workers sleep.
-ghost use Rattle.std.specs.Prelude.{◌≡◌, ◌≢◌, ℕ, ◌+◌, ◌<◌, ◌≤◌, ◌++◌, [], ◌∷◌, true, false, IfOk, IfErr, IfSome, OnOk, MatchOption, List, length, slice_index, min, ◌-◌, ◌/◌, option_to_list, IsSome, ◌↔◌, is_ok, if◌then◌else◌};
+ghost use Rattle.std.specs.Prelude.{◌≡◌, ◌≢◌, ℕ, ◌+◌, ◌<◌, ◌≤◌, ◌++◌, [], ◌∷◌, true, false, IfOk, IfErr, IfSome, OnOk, MatchOption, List, length, slice_index, min, max, ◌-◌, ◌/◌, option_to_list, IsSome, ◌↔◌, is_ok, if◌then◌else◌};
 ghost use Rattle.std.specs.VecDeque.{deque_len, deque_capacity};
 ghost use mathlib.Core.Option.{some};
 ghost use lib.ListN.{get_elem?};
@@ -93,7 +93,9 @@ impl<T: Drop, A: Allocator + Copy> Board<T, A> {
         items: A,
         workers: usize,
         room: usize,
-    ) -> Result<Board<T, A>, AllocError> {
+    ) -> Result<Board<T, A>, AllocError>
+        ensures { IfOk result (λ board. board.workers ≡ min (max workers 1) 1024) }
+    {
         let workers = workers.max(1).min(MOST_WORKERS);
         let words = words(alloc, workers + 1 + workers)?;
         let queues = queues(alloc, items, workers + 1, room)?;

@@ -4,10 +4,11 @@ ghost use Rattle.std.specs.Arc.{arc_value};
 
 use crate::bells::Bells;
 use crate::board::Board;
+use crate::claim::Claim;
+use crate::searching::pause;
 use crate::woken::Woken;
 use std::alloc::{AllocError, Allocator, Global};
 use std::collections::VecDeque;
-use std::hint::spin_loop;
 use std::sync::atomic::{AtomicU64, Ordering};
 use std::sync::{Arc, Wait};
 
@@ -17,11 +18,11 @@ const BATCH: usize = 256;
 /// A worker looks at the queue for what comes from outside first, once in so many looks.
 const OUTSIDE_FIRST: u64 = 61;
 
-/// How often a worker that found nothing looks again before it lies down: for some tens of microseconds.
-const LOOKS: usize = 1024;
+/// How often a worker that found nothing looks again before it lies down. How long that takes depends on the processor, as its `spin_loop` does: from 20 microseconds to some hundreds.
+const LOOKS: usize = 512;
 
-/// It looks at all queues once in so many looks, and else only at counts that no worker writes for its own items.
-const LOOKS_A_ROUND: usize = 64;
+/// It looks at all queues once in so many looks, and else only at counts that no worker writes for its own items. In a round `Board::is_left` may look 64 times at a queue of another worker, so beside queues that fill and empty a search has up to twice `LOOKS` more for each of them.
+const LOOKS_A_ROUND: usize = 32;
 
 /// The board of a pool and its bells. `A` is where the queues take their memory. The items that are left are dropped with it.
 #[derive(Drop)]
@@ -32,12 +33,14 @@ pub struct Crew<T, A: Allocator = Global> {
     arrivals: AtomicU64,
 }
 
-/// What one worker keeps for itself.
+/// What one worker keeps for itself. While it lives, no other one has its number.
 #[derive(Drop)]
 pub struct Worker<T, A: Allocator = Global> {
     number: usize,
     looks: u64,
     batch: VecDeque<T, A>,
+    claim: Claim,
+    ghost claimed: { claim.number ≡ number },
 }
 
 impl<T, A: Allocator> Worker<T, A> {
@@ -66,18 +69,20 @@ impl<T: Drop, A: Allocator + Copy> Crew<T, A> {
         })
     }
 
-    /// What the worker of this number keeps: its hands take their memory of `items`. An error says that there was no memory, or that there is no such worker.
+    /// What the worker of this number keeps: its hands take their memory of `items`. An error says that there was no memory, that there is no such worker, or that another `Worker` has this number.
     pub fn worker(&self, items: A, number: usize) -> Result<Worker<T, A>, AllocError>
         ensures { IfOk result (λ worker. (worker.number ≡ number) × (number < self.now.board.workers)) }
     {
         if number >= self.board.workers() {
             return Err(AllocError);
         }
+        let claim = Claim::new(Arc::try_clone(&self.bells)?, number).ok_or(AllocError)?;
         let batch = VecDeque::with_capacity(items, BATCH)?;
         Ok(Worker {
             number,
             looks: 0,
             batch,
+            claim,
         })
     }
 }
@@ -138,7 +143,7 @@ impl<T, A: Allocator> Crew<T, A> {
         first
     }
 
-    // Takes no lock of a queue that is empty, nor of one whose worker is about to empty it.
+    // Takes no lock of a queue that is empty, nor of one whose worker is about to empty it. Each worker begins behind its own queue, so that thieves spread.
     fn find_elsewhere<R: Wait>(&self, rt: &R, worker: &mut Worker<T, A>) -> Option<T> {
         let workers = self.board.workers();
         if !self.board.is_empty(workers) {
@@ -147,9 +152,9 @@ impl<T, A: Allocator> Crew<T, A> {
             }
         }
         let number = worker.number % workers;
-        for step in 1..workers {
+        for step in 0..workers {
             let from = (number + step) % workers;
-            if self.board.is_left(from) {
+            if from != worker.number && self.board.is_left(from) {
                 if let Some(item) = self.steal(rt, worker, from) {
                     return Some(item);
                 }
@@ -160,11 +165,11 @@ impl<T, A: Allocator> Crew<T, A> {
 
     // Looks for a while, as the one worker that searches. True where there is something to do.
     fn search(&self, worker: usize, interruptions: u64) -> bool {
-        if !self.board.begin_search(worker) {
+        let Some(search) = self.board.begin_search(worker) else {
             return false;
-        }
+        };
         let finds = self.sees_work(worker, interruptions);
-        self.ring(self.board.end_search());
+        self.board.end_search(search, &self.bells);
         finds
     }
 
@@ -179,12 +184,12 @@ impl<T, A: Allocator> Crew<T, A> {
             if look % LOOKS_A_ROUND == 0 && self.board.has_some_for(worker) {
                 return true;
             }
-            spin_loop();
+            pause();
         }
         false
     }
 
-    /// The next item for this worker: what a batch left in its hands, then that at the front of its queue, then half of what came from outside or of another worker's queue. Once in 61 looks what came from outside is first.
+    /// The next item for this worker: what a batch left in its hands, then that at the front of its queue, then half of what came from outside or of another worker's queue. Once in 61 looks what came from outside is first. `None` also where another worker's queue shows items that this one leaves to it.
     pub fn find<R: Wait>(&self, rt: &R, worker: &mut Worker<T, A>) -> Option<T> {
         if let Some(item) = worker.batch.pop_front() {
             return Some(item);

@@ -1,33 +1,61 @@
 //! The search of a worker that found nothing: it looks for a while longer before it lies down, so that what comes soon needs no bell.
 //! One worker searches at a time. It is awake, so meanwhile a queue that gets items wakes no other.
-ghost use Rattle.std.specs.Prelude.{◌≡◌, ◌<◌, ◌≤◌, IfSome};
+ghost use Rattle.std.specs.Prelude.{◌≤◌, IfSome};
+ghost use Rattle.work_queues.specs.Search.{IsSearch};
 
-use crate::board::{Board, EMPTY, FILLED, NOBODY};
-use crate::woken::Woken;
-use std::alloc::Allocator;
+use crate::bells::Bells;
+use crate::board::{Board, EMPTY, FILLED, NOBODY, Visit, leave};
+use std::alloc::{Allocator, Global};
 use std::hint::spin_loop;
 use std::sync::atomic::Ordering;
 
 /// How often a worker looks whether the items of another one stay in its queue, before it takes them.
 const LOOKS_AT_ITEMS: usize = 64;
 
-impl<T, A: Allocator> Board<T, A> {
-    /// Whether no other worker searches. Then this one does, until `end_search`.
-    pub fn begin_search(&self, worker: usize) -> bool {
-        self.searcher
-            .compare_exchange(NOBODY, worker, Ordering::SeqCst, Ordering::SeqCst)
-            .is_ok()
-    }
+/// How many turns of `spin_loop` are between two looks.
+const TURNS: usize = 8;
 
-    /// Ends the search, and answers a worker that is to be woken, if one sleeps while more queues show items than the searcher can take from at once.
-    pub fn end_search(&self) -> Option<Woken>
-        ensures { IfSome result (λ woken. woken.worker < self.now.workers) }
+// Between two looks the words stay with the threads that write them.
+pub(crate) fn pause() {
+    for _ in 0..TURNS {
+        spin_loop();
+    }
+}
+
+/// A search that has begun. It has no `Drop`, so it ends in `Board::end_search`: a worker that is named as the searcher comes back to the queues.
+pub struct Search<T, A: Allocator = Global> {
+    visit: Visit<T, A>,
+}
+
+impl<T, A: Allocator> Board<T, A> {
+    /// Begins the search of a worker, if no other one searches.
+    pub fn begin_search(&self, worker: usize) -> Option<Search<T, A>>
+        ensures { IfSome result (λ search. IsSearch self.now search) }
     {
-        self.searcher.store(NOBODY, Ordering::SeqCst);
-        if self.filled() < 2 {
+        let named = self
+            .searcher
+            .compare_exchange(NOBODY, worker, Ordering::SeqCst, Ordering::SeqCst);
+        if named.is_err() {
             return None;
         }
-        self.call(self.visit())
+        Some(Search {
+            visit: self.visit(),
+        })
+    }
+
+    /// Ends the search. What was pushed meanwhile woke nobody, and the searcher takes from one queue. So for each further queue that shows items it wakes a worker, until none sleeps or another one searches.
+    pub fn end_search(&self, search: Search<T, A>, bells: &Bells)
+        requires { IsSearch self.now search }
+    {
+        let Search { visit } = search;
+        leave(visit);
+        self.searcher.store(NOBODY, Ordering::SeqCst);
+        for _ in 1..self.filled() {
+            match self.call(self.visit()) {
+                Some(woken) => woken.ring(bells),
+                None => return,
+            }
+        }
     }
 
     // How many queues show items.
@@ -56,7 +84,7 @@ impl<T, A: Allocator> Board<T, A> {
             if self.is_empty(queue) {
                 return false;
             }
-            spin_loop();
+            pause();
         }
         true
     }
