@@ -135,7 +135,7 @@ impl<R: Wait + Drop + Copy, F: Yields, A: Wake, B: Allocator + Copy> Pool<R, F, 
         self.tasks.len(&self.rt)
     }
 
-    /// What a thread needs to be the worker of this number. An error says that there was no memory, or that there is no such worker. Two threads may not be one worker: both would sleep where one is woken. Nor may a pool be given the turns of another one.
+    /// What a thread needs to be the worker of this number. An error says that there was no memory, that there is no such worker, or that another thread has its turns: two threads would sleep where one is woken. The number is free again once the turns are dropped. A pool may not be given the turns of another one.
     pub fn turns(&self, worker: usize) -> Result<Turns<R, F, A, B>, AllocError>
         ensures { IfOk result (λ turns. turns.worker.number ≡ worker) }
     {
@@ -143,14 +143,14 @@ impl<R: Wait + Drop + Copy, F: Yields, A: Wake, B: Allocator + Copy> Pool<R, F, 
         Ok(Turns { worker })
     }
 
-    /// Spawns a task from a thread that is no worker, and schedules it. `Err` has the future back, where there was no memory for the task.
+    /// Spawns a task from a thread that is no worker, and schedules it. `Err` has the future back, where there was no memory for the task. Where its queue is refused memory, or the pool was shut down, the answer is `Ok` with a task that is closed.
     pub fn spawn(&self, future: F) -> Result<PoolTask<'_, R, F, A, B>, F>
         ensures refused { IfErr result (λ back. back ≡ future) }
     {
         self.spawn_on(self.crew.workers(), future)
     }
 
-    /// Spawns a task at the queue of a worker, as that which polls the spawning future: `waker.around().1`.
+    /// Spawns a task at the queue of a worker, as that which polls the spawning future: `waker.around().1`. It answers as `spawn` does.
     pub fn spawn_on(&self, worker: usize, future: F) -> Result<PoolTask<'_, R, F, A, B>, F>
         ensures place { IfOk result (λ task. task.around.1 ≡ worker) }
         ensures refused { IfErr result (λ back. back ≡ future) }
@@ -226,7 +226,7 @@ impl<R: Wait + Drop + Copy, F: Yields, A: Wake, B: Allocator + Copy> Pool<R, F, 
         self.stopped.load(Ordering::SeqCst)
     }
 
-    /// The next Runnable for this worker, if there is one: its own, one that came from outside, or one of another worker. Run it; its drop cancels its task.
+    /// The next Runnable for this worker: its own, one that came from outside, or one of another worker. `None` where there is none, or only such as this worker leaves to another one that is about to run them. Run it; its drop cancels its task.
     pub fn next(&self, turns: &mut Turns<R, F, A, B>) -> Option<PoolRunnable<'_, R, F, A, B>>
         ensures place { IfSome result (λ runnable. runnable.around.1 ≡ turns.old.worker.number) }
     {
@@ -235,7 +235,7 @@ impl<R: Wait + Drop + Copy, F: Yields, A: Wake, B: Allocator + Copy> Pool<R, F, 
         Some(runnable.with_around((self, worker)))
     }
 
-    /// Runs one task, if there is one for this worker, as `next` says. It answers whether there was one.
+    /// Runs the task of the Runnable that `next` answers. False where that is `None`.
     pub fn tick<'x>(&'x self, turns: &mut Turns<R, F, A, B>) -> bool
     where
         F: Future<PoolWaker<'x, R, F, A, B>>,
@@ -249,7 +249,7 @@ impl<R: Wait + Drop + Copy, F: Yields, A: Wake, B: Allocator + Copy> Pool<R, F, 
         }
     }
 
-    /// Sleeps, if there is nothing for this worker to do, the pool was not shut down, and the bells counted no interruption since `interruptions`. It may also return for no reason. `take_turn` calls it where it is due.
+    /// Searches for a while, if no other worker does, and then sleeps, if no queue shows a Runnable, the pool was not shut down, and the bells counted no interruption since `interruptions`. It may also return for no reason. `take_turn` calls it where it is due.
     pub fn rest(&self, turns: &Turns<R, F, A, B>, interruptions: u64) {
         // A caller who counted the interruptions after the shutdown would sleep for ever.
         if self.is_shut_down() {

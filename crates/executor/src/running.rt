@@ -24,7 +24,7 @@ pub enum BlockOnError {
 }
 
 impl<R: Wait + Drop + Copy, F: Yields, A: Wake, B: Allocator + Copy> Pool<R, F, A, B> {
-    /// A turn of a worker but for the run of what it takes: frees what keys left, wakes one task whose number was posted, and takes the next Runnable. Where there is neither it sleeps, if the bells counted no interruption since `interruptions`: so ask for them before the last look at what the loop waits for. Run what it answers.
+    /// A turn of a worker but for the run of what it takes: frees what keys left, wakes one task whose number was posted, and takes the next Runnable. Where there is neither it searches and then sleeps, as `rest` says, if the bells counted no interruption since `interruptions`: so ask for them before the last look at what the loop waits for. Run what it answers.
     pub fn take_turn(
         &self,
         turns: &mut Turns<R, F, A, B>,
@@ -42,7 +42,7 @@ impl<R: Wait + Drop + Copy, F: Yields, A: Wake, B: Allocator + Copy> Pool<R, F, 
         next
     }
 
-    /// The next Runnable for this worker, for which it sleeps where there is none. Run it. `None` once the pool is shut down: then no Runnable is left that this worker can find.
+    /// The next Runnable for this worker, for which it searches and sleeps where `next` answers `None`. Run it. `None` once the pool is shut down: then no Runnable is left that this worker can find.
     pub fn await_next(
         &self,
         turns: &mut Turns<R, F, A, B>,
@@ -76,7 +76,7 @@ impl<R: Wait + Drop + Copy, F: Yields, A: Wake, B: Allocator + Copy> Pool<R, F, 
         }
     }
 
-    /// Is the worker of this number until the pool is shut down, as `work` is. An error says that there was no memory to begin, or that there is no such worker.
+    /// Is the worker of this number until the pool is shut down, as `work` is. An error says that there was no memory to begin, that there is no such worker, or that another thread has its turns.
     pub fn run<'x>(&'x self, worker: usize) -> Result<(), AllocError>
     where
         F: Future<PoolWaker<'x, R, F, A, B>>,
@@ -86,7 +86,7 @@ impl<R: Wait + Drop + Copy, F: Yields, A: Wake, B: Allocator + Copy> Pool<R, F, 
         Ok(())
     }
 
-    /// What each of the workers needs, in the order of their numbers, for a run of all of them with `work`. An error says that there was no memory.
+    /// What each of the workers needs, in the order of their numbers, for a run of all of them with `work`. An error says that there was no memory, or that a thread has the turns of one of them.
     pub fn all_turns(&self) -> Result<Vec<Turns<R, F, A, B>>, AllocError>
         ensures each { IfOk result (λ all. (i : ℕ) (turns : _) → get_elem? all.items i ≡ some turns → turns.worker.number ≡ i) }
     {

@@ -67,6 +67,28 @@ fn a_worker_that_does_not_exist_is_refused_or_outside(rt: HostRuntime) -> Result
     Ok(())
 }
 
+// Whether a thread may be the worker of a number: by its turns, by a run, and as one of all. A pool that was shut down ends a run at once.
+fn may_be_worker<R: Wait + Drop + Copy>(pool: &GuestPool<R>, worker: usize) -> [bool; 3] {
+    let by_turns = pool.turns(worker).is_ok();
+    let by_run = pool.run(worker).is_ok();
+    let as_one_of_all = pool.all_turns().is_ok();
+    [by_turns, by_run, as_one_of_all]
+}
+
+#[test]
+fn no_two_threads_are_one_worker(rt: HostRuntime) -> Result<(), Fail> {
+    let pool = GuestPool::new(rt, rt.alloc(), 2)?;
+    pool.shutdown();
+    let turns = pool.turns(0)?;
+    let while_it_lives = may_be_worker(&pool, 0);
+    let the_other = pool.turns(1).is_ok();
+    drop(turns);
+    let once_dropped = may_be_worker(&pool, 0);
+    assert!(rt; while_it_lives == [false, false, false] && the_other);
+    assert!(rt; once_dropped == [true, true, true]);
+    Ok(())
+}
+
 // Whether the Task at the place of a key is pending.
 fn is_pending<R: Wait + Drop + Copy>(pool: &GuestPool<R>, key: &Key<R>) -> bool {
     matches!(poll_kept((pool, 0), key, &Nobody), Some(TaskPoll::Pending))
@@ -137,6 +159,7 @@ fn a_pool_that_was_shut_down_cancels_what_comes(rt: HostRuntime) -> Result<(), F
     let mut task = spawn_guest(&pool, 2, Errand::GiveWay(0), &guests)?;
     let mut all = pool.all_turns()?;
     thread::for_each_mut(&rt, &mut all, 2, &|_, turns| pool.work(turns));
+    drop(all);
     let mut turns = pool.turns(1)?;
     let ran = pool.tick(&mut turns);
     let closed = is_closed(&mut task);

@@ -1,5 +1,6 @@
-//! Tests of the search of a worker that found nothing: one searches at a time, whom a push then wakes, and what it sees of the queues.
+//! Tests of the search of a worker that found nothing: one searches at a time, whom a push then wakes, and what it sees and finds of the queues.
 
+use std::alloc::AllocError;
 use std::sync::Wait;
 use std::test::Fail;
 use work_queues::{Bells, Board, Crew, Woken};
@@ -20,27 +21,54 @@ fn push_and_look<R: Wait>(rt: &R, board: &Board<u64>, bells: &Bells, queue: usiz
     if pushed.is_ok() { bells.shows(1) } else { 9 }
 }
 
-// Ends the search, and answers what the bell of worker 1 shows after it.
-fn end_and_look(board: &Board<u64>, bells: &Bells) -> u32 {
-    ring(board.end_search(), bells);
-    bells.shows(1)
+// Begins the search of worker 0, pushes an item at a queue, and ends it: what the bell of worker 1 shows after the push and after the end. 9 where no search begins.
+fn search_beside_a_push<R: Wait>(
+    rt: &R,
+    board: &Board<u64>,
+    bells: &Bells,
+    queue: usize,
+) -> (u32, u32) {
+    let Some(search) = board.begin_search(0) else {
+        return (9, 9);
+    };
+    let during = push_and_look(rt, board, bells, queue);
+    board.end_search(search, bells);
+    (during, bells.shows(1))
 }
 
-// Worker 1 sleeps while worker 0 searches. It is woken once two queues show items as the search ends, and else by the first push after it.
+// Whether a worker may begin a search. It ends at once.
+fn may_search(board: &Board<u64>, bells: &Bells, worker: usize) -> bool {
+    match board.begin_search(worker) {
+        Some(search) => {
+            board.end_search(search, bells);
+            true
+        }
+        None => false,
+    }
+}
+
+#[test]
+fn one_worker_searches_at_a_time(rt: HostRuntime) -> Result<(), Fail> {
+    let bells = Bells::new(rt.alloc(), 2)?;
+    let board = Board::new(rt.alloc(), rt.alloc(), 2, ROOM)?;
+    let search = board.begin_search(0).ok_or(AllocError)?;
+    let beside = may_search(&board, &bells, 1);
+    board.end_search(search, &bells);
+    let after = may_search(&board, &bells, 1);
+    assert!(rt; !beside && after);
+    Ok(())
+}
+
+// Worker 1 sleeps while worker 0 searches. It is woken once two queues show items as the search ends.
 #[test]
 fn a_push_wakes_nobody_while_one_searches(rt: HostRuntime) -> Result<(), Fail> {
     let bells = Bells::new(rt.alloc(), 2)?;
     let board = Board::new(rt.alloc(), rt.alloc(), 2, ROOM)?;
     let sleeper = board.lie_down(1);
-    let begins = (board.begin_search(0), board.begin_search(1));
-    let during = push_and_look(&rt, &board, &bells, 2);
-    let after = end_and_look(&board, &bells);
-    let again = board.begin_search(0);
-    let elsewhere = push_and_look(&rt, &board, &bells, 0);
-    let with_two = end_and_look(&board, &bells);
+    let with_one = search_beside_a_push(&rt, &board, &bells, 2);
+    let with_two = search_beside_a_push(&rt, &board, &bells, 0);
     board.get_up(sleeper);
-    assert!(rt; begins == (true, false) && again);
-    assert!(rt; during == 0 && after == 0 && elsewhere == 0 && with_two == 1);
+    assert!(rt; with_one == (0, 0) && with_two == (0, 1));
     Ok(())
 }
 
@@ -49,11 +77,32 @@ fn a_push_after_the_search_wakes_who_sleeps(rt: HostRuntime) -> Result<(), Fail>
     let bells = Bells::new(rt.alloc(), 2)?;
     let board = Board::new(rt.alloc(), rt.alloc(), 2, ROOM)?;
     let sleeper = board.lie_down(1);
-    let begins = board.begin_search(0);
-    let ended = end_and_look(&board, &bells);
+    let searched = may_search(&board, &bells, 0);
+    let ended = bells.shows(1);
     let pushed = push_and_look(&rt, &board, &bells, 2);
     board.get_up(sleeper);
-    assert!(rt; begins && ended == 0 && pushed == 1);
+    assert!(rt; searched && ended == 0 && pushed == 1);
+    Ok(())
+}
+
+// Workers 1 and 2 sleep while worker 0 searches. Three queues get an item, of which it takes one.
+#[test]
+fn a_worker_is_woken_for_each_further_queue(rt: HostRuntime) -> Result<(), Fail> {
+    let bells = Bells::new(rt.alloc(), 3)?;
+    let board = Board::new(rt.alloc(), rt.alloc(), 3, ROOM)?;
+    let search = board.begin_search(0).ok_or(AllocError)?;
+    let first = board.lie_down(1);
+    let second = board.lie_down(2);
+    let mut rung = push_and_look(&rt, &board, &bells, 0);
+    rung = push_and_look(&rt, &board, &bells, 1).max(rung);
+    rung = push_and_look(&rt, &board, &bells, 3)
+        .max(rung)
+        .max(bells.shows(2));
+    board.end_search(search, &bells);
+    let woken = (bells.shows(1), bells.shows(2));
+    board.get_up(first);
+    board.get_up(second);
+    assert!(rt; rung == 0 && woken == (1, 1));
     Ok(())
 }
 
@@ -62,11 +111,12 @@ fn a_push_after_the_search_wakes_who_sleeps(rt: HostRuntime) -> Result<(), Fail>
 fn a_searcher_that_lay_down_is_woken(rt: HostRuntime) -> Result<(), Fail> {
     let bells = Bells::new(rt.alloc(), 2)?;
     let board = Board::new(rt.alloc(), rt.alloc(), 2, ROOM)?;
-    let begins = board.begin_search(1);
+    let search = board.begin_search(1).ok_or(AllocError)?;
     let sleeper = board.lie_down(1);
     let pushed = push_and_look(&rt, &board, &bells, 0);
     board.get_up(sleeper);
-    assert!(rt; begins && pushed == 1);
+    board.end_search(search, &bells);
+    assert!(rt; pushed == 1);
     Ok(())
 }
 
@@ -104,5 +154,18 @@ fn what_a_worker_leaves_is_found(rt: HostRuntime) -> Result<(), Fail> {
     let found = crew.find(&rt, &mut thief);
     let nothing = crew.find(&rt, &mut thief);
     assert!(rt; pushed && found == Some(5) && nothing.is_none());
+    Ok(())
+}
+
+// The second crew has no worker of the thief's number.
+#[test]
+fn a_worker_of_another_crew_finds_what_is_there(rt: HostRuntime) -> Result<(), Fail> {
+    let crew = Crew::<u64>::new(rt.alloc(), rt.alloc(), 2, ROOM)?;
+    let other = Crew::new(rt.alloc(), rt.alloc(), 1, ROOM)?;
+    let mut thief = crew.worker(rt.alloc(), 1)?;
+    let pushed = other.push(&rt, 0, 5u64).is_ok();
+    let found = other.find(&rt, &mut thief);
+    other.rest(&rt, &thief, other.bells().interruptions());
+    assert!(rt; pushed && found == Some(5));
     Ok(())
 }
