@@ -9,8 +9,10 @@ mod blocking;
 mod mailbox;
 mod nobody;
 mod numbers;
+mod posts;
 
 pub use blocking::{BlockOnError, block_on};
 pub use mailbox::{Awaiter, Mailbox};
 pub use nobody::Nobody;
 pub use numbers::Numbers;
+pub use posts::Posts;

@@ -3,6 +3,7 @@ ghost use Rattle.std.specs.Prelude.{⊤, ◌≡◌, false, IfSome};
 ghost use Rattle.std.specs.Arc.{arc_value};
 
 use crate::numbers::Numbers;
+use crate::posts::Posts;
 use async_task::Wake;
 use std::alloc::{AllocError, Global};
 use std::sync::{Arc, Condvar, Mutex, Wait};
@@ -107,5 +108,13 @@ impl<R: Wait + Drop + Copy> Wake for Awaiter<R> {
     // Two shares of a mailbox cannot be told to be of one: a wake too many posts a number once more.
     fn will_wake(&self, _other: &Awaiter<R>) -> bool {
         false
+    }
+}
+
+impl<R: Wait + Drop + Copy> Posts<R> for Awaiter<R> {
+    ghost posts = { λ awaiter mailbox number. (arc_value awaiter.mailbox ≡ mailbox) × (awaiter.number ≡ number) };
+
+    fn of_mailbox(mailbox: &Arc<Mailbox<R>>, number: usize) -> Option<Awaiter<R>> {
+        Awaiter::new(mailbox, number)
     }
 }

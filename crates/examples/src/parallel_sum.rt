@@ -5,12 +5,13 @@ ghost use Rattle.std.specs.Prelude.{⊤};
 use crate::borrowed::SumOf;
 use crate::last::DropsRunnables;
 use async_task::spawn;
+use awaiters::Awaiter;
 use std::alloc::Global;
 use std::sync::Wait;
 use std::thread::{self, Threads};
 use task_group::TaskGroup;
 
-type Sums<'x, R> = TaskGroup<R, SumOf<'x>, DropsRunnables, (), ()>;
+type Sums<'x, R> = TaskGroup<R, SumOf<'x>, DropsRunnables, (), Awaiter<R>, ()>;
 
 // The sum of what both members of the group answer.
 fn total<R: Wait + Drop + Copy>(mut group: Sums<'_, R>) -> Option<u64> {

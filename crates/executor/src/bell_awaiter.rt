@@ -1,69 +1,84 @@
-//! The awaiter of a pool, by which a worker waits for a Task, or a task of the pool for another one.
+//! The awaiter of a pool, by which a worker waits for a Task, a task of the pool for another one, or a group for its members.
 ghost use Rattle.std.specs.Prelude.{⊤, ◌≡◌, false, IfSome};
 ghost use Rattle.std.specs.Arc.{arc_value};
+ghost use Rattle.executor.specs.Wakes.{IsForWorker, IsForKept, IsForReader, IsSameWake};
 
 use crate::mail::Mail;
 use crate::pool::Pool;
 use async_task::{Wake, Yields};
+use awaiters::{Mailbox, Posts};
 use std::alloc::Allocator;
 use std::sync::{Arc, Wait};
 use work_queues::Bells;
 
 /// Whom an awaiter of a pool wakes.
-#[derive(Clone, Copy, Debug, PartialEq, Eq)]
-pub(crate) enum Wakes {
-    /// The worker of this number.
-    Worker(usize),
-    /// The task whose waker is kept under this number.
-    Kept(usize),
+#[derive(Drop)]
+pub(crate) enum Wakes<R: Wait + Drop + Copy> {
+    /// The worker of this number, by the bells.
+    Worker(Arc<Bells>, usize),
+    /// The task whose waker is kept under this number, by the mail and then the bells.
+    Kept(Arc<Bells>, Arc<Mail<R>>, usize),
+    /// Whoever takes this number out of the mailbox.
+    Reader(Arc<Mailbox<R>>, usize),
 }
 
-/// An awaiter of a pool. Its wake needs no memory, and rings a bell: a worker looks once more for what is to be done.
+/// An awaiter of a pool. Its wake needs no memory. That of `new` and `of_kept` rings a bell: a worker looks once more for what is to be done. That of `of_mailbox` posts a number to a mailbox, and rings none.
 #[derive(Drop)]
 pub struct BellAwaiter<R: Wait + Drop + Copy> {
-    bells: Arc<Bells>,
-    mail: Arc<Mail<R>>,
-    wakes: Wakes,
+    wakes: Wakes<R>,
 }
 
 impl<R: Wait + Drop + Copy> BellAwaiter<R> {
     /// An awaiter that wakes the worker of this number. Where there is no such worker, its wake does nothing.
     ///
-    /// It asks for no memory. `None` says that the bells or the mail of the pool have as many owners as can be counted.
+    /// It asks for no memory. `None` says that the bells of the pool have as many owners as can be counted.
     pub fn new<F: Yields, A: Wake, B: Allocator + Copy>(
         pool: &Pool<R, F, A, B>,
         worker: usize,
     ) -> Option<BellAwaiter<R>>
-        ensures bells { IfSome result (λ awaiter. arc_value awaiter.bells ≡ arc_value pool.now.crew.bells) }
-        ensures mail { IfSome result (λ awaiter. arc_value awaiter.mail ≡ arc_value pool.now.mail) }
-        ensures wakes { IfSome result (λ awaiter. awaiter.wakes ≡ Wakes.Worker worker) }
+        ensures wakes { IfSome result (λ awaiter. IsForWorker awaiter.wakes (arc_value pool.now.crew.bells) worker) }
     {
-        BellAwaiter::share(pool.bells(), &pool.mail, Wakes::Worker(worker))
+        BellAwaiter::for_worker(pool.bells(), worker)
     }
 
     /// An awaiter that has a worker wake the task whose waker is kept under this number, which is that of a key of `place_for_waker` of this pool. Where
     /// no waker is kept there at that time, nothing is woken: keep the waker first, and poll the awaited Task then, as `await_kept` does.
     ///
-    /// It asks for no memory, and `None` is as that of `new`.
+    /// It asks for no memory. `None` says that the bells or the mail of the pool have as many owners as can be counted.
     pub fn of_kept<F: Yields, A: Wake, B: Allocator + Copy>(
         pool: &Pool<R, F, A, B>,
         number: usize,
     ) -> Option<BellAwaiter<R>>
-        ensures bells { IfSome result (λ awaiter. arc_value awaiter.bells ≡ arc_value pool.now.crew.bells) }
-        ensures mail { IfSome result (λ awaiter. arc_value awaiter.mail ≡ arc_value pool.now.mail) }
-        ensures wakes { IfSome result (λ awaiter. awaiter.wakes ≡ Wakes.Kept number) }
+        ensures wakes { IfSome result (λ awaiter. IsForKept awaiter.wakes (arc_value pool.now.crew.bells) (arc_value pool.now.mail) number) }
     {
-        BellAwaiter::share(pool.bells(), &pool.mail, Wakes::Kept(number))
+        BellAwaiter::for_kept(pool.bells(), &pool.mail, number)
     }
 
-    fn share(bells: &Arc<Bells>, mail: &Arc<Mail<R>>, wakes: Wakes) -> Option<BellAwaiter<R>>
-        ensures bells { IfSome result (λ awaiter. arc_value awaiter.bells ≡ arc_value bells.now) }
-        ensures mail { IfSome result (λ awaiter. arc_value awaiter.mail ≡ arc_value mail.now) }
-        ensures wakes { IfSome result (λ awaiter. awaiter.wakes ≡ wakes) }
+    fn for_worker(bells: &Arc<Bells>, worker: usize) -> Option<BellAwaiter<R>>
+        ensures wakes { IfSome result (λ awaiter. IsForWorker awaiter.wakes (arc_value bells.now) worker) }
+    {
+        let bells = Arc::try_clone(bells).ok()?;
+        let wakes = Wakes::Worker(bells, worker);
+        Some(BellAwaiter { wakes })
+    }
+
+    fn for_kept(bells: &Arc<Bells>, mail: &Arc<Mail<R>>, number: usize) -> Option<BellAwaiter<R>>
+        ensures wakes { IfSome result (λ awaiter. IsForKept awaiter.wakes (arc_value bells.now) (arc_value mail.now) number) }
     {
         let bells = Arc::try_clone(bells).ok()?;
         let mail = Arc::try_clone(mail).ok()?;
-        Some(BellAwaiter { bells, mail, wakes })
+        let wakes = Wakes::Kept(bells, mail, number);
+        Some(BellAwaiter { wakes })
+    }
+}
+
+impl<R: Wait + Drop + Copy> Posts<R> for BellAwaiter<R> {
+    ghost posts = { λ awaiter mailbox number. IsForReader awaiter.wakes mailbox number };
+
+    fn of_mailbox(mailbox: &Arc<Mailbox<R>>, number: usize) -> Option<BellAwaiter<R>> {
+        let mailbox = Arc::try_clone(mailbox).ok()?;
+        let wakes = Wakes::Reader(mailbox, number);
+        Some(BellAwaiter { wakes })
     }
 }
 
@@ -72,7 +87,7 @@ impl<R: Wait + Drop + Copy> Wake for BellAwaiter<R> {
 
     ghost woken_by_ref = { λ _. ⊤ };
 
-    ghost cloned = { λ awaiter clone. IfSome clone (λ other. (arc_value other.bells ≡ arc_value awaiter.bells) × (arc_value other.mail ≡ arc_value awaiter.mail) × (other.wakes ≡ awaiter.wakes)) };
+    ghost cloned = { λ awaiter clone. IfSome clone (λ other. IsSameWake awaiter.wakes other.wakes) };
 
     ghost compared = { λ _ _ answer. answer ≡ false };
 
@@ -82,18 +97,25 @@ impl<R: Wait + Drop + Copy> Wake for BellAwaiter<R> {
 
     // A number that waits already was posted by a thread that interrupts a worker after it.
     fn wake_by_ref(&self) {
-        match self.wakes {
-            Wakes::Worker(worker) => self.bells.interrupt_worker(worker),
-            Wakes::Kept(number) => {
-                if self.mail.post(number) {
-                    self.bells.interrupt();
+        match &self.wakes {
+            Wakes::Worker(bells, worker) => bells.interrupt_worker(*worker),
+            Wakes::Kept(bells, mail, number) => {
+                if mail.post(*number) {
+                    bells.interrupt();
                 }
+            }
+            Wakes::Reader(mailbox, number) => {
+                mailbox.post(*number);
             }
         }
     }
 
     fn try_clone(&self) -> Option<BellAwaiter<R>> {
-        BellAwaiter::share(&self.bells, &self.mail, self.wakes)
+        match &self.wakes {
+            Wakes::Worker(bells, worker) => BellAwaiter::for_worker(bells, *worker),
+            Wakes::Kept(bells, mail, number) => BellAwaiter::for_kept(bells, mail, *number),
+            Wakes::Reader(mailbox, number) => BellAwaiter::of_mailbox(mailbox, *number),
+        }
     }
 
     // Two shares of the bells cannot be told to be of one pool: a wake too many has a worker look once more.

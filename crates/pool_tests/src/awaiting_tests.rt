@@ -23,7 +23,7 @@ const TURNS: u64 = 1000;
 
 /// What the links of a chain count together.
 #[derive(Drop)]
-struct Counts {
+pub struct Counts {
     // How often those were polled that await another one.
     waiting: AtomicU64,
     // How often the last one was polled.
@@ -34,7 +34,8 @@ struct Counts {
 }
 
 impl Counts {
-    fn new(alloc: Global) -> Result<Arc<Counts>, AllocError> {
+    /// Nothing counted yet.
+    pub fn new(alloc: Global) -> Result<Arc<Counts>, AllocError> {
         let counts = Counts {
             waiting: AtomicU64::new(0),
             last: AtomicU64::new(0),
@@ -47,7 +48,7 @@ impl Counts {
 
 /// What the last link of a chain does.
 #[derive(Clone, Copy)]
-enum Errand {
+pub enum Errand {
     /// Gives way so often, and then answers 1.
     GiveWay(u64),
     /// Is pending until it was woken so often by the number of its waker, and then answers 1.
@@ -66,7 +67,7 @@ struct Places<R: Wait + Drop + Copy> {
 
 /// A future that does its errand where no link is below it. Otherwise it spawns one with one link less below it, and where it has a second errand one more with none, awaits them, and answers one more than they do together. What was refused or closed counts as 0.
 #[derive(Drop)]
-struct Link<R: Wait + Drop + Copy> {
+pub struct Link<R: Wait + Drop + Copy> {
     below: u64,
     errand: Errand,
     second: Option<Errand>,
@@ -80,9 +81,11 @@ impl<R: Wait + Drop + Copy> Yields for Link<R> {
     type Output = u64;
 }
 
-type LinkPool<R> = Pool<R, Link<R>, BellAwaiter<R>>;
+/// A pool of links.
+pub type LinkPool<R> = Pool<R, Link<R>, BellAwaiter<R>>;
 
-type LinkTask<'x, R> = PoolTask<'x, R, Link<R>, BellAwaiter<R>>;
+/// The Task of a link.
+pub type LinkTask<'x, R> = PoolTask<'x, R, Link<R>, BellAwaiter<R>>;
 
 type LinkWaker<'x, R> = PoolWaker<'x, R, Link<R>, BellAwaiter<R>>;
 
@@ -102,7 +105,8 @@ fn new_link<R: Wait + Drop + Copy>(
     })
 }
 
-fn spawn_link<'x, R: Wait + Drop + Copy>(
+/// Spawns a link with so many below it, of which the last one does this errand.
+pub fn spawn_link<'x, R: Wait + Drop + Copy>(
     pool: &'x LinkPool<R>,
     worker: usize,
     below: u64,

@@ -1,5 +1,5 @@
-//! The tests of the pool: its workers, what futures keep, futures that borrow and of two types, tasks that await tasks, storms of wakes,
-//! cancels, refused memory, and hostile use. It stands on `executor`, `work_queues` and `awaiters`. Nothing is public. The page is docs/EXECUTOR_POOL.md.
+//! The tests of the pool: its workers, what futures keep, futures that borrow and of two types, tasks that await tasks, groups, storms of
+//! wakes, cancels, refused memory, and hostile use. It stands on `executor`, `work_queues`, `task_group` and `awaiters`. Nothing is public. The page is docs/EXECUTOR_POOL.md.
 #![tactic(auto)]
 
 #[cfg(test)]
@@ -8,6 +8,8 @@ mod awaiting_tests;
 mod borrow_tests;
 #[cfg(test)]
 mod cancel_tests;
+#[cfg(test)]
+mod group_tests;
 #[cfg(test)]
 mod guest;
 #[cfg(test)]

@@ -34,3 +34,9 @@ module _ {T E : Type 0} where
   is_over (Ok (Some ended)) = false
   is_over (Ok None) = true
   is_over (Err e) = false
+
+  -- whether a member came out
+  abbrev pub came_out : Result (Option T) E → Bool
+  came_out (Ok (Some ended)) = true
+  came_out (Ok None) = false
+  came_out (Err e) = false

@@ -1,11 +1,12 @@
 //! The group: its members by number, and the mailbox that their awaiters post to.
-ghost use Rattle.std.specs.Prelude.{◌≡◌, ◌↔◌, ◌≤◌, ◌<◌, true, IsTrue, IsErr, IfOk, IfErr, OnErr, OnOk};
+ghost use Rattle.std.specs.Prelude.{◌≡◌, ◌↔◌, ◌≤◌, ◌<◌, true, false, IsTrue, IsErr, IfOk, IfErr, IfSome, OnErr, OnOk};
+ghost use Rattle.std.specs.Arc.{arc_value};
 ghost use Rattle.slab.specs.Slab.{slab_len};
-ghost use Rattle.task_group.specs.Members.{Joins, Leaves, SameMembers, IfNext, is_over};
+ghost use Rattle.task_group.specs.Members.{Joins, Leaves, SameMembers, IfNext, came_out, is_over};
 
 use crate::ended::Ended;
 use async_task::{Runnable, Schedule, SpawnError, Task, TaskPoll, Yields, spawn};
-use awaiters::{Awaiter, Mailbox};
+use awaiters::{Mailbox, Posts};
 use slab::Slab;
 use std::alloc::{AllocError, Allocator, Global};
 use std::sync::{Arc, Wait};
@@ -27,21 +28,21 @@ pub struct GroupSpawnError<F, Q> {
 
 // A member: its Task, or the answer that the Task gave as it was pushed.
 #[derive(Drop)]
-enum Member<R: Wait + Drop + Copy, F: Yields, Q: Drop, M: Drop, X: Copy, B: Allocator>
+enum Member<R: Wait + Drop + Copy, F: Yields, Q: Drop, M: Drop, A: Posts<R>, X: Copy, B: Allocator>
 where
-    Q: Schedule<Runnable<R, F, Q, M, Awaiter<R>, X, B>>,
+    Q: Schedule<Runnable<R, F, Q, M, A, X, B>>,
 {
-    Runs(Task<R, F, Q, M, Awaiter<R>, X, B>),
+    Runs(Task<R, F, Q, M, A, X, B>),
     HasEnded(Ended<F>),
 }
 
 // A member that has not ended, and whether its poll was refused its awaiter.
 #[derive(Drop)]
-struct Stays<R: Wait + Drop + Copy, F: Yields, Q: Drop, M: Drop, X: Copy, B: Allocator>
+struct Stays<R: Wait + Drop + Copy, F: Yields, Q: Drop, M: Drop, A: Posts<R>, X: Copy, B: Allocator>
 where
-    Q: Schedule<Runnable<R, F, Q, M, Awaiter<R>, X, B>>,
+    Q: Schedule<Runnable<R, F, Q, M, A, X, B>>,
 {
-    member: Member<R, F, Q, M, X, B>,
+    member: Member<R, F, Q, M, A, X, B>,
     refused: bool,
 }
 
@@ -52,32 +53,38 @@ pub struct TaskGroup<
     F: Yields,
     Q: Drop,
     M: Drop,
+    A: Posts<R>,
     X: Copy,
     B: Allocator = Global,
 >
 where
-    Q: Schedule<Runnable<R, F, Q, M, Awaiter<R>, X, B>>,
+    Q: Schedule<Runnable<R, F, Q, M, A, X, B>>,
 {
     rt: R,
     mailbox: Arc<Mailbox<R>>,
-    members: Slab<Member<R, F, Q, M, X, B>>,
+    members: Slab<Member<R, F, Q, M, A, X, B>>,
 }
 
-impl<R: Wait + Drop + Copy, F: Yields, Q: Drop, M: Drop, X: Copy, B: Allocator> TaskGroup<
-    R,
-    F,
-    Q,
-    M,
-    X,
-    B,
->
+impl<
+    R: Wait + Drop + Copy,
+    F: Yields,
+    Q: Drop,
+    M: Drop,
+    A: Posts<R>,
+    X: Copy,
+    B: Allocator,
+> TaskGroup<R, F, Q, M, A, X, B>
 where
-    Q: Schedule<Runnable<R, F, Q, M, Awaiter<R>, X, B>>,
+    Q: Schedule<Runnable<R, F, Q, M, A, X, B>>,
 {
     /// An empty group with room for `room` tasks at a time, or a few more. All its memory is taken here.
     ///
     /// `rt` is what `next` waits by, `alloc` where the memory comes from. An `Err` says that memory was refused; nothing stays allocated then.
-    pub fn new(rt: R, alloc: Global, room: usize) -> Result<TaskGroup<R, F, Q, M, X, B>, AllocError>
+    pub fn new(
+        rt: R,
+        alloc: Global,
+        room: usize,
+    ) -> Result<TaskGroup<R, F, Q, M, A, X, B>, AllocError>
         ensures empty { IfOk result (λ group. slab_len group.members ≡ 0) }
         ensures room { IfOk result (λ group. room ≤ group.members.capacity) }
     {
@@ -117,8 +124,8 @@ where
     /// The task is scheduled by whoever spawned it. An `Err` hands the Task back: the group is full, and has not changed.
     pub fn push(
         &mut self,
-        task: Task<R, F, Q, M, Awaiter<R>, X, B>,
-    ) -> Result<usize, Task<R, F, Q, M, Awaiter<R>, X, B>>
+        task: Task<R, F, Q, M, A, X, B>,
+    ) -> Result<usize, Task<R, F, Q, M, A, X, B>>
         ensures full { IsErr result ↔ (slab_len self.old.members ≡ self.old.members.capacity) }
         ensures returned { IfErr result (λ refused. refused ≡ task) }
         ensures unchanged { OnErr result (self.new ≡ self.old) }
@@ -132,7 +139,7 @@ where
     }
 
     // Puts a Task into a group that has room, and polls it once.
-    fn join(&mut self, task: Task<R, F, Q, M, Awaiter<R>, X, B>) -> usize
+    fn join(&mut self, task: Task<R, F, Q, M, A, X, B>) -> usize
         requires { slab_len self.old.members < self.old.members.capacity }
         ensures joins { Joins self.old.members self.new.members result }
         ensures room { self.new.members.capacity ≡ self.old.members.capacity }
@@ -171,6 +178,31 @@ where
         unreachable!()
     }
 
+    /// Takes the next member that has ended out of the group, and never sleeps. `None` where none has ended yet, and where the group is empty.
+    ///
+    /// It looks at what had ended as it was called, in the order of `next`, so a later call may have what this one has not. An `Err` is as that of `next`.
+    pub fn try_next(&mut self) -> Result<Option<Ended<F>>, AwaiterRefused>
+        ensures empty { slab_len self.old.members ≡ 0 → is_over result ≡ true }
+        ensures leaves { IfNext result (λ ended. Leaves self.old.members self.new.members ended.number) }
+        ensures stays { came_out result ≡ false → SameMembers self.old.members self.new.members }
+        ensures room { self.new.members.capacity ≡ self.old.members.capacity }
+    {
+        if self.members.is_empty() {
+            return Ok(None);
+        }
+        for _ in 0..self.members.capacity() {
+            let Some(number) = self.mailbox.take() else {
+                return Ok(None);
+            };
+            match self.look(number) {
+                Ok(next) => return Ok(Some(next)),
+                Err(true) => return Err(AwaiterRefused),
+                Err(false) => {}
+            }
+        }
+        Ok(None)
+    }
+
     // Polls the member of this number, if there is one. An `Err` says whether the poll was refused its awaiter.
     fn look(&mut self, number: usize) -> Result<Ended<F>, bool>
         ensures leaves { IfOk result (λ ended. Leaves self.old.members self.new.members ended.number) }
@@ -196,15 +228,15 @@ where
     fn poll_member(
         &self,
         number: usize,
-        member: Member<R, F, Q, M, X, B>,
-    ) -> Result<Ended<F>, Stays<R, F, Q, M, X, B>>
+        member: Member<R, F, Q, M, A, X, B>,
+    ) -> Result<Ended<F>, Stays<R, F, Q, M, A, X, B>>
         ensures { IfOk result (λ ended. ended.number ≡ number) }
     {
         let mut task = match member {
             Member::Runs(task) => task,
             Member::HasEnded(ended) => return Ok(ended.numbered(number)),
         };
-        let polled = match Awaiter::new(&self.mailbox, number) {
+        let polled = match self.awaiter_of(number) {
             Some(awaiter) => task.poll(&awaiter),
             None => TaskPoll::Refused,
         };
@@ -220,12 +252,19 @@ where
         Err(Stays { member, refused })
     }
 
+    // An awaiter that posts this number to the mailbox of the group.
+    fn awaiter_of(&self, number: usize) -> Option<A>
+        ensures { IfSome result (λ awaiter. A.Posts.posts awaiter (arc_value self.now.mailbox) number) }
+    {
+        A::of_mailbox(&self.mailbox, number)
+    }
+
     // The member that a task becomes under this number, once polled.
     fn first_look(
         &self,
         number: usize,
-        task: Task<R, F, Q, M, Awaiter<R>, X, B>,
-    ) -> Member<R, F, Q, M, X, B> {
+        task: Task<R, F, Q, M, A, X, B>,
+    ) -> Member<R, F, Q, M, A, X, B> {
         match self.poll_member(number, Member::Runs(task)) {
             Ok(ended) => {
                 self.mailbox.post(number);
@@ -260,16 +299,16 @@ where
     }
 }
 
-impl<R: Wait + Drop + Copy, F: Yields, Q: Drop, X: Copy, B: Allocator + Copy> TaskGroup<
-    R,
-    F,
-    Q,
-    (),
-    X,
-    B,
->
+impl<
+    R: Wait + Drop + Copy,
+    F: Yields,
+    Q: Drop,
+    A: Posts<R>,
+    X: Copy,
+    B: Allocator + Copy,
+> TaskGroup<R, F, Q, (), A, X, B>
 where
-    Q: Schedule<Runnable<R, F, Q, (), Awaiter<R>, X, B>>,
+    Q: Schedule<Runnable<R, F, Q, (), A, X, B>>,
 {
     /// Spawns a task of the group, under a number that no other member has, and schedules it.
     ///

@@ -50,7 +50,7 @@ pub type LineTask<'x, R> = Task<R, Member, ToLine, (), Awaiter<R>, &'x Line<R>>;
 pub type LineWaker<'x, R> = TaskWaker<R, Member, ToLine, (), Awaiter<R>, &'x Line<R>>;
 
 /// A group of Tasks of a line.
-pub type LineGroup<'x, R> = TaskGroup<R, Member, ToLine, (), &'x Line<R>>;
+pub type LineGroup<'x, R> = TaskGroup<R, Member, ToLine, (), Awaiter<R>, &'x Line<R>>;
 
 type KeptTask<R> = Task<R, Member, ToLine, (), Awaiter<R>, ()>;
 

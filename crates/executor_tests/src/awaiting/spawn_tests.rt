@@ -2,6 +2,7 @@
 ghost use Rattle.std.specs.Prelude.{⊤};
 
 use async_task::{Future, Poll, Schedule, ScheduleInfo, Yields};
+use awaiters::Awaiter;
 use bench_report::counting::Counting;
 use linked_list_allocator::LocalHeap;
 use std::alloc::{AllocError, Global};
@@ -47,7 +48,7 @@ impl<N: Drop> Schedule<N> for Nowhere {
 // group whose allocator has a reference behind a reference.
 type Heap = Counting<LocalHeap>;
 
-type HeapGroup<'heap, R> = TaskGroup<R, Number, Nowhere, (), (), &'heap Heap>;
+type HeapGroup<'heap, R> = TaskGroup<R, Number, Nowhere, (), Awaiter<R>, (), &'heap Heap>;
 
 // The number of a member that came out, and whether it was closed.
 type CameOut = Option<(usize, bool)>;

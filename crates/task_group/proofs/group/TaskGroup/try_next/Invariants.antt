@@ -1,0 +1,9 @@
+use Rattle.std.proofs.Common.{◌≡◌}
+use Rattle.task_group.specs.Members.{SameMembers}
+use Rattle.task_group.proofs.group.TaskGroup.try_next.Given as goal
+
+abbrev pub invariant-loop : goal.invariant-loop
+invariant-loop g l = record {
+  same : SameMembers l.fn.self.members l.self.members;
+  room : l.self.members.capacity ≡ l.fn.self.members.capacity;
+}
