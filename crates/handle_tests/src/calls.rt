@@ -58,6 +58,20 @@ pub fn run<R: Wait + Drop>(runnable: RowRunnable<'_, R>) -> bool {
     runnable.run()
 }
 
+/// Runs the Runnable that has waited longest: whether it showed the flags and the count of that word, and what the run answered. Stops where there is none.
+pub fn run_received<R: Wait + Abort + Drop + Copy>(
+    fixture: &Fixture<R>,
+    word: u64,
+) -> (bool, bool) {
+    match fixture.surroundings.receive() {
+        Some(received) => {
+            let shown = runnable_shows(fixture, &received, word);
+            (shown, run(received))
+        }
+        None => panic!(fixture.rt; "nothing was queued"),
+    }
+}
+
 /// Drops a Runnable.
 pub fn drop_runnable<R: Wait + Drop>(runnable: RowRunnable<'_, R>) {
     drop(runnable);

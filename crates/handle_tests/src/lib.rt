@@ -11,7 +11,11 @@ mod calls;
 #[cfg(test)]
 mod cell_tests;
 #[cfg(test)]
+mod idle_tests;
+#[cfg(test)]
 mod limit_tests;
+#[cfg(test)]
+mod metadata_tests;
 #[cfg(test)]
 mod poll_tests;
 #[cfg(test)]

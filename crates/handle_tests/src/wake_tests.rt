@@ -6,7 +6,6 @@ use counted_values::behaviour::Behaviour;
 use counted_values::counters::Counts;
 use counted_values::flag::Flag;
 use fixtures::fixture::Fixture;
-use fixtures::surroundings::RowRunnable;
 use std::process::Abort;
 use std::sync::Wait;
 
@@ -42,6 +41,42 @@ fn a_waker_as_an_awaiter_wakes_by_reference(rt: HostRuntime) {
     assert_eq!(rt;
         [woken, fixture.counts()],
         [Counts::new(1, 1, 0, 0), Counts::new(1, 1, 1, 1)]
+    );
+}
+
+// Wakes any awaiter by value.
+fn wake_awaiter_by_value<W: Wake>(awaiter: W) {
+    awaiter.wake();
+}
+
+// Wakes an idle task by value, by its only waker as an awaiter: what was queued, whether the Task showed the wake, and what was counted.
+fn wake_first_by_value<R: Wait + Abort + Drop + Copy>(
+    fixture: &Fixture<R>,
+) -> (usize, bool, Counts) {
+    let (runnable, task) = calls::spawn(fixture, Behaviour::Pending);
+    let waker = calls::waker_of(fixture.rt, &runnable);
+    calls::run(runnable);
+    wake_awaiter_by_value(waker);
+    let queued = fixture.surroundings.queued();
+    let shown = calls::task_shows(fixture, &task, 0x111);
+    let woken = fixture.counts();
+    calls::drop_task(task);
+    (queued, shown, woken)
+}
+
+// No wake by reference comes first: the wake by value queues 1 Runnable, whose reference is the only one that is left (0x111).
+#[test]
+fn a_waker_as_an_awaiter_wakes_by_value(rt: HostRuntime) {
+    let fixture = calls::fixture(rt, rt.alloc());
+    let seen = wake_first_by_value(&fixture);
+    let ran = fixture.surroundings.run_next();
+    assert_eq!(rt;
+        (seen, ran, fixture.counts()),
+        (
+            (1, true, Counts::new(1, 1, 0, 0)),
+            Some(false),
+            Counts::new(1, 1, 1, 1)
+        )
     );
 }
 
@@ -83,21 +118,6 @@ fn wake_last<R: Wait + Abort + Drop + Copy>(fixture: &Fixture<R>) -> usize {
     fixture.surroundings.queued()
 }
 
-// Takes the Runnable that has waited longest. Stops where there is none.
-fn receive<R: Wait + Abort + Drop + Copy>(fixture: &Fixture<R>) -> RowRunnable<'_, R> {
-    match fixture.surroundings.receive() {
-        Some(received) => received,
-        None => panic!(fixture.rt; "nothing was queued"),
-    }
-}
-
-// Receives a Runnable and runs it: whether it showed its one reference, and what the run answered.
-fn run_received<R: Wait + Abort + Drop + Copy>(fixture: &Fixture<R>) -> (bool, bool) {
-    let received = receive(fixture);
-    let shown = calls::runnable_shows(fixture, &received, 0x101);
-    (shown, calls::run(received))
-}
-
 // The only handle of a task is a waker: a wake by value queues one Runnable, which has the one reference that is left, and the task stays open.
 // The future is pending once more, so that this run hands a closing Runnable over.
 #[test]
@@ -105,7 +125,7 @@ fn the_last_waker_wakes_by_value(rt: HostRuntime) {
     let fixture = calls::fixture(rt, rt.alloc());
     let queued = wake_last(&fixture);
     let woken = fixture.counts();
-    let received = run_received(&fixture);
+    let received = calls::run_received(&fixture, 0x101);
     let ran = fixture.counts();
     let last = fixture.surroundings.run_next();
     let told = fixture.surroundings.infos_are(&[false, false]);

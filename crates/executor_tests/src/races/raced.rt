@@ -265,7 +265,8 @@ impl<R: Wait + Drop> RaceSurroundings<R> {
     }
 
     /// Whether so many rounds have come to their end: their futures and schedule values were dropped, and all outputs that there
-    /// were; there was no Runnable and no waker left, which this call would drop; no two polls overlapped, and no two Runnables met.
+    /// were; there was no Runnable and no waker left, which this call would drop; no two polls overlapped, no two Runnables met, and
+    /// there were no more polls than Runnables.
     pub fn ended(&self, rounds: u64) -> bool {
         let Counts {
             future_drops,
@@ -276,7 +277,22 @@ impl<R: Wait + Drop> RaceSurroundings<R> {
         let outputs = self.counters.output_drops.get() == self.outputs.get();
         let left = self.discard_next() || self.discard_kept();
         let doubled = self.counters.overlaps.get() != 0 || self.second_runnables.get() != 0;
-        dropped && outputs && !left && !doubled
+        dropped && outputs && !left && !doubled && self.polls() <= self.runnables(rounds)
+    }
+
+    /// How many polls there were.
+    pub fn polls(&self) -> u64 {
+        self.counters.polls.get()
+    }
+
+    /// How many Runnables were scheduled.
+    pub fn schedules(&self) -> u64 {
+        self.counters.schedules.get()
+    }
+
+    /// How many Runnables there were: those that were scheduled, and those of so many spawns.
+    pub fn runnables(&self, spawns: u64) -> u64 {
+        spawns.wrapping_add(self.schedules())
     }
 
     /// How many outputs there were.

@@ -119,33 +119,41 @@ fn play<R: Wait + Threads + Abort + Drop + Copy + Send + Sync>(
     });
 }
 
-// A race: how many rounds there were, how many did not come to their end as they must, how many outputs there were; and how many
-// met a notifier.
+// A race: how many rounds there were, how many did not come to their end as they must, how many outputs there were, polls, and
+// Runnables that were scheduled; and how many rounds met a notifier.
 fn race<R: Wait + Threads + Abort + Drop + Copy + Send + Sync>(
     rt: R,
     alloc: Global,
     ending: Ending,
-) -> Result<([u64; 3], u64), AllocError> {
+) -> Result<([u64; 5], u64), AllocError> {
     let surroundings = RaceSurroundings::new(rt, alloc)?;
     let rounds = Rounds::new(2);
     let tally = Tally::new();
     play(rt, alloc, &rounds, &surroundings, &tally, ending);
-    let counts = [tally.rounds(), tally.faults(), surroundings.outputs()];
+    let counts = [
+        tally.rounds(),
+        tally.faults(),
+        surroundings.outputs(),
+        surroundings.polls(),
+        surroundings.schedules(),
+    ];
     Ok((counts, tally.met()))
 }
 
+// Each round has the Runnable of the spawn and no other: it is polled once.
 #[test]
 fn a_poll_registers_beside_a_run_that_completes(rt: HostRuntime) -> Result<(), Fail> {
     let (counts, met) = race(rt, rt.alloc(), Ending::Run)?;
-    assert_eq!(rt; counts, [ROUNDS, 0, ROUNDS]);
+    assert_eq!(rt; counts, [ROUNDS, 0, ROUNDS, ROUNDS, 0]);
     assert!(rt; LEAST_MET <= met, "{met} polls met a notifier");
     Ok(())
 }
 
+// Each round has the Runnable of the spawn and no other: it is dropped, and never polled.
 #[test]
 fn a_poll_registers_beside_a_drop_of_the_runnable(rt: HostRuntime) -> Result<(), Fail> {
     let (counts, met) = race(rt, rt.alloc(), Ending::Discard)?;
-    assert_eq!(rt; counts, [ROUNDS, 0, 0]);
+    assert_eq!(rt; counts, [ROUNDS, 0, 0, 0, 0]);
     assert!(rt; LEAST_MET <= met, "{met} polls met a notifier");
     Ok(())
 }

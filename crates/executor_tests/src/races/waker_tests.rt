@@ -78,6 +78,8 @@ fn play<R: Wait + Abort + Threads + Drop + Copy + Send + Sync>(
     });
 }
 
+// A race: each spawned Runnable is polled once. In every second round the run answers pending, and the last handle schedules one more
+// Runnable, of a closed task, which is not polled.
 fn race<R: Wait + Abort + Threads + Drop + Copy + Send + Sync>(
     rt: R,
     alloc: Global,
@@ -88,9 +90,15 @@ fn race<R: Wait + Abort + Threads + Drop + Copy + Send + Sync>(
     let tally = Tally::new();
     let drops = Calls::new();
     play(rt, &rounds, &surroundings, &drops, &tally, thread);
-    let counts = [tally.rounds(), tally.faults(), surroundings.outputs()];
+    let counts = [
+        tally.rounds(),
+        tally.faults(),
+        surroundings.outputs(),
+        surroundings.polls(),
+        surroundings.schedules(),
+    ];
     let met = tally.met();
-    assert_eq!(rt; counts, [ROUNDS, 0, ROUNDS / 2]);
+    assert_eq!(rt; counts, [ROUNDS, 0, ROUNDS / 2, ROUNDS, ROUNDS / 2]);
     assert!(rt; LEAST_MET <= met, "{met} drops overlapped a run");
     Ok(())
 }

@@ -1,0 +1,119 @@
+//! Tests of the metadata: it goes with the last handle, and no sooner.
+ghost use Rattle.std.specs.Prelude.{⊤};
+
+use async_task::{Builder, Runnable, Schedule, ScheduleInfo, Task, TaskWaker};
+use counted_values::behaviour::Behaviour;
+use counted_values::counters::{Counter, Counters};
+use counted_values::flag::Flag;
+use fixtures::future::RowFuture;
+use std::alloc::{AllocError, Global};
+use std::sync::{Arc, Wait};
+use std::test::Fail;
+
+// A metadata that counts its drop.
+struct Tag {
+    drops: Arc<Counter>,
+}
+
+impl Drop for Tag {
+    fn drop(self) {
+        let Tag { drops } = self;
+        drops.add_one();
+        drop(drops);
+    }
+}
+
+// A schedule value that drops each Runnable.
+#[derive(Drop)]
+struct Dropper;
+
+type TagRunnable<R> = Runnable<R, RowFuture, Dropper, Tag, Flag, ()>;
+
+type TagTask<R> = Task<R, RowFuture, Dropper, Tag, Flag, ()>;
+
+type TagWaker<R> = TaskWaker<R, RowFuture, Dropper, Tag, Flag, ()>;
+
+impl<R: Wait + Drop> Schedule<TagRunnable<R>> for Dropper {
+    ghost scheduled = { λ _ _ _. ⊤ };
+
+    fn schedule(&self, runnable: TagRunnable<R>, _info: ScheduleInfo) {
+        drop(runnable);
+    }
+}
+
+// Spawns a task whose metadata counts its drop here.
+fn spawn_tagged<R: Wait + Drop + Copy>(
+    rt: R,
+    alloc: Global,
+    drops: &Arc<Counter>,
+) -> Result<(TagRunnable<R>, TagTask<R>), AllocError> {
+    let counters = Arc::new(alloc, Counters::new())?;
+    let future = RowFuture::new(Behaviour::Pending, counters);
+    let tag = Tag {
+        drops: Arc::try_clone(drops)?,
+    };
+    Builder::new()
+        .metadata(tag)
+        .spawn(rt, alloc, |_| future, Dropper, ())
+        .map_err(|_| AllocError)
+}
+
+fn drop_runnable<R: Wait + Drop>(runnable: TagRunnable<R>) {
+    drop(runnable);
+}
+
+fn drop_task<R: Wait + Drop>(task: TagTask<R>) {
+    drop(task);
+}
+
+fn drop_waker<R: Wait + Drop>(waker: Option<TagWaker<R>>) {
+    drop(waker);
+}
+
+// Drops the Runnable and then the Task: the drops of the metadata before, between and after.
+fn drops_until_task<R: Wait + Drop + Copy>(
+    rt: R,
+    alloc: Global,
+    drops: &Arc<Counter>,
+) -> Result<[u64; 3], AllocError> {
+    let (runnable, task) = spawn_tagged(rt, alloc, drops)?;
+    let spawned = drops.get();
+    drop_runnable(runnable);
+    let kept = drops.get();
+    drop_task(task);
+    Ok([spawned, kept, drops.get()])
+}
+
+// The Task is the last handle: the metadata is there after the drop of the Runnable, and is dropped once, with the Task.
+#[test]
+fn the_metadata_goes_with_the_task(rt: HostRuntime) -> Result<(), Fail> {
+    let drops = Arc::new(rt.alloc(), Counter::new())?;
+    let seen = drops_until_task(rt, rt.alloc(), &drops);
+    assert_eq!(rt; seen, Ok([0, 0, 1]));
+    Ok(())
+}
+
+// Drops the Task, the Runnable and then a waker: the drops of the metadata after each.
+fn drops_until_waker<R: Wait + Drop + Copy>(
+    rt: R,
+    alloc: Global,
+    drops: &Arc<Counter>,
+) -> Result<[u64; 3], AllocError> {
+    let (runnable, task) = spawn_tagged(rt, alloc, drops)?;
+    let waker = runnable.waker();
+    drop_task(task);
+    let cancelled = drops.get();
+    drop_runnable(runnable);
+    let kept = drops.get();
+    drop_waker(waker);
+    Ok([cancelled, kept, drops.get()])
+}
+
+// A waker is the last handle of a task that is closed and whose future is gone: the metadata goes with it.
+#[test]
+fn the_metadata_goes_with_the_last_waker(rt: HostRuntime) -> Result<(), Fail> {
+    let drops = Arc::new(rt.alloc(), Counter::new())?;
+    let seen = drops_until_waker(rt, rt.alloc(), &drops);
+    assert_eq!(rt; seen, Ok([0, 0, 1]));
+    Ok(())
+}
