@@ -13,18 +13,27 @@ mod line;
 mod new_thread;
 mod parallel_sum;
 mod pipeline;
+mod pooled;
 mod priorities;
 mod timer;
 mod two_kinds;
 
 use boxed::Step;
 use boxed_steps::{Brings, Doubles, Place};
-use std::io;
+use pooled::JobPool;
+use std::alloc::{AllocGlobal, Global};
+use std::io::{self, Print};
+use std::random::RandomSource;
 use std::rc::Rc;
+use std::sync::Wait;
+use std::thread::{self, Threads};
 use two_kinds::Kind;
 
-fn main(rt: HostRuntime) -> io::Result<()> {
-    let alloc = rt.alloc();
+// The tasks that are run by hand, by threads of their own, or one by one.
+fn print_first<R: Print + Wait + Threads + Drop + Copy + Send + Sync>(
+    rt: R,
+    alloc: Global,
+) -> io::Result<()> {
     println!(rt; "borrowed: {:?}", borrowed::sum_of(rt, alloc, &[3, 5, 8]))?;
     println!(rt; "cleanup: {:?}", cleanup::free_permits(rt, alloc))?;
     println!(rt; "new_thread: {:?}", new_thread::primes_below(rt, alloc, 30))?;
@@ -47,14 +56,14 @@ fn main(rt: HostRuntime) -> io::Result<()> {
     println!(rt;
         "two_kinds: {:?}",
         two_kinds::answer_of(rt, alloc, Kind::Bytes("seven bytes"))
-    )?;
-    let place = Rc::new(alloc, Place::default())?;
-    let doubles: Box<dyn Step> = Box::new(alloc, Doubles(place.clone()?))?;
-    let brings: Box<dyn Step> = Box::new(alloc, Brings(21, place))?;
-    println!(rt;
-        "boxed: {:?}",
-        boxed::answers_of(rt, alloc, [doubles, brings])
-    )?;
+    )
+}
+
+// The tasks that wake one another, and those that are futures of the kit.
+fn print_wakes<R>(rt: R, alloc: Global) -> io::Result<()>
+where
+    R: Print + RandomSource + AllocGlobal + Wait + Threads + Drop + Copy + Send + Sync,
+{
     println!(rt;
         "timer: {:?}",
         timer::ends_of(rt, alloc, [(8, 1), (3, 2), (5, 1)])
@@ -68,6 +77,34 @@ fn main(rt: HostRuntime) -> io::Result<()> {
     println!(rt;
         "kit_futures: {:?}",
         kit_futures::selected(rt, alloc, [&[1, 2, 3], &[4, 5]])
+    )
+}
+
+fn main(rt: HostRuntime) -> io::Result<()> {
+    let alloc = rt.alloc();
+    print_first(rt, alloc)?;
+    let place = Rc::new(alloc, Place::default())?;
+    let doubles: Box<dyn Step> = Box::new(alloc, Doubles(place.clone()?))?;
+    let brings: Box<dyn Step> = Box::new(alloc, Brings(21, place))?;
+    println!(rt;
+        "boxed: {:?}",
+        boxed::answers_of(rt, alloc, [doubles, brings])
     )?;
-    Ok(())
+    print_wakes(rt, alloc)?;
+    // A pool of two workers: this thread is one, and waits for two tasks.
+    let pool = JobPool::new(rt, alloc, 2)?;
+    let mut sum = pooled::spawn_sum(&pool, 100)?;
+    let mut average = pooled::spawn_average(&pool, 9)?;
+    let mut turns = pool.turns(0)?;
+    let (_, (sum, average)) = thread::join(
+        &rt,
+        || pool.run(1).is_ok(),
+        || {
+            let sum = pool.block_on(&mut turns, &mut sum);
+            let average = pool.block_on(&mut turns, &mut average);
+            pool.shutdown();
+            (sum, average)
+        },
+    );
+    println!(rt; "pooled: {:?}", (sum, average))
 }

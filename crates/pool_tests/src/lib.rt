@@ -7,6 +7,8 @@ mod awaiting_tests;
 #[cfg(test)]
 mod borrow_tests;
 #[cfg(test)]
+mod boxed_tests;
+#[cfg(test)]
 mod cancel_tests;
 #[cfg(test)]
 mod group_tests;

@@ -1,0 +1,292 @@
+//! Futures of two types in one pool, in boxes. The trait of the boxes names no waker and no runtime: a step is lent a ticket, which is plain data, and
+//! what rings wakes by number. The prover takes no pool that is written out with a box, so all here but the tests is generic in what takes the steps.
+ghost use Rattle.std.specs.Prelude.{⊤};
+
+use async_task::{Future, Poll, TaskPoll, Yields};
+use awaiters::Nobody;
+use executor::{Key, Pool, PoolTask, PoolWaker, Turns, keep_waker, place_for_waker, wake_kept};
+use std::alloc::{AllocError, Global};
+use std::sync::atomic::{AtomicU32, AtomicU64, Ordering};
+use std::sync::{Arc, Wait};
+use std::test::Fail;
+use std::thread::{self, Threads};
+
+/// How many numbers can be rung for.
+const NUMBERS: u32 = 64;
+
+/// What the tasks of a pool count together.
+#[derive(Drop)]
+struct Shared {
+    // What was rung for and is not delivered yet, a bit for each number.
+    rung: AtomicU64,
+    // How many tasks have not ended.
+    unfinished: AtomicU64,
+}
+
+/// What a step is lent: the number of its task, and where it rings.
+#[derive(Drop)]
+struct Ticket {
+    number: u32,
+    shared: Arc<Shared>,
+}
+
+impl Ticket {
+    /// Asks for the next step of the task of this number.
+    fn ring(&self, number: u32) {
+        let bit = 1u64.checked_shl(number).unwrap_or(0);
+        self.shared.rung.fetch_or(bit, Ordering::SeqCst);
+    }
+}
+
+/// A future that is lent a ticket in place of a waker.
+trait Step: Drop {
+    /// Carries the computation on. After `Poll::Pending` there is a further step once its number is rung.
+    fn step(&mut self, ticket: &Ticket) -> Poll<u64>;
+}
+
+impl Step for Box<dyn Step + Send> {
+    fn step(&mut self, ticket: &Ticket) -> Poll<u64> {
+        (**self).step(ticket)
+    }
+}
+
+/// Where one step waits for the number of another. Each has one more than what it tells of, and 0 where there is none.
+#[derive(Drop)]
+struct Meeting {
+    brought: AtomicU64,
+    waits: AtomicU32,
+}
+
+/// Doubles the number that is brought.
+#[derive(Drop)]
+struct Doubles(Arc<Meeting>);
+
+impl Step for Doubles {
+    // It waits before it looks, so that who brings the number sees it wait, or it sees the number.
+    fn step(&mut self, ticket: &Ticket) -> Poll<u64> {
+        let waits = ticket.number.saturating_add(1);
+        self.0.waits.store(waits, Ordering::SeqCst);
+        match self.0.brought.load(Ordering::SeqCst) {
+            0 => Poll::Pending,
+            brought => Poll::Ready(brought.wrapping_sub(1).wrapping_mul(2)),
+        }
+    }
+}
+
+/// Gives way once, then brings a number and rings for the step that waits for it.
+#[derive(Drop)]
+struct Brings {
+    number: u64,
+    gave_way: bool,
+    meeting: Arc<Meeting>,
+}
+
+impl Step for Brings {
+    fn step(&mut self, ticket: &Ticket) -> Poll<u64> {
+        if !self.gave_way {
+            self.gave_way = true;
+            ticket.ring(ticket.number);
+            return Poll::Pending;
+        }
+        let brought = self.number.wrapping_add(1);
+        self.meeting.brought.store(brought, Ordering::SeqCst);
+        let waits = self.meeting.waits.swap(0, Ordering::SeqCst);
+        if waits > 0 {
+            ticket.ring(waits.wrapping_sub(1));
+        }
+        Poll::Ready(self.number)
+    }
+}
+
+/// The future of a task: what takes the steps, and the place of the waker.
+#[derive(Drop)]
+struct Ticketed<R: Wait + Drop + Copy, T: Step> {
+    inner: T,
+    shared: Arc<Shared>,
+    own: Option<Key<R>>,
+}
+
+impl<R: Wait + Drop + Copy, T: Step> Yields for Ticketed<R, T> {
+    type Output = u64;
+}
+
+type StepPool<R, T> = Pool<R, Ticketed<R, T>, Nobody>;
+
+type StepTask<'x, R, T> = PoolTask<'x, R, Ticketed<R, T>, Nobody>;
+
+type StepTurns<R, T> = Turns<R, Ticketed<R, T>, Nobody>;
+
+type StepWaker<'x, R, T> = PoolWaker<'x, R, Ticketed<R, T>, Nobody>;
+
+// Wakes the tasks that were rung for.
+fn deliver<'x, R: Wait + Drop + Copy, T: Step>(waker: &StepWaker<'x, R, T>, rung: &AtomicU64) {
+    let rung = rung.swap(0, Ordering::SeqCst);
+    for number in 0..NUMBERS {
+        if rung.checked_shr(number).unwrap_or(0) & 1 == 1 {
+            wake_kept(waker.around(), number as usize);
+        }
+    }
+}
+
+impl<R: Wait + Drop + Copy, T: Step> Ticketed<R, T> {
+    // Keeps the waker, and answers the ticket of its number. `None` where that was refused.
+    fn keep<'x>(&mut self, waker: &StepWaker<'x, R, T>) -> Option<Ticket> {
+        if self.own.is_none() {
+            self.own = place_for_waker(waker.around().0);
+        }
+        let own = self.own.as_ref()?;
+        if !keep_waker(waker, own) {
+            return None;
+        }
+        let number = u32::try_from(own.number()).ok()?;
+        if number >= NUMBERS {
+            return None;
+        }
+        let shared = Arc::try_clone(&self.shared).ok()?;
+        Some(Ticket { number, shared })
+    }
+
+    // The waker is kept before the step, so that what the step leaves behind may be rung for at once.
+    fn take_step<'x>(&mut self, waker: &StepWaker<'x, R, T>) -> Poll<u64> {
+        let Some(ticket) = self.keep(waker) else {
+            return Poll::Ready(0);
+        };
+        let answer = self.inner.step(&ticket);
+        deliver(waker, &ticket.shared.rung);
+        answer
+    }
+}
+
+impl<'x, R: Wait + Drop + Copy, T: Step> Future<StepWaker<'x, R, T>> for Ticketed<R, T> {
+    ghost polled = { λ _ _ _ _. ⊤ };
+
+    fn poll(&mut self, waker: &StepWaker<'x, R, T>) -> Poll<u64> {
+        let answer = self.take_step(waker);
+        if answer != Poll::Pending && self.shared.unfinished.fetch_sub(1, Ordering::SeqCst) == 1 {
+            waker.around().0.shutdown();
+        }
+        answer
+    }
+}
+
+fn spawned<'x, R: Wait + Drop + Copy, T: Step>(
+    pool: &'x StepPool<R, T>,
+    inner: T,
+    shared: &Arc<Shared>,
+) -> Result<StepTask<'x, R, T>, AllocError> {
+    let shared = Arc::try_clone(shared)?;
+    let future = Ticketed {
+        inner,
+        shared,
+        own: None,
+    };
+    pool.spawn(future).ok().ok_or(AllocError)
+}
+
+fn output_of<'x, R: Wait + Drop + Copy, T: Step>(task: &mut StepTask<'x, R, T>) -> Option<u64> {
+    match task.poll(&Nobody) {
+        TaskPoll::Ready(answer) => answer.ok(),
+        _ => None,
+    }
+}
+
+// Is a worker until the last task has ended.
+fn work<R: Wait + Drop + Copy, T: Step>(pool: &StepPool<R, T>, turns: &mut StepTurns<R, T>) {
+    for _ in pool.rt().forever() {
+        let Some(runnable) = pool.await_next(turns) else {
+            return;
+        };
+        runnable.run();
+    }
+}
+
+fn new_shared(alloc: Global) -> Result<Arc<Shared>, AllocError> {
+    let shared = Shared {
+        rung: AtomicU64::new(0),
+        unfinished: AtomicU64::new(2),
+    };
+    Ok(Arc::new(alloc, shared)?)
+}
+
+// What two tasks of these steps answer, on one worker.
+fn answers_of_one<R: Wait + Drop + Copy, T: Step>(
+    rt: R,
+    alloc: Global,
+    steps: [T; 2],
+) -> Result<(Option<u64>, Option<u64>), AllocError> {
+    let pool = StepPool::new(rt, alloc, 1)?;
+    let shared = new_shared(alloc)?;
+    let [first, second] = steps;
+    let mut first = spawned(&pool, first, &shared)?;
+    let mut second = spawned(&pool, second, &shared)?;
+    let mut turns = pool.turns(0)?;
+    work(&pool, &mut turns);
+    Ok((output_of(&mut first), output_of(&mut second)))
+}
+
+// Two workers, each on a thread, until the last task has ended.
+fn work_both<R: Wait + Threads + Drop + Copy + Send + Sync, T: Step + Send>(
+    rt: &R,
+    pool: &StepPool<R, T>,
+    one: &mut StepTurns<R, T>,
+    other: &mut StepTurns<R, T>,
+) {
+    thread::join(rt, || work(pool, one), || work(pool, other));
+}
+
+// What two tasks of these steps answer, on two workers.
+fn answers_of_two<R: Wait + Threads + Drop + Copy + Send + Sync, T: Step + Send>(
+    rt: R,
+    alloc: Global,
+    steps: [T; 2],
+) -> Result<(Option<u64>, Option<u64>), AllocError> {
+    let pool = StepPool::new(rt, alloc, 2)?;
+    let shared = new_shared(alloc)?;
+    let [first, second] = steps;
+    let mut first = spawned(&pool, first, &shared)?;
+    let mut second = spawned(&pool, second, &shared)?;
+    let mut one = pool.turns(0)?;
+    let mut other = pool.turns(1)?;
+    work_both(&rt, &pool, &mut one, &mut other);
+    Ok((output_of(&mut first), output_of(&mut second)))
+}
+
+fn new_doubles(meeting: &Arc<Meeting>) -> Result<Doubles, AllocError> {
+    Ok(Doubles(Arc::try_clone(meeting)?))
+}
+
+fn new_brings(number: u64, meeting: &Arc<Meeting>) -> Result<Brings, AllocError> {
+    Ok(Brings {
+        number,
+        gave_way: false,
+        meeting: Arc::try_clone(meeting)?,
+    })
+}
+
+fn new_meeting(alloc: Global) -> Result<Arc<Meeting>, AllocError> {
+    let meeting = Meeting {
+        brought: AtomicU64::new(0),
+        waits: AtomicU32::new(0),
+    };
+    Ok(Arc::new(alloc, meeting)?)
+}
+
+#[test]
+fn one_worker_runs_boxed_futures(rt: HostRuntime) -> Result<(), Fail> {
+    let meeting = new_meeting(rt.alloc())?;
+    let doubles: Box<dyn Step + Send> = Box::new(rt.alloc(), new_doubles(&meeting)?)?;
+    let brings: Box<dyn Step + Send> = Box::new(rt.alloc(), new_brings(21, &meeting)?)?;
+    let answers = answers_of_one(rt, rt.alloc(), [doubles, brings])?;
+    assert_eq!(rt; answers, (Some(42), Some(21)));
+    Ok(())
+}
+
+#[test]
+fn two_workers_run_boxed_futures(rt: HostRuntime) -> Result<(), Fail> {
+    let meeting = new_meeting(rt.alloc())?;
+    let doubles: Box<dyn Step + Send> = Box::new(rt.alloc(), new_doubles(&meeting)?)?;
+    let brings: Box<dyn Step + Send> = Box::new(rt.alloc(), new_brings(21, &meeting)?)?;
+    let answers = answers_of_two(rt, rt.alloc(), [doubles, brings])?;
+    assert_eq!(rt; answers, (Some(42), Some(21)));
+    Ok(())
+}
