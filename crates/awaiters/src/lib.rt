@@ -1,6 +1,6 @@
 //! Awaiters for executors: one that wakes nobody, and one that posts a number to a mailbox, which also gives `block_on`.
 //! It stands on the Task of `async_task`, and on std's deque, lock and condition variable.
-//! A user makes a `Mailbox`, gives its `Awaiter`s to polls, and takes the numbers out; or calls `block_on`; or awaits with `Nobody`.
+//! A user makes a `Mailbox`, gives its `Awaiter`s to polls, and takes the numbers out; or calls `block_on`; or awaits with `Nobody`; or writes `Posts` for an awaiter of another kind.
 //! `Numbers`, what a mailbox keeps under its lock, is public only to carry the claims on what is posted and taken.
 //! The page is docs/EXECUTORS.md.
 #![tactic(auto)]

@@ -18,7 +18,14 @@ use task_group::TaskGroup;
 pub type JobPool<R> = Pool<R, Job<R>, Awaiter<R>>;
 
 // A group of their Tasks.
-type JobGroup<'x, R> = TaskGroup<R, Job<R>, ToPool, (), Awaiter<R>, Place<'x, R, Job<R>, Awaiter<R>>>;
+type JobGroup<'x, R> = TaskGroup<
+    R,
+    Job<R>,
+    ToPool,
+    (),
+    Awaiter<R>,
+    Place<'x, R, Job<R>, Awaiter<R>>,
+>;
 
 /// Measures a line once, on a pool that is empty. `worker` is the worker of a number of this pool until it is shut down.
 ///

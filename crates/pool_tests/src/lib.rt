@@ -1,4 +1,4 @@
-//! The tests of the pool: its workers, what futures keep, futures that borrow and of two types, tasks that await tasks, groups, storms of
+//! The tests of the pool: its workers, what futures keep, futures that borrow, of two types and in boxes, tasks that await tasks, groups, storms of
 //! wakes, cancels, refused memory, and hostile use. It stands on `executor`, `work_queues`, `task_group` and `awaiters`. Nothing is public. The page is docs/EXECUTOR_POOL.md.
 #![tactic(auto)]
 
