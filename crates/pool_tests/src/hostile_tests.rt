@@ -67,25 +67,27 @@ fn a_worker_that_does_not_exist_is_refused_or_outside(rt: HostRuntime) -> Result
     Ok(())
 }
 
-// Whether a thread may be the worker of a number: by its turns, by a run, and as one of all. A pool that was shut down ends a run at once.
-fn may_be_worker<R: Wait + Drop + Copy>(pool: &GuestPool<R>, worker: usize) -> [bool; 3] {
-    let by_turns = pool.turns(worker).is_ok();
-    let by_run = pool.run(worker).is_ok();
-    let as_one_of_all = pool.all_turns().is_ok();
-    [by_turns, by_run, as_one_of_all]
+// Whether the turns of a number are to be had: alone, and among those of all workers.
+fn may_have_turns<R: Wait + Drop + Copy>(pool: &GuestPool<R>, worker: usize) -> [bool; 2] {
+    let alone = pool.turns(worker).is_ok();
+    let among_all = pool.all_turns().is_ok();
+    [alone, among_all]
 }
 
+// A run of a pool that was shut down ends at once.
 #[test]
 fn no_two_threads_are_one_worker(rt: HostRuntime) -> Result<(), Fail> {
     let pool = GuestPool::new(rt, rt.alloc(), 2)?;
     pool.shutdown();
     let turns = pool.turns(0)?;
-    let while_it_lives = may_be_worker(&pool, 0);
+    let while_it_lives = may_have_turns(&pool, 0);
+    let runs_beside_it = pool.run(0).is_ok();
     let the_other = pool.turns(1).is_ok();
     drop(turns);
-    let once_dropped = may_be_worker(&pool, 0);
-    assert!(rt; while_it_lives == [false, false, false] && the_other);
-    assert!(rt; once_dropped == [true, true, true]);
+    let once_dropped = may_have_turns(&pool, 0);
+    let runs_after_it = pool.run(0).is_ok();
+    assert!(rt; while_it_lives == [false, false] && !runs_beside_it && the_other);
+    assert!(rt; once_dropped == [true, true] && runs_after_it);
     Ok(())
 }
 
