@@ -11,6 +11,8 @@ use std::sync::{Arc, Mutex, Wait};
 struct Returned {
     // The numbers of keys that were dropped.
     numbers: Mutex<Vec<usize>>,
+    // Whether there are any: else a call that collects takes no lock. Only who has the lock of the numbers writes it.
+    are_there: AtomicBool,
     // Set for a moment by a call that asks whose key it was given. Only who has the lock of the numbers writes it.
     is_marked: AtomicBool,
 }
@@ -37,7 +39,11 @@ impl<R: Wait + Drop + Copy> Drop for Key<R> {
             returned,
             number,
         } = self;
-        drop(returned.numbers.lock(&rt).push(number));
+        let mut numbers = returned.numbers.lock(&rt);
+        let pushed = numbers.push(number);
+        returned.are_there.store(true, Ordering::SeqCst);
+        drop(numbers);
+        drop(pushed);
     }
 }
 
@@ -55,6 +61,7 @@ impl<H: Drop> Store<H> {
     pub fn new(alloc: Global) -> Result<Store<H>, AllocError> {
         let returned = Returned {
             numbers: Mutex::new(Vec::new(alloc)),
+            are_there: AtomicBool::new(false),
             is_marked: AtomicBool::new(false),
         };
         Ok(Store {
@@ -129,7 +136,15 @@ impl<H: Drop> Store<H> {
 
     /// Frees the place of one key that was dropped, and answers the handle that was in it. `None` where there is no such key, and `Some(None)` where its place was empty.
     pub fn collect<R: Wait>(&self, rt: &R) -> Option<Option<H>> {
-        let number = self.returned.numbers.lock(rt).pop()?;
+        if !self.returned.are_there.load(Ordering::SeqCst) {
+            return None;
+        }
+        let mut numbers = self.returned.numbers.lock(rt);
+        let taken = numbers.pop();
+        let are_there = !numbers.is_empty();
+        self.returned.are_there.store(are_there, Ordering::SeqCst);
+        drop(numbers);
+        let number = taken?;
         let mut places = self.places.lock(rt);
         Some(places.try_remove(number).flatten())
     }

@@ -18,11 +18,11 @@ const BATCH: usize = 256;
 /// A worker looks at the queue for what comes from outside first, once in so many looks.
 const OUTSIDE_FIRST: u64 = 61;
 
-/// How often a worker that found nothing looks again before it lies down. How long that takes depends on the processor, as its `spin_loop` does: from 20 microseconds to some hundreds.
-const LOOKS: usize = 512;
+/// How often a worker that found nothing looks again before it lies down. How long that takes depends on the processor, as its `spin_loop` does: from 70 microseconds to 1 millisecond.
+const LOOKS: usize = 2048;
 
-/// It looks at all queues once in so many looks, and else only at counts that no worker writes for its own items. In a round `Board::is_left` may look 64 times at a queue of another worker, so beside queues that fill and empty a search has up to twice `LOOKS` more for each of them.
-const LOOKS_A_ROUND: usize = 32;
+/// It looks at all queues once in so many looks, and else only at counts that no worker writes for its own items. In a round `Board::is_left` may look 128 times at a queue of another worker, so beside queues that fill and empty a search has up to `LOOKS` more for each of them.
+const LOOKS_A_ROUND: usize = 128;
 
 /// The board of a pool and its bells. `A` is where the queues take their memory. The items that are left are dropped with it.
 #[derive(Drop)]

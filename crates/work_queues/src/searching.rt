@@ -10,7 +10,7 @@ use std::hint::spin_loop;
 use std::sync::atomic::Ordering;
 
 /// How often a worker looks whether the items of another one stay in its queue, before it takes them.
-const LOOKS_AT_ITEMS: usize = 64;
+const LOOKS_AT_ITEMS: usize = 128;
 
 /// How many turns of `spin_loop` are between two looks.
 const TURNS: usize = 8;
