@@ -1,5 +1,5 @@
 //! What a mailbox keeps under its lock: numbers below a room, each at most once, in the order in which they were posted.
-ghost use Rattle.std.specs.Prelude.{◌≡◌, ◌≤◌, ◌<◌, ◌++◌, ◌∷◌, ℕ, [], true, false, not, nat_eq, length, option_to_list, IfOk, IfSome};
+ghost use Rattle.std.specs.Prelude.{◌≡◌, ◌↔◌, ◌≤◌, ◌<◌, ◌++◌, ◌∷◌, ℕ, [], true, false, not, nat_eq, length, option_to_list, IfOk, IfSome, IsTrue};
 ghost use Rattle.std.specs.List.{IsDistinct, list_any};
 ghost use Rattle.std.specs.VecDeque.{deque_capacity};
 ghost use Rattle.std.proofs.Props.{props};
@@ -29,6 +29,13 @@ impl Numbers {
         let posted = VecDeque::with_capacity(alloc, room)?;
         let waits = vec![in alloc; false; room]?;
         Ok(Numbers { posted, waits })
+    }
+
+    /// Whether no number waits.
+    pub fn is_empty(&self) -> bool
+        ensures { IsTrue result ↔ (posted self.now ≡ []) }
+    {
+        self.posted.is_empty()
     }
 
     /// How many numbers there are to be posted: those below this one.

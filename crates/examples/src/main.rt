@@ -100,8 +100,8 @@ fn main(rt: HostRuntime) -> io::Result<()> {
         &rt,
         || pool.run(1).is_ok(),
         || {
-            let sum = pool.block_on(&mut turns, &mut sum);
-            let average = pool.block_on(&mut turns, &mut average);
+            let sum = turns.block_on(&mut sum);
+            let average = turns.block_on(&mut average);
             pool.shutdown();
             (sum, average)
         },

@@ -105,8 +105,8 @@ impl<R: Wait + Drop + Copy> Average<R> {
 // Spawns a sum at the queue of the worker that polls, and keeps its Task. `None` where there was no memory.
 fn keep_sum<'x, R: Wait + Drop + Copy>(waker: &JobWaker<'x, R>, last: u64) -> Option<Places<R>> {
     let (pool, worker) = waker.around();
-    let own = place_for_waker(pool)?;
-    let awaited = place_for_task(pool)?;
+    let own = place_for_waker(waker.around())?;
+    let awaited = place_for_task(waker.around())?;
     let task = pool.spawn_on(worker, sum_to(last)).ok()?;
     keep_task(task, &awaited).ok()?;
     Some(Places { own, awaited })

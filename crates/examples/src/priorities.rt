@@ -1,5 +1,5 @@
 //! Priorities: the metadata of a task is its priority, and a heap hands out the Runnable of greatest priority first.
-//! The heap holds parked Runnables; the executor gives each its surroundings again before it is run.
+//! The heap holds Runnables without surroundings; the executor gives each its own again before it is run.
 ghost use Rattle.std.specs.Prelude.{⊤};
 
 use async_task::{Builder, Future, Poll, Runnable, Schedule, ScheduleInfo, Task, Yields};
@@ -43,11 +43,12 @@ impl<'x, R: Wait + Drop + Copy> Schedule<Work<'x, R>> for ToHeap {
 
     fn schedule(&self, runnable: Work<'x, R>, _info: ScheduleInfo) {
         let executor = runnable.around();
-        let pushed = executor.heap.lock(&executor.rt).push(runnable.park());
+        let pushed = executor
+            .heap
+            .lock(&executor.rt)
+            .push(runnable.with_around(()));
         // A full heap hands the Runnable back: its drop cancels the task, and needs the lock to be free.
-        if let Err(refused) = pushed {
-            drop(refused.unpark(executor));
-        }
+        drop(pushed);
     }
 }
 
@@ -64,8 +65,8 @@ impl<R: Wait + Drop + Copy> Executor<R> {
 
     // Runs the Runnable of greatest priority, and answers the priority.
     fn run_next(&self) -> Option<u64> {
-        let parked = self.heap.lock(&self.rt).pop()?;
-        let runnable = parked.unpark(self);
+        let queued = self.heap.lock(&self.rt).pop()?;
+        let runnable = queued.with_around(self);
         let priority = *runnable.metadata();
         runnable.run();
         Some(priority)

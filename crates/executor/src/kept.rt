@@ -3,8 +3,8 @@ ghost use Rattle.std.specs.Prelude.{⊤, ◌≡◌, IfSome, IfErr};
 ghost use Rattle.task_cell.specs.PollPaths.{IfOutput};
 
 use crate::bell_awaiter::BellAwaiter;
-use crate::pool::{Place, Pool, PoolTask, PoolWaker, ToPool};
-use crate::store::Key;
+use crate::pool::{Place, PoolTask, PoolWaker, ToPool};
+use crate::store::{Key, Walk};
 use async_task::{
     Runnable, Schedule, ScheduleInfo, Task, TaskClosed, TaskPoll, TaskWaker, Wake, Yields,
 };
@@ -27,11 +27,12 @@ impl<R: Wait + Drop + Copy, F: Yields, A: Wake> Schedule<Runnable<R, F, ToPool, 
     }
 }
 
-/// Takes a place for a waker, and room for its number in the mail of the pool. `None` where there was no memory for them.
-pub fn place_for_waker<R: Wait + Drop + Copy, F: Yields, A: Wake, B: Allocator + Copy>(
-    pool: &Pool<R, F, A, B>,
+/// Takes a place for a waker, and room for its number in the mail of the pool. `None` where there was no memory for them. The worker of `place`, which is that of `waker.around()` in a poll, only decides which lock is taken.
+pub fn place_for_waker<'x, R: Wait + Drop + Copy, F: Yields, A: Wake, B: Allocator + Copy>(
+    place: Place<'x, R, F, A, B>,
 ) -> Option<Key<R>> {
-    let key = pool.wakers.reserve(pool.rt)?;
+    let (pool, worker) = place;
+    let key = pool.wakers.reserve(pool.rt, worker)?;
     pool.mail.make_room(key.number()).ok()?;
     Some(key)
 }
@@ -78,7 +79,7 @@ pub fn wake_kept<'x, R: Wait + Drop + Copy, F: Yields, A: Wake, B: Allocator + C
     }
 }
 
-/// Wakes the task whose number an awaiter posted first, as `wake_kept` does. False where none is posted. Each worker does it between its turns, and a loop around `Pool::tick` has to.
+/// Wakes a task whose number an awaiter posted, as `wake_kept` does. False where none is posted. Each worker does it between its turns, and a loop around `Pool::tick` has to.
 pub fn wake_posted<'x, R: Wait + Drop + Copy, F: Yields, A: Wake, B: Allocator + Copy>(
     place: Place<'x, R, F, A, B>,
 ) -> bool {
@@ -91,11 +92,12 @@ pub fn wake_posted<'x, R: Wait + Drop + Copy, F: Yields, A: Wake, B: Allocator +
     }
 }
 
-/// Takes a place for a Task. `None` where there was no memory for it.
-pub fn place_for_task<R: Wait + Drop + Copy, F: Yields, A: Wake, B: Allocator + Copy>(
-    pool: &Pool<R, F, A, B>,
+/// Takes a place for a Task, as `place_for_waker` does for a waker. `None` where there was no memory for it.
+pub fn place_for_task<'x, R: Wait + Drop + Copy, F: Yields, A: Wake, B: Allocator + Copy>(
+    place: Place<'x, R, F, A, B>,
 ) -> Option<Key<R>> {
-    pool.tasks.reserve(pool.rt)
+    let (pool, worker) = place;
+    pool.tasks.reserve(pool.rt, worker)
 }
 
 /// Keeps a Task at the place of a key, and drops what was there, which cancels that task. After a shutdown the Task is dropped at once, too.
@@ -206,15 +208,41 @@ fn drop_kept<'x, R: Wait + Drop + Copy, F: Yields, A: Wake, B: Allocator + Copy>
     }
 }
 
-// Cancels what is kept: after the shutdown a wake cancels its task.
+// Wakes all wakers that are kept: after the shutdown that cancels their tasks.
+fn wake_all<'x, R: Wait + Drop + Copy, F: Yields, A: Wake, B: Allocator + Copy>(
+    place: Place<'x, R, F, A, B>,
+) {
+    let pool = place.0;
+    let mut walk = Walk::default();
+    for _ in pool.rt.forever() {
+        match pool.wakers.take_next(&pool.rt, &mut walk) {
+            Some(Some(waker)) => waker.with_around(place).wake(),
+            Some(None) => {}
+            None => return,
+        }
+    }
+}
+
+// Drops all Tasks that are kept, which cancels their tasks.
+fn drop_all<'x, R: Wait + Drop + Copy, F: Yields, A: Wake, B: Allocator + Copy>(
+    place: Place<'x, R, F, A, B>,
+) {
+    let pool = place.0;
+    let mut walk = Walk::default();
+    for _ in pool.rt.forever() {
+        match pool.tasks.take_next(&pool.rt, &mut walk) {
+            Some(Some(task)) => drop(task.with_around(place)),
+            Some(None) => {}
+            None => return,
+        }
+    }
+}
+
+// Cancels what is kept, after the shutdown.
 pub(crate) fn cancel_kept<'x, R: Wait + Drop + Copy, F: Yields, A: Wake, B: Allocator + Copy>(
     place: Place<'x, R, F, A, B>,
 ) {
-    for number in 0..place.0.wakers.bound(&place.0.rt) {
-        wake_kept(place, number);
-    }
-    for number in 0..place.0.tasks.bound(&place.0.rt) {
-        drop_kept(place, number);
-    }
+    wake_all(place);
+    drop_all(place);
     collect(place);
 }

@@ -8,15 +8,17 @@
 pub mod bell_awaiter;
 pub mod kept;
 mod mail;
+mod parts;
 pub mod pool;
-pub mod running;
+mod posted;
 pub mod store;
+pub mod turns;
 
 pub use bell_awaiter::BellAwaiter;
 pub use kept::{
     KeptTask, KeptWaker, await_kept, collect, keep_task, keep_waker, place_for_task,
     place_for_waker, poll_kept, wake_kept, wake_posted,
 };
-pub use pool::{Place, Pool, PoolRunnable, PoolTask, PoolWaker, ToPool, Turns};
-pub use running::BlockOnError;
-pub use store::{Key, Store};
+pub use pool::{Place, Pool, PoolRunnable, PoolTask, PoolWaker, ToPool};
+pub use store::{Key, Store, Walk};
+pub use turns::{BlockOnError, Turns};

@@ -1,76 +1,67 @@
 //! The mail of a pool: the numbers of kept wakers that awaiters have posted and no worker has taken yet.
-ghost use Rattle.std.specs.Prelude.{◌≤◌, OnOk};
-ghost use Rattle.awaiters.specs.Posted.{room_of};
-
-use awaiters::Numbers;
+use crate::parts::{PARTS, number_of, part_of, slot_of};
+use crate::posted::Posted;
 use std::alloc::{AllocError, Global};
-use std::sync::atomic::{AtomicBool, Ordering};
-use std::sync::{Arc, Mutex, Wait};
+use std::sync::atomic::{AtomicU64, AtomicUsize, Ordering};
+use std::sync::{Arc, Wait};
 
-/// Numbers that were posted, each at most once, in their order. Room for a number is taken with the place of its waker, so a post needs no memory.
+/// The posted numbers of the parts of the store of wakers.
 #[derive(Drop)]
 pub(crate) struct Mail<R: Wait + Drop + Copy> {
     rt: R,
-    alloc: Global,
-    numbers: Mutex<Numbers>,
-    // False only where no number waits: then a worker takes no lock. It is written under the lock.
-    may_wait: AtomicBool,
-}
-
-// Has room for the numbers below `room`, and at least twice as many as before where there was less. What waits keeps its order. Where memory is refused nothing has changed.
-fn widen(numbers: &mut Numbers, alloc: Global, room: usize) -> Result<(), AllocError>
-    ensures room { OnOk result (room ≤ room_of numbers.new) }
-{
-    let before = numbers.room();
-    if room <= before {
-        return Ok(());
-    }
-    let mut wider = Numbers::new(alloc, room.max(before.saturating_mul(2)))?;
-    while let Some(number) = numbers.take() {
-        wider.post(number);
-    }
-    *numbers = wider;
-    Ok(())
+    parts: Vec<Posted>,
+    // The parts that have numbers, a bit for each.
+    due: Arc<AtomicU64>,
+    // The part that is looked at first. It moves on, so that a part which always has a number keeps no other one waiting.
+    first: AtomicUsize,
 }
 
 impl<R: Wait + Drop + Copy> Mail<R> {
     // No numbers yet, and room for none. An error says that there was no memory.
     pub(crate) fn new(rt: R, alloc: Global) -> Result<Arc<Mail<R>>, AllocError> {
+        let due = Arc::new(alloc, AtomicU64::new(0))?;
+        let mut parts = Vec::new(alloc);
+        for part in 0..PARTS {
+            parts.push(Posted::new(alloc, &due, part)?)?;
+        }
         let mail = Mail {
             rt,
-            alloc,
-            numbers: Mutex::new(Numbers::new(alloc, 0)?),
-            may_wait: AtomicBool::new(false),
+            parts,
+            due,
+            first: AtomicUsize::new(0),
         };
         Ok(Arc::new(alloc, mail)?)
     }
 
-    // Has room for this number and all below it. An error says that there was no memory: nothing has changed then.
+    // Has room for this number, and all below it of its part. An error says that there was no memory: nothing has changed then.
     pub(crate) fn make_room(&self, number: usize) -> Result<(), AllocError> {
-        let mut numbers = self.numbers.lock(&self.rt);
-        widen(&mut *numbers, self.alloc, number.saturating_add(1))
+        match self.parts.get(part_of(number)) {
+            Some(part) => part.make_room(&self.rt, slot_of(number)),
+            None => Err(AllocError),
+        }
     }
 
     // Posts a number. True where it joins the others: it did not wait yet, and there is room for it.
     pub(crate) fn post(&self, number: usize) -> bool {
-        let mut numbers = self.numbers.lock(&self.rt);
-        let joins = number < numbers.room() && numbers.post(number);
-        if joins {
-            self.may_wait.store(true, Ordering::SeqCst);
+        match self.parts.get(part_of(number)) {
+            Some(part) => part.post(&self.rt, slot_of(number)),
+            None => false,
         }
-        joins
     }
 
-    // Takes out the number that has waited longest.
+    // Takes out a number: that which has waited longest in its part.
     pub(crate) fn take(&self) -> Option<usize> {
-        if !self.may_wait.load(Ordering::SeqCst) {
+        if self.due.load(Ordering::SeqCst) == 0 {
             return None;
         }
-        let mut numbers = self.numbers.lock(&self.rt);
-        let taken = numbers.take();
-        if taken.is_none() {
-            self.may_wait.store(false, Ordering::SeqCst);
+        let first = self.first.load(Ordering::SeqCst);
+        for step in 0..PARTS {
+            let at = part_of(first.wrapping_add(step));
+            if let Some(slot) = self.parts.get(at)?.take(&self.rt) {
+                self.first.store(at.wrapping_add(1), Ordering::SeqCst);
+                return Some(number_of(at, slot));
+            }
         }
-        taken
+        None
     }
 }

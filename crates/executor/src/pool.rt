@@ -1,15 +1,15 @@
-//! The pool: spawn, the turns of its workers, and the shutdown.
+//! The pool: spawn, and the shutdown.
 ghost use Rattle.std.specs.Prelude.{⊤, ◌≡◌, ◌-◌, ◌+◌, ◌<◌, [], drop, true, false, IfOk, IfErr, IfSome, OnOk, vec_len, vec_capacity};
 
 use crate::kept::{KeptTask, KeptWaker, cancel_kept};
 use crate::mail::Mail;
 use crate::store::Store;
-use async_task::{Future, Runnable, Schedule, ScheduleInfo, Task, TaskWaker, Wake, Yields, spawn};
+use async_task::{Runnable, Schedule, ScheduleInfo, Task, TaskWaker, Wake, Yields, spawn};
 use std::alloc::{AllocError, Allocator, Global};
 use std::collections::VecDeque;
 use std::sync::atomic::{AtomicBool, Ordering};
 use std::sync::{Arc, Wait};
-use work_queues::{Bells, Crew, Worker};
+use work_queues::{Bells, Crew};
 
 /// How many Runnables each queue has room for, before it asks for more memory.
 const ROOM: usize = 64;
@@ -34,25 +34,19 @@ pub type PoolTask<'x, R, F, A, B = Global> = Task<R, F, ToPool, (), A, Place<'x,
 pub type PoolWaker<'x, R, F, A, B = Global> = TaskWaker<R, F, ToPool, (), A, Place<'x, R, F, A, B>>;
 
 // A Runnable as the queues hold it.
-type Queued<R, F, A> = Runnable<R, F, ToPool, (), A, ()>;
+pub(crate) type Queued<R, F, A> = Runnable<R, F, ToPool, (), A, ()>;
 
 /// The queues of a pool of workers. `F` is the one type of its futures, `A` that of the awaiters of their Tasks, and `B` is where its queues take their memory. With the pool the Runnables that are left are dropped, which cancels their tasks.
 #[derive(Drop)]
 pub struct Pool<R: Wait + Drop + Copy, F: Yields, A: Wake, B: Allocator = Global> {
     pub(crate) rt: R,
     pub(crate) alloc: Global,
-    items: B,
-    crew: Crew<Queued<R, F, A>, B>,
+    pub(crate) items: B,
+    pub(crate) crew: Crew<Queued<R, F, A>, B>,
     stopped: AtomicBool,
     pub(crate) wakers: Store<KeptWaker<R, F, A>>,
     pub(crate) tasks: Store<KeptTask<R, F, A>>,
     pub(crate) mail: Arc<Mail<R>>,
-}
-
-/// What one worker keeps for its turns.
-#[derive(Drop)]
-pub struct Turns<R: Wait + Drop + Copy, F: Yields, A: Wake, B: Allocator = Global> {
-    pub(crate) worker: Worker<Queued<R, F, A>, B>,
 }
 
 /// The schedule value of a pool: a Runnable goes to the queue of the worker on which its task was woken, and else to that for what comes from outside.
@@ -133,14 +127,6 @@ impl<R: Wait + Drop + Copy, F: Yields, A: Wake, B: Allocator + Copy> Pool<R, F, 
     /// How many places for Tasks are taken, counted in the same way.
     pub fn kept_tasks(&self) -> usize {
         self.tasks.len(&self.rt)
-    }
-
-    /// What a thread needs to be the worker of this number. An error says that there was no memory, that there is no such worker, or that another thread has its turns: two threads would sleep where one is woken. The number is free again once the turns are dropped. A pool may not be given the turns of another one.
-    pub fn turns(&self, worker: usize) -> Result<Turns<R, F, A, B>, AllocError>
-        ensures { IfOk result (λ turns. turns.worker.number ≡ worker) }
-    {
-        let worker = self.crew.worker(self.items, worker)?;
-        Ok(Turns { worker })
     }
 
     /// Spawns a task from a thread that is no worker, and schedules it. `Err` has the future back, where there was no memory for the task. Where its queue is refused memory, or the pool was shut down, the answer is `Ok` with a task that is closed.
@@ -226,38 +212,6 @@ impl<R: Wait + Drop + Copy, F: Yields, A: Wake, B: Allocator + Copy> Pool<R, F, 
         self.stopped.load(Ordering::SeqCst)
     }
 
-    /// The next Runnable for this worker: its own, one that came from outside, or one of another worker. `None` where there is none, or only such as this worker leaves to another one that is about to run them. Run it; its drop cancels its task.
-    pub fn next(&self, turns: &mut Turns<R, F, A, B>) -> Option<PoolRunnable<'_, R, F, A, B>>
-        ensures place { IfSome result (λ runnable. runnable.around.1 ≡ turns.old.worker.number) }
-    {
-        let worker = turns.worker.number();
-        let runnable = self.crew.find(&self.rt, &mut turns.worker)?;
-        Some(runnable.with_around((self, worker)))
-    }
-
-    /// Runs the task of the Runnable that `next` answers. False where that is `None`.
-    pub fn tick<'x>(&'x self, turns: &mut Turns<R, F, A, B>) -> bool
-    where
-        F: Future<PoolWaker<'x, R, F, A, B>>,
-    {
-        match self.next(turns) {
-            Some(runnable) => {
-                runnable.run();
-                true
-            }
-            None => false,
-        }
-    }
-
-    /// Searches for a while, if no other worker does, and then sleeps, if no queue shows a Runnable, the pool was not shut down, and the bells counted no interruption since `interruptions`. It may also return for no reason. `take_turn` calls it where it is due.
-    pub fn rest(&self, turns: &Turns<R, F, A, B>, interruptions: u64) {
-        // A caller who counted the interruptions after the shutdown would sleep for ever.
-        if self.is_shut_down() {
-            return;
-        }
-        self.crew.rest(&self.rt, &turns.worker, interruptions);
-    }
-
     /// The bells of the workers. An awaiter may hold them, to have a sleeping worker look once more.
     pub fn bells(&self) -> &Arc<Bells>
         ensures { result.now ≡ self.now.crew.bells }
@@ -269,17 +223,6 @@ impl<R: Wait + Drop + Copy, F: Yields, A: Wake, B: Allocator + Copy> Pool<R, F, 
     fn cancel_queue(&self, queue: usize) {
         for _ in self.rt.forever() {
             match self.crew.pop(&self.rt, queue) {
-                Some(runnable) => drop(runnable),
-                None => return,
-            }
-        }
-    }
-
-    // Drops the Runnables that this worker has in its hands, and those that it finds. A worker does it as it ends, since it may have moved Runnables
-    // past the shutdown.
-    pub(crate) fn cancel_found(&self, turns: &mut Turns<R, F, A, B>) {
-        for _ in self.rt.forever() {
-            match self.crew.find(&self.rt, &mut turns.worker) {
                 Some(runnable) => drop(runnable),
                 None => return,
             }

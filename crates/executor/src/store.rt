@@ -1,27 +1,42 @@
 //! Handles that futures keep by number: a store, whose keys give their places back when they are dropped.
-ghost use Rattle.std.specs.Prelude.{◌≡◌, IfErr};
+ghost use Rattle.std.specs.Prelude.{◌≡◌, ◌<◌, IfErr};
 
+use crate::parts::{PARTS, number_of, part_of, slot_of};
+use crate::posted::Posted;
 use slab::Slab;
 use std::alloc::{AllocError, Global};
-use std::sync::atomic::{AtomicBool, Ordering};
+use std::sync::atomic::{AtomicU64, Ordering};
 use std::sync::{Arc, Mutex, Wait};
 
-/// What a store shares with its keys.
+/// What a part of a store shares with its keys.
 #[derive(Drop)]
 struct Returned {
-    // The numbers of keys that were dropped.
-    numbers: Mutex<Vec<usize>>,
-    // Whether there are any: else a call that collects takes no lock. Only who has the lock of the numbers writes it.
-    are_there: AtomicBool,
-    // Set for a moment by a call that asks whose key it was given. Only who has the lock of the numbers writes it.
-    is_marked: AtomicBool,
+    // The slots whose keys were dropped.
+    slots: Posted,
+    // How often a call was given a key of this part, and asked whose it is.
+    asked: AtomicU64,
+}
+
+/// A part of a store: places, each with a handle or none.
+#[derive(Drop)]
+struct Part<H> {
+    places: Mutex<Slab<Option<H>>>,
+    returned: Arc<Returned>,
 }
 
 /// Handles by number. A future keeps the key, and what it waits for the number.
 #[derive(Drop)]
 pub struct Store<H> {
-    places: Mutex<Slab<Option<H>>>,
-    returned: Arc<Returned>,
+    parts: Vec<Part<H>>,
+    // The parts that have slots to be freed, a bit for each.
+    due: Arc<AtomicU64>,
+}
+
+/// Where a walk over the places of a store stands: `Walk::default()` is its beginning.
+#[derive(Drop, Default)]
+pub struct Walk {
+    part: usize,
+    slot: usize,
 }
 
 /// The right to a place of a store. Dropped, it gives the place back, and the store drops what is in it at its next `collect`.
@@ -32,18 +47,15 @@ pub struct Key<R: Wait + Drop + Copy> {
 }
 
 impl<R: Wait + Drop + Copy> Drop for Key<R> {
-    // There is room for the number since the place was taken.
+    // There is room for the slot since the place was taken.
     fn drop(self) {
         let Key {
             rt,
             returned,
             number,
         } = self;
-        let mut numbers = returned.numbers.lock(&rt);
-        let pushed = numbers.push(number);
-        returned.are_there.store(true, Ordering::SeqCst);
-        drop(numbers);
-        drop(pushed);
+        returned.slots.post(&rt, slot_of(number));
+        drop(returned);
     }
 }
 
@@ -56,47 +68,82 @@ impl<R: Wait + Drop + Copy> Key<R> {
     }
 }
 
-impl<H: Drop> Store<H> {
-    /// An empty store. An error says that there was no memory.
-    pub fn new(alloc: Global) -> Result<Store<H>, AllocError> {
+impl<H: Drop> Part<H> {
+    fn new(alloc: Global, due: &Arc<AtomicU64>, part: usize) -> Result<Part<H>, AllocError>
+        requires { part < 8 }
+    {
         let returned = Returned {
-            numbers: Mutex::new(Vec::new(alloc)),
-            are_there: AtomicBool::new(false),
-            is_marked: AtomicBool::new(false),
+            slots: Posted::new(alloc, due, part)?,
+            asked: AtomicU64::new(0),
         };
-        Ok(Store {
+        Ok(Part {
             places: Mutex::new(Slab::new(alloc)),
             returned: Arc::new(alloc, returned)?,
         })
     }
 
-    /// Takes a place, which is empty. `None` where there was no memory for it.
-    pub fn reserve<R: Wait + Drop + Copy>(&self, rt: R) -> Option<Key<R>> {
-        let returned = Arc::try_clone(&self.returned).ok()?;
-        let mut places = self.places.lock(&rt);
-        let number = places.insert(None).ok()?;
-        let count = places.len();
-        if self.returned.numbers.lock(&rt).reserve(count).is_err() {
-            places.try_remove(number);
+    // Takes an empty slot. `None` where there was no memory for it.
+    fn reserve<R: Wait>(&self, rt: &R) -> Option<usize> {
+        let mut places = self.places.lock(rt);
+        let slot = places.insert(None).ok()?;
+        if self.returned.slots.make_room(rt, slot).is_err() {
+            places.try_remove(slot);
             return None;
         }
+        Some(slot)
+    }
+
+    // Whether a key is of this part: whether the count of its part, which grows here, is that of this one. The caller has the lock of the places:
+    // meanwhile nobody asks this part, and the count grows for another one only where a thread gives a key of this part to another store.
+    fn knows<R: Wait + Drop + Copy>(&self, key: &Key<R>) -> bool {
+        let before = self.returned.asked.load(Ordering::SeqCst);
+        key.returned.asked.fetch_add(1, Ordering::SeqCst);
+        self.returned.asked.load(Ordering::SeqCst) != before
+    }
+
+    fn put<R: Wait + Drop + Copy>(&self, rt: &R, key: &Key<R>, handle: H) -> Result<Option<H>, H>
+        ensures refused { IfErr result (λ back. back ≡ handle) }
+    {
+        let mut places = self.places.lock(rt);
+        if !self.knows(key) {
+            return Err(handle);
+        }
+        match places.get_mut(slot_of(key.number)) {
+            Some(place) => Ok(place.replace(handle)),
+            None => Err(handle),
+        }
+    }
+
+    // Frees a slot, and answers the handle that was in it.
+    fn free<R: Wait>(&self, rt: &R, slot: usize) -> Option<H> {
+        self.places.lock(rt).try_remove(slot).flatten()
+    }
+}
+
+impl<H: Drop> Store<H> {
+    /// An empty store. An error says that there was no memory.
+    pub fn new(alloc: Global) -> Result<Store<H>, AllocError> {
+        let due = Arc::new(alloc, AtomicU64::new(0))?;
+        let mut parts = Vec::new(alloc);
+        for part in 0..PARTS {
+            parts.push(Part::new(alloc, &due, part)?)?;
+        }
+        Ok(Store { parts, due })
+    }
+
+    /// Takes a place, which is empty. `None` where there was no memory for it.
+    ///
+    /// `worker` is the number of the calling thread, which may be any: threads whose numbers leave different remainders by 8 do not wait for one another.
+    pub fn reserve<R: Wait + Drop + Copy>(&self, rt: R, worker: usize) -> Option<Key<R>> {
+        let at = part_of(worker);
+        let part = self.parts.get(at)?;
+        let returned = Arc::try_clone(&part.returned).ok()?;
+        let number = number_of(at, part.reserve(&rt)?);
         Some(Key {
             rt,
             returned,
             number,
         })
-    }
-
-    // Whether a key is of this store: whether this store sees a mark that comes and goes at what the key shares with its own. The caller has
-    // the lock of the places: meanwhile nobody marks here but a call that asks another store for a key of this one.
-    fn knows<R: Wait + Drop + Copy>(&self, key: &Key<R>) -> bool {
-        let numbers = key.returned.numbers.lock(&key.rt);
-        key.returned.is_marked.store(true, Ordering::SeqCst);
-        let came = self.returned.is_marked.load(Ordering::SeqCst);
-        key.returned.is_marked.store(false, Ordering::SeqCst);
-        let went = !self.returned.is_marked.load(Ordering::SeqCst);
-        drop(numbers);
-        came && went
     }
 
     /// Puts a handle into the place of a key, and answers the handle that was there. `Err` has this one back, where the key is of another store; then
@@ -109,53 +156,65 @@ impl<H: Drop> Store<H> {
     ) -> Result<Option<H>, H>
         ensures refused { IfErr result (λ back. back ≡ handle) }
     {
-        let mut places = self.places.lock(rt);
-        if !self.knows(key) {
-            return Err(handle);
-        }
-        match places.get_mut(key.number) {
-            Some(place) => Ok(place.replace(handle)),
+        match self.parts.get(part_of(key.number)) {
+            Some(part) => part.put(rt, key, handle),
             None => Err(handle),
         }
     }
 
     /// Takes the handle out of the place of a key, if there is one. `None` also where the key is of another store.
     pub fn take_of<R: Wait + Drop + Copy>(&self, rt: &R, key: &Key<R>) -> Option<H> {
-        let mut places = self.places.lock(rt);
-        if !self.knows(key) {
+        let part = self.parts.get(part_of(key.number))?;
+        let mut places = part.places.lock(rt);
+        if !part.knows(key) {
             return None;
         }
-        places.get_mut(key.number)?.take()
+        places.get_mut(slot_of(key.number))?.take()
     }
 
     /// Takes the handle out of the place of a number, if there is one. The place stays that of its key.
     pub fn take<R: Wait>(&self, rt: &R, number: usize) -> Option<H> {
-        let mut places = self.places.lock(rt);
-        places.get_mut(number)?.take()
+        let part = self.parts.get(part_of(number))?;
+        let mut places = part.places.lock(rt);
+        places.get_mut(slot_of(number))?.take()
     }
 
     /// Frees the place of one key that was dropped, and answers the handle that was in it. `None` where there is no such key, and `Some(None)` where its place was empty.
     pub fn collect<R: Wait>(&self, rt: &R) -> Option<Option<H>> {
-        if !self.returned.are_there.load(Ordering::SeqCst) {
+        if self.due.load(Ordering::SeqCst) == 0 {
             return None;
         }
-        let mut numbers = self.returned.numbers.lock(rt);
-        let taken = numbers.pop();
-        let are_there = !numbers.is_empty();
-        self.returned.are_there.store(are_there, Ordering::SeqCst);
-        drop(numbers);
-        let number = taken?;
-        let mut places = self.places.lock(rt);
-        Some(places.try_remove(number).flatten())
+        for part in self.parts.iter() {
+            if let Some(slot) = part.returned.slots.take(rt) {
+                return Some(part.free(rt, slot));
+            }
+        }
+        None
     }
 
-    /// A number that is above those of all places there are.
-    pub fn bound<R: Wait>(&self, rt: &R) -> usize {
-        self.places.lock(rt).capacity()
+    /// Takes the handle out of the next place of a walk over all places, whose keys keep them. `None` where the walk is over, and `Some(None)` where a place was empty.
+    pub fn take_next<R: Wait>(&self, rt: &R, walk: &mut Walk) -> Option<Option<H>> {
+        let part = self.parts.get(walk.part)?;
+        let mut places = part.places.lock(rt);
+        if walk.slot >= places.capacity() {
+            walk.part = walk.part.saturating_add(1);
+            walk.slot = 0;
+            return Some(None);
+        }
+        let slot = walk.slot;
+        walk.slot = slot.saturating_add(1);
+        match places.get_mut(slot) {
+            Some(place) => Some(place.take()),
+            None => Some(None),
+        }
     }
 
     /// How many places have a key, or are not collected yet.
     pub fn len<R: Wait>(&self, rt: &R) -> usize {
-        self.places.lock(rt).len()
+        let mut taken = 0usize;
+        for part in self.parts.iter() {
+            taken = taken.saturating_add(part.places.lock(rt).len());
+        }
+        taken
     }
 }

@@ -1,14 +1,13 @@
 //! Tests of the heap of priorities, and of the queue over it.
 
 use crate::calls;
-use async_task::ParkedRunnable;
 use counted_values::behaviour::Behaviour;
 use counted_values::counters::Counts;
 use counted_values::flag::Flag;
 use fixtures::executor::{PriorityQueue, PriorityRunnable, PriorityScheduler, PriorityTask};
 use fixtures::fixture::Fixture;
 use fixtures::future::RowFuture;
-use priority_heap::PriorityHeap;
+use priority_heap::{PrioritizedRunnable, PriorityHeap};
 use std::alloc::{AllocError, Global};
 use std::process::Abort;
 use std::sync::Wait;
@@ -16,7 +15,7 @@ use std::test::Fail;
 
 type Heap<R> = PriorityHeap<R, RowFuture, PriorityScheduler, Flag>;
 
-type Parked<R> = ParkedRunnable<R, RowFuture, PriorityScheduler, u64, Flag>;
+type Prioritized<R> = PrioritizedRunnable<R, RowFuture, PriorityScheduler, Flag>;
 
 // Room that no memory has.
 const TOO_MUCH: usize = usize::MAX;
@@ -49,15 +48,15 @@ fn spawn<'x, R: Wait + Abort + Drop + Copy>(
     }
 }
 
-// A parked Runnable of that priority, whose Task was detached.
-fn parked<R: Wait + Abort + Drop + Copy>(
+// A Runnable of that priority, whose Task was detached.
+fn prioritized<R: Wait + Abort + Drop + Copy>(
     fixture: &Fixture<R>,
     queue: &PriorityQueue<R>,
     priority: u64,
-) -> Parked<R> {
+) -> Prioritized<R> {
     let (runnable, task) = spawn(fixture, queue, priority);
     detach(task);
-    runnable.park()
+    runnable.with_around(())
 }
 
 // Detaches a Task.
@@ -70,10 +69,10 @@ fn schedule<R: Wait + Drop>(runnable: PriorityRunnable<'_, R>) {
     runnable.schedule();
 }
 
-// Drops a parked Runnable: its priority.
-fn discarded<R: Wait + Drop>(parked: Parked<R>) -> u64 {
-    let priority = *parked.metadata();
-    drop(parked.unpark(()));
+// Drops a Runnable: its priority.
+fn discarded<R: Wait + Drop>(runnable: Prioritized<R>) -> u64 {
+    let priority = *runnable.metadata();
+    drop(runnable);
     priority
 }
 
@@ -84,7 +83,7 @@ fn push<R: Wait + Abort + Drop + Copy>(
     queue: &PriorityQueue<R>,
     priority: u64,
 ) -> Option<u64> {
-    match heap.push(parked(fixture, queue, priority)) {
+    match heap.push(prioritized(fixture, queue, priority)) {
         Ok(()) => None,
         Err(refused) => Some(discarded(refused)),
     }
@@ -93,7 +92,7 @@ fn push<R: Wait + Abort + Drop + Copy>(
 // Takes a Runnable out and drops it: its priority.
 fn pop<R: Wait + Drop>(heap: &mut Heap<R>) -> Option<u64> {
     match heap.pop() {
-        Some(parked) => Some(discarded(parked)),
+        Some(runnable) => Some(discarded(runnable)),
         None => None,
     }
 }

@@ -126,7 +126,7 @@ impl<R: Wait + Drop + Copy> Link<R> {
     // Keeps the waker, and answers whether the task waits now. Where there is no memory the pool is ended, and the task waits for nothing.
     fn parks<'x>(&mut self, waker: &JobWaker<'x, R>) -> bool {
         let (pool, _) = waker.around();
-        let Some(key) = place_for_waker(pool) else {
+        let Some(key) = place_for_waker(waker.around()) else {
             pool.shutdown();
             return true;
         };

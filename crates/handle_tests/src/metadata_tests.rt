@@ -117,3 +117,29 @@ fn the_metadata_goes_with_the_last_waker(rt: HostRuntime) -> Result<(), Fail> {
     assert_eq!(rt; seen, Ok([0, 0, 1]));
     Ok(())
 }
+
+// Parks the Runnable and the Task of a task whose counter was set to 1, and drops them unparked: the counter that the metadata of each shows, and the
+// counter at the end.
+fn show_parked<R: Wait + Drop + Copy>(
+    rt: R,
+    alloc: Global,
+    drops: &Arc<Counter>,
+) -> Result<[u64; 3], AllocError> {
+    let (runnable, task) = spawn_tagged(rt, alloc, drops)?;
+    drops.add_one();
+    let (runnable, task) = (runnable.park(), task.park());
+    let by_runnable = runnable.metadata().drops.get();
+    let by_task = task.metadata().drops.get();
+    drop_runnable(runnable.unpark(()));
+    drop_task(task.unpark(()));
+    Ok([by_runnable, by_task, drops.get()])
+}
+
+// A parked handle shows the metadata, and is the same handle once it is unparked.
+#[test]
+fn parked_handles_show_the_metadata_and_go_on(rt: HostRuntime) -> Result<(), Fail> {
+    let drops = Arc::new(rt.alloc(), Counter::new())?;
+    let seen = show_parked(rt, rt.alloc(), &drops);
+    assert_eq!(rt; seen, Ok([1, 1, 2]));
+    Ok(())
+}

@@ -137,7 +137,7 @@ fn spawn_kept<'x, R: Wait + Drop + Copy>(
     counts: &Arc<Counts>,
 ) -> Option<Key<R>> {
     let (pool, worker) = waker.around();
-    let key = place_for_task(pool)?;
+    let key = place_for_task(waker.around())?;
     let task = spawn_link(pool, worker, below, errand, counts).ok()?;
     keep_task(task, &key).ok()?;
     Some(key)
@@ -175,7 +175,7 @@ fn add_answer(sum: &mut u64, answer: Poll<u64>) -> bool {
 impl<R: Wait + Drop + Copy> Link<R> {
     // Spawns the links that this one awaits.
     fn spawn_next<'x>(&self, waker: &LinkWaker<'x, R>) -> Option<Places<R>> {
-        let own = place_for_waker(waker.around().0)?;
+        let own = place_for_waker(waker.around())?;
         let below = self.below.saturating_sub(1);
         let first = spawn_kept(waker, below, self.errand, &self.counts);
         let second = match self.second {
@@ -206,7 +206,7 @@ impl<R: Wait + Drop + Copy> Link<R> {
     // Keeps the waker, and then says that it was kept once more.
     fn waits_for_knock<'x>(&mut self, waker: &LinkWaker<'x, R>) -> bool {
         if self.own.is_none() {
-            self.own = place_for_waker(waker.around().0);
+            self.own = place_for_waker(waker.around());
         }
         let Some(own) = &self.own else {
             return false;
@@ -324,7 +324,7 @@ fn a_task_awaits_a_task(rt: HostRuntime) -> Result<(), Fail> {
     let pool = LinkPool::new(rt, rt.alloc(), 1)?;
     let mut task = spawn_link(&pool, 1, 1, Errand::GiveWay(3), &counts)?;
     let mut turns = pool.turns(0)?;
-    let answer = pool.block_on(&mut turns, &mut task);
+    let answer = turns.block_on(&mut task);
     drop(task);
     collect((&pool, 0));
     let (polls, places) = (polls(&counts), places_taken(&pool));
@@ -341,7 +341,7 @@ fn a_task_awaits_two_tasks(rt: HostRuntime) -> Result<(), Fail> {
     let pool = LinkPool::new(rt, rt.alloc(), 1)?;
     let mut task = spawn_pair(&pool, Errand::GiveWay(1), Errand::GiveWay(9), &counts)?;
     let mut turns = pool.turns(0)?;
-    let answer = pool.block_on(&mut turns, &mut task);
+    let answer = turns.block_on(&mut task);
     let polls = polls(&counts);
     assert_eq!(rt; (answer, polls), (Ok(3), (3, 12)));
     Ok(())
@@ -357,11 +357,11 @@ fn a_loop_of_ticks_wakes_what_was_posted(rt: HostRuntime) -> Result<(), Fail> {
     let mut ran = [false; 5];
     let mut woke = [false; 5];
     for turn in 0..5 {
-        ran[turn] = pool.tick(&mut turns);
+        ran[turn] = turns.tick();
         woke[turn] = wake_posted((&pool, 0));
     }
     let polls = polls(&counts);
-    let answer = pool.block_on(&mut turns, &mut task);
+    let answer = turns.block_on(&mut task);
     assert_eq!(rt; ran, [true, true, true, true, false]);
     assert_eq!(rt; woke, [false, false, true, false, false]);
     assert_eq!(rt; (polls, answer), ((2, 2), Ok(2)));
@@ -372,14 +372,14 @@ fn a_loop_of_ticks_wakes_what_was_posted(rt: HostRuntime) -> Result<(), Fail> {
 fn a_kept_task_stays_until_it_is_ready(rt: HostRuntime) -> Result<(), Fail> {
     let counts = Counts::new(rt.alloc())?;
     let pool = LinkPool::new(rt, rt.alloc(), 1)?;
-    let key = place_for_task(&pool).ok_or(AllocError)?;
+    let key = place_for_task((&pool, 0)).ok_or(AllocError)?;
     let task = spawn_link(&pool, 1, 0, Errand::GiveWay(1), &counts)?;
     let kept = keep_task(task, &key).is_ok();
     let mut turns = pool.turns(0)?;
     let first = (poll_at(&pool, &key), poll_at(&pool, &key));
-    let mut ran = (pool.tick(&mut turns), false);
+    let mut ran = (turns.tick(), false);
     let second = poll_at(&pool, &key);
-    ran.1 = pool.tick(&mut turns);
+    ran.1 = turns.tick();
     let third = (poll_at(&pool, &key), poll_at(&pool, &key));
     assert!(rt; kept && ran == (true, true));
     assert_eq!(rt; (first, second), ((Some(0), Some(0)), Some(0)));
@@ -394,7 +394,7 @@ fn a_chain_of_tasks_on_one_worker(rt: HostRuntime) -> Result<(), Fail> {
     let pool = LinkPool::new(rt, rt.alloc(), 1)?;
     let mut task = spawn_link(&pool, 1, CHAIN - 1, Errand::GiveWay(1), &counts)?;
     let mut turns = pool.turns(0)?;
-    let answer = pool.block_on(&mut turns, &mut task);
+    let answer = turns.block_on(&mut task);
     drop(task);
     collect((&pool, 0));
     let (polls, places) = (polls(&counts), places_taken(&pool));
@@ -413,7 +413,7 @@ fn a_chain_of_tasks_on_two_workers(rt: HostRuntime) -> Result<(), Fail> {
         &rt,
         || pool.run(1).is_ok(),
         || {
-            let answer = pool.block_on(&mut turns, &mut task);
+            let answer = turns.block_on(&mut task);
             pool.shutdown();
             answer
         },
@@ -439,7 +439,7 @@ fn a_worker_takes_each_wake_of_another_thread(rt: HostRuntime) -> Result<(), Fai
             &rt,
             || pool.run(1).is_ok(),
             || {
-                let answer = pool.block_on(&mut turns, &mut task);
+                let answer = turns.block_on(&mut task);
                 pool.shutdown();
                 answer
             },
@@ -460,7 +460,7 @@ fn the_cancel_of_a_task_that_awaits_leaves_no_place(rt: HostRuntime) -> Result<(
     let mut turns = pool.turns(0)?;
     for _ in 0..TURNS {
         let woke = wake_posted((&pool, 0));
-        if !pool.tick(&mut turns) && !woke {
+        if !turns.tick() && !woke {
             break;
         }
     }
@@ -469,7 +469,7 @@ fn the_cancel_of_a_task_that_awaits_leaves_no_place(rt: HostRuntime) -> Result<(
     for _ in 0..TURNS {
         collect((&pool, 0));
         let woke = wake_posted((&pool, 0));
-        if !pool.tick(&mut turns) && !woke {
+        if !turns.tick() && !woke {
             break;
         }
     }
@@ -488,13 +488,13 @@ fn a_posted_wake_after_the_shutdown_does_nothing(rt: HostRuntime) -> Result<(), 
     let pool = LinkPool::new(rt, rt.alloc(), 1)?;
     let mut task = spawn_link(&pool, 1, 1, Errand::Stay, &counts)?;
     let mut turns = pool.turns(0)?;
-    let ran = (pool.tick(&mut turns), pool.tick(&mut turns));
+    let ran = (turns.tick(), turns.tick());
     let before = places_taken(&pool);
     pool.shutdown();
     let woken = wake_number(&pool, 0);
-    pool.work(&mut turns);
+    turns.work();
     let posted = (wake_posted((&pool, 0)), wake_posted((&pool, 0)));
-    let ran_again = pool.tick(&mut turns);
+    let ran_again = turns.tick();
     let closed = is_closed(&pool, &mut task);
     let (polls, places) = (polls(&counts), places_taken(&pool));
     let left = Arc::strong_count(&counts);
@@ -509,17 +509,17 @@ fn a_posted_wake_after_the_shutdown_does_nothing(rt: HostRuntime) -> Result<(), 
 fn a_wake_of_an_empty_place_wakes_nothing(rt: HostRuntime) -> Result<(), Fail> {
     let counts = Counts::new(rt.alloc())?;
     let pool = LinkPool::new(rt, rt.alloc(), 1)?;
-    let key = place_for_waker(&pool).ok_or(AllocError)?;
+    let key = place_for_waker((&pool, 0)).ok_or(AllocError)?;
     let mut task = spawn_link(&pool, 1, 0, Errand::Stay, &counts)?;
     let mut turns = pool.turns(0)?;
-    let ran = pool.tick(&mut turns);
+    let ran = turns.tick();
     let without_room = wake_number(&pool, 99);
     let none = wake_posted((&pool, 0));
     let empty = wake_number(&pool, key.number());
     let one = wake_posted((&pool, 0));
-    let ran_again = pool.tick(&mut turns);
+    let ran_again = turns.tick();
     pool.shutdown();
-    let answer = pool.block_on(&mut turns, &mut task);
+    let answer = turns.block_on(&mut task);
     assert_eq!(rt; (ran, without_room, none), (true, true, false));
     assert_eq!(rt; (empty, one, ran_again), (true, true, false));
     assert_eq!(rt; answer, Err(BlockOnError::ShutDown));

@@ -53,6 +53,8 @@ impl<'d, 'x, R: Wait + Drop + Copy, A: Wake> Future<PoolWaker<'x, R, SumOf<'d>, 
 
 type SumPool<'d, R> = Pool<R, SumOf<'d>, Nobody>;
 
+type SumTurns<'x, 'd, R> = Turns<'x, R, SumOf<'d>, Nobody>;
+
 type SumTask<'x, 'd, R> = PoolTask<'x, R, SumOf<'d>, Nobody>;
 
 fn spawned<'x, 'd, R: Wait + Drop + Copy>(
@@ -81,10 +83,11 @@ fn numbers_up_to(alloc: Global, last: u64) -> Result<Vec<u64>, AllocError> {
     Ok(numbers)
 }
 
-// Is a worker until the shutdown. `Pool::work` would do the same, but the prover takes no call of it for futures that borrow.
-fn work<'d, R: Wait + Drop + Copy>(pool: &SumPool<'d, R>, turns: &mut Turns<R, SumOf<'d>, Nobody>) {
+// Is a worker until the shutdown. `Turns::work` would do the same, but the prover takes no call of it for futures that borrow.
+fn work<'x, 'd, R: Wait + Drop + Copy>(turns: &mut SumTurns<'x, 'd, R>) {
+    let (pool, _) = turns.place();
     for _ in pool.rt().forever() {
-        let Some(runnable) = pool.await_next(turns) else {
+        let Some(runnable) = turns.await_next() else {
             return;
         };
         runnable.run();
@@ -100,7 +103,7 @@ fn one_worker_runs_futures_that_borrow(rt: HostRuntime) -> Result<(), Fail> {
     let mut first = spawned(&pool, low.as_slice(), &unfinished)?;
     let mut second = spawned(&pool, high.as_slice(), &unfinished)?;
     let mut turns = pool.turns(0)?;
-    work(&pool, &mut turns);
+    work(&mut turns);
     let (first, second) = (output_of(&mut first), output_of(&mut second));
     assert!(rt; first == Some(1275) && second == Some(5050));
     Ok(())
@@ -116,7 +119,7 @@ fn two_workers_run_futures_that_borrow(rt: HostRuntime) -> Result<(), Fail> {
     let mut second = spawned(&pool, high.as_slice(), &unfinished)?;
     let mut one = pool.turns(0)?;
     let mut other = pool.turns(1)?;
-    thread::join(&rt, || work(&pool, &mut one), || work(&pool, &mut other));
+    thread::join(&rt, || work(&mut one), || work(&mut other));
     let (first, second) = (output_of(&mut first), output_of(&mut second));
     assert!(rt; first == Some(1275) && second == Some(5050));
     Ok(())

@@ -114,7 +114,7 @@ type StepPool<R, T> = Pool<R, Ticketed<R, T>, Nobody>;
 
 type StepTask<'x, R, T> = PoolTask<'x, R, Ticketed<R, T>, Nobody>;
 
-type StepTurns<R, T> = Turns<R, Ticketed<R, T>, Nobody>;
+type StepTurns<'x, R, T> = Turns<'x, R, Ticketed<R, T>, Nobody>;
 
 type StepWaker<'x, R, T> = PoolWaker<'x, R, Ticketed<R, T>, Nobody>;
 
@@ -132,7 +132,7 @@ impl<R: Wait + Drop + Copy, T: Step> Ticketed<R, T> {
     // Keeps the waker, and answers the ticket of its number. `None` where that was refused.
     fn keep<'x>(&mut self, waker: &StepWaker<'x, R, T>) -> Option<Ticket> {
         if self.own.is_none() {
-            self.own = place_for_waker(waker.around().0);
+            self.own = place_for_waker(waker.around());
         }
         let own = self.own.as_ref()?;
         if !keep_waker(waker, own) {
@@ -191,9 +191,10 @@ fn output_of<'x, R: Wait + Drop + Copy, T: Step>(task: &mut StepTask<'x, R, T>) 
 }
 
 // Is a worker until the last task has ended.
-fn work<R: Wait + Drop + Copy, T: Step>(pool: &StepPool<R, T>, turns: &mut StepTurns<R, T>) {
+fn work<'x, R: Wait + Drop + Copy, T: Step>(turns: &mut StepTurns<'x, R, T>) {
+    let (pool, _) = turns.place();
     for _ in pool.rt().forever() {
-        let Some(runnable) = pool.await_next(turns) else {
+        let Some(runnable) = turns.await_next() else {
             return;
         };
         runnable.run();
@@ -220,18 +221,17 @@ fn answers_of_one<R: Wait + Drop + Copy, T: Step>(
     let mut first = spawned(&pool, first, &shared)?;
     let mut second = spawned(&pool, second, &shared)?;
     let mut turns = pool.turns(0)?;
-    work(&pool, &mut turns);
+    work(&mut turns);
     Ok((output_of(&mut first), output_of(&mut second)))
 }
 
 // Two workers, each on a thread, until the last task has ended.
-fn work_both<R: Wait + Threads + Drop + Copy + Send + Sync, T: Step + Send>(
+fn work_both<'x, R: Wait + Threads + Drop + Copy + Send + Sync, T: Step + Send>(
     rt: &R,
-    pool: &StepPool<R, T>,
-    one: &mut StepTurns<R, T>,
-    other: &mut StepTurns<R, T>,
+    one: &mut StepTurns<'x, R, T>,
+    other: &mut StepTurns<'x, R, T>,
 ) {
-    thread::join(rt, || work(pool, one), || work(pool, other));
+    thread::join(rt, || work(one), || work(other));
 }
 
 // What two tasks of these steps answer, on two workers.
@@ -247,7 +247,7 @@ fn answers_of_two<R: Wait + Threads + Drop + Copy + Send + Sync, T: Step + Send>
     let mut second = spawned(&pool, second, &shared)?;
     let mut one = pool.turns(0)?;
     let mut other = pool.turns(1)?;
-    work_both(&rt, &pool, &mut one, &mut other);
+    work_both(&rt, &mut one, &mut other);
     Ok((output_of(&mut first), output_of(&mut second)))
 }
 

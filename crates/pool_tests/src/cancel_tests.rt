@@ -85,7 +85,7 @@ fn member_of<R: Wait + Drop + Copy>(
 fn kept_waker<'x, R: Wait + Drop + Copy>(
     waker: &PoolWaker<'x, R, Member<R>, Nobody>,
 ) -> Option<Key<R>> {
-    let key = place_for_waker(waker.around().0)?;
+    let key = place_for_waker(waker.around())?;
     keep_waker(waker, &key).then_some(key)
 }
 
@@ -96,7 +96,7 @@ fn kept_child<'x, R: Wait + Drop + Copy>(
     dropped: &Arc<AtomicU64>,
 ) -> Option<Key<R>> {
     let (pool, worker) = waker.around();
-    let key = place_for_task(pool)?;
+    let key = place_for_task(waker.around())?;
     let child = member_of(alloc, 0, 1, dropped).ok()?;
     keep_task(pool.spawn_on(worker, child).ok()?, &key).ok()?;
     Some(key)
@@ -123,7 +123,7 @@ fn the_cancel_of_a_parent_leaves_nothing(rt: HostRuntime) -> Result<(), Fail> {
     let mut turns = pool.turns(0)?;
     for _ in 0..TURNS {
         collect((&pool, 0));
-        if !pool.tick(&mut turns) {
+        if !turns.tick() {
             break;
         }
     }
@@ -131,7 +131,7 @@ fn the_cancel_of_a_parent_leaves_nothing(rt: HostRuntime) -> Result<(), Fail> {
     drop(task);
     for _ in 0..TURNS {
         collect((&pool, 0));
-        if !pool.tick(&mut turns) {
+        if !turns.tick() {
             break;
         }
     }

@@ -63,9 +63,9 @@ fn a_worker_looks_at_a_group_between_its_turns(rt: HostRuntime) -> Result<(), Fa
     for _ in 0..TURNS {
         add_next(&mut group, &mut came_out);
         wake_posted((&pool, 0));
-        pool.tick(&mut turns);
+        turns.tick();
     }
-    let answer = pool.block_on(&mut turns, &mut last);
+    let answer = turns.block_on(&mut last);
     assert!(rt; came_out == (3, 6) && answer == Ok(2));
     Ok(())
 }
@@ -83,7 +83,7 @@ fn a_thread_waits_for_a_group_and_then_for_a_task(rt: HostRuntime) -> Result<(),
         || pool.run(1).is_ok(),
         || {
             let came_out = all_of(&mut group);
-            let answer = pool.block_on(&mut turns, &mut last);
+            let answer = turns.block_on(&mut last);
             pool.shutdown();
             (came_out, answer)
         },

@@ -22,7 +22,7 @@ fn a_future_that_never_yields_keeps_only_its_thread(rt: HostRuntime) -> Result<(
     let mut task = spawn_guest(&pool, 0, Errand::SpinAndEnd, &guests)?;
     let tasks = spawn_guests(&pool, 0, BEHIND, &guests)?;
     let mut all = pool.all_turns()?;
-    thread::for_each_mut(&rt, &mut all, 2, &|_, turns| pool.work(turns));
+    thread::for_each_mut(&rt, &mut all, 2, &|_, turns| turns.work());
     let answer = output_of(&mut task);
     drop(task);
     drop(tasks);
@@ -37,8 +37,8 @@ fn a_wake_after_the_shutdown_does_nothing(rt: HostRuntime) -> Result<(), Fail> {
     let pool = GuestPool::new(rt, rt.alloc(), 1)?;
     let mut task = spawn_guest(&pool, 1, Errand::ShutDown, &guests)?;
     let mut turns = pool.turns(0)?;
-    let ran = pool.tick(&mut turns);
-    let ran_again = pool.tick(&mut turns);
+    let ran = turns.tick();
+    let ran_again = turns.tick();
     let closed = is_closed(&mut task);
     let (left, polls) = shares_and_polls(&guests);
     assert!(rt; ran && !ran_again && closed && left == 1 && polls == 1);
@@ -61,7 +61,7 @@ fn a_worker_that_does_not_exist_is_refused_or_outside(rt: HostRuntime) -> Result
     let mut task = spawn_guest(&pool, 99, Errand::GiveWay(0), &guests)?;
     pool.bells().interrupt_worker(99);
     let mut turns = pool.turns(0)?;
-    let ran = pool.tick(&mut turns);
+    let ran = turns.tick();
     let answer = output_of(&mut task);
     assert!(rt; refused && ran && answer == Some(1));
     Ok(())
@@ -110,7 +110,7 @@ fn wakes_any<R: Wait + Drop + Copy>(pool: &GuestPool<R>) -> bool {
 fn an_empty_place_answers_that_it_is_empty(rt: HostRuntime) -> Result<(), Fail> {
     let guests = Guests::new(rt.alloc(), 1)?;
     let pool = GuestPool::new(rt, rt.alloc(), 1)?;
-    let key = place_for_task(&pool).ok_or(AllocError)?;
+    let key = place_for_task((&pool, 0)).ok_or(AllocError)?;
     let before = is_empty(&pool, &key);
     let woken = wakes_any(&pool);
     let task = spawn_guest(&pool, 1, Errand::Stay, &guests)?;
@@ -126,8 +126,8 @@ fn a_key_of_another_pool_keeps_no_task(rt: HostRuntime) -> Result<(), Fail> {
     let guests = Guests::new(rt.alloc(), 1)?;
     let pool = GuestPool::new(rt, rt.alloc(), 1)?;
     let other = GuestPool::new(rt, rt.alloc(), 1)?;
-    let foreign = place_for_task(&pool).ok_or(AllocError)?;
-    let key = place_for_task(&other).ok_or(AllocError)?;
+    let foreign = place_for_task((&pool, 0)).ok_or(AllocError)?;
+    let key = place_for_task((&other, 0)).ok_or(AllocError)?;
     let task = spawn_guest(&other, 1, Errand::Stay, &guests)?;
     let kept = keep_task(task, &key).is_ok();
     let task = spawn_guest(&other, 1, Errand::Stay, &guests)?;
@@ -146,7 +146,7 @@ fn a_rest_after_the_shutdown_returns(rt: HostRuntime) -> Result<(), Fail> {
     let turns = pool.turns(0)?;
     pool.shutdown();
     let interruptions = pool.bells().interruptions();
-    pool.rest(&turns, interruptions);
+    turns.rest(interruptions);
     assert!(rt; interruptions > 0 && pool.is_shut_down());
     Ok(())
 }
@@ -160,10 +160,10 @@ fn a_pool_that_was_shut_down_cancels_what_comes(rt: HostRuntime) -> Result<(), F
     pool.shutdown();
     let mut task = spawn_guest(&pool, 2, Errand::GiveWay(0), &guests)?;
     let mut all = pool.all_turns()?;
-    thread::for_each_mut(&rt, &mut all, 2, &|_, turns| pool.work(turns));
+    thread::for_each_mut(&rt, &mut all, 2, &|_, turns| turns.work());
     drop(all);
     let mut turns = pool.turns(1)?;
-    let ran = pool.tick(&mut turns);
+    let ran = turns.tick();
     let closed = is_closed(&mut task);
     let none = spawn_guests(&pool, 0, 0, &guests)?.len();
     let (_, polls) = shares_and_polls(&guests);

@@ -125,9 +125,9 @@ fn one_worker_runs_futures_of_two_types(rt: HostRuntime) -> Result<(), Fail> {
     let mut second = spawned(&pool, finding_future("async-task", b'-'))?;
     let mut third = spawned(&pool, finding_future("async-task", b'_'))?;
     let mut turns = pool.turns(0)?;
-    let first = pool.block_on(&mut turns, &mut first);
-    let second = pool.block_on(&mut turns, &mut second);
-    let third = pool.block_on(&mut turns, &mut third);
+    let first = turns.block_on(&mut first);
+    let second = turns.block_on(&mut second);
+    let third = turns.block_on(&mut third);
     assert!(rt; first == Ok(Answer::Polled(4)));
     assert!(rt; second == Ok(Answer::Found(true)) && third == Ok(Answer::Found(false)));
     Ok(())
@@ -143,8 +143,8 @@ fn two_workers_run_futures_of_two_types(rt: HostRuntime) -> Result<(), Fail> {
         &rt,
         || pool.run(1).is_ok(),
         || {
-            let first = pool.block_on(&mut turns, &mut first);
-            let second = pool.block_on(&mut turns, &mut second);
+            let first = turns.block_on(&mut first);
+            let second = turns.block_on(&mut second);
             pool.shutdown();
             (first, second)
         },

@@ -259,13 +259,12 @@ fn spawn_prompts<'x, 'heap, R: Wait + Drop + Copy>(
 }
 
 // Runs tasks until none is left, at most one more than there are: how many ran.
-fn run_prompts<'heap, R: Wait + Drop + Copy>(
-    pool: &HeapPool<'heap, R>,
-    turns: &mut Turns<R, Prompt, Nobody, &'heap LocalHeap>,
+fn run_prompts<'x, 'heap, R: Wait + Drop + Copy>(
+    turns: &mut Turns<'x, R, Prompt, Nobody, &'heap LocalHeap>,
 ) -> usize {
     let mut ran = 0usize;
     for _ in 0..=TASKS {
-        if pool.tick(turns) {
+        if turns.tick() {
             ran = ran.saturating_add(1);
         }
     }
@@ -298,11 +297,11 @@ fn fill_and_spawn<R: Wait + Drop + Copy>(
     let mut turns = pool.turns(0)?;
     let filling = fill(alloc, heap)?;
     let mut tasks = spawn_prompts(&pool, guests, TASKS)?;
-    let ran = run_prompts(&pool, &mut turns);
+    let ran = run_prompts(&mut turns);
     let ends = count_ends(&mut tasks);
     drop(filling);
     let mut later = spawn_prompt(&pool, guests)?;
-    let ran_later = pool.tick(&mut turns);
+    let ran_later = turns.tick();
     let answered_later = matches!(later.poll(&Nobody), TaskPoll::Ready(Ok(1)));
     Ok((ran, ends, (ran_later, answered_later)))
 }
@@ -332,10 +331,10 @@ fn shut_down_beside_full_hands<R: Wait + Drop + Copy>(
     let mut turns = pool.turns(0)?;
     let mut tasks = spawn_prompts(&pool, guests, 200)?;
     let filling = fill(alloc, heap)?;
-    pool.tick(&mut turns);
+    turns.tick();
     pool.shutdown();
     let after_shutdown = count_ends(&mut tasks);
-    pool.work(&mut turns);
+    turns.work();
     let after_work = count_ends(&mut tasks);
     drop(filling);
     Ok((after_shutdown, after_work))

@@ -1,13 +1,14 @@
 //! What a store gives back.
-use executor::Store;
-use std::sync::Arc;
+use executor::{Key, Store, Walk};
+use std::alloc::{AllocError, Global};
+use std::sync::{Arc, Wait};
 use std::test::Fail;
 
 #[test]
 fn a_dropped_key_gives_its_place_back(rt: HostRuntime) -> Result<(), Fail> {
     let shared = Arc::new(rt.alloc(), 7u8)?;
     let store = Store::new(rt.alloc())?;
-    let (Some(first), Some(second)) = (store.reserve(rt), store.reserve(rt)) else {
+    let (Some(first), Some(second)) = (store.reserve(rt, 0), store.reserve(rt, 0)) else {
         panic!(rt; "there was no memory")
     };
     assert!(rt; first.number() != second.number() && store.len(&rt) == 2);
@@ -27,7 +28,7 @@ fn a_dropped_key_gives_its_place_back(rt: HostRuntime) -> Result<(), Fail> {
 fn a_key_of_another_store_is_refused(rt: HostRuntime) -> Result<(), Fail> {
     let store = Store::new(rt.alloc())?;
     let other = Store::<u8>::new(rt.alloc())?;
-    let (Some(own), Some(foreign)) = (store.reserve(rt), other.reserve(rt)) else {
+    let (Some(own), Some(foreign)) = (store.reserve(rt, 0), other.reserve(rt, 0)) else {
         panic!(rt; "there was no memory")
     };
     let kept = store.put(&rt, &own, 1u8);
@@ -39,5 +40,71 @@ fn a_key_of_another_store_is_refused(rt: HostRuntime) -> Result<(), Fail> {
     assert_eq!(rt; numbers, (0, 0));
     assert_eq!(rt; (kept, refused, taken), (Ok(None), Err(2), None));
     assert_eq!(rt; (there, of_other), (Some(1), Ok(None)));
+    Ok(())
+}
+
+// A place for each of so many workers, with the worker's number in it.
+fn fill_places<R: Wait + Drop + Copy>(
+    rt: R,
+    alloc: Global,
+    store: &Store<usize>,
+    workers: usize,
+) -> Result<Vec<Key<R>>, AllocError> {
+    let mut keys = Vec::new(alloc);
+    for worker in 0..workers {
+        let key = store.reserve(rt, worker).ok_or(AllocError)?;
+        store.put(&rt, &key, worker).map_err(|_| AllocError)?;
+        keys.push(key)?;
+    }
+    Ok(keys)
+}
+
+// How many keys have the number of their worker at their place, which is empty after it.
+fn count_own<R: Wait + Drop + Copy>(rt: R, store: &Store<usize>, keys: &[Key<R>]) -> usize {
+    let mut own = 0usize;
+    for (worker, key) in keys.iter().enumerate() {
+        if store.take(&rt, key.number()) == Some(worker) {
+            own = own.saturating_add(1);
+        }
+    }
+    own
+}
+
+// What a walk takes out of all places: how many numbers, and their sum.
+fn walk_places<R: Wait + Drop + Copy>(rt: R, store: &Store<usize>) -> (usize, usize) {
+    let mut walk = Walk::default();
+    let mut taken = (0usize, 0usize);
+    for _ in rt.forever() {
+        match store.take_next(&rt, &mut walk) {
+            Some(Some(worker)) => {
+                taken = (taken.0.saturating_add(1), taken.1.saturating_add(worker));
+            }
+            Some(None) => {}
+            None => return taken,
+        }
+    }
+    unreachable!()
+}
+
+// A store has eight parts, so two of ten workers share a part with another one.
+#[test]
+fn each_worker_has_a_place_of_its_own(rt: HostRuntime) -> Result<(), Fail> {
+    let store = Store::new(rt.alloc())?;
+    let keys = fill_places(rt, rt.alloc(), &store, 10)?;
+    let own = count_own(rt, &store, keys.as_slice());
+    let again = count_own(rt, &store, keys.as_slice());
+    assert_eq!(rt; (own, again, store.len(&rt)), (10, 0, 10));
+    Ok(())
+}
+
+// The numbers of ten workers sum up to 45. The places stay those of their keys.
+#[test]
+fn a_walk_takes_each_handle_once(rt: HostRuntime) -> Result<(), Fail> {
+    let store = Store::new(rt.alloc())?;
+    let keys = fill_places(rt, rt.alloc(), &store, 10)?;
+    let first = walk_places(rt, &store);
+    let second = walk_places(rt, &store);
+    assert_eq!(rt; (first, second, store.len(&rt)), ((10, 45), (0, 0), 10));
+    drop(keys);
     Ok(())
 }

@@ -117,7 +117,7 @@ fn spawn_storm<'x, R: Wait + Drop + Copy>(
     let mut places = Vec::new(alloc);
     let mut futures = VecDeque::new(alloc);
     for task in 0..TASKS as usize {
-        let key = place_for_waker(pool).ok_or(AllocError)?;
+        let key = place_for_waker((pool, task)).ok_or(AllocError)?;
         places.push(key.number())?;
         futures.push_back(Takes {
             task,
@@ -139,7 +139,7 @@ fn spawn_at<'x, R: Wait + Drop + Copy>(
     storm: &Arc<Storm>,
     tasks: &mut Vec<StormTask<'x, R>>,
 ) -> Result<usize, AllocError> {
-    let key = place_for_waker(keeper).ok_or(AllocError)?;
+    let key = place_for_waker((keeper, 0)).ok_or(AllocError)?;
     let number = key.number();
     let takes = Takes {
         task,
@@ -265,12 +265,12 @@ fn a_key_of_another_pool_keeps_no_waker(rt: HostRuntime) -> Result<(), Fail> {
     let mut turns = pool.turns(0)?;
     let mut ran = 0u8;
     for _ in 0..2 {
-        ran = ran.saturating_add(u8::from(pool.tick(&mut turns)));
+        ran = ran.saturating_add(u8::from(turns.tick()));
     }
     storm.add_ticket(0);
     let woken = (wake_kept((&pool, 0), own), wake_kept((&other, 0), foreign));
     for _ in 0..2 {
-        ran = ran.saturating_add(u8::from(pool.tick(&mut turns)));
+        ran = ran.saturating_add(u8::from(turns.tick()));
     }
     let seen = taken_and_closed(tasks);
     assert!(rt; own == foreign && ran == 4 && woken == (true, false) && seen == (1, 0));

@@ -14,8 +14,8 @@ fn block_on_runs_the_task_itself(rt: HostRuntime) -> Result<(), Fail> {
     let before = spawn_guest(&pool, 1, Errand::GiveWay(3), &guests)?;
     let mut task = spawn_guest(&pool, 1, Errand::GiveWay(10), &guests)?;
     let mut turns = pool.turns(0)?;
-    let first = pool.block_on(&mut turns, &mut task);
-    let second = pool.block_on(&mut turns, &mut task);
+    let first = turns.block_on(&mut task);
+    let second = turns.block_on(&mut task);
     before.detach();
     drop(task);
     let (left, _) = shares_and_polls(&guests);
@@ -35,7 +35,7 @@ fn block_on_waits_beside_another_worker(rt: HostRuntime) -> Result<(), Fail> {
         &rt,
         || pool.run(1).is_ok(),
         || {
-            let answer = pool.block_on(&mut turns, &mut task);
+            let answer = turns.block_on(&mut task);
             pool.shutdown();
             answer
         },
@@ -51,8 +51,8 @@ fn block_on_ends_with_the_pool(rt: HostRuntime) -> Result<(), Fail> {
     let mut ending = spawn_guest(&pool, 1, Errand::ShutDown, &guests)?;
     let mut staying = spawn_guest(&pool, 1, Errand::Stay, &guests)?;
     let mut turns = pool.turns(0)?;
-    let closed = pool.block_on(&mut turns, &mut ending);
-    let cancelled = pool.block_on(&mut turns, &mut staying);
+    let closed = turns.block_on(&mut ending);
+    let cancelled = turns.block_on(&mut staying);
     assert!(rt; closed == Err(BlockOnError::Closed) && cancelled == closed);
     Ok(())
 }
@@ -63,9 +63,9 @@ fn block_on_leaves_a_task_that_nobody_wakes(rt: HostRuntime) -> Result<(), Fail>
     let pool = WaitedPool::new(rt, rt.alloc(), 1)?;
     let mut task = spawn_guest(&pool, 1, Errand::Stay, &guests)?;
     let mut turns = pool.turns(0)?;
-    let ran = pool.tick(&mut turns);
+    let ran = turns.tick();
     pool.shutdown();
-    let answer = pool.block_on(&mut turns, &mut task);
+    let answer = turns.block_on(&mut task);
     drop(task);
     let (left, _) = shares_and_polls(&guests);
     assert!(rt; ran && answer == Err(BlockOnError::ShutDown) && left == 1);

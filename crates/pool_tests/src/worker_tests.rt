@@ -229,7 +229,7 @@ impl<'x, R: Wait + Drop + Copy> Future<PoolWaker<'x, R, Waits<R>, Nobody>> for W
             pool.shutdown();
             return Poll::Ready(7);
         }
-        self.key = place_for_waker(pool);
+        self.key = place_for_waker(waker.around());
         if let Some(key) = &self.key {
             if keep_waker(waker, key) {
                 self.number
@@ -305,7 +305,7 @@ fn a_shutdown_cancels_a_task_that_waits(rt: HostRuntime) -> Result<(), Fail> {
     let pool = WaitsPool::new(rt, rt.alloc(), 1)?;
     let mut task = spawn_waits(&pool, &number)?;
     let mut turns = pool.turns(0)?;
-    let ran = pool.tick(&mut turns);
+    let ran = turns.tick();
     let before = places(&pool);
     pool.shutdown();
     let closed = is_closed(&mut task);
@@ -319,7 +319,7 @@ fn a_shutdown_cancels_a_task_that_is_kept(rt: HostRuntime) -> Result<(), Fail> {
     let number = Arc::new(rt.alloc(), AtomicU64::new(0))?;
     let pool = WaitsPool::new(rt, rt.alloc(), 1)?;
     let task = spawn_waits(&pool, &number)?;
-    let key = place_for_task(&pool).ok_or(AllocError)?;
+    let key = place_for_task((&pool, 0)).ok_or(AllocError)?;
     let kept = keep_task(task, &key).is_ok();
     pool.shutdown();
     let is_gone = poll_kept((&pool, 0), &key, &Nobody).is_none();

@@ -1,4 +1,4 @@
-//! A heap of parked Runnables, which hands out the one of greatest priority first.
+//! A heap of Runnables, which hands out the one of greatest priority first.
 ghost use Rattle.std.specs.Prelude.{◌≡◌, ◌↔◌, ◌≤◌, ◌∷◌, nat_eq, [], length, All, IsErr, IsNone, IfErr, IfNone, IfOk, IfSome, OnErr, OnOk, IsPermutation};
 ghost use Rattle.std.specs.BinaryHeap.{IsHeap, heap_capacity, heap_items, heap_len};
 ghost use Rattle.std.specs.Cmp.{partial_order_from_own_ties};
@@ -12,38 +12,25 @@ use std::alloc::{AllocError, Global};
 use std::cmp::Ordering;
 use std::collections::BinaryHeap;
 use std::sync::Wait;
-use task_cell::ParkedRunnable;
+use task_cell::Runnable;
 use task_core::{Wake, Yields};
 
-// A parked Runnable, which is compared by its priority alone.
+/// A Runnable as the heap holds it: its metadata is its priority, and it has no surroundings.
+pub type PrioritizedRunnable<R, F, Q, A> = Runnable<R, F, Q, u64, A, ()>;
+
+// A Runnable, which is compared by its priority alone.
+#[derive(Drop)]
 struct Entry<R: Wait + Drop, F: Yields, Q: Drop, A: Wake> {
-    parked: ParkedRunnable<R, F, Q, u64, A>,
-}
-
-// A parked handle cannot be dropped: it is unparked first. The drop cancels its task.
-impl<R: Wait + Drop, F: Yields, Q: Drop, A: Wake> Drop for Entry<R, F, Q, A> {
-    fn drop(self) {
-        let Entry { parked } = self;
-        drop(parked.unpark(()));
-    }
-}
-
-impl<R: Wait + Drop, F: Yields, Q: Drop, A: Wake> Entry<R, F, Q, A> {
-    fn into_parked(self) -> ParkedRunnable<R, F, Q, u64, A>
-        ensures { result ≡ self.parked }
-    {
-        let Entry { parked } = self;
-        parked
-    }
+    runnable: PrioritizedRunnable<R, F, Q, A>,
 }
 
 impl<R: Wait + Drop, F: Yields, Q: Drop, A: Wake> PartialEq for Entry<R, F, Q, A> {
-    ghost eq = { on (λ entry. priority_of entry.parked) nat_eq };
+    ghost eq = { on (λ entry. priority_of entry.runnable) nat_eq };
 
     ghost laws = { Prim.search (comparing, rules) };
 
     fn eq(&self, other: &Entry<R, F, Q, A>) -> bool {
-        self.parked.metadata() == other.parked.metadata()
+        self.runnable.metadata() == other.runnable.metadata()
     }
 }
 
@@ -52,7 +39,7 @@ impl<R: Wait + Drop, F: Yields, Q: Drop, A: Wake> Eq for Entry<R, F, Q, A> {
 }
 
 impl<R: Wait + Drop, F: Yields, Q: Drop, A: Wake> PartialOrd for Entry<R, F, Q, A> {
-    ghost partial_cmp = { as_partial_cmp (on (λ entry. priority_of entry.parked) nat_cmp) };
+    ghost partial_cmp = { as_partial_cmp (on (λ entry. priority_of entry.runnable) nat_cmp) };
 
     ghost laws = { partial_order_from_own_ties (Prim.search (comparing, rules)) (Prim.search (comparing, rules)) };
 
@@ -62,7 +49,7 @@ impl<R: Wait + Drop, F: Yields, Q: Drop, A: Wake> PartialOrd for Entry<R, F, Q, 
 }
 
 impl<R: Wait + Drop, F: Yields, Q: Drop, A: Wake> Ord for Entry<R, F, Q, A> {
-    ghost cmp = { on (λ entry. priority_of entry.parked) nat_cmp };
+    ghost cmp = { on (λ entry. priority_of entry.runnable) nat_cmp };
 
     ghost total = { Prim.search (comparing, rules) };
 
@@ -71,18 +58,18 @@ impl<R: Wait + Drop, F: Yields, Q: Drop, A: Wake> Ord for Entry<R, F, Q, A> {
     ghost matches_eq = { Prim.search (comparing, rules) };
 
     fn cmp(&self, other: &Entry<R, F, Q, A>) -> Ordering {
-        self.parked.metadata().cmp(other.parked.metadata())
+        self.runnable.metadata().cmp(other.runnable.metadata())
     }
 }
 
-/// Parked Runnables with room for a fixed number of them. Their metadata is their priority, and the greatest comes out first.
+/// Runnables without surroundings, and room for a fixed number of them. Their metadata is their priority, and the greatest comes out first.
 ///
 /// What is left is dropped with the heap, which cancels its tasks.
 #[derive(Drop)]
 pub struct PriorityHeap<R: Wait + Drop, F: Yields, Q: Drop, A: Wake> {
     heap: BinaryHeap<Entry<R, F, Q, A>>,
     room: usize,
-    ghost ordered: { IsHeap (on (λ entry. priority_of entry.parked) nat_cmp) (heap_items heap) } by { Prim.hlevel props },
+    ghost ordered: { IsHeap (on (λ entry. priority_of entry.runnable) nat_cmp) (heap_items heap) } by { Prim.hlevel props },
     ghost bounded: { (heap_len heap ≤ room) × (room ≤ heap_capacity heap) },
 }
 
@@ -101,8 +88,8 @@ impl<R: Wait + Drop, F: Yields, Q: Drop, A: Wake> PriorityHeap<R, F, Q, A> {
     /// Puts a Runnable in, and takes no memory for it. It is handed back where the heap holds as many as it has room for.
     pub fn push(
         &mut self,
-        runnable: ParkedRunnable<R, F, Q, u64, A>,
-    ) -> Result<(), ParkedRunnable<R, F, Q, u64, A>>
+        runnable: PrioritizedRunnable<R, F, Q, A>,
+    ) -> Result<(), PrioritizedRunnable<R, F, Q, A>>
         ensures full { IsErr result ↔ (length (entries self.old) ≡ room_of self.old) }
         ensures room { room_of self.new ≡ room_of self.old }
 
@@ -116,14 +103,14 @@ impl<R: Wait + Drop, F: Yields, Q: Drop, A: Wake> PriorityHeap<R, F, Q, A> {
         if self.heap.len() == self.room {
             return Err(runnable);
         }
-        match self.heap.push(Entry { parked: runnable }) {
+        match self.heap.push(Entry { runnable }) {
             Ok(()) => Ok(()),
-            Err(refused) => Err(refused.value.into_parked()),
+            Err(refused) => Err(refused.value.runnable),
         }
     }
 
     /// Takes out a Runnable of greatest priority; `None` where there is none. Of several, any may come.
-    pub fn pop(&mut self) -> Option<ParkedRunnable<R, F, Q, u64, A>>
+    pub fn pop(&mut self) -> Option<PrioritizedRunnable<R, F, Q, A>>
         ensures empty { IsNone result ↔ (entries self.old ≡ []) }
         ensures room { room_of self.new ≡ room_of self.old }
         ensures unchanged { IfNone result (entries self.new ≡ entries self.old) }
@@ -133,6 +120,6 @@ impl<R: Wait + Drop, F: Yields, Q: Drop, A: Wake> PriorityHeap<R, F, Q, A> {
         ensures others { IfSome result (λ runnable. IsPermutation (entries self.old) (runnable ∷ entries self.new)) }
     {
         let entry = self.heap.pop()?;
-        Some(entry.into_parked())
+        Some(entry.runnable)
     }
 }

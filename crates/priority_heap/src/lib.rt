@@ -1,4 +1,4 @@
-//! A heap of parked Runnables, which hands out the one of greatest priority first.
+//! A heap of Runnables, which hands out the one of greatest priority first.
 //! It stands on the Runnable of `task_cell`.
 //! A user calls `PriorityHeap`.
 //! Nothing is public only to carry a claim.
@@ -7,4 +7,4 @@
 
 pub mod heap;
 
-pub use heap::PriorityHeap;
+pub use heap::{PrioritizedRunnable, PriorityHeap};

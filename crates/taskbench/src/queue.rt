@@ -2,18 +2,17 @@
 ghost use Rattle.std.specs.Prelude.{⊤};
 
 use crate::futures::Nobody;
-use async_task::{
-    ParkedRunnable, Runnable, Schedule, ScheduleInfo, Task, TaskWaker, Yields, spawn,
-};
+use async_task::{Runnable, Schedule, ScheduleInfo, Task, TaskWaker, Yields, spawn};
 use std::alloc::{AllocError, Allocator, Global};
 use std::collections::VecDeque;
 use std::sync::{Mutex, Wait};
 
 /// A queue of the Runnables of one type of future.
+#[derive(Drop)]
 pub struct Queue<R: Wait + Drop + Copy, F: Yields, B: Allocator = Global> {
     rt: R,
     alloc: B,
-    waiting: Mutex<VecDeque<ParkedRunnable<R, F, ToQueue, (), Nobody, B>, B>>,
+    waiting: Mutex<VecDeque<Runnable<R, F, ToQueue, (), Nobody, (), B>, B>>,
 }
 
 /// The schedule value of tasks whose Runnables go to the queue that they carry.
@@ -74,31 +73,16 @@ impl<R: Wait + Drop + Copy, F: Yields, B: Allocator + Copy> Queue<R, F, B> {
 
     /// Pushes a Runnable. Where there is no memory it is dropped, which cancels its task.
     pub fn push<'x>(&'x self, runnable: QueueRunnable<'x, R, F, B>) {
-        let pushed = self.waiting.lock(&self.rt).push_back(runnable.park());
-        if let Err(refused) = pushed {
-            drop(refused.value.unpark(self));
-        }
+        let pushed = self
+            .waiting
+            .lock(&self.rt)
+            .push_back(runnable.with_around(()));
+        drop(pushed);
     }
 
     /// Takes the Runnable that has waited longest.
     pub fn pop(&self) -> Option<QueueRunnable<'_, R, F, B>> {
-        let parked = self.waiting.lock(&self.rt).pop_front()?;
-        Some(parked.unpark(self))
-    }
-}
-
-// A parked handle cannot be dropped: what is left in the queue is unparked first.
-impl<R: Wait + Drop + Copy, F: Yields, B: Allocator> Drop for Queue<R, F, B> {
-    fn drop(self) {
-        let Queue {
-            rt: _,
-            alloc: _,
-            waiting,
-        } = self;
-        let mut waiting = waiting.into_inner();
-        while let Some(parked) = waiting.pop_front() {
-            drop(parked.unpark(()));
-        }
-        waiting.destroy_empty();
+        let queued = self.waiting.lock(&self.rt).pop_front()?;
+        Some(queued.with_around(self))
     }
 }

@@ -2,16 +2,17 @@
 ghost use Rattle.std.specs.Prelude.{⊤};
 
 use crate::futures::Nobody;
-use async_task::{ParkedRunnable, Runnable, Schedule, ScheduleInfo, Task, Yields, spawn};
+use async_task::{Runnable, Schedule, ScheduleInfo, Task, Yields, spawn};
 use std::alloc::{AllocError, Allocator};
 use std::cell::Cell;
 use std::sync::Wait;
 
 /// A place for one Runnable.
+#[derive(Drop)]
 pub struct Slot<R: Wait + Drop + Copy, F: Yields, B: Allocator> {
     rt: R,
     alloc: B,
-    held: Cell<Option<ParkedRunnable<R, F, ToSlot, (), Nobody, B>>>,
+    held: Cell<Option<Runnable<R, F, ToSlot, (), Nobody, (), B>>>,
 }
 
 /// The schedule value of tasks whose Runnables go to the place that they carry.
@@ -56,28 +57,12 @@ impl<R: Wait + Drop + Copy, F: Yields, B: Allocator + Copy> Slot<R, F, B> {
 
     /// Puts a Runnable there, and drops the one that was there.
     pub fn put<'x>(&'x self, runnable: SlotRunnable<'x, R, F, B>) {
-        if let Some(previous) = self.held.replace(Some(runnable.park())) {
-            drop(previous.unpark(self));
-        }
+        drop(self.held.replace(Some(runnable.with_around(()))));
     }
 
     /// Takes the Runnable away.
     pub fn take(&self) -> Option<SlotRunnable<'_, R, F, B>> {
-        let parked = self.held.replace(None)?;
-        Some(parked.unpark(self))
-    }
-}
-
-// A parked handle cannot be dropped: one that is left is unparked first.
-impl<R: Wait + Drop + Copy, F: Yields, B: Allocator> Drop for Slot<R, F, B> {
-    fn drop(self) {
-        let Slot {
-            rt: _,
-            alloc: _,
-            held,
-        } = self;
-        if let Some(parked) = held.into_inner() {
-            drop(parked.unpark(()));
-        }
+        let held = self.held.replace(None)?;
+        Some(held.with_around(self))
     }
 }

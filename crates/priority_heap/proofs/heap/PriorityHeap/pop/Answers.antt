@@ -4,7 +4,7 @@ use Rattle.priority_heap.proofs.Greatest.{bound_of_parts}
 use Rattle.priority_heap.proofs.heap.PriorityHeap.pop.Goals as goal
 
 pub returns-clause-greatest : goal.returns-clause-greatest
-returns-clause-greatest g c = rw c.into_parked.ensures (bound_of_parts (λ entry. entry.parked) priority_of c.in_ok-entry.entry _ (c.in_ok-entry.ensures.heap_order c.args.self.now.ordered).1)
+returns-clause-greatest g c = (bound_of_parts (λ entry. entry.runnable) priority_of c.in_ok-entry.entry _ (c.in_ok-entry.ensures.heap_order c.args.self.now.ordered).1)
 
 pub returns-clause-others : goal.returns-clause-others
-returns-clause-others g c = rw c.into_parked.ensures (IsPermutation-map (λ entry. entry.parked) _ _ c.in_ok-entry.ensures.permutation)
+returns-clause-others g c = (IsPermutation-map (λ entry. entry.runnable) _ _ c.in_ok-entry.ensures.permutation)

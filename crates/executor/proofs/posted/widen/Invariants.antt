@@ -1,6 +1,6 @@
 use Rattle.std.proofs.Common.{◌≡◌, length}
 use Rattle.awaiters.specs.Posted.{posted, room_of}
-use Rattle.executor.proofs.mail.widen.Given as goal
+use Rattle.executor.proofs.posted.widen.Given as goal
 
 abbrev pub invariant-loop-number : goal.invariant-loop-number
 invariant-loop-number l = record {

@@ -1,0 +1,210 @@
+//! The turns of workers: one worker, what all workers need, and a worker that waits for one Task.
+ghost use Rattle.std.specs.Prelude.{⊤, ◌≡◌, ℕ, ◌<◌, true, IfOk, IfSome, IsErr, vec_len};
+ghost use mathlib.Core.Option.{some};
+ghost use lib.ListN.{get_elem?};
+ghost use Rattle.task_steps.specs.Steps.{saw_ended};
+ghost use Rattle.task_cell.specs.Calls.{deeds};
+
+use crate::bell_awaiter::BellAwaiter;
+use crate::kept::{collect, wake_posted};
+use crate::pool::{Place, Pool, PoolRunnable, PoolTask, PoolWaker, Queued};
+use async_task::{Future, TaskPoll, Wake, Yields};
+use std::alloc::{AllocError, Allocator, Global};
+use std::sync::Wait;
+use work_queues::Worker;
+
+/// The turns of one worker of a pool: the thread that has them is that worker. No other turns have its number while these live.
+#[derive(Drop)]
+pub struct Turns<'x, R: Wait + Drop + Copy, F: Yields, A: Wake, B: Allocator = Global> {
+    pool: &'x Pool<R, F, A, B>,
+    pub(crate) worker: Worker<Queued<R, F, A>, B>,
+}
+
+/// Why `Turns::block_on` has no output.
+#[derive(Clone, Copy, Debug, PartialEq, Eq)]
+pub enum BlockOnError {
+    /// The task is closed: no output will come.
+    Closed,
+    /// The poll of the Task was refused its awaiter. The Task may be waited for again.
+    Refused,
+    /// The pool was shut down before the task had ended.
+    ShutDown,
+}
+
+impl<R: Wait + Drop + Copy, F: Yields, A: Wake, B: Allocator + Copy> Pool<R, F, A, B> {
+    /// The turns of the worker of this number. An error says that there was no memory, that there is no such worker, or that there are turns of this number: two threads would sleep where one is woken. Once they are dropped, the number is free again.
+    pub fn turns(&self, worker: usize) -> Result<Turns<'_, R, F, A, B>, AllocError>
+        ensures { IfOk result (λ turns. turns.worker.number ≡ worker) }
+    {
+        let worker = self.crew.worker(self.items, worker)?;
+        Ok(Turns { pool: self, worker })
+    }
+
+    /// The turns of all workers, in the order of their numbers. An error says that there was no memory, or that there are turns of one of them.
+    pub fn all_turns(&self) -> Result<Vec<Turns<'_, R, F, A, B>>, AllocError>
+        ensures each { IfOk result (λ all. (i : ℕ) (turns : _) → get_elem? all.items i ≡ some turns → turns.worker.number ≡ i) }
+    {
+        let mut all = Vec::new(self.alloc);
+        for worker in 0..self.workers() {
+            all.push(self.turns(worker)?)?;
+        }
+        Ok(all)
+    }
+
+    /// Is the worker of this number until the pool is shut down, as `Turns::work` is. An error is that of `turns`.
+    pub fn run<'x>(&'x self, worker: usize) -> Result<(), AllocError>
+    where
+        F: Future<PoolWaker<'x, R, F, A, B>>,
+    {
+        let mut turns = self.turns(worker)?;
+        turns.work();
+        Ok(())
+    }
+}
+
+impl<'x, R: Wait + Drop + Copy, F: Yields, A: Wake, B: Allocator + Copy> Turns<'x, R, F, A, B> {
+    /// The pool, and the number of this worker: what a handle of the pool carries that is made or woken on this thread.
+    pub fn place(&self) -> Place<'x, R, F, A, B>
+        ensures { result.1 ≡ self.now.worker.number }
+    {
+        (self.pool, self.worker.number())
+    }
+
+    /// The next Runnable for this worker: its own, one that came from outside, or one of another worker. `None` where there is none, or only such as this worker leaves to another one that is about to run them. Run it; its drop cancels its task.
+    pub fn next(&mut self) -> Option<PoolRunnable<'x, R, F, A, B>>
+        ensures place { IfSome result (λ runnable. runnable.around.1 ≡ self.old.worker.number) }
+    {
+        let place = self.place();
+        let runnable = place.0.crew.find(&place.0.rt, &mut self.worker)?;
+        Some(runnable.with_around(place))
+    }
+
+    /// Runs the task of the Runnable that `next` answers. False where that is `None`.
+    pub fn tick(&mut self) -> bool
+    where
+        F: Future<PoolWaker<'x, R, F, A, B>>,
+    {
+        match self.next() {
+            Some(runnable) => {
+                runnable.run();
+                true
+            }
+            None => false,
+        }
+    }
+
+    /// Searches for a while, if no other worker does, and then sleeps, if no queue shows a Runnable, the pool was not shut down, and the bells counted no interruption since `interruptions`. It may also return for no reason. `take_turn` calls it where it is due.
+    pub fn rest(&self, interruptions: u64) {
+        // A caller who counted the interruptions after the shutdown would sleep for ever.
+        if self.pool.is_shut_down() {
+            return;
+        }
+        self.pool
+            .crew
+            .rest(&self.pool.rt, &self.worker, interruptions);
+    }
+
+    /// A turn but for the run of what it takes: frees what keys left, wakes one task whose number was posted, and takes the next Runnable. Where there is neither it searches and then sleeps, as `rest` says, if the bells counted no interruption since `interruptions`: so ask for them before the last look at what the loop waits for. Run what it answers.
+    pub fn take_turn(&mut self, interruptions: u64) -> Option<PoolRunnable<'x, R, F, A, B>>
+        ensures place { IfSome result (λ runnable. runnable.around.1 ≡ self.old.worker.number) }
+    {
+        let place = self.place();
+        collect(place);
+        let woke = wake_posted(place);
+        let next = self.next();
+        if next.is_none() && !woke {
+            self.rest(interruptions);
+        }
+        next
+    }
+
+    /// The next Runnable for this worker, for which it searches and sleeps where `next` answers `None`. Run it. `None` once the pool is shut down: then no Runnable is left that this worker can find.
+    pub fn await_next(&mut self) -> Option<PoolRunnable<'x, R, F, A, B>> {
+        let pool = self.pool;
+        for _ in pool.rt.forever() {
+            let interruptions = pool.bells().interruptions();
+            if pool.is_shut_down() {
+                self.cancel_found();
+                collect(self.place());
+                return None;
+            }
+            if let Some(runnable) = self.take_turn(interruptions) {
+                return Some(runnable);
+            }
+        }
+        unreachable!()
+    }
+
+    /// Is the worker until the pool is shut down: runs each Runnable that `await_next` answers.
+    pub fn work(&mut self)
+    where
+        F: Future<PoolWaker<'x, R, F, A, B>>,
+    {
+        let pool = self.pool;
+        for _ in pool.rt.forever() {
+            match self.await_next() {
+                Some(runnable) => {
+                    runnable.run();
+                }
+                None => return,
+            }
+        }
+    }
+
+    // Drops the Runnables that this worker has in its hands, and those that it finds. A worker does it as it ends, since it may have moved Runnables
+    // past the shutdown.
+    fn cancel_found(&mut self) {
+        let pool = self.pool;
+        for _ in pool.rt.forever() {
+            match self.next() {
+                Some(runnable) => drop(runnable),
+                None => return,
+            }
+        }
+    }
+}
+
+impl<'x, R: Wait + Drop + Copy, F: Yields, B: Allocator + Copy> Turns<'x, R, F, BellAwaiter<R>, B> {
+    /// Is the worker until the task of this Task is over, and sleeps where there is nothing to do. Other workers may run meanwhile, or none.
+    ///
+    /// The output meets what the type of the future states.
+    pub fn block_on(
+        &mut self,
+        task: &mut PoolTask<'x, R, F, BellAwaiter<R>, B>,
+    ) -> Result<F::Output, BlockOnError>
+    where
+        F: Future<PoolWaker<'x, R, F, BellAwaiter<R>, B>>,
+        ensures meets { IfOk result (λ output. ∥ F.Yields.meets output ∥₁) }
+        ensures closed { result ≡ Err BlockOnError.Closed → saw_ended (deeds task.new.inner.party) ≡ true }
+        ensures ended { saw_ended (deeds task.old.inner.party) ≡ true → IsErr result }
+        ensures cell { task.new.inner.share ≡ task.old.inner.share }
+        ensures around { task.new.around ≡ task.old.around }
+    {
+        let pool = self.pool;
+        let awaiter = BellAwaiter::new(pool, self.worker.number()).ok_or(BlockOnError::Refused)?;
+        for _ in pool.rt.forever() {
+            let interruptions = pool.bells().interruptions();
+            let answer = task.poll(&awaiter);
+            let ends = pool.is_shut_down();
+            if ends {
+                self.cancel_found();
+            }
+            if !matches!(answer, TaskPoll::Pending) {
+                // What woke this worker may have been meant for a task that another one has to run now.
+                pool.bells().interrupt();
+            }
+            match answer {
+                TaskPoll::Ready(Ok(output)) => return Ok(output),
+                TaskPoll::Ready(Err(_)) => return Err(BlockOnError::Closed),
+                TaskPoll::Refused => return Err(BlockOnError::Refused),
+                TaskPoll::Pending if ends => return Err(BlockOnError::ShutDown),
+                TaskPoll::Pending => {
+                    if let Some(runnable) = self.take_turn(interruptions) {
+                        runnable.run();
+                    }
+                }
+            }
+        }
+        unreachable!()
+    }
+}
