@@ -19,6 +19,8 @@ mod hostile_tests;
 #[cfg(test)]
 mod kind_tests;
 #[cfg(test)]
+mod mail_tests;
+#[cfg(test)]
 mod refusal_tests;
 #[cfg(test)]
 mod search_tests;

@@ -12,8 +12,11 @@ use std::test::Fail;
 use std::thread;
 use std::thread::Threads;
 
-// How many rounds each race has. By hand there may be more.
+// How many rounds each race has at least. By hand there may be more.
 const ROUNDS: u64 = 30_000;
+
+// How many rounds a race has at most: it goes on where no poll met a notifier, as on a processor that both threads share.
+const MOST_ROUNDS: u64 = 20 * ROUNDS;
 
 // The awaiter of a round's second poll is cloned fewer turns than these after the future was dropped, in each round another number: so
 // the poll begins to register at another point beside the notifier.
@@ -57,8 +60,11 @@ fn end_all<R: Wait + Drop>(
     surroundings: &RaceSurroundings<R>,
     ending: Ending,
 ) {
-    for round in 0..ROUNDS {
+    for round in 0..MOST_ROUNDS {
         rounds.open(rt, round);
+        if rounds.is_over() {
+            return;
+        }
         rounds.start(round, 2);
         ending.end(surroundings);
         rounds.close(rt, round);
@@ -112,39 +118,41 @@ fn play<R: Wait + Threads + Abort + Drop + Copy + Send + Sync>(
         if ends.is_err() {
             return;
         }
-        for round in 0..ROUNDS {
+        for round in 0..MOST_ROUNDS {
+            if round >= ROUNDS && tally.met() >= LEAST_MET {
+                return rounds.end(&rt, round);
+            }
             let (met, right) = poll_once(&rt, alloc, rounds, surroundings, ending, round);
             tally.count(met, right);
         }
     });
 }
 
-// A race: how many rounds there were, how many did not come to their end as they must, how many outputs there were, polls, and
-// Runnables that were scheduled; and how many rounds met a notifier.
+// A race: how many rounds did not come to their end as they must, how many outputs there were, polls, and Runnables that were
+// scheduled; how many rounds there were, and how many met a notifier.
 fn race<R: Wait + Threads + Abort + Drop + Copy + Send + Sync>(
     rt: R,
     alloc: Global,
     ending: Ending,
-) -> Result<([u64; 5], u64), AllocError> {
+) -> Result<([u64; 4], u64, u64), AllocError> {
     let surroundings = RaceSurroundings::new(rt, alloc)?;
     let rounds = Rounds::new(2);
     let tally = Tally::new();
     play(rt, alloc, &rounds, &surroundings, &tally, ending);
     let counts = [
-        tally.rounds(),
         tally.faults(),
         surroundings.outputs(),
         surroundings.polls(),
         surroundings.schedules(),
     ];
-    Ok((counts, tally.met()))
+    Ok((counts, tally.rounds(), tally.met()))
 }
 
 // Each round has the Runnable of the spawn and no other: it is polled once.
 #[test]
 fn a_poll_registers_beside_a_run_that_completes(rt: HostRuntime) -> Result<(), Fail> {
-    let (counts, met) = race(rt, rt.alloc(), Ending::Run)?;
-    assert_eq!(rt; counts, [ROUNDS, 0, ROUNDS, ROUNDS, 0]);
+    let (counts, all, met) = race(rt, rt.alloc(), Ending::Run)?;
+    assert!(rt; ROUNDS <= all && counts == [0, all, all, 0]);
     assert!(rt; LEAST_MET <= met, "{met} polls met a notifier");
     Ok(())
 }
@@ -152,8 +160,8 @@ fn a_poll_registers_beside_a_run_that_completes(rt: HostRuntime) -> Result<(), F
 // Each round has the Runnable of the spawn and no other: it is dropped, and never polled.
 #[test]
 fn a_poll_registers_beside_a_drop_of_the_runnable(rt: HostRuntime) -> Result<(), Fail> {
-    let (counts, met) = race(rt, rt.alloc(), Ending::Discard)?;
-    assert_eq!(rt; counts, [ROUNDS, 0, 0, 0, 0]);
+    let (counts, all, met) = race(rt, rt.alloc(), Ending::Discard)?;
+    assert!(rt; ROUNDS <= all && counts == [0; 4]);
     assert!(rt; LEAST_MET <= met, "{met} polls met a notifier");
     Ok(())
 }

@@ -3,7 +3,7 @@
 use counted_values::counters::Counter;
 use std::hint::spin_loop;
 use std::sync::Wait;
-use std::sync::atomic::{AtomicU64, Ordering};
+use std::sync::atomic::{AtomicBool, AtomicU64, Ordering};
 
 /// How many rounds of a race must meet what the race is for. More than there are rounds makes each race fail, and tell how often it met it.
 pub const LEAST_MET: u64 = 1;
@@ -22,6 +22,7 @@ const MEETINGS: u64 = 3;
 pub struct Rounds {
     threads: u64,
     come: AtomicU64,
+    over: AtomicBool,
 }
 
 impl Rounds {
@@ -30,7 +31,19 @@ impl Rounds {
         Rounds {
             threads,
             come: AtomicU64::new(0),
+            over: AtomicBool::new(false),
         }
+    }
+
+    /// Ends the race in place of opening this round, in the one thread that decides it.
+    pub fn end<R: Wait>(&self, rt: &R, round: u64) {
+        self.over.store(true, Ordering::SeqCst);
+        self.open(rt, round);
+    }
+
+    /// Whether the race was ended. Another thread asks right after it has opened a round.
+    pub fn is_over(&self) -> bool {
+        self.over.load(Ordering::SeqCst)
     }
 
     /// Opens a round, in each thread: all have come.

@@ -1,0 +1,96 @@
+//! The mail of a pool goes round its parts: a number that is posted again and again keeps no other one waiting.
+ghost use Rattle.std.specs.Prelude.{⊤};
+
+use async_task::{Future, Poll, Wake, Yields};
+use executor::{BellAwaiter, Key, Pool, PoolWaker, keep_waker, place_for_waker, wake_posted};
+use std::alloc::{AllocError, Global};
+use std::sync::atomic::{AtomicU64, Ordering};
+use std::sync::{Arc, Wait};
+use std::test::Fail;
+
+/// What is seen of a task: how often it was polled, and the number of its place.
+#[derive(Drop)]
+struct Seen {
+    polls: AtomicU64,
+    number: AtomicU64,
+}
+
+/// A future that is never ready, and keeps its waker. One that is eager posts its own number at each poll.
+#[derive(Drop)]
+struct Poster<R: Wait + Drop + Copy> {
+    key: Key<R>,
+    is_eager: bool,
+    seen: Arc<Seen>,
+}
+
+type PosterPool<R> = Pool<R, Poster<R>, BellAwaiter<R>>;
+
+type PosterWaker<'x, R> = PoolWaker<'x, R, Poster<R>, BellAwaiter<R>>;
+
+// Posts a number to the mail of a pool, as the end of an awaited task does.
+fn post<R: Wait + Drop + Copy>(pool: &PosterPool<R>, number: usize) {
+    if let Some(awaiter) = BellAwaiter::of_kept(pool, number) {
+        awaiter.wake();
+    }
+}
+
+impl<R: Wait + Drop + Copy> Yields for Poster<R> {
+    type Output = ();
+}
+
+impl<'x, R: Wait + Drop + Copy> Future<PosterWaker<'x, R>> for Poster<R> {
+    ghost polled = { λ _ _ _ _. ⊤ };
+
+    fn poll(&mut self, waker: &PosterWaker<'x, R>) -> Poll<()> {
+        self.seen.polls.fetch_add(1, Ordering::SeqCst);
+        keep_waker(waker, &self.key);
+        if self.is_eager {
+            post(waker.around().0, self.key.number());
+        }
+        Poll::Pending
+    }
+}
+
+// Spawns a task whose waker is kept at a place of this worker's part, and lets it go on.
+fn spawn_poster<R: Wait + Drop + Copy>(
+    pool: &PosterPool<R>,
+    alloc: Global,
+    worker: usize,
+    is_eager: bool,
+) -> Result<Arc<Seen>, AllocError> {
+    let key = place_for_waker((pool, worker)).ok_or(AllocError)?;
+    let seen = Seen {
+        polls: AtomicU64::new(0),
+        number: AtomicU64::new(key.number() as u64),
+    };
+    let seen = Arc::new(alloc, seen)?;
+    let poster = Poster {
+        key,
+        is_eager,
+        seen: Arc::try_clone(&seen)?,
+    };
+    pool.spawn(poster).ok().ok_or(AllocError)?.detach();
+    Ok(seen)
+}
+
+// The places are of two parts. In four turns the eager one is woken thrice and the other one once, in whatever order the parts come.
+#[test]
+fn a_number_that_is_always_posted_keeps_no_other_waiting(rt: HostRuntime) -> Result<(), Fail> {
+    let pool = PosterPool::new(rt, rt.alloc(), 1)?;
+    let eager = spawn_poster(&pool, rt.alloc(), 0, true)?;
+    let patient = spawn_poster(&pool, rt.alloc(), 1, false)?;
+    let mut turns = pool.turns(0)?;
+    let first = (turns.tick(), turns.tick());
+    post(&pool, patient.number.load(Ordering::SeqCst) as usize);
+    let mut woken = 0u8;
+    for _ in 0..4 {
+        woken = woken.saturating_add(u8::from(wake_posted((&pool, 0))));
+        turns.tick();
+    }
+    let polls = (
+        eager.polls.load(Ordering::SeqCst),
+        patient.polls.load(Ordering::SeqCst),
+    );
+    assert_eq!(rt; (first, woken, polls), ((true, true), 4, (4, 2)));
+    Ok(())
+}
