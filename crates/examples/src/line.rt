@@ -1,4 +1,4 @@
-//! The queue of the examples whose tasks wake one another: one thread runs what is in it, in the order of coming.
+//! The queue of the examples whose tasks are woken by one another, or by another thread: one thread runs what is in it, in the order of coming.
 //! It also has what the tasks share, where a future keeps its waker: no future can hold one of its own type.
 ghost use Rattle.std.specs.Prelude.{⊤};
 
@@ -6,7 +6,7 @@ use async_task::{Runnable, Schedule, ScheduleInfo, Task, TaskWaker, Yields, spaw
 use awaiters::Nobody;
 use std::alloc::Global;
 use std::collections::VecDeque;
-use std::sync::{Mutex, Wait};
+use std::sync::{Condvar, Mutex, Wait};
 
 /// A queue of Runnables, and what their tasks share.
 #[derive(Drop)]
@@ -16,6 +16,8 @@ pub struct Line<R: Wait + Drop + Copy, F: Yields, S> {
     /// What the tasks share.
     pub shared: S,
     queue: Mutex<VecDeque<Runnable<R, F, ToLine, (), Nobody, ()>>>,
+    // Notified of each Runnable, for a thread that sleeps until one is there.
+    pushed: Condvar,
 }
 
 /// The schedule value: a Runnable goes to the queue that it carries.
@@ -45,6 +47,7 @@ impl<'x, R: Wait + Drop + Copy, F: Yields, S: Drop> Schedule<LineRunnable<'x, R,
                 .lock(&line.rt)
                 .push_back(runnable.with_around(())),
         );
+        line.pushed.notify_one();
     }
 }
 
@@ -59,7 +62,13 @@ impl<R: Wait + Drop + Copy, F: Yields, S: Drop> Line<R, F, S> {
     /// A line with an empty queue.
     pub fn new(rt: R, alloc: Global, shared: S) -> Line<R, F, S> {
         let queue = Mutex::new(VecDeque::new(alloc));
-        Line { rt, shared, queue }
+        let pushed = Condvar::new();
+        Line {
+            rt,
+            shared,
+            queue,
+            pushed,
+        }
     }
 
     /// Spawns a task and schedules it for the first time. `None` where there is no memory for it.
@@ -73,5 +82,17 @@ impl<R: Wait + Drop + Copy, F: Yields, S: Drop> Line<R, F, S> {
     pub fn next(&self) -> Option<LineRunnable<'_, R, F, S>> {
         let queued = self.queue.lock(&self.rt).pop_front()?;
         Some(queued.with_around(self))
+    }
+
+    /// Takes the Runnable that has waited longest, and sleeps until there is one.
+    pub fn wait(&self) -> LineRunnable<'_, R, F, S> {
+        let mut queue = self.queue.lock(&self.rt);
+        for _ in self.rt.forever() {
+            if let Some(queued) = queue.pop_front() {
+                return queued.with_around(self);
+            }
+            queue = self.pushed.wait(&self.rt, queue);
+        }
+        unreachable!()
     }
 }

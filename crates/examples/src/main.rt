@@ -8,6 +8,7 @@ mod channel;
 mod channel_worker;
 mod cleanup;
 mod kit_futures;
+mod kit_thread;
 mod last;
 mod line;
 mod new_thread;
@@ -77,7 +78,8 @@ where
     println!(rt;
         "kit_futures: {:?}",
         kit_futures::selected(rt, alloc, [&[1, 2, 3], &[4, 5]])
-    )
+    )?;
+    println!(rt; "kit_thread: {:?}", kit_thread::double_of(rt, alloc, 21))
 }
 
 fn main(rt: HostRuntime) -> io::Result<()> {
