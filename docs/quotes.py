@@ -21,7 +21,7 @@ EXCERPTS = ("docs/EXECUTORS.md", "docs/EXECUTOR_POOL.md", "docs/KIT_BRIDGE.md")
 NAMING = WHOLE + EXCERPTS + (
     "docs/API.md", "docs/ARCHITECTURE.md", "docs/DEVELOPING.md", "docs/EXAMPLES.md", "docs/MACHINE.md", "docs/PROOFS.md", "docs/ROWS.md", "docs/RULES.md",
     "docs/TRACES.md")
-OF_THE_KIT = {"from_event_fd", "from_raw_fd"}
+OF_THE_KIT = {"from_event_fd", "from_raw_fd", "get_mut", "pop_front"}
 # a definition of Rust or of a spec, a clause of a contract, a variable; or a field, a parameter or a constructor
 DEFINED = re.compile(
     r"\b(?:fn|struct|enum|trait|mod|const|static|type|let|mut|ghost|requires|ensures|abbrev pub|pub data|pub record)\s+(\w+)"
