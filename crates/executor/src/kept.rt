@@ -79,7 +79,7 @@ pub fn wake_kept<'x, R: Wait + Drop + Copy, F: Yields, A: Wake, B: Allocator + C
     }
 }
 
-/// Wakes a task whose number an awaiter posted, as `wake_kept` does. False where none is posted. Each worker does it between its turns, and a loop around `Pool::tick` has to.
+/// Wakes a task whose number an awaiter posted, as `wake_kept` does. False where none is posted. Each worker does it between its turns, and a loop around `Turns::tick` has to.
 pub fn wake_posted<'x, R: Wait + Drop + Copy, F: Yields, A: Wake, B: Allocator + Copy>(
     place: Place<'x, R, F, A, B>,
 ) -> bool {
