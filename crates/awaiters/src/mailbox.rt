@@ -2,63 +2,89 @@
 ghost use Rattle.std.specs.Prelude.{⊤, ◌≡◌, false, IfSome};
 ghost use Rattle.std.specs.Arc.{arc_value};
 
+use crate::listener::Listener;
+use crate::nobody::Nobody;
 use crate::numbers::Numbers;
 use crate::posts::Posts;
 use async_task::Wake;
 use std::alloc::{AllocError, Global};
 use std::sync::{Arc, Condvar, Mutex, Wait};
 
-/// A mailbox of numbers: any thread posts, and any thread takes them or waits for one.
+// What is under the lock of a mailbox.
 #[derive(Drop)]
-pub struct Mailbox<R: Wait + Drop + Copy> {
+struct Contents<L: Listener> {
+    numbers: Numbers,
+    listener: Option<L>,
+}
+
+/// A mailbox of numbers: any thread posts, and any thread takes them or waits for one. `L` is who else may be told of a post.
+#[derive(Drop)]
+pub struct Mailbox<R: Wait + Drop + Copy, L: Listener = Nobody> {
     rt: R,
-    numbers: Mutex<Numbers>,
+    contents: Mutex<Contents<L>>,
     posted: Condvar,
 }
 
-impl<R: Wait + Drop + Copy> Mailbox<R> {
+impl<R: Wait + Drop + Copy, L: Listener> Mailbox<R, L> {
     /// An empty mailbox for the numbers below `room`. All its memory is taken here.
     ///
     /// `rt` is what its calls wait by, `alloc` where the memory comes from. An `Err` says that memory was refused; nothing stays allocated then.
-    pub fn new(rt: R, alloc: Global, room: usize) -> Result<Arc<Mailbox<R>>, AllocError> {
-        let numbers = Mutex::new(Numbers::new(alloc, room)?);
+    pub fn new(rt: R, alloc: Global, room: usize) -> Result<Arc<Mailbox<R, L>>, AllocError> {
+        let contents = Contents {
+            numbers: Numbers::new(alloc, room)?,
+            listener: None,
+        };
         let mailbox = Mailbox {
             rt,
-            numbers,
+            contents: Mutex::new(contents),
             posted: Condvar::new(),
         };
         Ok(Arc::new(alloc, mailbox)?)
     }
 
-    /// Posts a number, and wakes a thread that waits for one. It needs no memory. A number that waits already stays where it is.
+    /// Posts a number, wakes a thread that waits for one, and tells the listener, which is gone then. It needs no memory. A number that waits already
+    /// stays where it is.
     ///
     /// False says that the number is not below the room; nothing has changed then.
     pub fn post(&self, number: usize) -> bool {
-        let mut numbers = self.numbers.lock(&self.rt);
-        if number >= numbers.room() {
+        let mut contents = self.contents.lock(&self.rt);
+        if number >= contents.numbers.room() {
             return false;
         }
-        let joined = numbers.post(number);
-        drop(numbers);
+        let joined = contents.numbers.post(number);
+        let listener = contents.listener.take();
+        drop(contents);
         if joined {
             self.posted.notify_one();
+        }
+        if let Some(listener) = listener {
+            listener.tell();
         }
         true
     }
 
+    /// Has the next post tell this listener, in place of the one before. Call it before the look after which you may sleep elsewhere: then no post comes
+    /// between the two.
+    pub fn listen(&self, listener: L) {
+        let mut contents = self.contents.lock(&self.rt);
+        let before = contents.listener.replace(listener);
+        drop(contents);
+        drop(before);
+    }
+
     /// Takes out the number that has waited longest; `None` where none waits.
     pub fn take(&self) -> Option<usize> {
-        self.numbers.lock(&self.rt).take()
+        self.contents.lock(&self.rt).numbers.take()
     }
 
     /// Takes out the number that has waited longest, and sleeps until there is one.
     pub fn wait(&self) -> usize {
-        let mut numbers = self.numbers.lock(&self.rt);
+        let mut contents = self.contents.lock(&self.rt);
         for _ in self.rt.forever() {
-            if let Some(number) = numbers.take() {
+            if let Some(number) = contents.numbers.take() {
                 return number;
             }
-            numbers = self.posted.wait(&self.rt, numbers);
+            contents = self.posted.wait(&self.rt, contents);
         }
         unreachable!()
     }
@@ -112,6 +138,8 @@ impl<R: Wait + Drop + Copy> Wake for Awaiter<R> {
 }
 
 impl<R: Wait + Drop + Copy> Posts<R> for Awaiter<R> {
+    type Listener = Nobody;
+
     ghost posts = { λ awaiter mailbox number. (arc_value awaiter.mailbox ≡ mailbox) × (awaiter.number ≡ number) };
 
     fn of_mailbox(mailbox: &Arc<Mailbox<R>>, number: usize) -> Option<Awaiter<R>> {

@@ -2,6 +2,9 @@
 use Rattle.std.proofs.Common.{arith, ◌≡◌, ℕ, zero, suc, ◌+◌, List, [], ◌∷◌, ◌++◌, length, drop, sym, refl, ap, ◌∙◌, subst}
 use mathlib.Core.Option.{some, some-injective, some-ne-none}
 use lib.ListN.{get_elem?}
+use Rattle.std.proofs.lemmas.List.{append_assoc}
+use Rattle.std.proofs.lemmas.List.Elements.{All-append}
+use Rattle.executor.specs.Appends.{Appends}
 
 numbered : {A : Type 0} (P : ℕ → A → Type 0) (old : List A) (x : A) → ((i : ℕ) (a : A) → get_elem? old i ≡ some a → P i a) → P (length old) x → (i : ℕ) (a : A) → get_elem? (old ++ x ∷ []) i ≡ some a → P i a
 numbered P [] x each last zero a at = subst (P 0) (some-injective x a at) last
@@ -27,3 +30,7 @@ drop-one (suc n) (x ∷ l) = let e : suc (n + 1) ≡ suc n + 1 = omega arith in 
 pub drop-all : {A : Type 0} (l : List A) → drop (length l) l ≡ []
 drop-all [] = refl
 drop-all (x ∷ l) = drop-all l
+
+-- what is appended in two parts
+pub appends-more : {T : Type 0} {P : T → Type 0} {a b c : List T} → Appends P a b → Appends P b c → Appends P a c
+appends-more {T} {P} {a} {b} {c} (xs, (ab, each)) (ys, (bc, more)) = (xs ++ ys, (bc ∙ ap (λ (l : List T). l ++ ys) ab ∙ append_assoc a xs ys, All-append P xs ys each more))

@@ -2,6 +2,7 @@ use Rattle.std.specs.Prelude.{◌≡◌, ℕ}
 use Rattle.std.specs.Arc.{arc_value}
 use Rattle.work_queues.specs.declared.bells.Bells.{Bells}
 use Rattle.awaiters.specs.declared.mailbox.Mailbox.{Mailbox}
+use Rattle.executor.specs.declared.listening.WorkerBell.{WorkerBell}
 use Rattle.executor.specs.declared.mail.Mail.{Mail}
 use Rattle.executor.specs.declared.bell_awaiter.Wakes.{Wakes}
 use Rattle.executor.specs.declared.bell_awaiter.Wakes.TheVariants.{Worker, Kept, Reader}
@@ -20,7 +21,7 @@ module _ {R : Type 0} where
   IsForKept (Reader mailbox number) of by kept = ⊥
 
   -- the wake posts this number to this mailbox
-  abbrev pub IsForReader : Wakes R → Mailbox R → ℕ → Type 0
+  abbrev pub IsForReader : Wakes R → Mailbox R WorkerBell → ℕ → Type 0
   IsForReader (Worker bells number) to posted = ⊥
   IsForReader (Kept bells mail number) to posted = ⊥
   IsForReader (Reader mailbox number) to posted = (arc_value mailbox ≡ to) × (number ≡ posted)

@@ -3,6 +3,7 @@ ghost use Rattle.std.specs.Prelude.{⊤, ◌≡◌, false, IfSome};
 ghost use Rattle.std.specs.Arc.{arc_value};
 ghost use Rattle.executor.specs.Wakes.{IsForWorker, IsForKept, IsForReader, IsSameWake};
 
+use crate::listening::WorkerBell;
 use crate::mail::Mail;
 use crate::pool::Pool;
 use async_task::{Wake, Yields};
@@ -19,10 +20,10 @@ pub(crate) enum Wakes<R: Wait + Drop + Copy> {
     /// The task whose waker is kept under this number, by the mail and then the bells.
     Kept(Arc<Bells>, Arc<Mail<R>>, usize),
     /// Whoever takes this number out of the mailbox.
-    Reader(Arc<Mailbox<R>>, usize),
+    Reader(Arc<Mailbox<R, WorkerBell>>, usize),
 }
 
-/// An awaiter of a pool. Its wake needs no memory. That of `new` and `of_kept` rings a bell: a worker looks once more for what is to be done. That of `of_mailbox` posts a number to a mailbox, and rings none.
+/// An awaiter of a pool. Its wake needs no memory. That of `new` and `of_kept` rings a bell: a worker looks once more for what is to be done. That of `of_mailbox` posts a number to a mailbox.
 #[derive(Drop)]
 pub struct BellAwaiter<R: Wait + Drop + Copy> {
     wakes: Wakes<R>,
@@ -73,9 +74,11 @@ impl<R: Wait + Drop + Copy> BellAwaiter<R> {
 }
 
 impl<R: Wait + Drop + Copy> Posts<R> for BellAwaiter<R> {
+    type Listener = WorkerBell;
+
     ghost posts = { λ awaiter mailbox number. IsForReader awaiter.wakes mailbox number };
 
-    fn of_mailbox(mailbox: &Arc<Mailbox<R>>, number: usize) -> Option<BellAwaiter<R>> {
+    fn of_mailbox(mailbox: &Arc<Mailbox<R, WorkerBell>>, number: usize) -> Option<BellAwaiter<R>> {
         let mailbox = Arc::try_clone(mailbox).ok()?;
         let wakes = Wakes::Reader(mailbox, number);
         Some(BellAwaiter { wakes })

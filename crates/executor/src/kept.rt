@@ -17,7 +17,7 @@ pub type KeptWaker<R, F, A> = TaskWaker<R, F, ToPool, (), A, ()>;
 /// A Task as the pool keeps it.
 pub type KeptTask<R, F, A> = Task<R, F, ToPool, (), A, ()>;
 
-// No handle without a pool is woken or dropped by this crate but at the end of the pool, where a Runnable that is due is dropped.
+// A handle with `()` has no queue at hand. This crate wakes none, and drops one only where a queue has no memory for it, and with the pool: the Runnable that may be due then is dropped, too.
 impl<R: Wait + Drop + Copy, F: Yields, A: Wake> Schedule<Runnable<R, F, ToPool, (), A, ()>>
     for ToPool {
     ghost scheduled = { λ _ _ _. ⊤ };
@@ -37,8 +37,8 @@ pub fn place_for_waker<'x, R: Wait + Drop + Copy, F: Yields, A: Wake, B: Allocat
     Some(key)
 }
 
-/// Keeps a clone of a waker at the place of a key, and drops what was there. False where the clone was refused, or the key is of another pool: every
-/// place is as it was then. After a shutdown the waker is woken at once, which cancels its task.
+/// Keeps a clone of a waker at the place of a key, and drops what was there. False where the clone was refused, or the key is not one of
+/// `place_for_waker` of this pool: every place is as it was then. After a shutdown the waker is woken at once, which cancels its task.
 pub fn keep_waker<'x, R: Wait + Drop + Copy, F: Yields, A: Wake, B: Allocator + Copy>(
     waker: &PoolWaker<'x, R, F, A, B>,
     key: &Key<R>,
@@ -102,7 +102,7 @@ pub fn place_for_task<'x, R: Wait + Drop + Copy, F: Yields, A: Wake, B: Allocato
 
 /// Keeps a Task at the place of a key, and drops what was there, which cancels that task. After a shutdown the Task is dropped at once, too.
 ///
-/// `Err` has the Task back, where the key is of another pool: every place is as it was then.
+/// `Err` has the Task back, where the key is not one of `place_for_task` of this pool: every place is as it was then.
 pub fn keep_task<'x, R: Wait + Drop + Copy, F: Yields, A: Wake, B: Allocator + Copy>(
     task: PoolTask<'x, R, F, A, B>,
     key: &Key<R>,
@@ -125,8 +125,8 @@ pub fn keep_task<'x, R: Wait + Drop + Copy, F: Yields, A: Wake, B: Allocator + C
     }
 }
 
-/// Polls the Task at the place of a key, with this awaiter. `None` where there is no Task, as while another thread polls it, or the key is of another
-/// pool. A Task that answers `Ready` is gone after it, and any other is there still, unless the pool was shut down. The output meets what the type of the future states.
+/// Polls the Task at the place of a key, with this awaiter. `None` where there is no Task, as while another thread polls it, or the key is not one of
+/// `place_for_task` of this pool. A Task that answers `Ready` is gone after it, and any other is there still, unless the pool was shut down. The output meets what the type of the future states.
 pub fn poll_kept<'x, R: Wait + Drop + Copy, F: Yields, A: Wake, B: Allocator + Copy>(
     place: Place<'x, R, F, A, B>,
     key: &Key<R>,
@@ -146,7 +146,7 @@ pub fn poll_kept<'x, R: Wait + Drop + Copy, F: Yields, A: Wake, B: Allocator + C
 /// Polls the Task at the place `awaited` for the task of this waker, which is woken where that Task may have an answer: it keeps the waker at its place
 /// first, and then polls as `poll_kept` does. So no wake is missed where the task that waits is pending after it.
 ///
-/// `Refused` also says that the waker was not kept, as where `own` is of another pool.
+/// `Refused` also says that the waker was not kept, as where `own` is not one of `place_for_waker` of this pool.
 pub fn await_kept<'x, R: Wait + Drop + Copy, F: Yields, B: Allocator + Copy>(
     waker: &PoolWaker<'x, R, F, BellAwaiter<R>, B>,
     own: &Key<R>,
@@ -178,8 +178,7 @@ fn collect_wakers<'x, R: Wait + Drop + Copy, F: Yields, A: Wake, B: Allocator + 
     let pool = place.0;
     for _ in pool.rt.forever() {
         match pool.wakers.collect(&pool.rt) {
-            Some(Some(waker)) => drop(waker.with_around(place)),
-            Some(None) => {}
+            Some(waker) => drop(waker.with_around(place)),
             None => return,
         }
     }
@@ -191,8 +190,7 @@ fn collect_tasks<'x, R: Wait + Drop + Copy, F: Yields, A: Wake, B: Allocator + C
     let pool = place.0;
     for _ in pool.rt.forever() {
         match pool.tasks.collect(&pool.rt) {
-            Some(Some(task)) => drop(task.with_around(place)),
-            Some(None) => {}
+            Some(task) => drop(task.with_around(place)),
             None => return,
         }
     }
@@ -216,8 +214,7 @@ fn wake_all<'x, R: Wait + Drop + Copy, F: Yields, A: Wake, B: Allocator + Copy>(
     let mut walk = Walk::default();
     for _ in pool.rt.forever() {
         match pool.wakers.take_next(&pool.rt, &mut walk) {
-            Some(Some(waker)) => waker.with_around(place).wake(),
-            Some(None) => {}
+            Some(waker) => waker.with_around(place).wake(),
             None => return,
         }
     }
@@ -231,8 +228,7 @@ fn drop_all<'x, R: Wait + Drop + Copy, F: Yields, A: Wake, B: Allocator + Copy>(
     let mut walk = Walk::default();
     for _ in pool.rt.forever() {
         match pool.tasks.take_next(&pool.rt, &mut walk) {
-            Some(Some(task)) => drop(task.with_around(place)),
-            Some(None) => {}
+            Some(task) => drop(task.with_around(place)),
             None => return,
         }
     }

@@ -1,5 +1,5 @@
 //! A pool of threads that run the tasks of `async_task` and steal from one another.
-//! It stands on `async_task`, on `work_queues`, which has the queues and the sleep of the workers, on `awaiters`, and on the kit's `slab`.
+//! It stands on `async_task`, on `work_queues`, which has the queues and the sleep of the workers, on `awaiters` and `task_group`, and on the kit's `slab`.
 //! A user calls `Pool`, `Turns` for loops of its own, and the functions of `kept`; a future reaches the pool by `waker.around()`, and keeps `Key`s. `Store` also serves other executors.
 //! Nothing is public only to carry a claim; the claims on queues and sleep are those of `work_queues`.
 //! The page is docs/EXECUTOR_POOL.md.
@@ -7,7 +7,9 @@
 
 pub mod bell_awaiter;
 pub mod kept;
+mod listening;
 mod mail;
+pub mod members;
 mod parts;
 pub mod pool;
 mod posted;
@@ -19,6 +21,8 @@ pub use kept::{
     KeptTask, KeptWaker, await_kept, collect, keep_task, keep_waker, place_for_task,
     place_for_waker, poll_kept, wake_kept, wake_posted,
 };
+pub use listening::WorkerBell;
+pub use members::{NextMemberError, PoolGroup};
 pub use pool::{Place, Pool, PoolRunnable, PoolTask, PoolWaker, ToPool};
 pub use store::{Key, Store, Walk};
 pub use turns::{BlockOnError, Turns};

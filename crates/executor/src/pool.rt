@@ -1,5 +1,6 @@
 //! The pool: spawn, and the shutdown.
-ghost use Rattle.std.specs.Prelude.{⊤, ◌≡◌, ◌-◌, ◌+◌, ◌<◌, [], drop, true, false, IfOk, IfErr, IfSome, OnOk, vec_len, vec_capacity};
+ghost use Rattle.std.specs.Prelude.{⊤, ◌≡◌, ◌-◌, ◌+◌, ◌<◌, [], drop, true, false, IfOk, IfErr, OnOk, vec_len, vec_capacity};
+ghost use Rattle.executor.specs.Appends.{Appends};
 
 use crate::kept::{KeptTask, KeptWaker, cancel_kept};
 use crate::mail::Mail;
@@ -114,11 +115,6 @@ impl<R: Wait + Drop + Copy, F: Yields, A: Wake, B: Allocator + Copy> Pool<R, F, 
         self.alloc
     }
 
-    /// How many workers it has.
-    pub fn workers(&self) -> usize {
-        self.crew.workers()
-    }
-
     /// How many places for wakers are taken: those whose key is there, and those of dropped keys that no worker has freed yet.
     pub fn kept_wakers(&self) -> usize {
         self.wakers.len(&self.rt)
@@ -161,6 +157,7 @@ impl<R: Wait + Drop + Copy, F: Yields, A: Wake, B: Allocator + Copy> Pool<R, F, 
     ) -> Result<(), AllocError>
         ensures all { OnOk result (futures.new.items ≡ []) }
         ensures left { futures.new.items ≡ drop (vec_len tasks.new - vec_len tasks.old) futures.old.items }
+        ensures added { Appends (λ task. task.around.1 ≡ worker) tasks.old.items tasks.new.items }
     {
         tasks.reserve(futures.len())?;
         for _ in 0..futures.len() {
@@ -180,7 +177,8 @@ impl<R: Wait + Drop + Copy, F: Yields, A: Wake, B: Allocator + Copy> Pool<R, F, 
     ) -> bool
         requires { vec_len tasks.old < vec_capacity tasks.old }
         ensures spawned { result ≡ true → (futures.new.items ≡ drop 1 futures.old.items) × (vec_len tasks.new ≡ vec_len tasks.old + 1) × (vec_capacity tasks.new ≡ vec_capacity tasks.old) }
-        ensures refused { result ≡ false → (futures.new.items ≡ futures.old.items) × (vec_len tasks.new ≡ vec_len tasks.old) }
+        ensures added { result ≡ true → Appends (λ task. task.around.1 ≡ worker) tasks.old.items tasks.new.items }
+        ensures refused { result ≡ false → (futures.new.items ≡ futures.old.items) × (tasks.new.items ≡ tasks.old.items) }
     {
         let Some(future) = futures.pop_front() else {
             return false;
@@ -207,20 +205,27 @@ impl<R: Wait + Drop + Copy, F: Yields, A: Wake, B: Allocator + Copy> Pool<R, F, 
         }
     }
 
-    /// Whether the pool was shut down.
-    pub fn is_shut_down(&self) -> bool {
-        self.stopped.load(Ordering::SeqCst)
-    }
-
     /// The bells of the workers. An awaiter may hold them, to have a sleeping worker look once more.
     pub fn bells(&self) -> &Arc<Bells>
         ensures { result.now ≡ self.now.crew.bells }
     {
         self.crew.bells()
     }
+}
+
+impl<R: Wait + Drop + Copy, F: Yields, A: Wake, B: Allocator> Pool<R, F, A, B> {
+    /// How many workers it has.
+    pub fn workers(&self) -> usize {
+        self.crew.workers()
+    }
+
+    /// Whether the pool was shut down.
+    pub fn is_shut_down(&self) -> bool {
+        self.stopped.load(Ordering::SeqCst)
+    }
 
     // Drops the Runnables of a queue, which cancels their tasks.
-    fn cancel_queue(&self, queue: usize) {
+    pub(crate) fn cancel_queue(&self, queue: usize) {
         for _ in self.rt.forever() {
             match self.crew.pop(&self.rt, queue) {
                 Some(runnable) => drop(runnable),

@@ -179,8 +179,18 @@ impl<H: Drop> Store<H> {
         places.get_mut(slot_of(number))?.take()
     }
 
-    /// Frees the place of one key that was dropped, and answers the handle that was in it. `None` where there is no such key, and `Some(None)` where its place was empty.
-    pub fn collect<R: Wait>(&self, rt: &R) -> Option<Option<H>> {
+    /// Frees the places of keys that were dropped, up to one that has a handle, and answers that handle. `None` where no such key is left.
+    pub fn collect<R: Wait>(&self, rt: &R) -> Option<H> {
+        for _ in rt.forever() {
+            if let Some(handle) = self.free_next(rt)? {
+                return Some(handle);
+            }
+        }
+        unreachable!()
+    }
+
+    // Frees the place of one key that was dropped. `None` where there is no such key, and `Some(None)` where the place was empty.
+    fn free_next<R: Wait>(&self, rt: &R) -> Option<Option<H>> {
         if self.due.load(Ordering::SeqCst) == 0 {
             return None;
         }
@@ -192,8 +202,18 @@ impl<H: Drop> Store<H> {
         None
     }
 
-    /// Takes the handle out of the next place of a walk over all places, whose keys keep them. `None` where the walk is over, and `Some(None)` where a place was empty.
-    pub fn take_next<R: Wait>(&self, rt: &R, walk: &mut Walk) -> Option<Option<H>> {
+    /// Takes the handle out of the next place that has one, in a walk over all places. The place stays that of its key. `None` where the walk is over.
+    pub fn take_next<R: Wait>(&self, rt: &R, walk: &mut Walk) -> Option<H> {
+        for _ in rt.forever() {
+            if let Some(handle) = self.take_at(rt, walk)? {
+                return Some(handle);
+            }
+        }
+        unreachable!()
+    }
+
+    // Takes what is in the place at which a walk stands, and goes on to the next one. `None` where the walk is over, and `Some(None)` where the place was empty.
+    fn take_at<R: Wait>(&self, rt: &R, walk: &mut Walk) -> Option<Option<H>> {
         let part = self.parts.get(walk.part)?;
         let mut places = part.places.lock(rt);
         if walk.slot >= places.capacity() {

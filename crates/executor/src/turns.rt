@@ -1,5 +1,6 @@
 //! The turns of workers: one worker, what all workers need, and a worker that waits for one Task.
-ghost use Rattle.std.specs.Prelude.{⊤, ◌≡◌, ℕ, ◌<◌, true, IfOk, IfSome, IsErr, vec_len};
+ghost use Rattle.std.specs.Prelude.{◌≡◌, ℕ, true, IfOk, IfSome, IsErr};
+ghost use Rattle.std.specs.Arc.{arc_value};
 ghost use mathlib.Core.Option.{some};
 ghost use lib.ListN.{get_elem?};
 ghost use Rattle.task_steps.specs.Steps.{saw_ended};
@@ -7,17 +8,31 @@ ghost use Rattle.task_cell.specs.Calls.{deeds};
 
 use crate::bell_awaiter::BellAwaiter;
 use crate::kept::{collect, wake_posted};
+use crate::listening::WorkerBell;
 use crate::pool::{Place, Pool, PoolRunnable, PoolTask, PoolWaker, Queued};
 use async_task::{Future, TaskPoll, Wake, Yields};
 use std::alloc::{AllocError, Allocator, Global};
-use std::sync::Wait;
+use std::sync::{Arc, Wait};
 use work_queues::Worker;
 
 /// The turns of one worker of a pool: the thread that has them is that worker. No other turns have its number while these live.
-#[derive(Drop)]
+///
+/// Their drop puts the Runnables in the hands of the worker into the queue for what comes from outside, and has another worker look once more. A Runnable for which that queue has no memory is dropped, which cancels its task.
 pub struct Turns<'x, R: Wait + Drop + Copy, F: Yields, A: Wake, B: Allocator = Global> {
-    pool: &'x Pool<R, F, A, B>,
+    pub(crate) pool: &'x Pool<R, F, A, B>,
     pub(crate) worker: Worker<Queued<R, F, A>, B>,
+}
+
+impl<'x, R: Wait + Drop + Copy, F: Yields, A: Wake, B: Allocator> Drop for Turns<'x, R, F, A, B> {
+    fn drop(self) {
+        let Turns { pool, mut worker } = self;
+        pool.crew.leave(&pool.rt, &mut worker);
+        drop(worker);
+        // A shutdown may have passed that queue already.
+        if pool.is_shut_down() {
+            pool.cancel_queue(pool.workers());
+        }
+    }
 }
 
 /// Why `Turns::block_on` has no output.
@@ -70,6 +85,16 @@ impl<'x, R: Wait + Drop + Copy, F: Yields, A: Wake, B: Allocator + Copy> Turns<'
         (self.pool, self.worker.number())
     }
 
+    /// The bell of this worker: a group that is given it by `listen` has the worker look once more as a member ends. `None` says that the bells have as many owners as can be counted.
+    pub fn bell(&self) -> Option<WorkerBell>
+        ensures bells { IfSome result (λ bell. arc_value bell.bells ≡ arc_value self.now.pool.now.crew.bells) }
+        ensures worker { IfSome result (λ bell. bell.worker ≡ self.now.worker.number) }
+    {
+        let bells = Arc::try_clone(self.pool.bells()).ok()?;
+        let worker = self.worker.number();
+        Some(WorkerBell { bells, worker })
+    }
+
     /// The next Runnable for this worker: its own, one that came from outside, or one of another worker. `None` where there is none, or only such as this worker leaves to another one that is about to run them. Run it; its drop cancels its task.
     pub fn next(&mut self) -> Option<PoolRunnable<'x, R, F, A, B>>
         ensures place { IfSome result (λ runnable. runnable.around.1 ≡ self.old.worker.number) }
@@ -94,14 +119,14 @@ impl<'x, R: Wait + Drop + Copy, F: Yields, A: Wake, B: Allocator + Copy> Turns<'
     }
 
     /// Searches for a while, if no other worker does, and then sleeps, if no queue shows a Runnable, the pool was not shut down, and the bells counted no interruption since `interruptions`. It may also return for no reason. `take_turn` calls it where it is due.
-    pub fn rest(&self, interruptions: u64) {
+    pub fn rest(&mut self, interruptions: u64) {
         // A caller who counted the interruptions after the shutdown would sleep for ever.
         if self.pool.is_shut_down() {
             return;
         }
         self.pool
             .crew
-            .rest(&self.pool.rt, &self.worker, interruptions);
+            .rest(&self.pool.rt, &mut self.worker, interruptions);
     }
 
     /// A turn but for the run of what it takes: frees what keys left, wakes one task whose number was posted, and takes the next Runnable. Where there is neither it searches and then sleeps, as `rest` says, if the bells counted no interruption since `interruptions`: so ask for them before the last look at what the loop waits for. Run what it answers.
@@ -153,7 +178,7 @@ impl<'x, R: Wait + Drop + Copy, F: Yields, A: Wake, B: Allocator + Copy> Turns<'
 
     // Drops the Runnables that this worker has in its hands, and those that it finds. A worker does it as it ends, since it may have moved Runnables
     // past the shutdown.
-    fn cancel_found(&mut self) {
+    pub(crate) fn cancel_found(&mut self) {
         let pool = self.pool;
         for _ in pool.rt.forever() {
             match self.next() {

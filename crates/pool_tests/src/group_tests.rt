@@ -1,18 +1,21 @@
-//! Groups of tasks of a pool, each of which awaits a task of its own: one type of awaiter serves these, the group, and `block_on`.
+//! Groups of tasks of a pool, some of which await a task of their own: one type of awaiter serves these, the group, and `block_on`.
 use crate::awaiting_tests::{Counts, Errand, Link, LinkPool, spawn_link};
-use executor::{BellAwaiter, Place, ToPool, wake_posted};
+use executor::{NextMemberError, PoolGroup, wake_posted};
 use std::alloc::AllocError;
 use std::sync::{Arc, Wait};
 use std::test::Fail;
 use std::thread;
-use task_group::TaskGroup;
+use task_group::{Ended, TaskGroup};
 
 // The most turns that anything takes.
 const TURNS: usize = 1000;
 
-type LinkPlace<'x, R> = Place<'x, R, Link<R>, BellAwaiter<R>>;
+// How many groups a worker waits for, one after the other.
+const GROUPS: u64 = 200;
 
-type LinkGroup<'x, R> = TaskGroup<R, Link<R>, ToPool, (), BellAwaiter<R>, LinkPlace<'x, R>>;
+type LinkGroup<'x, R> = PoolGroup<'x, R, Link<R>>;
+
+type NextMember<R> = Result<Option<Ended<Link<R>>>, NextMemberError>;
 
 // What came out of a group: how many members, and the sum of their outputs.
 type CameOut = (u64, u64);
@@ -89,5 +92,81 @@ fn a_thread_waits_for_a_group_and_then_for_a_task(rt: HostRuntime) -> Result<(),
         },
     );
     assert!(rt; ran && came_out == (3, 6) && answer == Ok(2));
+    Ok(())
+}
+
+// A group of one link, which does this errand at the queue of a worker.
+fn new_lone<'x, R: Wait + Drop + Copy>(
+    pool: &'x LinkPool<R>,
+    worker: usize,
+    errand: Errand,
+    counts: &Arc<Counts>,
+) -> Result<LinkGroup<'x, R>, AllocError> {
+    let mut group: LinkGroup<'x, R> = TaskGroup::new(pool.rt(), pool.alloc(), 1)?;
+    let task = spawn_link(pool, worker, 0, errand, counts)?;
+    group.push(task).ok().ok_or(AllocError)?;
+    Ok(group)
+}
+
+// The output of a member, 0 where none came out.
+fn output_of<R: Wait + Drop + Copy>(next: NextMember<R>) -> u64 {
+    match next {
+        Ok(Some(ended)) => ended.answer.unwrap_or(0),
+        _ => 0,
+    }
+}
+
+// The only thread waits for each member of a group, and runs its tasks meanwhile.
+#[test]
+fn a_worker_waits_for_members_that_it_runs(rt: HostRuntime) -> Result<(), Fail> {
+    let counts = Counts::new(rt.alloc())?;
+    let pool = LinkPool::new(rt, rt.alloc(), 1)?;
+    let mut group = new_group(&pool, &counts)?;
+    let mut turns = pool.turns(0)?;
+    let mut sum = 0u64;
+    for _ in 0..3 {
+        sum = sum.wrapping_add(output_of(turns.next_member(&mut group)));
+    }
+    let is_over = matches!(turns.next_member(&mut group), Ok(None));
+    assert!(rt; sum == 6 && is_over);
+    Ok(())
+}
+
+// A worker that waits sleeps while another one runs the member, and is woken by its end.
+#[test]
+fn a_member_that_ends_elsewhere_wakes_the_worker_that_waits(rt: HostRuntime) -> Result<(), Fail> {
+    let counts = Counts::new(rt.alloc())?;
+    let pool = LinkPool::new(rt, rt.alloc(), 2)?;
+    let mut turns = pool.turns(0)?;
+    let (ran, sum) = thread::join(
+        &rt,
+        || pool.run(1).is_ok(),
+        || {
+            let mut sum = 0u64;
+            for _ in 0..GROUPS {
+                let Ok(mut group) = new_lone(&pool, 1, Errand::GiveWay(2), &counts) else {
+                    break;
+                };
+                sum = sum.wrapping_add(output_of(turns.next_member(&mut group)));
+            }
+            pool.shutdown();
+            sum
+        },
+    );
+    assert!(rt; ran && sum == GROUPS);
+    Ok(())
+}
+
+// A shutdown ends the wait for a member that nothing will wake; it stays in the group.
+#[test]
+fn a_wait_for_a_member_ends_with_the_pool(rt: HostRuntime) -> Result<(), Fail> {
+    let counts = Counts::new(rt.alloc())?;
+    let pool = LinkPool::new(rt, rt.alloc(), 1)?;
+    let mut group = new_lone(&pool, 0, Errand::Stay, &counts)?;
+    let mut turns = pool.turns(0)?;
+    let ran = turns.tick();
+    pool.shutdown();
+    let next = turns.next_member(&mut group);
+    assert!(rt; ran && matches!(next, Err(NextMemberError::ShutDown)) && group.len() == 1);
     Ok(())
 }

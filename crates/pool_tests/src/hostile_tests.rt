@@ -143,7 +143,7 @@ fn a_key_of_another_pool_keeps_no_task(rt: HostRuntime) -> Result<(), Fail> {
 #[test]
 fn a_rest_after_the_shutdown_returns(rt: HostRuntime) -> Result<(), Fail> {
     let pool = GuestPool::new(rt, rt.alloc(), 1)?;
-    let turns = pool.turns(0)?;
+    let mut turns = pool.turns(0)?;
     pool.shutdown();
     let interruptions = pool.bells().interruptions();
     turns.rest(interruptions);

@@ -150,7 +150,7 @@ fn what_a_worker_leaves_is_found(rt: HostRuntime) -> Result<(), Fail> {
     let crew = Crew::new(rt.alloc(), rt.alloc(), 2, ROOM)?;
     let mut thief = crew.worker(rt.alloc(), 1)?;
     let pushed = crew.push(&rt, 0, 5u64).is_ok();
-    crew.rest(&rt, &thief, crew.bells().interruptions());
+    crew.rest(&rt, &mut thief, crew.bells().interruptions());
     let found = crew.find(&rt, &mut thief);
     let nothing = crew.find(&rt, &mut thief);
     assert!(rt; pushed && found == Some(5) && nothing.is_none());
@@ -165,7 +165,7 @@ fn a_worker_of_another_crew_finds_what_is_there(rt: HostRuntime) -> Result<(), F
     let mut thief = crew.worker(rt.alloc(), 1)?;
     let pushed = other.push(&rt, 0, 5u64).is_ok();
     let found = other.find(&rt, &mut thief);
-    other.rest(&rt, &thief, other.bells().interruptions());
+    other.rest(&rt, &mut thief, other.bells().interruptions());
     assert!(rt; pushed && found == Some(5));
     Ok(())
 }

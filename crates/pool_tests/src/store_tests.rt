@@ -24,6 +24,21 @@ fn a_dropped_key_gives_its_place_back(rt: HostRuntime) -> Result<(), Fail> {
     Ok(())
 }
 
+// A place that was empty is free after the same call.
+#[test]
+fn a_collect_goes_on_to_a_place_with_a_handle(rt: HostRuntime) -> Result<(), Fail> {
+    let store = Store::new(rt.alloc())?;
+    let (Some(empty), Some(full)) = (store.reserve(rt, 0), store.reserve(rt, 0)) else {
+        panic!(rt; "there was no memory")
+    };
+    let before = store.put(&rt, &full, 7u8);
+    drop(empty);
+    drop(full);
+    let collected = (store.collect(&rt), store.collect(&rt));
+    assert_eq!(rt; (before, collected, store.len(&rt)), (Ok(None), (Some(7), None), 0));
+    Ok(())
+}
+
 #[test]
 fn a_key_of_another_store_is_refused(rt: HostRuntime) -> Result<(), Fail> {
     let store = Store::new(rt.alloc())?;
@@ -76,10 +91,9 @@ fn walk_places<R: Wait + Drop + Copy>(rt: R, store: &Store<usize>) -> (usize, us
     let mut taken = (0usize, 0usize);
     for _ in rt.forever() {
         match store.take_next(&rt, &mut walk) {
-            Some(Some(worker)) => {
+            Some(worker) => {
                 taken = (taken.0.saturating_add(1), taken.1.saturating_add(worker));
             }
-            Some(None) => {}
             None => return taken,
         }
     }

@@ -61,7 +61,7 @@ where
     Q: Schedule<Runnable<R, F, Q, M, A, X, B>>,
 {
     rt: R,
-    mailbox: Arc<Mailbox<R>>,
+    mailbox: Arc<Mailbox<R, A::Listener>>,
     members: Slab<Member<R, F, Q, M, A, X, B>>,
 }
 
@@ -151,7 +151,7 @@ where
 
     /// Waits for the next member that ends, and takes it out of the group. `None` where the group is empty.
     ///
-    /// Members come out in the order in which their tasks ended. An `Err` says that the poll of a member was refused its awaiter:
+    /// Members come out in the order in which their tasks ended, but for a number that an earlier member had: its late wake may give the new one an earlier place. An `Err` says that the poll of a member was refused its awaiter:
     /// the group is as it was, and a later call polls that member again.
     pub fn next(&mut self) -> Result<Option<Ended<F>>, AwaiterRefused>
         ensures over { is_over result ≡ true → slab_len self.old.members ≡ 0 }
@@ -178,6 +178,11 @@ where
         unreachable!()
     }
 
+    /// Has the next end of a member tell this listener, in place of the one before. Call it before a `try_next` after which you may sleep elsewhere.
+    pub fn listen(&self, listener: A::Listener) {
+        self.mailbox.listen(listener);
+    }
+
     /// Takes the next member that has ended out of the group, and never sleeps. `None` where none has ended yet, and where the group is empty.
     ///
     /// It looks at what had ended as it was called, in the order of `next`, so a later call may have what this one has not. An `Err` is as that of `next`.
@@ -185,6 +190,7 @@ where
         ensures empty { slab_len self.old.members ≡ 0 → is_over result ≡ true }
         ensures leaves { IfNext result (λ ended. Leaves self.old.members self.new.members ended.number) }
         ensures stays { came_out result ≡ false → SameMembers self.old.members self.new.members }
+        ensures len { came_out result ≡ false → slab_len self.new.members ≡ slab_len self.old.members }
         ensures room { self.new.members.capacity ≡ self.old.members.capacity }
     {
         if self.members.is_empty() {

@@ -86,7 +86,7 @@ impl Bells {
         self.interruptions.load(Ordering::SeqCst)
     }
 
-    /// What this worker's bell shows. It is asked for before the look that decides on a sleep.
+    /// What this worker's bell shows. It is asked for before the looks that decide on a sleep.
     pub fn shows(&self, worker: usize) -> u32 {
         match self.bells.get(worker) {
             Some(bell) => (bell.load(Ordering::SeqCst) % (1 << 32)) as u32,
@@ -94,22 +94,22 @@ impl Bells {
         }
     }
 
-    /// From here on an interruption rings this worker's bell.
-    pub fn rests(&self, worker: usize) {
+    // From here on an interruption rings this worker's bell.
+    pub(crate) fn rests(&self, worker: usize) {
         if let Some(resting) = self.resting.get(worker) {
             resting.store(1, Ordering::SeqCst);
         }
     }
 
-    /// An interruption rings another worker's bell again.
-    pub fn works(&self, worker: usize) {
+    // An interruption rings another worker's bell again.
+    pub(crate) fn works(&self, worker: usize) {
         if let Some(resting) = self.resting.get(worker) {
             resting.store(0, Ordering::SeqCst);
         }
     }
 
-    /// Sleeps until the worker's bell rings, if it still shows `shown`. It may also return for no reason.
-    pub fn sleep<R: Wait>(&self, rt: &R, worker: usize, shown: u32) {
+    // Sleeps until the worker's bell rings, if it still shows `shown`. It may also return for no reason.
+    pub(crate) fn sleep<R: Wait>(&self, rt: &R, worker: usize, shown: u32) {
         if let Some(bell) = self.bells.get(worker) {
             bell.park(rt, shown);
         }

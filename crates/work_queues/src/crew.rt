@@ -18,6 +18,9 @@ const BATCH: usize = 256;
 /// A worker looks at the queue for what comes from outside first, once in so many looks.
 const OUTSIDE_FIRST: u64 = 61;
 
+/// A worker looks at the queue of the next other worker first, once in so many looks. The thread of that one may be in a long poll, or gone.
+const OTHERS_FIRST: u64 = 16 * OUTSIDE_FIRST;
+
 /// How often a worker that found nothing looks again before it lies down. How long that takes depends on the processor, as its `spin_loop` does: from 70 microseconds to 1 millisecond.
 const LOOKS: usize = 2048;
 
@@ -189,14 +192,28 @@ impl<T, A: Allocator> Crew<T, A> {
         false
     }
 
-    /// The next item for this worker: what a batch left in its hands, then that at the front of its queue, then half of what came from outside or of another worker's queue. Once in 61 looks what came from outside is first. `None` also where another worker's queue shows items that this one leaves to it.
+    // What a worker that always has items of its own would never come to: half of the next other worker's queue, if it is the turn of that, or what came from outside.
+    fn find_overdue<R: Wait>(&self, rt: &R, worker: &mut Worker<T, A>) -> Option<T> {
+        let workers = self.board.workers();
+        if worker.looks % OTHERS_FIRST == 0 {
+            let from = (worker.looks / OTHERS_FIRST) as usize % workers;
+            if from != worker.number && !self.board.is_empty(from) {
+                if let Some(item) = self.steal(rt, worker, from) {
+                    return Some(item);
+                }
+            }
+        }
+        self.pop(rt, workers)
+    }
+
+    /// The next item for this worker: what a batch left in its hands, then that at the front of its queue, then half of what came from outside or of another worker's queue. Once in 61 looks what came from outside is first, and once in 976 looks the queue of another worker, of each in turn. `None` also where another worker's queue shows items that this one leaves to it.
     pub fn find<R: Wait>(&self, rt: &R, worker: &mut Worker<T, A>) -> Option<T> {
         if let Some(item) = worker.batch.pop_front() {
             return Some(item);
         }
         worker.looks = worker.looks.wrapping_add(1);
         if worker.looks % OUTSIDE_FIRST == 0 {
-            if let Some(item) = self.pop(rt, self.board.workers()) {
+            if let Some(item) = self.find_overdue(rt, worker) {
                 return Some(item);
             }
         }
@@ -206,20 +223,27 @@ impl<T, A: Allocator> Crew<T, A> {
         self.find_elsewhere(rt, worker)
     }
 
+    /// Ends the turns of this worker: what it has in its hands goes to the back of the queue for what comes from outside, as far as that has room, and another worker looks once more, since a wake may have gone to this one. Drop the worker then, and what it still has.
+    pub fn leave<R: Wait>(&self, rt: &R, worker: &mut Worker<T, A>) {
+        if !worker.batch.is_empty() {
+            let woken = self
+                .board
+                .put_all(rt, self.board.workers(), &mut worker.batch);
+            self.arrivals.fetch_add(1, Ordering::SeqCst);
+            self.ring(woken);
+        }
+        self.bells.interrupt();
+    }
+
     /// Searches for a while, and then sleeps, if no queue has an item and there was no interruption since `interruptions` were counted. It may also return for no reason.
-    pub fn rest<R: Wait>(&self, rt: &R, worker: &Worker<T, A>, interruptions: u64) {
+    pub fn rest<R: Wait>(&self, rt: &R, worker: &mut Worker<T, A>, interruptions: u64) {
         let number = worker.number;
         if number >= self.board.workers() || self.search(number, interruptions) {
             return;
         }
         let mut sleeper = self.board.lie_down(number);
         if !self.board.has_items(&mut sleeper) {
-            self.bells.rests(number);
-            let shown = self.bells.shows(number);
-            if self.board.may_sleep(&sleeper) && self.bells.interruptions() == interruptions {
-                self.bells.sleep(rt, number, shown);
-            }
-            self.bells.works(number);
+            self.board.sleep(rt, &sleeper, &self.bells, interruptions);
         }
         self.board.get_up(sleeper);
     }

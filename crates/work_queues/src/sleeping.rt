@@ -1,10 +1,12 @@
-//! The sleep of a worker: it lies down, looks at each queue, may sleep, and gets up.
+//! The sleep of a worker: it lies down, looks at each queue, sleeps, and gets up.
 ghost use Rattle.std.specs.Prelude.{◌≡◌, ◌+◌, ◌<◌, false};
 ghost use Rattle.work_queues.specs.Sleep.{IsAsleep};
 
+use crate::bells::Bells;
 use crate::board::{ASLEEP, AWAKE, Board, FILLED, Visit, leave};
 use crate::rule::{LieDown, LookAtQueue, Rouse};
 use std::alloc::{Allocator, Global};
+use std::sync::Wait;
 
 /// A worker that has lain down. It has no `Drop`, so it ends in `Board::get_up`.
 pub struct Sleeper<T, A: Allocator = Global> {
@@ -13,7 +15,7 @@ pub struct Sleeper<T, A: Allocator = Global> {
 }
 
 impl<T, A: Allocator> Board<T, A> {
-    /// The worker counts as asleep from here on, and owes a look at each queue before it may sleep: `has_items`.
+    /// The worker counts as asleep from here on, and owes a look at each queue before it sleeps: `has_items`.
     pub fn lie_down(&self, worker: usize) -> Sleeper<T, A>
         requires { worker < self.now.workers }
         ensures { IsAsleep self.now result × (result.visit.seat.me.0 ≡ self.now.workers + 1) }
@@ -46,11 +48,20 @@ impl<T, A: Allocator> Board<T, A> {
         false
     }
 
-    /// Whether nobody has woken the worker since it lay down. Only a worker that owes no look may ask, and then sleep.
-    pub fn may_sleep(&self, sleeper: &Sleeper<T, A>) -> bool
+    /// Sleeps until the bell of the worker rings, unless somebody has woken it since it lay down, or the bells counted an interruption since
+    /// `interruptions`. Only a worker that owes no look may call it. It may also return for no reason.
+    pub fn sleep<R: Wait>(&self, rt: &R, sleeper: &Sleeper<T, A>, bells: &Bells, interruptions: u64)
         requires { IsAsleep self.now sleeper.now × (sleeper.now.visit.seat.me.0 ≡ 0) }
     {
-        self.table.shared.peek(self.workers + 1 + sleeper.worker) == ASLEEP
+        let worker = sleeper.worker;
+        bells.rests(worker);
+        // A ring after the two looks changes what the bell shows.
+        let shown = bells.shows(worker);
+        let is_asleep = self.table.shared.peek(self.workers + 1 + worker) == ASLEEP;
+        if is_asleep && bells.interruptions() == interruptions {
+            bells.sleep(rt, worker, shown);
+        }
+        bells.works(worker);
     }
 
     /// Ends the sleep: the worker is awake.

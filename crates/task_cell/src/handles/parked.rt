@@ -53,7 +53,7 @@ impl<R: Wait + Drop, F: Yields, Q: Drop, M: Drop, A: Wake, B: Allocator> ParkedW
     A,
     B,
 > {
-    /// The waker again, with these surroundings. It makes no step.
+    /// The waker again, with these surroundings. It makes no step. With `()` a wake by it cancels the task where the schedule value drops Runnables without an executor.
     pub fn unpark<X: Copy>(self, around: X) -> TaskWaker<R, F, Q, M, A, X, B>
     where
         Q: Schedule<Runnable<R, F, Q, M, A, X, B>>,

@@ -1,5 +1,5 @@
 use Rattle.std.proofs.Common.{◌∙◌, ap, drop, arith, rules}
-use Rattle.executor.proofs.Counted.{drop-one}
+use Rattle.executor.proofs.Counted.{appends-more, drop-one}
 use Rattle.executor.proofs.pool.Pool.spawn_many.Goals as goal
 
 pub loop-preserved : goal.loop-preserved
@@ -10,5 +10,6 @@ loop-preserved g c =
     record {
       many = omega (arith, spawned.1, many);
       left = spawned.0 ∙ (ap (drop 1) c.loop.invariant.left ∙ drop-one c.loop.counter _);
+      added = appends-more c.loop.invariant.added (c.spawn_first.ensures.added (search rules));
       room = omega (arith, spawned.2, room);
     }
