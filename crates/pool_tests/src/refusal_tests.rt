@@ -1,4 +1,4 @@
-//! Tests of queues that are refused memory: what the items stand in is of a small heap, which is filled. And which queue a worker looks at first.
+//! Tests of pools whose queues are refused memory: what the Runnables stand in is of a small heap, which is filled.
 ghost use Rattle.std.specs.Prelude.{⊤};
 
 use crate::guest::{Guests, shares_and_polls};
@@ -10,28 +10,15 @@ use std::alloc::{AllocError, Global};
 use std::sync::atomic::Ordering;
 use std::sync::{Arc, Wait};
 use std::test::Fail;
-use work_queues::{Bells, Board, Crew, Worker};
-
-/// Room for two queues, and for what a worker has in its hands.
-const HEAP: usize = 4096;
 
 /// Room for the queues of a pool of one worker, and for what that has in its hands.
 const POOL_HEAP: usize = 32_768;
 
-/// How many items each queue has room for.
-const ROOM: usize = 2;
+/// The most blocks that a heap of twice that room hands out.
+const BLOCKS: usize = 4096;
 
 /// How many tasks are spawned: one more than a queue of a pool has room for.
 const TASKS: usize = 65;
-
-/// The least that a heap hands out: room for the items of one queue.
-const BLOCK: usize = 16;
-
-type HeapBoard<'heap> = Board<u64, &'heap LocalHeap>;
-
-type HeapCrew<'heap> = Crew<u64, &'heap LocalHeap>;
-
-type HeapWorker<'heap> = Worker<u64, &'heap LocalHeap>;
 
 // What fills a heap.
 type Filling<'heap> = Vec<Vec<u8, &'heap LocalHeap>>;
@@ -39,178 +26,13 @@ type Filling<'heap> = Vec<Vec<u8, &'heap LocalHeap>>;
 // Takes what is left of a heap: whatever is asked of it afterwards is refused.
 fn fill(alloc: Global, heap: &LocalHeap) -> Result<Filling<'_>, AllocError> {
     let mut filling = Vec::new(alloc);
-    for _ in 0..HEAP {
+    for _ in 0..BLOCKS {
         let Ok(block) = Vec::with_capacity(heap, 1) else {
             break;
         };
         filling.push(block)?;
     }
     Ok(filling)
-}
-
-// Pushes 1 and 2 at the queue of the one worker: whether both were taken.
-fn push_two<R: Wait>(rt: &R, crew: &HeapCrew<'_>) -> bool {
-    crew.push(rt, 0, 1).is_ok() && crew.push(rt, 0, 2).is_ok()
-}
-
-// Takes the items of the queue of the one worker.
-fn pop_four<R: Wait>(rt: &R, crew: &HeapCrew<'_>) -> [Option<u64>; 4] {
-    [
-        crew.pop(rt, 0),
-        crew.pop(rt, 0),
-        crew.pop(rt, 0),
-        crew.pop(rt, 0),
-    ]
-}
-
-// The queue has room for two items. Each time the third is the one that is refused.
-#[test]
-fn a_refused_push_hands_the_item_back(rt: HostRuntime) -> Result<(), Fail> {
-    let heap = LocalHeap::new(rt.alloc(), HEAP)?;
-    let crew = HeapCrew::new(rt.alloc(), &heap, 1, ROOM)?;
-    let two = push_two(&rt, &crew);
-    let filling = fill(rt.alloc(), &heap)?;
-    let refused = crew.push(&rt, 0, 3);
-    let left = pop_four(&rt, &crew);
-    let two_again = push_two(&rt, &crew);
-    let refused_again = crew.push(&rt, 0, 4);
-    drop(filling);
-    let granted = crew.push(&rt, 0, 5);
-    let all = pop_four(&rt, &crew);
-    drop(crew);
-    assert!(rt; two && refused == Err(3) && left == [Some(1), Some(2), None, None]);
-    assert!(rt; two_again && refused_again == Err(4));
-    assert!(rt; granted == Ok(()) && all == [Some(1), Some(2), Some(5), None]);
-    assert!(rt; heap.used() == 0);
-    Ok(())
-}
-
-// Pushes an item at the queue for what comes from outside, and rings the bell of the worker that is to be woken.
-fn push_and_ring<R: Wait>(
-    rt: &R,
-    board: &HeapBoard<'_>,
-    bells: &Bells,
-    item: u64,
-) -> Result<(), u64> {
-    let (pushed, woken) = board.push(rt, board.workers(), item);
-    if let Some(woken) = woken {
-        woken.ring(bells);
-    }
-    pushed
-}
-
-// The worker counts as asleep beside a full queue, so the push makes it awake, though the queue is refused memory.
-#[test]
-fn a_refused_push_wakes_a_worker(rt: HostRuntime) -> Result<(), Fail> {
-    let heap = LocalHeap::new(rt.alloc(), HEAP)?;
-    let bells = Bells::new(rt.alloc(), 1)?;
-    let board = HeapBoard::new(rt.alloc(), &heap, 1, ROOM)?;
-    let first = push_and_ring(&rt, &board, &bells, 1);
-    let second = push_and_ring(&rt, &board, &bells, 2);
-    let filling = fill(rt.alloc(), &heap)?;
-    let before = bells.shows(0);
-    let sleeper = board.lie_down(0);
-    let third = push_and_ring(&rt, &board, &bells, 3);
-    board.get_up(sleeper);
-    drop(filling);
-    assert!(rt; first == Ok(()) && second == Ok(()) && third == Err(3));
-    assert!(rt; before == 0 && bells.shows(0) == 1);
-    Ok(())
-}
-
-// Pushes 1 to 10 at the queue for what comes from outside: whether all were taken.
-fn push_ten<R: Wait>(rt: &R, crew: &HeapCrew<'_>) -> bool {
-    let mut taken = true;
-    for item in 1..11u64 {
-        taken = crew.push(rt, crew.workers(), item).is_ok() && taken;
-    }
-    taken
-}
-
-// What a worker finds in eleven looks. 0 stands for nothing.
-fn find_eleven<'heap, R: Wait>(
-    rt: &R,
-    crew: &HeapCrew<'heap>,
-    worker: &mut HeapWorker<'heap>,
-) -> [u64; 11] {
-    let mut found = [0; 11];
-    for place in &mut found {
-        *place = crew.find(rt, worker).unwrap_or(0);
-    }
-    found
-}
-
-// The first batch is 1 to 5: it runs 1, its queue has room for 2 and 3, and 4 and 5 stay in its hands. The second is 6 to 8.
-#[test]
-fn a_thief_that_is_refused_memory_loses_nothing(rt: HostRuntime) -> Result<(), Fail> {
-    let heap = LocalHeap::new(rt.alloc(), HEAP)?;
-    let crew = HeapCrew::new(rt.alloc(), &heap, 1, ROOM)?;
-    let mut worker = crew.worker(&heap, 0)?;
-    let taken = push_ten(&rt, &crew);
-    let filling = fill(rt.alloc(), &heap)?;
-    let found = find_eleven(&rt, &crew, &mut worker);
-    drop(filling);
-    drop(worker);
-    drop(crew);
-    assert!(rt; taken && found == [1, 4, 5, 2, 3, 6, 7, 8, 9, 10, 0]);
-    assert!(rt; heap.used() == 0);
-    Ok(())
-}
-
-// Whether a crew of one worker is refused its queues by this heap.
-fn refuses_a_crew(alloc: Global, heap: &LocalHeap) -> bool {
-    HeapCrew::new(alloc, heap, 1, ROOM).is_err()
-}
-
-// Of the heap of one block the first of two queues takes it, and the second is refused.
-#[test]
-fn a_crew_without_memory_is_refused(rt: HostRuntime) -> Result<(), Fail> {
-    let heap = LocalHeap::new(rt.alloc(), HEAP)?;
-    let crew = HeapCrew::new(rt.alloc(), &heap, 1, ROOM)?;
-    let filling = fill(rt.alloc(), &heap)?;
-    let full = heap.used();
-    let refused = refuses_a_crew(rt.alloc(), &heap) && crew.worker(&heap, 0).is_err();
-    let left = heap.used();
-    drop(filling);
-    drop(crew);
-    let one_block = LocalHeap::new(rt.alloc(), BLOCK)?;
-    let half_refused = refuses_a_crew(rt.alloc(), &one_block);
-    let two_blocks = LocalHeap::new(rt.alloc(), 2 * BLOCK)?;
-    let granted = !refuses_a_crew(rt.alloc(), &two_blocks);
-    assert!(rt; refused && left == full && heap.used() == 0);
-    assert!(rt; half_refused && one_block.used() == 0);
-    assert!(rt; granted && two_blocks.used() == 0);
-    Ok(())
-}
-
-// At which of so many looks a worker finds an item from outside, which is a 0.
-fn looks_outside<R: Wait>(
-    rt: &R,
-    alloc: Global,
-    crew: &Crew<u64>,
-    looks: u64,
-) -> Result<Vec<u64>, AllocError> {
-    let mut worker = crew.worker(alloc, 0)?;
-    let mut found = Vec::new(alloc);
-    for look in 0..looks {
-        if crew.find(rt, &mut worker) == Some(0) {
-            found.push(look + 1)?;
-        }
-    }
-    Ok(found)
-}
-
-// The worker always has items of its own, and two wait outside.
-#[test]
-fn each_61st_look_is_first_for_what_came_from_outside(rt: HostRuntime) -> Result<(), Fail> {
-    let crew = Crew::new(rt.alloc(), rt.alloc(), 1, ROOM)?;
-    let mut taken = crew.push(&rt, 1, 0).is_ok() && crew.push(&rt, 1, 0).is_ok();
-    for own in 1..201u64 {
-        taken = crew.push(&rt, 0, own).is_ok() && taken;
-    }
-    let found = looks_outside(&rt, rt.alloc(), &crew, 150)?;
-    assert!(rt; taken && found.as_slice() == [61, 122].as_slice());
-    Ok(())
 }
 
 /// A future that answers 1 at its first poll, whatever it is lent.

@@ -1,7 +1,7 @@
 //! The queues of a pool of workers, and their sleep: what a pool keeps of its items, whatever they are.
 //! It stands on the kit's `atomic_table`, whose rule says when a worker may sleep.
 //! A user of a pool calls only `interrupt` and `interruptions` of its `Bells`. A pool calls `Crew`, `Worker` and `Bells`.
-//! `Board`, `Search`, `Sleeper`, `Woken`, `shift` and the structs of `rule` are public to carry the claims. The tests of `pool_tests` call `Board` as well:
+//! `Board`, `Search`, `Sleeper`, `Woken`, `shift` and the structs of `rule` are public to carry the claims. The tests of `queue_tests` call `Board` as well:
 //! `push`, `pop`, the two calls of a search, `has_some_for`, `lie_down` and `get_up`.
 //! The page is docs/EXECUTOR_POOL.md.
 #![tactic(auto)]
