@@ -26,10 +26,12 @@ pub struct Turns<'x, R: Wait + Drop + Copy, F: Yields, A: Wake, B: Allocator = G
 impl<'x, R: Wait + Drop + Copy, F: Yields, A: Wake, B: Allocator> Drop for Turns<'x, R, F, A, B> {
     fn drop(self) {
         let Turns { pool, mut worker } = self;
+        let number = worker.number();
         pool.crew.leave(&pool.rt, &mut worker);
         drop(worker);
-        // A shutdown may have passed that queue already.
+        // A shutdown may have passed both queues before this worker moved Runnables there.
         if pool.is_shut_down() {
+            pool.cancel_queue(number);
             pool.cancel_queue(pool.workers());
         }
     }
