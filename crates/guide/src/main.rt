@@ -22,8 +22,7 @@ type Waker<R, X> = TaskWaker<R, Delay, ToQueue, (), Awaiter<R>, X>;
 struct State<R: Wait + Drop + Copy> {
     queue: VecDeque<Work<R, ()>>,
     kept: Vec<Waker<R, ()>>,
-    time: u64,
-    stopped: bool,
+    time: Option<u64>, // `None` after the shutdown
 }
 
 #[derive(Drop)]
@@ -43,9 +42,8 @@ impl<'x, R: Wait + Drop + Copy> Schedule<Work<R, &'x Executor<R>>> for ToQueue {
     fn schedule(&self, runnable: Work<R, &'x Executor<R>>, _info: ScheduleInfo) {
         let executor = runnable.around();
         let mut state = executor.state.lock(&executor.rt);
-        if state.stopped {
+        if state.time.is_none() {
             drop(state);
-            drop(runnable);
             return;
         }
         let pushed = state.queue.push_back(runnable.with_around(()));
@@ -63,23 +61,20 @@ impl<R: Wait + Drop + Copy> Schedule<Work<R, ()>> for ToQueue {
 
 impl<R: Wait + Drop + Copy> Executor<R> {
     fn new(rt: R, alloc: Global) -> Executor<R> {
-        let state = State {
-            queue: VecDeque::new(alloc),
-            kept: Vec::new(alloc),
-            time: 0,
-            stopped: false,
-        };
         Executor {
             rt,
             alloc,
-            state: Mutex::new(state),
+            state: Mutex::new(State {
+                queue: VecDeque::new(alloc),
+                kept: Vec::new(alloc),
+                time: Some(0),
+            }),
             changed: Condvar::new(),
         }
     }
 
-    fn spawn(&self, until: u64, answer: u64) -> Result<Job<R, &Executor<R>>, AllocError> {
-        let future = Delay { until, answer };
-        let spawned = spawn(self.rt, self.alloc, future, ToQueue, self);
+    fn spawn(&self, until: u64) -> Result<Job<R, &Executor<R>>, AllocError> {
+        let spawned = spawn(self.rt, self.alloc, Delay(until), ToQueue, self);
         let (runnable, task) = spawned.ok().ok_or(AllocError)?;
         runnable.schedule();
         Ok(task)
@@ -87,70 +82,49 @@ impl<R: Wait + Drop + Copy> Executor<R> {
 
     // Runs what is in the queue, and sleeps where it is empty, until the shutdown.
     fn run(&self) {
-        let mut state = self.state.lock(&self.rt);
         for _ in self.rt.forever() {
-            if state.stopped {
-                return;
-            }
-            state = match state.queue.pop_front() {
-                None => self.changed.wait(&self.rt, state),
-                Some(runnable) => {
-                    drop(state);
-                    runnable.with_around(self).run();
-                    self.state.lock(&self.rt)
-                }
-            };
+            let is_idle = |state: &mut State<R>| state.queue.is_empty() && state.time.is_some();
+            let state = self.state.lock(&self.rt);
+            let mut state = self.changed.wait_while(&self.rt, state, is_idle);
+            let next = state.queue.pop_front();
+            drop(state);
+            let Some(runnable) = next else { return };
+            runnable.with_around(self).run();
         }
     }
 
-    // Sets the time, and wakes the tasks that wait.
-    fn set_time(&self, time: u64) {
-        self.state.lock(&self.rt).time = time;
-        self.wake_kept();
-    }
-
-    // Ends `run`, and cancels the tasks that are queued and those that wait.
-    fn shut_down(&self) {
+    // Sets the time, and wakes the tasks that wait. `None` stays: it ends `run`, and cancels the tasks.
+    fn set_time(&self, time: Option<u64>) {
         let mut state = self.state.lock(&self.rt);
-        state.stopped = true;
-        let queue = mem::replace(&mut state.queue, VecDeque::new(self.alloc));
+        state.time = state.time.and(time);
+        let kept = mem::replace(&mut state.kept, Vec::new(self.alloc));
         drop(state);
-        drop(queue);
         self.changed.notify_all();
-        self.wake_kept();
-    }
-
-    fn wake_kept(&self) {
-        let kept = mem::replace(&mut self.state.lock(&self.rt).kept, Vec::new(self.alloc));
         for waker in kept {
             waker.with_around(self).wake();
         }
     }
 }
 
-// A future that waits for a time, and then answers a number.
 #[derive(Drop)]
-struct Delay {
-    until: u64,
-    answer: u64,
-}
+struct Delay(u64);
 
 impl Yields for Delay {
     type Output = u64;
 }
 
 impl<'x, R: Wait + Drop + Copy> Future<Waker<R, &'x Executor<R>>> for Delay {
-    // A poll that is ready answers the number, and no poll changes it.
-    ghost polled = { λ old _ answer new. IfReady answer (λ number. number ≡ old.answer) × (new.answer ≡ old.answer) };
+    // A poll that is ready answers the time that the future waited for, and no poll changes it.
+    ghost polled = { λ old _ answer new. IfReady answer (λ time. time ≡ old.0) × (new.0 ≡ old.0) };
 
     fn poll(&mut self, waker: &Waker<R, &'x Executor<R>>) -> Poll<u64> {
         let executor = waker.around();
         let mut state = executor.state.lock(&executor.rt);
-        if self.until <= state.time {
-            return Poll::Ready(self.answer);
+        if state.time.is_some_and(|time| self.0 <= time) {
+            return Poll::Ready(self.0);
         }
         let kept = match waker.try_clone() {
-            Some(clone) if !state.stopped => state.kept.push(clone.with_around(())).is_ok(),
+            Some(clone) if state.time.is_some() => state.kept.push(clone.with_around(())).is_ok(),
             _ => false,
         };
         drop(state);
@@ -163,15 +137,13 @@ impl<'x, R: Wait + Drop + Copy> Future<Waker<R, &'x Executor<R>>> for Delay {
 
 fn main(rt: HostRuntime) -> io::Result<()> {
     let executor = &Executor::new(rt, rt.alloc());
-    let mut soon = executor.spawn(1, 10)?;
-    let mut later = executor.spawn(2, 20)?;
-    let mut never = executor.spawn(3, 30)?;
+    let mut soon = executor.spawn(1)?;
+    let mut never = executor.spawn(3)?;
     let ask = move || {
-        executor.set_time(2);
+        executor.set_time(Some(2));
         let soon = block_on(rt, rt.alloc(), &mut soon);
-        let later = block_on(rt, rt.alloc(), &mut later);
-        executor.shut_down();
-        (soon, later, block_on(rt, rt.alloc(), &mut never))
+        executor.set_time(None);
+        (soon, block_on(rt, rt.alloc(), &mut never))
     };
     let (_, answers) = thread::join(&rt, move || executor.run(), ask);
     println!(rt; "{answers:?}")
