@@ -1,11 +1,13 @@
-//! Tasks that are awaited, by an executor of one queue (`line`): a chain and a ring of tasks that await one another, `block_on`, groups, awaiters that
-//! are refused, and the kit's futures.
+//! Tasks that are awaited, by an executor of one queue (`line`): a chain and a ring of tasks that await one another, `block_on`, groups, mailboxes,
+//! awaiters that are refused, and the kit's futures.
 
 mod blocking_tests;
 mod bridge_tests;
 mod chain_tests;
 mod group_tests;
 mod line;
+mod listener_tests;
 mod mailbox_tests;
 mod nobody_tests;
+mod refused_tests;
 mod spawn_tests;

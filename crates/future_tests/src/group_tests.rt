@@ -157,6 +157,32 @@ fn a_member_that_ends_elsewhere_wakes_the_worker_that_waits(rt: HostRuntime) -> 
     Ok(())
 }
 
+// The pool of the worker that waits has no task, so nothing else wakes it.
+#[test]
+fn a_member_of_another_pool_wakes_the_worker_that_waits(rt: HostRuntime) -> Result<(), Fail> {
+    let counts = Counts::new(rt.alloc())?;
+    let pool = LinkPool::new(rt, rt.alloc(), 1)?;
+    let other = LinkPool::new(rt, rt.alloc(), 1)?;
+    let mut turns = pool.turns(0)?;
+    let (ran, sum) = thread::join(
+        &rt,
+        || other.run(0).is_ok(),
+        || {
+            let mut sum = 0u64;
+            for _ in 0..GROUPS {
+                let Ok(mut group) = new_lone(&other, 1, Errand::GiveWay(2), &counts) else {
+                    break;
+                };
+                sum = sum.wrapping_add(output_of(turns.next_member(&mut group)));
+            }
+            other.shutdown();
+            sum
+        },
+    );
+    assert!(rt; ran && sum == GROUPS);
+    Ok(())
+}
+
 // A shutdown ends the wait for a member that nothing will wake; it stays in the group.
 #[test]
 fn a_wait_for_a_member_ends_with_the_pool(rt: HostRuntime) -> Result<(), Fail> {

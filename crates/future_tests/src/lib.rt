@@ -13,6 +13,8 @@ mod cancel_tests;
 #[cfg(test)]
 mod group_tests;
 #[cfg(test)]
+mod kept_tests;
+#[cfg(test)]
 mod kind_tests;
 #[cfg(test)]
 mod mail_tests;

@@ -1,4 +1,4 @@
-//! Groups: the order in which members come out, those that ended before their push, a group that is full, and the ways to let all go.
+//! Groups: the order in which members come out, those that ended before their push, a group that is full, the ways to let all go, and what waits after them.
 use super::line::{Errand, Line, LineGroup, LineTask};
 use async_task::TaskClosed;
 use std::alloc::{AllocError, Global};
@@ -148,6 +148,32 @@ fn an_abort_and_a_drop_cancel_what_a_detach_lets_go_on(rt: HostRuntime) {
             Ok([true, false, false])
         ]
     );
+}
+
+// Looks for a member that has ended.
+fn look_once<R: Wait + Drop + Copy>(group: &mut LineGroup<'_, R>) -> CameOut {
+    let ended = group.try_next().ok()??;
+    Some((ended.number, ended.answer))
+}
+
+// Two members end, the second one first, and are let go. Then a member ends that has the number of the first: what one look finds.
+fn look_after_abort<R: Wait + Drop + Copy>(rt: R, alloc: Global) -> Result<CameOut, AllocError> {
+    let line = Line::new(rt, alloc, 1)?;
+    let mut group: LineGroup<'_, R> = TaskGroup::new(rt, alloc, 2)?;
+    push(&line, &mut group, Errand::GiveWay(30))?;
+    push(&line, &mut group, Errand::Answer(31))?;
+    line.run();
+    group.abort_all();
+    push(&line, &mut group, Errand::Answer(32))?;
+    line.run();
+    Ok(look_once(&mut group))
+}
+
+// The number 1, of no member now, still waits before the number 0.
+#[test]
+fn one_look_passes_over_the_number_of_no_member(rt: HostRuntime) {
+    let seen = look_after_abort(rt, rt.alloc());
+    assert_eq!(rt; seen, Ok(Some((0, Ok(32)))));
 }
 
 // The numbers of two members that are spawned in a group with room for one.

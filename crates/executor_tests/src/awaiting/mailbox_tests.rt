@@ -1,8 +1,16 @@
-//! The mailbox: order, numbers that wait already, and the room.
+//! The mailbox: order, numbers that wait already, the room, and two threads that sleep at it.
 use async_task::Wake;
 use awaiters::{Awaiter, Mailbox};
 use std::alloc::{AllocError, Global};
-use std::sync::Wait;
+use std::sync::atomic::{AtomicU64, Ordering};
+use std::sync::{Arc, Wait};
+use std::thread::{self, Threads};
+
+// How often two threads wait at a mailbox. In some of these rounds both of them sleep as the numbers come.
+const ROUNDS: usize = 300;
+
+// How often the third thread gives way to them before it posts.
+const YIELDS: usize = 1000;
 
 // Posts 2, 0, 2 and 3 to a mailbox with room for three numbers, one by an awaiter: the answers, and what is taken out.
 fn post_and_take<R: Wait + Drop + Copy>(
@@ -34,10 +42,61 @@ fn a_mailbox_keeps_the_order_and_each_number_once(rt: HostRuntime) {
 
 // Whether a mailbox with that room is refused.
 fn is_refused<R: Wait + Drop + Copy>(rt: R, alloc: Global, room: usize) -> bool {
-    Mailbox::new(rt, alloc, room).is_err()
+    let mailbox: Result<Arc<Mailbox<R>>, AllocError> = Mailbox::new(rt, alloc, room);
+    mailbox.is_err()
 }
 
 #[test]
 fn a_mailbox_that_no_memory_can_hold_is_refused(rt: HostRuntime) {
     assert!(rt; is_refused(rt, rt.alloc(), usize::MAX));
+}
+
+// Says that it is about to wait, and waits for a number.
+fn say_and_wait<R: Wait + Drop + Copy>(mailbox: &Mailbox<R>, said: &AtomicU64) -> usize {
+    said.fetch_add(1, Ordering::SeqCst);
+    mailbox.wait()
+}
+
+// Posts two numbers, the second right after the first, once two threads had time to fall asleep.
+fn post_both<R: Wait + Drop + Copy>(rt: R, mailbox: &Mailbox<R>, said: &AtomicU64) -> bool {
+    for _ in rt.forever() {
+        if said.load(Ordering::SeqCst) == 2 {
+            break;
+        }
+        thread::yield_now();
+    }
+    for _ in 0..YIELDS {
+        thread::yield_now();
+    }
+    mailbox.post(0) && mailbox.post(1)
+}
+
+// What two threads get that wait while a third one posts 0 and 1.
+fn wait_in_two<R: Wait + Threads + Drop + Copy + Send + Sync>(
+    rt: R,
+    alloc: Global,
+) -> Result<(usize, usize), AllocError> {
+    let mailbox: Arc<Mailbox<R>> = Mailbox::new(rt, alloc, 2)?;
+    let said = AtomicU64::new(0);
+    let (_, numbers) = thread::join(
+        &rt,
+        || post_both(rt, &mailbox, &said),
+        || thread::join(
+            &rt,
+            || say_and_wait(&mailbox, &said),
+            || say_and_wait(&mailbox, &said),
+        ),
+    );
+    Ok(numbers)
+}
+
+// The second post wakes the second sleeper, also where the first has not taken its number yet.
+#[test]
+fn two_threads_that_sleep_at_a_mailbox_are_both_woken(rt: HostRuntime) {
+    let mut have_both = true;
+    for _ in 0..ROUNDS {
+        let numbers = wait_in_two(rt, rt.alloc());
+        have_both = have_both && matches!(numbers, Ok((0, 1) | (1, 0)));
+    }
+    assert!(rt; have_both);
 }

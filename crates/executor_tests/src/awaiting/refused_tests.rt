@@ -1,0 +1,145 @@
+//! Members of a group whose polls are refused their awaiter.
+ghost use Rattle.std.specs.Prelude.{⊤};
+
+use async_task::{Future, Poll, Runnable, Schedule, ScheduleInfo, Wake, Yields, spawn};
+use awaiters::{Mailbox, Nobody, Posts};
+use std::alloc::{AllocError, Global};
+use std::sync::{Arc, Wait};
+use task_group::{AwaiterRefused, TaskGroup};
+
+// A future that answers its number.
+#[derive(Drop)]
+struct Number(u64);
+
+impl Yields for Number {
+    type Output = u64;
+}
+
+impl<W> Future<W> for Number {
+    ghost polled = { λ _ _ _ _. ⊤ };
+
+    fn poll(&mut self, _waker: &W) -> Poll<u64> {
+        Poll::Ready(self.0)
+    }
+}
+
+// A schedule value that drops each Runnable.
+#[derive(Drop)]
+struct Nowhere;
+
+impl<N: Drop> Schedule<N> for Nowhere {
+    ghost scheduled = { λ _ _ _. ⊤ };
+
+    fn schedule(&self, _runnable: N, _info: ScheduleInfo) {}
+}
+
+// An awaiter that is refused while the mailbox has another one: as if no more owners could be counted.
+#[derive(Drop)]
+struct OnlyAwaiter<R: Wait + Drop + Copy> {
+    mailbox: Arc<Mailbox<R>>,
+    number: usize,
+}
+
+impl<R: Wait + Drop + Copy> Wake for OnlyAwaiter<R> {
+    ghost woken = { λ _. ⊤ };
+
+    ghost woken_by_ref = { λ _. ⊤ };
+
+    ghost cloned = { λ _ _. ⊤ };
+
+    ghost compared = { λ _ _ _. ⊤ };
+
+    fn wake(self) {
+        self.mailbox.post(self.number);
+    }
+
+    fn wake_by_ref(&self) {
+        self.mailbox.post(self.number);
+    }
+
+    fn try_clone(&self) -> Option<OnlyAwaiter<R>> {
+        let mailbox = Arc::try_clone(&self.mailbox).ok()?;
+        let number = self.number;
+        Some(OnlyAwaiter { mailbox, number })
+    }
+
+    fn will_wake(&self, _other: &OnlyAwaiter<R>) -> bool {
+        false
+    }
+}
+
+impl<R: Wait + Drop + Copy> Posts<R> for OnlyAwaiter<R> {
+    type Listener = Nobody;
+
+    ghost posts = { λ _ _ _. ⊤ };
+
+    fn of_mailbox(mailbox: &Arc<Mailbox<R>>, number: usize) -> Option<OnlyAwaiter<R>> {
+        if Arc::strong_count(mailbox) > 1 {
+            return None;
+        }
+        let mailbox = Arc::try_clone(mailbox).ok()?;
+        Some(OnlyAwaiter { mailbox, number })
+    }
+}
+
+type OnlyGroup<R> = TaskGroup<R, Number, Nowhere, (), OnlyAwaiter<R>, ()>;
+
+type OnlyRunnable<R> = Runnable<R, Number, Nowhere, (), OnlyAwaiter<R>, ()>;
+
+// What a look at a group finds: the number and the output of a member, or no member.
+type Found = Result<Option<(usize, u64)>, AwaiterRefused>;
+
+fn look<R: Wait + Drop + Copy>(group: &mut OnlyGroup<R>) -> Found {
+    match group.try_next() {
+        Ok(Some(ended)) => Ok(Some((ended.number, ended.answer.unwrap_or(0)))),
+        Ok(None) => Ok(None),
+        Err(refused) => Err(refused),
+    }
+}
+
+// Pushes a task that answers a number to a group: its Runnable.
+fn push<R: Wait + Drop + Copy>(
+    rt: R,
+    alloc: Global,
+    group: &mut OnlyGroup<R>,
+    answer: u64,
+) -> Result<OnlyRunnable<R>, AllocError> {
+    let spawned = spawn(rt, alloc, Number(answer), Nowhere, ());
+    let (runnable, task) = spawned.ok().ok_or(AllocError)?;
+    group.push(task).ok().ok_or(AllocError)?;
+    Ok(runnable)
+}
+
+// Pushes two tasks, and runs both after a first look, the second one first: how many members there are after that look, and what is found.
+fn look_before_and_after<R: Wait + Drop + Copy>(
+    rt: R,
+    alloc: Global,
+) -> Result<(usize, [Found; 4]), AllocError> {
+    let mut group: OnlyGroup<R> = TaskGroup::new(rt, alloc, 2)?;
+    let first = push(rt, alloc, &mut group, 5)?;
+    let second = push(rt, alloc, &mut group, 6)?;
+    let refused = look(&mut group);
+    let len = group.len();
+    second.run();
+    first.run();
+    let ended = [look(&mut group), look(&mut group), look(&mut group)];
+    Ok((len, [refused, ended[0], ended[1], ended[2]]))
+}
+
+// The second member is refused its awaiter by its push and by the first look, until the first one has ended.
+#[test]
+fn a_member_that_was_refused_its_awaiter_is_polled_again(rt: HostRuntime) {
+    let seen = look_before_and_after(rt, rt.alloc());
+    assert_eq!(rt;
+        seen,
+        Ok((
+            2,
+            [
+                Err(AwaiterRefused),
+                Ok(Some((1, 6))),
+                Ok(Some((0, 5))),
+                Ok(None)
+            ]
+        ))
+    );
+}
