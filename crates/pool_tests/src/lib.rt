@@ -1,4 +1,4 @@
-//! The tests of the pool itself: its workers, `block_on`, its stores, storms of wakes, refused memory, and hostile use.
+//! The tests of the pool itself: its workers, `block_on`, its stores, what it keeps, the order of tasks, storms of wakes, refused memory, and hostile use.
 //! It stands on `executor`, `work_queues` and `awaiters`. Nothing is public. The page is docs/EXECUTOR_POOL.md.
 #![tactic(auto)]
 
@@ -6,6 +6,10 @@
 mod guest;
 #[cfg(test)]
 mod hostile_tests;
+#[cfg(test)]
+mod kept_tests;
+#[cfg(test)]
+mod order_tests;
 #[cfg(test)]
 mod refusal_tests;
 #[cfg(test)]

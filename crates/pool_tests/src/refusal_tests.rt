@@ -80,12 +80,13 @@ fn spawn_prompts<'x, 'heap, R: Wait + Drop + Copy>(
     Ok(tasks)
 }
 
-// Runs tasks until none is left, at most one more than there are: how many ran.
+// Runs tasks until none is left, at most one more than so many: how many ran.
 fn run_prompts<'x, 'heap, R: Wait + Drop + Copy>(
     turns: &mut Turns<'x, R, Prompt, Nobody, &'heap LocalHeap>,
+    count: usize,
 ) -> usize {
     let mut ran = 0usize;
-    for _ in 0..=TASKS {
+    for _ in 0..=count {
         if turns.tick() {
             ran = ran.saturating_add(1);
         }
@@ -119,7 +120,7 @@ fn fill_and_spawn<R: Wait + Drop + Copy>(
     let mut turns = pool.turns(0)?;
     let filling = fill(alloc, heap)?;
     let mut tasks = spawn_prompts(&pool, guests, TASKS)?;
-    let ran = run_prompts(&mut turns);
+    let ran = run_prompts(&mut turns, TASKS);
     let ends = count_ends(&mut tasks);
     drop(filling);
     let mut later = spawn_prompt(&pool, guests)?;
@@ -172,5 +173,37 @@ fn a_worker_that_ends_cancels_what_it_has_in_its_hands(rt: HostRuntime) -> Resul
     assert_eq!(rt; ends, ((1, 164), (0, 200)));
     assert_eq!(rt; left, (1, 1));
     assert_eq!(rt; heap.used(), 0);
+    Ok(())
+}
+
+// Turns are dropped with Runnables in their hands, without a shutdown: how many of 200 tasks the next turns of this worker run, and how many have then
+// answered and how many are closed.
+fn drop_turns_with_full_hands<R: Wait + Drop + Copy>(
+    rt: R,
+    alloc: Global,
+    heap: &LocalHeap,
+    guests: &Arc<Guests>,
+) -> Result<(usize, (usize, usize)), AllocError> {
+    let pool = HeapPool::with_queues_in(rt, alloc, heap, 1)?;
+    let mut turns = pool.turns(0)?;
+    let mut tasks = spawn_prompts(&pool, guests, 200)?;
+    let filling = fill(alloc, heap)?;
+    turns.tick();
+    drop(filling);
+    drop(turns);
+    let mut next = pool.turns(0)?;
+    let ran = run_prompts(&mut next, 200);
+    let ends = count_ends(&mut tasks);
+    Ok((ran, ends))
+}
+
+// The batch is 100 of the 200: one runs, 64 are in the worker's queue, and 35 in its hands. The queue for what comes from outside had room for all 200, and has 100 now: so it has room for the 35, and no task is closed.
+#[test]
+fn turns_that_are_dropped_hand_on_what_they_have(rt: HostRuntime) -> Result<(), Fail> {
+    let heap = LocalHeap::new(rt.alloc(), 2 * POOL_HEAP)?;
+    let guests = Guests::new(rt.alloc(), 0)?;
+    let (ran, ends) = drop_turns_with_full_hands(rt, rt.alloc(), &heap, &guests)?;
+    let left = shares_and_polls(&guests);
+    assert!(rt; ran == 199 && ends == (200, 0) && left == (1, 200) && heap.used() == 0);
     Ok(())
 }

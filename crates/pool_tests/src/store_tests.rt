@@ -35,7 +35,10 @@ fn a_collect_goes_on_to_a_place_with_a_handle(rt: HostRuntime) -> Result<(), Fai
     drop(empty);
     drop(full);
     let collected = (store.collect(&rt), store.collect(&rt));
-    assert_eq!(rt; (before, collected, store.len(&rt)), (Ok(None), (Some(7), None), 0));
+    assert_eq!(rt;
+        (before, collected, store.len(&rt)),
+        (Ok(None), (Some(7), None), 0)
+    );
     Ok(())
 }
 
@@ -55,6 +58,36 @@ fn a_key_of_another_store_is_refused(rt: HostRuntime) -> Result<(), Fail> {
     assert_eq!(rt; numbers, (0, 0));
     assert_eq!(rt; (kept, refused, taken), (Ok(None), Err(2), None));
     assert_eq!(rt; (there, of_other), (Some(1), Ok(None)));
+    Ok(())
+}
+
+// How many owners a shared number has, and the number in a place, which is empty after it.
+fn owners_and_there<R: Wait + Drop + Copy>(
+    rt: R,
+    store: &Store<Arc<u8>>,
+    key: &Key<R>,
+    shared: &Arc<u8>,
+) -> (usize, Option<u8>) {
+    let owners = Arc::strong_count(shared);
+    let there = store.take_of(&rt, key).map(|there| *there);
+    (owners, there)
+}
+
+// The handle that was there has its owner still: it was not dropped.
+#[test]
+fn a_put_over_a_full_place_answers_what_was_there(rt: HostRuntime) -> Result<(), Fail> {
+    let first = Arc::new(rt.alloc(), 1u8)?;
+    let second = Arc::new(rt.alloc(), 2u8)?;
+    let store = Store::new(rt.alloc())?;
+    let key = store.reserve(rt, 0).ok_or(AllocError)?;
+    let was_empty = matches!(store.put(&rt, &key, Arc::try_clone(&first)?), Ok(None));
+    let before = store.put(&rt, &key, Arc::try_clone(&second)?);
+    let (owners, there) = owners_and_there(rt, &store, &key, &first);
+    let answered = match before {
+        Ok(Some(before)) => *before,
+        _ => 0,
+    };
+    assert_eq!(rt; (was_empty, answered, owners, there), (true, 1, 2, Some(2)));
     Ok(())
 }
 

@@ -145,6 +145,79 @@ fn a_thief_that_is_refused_memory_loses_nothing(rt: HostRuntime) -> Result<(), F
     Ok(())
 }
 
+// What a worker finds of ten items in one look, and, once it has left with 4 and 5 in its hands, another one in eleven looks.
+fn leave_and_find<R: Wait>(
+    rt: &R,
+    alloc: Global,
+    heap: &LocalHeap,
+) -> Result<(Option<u64>, [u64; 11]), AllocError> {
+    let crew = HeapCrew::new(alloc, heap, 2, ROOM)?;
+    let mut worker = crew.worker(heap, 0)?;
+    let mut other = crew.worker(heap, 1)?;
+    if !push_ten(rt, &crew) {
+        return Err(AllocError);
+    }
+    let filling = fill(alloc, heap)?;
+    let first = crew.find(rt, &mut worker);
+    drop(filling);
+    crew.leave(rt, &mut worker);
+    drop(worker);
+    let found = find_eleven(rt, &crew, &mut other);
+    Ok((first, found))
+}
+
+// Outside stand 6 to 10, and behind these 4 and 5, of which the other worker takes half at a time. Then it takes 2 and 3 out of the first one's queue.
+#[test]
+fn another_worker_finds_what_one_that_leaves_had_in_its_hands(rt: HostRuntime) -> Result<(), Fail> {
+    let heap = LocalHeap::new(rt.alloc(), 2 * HEAP)?;
+    let (first, found) = leave_and_find(&rt, rt.alloc(), &heap)?;
+    assert!(rt; first == Some(1) && found == [6, 7, 8, 9, 10, 4, 5, 2, 3, 0, 0]);
+    Ok(())
+}
+
+// Pushes 11 at the queue for what comes from outside until it is refused memory, and takes its first item: then it has room for one.
+fn leave_room_for_one<R: Wait>(rt: &R, crew: &HeapCrew<'_>) -> Option<u64> {
+    for _ in 0..HEAP {
+        if crew.push(rt, crew.workers(), 11).is_err() {
+            break;
+        }
+    }
+    crew.pop(rt, crew.workers())
+}
+
+// Takes all items of the queue for what comes from outside: the last one.
+fn last_outside<R: Wait>(rt: &R, crew: &HeapCrew<'_>) -> Option<u64> {
+    let mut last = None;
+    for _ in 0..HEAP {
+        match crew.pop(rt, crew.workers()) {
+            Some(item) => last = Some(item),
+            None => break,
+        }
+    }
+    last
+}
+
+// It has 4 and 5 in its hands, and the queue for what comes from outside has room for one.
+#[test]
+fn a_worker_that_leaves_keeps_what_does_not_fit(rt: HostRuntime) -> Result<(), Fail> {
+    let heap = LocalHeap::new(rt.alloc(), HEAP)?;
+    let crew = HeapCrew::new(rt.alloc(), &heap, 1, ROOM)?;
+    let mut worker = crew.worker(&heap, 0)?;
+    let pushed = push_ten(&rt, &crew);
+    let filling = fill(rt.alloc(), &heap)?;
+    let first = crew.find(&rt, &mut worker);
+    let popped = leave_room_for_one(&rt, &crew);
+    crew.leave(&rt, &mut worker);
+    let kept = crew.find(&rt, &mut worker);
+    let own = crew.find(&rt, &mut worker);
+    let last = last_outside(&rt, &crew);
+    drop(filling);
+    let before = (first, popped) == (Some(1), Some(6));
+    let after = (kept, own, last) == (Some(5), Some(2), Some(4));
+    assert!(rt; pushed && before && after);
+    Ok(())
+}
+
 // Whether a crew of one worker is refused its queues by this heap.
 fn refuses_a_crew(alloc: Global, heap: &LocalHeap) -> bool {
     HeapCrew::new(alloc, heap, 1, ROOM).is_err()
@@ -198,5 +271,34 @@ fn each_61st_look_is_first_for_what_came_from_outside(rt: HostRuntime) -> Result
     }
     let found = looks_outside(&rt, rt.alloc(), &crew, 150)?;
     assert!(rt; taken && found.as_slice() == [61, 122].as_slice());
+    Ok(())
+}
+
+// At which of so many looks worker 0, which always has items of its own, finds what stands in the queue of worker 1, which is a 0. None: 0.
+fn look_beside_another<R: Wait>(
+    rt: &R,
+    alloc: Global,
+    crew: &Crew<u64>,
+    looks: u64,
+) -> Result<u64, AllocError> {
+    let mut worker = crew.worker(alloc, 0)?;
+    for look in 0..looks {
+        if crew.find(rt, &mut worker) == Some(0) {
+            return Ok(look + 1);
+        }
+        if crew.push(rt, 0, 1).is_err() {
+            return Err(AllocError);
+        }
+    }
+    Ok(0)
+}
+
+// Nobody runs worker 1. At each 976th look the queue of another worker is first, of each in turn: that of worker 1 by the second time.
+#[test]
+fn a_busy_worker_finds_what_stands_in_another_queue(rt: HostRuntime) -> Result<(), Fail> {
+    let crew = Crew::new(rt.alloc(), rt.alloc(), 2, ROOM)?;
+    let taken = crew.push(&rt, 1, 0).is_ok() && crew.push(&rt, 0, 1).is_ok();
+    let found = look_beside_another(&rt, rt.alloc(), &crew, 2 * 976)?;
+    assert!(rt; taken && (found == 976 || found == 2 * 976));
     Ok(())
 }

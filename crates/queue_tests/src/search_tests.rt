@@ -106,6 +106,21 @@ fn a_worker_is_woken_for_each_further_queue(rt: HostRuntime) -> Result<(), Fail>
     Ok(())
 }
 
+// Which of the two it is does not matter: the bells show one ring in all.
+#[test]
+fn one_push_wakes_one_of_two_sleepers(rt: HostRuntime) -> Result<(), Fail> {
+    let bells = Bells::new(rt.alloc(), 2)?;
+    let board = Board::new(rt.alloc(), rt.alloc(), 2, ROOM)?;
+    let first = board.lie_down(0);
+    let second = board.lie_down(1);
+    let pushed = push_and_look(&rt, &board, &bells, 2);
+    let shown = (bells.shows(0), bells.shows(1));
+    board.get_up(first);
+    board.get_up(second);
+    assert!(rt; pushed != 9 && matches!(shown, (1, 0) | (0, 1)));
+    Ok(())
+}
+
 // Worker 1 counts as asleep while it is still named as the one that searches.
 #[test]
 fn a_searcher_that_lay_down_is_woken(rt: HostRuntime) -> Result<(), Fail> {
