@@ -3,7 +3,7 @@ use Rattle.std.proofs.Common.{arith, ◌≡◌, ℕ, zero, suc, ◌+◌, List, [
 use mathlib.Core.Option.{some, some-injective, some-ne-none}
 use lib.ListN.{get_elem?}
 use Rattle.std.proofs.lemmas.List.{append_assoc}
-use Rattle.std.proofs.lemmas.List.Elements.{All-append}
+use Rattle.std.proofs.lemmas.List.Elements.{All-append, All-cons, All-nil}
 use Rattle.executor.specs.Appends.{Appends}
 
 numbered : {A : Type 0} (P : ℕ → A → Type 0) (old : List A) (x : A) → ((i : ℕ) (a : A) → get_elem? old i ≡ some a → P i a) → P (length old) x → (i : ℕ) (a : A) → get_elem? (old ++ x ∷ []) i ≡ some a → P i a
@@ -31,6 +31,14 @@ pub drop-all : {A : Type 0} (l : List A) → drop (length l) l ≡ []
 drop-all [] = refl
 drop-all (x ∷ l) = drop-all l
 
+-- one item at the end
+pub appends-one : {T : Type 0} {P : T → Type 0} {a b : List T} (x : T) → b ≡ a ++ x ∷ [] → P x → Appends P a b
+appends-one {T} {P} x is holds = record { added = x ∷ []; behind = is; each = All-cons P x [] holds (All-nil P) }
+
 -- what is appended in two parts
 pub appends-more : {T : Type 0} {P : T → Type 0} {a b c : List T} → Appends P a b → Appends P b c → Appends P a c
-appends-more {T} {P} {a} {b} {c} (xs, (ab, each)) (ys, (bc, more)) = (xs ++ ys, (bc ∙ ap (λ (l : List T). l ++ ys) ab ∙ append_assoc a xs ys, All-append P xs ys each more))
+appends-more {T} {P} {a} first second = record {
+  added = first.added ++ second.added;
+  behind = second.behind ∙ ap (λ (l : List T). l ++ second.added) first.behind ∙ append_assoc a first.added second.added;
+  each = All-append P first.added second.added first.each second.each;
+}

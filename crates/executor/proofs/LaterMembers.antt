@@ -1,6 +1,6 @@
 -- What comes out of a group that was looked at before, when no member came out.
 use Rattle.std.proofs.Common.{◌≡◌, ◌∙◌, ℕ, false, sym, refl, subst}
-use Rattle.std.specs.Prelude.{Option, Some, None, Result, Ok}
+use Rattle.std.specs.Prelude.{Option, Some, None, Ok}
 use Rattle.slab.specs.Slab.{Slab}
 use Rattle.task_group.specs.Members.{Leaves, SameMembers, IfNext, came_out}
 

@@ -1,6 +1,9 @@
 use Rattle.std.specs.Prelude.{◌≡◌, ◌++◌, List}
 use Rattle.std.specs.List.{All}
 
--- the new list is the old one, and then items of which this holds
-abbrev pub Appends : {T : Type 0} → (T → Type 0) → List T → List T → Type 0
-Appends {T} holds old new = (added : List T) × (new ≡ old ++ added) × All holds added
+module _ {T : Type 0} where
+  -- the new list is the old one, and then items of which this holds
+  pub record Appends (holds : T → Type 0) (old new : List T) : Type 0 where
+    pub added : List T
+    pub behind : new ≡ old ++ added
+    pub each : All holds added
