@@ -63,8 +63,8 @@ impl<R: Wait + Drop + Copy, L: Listener> Mailbox<R, L> {
         true
     }
 
-    /// Has the next post tell this listener, in place of the one before. Call it before the look after which you may sleep elsewhere: then no post comes
-    /// between the two.
+    /// Has the next post tell this listener, in place of the one before. Call it before the look after which you may sleep elsewhere: then the look finds
+    /// a post, or the listener is told of it.
     pub fn listen(&self, listener: L) {
         let mut contents = self.contents.lock(&self.rt);
         let before = contents.listener.replace(listener);

@@ -2,7 +2,7 @@ use Rattle.std.specs.Prelude.{◌≡◌, ℕ}
 use Rattle.std.specs.Arc.{arc_value}
 use Rattle.work_queues.specs.declared.bells.Bells.{Bells}
 use Rattle.awaiters.specs.declared.mailbox.Mailbox.{Mailbox}
-use Rattle.executor.specs.declared.listening.WorkerBell.{WorkerBell}
+use Rattle.executor.specs.declared.worker_bell.WorkerBell.{WorkerBell}
 use Rattle.executor.specs.declared.mail.Mail.{Mail}
 use Rattle.executor.specs.declared.bell_awaiter.Wakes.{Wakes}
 use Rattle.executor.specs.declared.bell_awaiter.Wakes.TheVariants.{Worker, Kept, Reader}

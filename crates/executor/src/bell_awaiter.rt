@@ -3,9 +3,9 @@ ghost use Rattle.std.specs.Prelude.{⊤, ◌≡◌, false, IfSome};
 ghost use Rattle.std.specs.Arc.{arc_value};
 ghost use Rattle.executor.specs.Wakes.{IsForWorker, IsForKept, IsForReader, IsSameWake};
 
-use crate::listening::WorkerBell;
 use crate::mail::Mail;
 use crate::pool::Pool;
+use crate::worker_bell::WorkerBell;
 use async_task::{Wake, Yields};
 use awaiters::{Mailbox, Posts};
 use std::alloc::Allocator;

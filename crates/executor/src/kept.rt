@@ -17,7 +17,7 @@ pub type KeptWaker<R, F, A> = TaskWaker<R, F, ToPool, (), A, ()>;
 /// A Task as the pool keeps it.
 pub type KeptTask<R, F, A> = Task<R, F, ToPool, (), A, ()>;
 
-// A handle with `()` has no queue at hand. This crate wakes none, and drops one only where a queue has no memory for it, and with the pool: the Runnable that may be due then is dropped, too.
+// A handle with `()` has no queue at hand. This crate wakes none, and drops one only where a queue has no memory for it, after a shutdown, and with the pool: the Runnable that may be due then is dropped, too.
 impl<R: Wait + Drop + Copy, F: Yields, A: Wake> Schedule<Runnable<R, F, ToPool, (), A, ()>>
     for ToPool {
     ghost scheduled = { λ _ _ _. ⊤ };

@@ -1,13 +1,12 @@
 //! A pool of threads that run the tasks of `async_task` and steal from one another.
 //! It stands on `async_task`, on `work_queues`, which has the queues and the sleep of the workers, on `awaiters` and `task_group`, and on the kit's `slab`.
-//! A user calls `Pool`, `Turns` for loops of its own, and the functions of `kept`; a future reaches the pool by `waker.around()`, and keeps `Key`s. `Store` also serves other executors.
+//! A user calls `Pool`, `Turns` for loops of its own, and the functions of `kept`, and has groups as `PoolGroup`; a future reaches the pool by `waker.around()`, and keeps `Key`s. `Store` also serves other executors.
 //! Nothing is public only to carry a claim; the claims on queues and sleep are those of `work_queues`.
 //! The page is docs/EXECUTOR_POOL.md.
 #![tactic(auto)]
 
 pub mod bell_awaiter;
 pub mod kept;
-mod listening;
 mod mail;
 pub mod members;
 mod parts;
@@ -15,14 +14,15 @@ pub mod pool;
 mod posted;
 pub mod store;
 pub mod turns;
+mod worker_bell;
 
 pub use bell_awaiter::BellAwaiter;
 pub use kept::{
     KeptTask, KeptWaker, await_kept, collect, keep_task, keep_waker, place_for_task,
     place_for_waker, poll_kept, wake_kept, wake_posted,
 };
-pub use listening::WorkerBell;
 pub use members::{NextMemberError, PoolGroup};
 pub use pool::{Place, Pool, PoolRunnable, PoolTask, PoolWaker, ToPool};
 pub use store::{Key, Store, Walk};
 pub use turns::{BlockOnError, Turns};
+pub use worker_bell::WorkerBell;

@@ -56,7 +56,7 @@ impl<'x, R: Wait + Drop + Copy, F: Yields, B: Allocator + Copy> Turns<'x, R, F, 
             }
             group.listen(self.bell().ok_or(NextMemberError::Refused)?);
             let next = group.try_next();
-            if ends || !matches!(next, Ok(None)) {
+            if !matches!(next, Ok(None)) {
                 // What woke this worker may have been meant for a task that another one has to run now.
                 pool.bells().interrupt();
             }

@@ -8,8 +8,8 @@ ghost use Rattle.task_cell.specs.Calls.{deeds};
 
 use crate::bell_awaiter::BellAwaiter;
 use crate::kept::{collect, wake_posted};
-use crate::listening::WorkerBell;
 use crate::pool::{Place, Pool, PoolRunnable, PoolTask, PoolWaker, Queued};
+use crate::worker_bell::WorkerBell;
 use async_task::{Future, TaskPoll, Wake, Yields};
 use std::alloc::{AllocError, Allocator, Global};
 use std::sync::{Arc, Wait};
@@ -27,7 +27,7 @@ impl<'x, R: Wait + Drop + Copy, F: Yields, A: Wake, B: Allocator> Drop for Turns
     fn drop(self) {
         let Turns { pool, mut worker } = self;
         let number = worker.number();
-        pool.crew.leave(&pool.rt, &mut worker);
+        pool.crew.end_turns(&pool.rt, &mut worker);
         drop(worker);
         // A shutdown may have passed both queues before this worker moved Runnables there.
         if pool.is_shut_down() {

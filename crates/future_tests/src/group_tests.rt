@@ -5,6 +5,7 @@ use std::alloc::AllocError;
 use std::sync::{Arc, Wait};
 use std::test::Fail;
 use std::thread;
+use std::time::Duration;
 use task_group::{Ended, TaskGroup};
 
 // The most turns that anything takes.
@@ -191,8 +192,18 @@ fn a_wait_for_a_member_ends_with_the_pool(rt: HostRuntime) -> Result<(), Fail> {
     let mut group = new_lone(&pool, 0, Errand::Stay, &counts)?;
     let mut turns = pool.turns(0)?;
     let ran = turns.tick();
-    pool.shutdown();
-    let next = turns.next_member(&mut group);
-    assert!(rt; ran && matches!(next, Err(NextMemberError::ShutDown)) && group.len() == 1);
+    let (_, is_shut_down) = thread::join(
+        &rt,
+        || {
+            // By then the worker sleeps.
+            thread::sleep(&rt, Duration::from_millis(20));
+            pool.shutdown();
+        },
+        || matches!(
+            turns.next_member(&mut group),
+            Err(NextMemberError::ShutDown)
+        ),
+    );
+    assert!(rt; ran && is_shut_down && group.len() == 1);
     Ok(())
 }

@@ -143,12 +143,13 @@ fn a_pool_goes_on_past_a_runnable_that_its_queue_drops(rt: HostRuntime) -> Resul
 }
 
 // What becomes of 200 tasks where the one worker has Runnables in its hands as the pool is shut down: how many have answered and how many are closed,
-// after the shutdown and once the worker has ended.
+// after the shutdown and once the worker has ended: it works until its end, or drops its turns at once.
 fn shut_down_beside_full_hands<R: Wait + Drop + Copy>(
     rt: R,
     alloc: Global,
     heap: &LocalHeap,
     guests: &Arc<Guests>,
+    works: bool,
 ) -> Result<((usize, usize), (usize, usize)), AllocError> {
     let pool = HeapPool::with_queues_in(rt, alloc, heap, 1)?;
     let mut turns = pool.turns(0)?;
@@ -157,10 +158,13 @@ fn shut_down_beside_full_hands<R: Wait + Drop + Copy>(
     turns.tick();
     pool.shutdown();
     let after_shutdown = count_ends(&mut tasks);
-    turns.work();
-    let after_work = count_ends(&mut tasks);
+    if works {
+        turns.work();
+    }
     drop(filling);
-    Ok((after_shutdown, after_work))
+    drop(turns);
+    let after_end = count_ends(&mut tasks);
+    Ok((after_shutdown, after_end))
 }
 
 // The batch is 100 of the 200: the worker runs one, its queue has room for 64, and 35 stay in its hands. An output that was taken is not there again.
@@ -168,11 +172,22 @@ fn shut_down_beside_full_hands<R: Wait + Drop + Copy>(
 fn a_worker_that_ends_cancels_what_it_has_in_its_hands(rt: HostRuntime) -> Result<(), Fail> {
     let heap = LocalHeap::new(rt.alloc(), 2 * POOL_HEAP)?;
     let guests = Guests::new(rt.alloc(), 0)?;
-    let ends = shut_down_beside_full_hands(rt, rt.alloc(), &heap, &guests)?;
+    let ends = shut_down_beside_full_hands(rt, rt.alloc(), &heap, &guests, true)?;
     let left = shares_and_polls(&guests);
     assert_eq!(rt; ends, ((1, 164), (0, 200)));
     assert_eq!(rt; left, (1, 1));
     assert_eq!(rt; heap.used(), 0);
+    Ok(())
+}
+
+// The same where the turns are dropped after the shutdown: what they hand on is cancelled, too.
+#[test]
+fn turns_that_are_dropped_after_a_shutdown_leave_nothing(rt: HostRuntime) -> Result<(), Fail> {
+    let heap = LocalHeap::new(rt.alloc(), 2 * POOL_HEAP)?;
+    let guests = Guests::new(rt.alloc(), 0)?;
+    let ends = shut_down_beside_full_hands(rt, rt.alloc(), &heap, &guests, false)?;
+    let left = shares_and_polls(&guests);
+    assert!(rt; ends == ((1, 164), (0, 200)) && left == (1, 1) && heap.used() == 0);
     Ok(())
 }
 

@@ -145,12 +145,13 @@ fn a_thief_that_is_refused_memory_loses_nothing(rt: HostRuntime) -> Result<(), F
     Ok(())
 }
 
-// What a worker finds of ten items in one look, and, once it has left with 4 and 5 in its hands, another one in eleven looks.
+// What a worker finds of ten items in one look, how many interruptions there are once it has left with 4 and 5 in its hands, and what another one finds
+// then in eleven looks.
 fn leave_and_find<R: Wait>(
     rt: &R,
     alloc: Global,
     heap: &LocalHeap,
-) -> Result<(Option<u64>, [u64; 11]), AllocError> {
+) -> Result<(Option<u64>, u64, [u64; 11]), AllocError> {
     let crew = HeapCrew::new(alloc, heap, 2, ROOM)?;
     let mut worker = crew.worker(heap, 0)?;
     let mut other = crew.worker(heap, 1)?;
@@ -160,18 +161,20 @@ fn leave_and_find<R: Wait>(
     let filling = fill(alloc, heap)?;
     let first = crew.find(rt, &mut worker);
     drop(filling);
-    crew.leave(rt, &mut worker);
+    crew.end_turns(rt, &mut worker);
     drop(worker);
+    let interruptions = crew.bells().interruptions();
     let found = find_eleven(rt, &crew, &mut other);
-    Ok((first, found))
+    Ok((first, interruptions, found))
 }
 
 // Outside stand 6 to 10, and behind these 4 and 5, of which the other worker takes half at a time. Then it takes 2 and 3 out of the first one's queue.
 #[test]
 fn another_worker_finds_what_one_that_leaves_had_in_its_hands(rt: HostRuntime) -> Result<(), Fail> {
     let heap = LocalHeap::new(rt.alloc(), 2 * HEAP)?;
-    let (first, found) = leave_and_find(&rt, rt.alloc(), &heap)?;
-    assert!(rt; first == Some(1) && found == [6, 7, 8, 9, 10, 4, 5, 2, 3, 0, 0]);
+    let (first, interruptions, found) = leave_and_find(&rt, rt.alloc(), &heap)?;
+    let is_all = found == [6, 7, 8, 9, 10, 4, 5, 2, 3, 0, 0];
+    assert!(rt; first == Some(1) && interruptions == 1 && is_all);
     Ok(())
 }
 
@@ -207,7 +210,7 @@ fn a_worker_that_leaves_keeps_what_does_not_fit(rt: HostRuntime) -> Result<(), F
     let filling = fill(rt.alloc(), &heap)?;
     let first = crew.find(&rt, &mut worker);
     let popped = leave_room_for_one(&rt, &crew);
-    crew.leave(&rt, &mut worker);
+    crew.end_turns(&rt, &mut worker);
     let kept = crew.find(&rt, &mut worker);
     let own = crew.find(&rt, &mut worker);
     let last = last_outside(&rt, &crew);
@@ -274,31 +277,33 @@ fn each_61st_look_is_first_for_what_came_from_outside(rt: HostRuntime) -> Result
     Ok(())
 }
 
-// At which of so many looks worker 0, which always has items of its own, finds what stands in the queue of worker 1, which is a 0. None: 0.
-fn look_beside_another<R: Wait>(
+// How many zeros, which stand in the queues of others, worker 0 finds in so many looks, and how many of them at a 976th look. It always has items of its own.
+fn look_beside_others<R: Wait>(
     rt: &R,
     alloc: Global,
     crew: &Crew<u64>,
     looks: u64,
-) -> Result<u64, AllocError> {
+) -> Result<(u64, u64), AllocError> {
     let mut worker = crew.worker(alloc, 0)?;
-    for look in 0..looks {
+    let mut found = (0u64, 0u64);
+    for look in 1..looks + 1 {
         if crew.find(rt, &mut worker) == Some(0) {
-            return Ok(look + 1);
-        }
-        if crew.push(rt, 0, 1).is_err() {
+            found.0 = found.0.saturating_add(1);
+            found.1 = found.1.saturating_add(u64::from(look % 976 == 0));
+        } else if crew.push(rt, 0, 1).is_err() {
             return Err(AllocError);
         }
     }
-    Ok(0)
+    Ok(found)
 }
 
-// Nobody runs worker 1. At each 976th look the queue of another worker is first, of each in turn: that of worker 1 by the second time.
+// Nobody runs workers 1 and 2. At each 976th look the queue of one of the three workers is first, of each in turn.
 #[test]
-fn a_busy_worker_finds_what_stands_in_another_queue(rt: HostRuntime) -> Result<(), Fail> {
-    let crew = Crew::new(rt.alloc(), rt.alloc(), 2, ROOM)?;
-    let taken = crew.push(&rt, 1, 0).is_ok() && crew.push(&rt, 0, 1).is_ok();
-    let found = look_beside_another(&rt, rt.alloc(), &crew, 2 * 976)?;
-    assert!(rt; taken && (found == 976 || found == 2 * 976));
+fn a_busy_worker_finds_what_stands_in_the_queues_of_others(rt: HostRuntime) -> Result<(), Fail> {
+    let crew = Crew::new(rt.alloc(), rt.alloc(), 3, ROOM)?;
+    let others = crew.push(&rt, 1, 0).is_ok() && crew.push(&rt, 2, 0).is_ok();
+    let own = crew.push(&rt, 0, 1).is_ok();
+    let found = look_beside_others(&rt, rt.alloc(), &crew, 3 * 976)?;
+    assert!(rt; others && own && found == (2, 2));
     Ok(())
 }

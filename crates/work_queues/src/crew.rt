@@ -224,7 +224,7 @@ impl<T, A: Allocator> Crew<T, A> {
     }
 
     /// Ends the turns of this worker: what it has in its hands goes to the back of the queue for what comes from outside, as far as that has room, and another worker looks once more, since a wake may have gone to this one. Drop the worker then, and what it still has.
-    pub fn leave<R: Wait>(&self, rt: &R, worker: &mut Worker<T, A>) {
+    pub fn end_turns<R: Wait>(&self, rt: &R, worker: &mut Worker<T, A>) {
         if !worker.batch.is_empty() {
             let woken = self
                 .board

@@ -7,10 +7,10 @@ use std::sync::{Arc, Wait};
 use std::thread::{self, Threads};
 
 // How often two threads wait at a mailbox. In some of these rounds both of them sleep as the numbers come.
-const ROUNDS: usize = 300;
+const ROUNDS: usize = 20;
 
 // How often the third thread gives way to them before it posts.
-const YIELDS: usize = 1000;
+const YIELDS: usize = 500;
 
 // Posts 2, 0, 2 and 3 to a mailbox with room for three numbers, one by an awaiter: the answers, and what is taken out.
 fn post_and_take<R: Wait + Drop + Copy>(
