@@ -286,7 +286,7 @@ fn look_beside_others<R: Wait>(
 ) -> Result<(u64, u64), AllocError> {
     let mut worker = crew.worker(alloc, 0)?;
     let mut found = (0u64, 0u64);
-    for look in 1..looks + 1 {
+    for look in 1..=looks {
         if crew.find(rt, &mut worker) == Some(0) {
             found.0 = found.0.saturating_add(1);
             found.1 = found.1.saturating_add(u64::from(look % 976 == 0));
