@@ -80,14 +80,12 @@ fn a_put_over_a_full_place_answers_what_was_there(rt: HostRuntime) -> Result<(),
     let second = Arc::new(rt.alloc(), 2u8)?;
     let store = Store::new(rt.alloc())?;
     let key = store.reserve(rt, 0).ok_or(AllocError)?;
-    let was_empty = matches!(store.put(&rt, &key, Arc::try_clone(&first)?), Ok(None));
+    let none = store.put(&rt, &key, Arc::try_clone(&first)?);
     let before = store.put(&rt, &key, Arc::try_clone(&second)?);
+    let answers = matches!(none, Ok(None)) && matches!(before, Ok(Some(_)));
     let (owners, there) = owners_and_there(rt, &store, &key, &first);
-    let answered = match before {
-        Ok(Some(before)) => *before,
-        _ => 0,
-    };
-    assert_eq!(rt; (was_empty, answered, owners, there), (true, 1, 2, Some(2)));
+    drop(before);
+    assert!(rt; answers && owners == 2 && there == Some(2) && Arc::strong_count(&first) == 1);
     Ok(())
 }
 
