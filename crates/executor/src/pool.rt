@@ -38,7 +38,6 @@ pub type PoolWaker<'x, R, F, A, B = Global> = TaskWaker<R, F, ToPool, (), A, Pla
 pub(crate) type Queued<R, F, A> = Runnable<R, F, ToPool, (), A, ()>;
 
 /// The queues of a pool of workers. `F` is the one type of its futures, `A` that of the awaiters of their Tasks, and `B` is where its queues take their memory. With the pool the Runnables that are left are dropped, which cancels their tasks.
-#[derive(Drop)]
 pub struct Pool<R: Wait + Drop + Copy, F: Yields, A: Wake, B: Allocator = Global> {
     pub(crate) rt: R,
     pub(crate) alloc: Global,
@@ -48,6 +47,28 @@ pub struct Pool<R: Wait + Drop + Copy, F: Yields, A: Wake, B: Allocator = Global
     pub(crate) wakers: Store<KeptWaker<R, F, A>>,
     pub(crate) tasks: Store<KeptTask<R, F, A>>,
     pub(crate) mail: Arc<Mail<R>>,
+}
+
+impl<R: Wait + Drop + Copy, F: Yields, A: Wake, B: Allocator> Drop for Pool<R, F, A, B> {
+    // As a derived drop, which would stand field by field in each function that drops a pool.
+    fn drop(self) {
+        let Pool {
+            rt: _,
+            alloc: _,
+            items,
+            crew,
+            stopped,
+            wakers,
+            tasks,
+            mail,
+        } = self;
+        drop(items);
+        drop(crew);
+        drop(stopped);
+        drop(wakers);
+        drop(tasks);
+        drop(mail);
+    }
 }
 
 /// The schedule value of a pool: a Runnable goes to the queue of the worker on which its task was woken, and else to that for what comes from outside.

@@ -45,14 +45,8 @@ fn drops_and_detaches_ask_for_no_memory(rt: HostRuntime) {
     let (used, discarded, other_detached) = leave_two(rt, rt.alloc(), &heap, &counters);
     let closing = (Counts::new(0, 0, 1, 0), used);
     let detached = Counts::new(0, 0, 1, 1);
-    assert_eq!(rt;
-        (discarded, other_detached),
-        ((7, (true, 7), closing, detached), detached)
-    );
-    assert_eq!(rt;
-        (counters.counts(), heap.used()),
-        (Counts::new(0, 0, 2, 2), 0)
-    );
+    assert!(rt; (discarded, other_detached) == ((7, (true, 7), closing, detached), detached));
+    assert!(rt; (counters.counts(), heap.used()) == (Counts::new(0, 0, 2, 2), 0));
 }
 
 // Spawns two tasks and fills the heap. Drops the Task of the first and runs it; schedules the Runnable of the second three
@@ -90,7 +84,7 @@ fn cancels_and_schedules_ask_for_no_memory(rt: HostRuntime) {
     let cancelled = Counts::new(0, 0, 0, 0);
     let ended = Counts::new(0, 0, 1, 1);
     let queued = Counts::new(0, 3, 1, 1);
-    assert_eq!(rt; seen, ([cancelled, ended, queued], false));
+    assert!(rt; seen == ([cancelled, ended, queued], false));
 }
 
 // What was seen of a task that was woken in a full heap: what its runs answered, what was counted after the second wake, and
@@ -132,15 +126,9 @@ fn wakers_ask_for_no_memory(rt: HostRuntime) {
     let counters = calls::counters(rt, rt.alloc());
     let heap = calls::heap(rt, rt.alloc(), tray::HEAP);
     let (ran, woken, used, left) = wake_in_full_heap(rt, rt.alloc(), &heap, &counters);
-    assert_eq!(rt; ran, (false, [Some(false), Some(false)]));
-    assert_eq!(rt;
-        (woken, left),
-        (Counts::new(2, 2, 0, 0), (Counts::new(3, 3, 0, 0), used))
-    );
-    assert_eq!(rt;
-        (counters.counts(), heap.used()),
-        (Counts::new(3, 3, 1, 1), 0)
-    );
+    assert!(rt; ran == (false, [Some(false), Some(false)]));
+    assert!(rt; (woken, left) == (Counts::new(2, 2, 0, 0), (Counts::new(3, 3, 0, 0), used)));
+    assert!(rt; (counters.counts(), heap.used()) == (Counts::new(3, 3, 1, 1), 0));
 }
 
 // What was seen of three tasks that were polled in a full heap, before and after each ended: whether the Task was pending and then
@@ -190,10 +178,7 @@ fn polls_ask_for_no_memory(rt: HostRuntime) {
     let heap = calls::heap(rt, rt.alloc(), tray::HEAP);
     let flag = calls::flag(rt, rt.alloc(), 1);
     let seen = poll_in_full_heap(rt, rt.alloc(), &heap, &counters, &flag);
-    assert_eq!(rt; seen, ([(true, true); 3], true));
-    assert_eq!(rt; (flag.clones(), flag.wakes(), flag.drops()), (3, 3, 0));
-    assert_eq!(rt;
-        (counters.counts(), heap.used()),
-        (Counts::new(1, 0, 3, 3), 0)
-    );
+    assert!(rt; seen == ([(true, true); 3], true));
+    assert!(rt; (flag.clones(), flag.wakes(), flag.drops()) == (3, 3, 0));
+    assert!(rt; (counters.counts(), heap.used()) == (Counts::new(1, 0, 3, 3), 0));
 }

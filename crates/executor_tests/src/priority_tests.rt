@@ -7,11 +7,11 @@ use counted_values::flag::Flag;
 use fixtures::executor::{PriorityQueue, PriorityRunnable, PriorityScheduler, PriorityTask};
 use fixtures::fixture::Fixture;
 use fixtures::future::RowFuture;
+use granted::granted;
 use priority_heap::{PrioritizedRunnable, PriorityHeap};
 use std::alloc::{AllocError, Global};
 use std::process::Abort;
 use std::sync::Wait;
-use std::test::Fail;
 
 type Heap<R> = PriorityHeap<R, RowFuture, PriorityScheduler, Flag>;
 
@@ -114,7 +114,7 @@ fn new_is_refused_for_memory(rt: HostRuntime) {
         refuses_heap(rt, rt.alloc(), TOO_MUCH),
         refuses_queue(rt, rt.alloc(), TOO_MUCH),
     ];
-    assert_eq!(rt; refused, [true; 2]);
+    assert!(rt; refused == [true; 2]);
 }
 
 // So many priorities, which are those of a linear congruential generator (Knuth's), by their upper digits so that some are alike.
@@ -173,15 +173,11 @@ fn push_and_pop<R: Wait + Abort + Drop + Copy>(
 }
 
 #[test]
-fn a_thousand_come_out_in_order(rt: HostRuntime) -> Result<(), Fail> {
-    let mut priorities = priorities(rt.alloc(), 1000)?;
+fn a_thousand_come_out_in_order(rt: HostRuntime) {
+    let mut priorities = granted(&rt, priorities(rt.alloc(), 1000));
     let fixture = calls::fixture(rt, rt.alloc());
     let seen = push_and_pop(&fixture, rt.alloc(), priorities.as_mut_slice());
-    assert_eq!(rt;
-        (seen, fixture.counts()),
-        ((1000, 1000, None), Counts::new(0, 0, 1000, 1000))
-    );
-    Ok(())
+    assert!(rt; (seen, fixture.counts()) == ((1000, 1000, None), Counts::new(0, 0, 1000, 1000)));
 }
 
 // What a heap with room for two handed back of five Runnables, and what came out of it after the third and at last.
@@ -210,8 +206,8 @@ fn fill_heap_of_two<R: Wait + Abort + Drop + Copy>(
 #[test]
 fn a_full_heap_hands_back_and_stays(rt: HostRuntime) {
     let (pushed, popped) = fill_heap_of_two(rt, rt.alloc());
-    assert_eq!(rt; pushed, [None, None, Some(3), None, Some(4)]);
-    assert_eq!(rt; popped, [Some(2), Some(1), Some(0), None]);
+    assert!(rt; pushed == [None, None, Some(3), None, Some(4)]);
+    assert!(rt; popped == [Some(2), Some(1), Some(0), None]);
 }
 
 // What came out of a heap without room before a Runnable was pushed and after it, and what was handed back.
@@ -227,7 +223,7 @@ fn push_without_room<R: Wait + Abort + Drop + Copy>(rt: R, alloc: Global) -> [Op
 #[test]
 fn a_heap_without_room_hands_back(rt: HostRuntime) {
     let seen = push_without_room(rt, rt.alloc());
-    assert_eq!(rt; seen, [None, Some(1), None]);
+    assert!(rt; seen == [None, Some(1), None]);
 }
 
 // Schedules the Runnables of two tasks and detaches their Tasks, and drops the queue: what was counted before its drop.
@@ -246,8 +242,5 @@ fn leave_in_queue<R: Wait + Abort + Drop + Copy>(fixture: &Fixture<R>) -> Counts
 fn what_is_left_in_the_queue_is_cancelled_with_it(rt: HostRuntime) {
     let fixture = calls::fixture(rt, rt.alloc());
     let queued = leave_in_queue(&fixture);
-    assert_eq!(rt;
-        [queued, fixture.counts()],
-        [Counts::new(0, 2, 0, 0), Counts::new(0, 2, 2, 2)]
-    );
+    assert!(rt; [queued, fixture.counts()] == [Counts::new(0, 2, 0, 0), Counts::new(0, 2, 2, 2)]);
 }

@@ -197,13 +197,13 @@ fn spawn_in<R: Wait + Abort + Drop + Copy>(rt: R, alloc: Global, blocks: u16) ->
 fn refused_spawn<R: Wait + Abort + Drop + Copy>(rt: R, alloc: Global, blocks: u16) -> Option<u64> {
     match spawn_in(rt, alloc, blocks) {
         Ok(granted) => {
-            assert_eq!(rt; granted, (4, 0));
+            assert!(rt; granted == (4, 0));
             None
         }
         Err((requests, left, again, last)) => {
-            assert_eq!(rt; left, (0, Counts::new(0, 0, 0, 0)));
-            assert_eq!(rt; again, (true, true));
-            assert_eq!(rt; last, (Counts::new(1, 0, 1, 1), 1));
+            assert!(rt; left == (0, Counts::new(0, 0, 0, 0)));
+            assert!(rt; again == (true, true));
+            assert!(rt; last == (Counts::new(1, 0, 1, 1), 1));
             Some(requests)
         }
     }
@@ -215,7 +215,7 @@ fn a_refused_spawn_hands_everything_back(rt: HostRuntime) {
     let mut refused = [false; 5];
     for blocks in 1..1000u16 {
         let Some(request) = refused_spawn(rt, rt.alloc(), blocks) else {
-            assert_eq!(rt; refused, [false, true, true, true, true]);
+            assert!(rt; refused == [false, true, true, true, true]);
             return;
         };
         note(rt, &mut refused, request);
@@ -316,13 +316,13 @@ fn use_builder<R: Wait + Abort + Drop + Copy, G: FnOnce(&u64) -> WideFuture>(
 fn refused_build<R: Wait + Abort + Drop + Copy>(rt: R, alloc: Global, blocks: u16) -> Option<u64> {
     match build_in(rt, alloc, blocks) {
         Ok(granted) => {
-            assert_eq!(rt; granted, (4, 1, 0));
+            assert!(rt; granted == (4, 1, 0));
             None
         }
         Err((requests, left, again, last)) => {
-            assert_eq!(rt; left, (0, 0, Counts::new(0, 0, 0, 0)));
-            assert_eq!(rt; again, (true, true, true));
-            assert_eq!(rt; last, (1, Counts::new(0, 0, 1, 1)));
+            assert!(rt; left == (0, 0, Counts::new(0, 0, 0, 0)));
+            assert!(rt; again == (true, true, true));
+            assert!(rt; last == (1, Counts::new(0, 0, 1, 1)));
             Some(requests)
         }
     }
@@ -334,7 +334,7 @@ fn a_refused_builder_hands_everything_back(rt: HostRuntime) {
     let mut refused = [false; 5];
     for blocks in 1..1000u16 {
         let Some(request) = refused_build(rt, rt.alloc(), blocks) else {
-            assert_eq!(rt; refused, [false, true, true, true, true]);
+            assert!(rt; refused == [false, true, true, true, true]);
             return;
         };
         note(rt, &mut refused, request);
@@ -440,12 +440,6 @@ fn a_refused_waker_keeps_no_memory(rt: HostRuntime) {
     let counters = calls::counters(rt, rt.alloc());
     let heap = calls::heap(rt, rt.alloc(), HEAP);
     let (refused, polled, held) = ask_at_limit(rt, &heap, &counters);
-    assert_eq!(rt;
-        (refused, polled),
-        ([true; 4], (1, Counts::new(1, 0, 0, 0)))
-    );
-    assert_eq!(rt;
-        (held, heap.used(), counters.counts()),
-        (true, 0, Counts::new(1, 1, 1, 1))
-    );
+    assert!(rt; (refused, polled) == ([true; 4], (1, Counts::new(1, 0, 0, 0))));
+    assert!(rt; (held, heap.used(), counters.counts()) == (true, 0, Counts::new(1, 1, 1, 1)));
 }

@@ -82,12 +82,12 @@ fn four_threads_wake_one_task(rt: HostRuntime) {
     let overlaps = fixture.overlaps();
     let last = fixture.counts();
     let polls = idle.polls;
-    assert_eq!(rt; (all_ended, ran, overlaps), (true, Some(false), 0));
-    assert_eq!(rt;
-        [idle, last],
-        [
-            Counts::new(polls, polls.wrapping_sub(1), 0, 0),
-            Counts::new(polls, polls, 1, 1)
-        ]
+    assert!(rt; (all_ended, ran, overlaps) == (true, Some(false), 0));
+    assert!(rt;
+        [idle, last]
+            == [
+                Counts::new(polls, polls.wrapping_sub(1), 0, 0),
+                Counts::new(polls, polls, 1, 1)
+            ]
     );
 }

@@ -4,10 +4,10 @@ ghost use Rattle.std.specs.Prelude.{⊤};
 use async_task::{Future, Poll, TaskPoll, Wake, Yields};
 use awaiters::Nobody;
 use executor::{Pool, PoolTask, PoolWaker, Turns};
+use granted::granted;
 use std::alloc::{AllocError, Global};
 use std::sync::Wait;
 use std::sync::atomic::{AtomicU64, Ordering};
-use std::test::Fail;
 use std::thread;
 
 /// A future that sums a slice of its caller's, a number a poll, and ends the pool as the last of those that count together.
@@ -95,32 +95,30 @@ fn work<'x, 'd, R: Wait + Drop + Copy>(turns: &mut SumTurns<'x, 'd, R>) {
 }
 
 #[test]
-fn one_worker_runs_futures_that_borrow(rt: HostRuntime) -> Result<(), Fail> {
-    let low = numbers_up_to(rt.alloc(), 50)?;
-    let high = numbers_up_to(rt.alloc(), 100)?;
+fn one_worker_runs_futures_that_borrow(rt: HostRuntime) {
+    let low = granted(&rt, numbers_up_to(rt.alloc(), 50));
+    let high = granted(&rt, numbers_up_to(rt.alloc(), 100));
     let unfinished = AtomicU64::new(2);
-    let pool = SumPool::new(rt, rt.alloc(), 1)?;
-    let mut first = spawned(&pool, low.as_slice(), &unfinished)?;
-    let mut second = spawned(&pool, high.as_slice(), &unfinished)?;
-    let mut turns = pool.turns(0)?;
+    let pool = granted(&rt, SumPool::new(rt, rt.alloc(), 1));
+    let mut first = granted(&rt, spawned(&pool, low.as_slice(), &unfinished));
+    let mut second = granted(&rt, spawned(&pool, high.as_slice(), &unfinished));
+    let mut turns = granted(&rt, pool.turns(0));
     work(&mut turns);
     let (first, second) = (output_of(&mut first), output_of(&mut second));
     assert!(rt; first == Some(1275) && second == Some(5050));
-    Ok(())
 }
 
 #[test]
-fn two_workers_run_futures_that_borrow(rt: HostRuntime) -> Result<(), Fail> {
-    let low = numbers_up_to(rt.alloc(), 50)?;
-    let high = numbers_up_to(rt.alloc(), 100)?;
+fn two_workers_run_futures_that_borrow(rt: HostRuntime) {
+    let low = granted(&rt, numbers_up_to(rt.alloc(), 50));
+    let high = granted(&rt, numbers_up_to(rt.alloc(), 100));
     let unfinished = AtomicU64::new(2);
-    let pool = SumPool::new(rt, rt.alloc(), 2)?;
-    let mut first = spawned(&pool, low.as_slice(), &unfinished)?;
-    let mut second = spawned(&pool, high.as_slice(), &unfinished)?;
-    let mut one = pool.turns(0)?;
-    let mut other = pool.turns(1)?;
+    let pool = granted(&rt, SumPool::new(rt, rt.alloc(), 2));
+    let mut first = granted(&rt, spawned(&pool, low.as_slice(), &unfinished));
+    let mut second = granted(&rt, spawned(&pool, high.as_slice(), &unfinished));
+    let mut one = granted(&rt, pool.turns(0));
+    let mut other = granted(&rt, pool.turns(1));
     thread::join(&rt, || work(&mut one), || work(&mut other));
     let (first, second) = (output_of(&mut first), output_of(&mut second));
     assert!(rt; first == Some(1275) && second == Some(5050));
-    Ok(())
 }

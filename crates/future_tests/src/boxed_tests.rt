@@ -5,10 +5,11 @@ ghost use Rattle.std.specs.Prelude.{⊤};
 use async_task::{Future, Poll, TaskPoll, Yields};
 use awaiters::Nobody;
 use executor::{Key, Pool, PoolTask, PoolWaker, Turns, keep_waker, place_for_waker, wake_kept};
+use granted::granted;
 use std::alloc::{AllocError, Global};
+use std::process::Abort;
 use std::sync::atomic::{AtomicU32, AtomicU64, Ordering};
 use std::sync::{Arc, Wait};
-use std::test::Fail;
 use std::thread::{self, Threads};
 
 /// How many numbers can be rung for.
@@ -210,19 +211,19 @@ fn new_shared(alloc: Global) -> Result<Arc<Shared>, AllocError> {
 }
 
 // What two tasks of these steps answer, on one worker.
-fn answers_of_one<R: Wait + Drop + Copy, T: Step>(
+fn answers_of_one<R: Wait + Abort + Drop + Copy, T: Step>(
     rt: R,
     alloc: Global,
     steps: [T; 2],
-) -> Result<(Option<u64>, Option<u64>), AllocError> {
-    let pool = StepPool::new(rt, alloc, 1)?;
-    let shared = new_shared(alloc)?;
+) -> (Option<u64>, Option<u64>) {
+    let pool = granted(&rt, StepPool::new(rt, alloc, 1));
+    let shared = granted(&rt, new_shared(alloc));
     let [first, second] = steps;
-    let mut first = spawned(&pool, first, &shared)?;
-    let mut second = spawned(&pool, second, &shared)?;
-    let mut turns = pool.turns(0)?;
+    let mut first = granted(&rt, spawned(&pool, first, &shared));
+    let mut second = granted(&rt, spawned(&pool, second, &shared));
+    let mut turns = granted(&rt, pool.turns(0));
     work(&mut turns);
-    Ok((output_of(&mut first), output_of(&mut second)))
+    (output_of(&mut first), output_of(&mut second))
 }
 
 // Two workers, each on a thread, until the last task has ended.
@@ -235,20 +236,20 @@ fn work_both<'x, R: Wait + Threads + Drop + Copy + Send + Sync, T: Step + Send>(
 }
 
 // What two tasks of these steps answer, on two workers.
-fn answers_of_two<R: Wait + Threads + Drop + Copy + Send + Sync, T: Step + Send>(
+fn answers_of_two<R: Wait + Abort + Threads + Drop + Copy + Send + Sync, T: Step + Send>(
     rt: R,
     alloc: Global,
     steps: [T; 2],
-) -> Result<(Option<u64>, Option<u64>), AllocError> {
-    let pool = StepPool::new(rt, alloc, 2)?;
-    let shared = new_shared(alloc)?;
+) -> (Option<u64>, Option<u64>) {
+    let pool = granted(&rt, StepPool::new(rt, alloc, 2));
+    let shared = granted(&rt, new_shared(alloc));
     let [first, second] = steps;
-    let mut first = spawned(&pool, first, &shared)?;
-    let mut second = spawned(&pool, second, &shared)?;
-    let mut one = pool.turns(0)?;
-    let mut other = pool.turns(1)?;
+    let mut first = granted(&rt, spawned(&pool, first, &shared));
+    let mut second = granted(&rt, spawned(&pool, second, &shared));
+    let mut one = granted(&rt, pool.turns(0));
+    let mut other = granted(&rt, pool.turns(1));
     work_both(&rt, &mut one, &mut other);
-    Ok((output_of(&mut first), output_of(&mut second)))
+    (output_of(&mut first), output_of(&mut second))
 }
 
 fn new_doubles(meeting: &Arc<Meeting>) -> Result<Doubles, AllocError> {
@@ -271,22 +272,29 @@ fn new_meeting(alloc: Global) -> Result<Arc<Meeting>, AllocError> {
     Ok(Arc::new(alloc, meeting)?)
 }
 
-#[test]
-fn one_worker_runs_boxed_futures(rt: HostRuntime) -> Result<(), Fail> {
-    let meeting = new_meeting(rt.alloc())?;
-    let doubles: Box<dyn Step + Send> = Box::new(rt.alloc(), new_doubles(&meeting)?)?;
-    let brings: Box<dyn Step + Send> = Box::new(rt.alloc(), new_brings(21, &meeting)?)?;
-    let answers = answers_of_one(rt, rt.alloc(), [doubles, brings])?;
-    assert_eq!(rt; answers, (Some(42), Some(21)));
-    Ok(())
+// A step in a box of its own. Stops where there is no memory.
+fn boxed<R: Abort + Drop + Copy, T: Drop>(
+    rt: R,
+    alloc: Global,
+    step: Result<T, AllocError>,
+) -> Box<T> {
+    granted(&rt, Box::new(alloc, granted(&rt, step)))
 }
 
 #[test]
-fn two_workers_run_boxed_futures(rt: HostRuntime) -> Result<(), Fail> {
-    let meeting = new_meeting(rt.alloc())?;
-    let doubles: Box<dyn Step + Send> = Box::new(rt.alloc(), new_doubles(&meeting)?)?;
-    let brings: Box<dyn Step + Send> = Box::new(rt.alloc(), new_brings(21, &meeting)?)?;
-    let answers = answers_of_two(rt, rt.alloc(), [doubles, brings])?;
-    assert_eq!(rt; answers, (Some(42), Some(21)));
-    Ok(())
+fn one_worker_runs_boxed_futures(rt: HostRuntime) {
+    let meeting = granted(&rt, new_meeting(rt.alloc()));
+    let doubles: Box<dyn Step + Send> = boxed(rt, rt.alloc(), new_doubles(&meeting));
+    let brings: Box<dyn Step + Send> = boxed(rt, rt.alloc(), new_brings(21, &meeting));
+    let answers = answers_of_one(rt, rt.alloc(), [doubles, brings]);
+    assert!(rt; answers == (Some(42), Some(21)));
+}
+
+#[test]
+fn two_workers_run_boxed_futures(rt: HostRuntime) {
+    let meeting = granted(&rt, new_meeting(rt.alloc()));
+    let doubles: Box<dyn Step + Send> = boxed(rt, rt.alloc(), new_doubles(&meeting));
+    let brings: Box<dyn Step + Send> = boxed(rt, rt.alloc(), new_brings(21, &meeting));
+    let answers = answers_of_two(rt, rt.alloc(), [doubles, brings]);
+    assert!(rt; answers == (Some(42), Some(21)));
 }

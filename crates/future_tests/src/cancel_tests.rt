@@ -6,10 +6,10 @@ use awaiters::Nobody;
 use executor::{
     Key, Pool, PoolWaker, collect, keep_task, keep_waker, place_for_task, place_for_waker,
 };
+use granted::granted;
 use std::alloc::{AllocError, Global};
 use std::sync::atomic::{AtomicU64, Ordering};
 use std::sync::{Arc, Wait};
-use std::test::Fail;
 
 /// How many children a parent keeps. Each keeps one waker of its own.
 const CHILDREN: u64 = 10;
@@ -115,12 +115,12 @@ fn seen<R: Wait + Drop + Copy>(
 }
 
 #[test]
-fn the_cancel_of_a_parent_leaves_nothing(rt: HostRuntime) -> Result<(), Fail> {
-    let dropped = Arc::new(rt.alloc(), AtomicU64::new(0))?;
-    let pool = Pool::<_, Member<_>, Nobody>::new(rt, rt.alloc(), 1)?;
-    let parent = member_of(rt.alloc(), CHILDREN, WAKERS, &dropped)?;
-    let task = pool.spawn(parent).ok().ok_or(AllocError)?;
-    let mut turns = pool.turns(0)?;
+fn the_cancel_of_a_parent_leaves_nothing(rt: HostRuntime) {
+    let dropped = granted(&rt, Arc::new(rt.alloc(), AtomicU64::new(0)));
+    let pool = granted(&rt, Pool::<_, Member<_>, Nobody>::new(rt, rt.alloc(), 1));
+    let parent = granted(&rt, member_of(rt.alloc(), CHILDREN, WAKERS, &dropped));
+    let task = granted(&rt, pool.spawn(parent).ok().ok_or(AllocError));
+    let mut turns = granted(&rt, pool.turns(0));
     for _ in 0..TURNS {
         collect((&pool, 0));
         if !turns.tick() {
@@ -139,5 +139,4 @@ fn the_cancel_of_a_parent_leaves_nothing(rt: HostRuntime) -> Result<(), Fail> {
     assert!(rt; before == (WAKERS + CHILDREN, CHILDREN, 0));
     assert!(rt; after == (0, 0, CHILDREN + 1));
     assert!(rt; Arc::strong_count(&dropped) == 1);
-    Ok(())
 }

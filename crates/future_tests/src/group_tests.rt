@@ -1,12 +1,15 @@
 //! Groups of tasks of a pool, some of which await a task of their own: one type of awaiter serves these, the group, and `block_on`.
-use crate::awaiting_tests::{Counts, Errand, Link, LinkPool, spawn_link};
-use executor::{NextMemberError, PoolGroup, wake_posted};
+use crate::calls::{
+    drop_pool, drop_task, drop_turns, new_pool, shut_down, tick, turns_of, wait_for, wakes_posted,
+};
+use crate::link::{Counts, Errand, Link, LinkPool, LinkTurns, spawn_link};
+use executor::{NextMemberError, PoolGroup};
+use granted::granted;
 use std::alloc::AllocError;
 use std::sync::{Arc, Wait};
-use std::test::Fail;
 use std::thread;
 use std::time::Duration;
-use task_group::{Ended, TaskGroup};
+use task_group::TaskGroup;
 
 // The most turns that anything takes.
 const TURNS: usize = 1000;
@@ -15,8 +18,6 @@ const TURNS: usize = 1000;
 const GROUPS: u64 = 200;
 
 type LinkGroup<'x, R> = PoolGroup<'x, R, Link<R>>;
-
-type NextMember<R> = Result<Option<Ended<Link<R>>>, NextMemberError>;
 
 // What came out of a group: how many members, and the sum of their outputs.
 type CameOut = (u64, u64);
@@ -57,43 +58,49 @@ fn add_next<R: Wait + Drop + Copy>(group: &mut LinkGroup<'_, R>, came_out: &mut 
 
 // One thread looks at the group between its turns as a worker, and then waits for one more task.
 #[test]
-fn a_worker_looks_at_a_group_between_its_turns(rt: HostRuntime) -> Result<(), Fail> {
-    let counts = Counts::new(rt.alloc())?;
-    let pool = LinkPool::new(rt, rt.alloc(), 1)?;
-    let mut group = new_group(&pool, &counts)?;
-    let mut last = spawn_link(&pool, 1, 1, Errand::GiveWay(2), &counts)?;
-    let mut turns = pool.turns(0)?;
+fn a_worker_looks_at_a_group_between_its_turns(rt: HostRuntime) {
+    let counts = granted(&rt, Counts::new(rt.alloc()));
+    let pool = new_pool(rt, rt.alloc(), 1);
+    let mut group = granted(&rt, new_group(&pool, &counts));
+    let mut last = granted(&rt, spawn_link(&pool, 1, 1, Errand::GiveWay(2), &counts));
+    let mut turns = turns_of(rt, &pool);
     let mut came_out = (0, 0);
     for _ in 0..TURNS {
         add_next(&mut group, &mut came_out);
-        wake_posted((&pool, 0));
-        turns.tick();
+        wakes_posted(&pool);
+        tick(&mut turns);
     }
-    let answer = turns.block_on(&mut last);
+    let answer = wait_for(&mut turns, &mut last);
+    drop_turns(turns);
+    drop_group(group);
+    drop_task(last);
+    drop_pool(pool);
     assert!(rt; came_out == (3, 6) && answer == Ok(2));
-    Ok(())
 }
 
 // One thread waits for a group while another one is a worker, and then is a worker, too, until one more task ends.
 #[test]
-fn a_thread_waits_for_a_group_and_then_for_a_task(rt: HostRuntime) -> Result<(), Fail> {
-    let counts = Counts::new(rt.alloc())?;
-    let pool = LinkPool::new(rt, rt.alloc(), 2)?;
-    let mut group = new_group(&pool, &counts)?;
-    let mut last = spawn_link(&pool, 2, 1, Errand::GiveWay(2), &counts)?;
-    let mut turns = pool.turns(0)?;
+fn a_thread_waits_for_a_group_and_then_for_a_task(rt: HostRuntime) {
+    let counts = granted(&rt, Counts::new(rt.alloc()));
+    let pool = new_pool(rt, rt.alloc(), 2);
+    let mut group = granted(&rt, new_group(&pool, &counts));
+    let mut last = granted(&rt, spawn_link(&pool, 2, 1, Errand::GiveWay(2), &counts));
+    let mut turns = turns_of(rt, &pool);
     let (ran, (came_out, answer)) = thread::join(
         &rt,
         || pool.run(1).is_ok(),
         || {
             let came_out = all_of(&mut group);
-            let answer = turns.block_on(&mut last);
-            pool.shutdown();
+            let answer = wait_for(&mut turns, &mut last);
+            shut_down(&pool);
             (came_out, answer)
         },
     );
+    drop_turns(turns);
+    drop_group(group);
+    drop_task(last);
+    drop_pool(pool);
     assert!(rt; ran && came_out == (3, 6) && answer == Ok(2));
-    Ok(())
 }
 
 // A group of one link, which does this errand at the queue of a worker.
@@ -109,36 +116,62 @@ fn new_lone<'x, R: Wait + Drop + Copy>(
     Ok(group)
 }
 
-// The output of a member, 0 where none came out.
-fn output_of<R: Wait + Drop + Copy>(next: NextMember<R>) -> u64 {
-    match next {
+// The output of the next member, 0 where none comes out.
+fn next_output<'x, R: Wait + Drop + Copy>(
+    turns: &mut LinkTurns<'x, R>,
+    group: &mut LinkGroup<'x, R>,
+) -> u64 {
+    match turns.next_member(group) {
         Ok(Some(ended)) => ended.answer.unwrap_or(0),
         _ => 0,
     }
 }
 
+// Whether there is no next member.
+fn is_over<'x, R: Wait + Drop + Copy>(
+    turns: &mut LinkTurns<'x, R>,
+    group: &mut LinkGroup<'x, R>,
+) -> bool {
+    matches!(turns.next_member(group), Ok(None))
+}
+
+// Whether the wait for the next member ends with the pool.
+fn is_shut_down<'x, R: Wait + Drop + Copy>(
+    turns: &mut LinkTurns<'x, R>,
+    group: &mut LinkGroup<'x, R>,
+) -> bool {
+    matches!(turns.next_member(group), Err(NextMemberError::ShutDown))
+}
+
+// Drops a group.
+fn drop_group<R: Wait + Drop + Copy>(group: LinkGroup<'_, R>) {
+    drop(group);
+}
+
 // The only thread waits for each member of a group, and runs its tasks meanwhile.
 #[test]
-fn a_worker_waits_for_members_that_it_runs(rt: HostRuntime) -> Result<(), Fail> {
-    let counts = Counts::new(rt.alloc())?;
-    let pool = LinkPool::new(rt, rt.alloc(), 1)?;
-    let mut group = new_group(&pool, &counts)?;
-    let mut turns = pool.turns(0)?;
+fn a_worker_waits_for_members_that_it_runs(rt: HostRuntime) {
+    let counts = granted(&rt, Counts::new(rt.alloc()));
+    let pool = new_pool(rt, rt.alloc(), 1);
+    let mut group = granted(&rt, new_group(&pool, &counts));
+    let mut turns = turns_of(rt, &pool);
     let mut sum = 0u64;
     for _ in 0..3 {
-        sum = sum.wrapping_add(output_of(turns.next_member(&mut group)));
+        sum = sum.wrapping_add(next_output(&mut turns, &mut group));
     }
-    let is_over = matches!(turns.next_member(&mut group), Ok(None));
+    let is_over = is_over(&mut turns, &mut group);
+    drop_turns(turns);
+    drop_group(group);
+    drop_pool(pool);
     assert!(rt; sum == 6 && is_over);
-    Ok(())
 }
 
 // A worker that waits sleeps while another one runs the member, and is woken by its end.
 #[test]
-fn a_member_that_ends_elsewhere_wakes_the_worker_that_waits(rt: HostRuntime) -> Result<(), Fail> {
-    let counts = Counts::new(rt.alloc())?;
-    let pool = LinkPool::new(rt, rt.alloc(), 2)?;
-    let mut turns = pool.turns(0)?;
+fn a_member_that_ends_elsewhere_wakes_the_worker_that_waits(rt: HostRuntime) {
+    let counts = granted(&rt, Counts::new(rt.alloc()));
+    let pool = new_pool(rt, rt.alloc(), 2);
+    let mut turns = turns_of(rt, &pool);
     let (ran, sum) = thread::join(
         &rt,
         || pool.run(1).is_ok(),
@@ -148,23 +181,24 @@ fn a_member_that_ends_elsewhere_wakes_the_worker_that_waits(rt: HostRuntime) -> 
                 let Ok(mut group) = new_lone(&pool, 1, Errand::GiveWay(2), &counts) else {
                     break;
                 };
-                sum = sum.wrapping_add(output_of(turns.next_member(&mut group)));
+                sum = sum.wrapping_add(next_output(&mut turns, &mut group));
             }
-            pool.shutdown();
+            shut_down(&pool);
             sum
         },
     );
+    drop_turns(turns);
+    drop_pool(pool);
     assert!(rt; ran && sum == GROUPS);
-    Ok(())
 }
 
 // The pool of the worker that waits has no task, so nothing else wakes it.
 #[test]
-fn a_member_of_another_pool_wakes_the_worker_that_waits(rt: HostRuntime) -> Result<(), Fail> {
-    let counts = Counts::new(rt.alloc())?;
-    let pool = LinkPool::new(rt, rt.alloc(), 1)?;
-    let other = LinkPool::new(rt, rt.alloc(), 1)?;
-    let mut turns = pool.turns(0)?;
+fn a_member_of_another_pool_wakes_the_worker_that_waits(rt: HostRuntime) {
+    let counts = granted(&rt, Counts::new(rt.alloc()));
+    let pool = new_pool(rt, rt.alloc(), 1);
+    let other = new_pool(rt, rt.alloc(), 1);
+    let mut turns = turns_of(rt, &pool);
     let (ran, sum) = thread::join(
         &rt,
         || other.run(0).is_ok(),
@@ -174,36 +208,38 @@ fn a_member_of_another_pool_wakes_the_worker_that_waits(rt: HostRuntime) -> Resu
                 let Ok(mut group) = new_lone(&other, 1, Errand::GiveWay(2), &counts) else {
                     break;
                 };
-                sum = sum.wrapping_add(output_of(turns.next_member(&mut group)));
+                sum = sum.wrapping_add(next_output(&mut turns, &mut group));
             }
-            other.shutdown();
+            shut_down(&other);
             sum
         },
     );
+    drop_turns(turns);
+    drop_pool(pool);
+    drop_pool(other);
     assert!(rt; ran && sum == GROUPS);
-    Ok(())
 }
 
 // A shutdown ends the wait for a member that nothing will wake; it stays in the group.
 #[test]
-fn a_wait_for_a_member_ends_with_the_pool(rt: HostRuntime) -> Result<(), Fail> {
-    let counts = Counts::new(rt.alloc())?;
-    let pool = LinkPool::new(rt, rt.alloc(), 1)?;
-    let mut group = new_lone(&pool, 0, Errand::Stay, &counts)?;
-    let mut turns = pool.turns(0)?;
-    let ran = turns.tick();
-    let (_, is_shut_down) = thread::join(
+fn a_wait_for_a_member_ends_with_the_pool(rt: HostRuntime) {
+    let counts = granted(&rt, Counts::new(rt.alloc()));
+    let pool = new_pool(rt, rt.alloc(), 1);
+    let mut group = granted(&rt, new_lone(&pool, 0, Errand::Stay, &counts));
+    let mut turns = turns_of(rt, &pool);
+    let ran = tick(&mut turns);
+    let (_, ended) = thread::join(
         &rt,
         || {
             // By then the worker sleeps.
             thread::sleep(&rt, Duration::from_millis(20));
-            pool.shutdown();
+            shut_down(&pool);
         },
-        || matches!(
-            turns.next_member(&mut group),
-            Err(NextMemberError::ShutDown)
-        ),
+        || is_shut_down(&mut turns, &mut group),
     );
-    assert!(rt; ran && is_shut_down && group.len() == 1);
-    Ok(())
+    let left = group.len();
+    drop_turns(turns);
+    drop_group(group);
+    drop_pool(pool);
+    assert!(rt; ran && ended && left == 1);
 }

@@ -3,10 +3,10 @@ ghost use Rattle.std.specs.Prelude.{⊤};
 
 use async_task::{Future, Poll, TaskPoll, Wake, Yields};
 use executor::{Key, Pool, keep_task, place_for_task, poll_kept};
+use granted::granted;
 use std::alloc::{AllocError, Global};
 use std::sync::atomic::{AtomicU64, Ordering};
 use std::sync::{Arc, Wait};
-use std::test::Fail;
 
 /// Answers 7 at its first poll, and counts its polls.
 #[derive(Drop)]
@@ -82,34 +82,33 @@ fn poll_at<R: Wait + Drop + Copy>(pool: &SevenPool<R>, key: &Key<R>) -> Option<u
 
 // The task of the earlier Task is never polled, and its future is dropped. That of the later one answers.
 #[test]
-fn a_task_that_is_kept_cancels_the_one_that_was_there(rt: HostRuntime) -> Result<(), Fail> {
-    let (earlier, later) = (no_polls(rt.alloc())?, no_polls(rt.alloc())?);
-    let pool = SevenPool::new(rt, rt.alloc(), 1)?;
-    let key = place_for_task((&pool, 0)).ok_or(AllocError)?;
-    let first = keep_seven(&pool, &key, &earlier)?;
-    let second = keep_seven(&pool, &key, &later)?;
-    let mut turns = pool.turns(0)?;
+fn a_task_that_is_kept_cancels_the_one_that_was_there(rt: HostRuntime) {
+    let earlier = granted(&rt, no_polls(rt.alloc()));
+    let later = granted(&rt, no_polls(rt.alloc()));
+    let pool = granted(&rt, SevenPool::new(rt, rt.alloc(), 1));
+    let key = granted(&rt, place_for_task((&pool, 0)).ok_or(AllocError));
+    let first = granted(&rt, keep_seven(&pool, &key, &earlier));
+    let second = granted(&rt, keep_seven(&pool, &key, &later));
+    let mut turns = granted(&rt, pool.turns(0));
     let ran = (turns.tick(), turns.tick());
     let polls = (earlier.load(Ordering::SeqCst), later.load(Ordering::SeqCst));
     let owners = Arc::strong_count(&earlier);
     let answer = poll_at(&pool, &key);
     assert!(rt; first && second && ran == (true, true));
-    assert_eq!(rt; (polls, owners, answer), ((0, 1), 1, Some(7)));
-    Ok(())
+    assert!(rt; (polls, owners, answer) == ((0, 1), 1, Some(7)));
 }
 
 // It is refused twice before the task has run. The poll after that needs no awaiter, and the last one finds no Task.
 #[test]
-fn a_kept_task_stays_where_its_awaiter_is_refused(rt: HostRuntime) -> Result<(), Fail> {
-    let polls = no_polls(rt.alloc())?;
-    let pool = SevenPool::new(rt, rt.alloc(), 1)?;
-    let key = place_for_task((&pool, 0)).ok_or(AllocError)?;
-    let kept = keep_seven(&pool, &key, &polls)?;
-    let mut turns = pool.turns(0)?;
+fn a_kept_task_stays_where_its_awaiter_is_refused(rt: HostRuntime) {
+    let polls = granted(&rt, no_polls(rt.alloc()));
+    let pool = granted(&rt, SevenPool::new(rt, rt.alloc(), 1));
+    let key = granted(&rt, place_for_task((&pool, 0)).ok_or(AllocError));
+    let kept = granted(&rt, keep_seven(&pool, &key, &polls));
+    let mut turns = granted(&rt, pool.turns(0));
     let before = (poll_at(&pool, &key), poll_at(&pool, &key));
     let ran = turns.tick();
     let after = (poll_at(&pool, &key), poll_at(&pool, &key));
     assert!(rt; kept && ran);
-    assert_eq!(rt; (before, after), ((Some(0), Some(0)), (Some(7), None)));
-    Ok(())
+    assert!(rt; (before, after) == ((Some(0), Some(0)), (Some(7), None)));
 }

@@ -3,9 +3,9 @@ ghost use Rattle.std.specs.Prelude.{⊤};
 
 use async_task::{Future, Poll, Wake, Yields};
 use executor::{BellAwaiter, Pool, PoolTask, PoolWaker};
+use granted::granted;
 use std::alloc::AllocError;
 use std::sync::Wait;
-use std::test::Fail;
 use std::thread;
 
 /// Gives way `left` times, and answers how often it was polled.
@@ -66,7 +66,7 @@ enum Kind {
 }
 
 /// What they answer.
-#[derive(Clone, Copy, Debug, PartialEq, Eq)]
+#[derive(Clone, Copy, PartialEq, Eq)]
 enum Answer {
     Polled(u64),
     Found(bool),
@@ -119,26 +119,25 @@ fn spawned<'x, R: Wait + Drop + Copy>(
 }
 
 #[test]
-fn one_worker_runs_futures_of_two_types(rt: HostRuntime) -> Result<(), Fail> {
-    let pool = KindPool::new(rt, rt.alloc(), 1)?;
-    let mut first = spawned(&pool, polled_future(3))?;
-    let mut second = spawned(&pool, finding_future("async-task", b'-'))?;
-    let mut third = spawned(&pool, finding_future("async-task", b'_'))?;
-    let mut turns = pool.turns(0)?;
+fn one_worker_runs_futures_of_two_types(rt: HostRuntime) {
+    let pool = granted(&rt, KindPool::new(rt, rt.alloc(), 1));
+    let mut first = granted(&rt, spawned(&pool, polled_future(3)));
+    let mut second = granted(&rt, spawned(&pool, finding_future("async-task", b'-')));
+    let mut third = granted(&rt, spawned(&pool, finding_future("async-task", b'_')));
+    let mut turns = granted(&rt, pool.turns(0));
     let first = turns.block_on(&mut first);
     let second = turns.block_on(&mut second);
     let third = turns.block_on(&mut third);
     assert!(rt; first == Ok(Answer::Polled(4)));
     assert!(rt; second == Ok(Answer::Found(true)) && third == Ok(Answer::Found(false)));
-    Ok(())
 }
 
 #[test]
-fn two_workers_run_futures_of_two_types(rt: HostRuntime) -> Result<(), Fail> {
-    let pool = KindPool::new(rt, rt.alloc(), 2)?;
-    let mut first = spawned(&pool, polled_future(1000))?;
-    let mut second = spawned(&pool, finding_future("runnable", b'z'))?;
-    let mut turns = pool.turns(0)?;
+fn two_workers_run_futures_of_two_types(rt: HostRuntime) {
+    let pool = granted(&rt, KindPool::new(rt, rt.alloc(), 2));
+    let mut first = granted(&rt, spawned(&pool, polled_future(1000)));
+    let mut second = granted(&rt, spawned(&pool, finding_future("runnable", b'z')));
+    let mut turns = granted(&rt, pool.turns(0));
     let (ran, (first, second)) = thread::join(
         &rt,
         || pool.run(1).is_ok(),
@@ -150,5 +149,4 @@ fn two_workers_run_futures_of_two_types(rt: HostRuntime) -> Result<(), Fail> {
         },
     );
     assert!(rt; ran && first == Ok(Answer::Polled(1001)) && second == Ok(Answer::Found(false)));
-    Ok(())
 }

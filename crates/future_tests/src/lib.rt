@@ -9,6 +9,8 @@ mod borrow_tests;
 #[cfg(test)]
 mod boxed_tests;
 #[cfg(test)]
+mod calls;
+#[cfg(test)]
 mod cancel_tests;
 #[cfg(test)]
 mod group_tests;
@@ -16,5 +18,7 @@ mod group_tests;
 mod kept_tests;
 #[cfg(test)]
 mod kind_tests;
+#[cfg(test)]
+mod link;
 #[cfg(test)]
 mod mail_tests;

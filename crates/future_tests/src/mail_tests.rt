@@ -3,10 +3,10 @@ ghost use Rattle.std.specs.Prelude.{⊤};
 
 use async_task::{Future, Poll, Wake, Yields};
 use executor::{BellAwaiter, Key, Pool, PoolWaker, keep_waker, place_for_waker, wake_posted};
+use granted::granted;
 use std::alloc::{AllocError, Global};
 use std::sync::atomic::{AtomicU64, Ordering};
 use std::sync::{Arc, Wait};
-use std::test::Fail;
 
 /// What is seen of a task: how often it was polled, and the number of its place.
 #[derive(Drop)]
@@ -75,11 +75,11 @@ fn spawn_poster<R: Wait + Drop + Copy>(
 
 // The places are of two parts. In four turns the eager one is woken thrice and the other one once, in whatever order the parts come.
 #[test]
-fn a_number_that_is_always_posted_keeps_no_other_waiting(rt: HostRuntime) -> Result<(), Fail> {
-    let pool = PosterPool::new(rt, rt.alloc(), 1)?;
-    let eager = spawn_poster(&pool, rt.alloc(), 0, true)?;
-    let patient = spawn_poster(&pool, rt.alloc(), 1, false)?;
-    let mut turns = pool.turns(0)?;
+fn a_number_that_is_always_posted_keeps_no_other_waiting(rt: HostRuntime) {
+    let pool = granted(&rt, PosterPool::new(rt, rt.alloc(), 1));
+    let eager = granted(&rt, spawn_poster(&pool, rt.alloc(), 0, true));
+    let patient = granted(&rt, spawn_poster(&pool, rt.alloc(), 1, false));
+    let mut turns = granted(&rt, pool.turns(0));
     let first = (turns.tick(), turns.tick());
     post(&pool, patient.number.load(Ordering::SeqCst) as usize);
     let mut woken = 0u8;
@@ -91,6 +91,5 @@ fn a_number_that_is_always_posted_keeps_no_other_waiting(rt: HostRuntime) -> Res
         eager.polls.load(Ordering::SeqCst),
         patient.polls.load(Ordering::SeqCst),
     );
-    assert_eq!(rt; (first, woken, polls), ((true, true), 4, (4, 2)));
-    Ok(())
+    assert!(rt; (first, woken, polls) == ((true, true), 4, (4, 2)));
 }

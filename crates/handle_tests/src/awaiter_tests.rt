@@ -6,10 +6,10 @@ use counted_values::behaviour::Behaviour;
 use counted_values::counters::{Counters, Counts};
 use counted_values::flag::Flag;
 use fixtures::fixture::Fixture;
-use std::alloc::{AllocError, Global};
+use granted::granted;
+use std::alloc::Global;
 use std::process::Abort;
 use std::sync::{Arc, Wait};
-use std::test::Fail;
 
 // The clones of an awaiter, the wakes, and the clones that were dropped unwoken.
 type Ended = (u64, u64, u64);
@@ -58,13 +58,13 @@ fn a_second_awaiter_replaces_the_first(rt: HostRuntime) {
     let second = calls::flag(&fixture, 2);
     let (answers, ends) = poll_with_two(&fixture, &first, &second);
     let last = (ends_of(&first), ends_of(&second));
-    assert_eq!(rt;
-        (answers, ends, last),
-        (
-            [true; 4],
-            [STORED, DROPPED, STORED, DROPPED, WOKEN],
-            (DROPPED, WOKEN)
-        )
+    assert!(rt;
+        (answers, ends, last)
+            == (
+                [true; 4],
+                [STORED, DROPPED, STORED, DROPPED, WOKEN],
+                (DROPPED, WOKEN)
+            )
     );
 }
 
@@ -112,11 +112,8 @@ fn the_last_of_three_awaiters_is_woken(rt: HostRuntime) {
     let third = calls::flag(&fixture, 3);
     let (answers, ran, unwoken) = poll_with_three(&fixture, &first, &second, &third);
     let ended = [ends_of(&first), ends_of(&second), ends_of(&third)];
-    assert_eq!(rt; (answers, ran), ([true; 7], (false, Some(false))));
-    assert_eq!(rt;
-        [unwoken, ended],
-        [[DROPPED, DROPPED, STORED], [DROPPED, DROPPED, WOKEN]]
-    );
+    assert!(rt; (answers, ran) == ([true; 7], (false, Some(false))));
+    assert!(rt; [unwoken, ended] == [[DROPPED, DROPPED, STORED], [DROPPED, DROPPED, WOKEN]]);
 }
 
 // Drops the Task of an awaited task before the run: what was answered and shown, what the run answered, how the awaiter ended, and what the drop left.
@@ -141,12 +138,12 @@ fn the_drop_of_a_task_wakes_its_awaiter(rt: HostRuntime) {
     let flag = calls::flag(&fixture, 1);
     let seen = drop_awaited(&fixture, &flag);
     let last = (ends_of(&flag), fixture.counts());
-    assert_eq!(rt;
-        (seen, last),
-        (
-            ([true; 2], false, WOKEN, Counts::new(0, 0, 0, 0)),
-            (WOKEN, Counts::new(0, 0, 1, 1))
-        )
+    assert!(rt;
+        (seen, last)
+            == (
+                ([true; 2], false, WOKEN, Counts::new(0, 0, 0, 0)),
+                (WOKEN, Counts::new(0, 0, 1, 1))
+            )
     );
 }
 
@@ -172,13 +169,13 @@ fn the_drop_of_an_idle_task_wakes_its_awaiter(rt: HostRuntime) {
     let closing = fixture.surroundings.infos_are(&[false]);
     let ran = fixture.surroundings.run_next();
     let last = (ends_of(&flag), fixture.counts());
-    assert_eq!(rt; (closing, ran), (true, Some(false)));
-    assert_eq!(rt;
-        (seen, last),
-        (
-            ([true; 2], WOKEN, Counts::new(1, 1, 0, 0)),
-            (WOKEN, Counts::new(1, 1, 1, 1))
-        )
+    assert!(rt; (closing, ran) == (true, Some(false)));
+    assert!(rt;
+        (seen, last)
+            == (
+                ([true; 2], WOKEN, Counts::new(1, 1, 0, 0)),
+                (WOKEN, Counts::new(1, 1, 1, 1))
+            )
     );
 }
 
@@ -206,11 +203,8 @@ fn a_task_whose_output_was_taken_is_closed(rt: HostRuntime) {
     let flag = calls::flag(&fixture, 1);
     let (answers, kept) = poll_past_the_output(&fixture, &flag);
     let drops = fixture.output_drops();
-    assert_eq!(rt; (answers, ends_of(&flag), drops), ([true; 5], UNTOUCHED, 1));
-    assert_eq!(rt;
-        [kept, fixture.counts()],
-        [Counts::new(1, 0, 1, 0), Counts::new(1, 0, 1, 1)]
-    );
+    assert!(rt; (answers, ends_of(&flag), drops) == ([true; 5], UNTOUCHED, 1));
+    assert!(rt; [kept, fixture.counts()] == [Counts::new(1, 0, 1, 0), Counts::new(1, 0, 1, 1)]);
 }
 
 // What is done first to a task that is awaited; the other handle follows.
@@ -245,23 +239,23 @@ fn end_by<R: Wait + Drop>(runnable: WatchedRunnable<R>, task: WatchedTask<R>, fi
 }
 
 // Polls the Task once, and then ends the task: how the awaiter ended.
-fn ends_after<R: Wait + Drop + Copy>(
+fn ends_after<R: Wait + Abort + Drop + Copy>(
     rt: &R,
     alloc: Global,
     behaviour: Behaviour,
     first: First,
-) -> Result<Ends, AllocError> {
-    let awaiter = Watched::new(alloc)?;
-    let counters = Arc::new(alloc, Counters::new())?;
-    let (runnable, mut task) = spawn_watched(*rt, alloc, behaviour, &counters)?;
+) -> Ends {
+    let awaiter = granted(rt, Watched::new(alloc));
+    let counters = granted(rt, Arc::new(alloc, Counters::new()));
+    let (runnable, mut task) = granted(rt, spawn_watched(*rt, alloc, behaviour, &counters));
     drop(task.poll(&awaiter));
     end_by(runnable, task, first);
-    Ok(awaiter.ends())
+    awaiter.ends()
 }
 
 // A stored clone ends once: woken by value where the task ends as an awaited one, and dropped where nobody holds the task.
 #[test]
-fn a_stored_awaiter_ends_once(rt: HostRuntime) -> Result<(), Fail> {
+fn a_stored_awaiter_ends_once(rt: HostRuntime) {
     let woken = Ends::new(1, 1, 0, 0);
     let forgotten = Ends::new(1, 0, 0, 1);
     let cases = [
@@ -274,8 +268,7 @@ fn a_stored_awaiter_ends_once(rt: HostRuntime) -> Result<(), Fail> {
         (Behaviour::Pending, First::Run, woken),
     ];
     for (behaviour, first, expected) in cases {
-        let ends = ends_after(&rt, rt.alloc(), behaviour, first)?;
-        assert_eq!(rt; ends, expected, "{behaviour:?}, {first:?}");
+        let ends = ends_after(&rt, rt.alloc(), behaviour, first);
+        assert!(rt; ends == expected, "{behaviour:?}, {first:?}");
     }
-    Ok(())
 }

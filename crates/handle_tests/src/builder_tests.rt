@@ -10,12 +10,12 @@ use fixtures::executor::{PriorityQueue, PriorityRunnable, PriorityScheduler, Pri
 use fixtures::fixture::Fixture;
 use fixtures::future::RowFuture;
 use fixtures::surroundings::{RowRunnable, RowTask, Scheduler};
+use granted::granted;
 use std::alloc::{AllocError, Global};
 use std::fmt;
 use std::process::Abort;
 use std::string::String;
 use std::sync::{Arc, Wait};
-use std::test::Fail;
 
 // What a handle shows of a task after its spawn, after the handle's own name.
 const SPAWNED: &str =
@@ -31,7 +31,7 @@ fn text_of<T: fmt::Debug>(alloc: Global, value: &T) -> Shown {
 // Stops where a value showed another text, or there was no memory for it.
 fn assert_shown<R: Abort + Drop + Copy>(rt: R, shown: Shown, expected: &str) {
     match shown {
-        Ok(text) => assert_eq!(rt; text.as_str(), expected),
+        Ok(text) => assert!(rt; text.as_str() == expected),
         Err(_) => panic!(rt; "no memory"),
     }
 }
@@ -164,16 +164,12 @@ fn run_prior<R: Wait + Drop>(
 }
 
 #[test]
-fn the_maker_is_called_once_with_the_metadata(rt: HostRuntime) -> Result<(), Fail> {
-    let flag = Flag::new(rt.alloc(), 1)?;
-    let queue = PriorityQueue::new(rt, rt.alloc(), 1)?;
+fn the_maker_is_called_once_with_the_metadata(rt: HostRuntime) {
+    let flag = granted(&rt, Flag::new(rt.alloc(), 1));
+    let queue = granted(&rt, PriorityQueue::new(rt, rt.alloc(), 1));
     let calls = Counter::new();
-    let (runnable, task) = spawn_by_maker(&queue, rt, rt.alloc(), &calls)?;
+    let (runnable, task) = granted(&rt, spawn_by_maker(&queue, rt, rt.alloc(), &calls));
     let calls_of_spawn = calls.get();
     let seen = run_prior(runnable, task, &flag);
-    assert_eq!(rt;
-        (calls_of_spawn, seen, calls.get()),
-        (1, ([7, 7], false, true), 1)
-    );
-    Ok(())
+    assert!(rt; (calls_of_spawn, seen, calls.get()) == (1, ([7, 7], false, true), 1));
 }

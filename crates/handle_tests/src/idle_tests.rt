@@ -44,17 +44,17 @@ fn discard_idle<R: Wait + Abort + Drop + Copy>(fixture: &Fixture<R>, is_fallible
 
 // Stops where a discard did not leave a closed task with 1 Runnable, beside the waker (0x209): its run polls nothing, and drops the future. The waker keeps the schedule value.
 fn assert_closed<R: Abort + Drop + Copy>(rt: R, seen: Seen, last: Counts) {
-    assert_eq!(rt;
-        (seen, last),
-        (
-            (
-                1,
-                Counts::new(1, 1, 0, 0),
-                (true, false),
-                Counts::new(1, 1, 1, 0)
-            ),
-            Counts::new(1, 1, 1, 1)
-        )
+    assert!(rt;
+        (seen, last)
+            == (
+                (
+                    1,
+                    Counts::new(1, 1, 0, 0),
+                    (true, false),
+                    Counts::new(1, 1, 1, 0)
+                ),
+                Counts::new(1, 1, 1, 1)
+            )
     );
 }
 
@@ -92,17 +92,17 @@ fn a_detach_of_a_fallible_task_leaves_an_idle_task_open(rt: HostRuntime) {
     let fixture = calls::fixture(rt, rt.alloc());
     let seen = detach_idle(&fixture);
     let last = fixture.surroundings.run_next();
-    assert_eq!(rt;
-        (seen, last, fixture.counts()),
-        (
-            (
-                0,
-                Counts::new(1, 0, 0, 0),
-                (true, false),
-                Counts::new(2, 2, 0, 0)
-            ),
-            Some(false),
-            Counts::new(2, 2, 1, 1)
-        )
+    assert!(rt;
+        (seen, last, fixture.counts())
+            == (
+                (
+                    0,
+                    Counts::new(1, 0, 0, 0),
+                    (true, false),
+                    Counts::new(2, 2, 0, 0)
+                ),
+                Some(false),
+                Counts::new(2, 2, 1, 1)
+            )
     );
 }

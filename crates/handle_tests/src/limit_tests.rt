@@ -20,7 +20,7 @@ fn ask_at_limit<R: Wait + Abort + Drop + Copy>(fixture: &Fixture<R>, references:
 fn a_limit_refuses_wakers(rt: HostRuntime) {
     let fixture = calls::fixture(rt, rt.alloc());
     let seen = [ask_at_limit(&fixture, 0), ask_at_limit(&fixture, 1)];
-    assert_eq!(rt; seen, [[true; 2]; 2]);
+    assert!(rt; seen == [[true; 2]; 2]);
 }
 
 // Asks a Runnable of a task of limit 3 for wakers: whether the one above the limit was refused, and what was shown.
@@ -48,7 +48,7 @@ fn ask_for_wakers<R: Wait + Abort + Drop + Copy>(fixture: &Fixture<R>) -> (bool,
 fn a_runnable_gives_wakers_up_to_the_limit(rt: HostRuntime) {
     let fixture = calls::fixture(rt, rt.alloc());
     let seen = ask_for_wakers(&fixture);
-    assert_eq!(rt; seen, (true, [true; 5]));
+    assert!(rt; seen == (true, [true; 5]));
 }
 
 // Clones a waker of an idle task of limit 2: whether the clone above the limit was refused, and what was shown.
@@ -76,7 +76,7 @@ fn ask_for_clones<R: Wait + Abort + Drop + Copy>(fixture: &Fixture<R>) -> (bool,
 fn a_waker_is_cloned_up_to_the_limit(rt: HostRuntime) {
     let fixture = calls::fixture(rt, rt.alloc());
     let seen = ask_for_clones(&fixture);
-    assert_eq!(rt; seen, (true, [true; 5]));
+    assert!(rt; seen == (true, [true; 5]));
 }
 
 // Wakes an idle task of limit 2 that has two wakers: whether a third one was refused, what was shown, what the wake queued, and what its run answered.
@@ -105,5 +105,5 @@ fn wake_at_limit<R: Wait + Abort + Drop + Copy>(
 fn a_wake_may_pass_the_limit_by_one(rt: HostRuntime) {
     let fixture = calls::fixture(rt, rt.alloc());
     let seen = wake_at_limit(&fixture);
-    assert_eq!(rt; seen, (true, [true; 2], 1, Some(false)));
+    assert!(rt; seen == (true, [true; 2], 1, Some(false)));
 }

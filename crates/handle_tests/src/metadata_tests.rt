@@ -6,9 +6,10 @@ use counted_values::behaviour::Behaviour;
 use counted_values::counters::{Counter, Counters};
 use counted_values::flag::Flag;
 use fixtures::future::RowFuture;
+use granted::granted;
 use std::alloc::{AllocError, Global};
+use std::process::Abort;
 use std::sync::{Arc, Wait};
-use std::test::Fail;
 
 // A metadata that counts its drop.
 struct Tag {
@@ -71,75 +72,72 @@ fn drop_waker<R: Wait + Drop>(waker: Option<TagWaker<R>>) {
 }
 
 // Drops the Runnable and then the Task: the drops of the metadata before, between and after.
-fn drops_until_task<R: Wait + Drop + Copy>(
+fn drops_until_task<R: Wait + Abort + Drop + Copy>(
     rt: R,
     alloc: Global,
     drops: &Arc<Counter>,
-) -> Result<[u64; 3], AllocError> {
-    let (runnable, task) = spawn_tagged(rt, alloc, drops)?;
+) -> [u64; 3] {
+    let (runnable, task) = granted(&rt, spawn_tagged(rt, alloc, drops));
     let spawned = drops.get();
     drop_runnable(runnable);
     let kept = drops.get();
     drop_task(task);
-    Ok([spawned, kept, drops.get()])
+    [spawned, kept, drops.get()]
 }
 
 // The Task is the last handle: the metadata is there after the drop of the Runnable, and is dropped once, with the Task.
 #[test]
-fn the_metadata_goes_with_the_task(rt: HostRuntime) -> Result<(), Fail> {
-    let drops = Arc::new(rt.alloc(), Counter::new())?;
+fn the_metadata_goes_with_the_task(rt: HostRuntime) {
+    let drops = granted(&rt, Arc::new(rt.alloc(), Counter::new()));
     let seen = drops_until_task(rt, rt.alloc(), &drops);
-    assert_eq!(rt; seen, Ok([0, 0, 1]));
-    Ok(())
+    assert!(rt; seen == [0, 0, 1]);
 }
 
 // Drops the Task, the Runnable and then a waker: the drops of the metadata after each.
-fn drops_until_waker<R: Wait + Drop + Copy>(
+fn drops_until_waker<R: Wait + Abort + Drop + Copy>(
     rt: R,
     alloc: Global,
     drops: &Arc<Counter>,
-) -> Result<[u64; 3], AllocError> {
-    let (runnable, task) = spawn_tagged(rt, alloc, drops)?;
+) -> [u64; 3] {
+    let (runnable, task) = granted(&rt, spawn_tagged(rt, alloc, drops));
     let waker = runnable.waker();
     drop_task(task);
     let cancelled = drops.get();
     drop_runnable(runnable);
     let kept = drops.get();
     drop_waker(waker);
-    Ok([cancelled, kept, drops.get()])
+    [cancelled, kept, drops.get()]
 }
 
 // A waker is the last handle of a task that is closed and whose future is gone: the metadata goes with it.
 #[test]
-fn the_metadata_goes_with_the_last_waker(rt: HostRuntime) -> Result<(), Fail> {
-    let drops = Arc::new(rt.alloc(), Counter::new())?;
+fn the_metadata_goes_with_the_last_waker(rt: HostRuntime) {
+    let drops = granted(&rt, Arc::new(rt.alloc(), Counter::new()));
     let seen = drops_until_waker(rt, rt.alloc(), &drops);
-    assert_eq!(rt; seen, Ok([0, 0, 1]));
-    Ok(())
+    assert!(rt; seen == [0, 0, 1]);
 }
 
 // Parks the Runnable and the Task of a task whose counter was set to 1, and drops them unparked: the counter that the metadata of each shows, and the
 // counter at the end.
-fn show_parked<R: Wait + Drop + Copy>(
+fn show_parked<R: Wait + Abort + Drop + Copy>(
     rt: R,
     alloc: Global,
     drops: &Arc<Counter>,
-) -> Result<[u64; 3], AllocError> {
-    let (runnable, task) = spawn_tagged(rt, alloc, drops)?;
+) -> [u64; 3] {
+    let (runnable, task) = granted(&rt, spawn_tagged(rt, alloc, drops));
     drops.add_one();
     let (runnable, task) = (runnable.park(), task.park());
     let by_runnable = runnable.metadata().drops.get();
     let by_task = task.metadata().drops.get();
     drop_runnable(runnable.unpark(()));
     drop_task(task.unpark(()));
-    Ok([by_runnable, by_task, drops.get()])
+    [by_runnable, by_task, drops.get()]
 }
 
 // A parked handle shows the metadata, and is the same handle once it is unparked.
 #[test]
-fn parked_handles_show_the_metadata_and_go_on(rt: HostRuntime) -> Result<(), Fail> {
-    let drops = Arc::new(rt.alloc(), Counter::new())?;
+fn parked_handles_show_the_metadata_and_go_on(rt: HostRuntime) {
+    let drops = granted(&rt, Arc::new(rt.alloc(), Counter::new()));
     let seen = show_parked(rt, rt.alloc(), &drops);
-    assert_eq!(rt; seen, Ok([1, 1, 2]));
-    Ok(())
+    assert!(rt; seen == [1, 1, 2]);
 }

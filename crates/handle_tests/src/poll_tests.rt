@@ -69,11 +69,10 @@ fn a_wake_by_value_during_the_poll_reschedules(rt: HostRuntime) {
     let ran = fixture.surroundings.run_next();
     let met = fixture.surroundings.rendezvous.met();
     let told = fixture.surroundings.infos_are(&[true]);
-    assert_eq!(rt;
-        (seen, ran, met, told),
-        (Some(([true; 3], true, true, 1)), Some(false), true, true)
+    assert!(rt;
+        (seen, ran, met, told) == (Some(([true; 3], true, true, 1)), Some(false), true, true)
     );
-    assert_eq!(rt; fixture.counts(), Counts::new(1, 1, 1, 1));
+    assert!(rt; fixture.counts() == Counts::new(1, 1, 1, 1));
 }
 
 // Runs, and polls the Cancel during the poll: what the run answers, whether the Cancel waits with its awaiter unwoken, and the Cancel.
@@ -133,12 +132,12 @@ where
     let seen = cancel_in_poll(&fixture, behaviour, &flag);
     let met = fixture.surroundings.rendezvous.met();
     let last = (met, flag.wakes(), fixture.output_drops(), fixture.counts());
-    assert_eq!(rt;
-        (seen, last),
-        (
-            Some(([true; 2], false, (1, 1, 0), Counts::new(1, 0, 1, 0))),
-            (true, 1, output_drops, Counts::new(1, 0, 1, 1))
-        )
+    assert!(rt;
+        (seen, last)
+            == (
+                Some(([true; 2], false, (1, 1, 0), Counts::new(1, 0, 1, 0))),
+                (true, 1, output_drops, Counts::new(1, 0, 1, 1))
+            )
     );
 }
 

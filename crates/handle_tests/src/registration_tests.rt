@@ -146,10 +146,10 @@ where
         panic!(rt; "no thread");
     };
     let (answers, text) = registered;
-    assert_eq!(rt; (answers, met), ([true, runs, !runs, true, true], true));
-    assert_eq!(rt; ends, [Ends::new(1, 0, 0, 1), Ends::new(1, 1, 0, 0)]);
-    assert_eq!(rt; counts, Counts::new(u64::from(runs), 0, 1, 1));
-    assert_eq!(rt; text?.as_str(), REGISTERING);
+    assert!(rt; (answers, met) == ([true, runs, !runs, true, true], true));
+    assert!(rt; ends == [Ends::new(1, 0, 0, 1), Ends::new(1, 1, 0, 0)]);
+    assert!(rt; counts == Counts::new(u64::from(runs), 0, 1, 1));
+    assert!(rt; text?.as_str() == REGISTERING);
     Ok(())
 }
 

@@ -14,7 +14,7 @@ use std::process::Abort;
 use std::sync::Wait;
 
 // What is left after a Task was dropped, as such or as a Cancel that was not polled.
-#[derive(Clone, Copy, Debug, PartialEq, Eq)]
+#[derive(Clone, Copy, PartialEq, Eq)]
 struct Left {
     counts: Counts,
     queued: usize,
@@ -87,7 +87,7 @@ fn a_dropped_cancel_leaves_what_a_dropped_task_leaves(rt: HostRuntime) {
     for (behaviour, runs, expected) in cases {
         let by_drop = left_by(rt, rt.alloc(), behaviour, runs, false);
         let by_cancel = left_by(rt, rt.alloc(), behaviour, runs, true);
-        assert_eq!(rt; [by_drop, by_cancel], [expected; 2]);
+        assert!(rt; [by_drop, by_cancel] == [expected; 2]);
     }
 }
 
@@ -111,7 +111,7 @@ fn words_after_drops<R: Wait + Abort + Drop + Copy>(fixture: &Fixture<R>) -> [bo
 fn a_dropped_cancel_leaves_the_same_word(rt: HostRuntime) {
     let fixture = calls::fixture(rt, rt.alloc());
     let seen = words_after_drops(&fixture);
-    assert_eq!(rt; seen, [true; 3]);
+    assert!(rt; seen == [true; 3]);
 }
 
 // A FallibleTask of the rows.
@@ -160,9 +160,9 @@ fn a_fallible_task_answers_each_call(rt: HostRuntime) {
     let fixture = calls::fixture(rt, rt.alloc());
     let flag = calls::flag(&fixture, 1);
     let (finished, rescheduled, polled) = call_fallible(&fixture, &flag);
-    assert_eq!(rt;
-        (finished, rescheduled, polled, fixture.counts()),
-        ([false, true], false, [true; 3], Counts::new(1, 0, 1, 1))
+    assert!(rt;
+        (finished, rescheduled, polled, fixture.counts())
+            == ([false, true], false, [true; 3], Counts::new(1, 0, 1, 1))
     );
 }
 
@@ -190,13 +190,13 @@ fn run_detached<R: Wait + Abort + Drop + Copy>(fixture: &Fixture<R>) -> Ran {
 fn a_detached_fallible_task_runs(rt: HostRuntime) {
     let fixture = calls::fixture(rt, rt.alloc());
     let ran = run_detached(&fixture);
-    assert_eq!(rt;
-        (ran, fixture.output_drops(), fixture.counts()),
-        (
-            (true, Counts::new(0, 0, 0, 0), false),
-            1,
-            Counts::new(1, 0, 1, 1)
-        )
+    assert!(rt;
+        (ran, fixture.output_drops(), fixture.counts())
+            == (
+                (true, Counts::new(0, 0, 0, 0), false),
+                1,
+                Counts::new(1, 0, 1, 1)
+            )
     );
 }
 
@@ -211,13 +211,13 @@ fn run_discarded<R: Wait + Abort + Drop + Copy>(fixture: &Fixture<R>) -> Ran {
 fn a_discarded_task_cancels(rt: HostRuntime) {
     let fixture = calls::fixture(rt, rt.alloc());
     let ran = run_discarded(&fixture);
-    assert_eq!(rt;
-        (ran, fixture.output_drops(), fixture.counts()),
-        (
-            (true, Counts::new(0, 0, 0, 0), false),
-            0,
-            Counts::new(0, 0, 1, 1)
-        )
+    assert!(rt;
+        (ran, fixture.output_drops(), fixture.counts())
+            == (
+                (true, Counts::new(0, 0, 0, 0), false),
+                0,
+                Counts::new(0, 0, 1, 1)
+            )
     );
 }
 
@@ -234,7 +234,7 @@ fn discard_fallible<R: Wait + Abort + Drop + Copy>(fixture: &Fixture<R>) -> bool
 fn a_discarded_fallible_task_cancels(rt: HostRuntime) {
     let fixture = calls::fixture(rt, rt.alloc());
     let shown = discard_fallible(&fixture);
-    assert_eq!(rt; (shown, fixture.counts()), (true, Counts::new(0, 0, 1, 1)));
+    assert!(rt; (shown, fixture.counts()) == (true, Counts::new(0, 0, 1, 1)));
 }
 
 // Polls a Cancel of a FallibleTask before the run and after it: whether it was pending, then shown and finished so, and empty at last; and what the run answered.
@@ -258,10 +258,7 @@ fn a_fallible_task_becomes_a_cancel(rt: HostRuntime) {
     let fixture = calls::fixture(rt, rt.alloc());
     let flag = calls::flag(&fixture, 1);
     let seen = cancel_fallible(&fixture, &flag);
-    assert_eq!(rt;
-        (seen, fixture.counts()),
-        (([true; 4], false), Counts::new(0, 0, 1, 1))
-    );
+    assert!(rt; (seen, fixture.counts()) == (([true; 4], false), Counts::new(0, 0, 1, 1)));
 }
 
 // Drops the Runnable of an awaited task, and polls twice more: whether the Task waited, was finished and was closed, the wakes before and after the drop, and what was counted.
@@ -292,10 +289,7 @@ fn a_closed_task_answers_closed(rt: HostRuntime) {
     let fixture = calls::fixture(rt, rt.alloc());
     let flag = calls::flag(&fixture, 1);
     let seen = poll_closed(&fixture, &flag);
-    assert_eq!(rt;
-        (seen, flag.wakes()),
-        (([true; 4], [0, 1], Counts::new(0, 0, 1, 0)), 1)
-    );
+    assert!(rt; (seen, flag.wakes()) == (([true; 4], [0, 1], Counts::new(0, 0, 1, 0)), 1));
 }
 
 // Detaches the Task of a completed task: whether it was finished before the run and after it, and the outputs that were dropped before the detach.
@@ -313,9 +307,9 @@ fn detach_completed<R: Wait + Abort + Drop + Copy>(fixture: &Fixture<R>) -> ([bo
 fn a_detach_drops_the_output(rt: HostRuntime) {
     let fixture = calls::fixture(rt, rt.alloc());
     let seen = detach_completed(&fixture);
-    assert_eq!(rt;
-        (seen, fixture.output_drops(), fixture.counts()),
-        (([false, true], 0), 1, Counts::new(1, 0, 1, 1))
+    assert!(rt;
+        (seen, fixture.output_drops(), fixture.counts())
+            == (([false, true], 0), 1, Counts::new(1, 0, 1, 1))
     );
 }
 
@@ -339,7 +333,7 @@ fn a_polled_output_is_dropped_by_the_poller(rt: HostRuntime) {
     let kept = fixture.output_drops();
     let completed = is_ready_with(&polled, 9);
     drop(polled);
-    assert_eq!(rt; (kept, completed, fixture.output_drops()), (0, true, 1));
+    assert!(rt; (kept, completed, fixture.output_drops()) == (0, true, 1));
 }
 
 // Turns the Task of an idle task into each of its kinds, each with other surroundings, and drops the last: whether it was finished before.
@@ -369,8 +363,8 @@ fn run_with_other_surroundings<R: Wait + Abort + Drop + Copy>(fixture: &Fixture<
 fn handles_go_on_with_other_surroundings(rt: HostRuntime) {
     let fixture = calls::fixture(rt, rt.alloc());
     let finished = run_with_other_surroundings(&fixture);
-    assert_eq!(rt;
-        (finished, fixture.surroundings.queued(), fixture.counts()),
-        ([false; 2], 1, Counts::new(1, 1, 0, 0))
+    assert!(rt;
+        (finished, fixture.surroundings.queued(), fixture.counts())
+            == ([false; 2], 1, Counts::new(1, 1, 0, 0))
     );
 }

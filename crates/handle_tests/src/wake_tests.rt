@@ -34,14 +34,8 @@ fn a_waker_as_an_awaiter_wakes_by_reference(rt: HostRuntime) {
     let queued = fixture.surroundings.queued();
     let ran = fixture.surroundings.run_next();
     let told = fixture.surroundings.infos_are(&[false]);
-    assert_eq!(rt;
-        (rescheduled, shown, queued, ran, told),
-        (false, true, 1, Some(false), true)
-    );
-    assert_eq!(rt;
-        [woken, fixture.counts()],
-        [Counts::new(1, 1, 0, 0), Counts::new(1, 1, 1, 1)]
-    );
+    assert!(rt; (rescheduled, shown, queued, ran, told) == (false, true, 1, Some(false), true));
+    assert!(rt; [woken, fixture.counts()] == [Counts::new(1, 1, 0, 0), Counts::new(1, 1, 1, 1)]);
 }
 
 // Wakes any awaiter by value.
@@ -70,13 +64,13 @@ fn a_waker_as_an_awaiter_wakes_by_value(rt: HostRuntime) {
     let fixture = calls::fixture(rt, rt.alloc());
     let seen = wake_first_by_value(&fixture);
     let ran = fixture.surroundings.run_next();
-    assert_eq!(rt;
-        (seen, ran, fixture.counts()),
-        (
-            (1, true, Counts::new(1, 1, 0, 0)),
-            Some(false),
-            Counts::new(1, 1, 1, 1)
-        )
+    assert!(rt;
+        (seen, ran, fixture.counts())
+            == (
+                (1, true, Counts::new(1, 1, 0, 0)),
+                Some(false),
+                Counts::new(1, 1, 1, 1)
+            )
     );
 }
 
@@ -101,11 +95,8 @@ fn a_discarded_waker_leaves_the_task_to_the_others(rt: HostRuntime) {
     let (queued, kept, queued_last) = discard_wakers(&fixture);
     let ran = fixture.surroundings.run_next();
     let told = fixture.surroundings.infos_are(&[false]);
-    assert_eq!(rt; (queued, queued_last, ran, told), (0, 1, Some(false), true));
-    assert_eq!(rt;
-        [kept, fixture.counts()],
-        [Counts::new(1, 0, 0, 0), Counts::new(1, 1, 1, 1)]
-    );
+    assert!(rt; (queued, queued_last, ran, told) == (0, 1, Some(false), true));
+    assert!(rt; [kept, fixture.counts()] == [Counts::new(1, 0, 0, 0), Counts::new(1, 1, 1, 1)]);
 }
 
 // Wakes a detached idle task by value with its last waker: what was queued.
@@ -129,17 +120,14 @@ fn the_last_waker_wakes_by_value(rt: HostRuntime) {
     let ran = fixture.counts();
     let last = fixture.surroundings.run_next();
     let told = fixture.surroundings.infos_are(&[false, false]);
-    assert_eq!(rt;
-        (queued, received, last, told),
-        (1, (true, false), Some(false), true)
-    );
-    assert_eq!(rt;
-        [woken, ran, fixture.counts()],
-        [
-            Counts::new(1, 1, 0, 0),
-            Counts::new(2, 2, 0, 0),
-            Counts::new(2, 2, 1, 1)
-        ]
+    assert!(rt; (queued, received, last, told) == (1, (true, false), Some(false), true));
+    assert!(rt;
+        [woken, ran, fixture.counts()]
+            == [
+                Counts::new(1, 1, 0, 0),
+                Counts::new(2, 2, 0, 0),
+                Counts::new(2, 2, 1, 1)
+            ]
     );
 }
 
@@ -166,7 +154,7 @@ fn wake_scheduled<R: Wait + Abort + Drop + Copy>(
 fn a_wake_of_a_scheduled_task_queues_nothing(rt: HostRuntime) {
     let fixture = calls::fixture(rt, rt.alloc());
     let seen = wake_scheduled(&fixture);
-    assert_eq!(rt; seen, ([true; 3], false, 0, Counts::new(1, 0, 0, 0)));
+    assert!(rt; seen == ([true; 3], false, 0, Counts::new(1, 0, 0, 0)));
 }
 
 // Runs a future that wakes its lent waker in its first poll, and runs it once more: what the runs answered, whether the Task showed the wake and was ready then, and what the first run queued and counted.
@@ -192,12 +180,8 @@ fn a_run_answers_whether_its_poll_woke(rt: HostRuntime) {
     let flag = calls::flag(&fixture, 1);
     let (rescheduled, ran, answers, queued, woken) = run_woken(&fixture, &flag);
     let told = fixture.surroundings.infos_are(&[true]);
-    assert_eq!(rt;
-        (rescheduled, ran, answers, queued, told),
-        (true, Some(false), [true; 2], 1, true)
+    assert!(rt;
+        (rescheduled, ran, answers, queued, told) == (true, Some(false), [true; 2], 1, true)
     );
-    assert_eq!(rt;
-        [woken, fixture.counts()],
-        [Counts::new(1, 1, 0, 0), Counts::new(2, 1, 1, 1)]
-    );
+    assert!(rt; [woken, fixture.counts()] == [Counts::new(1, 1, 0, 0), Counts::new(2, 1, 1, 1)]);
 }

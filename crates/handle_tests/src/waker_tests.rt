@@ -9,11 +9,11 @@ use counted_values::output::is_ready_with;
 use fixtures::fixture::Fixture;
 use fixtures::future::RowFuture;
 use fixtures::surroundings::{RowWaker, Scheduler, Surroundings};
+use granted::granted;
 use std::alloc::{AllocError, Global};
 use std::mem;
 use std::process::Abort;
 use std::sync::{Arc, Wait};
-use std::test::Fail;
 
 // A pending task without wakers loses its Task after a run, by a detach or by a drop: what the run answered.
 fn leave_idle<R: Wait + Abort + Drop + Copy>(fixture: &Fixture<R>, detaches: bool) -> bool {
@@ -35,14 +35,8 @@ fn idle_end<R: Wait + Abort + Drop + Copy>(rt: R, alloc: Global, detaches: bool)
     let queued = fixture.surroundings.queued();
     let ran = fixture.surroundings.run_next();
     let told = fixture.surroundings.infos_are(&[false]);
-    assert_eq!(rt;
-        (rescheduled, queued, ran, told),
-        (false, 1, Some(false), true)
-    );
-    assert_eq!(rt;
-        [counts, fixture.counts()],
-        [Counts::new(1, 1, 0, 0), Counts::new(1, 1, 1, 1)]
-    );
+    assert!(rt; (rescheduled, queued, ran, told) == (false, 1, Some(false), true));
+    assert!(rt; [counts, fixture.counts()] == [Counts::new(1, 1, 0, 0), Counts::new(1, 1, 1, 1)]);
 }
 
 #[test]
@@ -63,10 +57,7 @@ fn run_detached_bare<R: Wait + Drop + Copy>(fixture: &Fixture<R>) -> Result<bool
 fn a_closing_runnable_may_be_dropped(rt: HostRuntime) {
     let fixture = calls::fixture(rt, rt.alloc());
     let rescheduled = run_detached_bare(&fixture);
-    assert_eq!(rt;
-        (rescheduled, fixture.counts()),
-        (Ok(false), Counts::new(1, 1, 1, 1))
-    );
+    assert!(rt; (rescheduled, fixture.counts()) == (Ok(false), Counts::new(1, 1, 1, 1)));
 }
 
 // Parks a waker, unparks it and discards it.
@@ -108,17 +99,17 @@ fn a_waker_answers_each_call(rt: HostRuntime) {
     let orphan = fixture.counts();
     let last = fixture.surroundings.run_next();
     let told = fixture.surroundings.infos_are(&[false, false]);
-    assert_eq!(rt;
-        (known, rescheduled, queued, [second, last], told),
-        (false, false, [1, 1], [Some(false); 2], true)
+    assert!(rt;
+        (known, rescheduled, queued, [second, last], told)
+            == (false, false, [1, 1], [Some(false); 2], true)
     );
-    assert_eq!(rt;
-        [idle, orphan, fixture.counts()],
-        [
-            Counts::new(1, 1, 0, 0),
-            Counts::new(2, 2, 0, 0),
-            Counts::new(2, 2, 1, 1)
-        ]
+    assert!(rt;
+        [idle, orphan, fixture.counts()]
+            == [
+                Counts::new(1, 1, 0, 0),
+                Counts::new(2, 2, 0, 0),
+                Counts::new(2, 2, 1, 1)
+            ]
     );
 }
 
@@ -151,11 +142,8 @@ fn a_waker_is_an_awaiter(rt: HostRuntime) {
     let seen = call_as_awaiter(&fixture);
     let ran = fixture.surroundings.run_next();
     let told = fixture.surroundings.infos_are(&[false]);
-    assert_eq!(rt;
-        (seen, ran, told),
-        ((false, Some(false), 1), Some(false), true)
-    );
-    assert_eq!(rt; fixture.counts(), Counts::new(1, 1, 1, 1));
+    assert!(rt; (seen, ran, told) == ((false, Some(false), 1), Some(false), true));
+    assert!(rt; fixture.counts() == Counts::new(1, 1, 1, 1));
 }
 
 // The handles of a task without surroundings, which is awaited by wakers of the rows.
@@ -233,18 +221,17 @@ fn await_another<R: Wait + Abort + Drop + Copy>(
 
 // A task that awaits another one by its own waker is scheduled once the other one has completed.
 #[test]
-fn a_task_awaits_another(rt: HostRuntime) -> Result<(), Fail> {
-    let counters = Arc::new(rt.alloc(), Counters::new())?;
+fn a_task_awaits_another(rt: HostRuntime) {
+    let counters = granted(&rt, Arc::new(rt.alloc(), Counters::new()));
     let fixture = calls::fixture(rt, rt.alloc());
     let seen = await_another(&fixture, rt.alloc(), &counters);
-    assert_eq!(rt;
-        (seen, counters.counts()),
-        (
-            Ok((([true; 2], [0, 1]), Counts::new(1, 1, 0, 0))),
-            Counts::new(1, 0, 1, 1)
-        )
+    assert!(rt;
+        (seen, counters.counts())
+            == (
+                Ok((([true; 2], [0, 1]), Counts::new(1, 1, 0, 0))),
+                Counts::new(1, 0, 1, 1)
+            )
     );
-    Ok(())
 }
 
 // Wakes by value, by a waker without surroundings.
@@ -269,10 +256,7 @@ fn wake_to_nowhere<R: Wait + Abort + Drop + Copy>(fixture: &Fixture<R>) -> (bool
 fn a_waker_wakes_with_what_it_carries(rt: HostRuntime) {
     let fixture = calls::fixture(rt, rt.alloc());
     let seen = wake_to_nowhere(&fixture);
-    assert_eq!(rt;
-        (seen, fixture.surroundings.queued()),
-        ((true, Counts::new(1, 1, 1, 0)), 0)
-    );
+    assert!(rt; (seen, fixture.surroundings.queued()) == ((true, Counts::new(1, 1, 1, 0)), 0));
 }
 
 // Runs a detached task that keeps its waker at each poll, and wakes it by another waker, which is gone then.
@@ -299,14 +283,8 @@ fn a_kept_waker_replaces_the_one_before(rt: HostRuntime) {
     let dropped = drop_kept(&fixture.surroundings);
     let has_another = drop_kept(&fixture.surroundings);
     let last = fixture.surroundings.run_next();
-    assert_eq!(rt;
-        ([second, last], dropped, has_another),
-        ([Some(false); 2], true, false)
-    );
-    assert_eq!(rt;
-        [kept, fixture.counts()],
-        [Counts::new(2, 1, 0, 0), Counts::new(2, 2, 1, 1)]
-    );
+    assert!(rt; ([second, last], dropped, has_another) == ([Some(false); 2], true, false));
+    assert!(rt; [kept, fixture.counts()] == [Counts::new(2, 1, 0, 0), Counts::new(2, 2, 1, 1)]);
 }
 
 // Forgets a waker.
@@ -329,9 +307,9 @@ fn leave_forgotten<R: Wait + Abort + Drop + Copy>(fixture: &Fixture<R>) -> bool 
 fn a_forgotten_waker_is_a_handle_that_is_left(rt: HostRuntime) {
     let fixture = calls::fixture(rt, rt.alloc());
     let rescheduled = leave_forgotten(&fixture);
-    assert_eq!(rt;
-        (rescheduled, fixture.surroundings.queued(), fixture.counts()),
-        (false, 0, Counts::new(1, 0, 0, 0))
+    assert!(rt;
+        (rescheduled, fixture.surroundings.queued(), fixture.counts())
+            == (false, 0, Counts::new(1, 0, 0, 0))
     );
 }
 
@@ -347,10 +325,7 @@ fn forget_runnable<R: Wait + Abort + Drop + Copy>(fixture: &Fixture<R>) {
 fn a_forgotten_runnable_is_a_handle_that_is_left(rt: HostRuntime) {
     let fixture = calls::fixture(rt, rt.alloc());
     forget_runnable(&fixture);
-    assert_eq!(rt;
-        (fixture.surroundings.queued(), fixture.counts()),
-        (0, Counts::new(0, 0, 0, 0))
-    );
+    assert!(rt; (fixture.surroundings.queued(), fixture.counts()) == (0, Counts::new(0, 0, 0, 0)));
 }
 
 // The clones, wakes and drops of a flag.
@@ -372,8 +347,8 @@ fn is_cloned(flag: &Flag) -> bool {
 }
 
 #[test]
-fn a_flag_counts_what_is_done_to_it(rt: HostRuntime) -> Result<(), Fail> {
-    let flag = Flag::new(rt.alloc(), 7)?;
+fn a_flag_counts_what_is_done_to_it(rt: HostRuntime) {
+    let flag = granted(&rt, Flag::new(rt.alloc(), 7));
     flag.wake_by_ref();
     let woken = counts_of(&flag);
     let known = wake_clone(&flag);
@@ -381,9 +356,8 @@ fn a_flag_counts_what_is_done_to_it(rt: HostRuntime) -> Result<(), Fail> {
     let dropped = counts_of(&flag);
     flag.refuse_next_clone();
     let cloned = [first, is_cloned(&flag), is_cloned(&flag)];
-    assert_eq!(rt;
-        ([woken, dropped], known, cloned),
-        ([(0, 1, 0), (2, 2, 1)], Some(true), [true, false, true])
+    assert!(rt;
+        ([woken, dropped], known, cloned)
+            == ([(0, 1, 0), (2, 2, 1)], Some(true), [true, false, true])
     );
-    Ok(())
 }

@@ -56,7 +56,7 @@ impl Guests {
 }
 
 /// What a guest does when it is polled.
-#[derive(Clone, Copy, Debug, PartialEq, Eq)]
+#[derive(Clone, Copy, PartialEq, Eq)]
 pub enum Errand {
     /// Gives way so often, and then answers 1.
     GiveWay(u64),

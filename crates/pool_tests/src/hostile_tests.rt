@@ -5,9 +5,9 @@ use crate::guest::{
 use async_task::TaskPoll;
 use awaiters::Nobody;
 use executor::{Key, keep_task, place_for_task, poll_kept, wake_kept};
+use granted::granted;
 use std::alloc::AllocError;
 use std::sync::{Arc, Wait};
-use std::test::Fail;
 use std::thread;
 use work_queues::board::MOST_WORKERS;
 
@@ -16,55 +16,51 @@ const BEHIND: u64 = 100;
 
 // The others stand in the queue of the same worker.
 #[test]
-fn a_future_that_never_yields_keeps_only_its_thread(rt: HostRuntime) -> Result<(), Fail> {
-    let guests = Guests::new(rt.alloc(), BEHIND)?;
-    let pool = GuestPool::new(rt, rt.alloc(), 2)?;
-    let mut task = spawn_guest(&pool, 0, Errand::SpinAndEnd, &guests)?;
-    let tasks = spawn_guests(&pool, 0, BEHIND, &guests)?;
-    let mut all = pool.all_turns()?;
+fn a_future_that_never_yields_keeps_only_its_thread(rt: HostRuntime) {
+    let guests = granted(&rt, Guests::new(rt.alloc(), BEHIND));
+    let pool = granted(&rt, GuestPool::new(rt, rt.alloc(), 2));
+    let mut task = granted(&rt, spawn_guest(&pool, 0, Errand::SpinAndEnd, &guests));
+    let tasks = granted(&rt, spawn_guests(&pool, 0, BEHIND, &guests));
+    let mut all = granted(&rt, pool.all_turns());
     thread::for_each_mut(&rt, &mut all, 2, &|_, turns| turns.work());
     let answer = output_of(&mut task);
     drop(task);
     drop(tasks);
     let (left, _) = shares_and_polls(&guests);
     assert!(rt; answer == Some(BEHIND) && left == 1);
-    Ok(())
 }
 
 #[test]
-fn a_wake_after_the_shutdown_does_nothing(rt: HostRuntime) -> Result<(), Fail> {
-    let guests = Guests::new(rt.alloc(), 0)?;
-    let pool = GuestPool::new(rt, rt.alloc(), 1)?;
-    let mut task = spawn_guest(&pool, 1, Errand::ShutDown, &guests)?;
-    let mut turns = pool.turns(0)?;
+fn a_wake_after_the_shutdown_does_nothing(rt: HostRuntime) {
+    let guests = granted(&rt, Guests::new(rt.alloc(), 0));
+    let pool = granted(&rt, GuestPool::new(rt, rt.alloc(), 1));
+    let mut task = granted(&rt, spawn_guest(&pool, 1, Errand::ShutDown, &guests));
+    let mut turns = granted(&rt, pool.turns(0));
     let ran = turns.tick();
     let ran_again = turns.tick();
     let closed = is_closed(&mut task);
     let (left, polls) = shares_and_polls(&guests);
     assert!(rt; ran && !ran_again && closed && left == 1 && polls == 1);
-    Ok(())
 }
 
 #[test]
-fn a_pool_has_one_worker_at_least_and_has_a_most(rt: HostRuntime) -> Result<(), Fail> {
-    let few = GuestPool::new(rt, rt.alloc(), 0)?.workers();
-    let many = GuestPool::new(rt, rt.alloc(), MOST_WORKERS + 1)?.workers();
+fn a_pool_has_one_worker_at_least_and_has_a_most(rt: HostRuntime) {
+    let few = granted(&rt, GuestPool::new(rt, rt.alloc(), 0)).workers();
+    let many = granted(&rt, GuestPool::new(rt, rt.alloc(), MOST_WORKERS + 1)).workers();
     assert!(rt; few == 1 && many == MOST_WORKERS);
-    Ok(())
 }
 
 #[test]
-fn a_worker_that_does_not_exist_is_refused_or_outside(rt: HostRuntime) -> Result<(), Fail> {
-    let guests = Guests::new(rt.alloc(), 1)?;
-    let pool = GuestPool::new(rt, rt.alloc(), 1)?;
+fn a_worker_that_does_not_exist_is_refused_or_outside(rt: HostRuntime) {
+    let guests = granted(&rt, Guests::new(rt.alloc(), 1));
+    let pool = granted(&rt, GuestPool::new(rt, rt.alloc(), 1));
     let refused = pool.turns(1).is_err() && pool.run(1).is_err();
-    let mut task = spawn_guest(&pool, 99, Errand::GiveWay(0), &guests)?;
+    let mut task = granted(&rt, spawn_guest(&pool, 99, Errand::GiveWay(0), &guests));
     pool.bells().interrupt_worker(99);
-    let mut turns = pool.turns(0)?;
+    let mut turns = granted(&rt, pool.turns(0));
     let ran = turns.tick();
     let answer = output_of(&mut task);
     assert!(rt; refused && ran && answer == Some(1));
-    Ok(())
 }
 
 // Whether the turns of a number are to be had: alone, and among those of all workers.
@@ -76,10 +72,10 @@ fn may_have_turns<R: Wait + Drop + Copy>(pool: &GuestPool<R>, worker: usize) -> 
 
 // A run of a pool that was shut down ends at once.
 #[test]
-fn no_two_threads_are_one_worker(rt: HostRuntime) -> Result<(), Fail> {
-    let pool = GuestPool::new(rt, rt.alloc(), 2)?;
+fn no_two_threads_are_one_worker(rt: HostRuntime) {
+    let pool = granted(&rt, GuestPool::new(rt, rt.alloc(), 2));
     pool.shutdown();
-    let turns = pool.turns(0)?;
+    let turns = granted(&rt, pool.turns(0));
     let while_it_lives = may_have_turns(&pool, 0);
     let runs_beside_it = pool.run(0).is_ok();
     let the_other = pool.turns(1).is_ok();
@@ -88,7 +84,6 @@ fn no_two_threads_are_one_worker(rt: HostRuntime) -> Result<(), Fail> {
     let runs_after_it = pool.run(0).is_ok();
     assert!(rt; while_it_lives == [false, false] && !runs_beside_it && the_other);
     assert!(rt; once_dropped == [true, true] && runs_after_it);
-    Ok(())
 }
 
 // Whether the Task at the place of a key is pending.
@@ -107,66 +102,62 @@ fn wakes_any<R: Wait + Drop + Copy>(pool: &GuestPool<R>) -> bool {
 }
 
 #[test]
-fn an_empty_place_answers_that_it_is_empty(rt: HostRuntime) -> Result<(), Fail> {
-    let guests = Guests::new(rt.alloc(), 1)?;
-    let pool = GuestPool::new(rt, rt.alloc(), 1)?;
-    let key = place_for_task((&pool, 0)).ok_or(AllocError)?;
+fn an_empty_place_answers_that_it_is_empty(rt: HostRuntime) {
+    let guests = granted(&rt, Guests::new(rt.alloc(), 1));
+    let pool = granted(&rt, GuestPool::new(rt, rt.alloc(), 1));
+    let key = granted(&rt, place_for_task((&pool, 0)).ok_or(AllocError));
     let before = is_empty(&pool, &key);
     let woken = wakes_any(&pool);
-    let task = spawn_guest(&pool, 1, Errand::Stay, &guests)?;
+    let task = granted(&rt, spawn_guest(&pool, 1, Errand::Stay, &guests));
     let kept = keep_task(task, &key).is_ok();
     let pending = is_pending(&pool, &key);
     assert!(rt; before && !woken && kept && pending);
-    Ok(())
 }
 
 // The second pool has a Task at the place of the same number.
 #[test]
-fn a_key_of_another_pool_keeps_no_task(rt: HostRuntime) -> Result<(), Fail> {
-    let guests = Guests::new(rt.alloc(), 1)?;
-    let pool = GuestPool::new(rt, rt.alloc(), 1)?;
-    let other = GuestPool::new(rt, rt.alloc(), 1)?;
-    let foreign = place_for_task((&pool, 0)).ok_or(AllocError)?;
-    let key = place_for_task((&other, 0)).ok_or(AllocError)?;
-    let task = spawn_guest(&other, 1, Errand::Stay, &guests)?;
+fn a_key_of_another_pool_keeps_no_task(rt: HostRuntime) {
+    let guests = granted(&rt, Guests::new(rt.alloc(), 1));
+    let pool = granted(&rt, GuestPool::new(rt, rt.alloc(), 1));
+    let other = granted(&rt, GuestPool::new(rt, rt.alloc(), 1));
+    let foreign = granted(&rt, place_for_task((&pool, 0)).ok_or(AllocError));
+    let key = granted(&rt, place_for_task((&other, 0)).ok_or(AllocError));
+    let task = granted(&rt, spawn_guest(&other, 1, Errand::Stay, &guests));
     let kept = keep_task(task, &key).is_ok();
-    let task = spawn_guest(&other, 1, Errand::Stay, &guests)?;
+    let task = granted(&rt, spawn_guest(&other, 1, Errand::Stay, &guests));
     let refused = keep_task(task, &foreign).is_err();
     let empty = is_empty(&other, &foreign);
     let pending = is_pending(&other, &key);
     let same = key.number() == foreign.number();
     assert!(rt; kept && refused && empty && pending && same);
-    Ok(())
 }
 
 // The interruptions are counted after the shutdown, so they do not keep it from a sleep.
 #[test]
-fn a_rest_after_the_shutdown_returns(rt: HostRuntime) -> Result<(), Fail> {
-    let pool = GuestPool::new(rt, rt.alloc(), 1)?;
-    let mut turns = pool.turns(0)?;
+fn a_rest_after_the_shutdown_returns(rt: HostRuntime) {
+    let pool = granted(&rt, GuestPool::new(rt, rt.alloc(), 1));
+    let mut turns = granted(&rt, pool.turns(0));
     pool.shutdown();
     let interruptions = pool.bells().interruptions();
     turns.rest(interruptions);
     assert!(rt; interruptions > 0 && pool.is_shut_down());
-    Ok(())
 }
 
 // Also a second shutdown, and no futures to spawn.
 #[test]
-fn a_pool_that_was_shut_down_cancels_what_comes(rt: HostRuntime) -> Result<(), Fail> {
-    let guests = Guests::new(rt.alloc(), 1)?;
-    let pool = GuestPool::new(rt, rt.alloc(), 2)?;
+fn a_pool_that_was_shut_down_cancels_what_comes(rt: HostRuntime) {
+    let guests = granted(&rt, Guests::new(rt.alloc(), 1));
+    let pool = granted(&rt, GuestPool::new(rt, rt.alloc(), 2));
     pool.shutdown();
     pool.shutdown();
-    let mut task = spawn_guest(&pool, 2, Errand::GiveWay(0), &guests)?;
-    let mut all = pool.all_turns()?;
+    let mut task = granted(&rt, spawn_guest(&pool, 2, Errand::GiveWay(0), &guests));
+    let mut all = granted(&rt, pool.all_turns());
     thread::for_each_mut(&rt, &mut all, 2, &|_, turns| turns.work());
     drop(all);
-    let mut turns = pool.turns(1)?;
+    let mut turns = granted(&rt, pool.turns(1));
     let ran = turns.tick();
     let closed = is_closed(&mut task);
-    let none = spawn_guests(&pool, 0, 0, &guests)?.len();
+    let none = granted(&rt, spawn_guests(&pool, 0, 0, &guests)).len();
     let (_, polls) = shares_and_polls(&guests);
     assert!(rt; !ran && closed && none == 0 && polls == 0);
-    Ok(())
 }

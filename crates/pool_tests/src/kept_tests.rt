@@ -8,10 +8,10 @@ use executor::{
     Key, Pool, PoolTask, PoolWaker, collect, keep_task, keep_waker, place_for_task,
     place_for_waker, poll_kept,
 };
+use granted::granted;
 use std::alloc::AllocError;
 use std::sync::atomic::{AtomicBool, Ordering};
 use std::sync::{Arc, Wait};
-use std::test::Fail;
 
 /// A future that ends the pool, then keeps its waker, and is pending. `kept` is set where the waker was kept.
 #[derive(Drop)]
@@ -58,17 +58,16 @@ fn kept_and_owners(kept: &Arc<AtomicBool>) -> (bool, usize) {
 
 // The future, which is dropped, has the key: so a collect frees its place.
 #[test]
-fn a_waker_that_is_kept_after_the_shutdown_cancels_its_task(rt: HostRuntime) -> Result<(), Fail> {
-    let kept = Arc::new(rt.alloc(), AtomicBool::new(false))?;
-    let pool = KeepsPool::new(rt, rt.alloc(), 1)?;
-    let mut task = spawn_keeps(&pool, &kept)?;
-    let mut turns = pool.turns(0)?;
+fn a_waker_that_is_kept_after_the_shutdown_cancels_its_task(rt: HostRuntime) {
+    let kept = granted(&rt, Arc::new(rt.alloc(), AtomicBool::new(false)));
+    let pool = granted(&rt, KeepsPool::new(rt, rt.alloc(), 1));
+    let mut task = granted(&rt, spawn_keeps(&pool, &kept));
+    let mut turns = granted(&rt, pool.turns(0));
     let ran = turns.tick();
     let closed = matches!(task.poll(&Nobody), TaskPoll::Ready(Err(_)));
     collect((&pool, 0));
     let (places, seen) = (pool.kept_wakers(), kept_and_owners(&kept));
     assert!(rt; ran && closed && places == 0 && seen == (true, 1));
-    Ok(())
 }
 
 // Whether there is no Task at the place of a key.
@@ -78,12 +77,12 @@ fn is_empty<R: Wait + Drop + Copy>(pool: &GuestPool<R>, key: &Key<R>) -> bool {
 
 // The task was polled once and waits: it is neither queued nor kept as the pool is shut down, so it lives until its Task is put into the place. Its future, which then is dropped, has a share of what guests count.
 #[test]
-fn a_task_that_is_kept_after_the_shutdown_is_cancelled(rt: HostRuntime) -> Result<(), Fail> {
-    let guests = Guests::new(rt.alloc(), 0)?;
-    let pool = GuestPool::new(rt, rt.alloc(), 1)?;
-    let key = place_for_task((&pool, 0)).ok_or(AllocError)?;
-    let task = spawn_guest(&pool, 1, Errand::Stay, &guests)?;
-    let mut turns = pool.turns(0)?;
+fn a_task_that_is_kept_after_the_shutdown_is_cancelled(rt: HostRuntime) {
+    let guests = granted(&rt, Guests::new(rt.alloc(), 0));
+    let pool = granted(&rt, GuestPool::new(rt, rt.alloc(), 1));
+    let key = granted(&rt, place_for_task((&pool, 0)).ok_or(AllocError));
+    let task = granted(&rt, spawn_guest(&pool, 1, Errand::Stay, &guests));
+    let mut turns = granted(&rt, pool.turns(0));
     let ran = turns.tick();
     pool.shutdown();
     let before = shares_and_polls(&guests);
@@ -91,7 +90,6 @@ fn a_task_that_is_kept_after_the_shutdown_is_cancelled(rt: HostRuntime) -> Resul
     let after = shares_and_polls(&guests);
     let is_gone = is_empty(&pool, &key);
     assert!(rt; ran && kept && is_gone && before == (2, 1) && after == (1, 1));
-    Ok(())
 }
 
 // Keeps the Task of a guest, and drops the key: how many places for Tasks are taken.
@@ -108,11 +106,11 @@ fn keep_and_drop_key<R: Wait + Drop + Copy>(
 
 // The interruption keeps the turn from a sleep. It answers the Runnable of the task that it cancelled, which drops the future.
 #[test]
-fn a_turn_frees_the_place_of_a_dropped_key(rt: HostRuntime) -> Result<(), Fail> {
-    let guests = Guests::new(rt.alloc(), 0)?;
-    let pool = GuestPool::new(rt, rt.alloc(), 1)?;
-    let before = keep_and_drop_key(&pool, &guests)?;
-    let mut turns = pool.turns(0)?;
+fn a_turn_frees_the_place_of_a_dropped_key(rt: HostRuntime) {
+    let guests = granted(&rt, Guests::new(rt.alloc(), 0));
+    let pool = granted(&rt, GuestPool::new(rt, rt.alloc(), 1));
+    let before = granted(&rt, keep_and_drop_key(&pool, &guests));
+    let mut turns = granted(&rt, pool.turns(0));
     let interruptions = pool.bells().interruptions();
     pool.bells().interrupt();
     if let Some(runnable) = turns.take_turn(interruptions) {
@@ -121,5 +119,4 @@ fn a_turn_frees_the_place_of_a_dropped_key(rt: HostRuntime) -> Result<(), Fail> 
     let after = pool.kept_tasks();
     let left = shares_and_polls(&guests);
     assert!(rt; before == 1 && after == 0 && left == (1, 0));
-    Ok(())
 }

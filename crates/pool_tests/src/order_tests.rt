@@ -5,10 +5,10 @@ use crate::guest::{Errand, GuestPool, Guests, output_of, shares_and_polls, spawn
 use async_task::{Future, Poll, TaskPoll, Yields};
 use awaiters::Nobody;
 use executor::{Pool, PoolTask};
+use granted::granted;
 use std::alloc::{AllocError, Global};
 use std::collections::VecDeque;
 use std::sync::Wait;
-use std::test::Fail;
 
 /// A future that answers its number.
 #[derive(Drop)]
@@ -64,27 +64,26 @@ fn answers_of<'x, R: Wait + Drop + Copy>(
 
 // One Task is there before them.
 #[test]
-fn tasks_that_are_spawned_together_keep_their_order(rt: HostRuntime) -> Result<(), Fail> {
-    let pool = NumberedPool::new(rt, rt.alloc(), 1)?;
-    let mut tasks = spawn_numbered(&pool, rt.alloc())?;
-    let mut turns = pool.turns(0)?;
+fn tasks_that_are_spawned_together_keep_their_order(rt: HostRuntime) {
+    let pool = granted(&rt, NumberedPool::new(rt, rt.alloc(), 1));
+    let mut tasks = granted(&rt, spawn_numbered(&pool, rt.alloc()));
+    let mut turns = granted(&rt, pool.turns(0));
     let mut ran = 0u8;
     for _ in 0..7 {
         ran = ran.saturating_add(u8::from(turns.tick()));
     }
-    let answers = answers_of(&mut tasks, rt.alloc())?;
+    let answers = granted(&rt, answers_of(&mut tasks, rt.alloc()));
     assert!(rt; ran == 6 && answers.as_slice() == [9, 1, 2, 3, 4, 5].as_slice());
-    Ok(())
 }
 
 // The one worker always has the task that wakes itself in its queue: each of the 200 turns is a poll. Once in 61 looks the worker looks outside first.
 #[test]
-fn a_task_that_wakes_itself_leaves_another_its_turn(rt: HostRuntime) -> Result<(), Fail> {
-    let guests = Guests::new(rt.alloc(), 0)?;
-    let pool = GuestPool::new(rt, rt.alloc(), 1)?;
-    let busy = spawn_guest(&pool, 0, Errand::GiveWay(1000), &guests)?;
-    let mut task = spawn_guest(&pool, 1, Errand::GiveWay(0), &guests)?;
-    let mut turns = pool.turns(0)?;
+fn a_task_that_wakes_itself_leaves_another_its_turn(rt: HostRuntime) {
+    let guests = granted(&rt, Guests::new(rt.alloc(), 0));
+    let pool = granted(&rt, GuestPool::new(rt, rt.alloc(), 1));
+    let busy = granted(&rt, spawn_guest(&pool, 0, Errand::GiveWay(1000), &guests));
+    let mut task = granted(&rt, spawn_guest(&pool, 1, Errand::GiveWay(0), &guests));
+    let mut turns = granted(&rt, pool.turns(0));
     for _ in 0..200 {
         turns.tick();
     }
@@ -92,5 +91,4 @@ fn a_task_that_wakes_itself_leaves_another_its_turn(rt: HostRuntime) -> Result<(
     let (shares, polls) = shares_and_polls(&guests);
     drop(busy);
     assert!(rt; answer == Some(1) && shares == 2 && polls == 200);
-    Ok(())
 }

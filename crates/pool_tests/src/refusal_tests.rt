@@ -5,11 +5,12 @@ use crate::guest::{Guests, shares_and_polls};
 use async_task::{Future, Poll, TaskPoll, Yields};
 use awaiters::Nobody;
 use executor::{Pool, PoolTask, Turns};
+use granted::granted;
 use linked_list_allocator::LocalHeap;
 use std::alloc::{AllocError, Global};
+use std::process::Abort;
 use std::sync::atomic::Ordering;
 use std::sync::{Arc, Wait};
-use std::test::Fail;
 
 /// Room for the queues of a pool of one worker, and for what that has in its hands.
 const POOL_HEAP: usize = 32_768;
@@ -110,51 +111,50 @@ fn count_ends<R: Wait + Drop + Copy>(tasks: &mut Vec<HeapTask<'_, '_, R>>) -> (u
 
 // What a pool comes to whose queues are of a heap that is full, and then has room again: how many tasks ran, answered and were closed; and whether one
 // more ran and answered.
-fn fill_and_spawn<R: Wait + Drop + Copy>(
+fn fill_and_spawn<R: Wait + Abort + Drop + Copy>(
     rt: R,
     alloc: Global,
     heap: &LocalHeap,
     guests: &Arc<Guests>,
-) -> Result<(usize, (usize, usize), (bool, bool)), AllocError> {
-    let pool = HeapPool::with_queues_in(rt, alloc, heap, 1)?;
-    let mut turns = pool.turns(0)?;
-    let filling = fill(alloc, heap)?;
-    let mut tasks = spawn_prompts(&pool, guests, TASKS)?;
+) -> (usize, (usize, usize), (bool, bool)) {
+    let pool = granted(&rt, HeapPool::with_queues_in(rt, alloc, heap, 1));
+    let mut turns = granted(&rt, pool.turns(0));
+    let filling = granted(&rt, fill(alloc, heap));
+    let mut tasks = granted(&rt, spawn_prompts(&pool, guests, TASKS));
     let ran = run_prompts(&mut turns, TASKS);
     let ends = count_ends(&mut tasks);
     drop(filling);
-    let mut later = spawn_prompt(&pool, guests)?;
+    let mut later = granted(&rt, spawn_prompt(&pool, guests));
     let ran_later = turns.tick();
     let answered_later = matches!(later.poll(&Nobody), TaskPoll::Ready(Ok(1)));
-    Ok((ran, ends, (ran_later, answered_later)))
+    (ran, ends, (ran_later, answered_later))
 }
 
 // The queue has room for 64 Runnables. The 65th is dropped, which closes its task, and nothing else is lost.
 #[test]
-fn a_pool_goes_on_past_a_runnable_that_its_queue_drops(rt: HostRuntime) -> Result<(), Fail> {
-    let heap = LocalHeap::new(rt.alloc(), POOL_HEAP)?;
-    let guests = Guests::new(rt.alloc(), 0)?;
-    let (ran, ends, later) = fill_and_spawn(rt, rt.alloc(), &heap, &guests)?;
+fn a_pool_goes_on_past_a_runnable_that_its_queue_drops(rt: HostRuntime) {
+    let heap = granted(&rt, LocalHeap::new(rt.alloc(), POOL_HEAP));
+    let guests = granted(&rt, Guests::new(rt.alloc(), 0));
+    let (ran, ends, later) = fill_and_spawn(rt, rt.alloc(), &heap, &guests);
     let left = shares_and_polls(&guests);
-    assert_eq!(rt; (ran, ends, later), (64, (64, 1), (true, true)));
-    assert_eq!(rt; left, (1, 65));
-    assert_eq!(rt; heap.used(), 0);
-    Ok(())
+    assert!(rt; (ran, ends, later) == (64, (64, 1), (true, true)));
+    assert!(rt; left == (1, 65));
+    assert!(rt; heap.used() == 0);
 }
 
 // What becomes of 200 tasks where the one worker has Runnables in its hands as the pool is shut down: how many have answered and how many are closed,
 // after the shutdown and once the worker has ended: it works until its end, or drops its turns at once.
-fn shut_down_beside_full_hands<R: Wait + Drop + Copy>(
+fn shut_down_beside_full_hands<R: Wait + Abort + Drop + Copy>(
     rt: R,
     alloc: Global,
     heap: &LocalHeap,
     guests: &Arc<Guests>,
     works: bool,
-) -> Result<((usize, usize), (usize, usize)), AllocError> {
-    let pool = HeapPool::with_queues_in(rt, alloc, heap, 1)?;
-    let mut turns = pool.turns(0)?;
-    let mut tasks = spawn_prompts(&pool, guests, 200)?;
-    let filling = fill(alloc, heap)?;
+) -> ((usize, usize), (usize, usize)) {
+    let pool = granted(&rt, HeapPool::with_queues_in(rt, alloc, heap, 1));
+    let mut turns = granted(&rt, pool.turns(0));
+    let mut tasks = granted(&rt, spawn_prompts(&pool, guests, 200));
+    let filling = granted(&rt, fill(alloc, heap));
     turns.tick();
     pool.shutdown();
     let after_shutdown = count_ends(&mut tasks);
@@ -164,61 +164,58 @@ fn shut_down_beside_full_hands<R: Wait + Drop + Copy>(
     drop(filling);
     drop(turns);
     let after_end = count_ends(&mut tasks);
-    Ok((after_shutdown, after_end))
+    (after_shutdown, after_end)
 }
 
 // The batch is 100 of the 200: the worker runs one, its queue has room for 64, and 35 stay in its hands. An output that was taken is not there again.
 #[test]
-fn a_worker_that_ends_cancels_what_it_has_in_its_hands(rt: HostRuntime) -> Result<(), Fail> {
-    let heap = LocalHeap::new(rt.alloc(), 2 * POOL_HEAP)?;
-    let guests = Guests::new(rt.alloc(), 0)?;
-    let ends = shut_down_beside_full_hands(rt, rt.alloc(), &heap, &guests, true)?;
+fn a_worker_that_ends_cancels_what_it_has_in_its_hands(rt: HostRuntime) {
+    let heap = granted(&rt, LocalHeap::new(rt.alloc(), 2 * POOL_HEAP));
+    let guests = granted(&rt, Guests::new(rt.alloc(), 0));
+    let ends = shut_down_beside_full_hands(rt, rt.alloc(), &heap, &guests, true);
     let left = shares_and_polls(&guests);
-    assert_eq!(rt; ends, ((1, 164), (0, 200)));
-    assert_eq!(rt; left, (1, 1));
-    assert_eq!(rt; heap.used(), 0);
-    Ok(())
+    assert!(rt; ends == ((1, 164), (0, 200)));
+    assert!(rt; left == (1, 1));
+    assert!(rt; heap.used() == 0);
 }
 
 // The same where the turns are dropped after the shutdown: what they hand on is cancelled, too.
 #[test]
-fn turns_that_are_dropped_after_a_shutdown_leave_nothing(rt: HostRuntime) -> Result<(), Fail> {
-    let heap = LocalHeap::new(rt.alloc(), 2 * POOL_HEAP)?;
-    let guests = Guests::new(rt.alloc(), 0)?;
-    let ends = shut_down_beside_full_hands(rt, rt.alloc(), &heap, &guests, false)?;
+fn turns_that_are_dropped_after_a_shutdown_leave_nothing(rt: HostRuntime) {
+    let heap = granted(&rt, LocalHeap::new(rt.alloc(), 2 * POOL_HEAP));
+    let guests = granted(&rt, Guests::new(rt.alloc(), 0));
+    let ends = shut_down_beside_full_hands(rt, rt.alloc(), &heap, &guests, false);
     let left = shares_and_polls(&guests);
     assert!(rt; ends == ((1, 164), (0, 200)) && left == (1, 1) && heap.used() == 0);
-    Ok(())
 }
 
 // Turns are dropped with Runnables in their hands, without a shutdown: how many of 200 tasks the next turns of this worker run, and how many have then
 // answered and how many are closed.
-fn drop_turns_with_full_hands<R: Wait + Drop + Copy>(
+fn drop_turns_with_full_hands<R: Wait + Abort + Drop + Copy>(
     rt: R,
     alloc: Global,
     heap: &LocalHeap,
     guests: &Arc<Guests>,
-) -> Result<(usize, (usize, usize)), AllocError> {
-    let pool = HeapPool::with_queues_in(rt, alloc, heap, 1)?;
-    let mut turns = pool.turns(0)?;
-    let mut tasks = spawn_prompts(&pool, guests, 200)?;
-    let filling = fill(alloc, heap)?;
+) -> (usize, (usize, usize)) {
+    let pool = granted(&rt, HeapPool::with_queues_in(rt, alloc, heap, 1));
+    let mut turns = granted(&rt, pool.turns(0));
+    let mut tasks = granted(&rt, spawn_prompts(&pool, guests, 200));
+    let filling = granted(&rt, fill(alloc, heap));
     turns.tick();
     drop(filling);
     drop(turns);
-    let mut next = pool.turns(0)?;
+    let mut next = granted(&rt, pool.turns(0));
     let ran = run_prompts(&mut next, 200);
     let ends = count_ends(&mut tasks);
-    Ok((ran, ends))
+    (ran, ends)
 }
 
 // The batch is 100 of the 200: one runs, 64 are in the worker's queue, and 35 in its hands. The queue for what comes from outside had room for all 200, and has 100 now: so it has room for the 35, and no task is closed.
 #[test]
-fn turns_that_are_dropped_hand_on_what_they_have(rt: HostRuntime) -> Result<(), Fail> {
-    let heap = LocalHeap::new(rt.alloc(), 2 * POOL_HEAP)?;
-    let guests = Guests::new(rt.alloc(), 0)?;
-    let (ran, ends) = drop_turns_with_full_hands(rt, rt.alloc(), &heap, &guests)?;
+fn turns_that_are_dropped_hand_on_what_they_have(rt: HostRuntime) {
+    let heap = granted(&rt, LocalHeap::new(rt.alloc(), 2 * POOL_HEAP));
+    let guests = granted(&rt, Guests::new(rt.alloc(), 0));
+    let (ran, ends) = drop_turns_with_full_hands(rt, rt.alloc(), &heap, &guests);
     let left = shares_and_polls(&guests);
     assert!(rt; ran == 199 && ends == (200, 0) && left == (1, 200) && heap.used() == 0);
-    Ok(())
 }

@@ -1,18 +1,18 @@
 //! What a store gives back.
 use executor::{Key, Store, Walk};
+use granted::granted;
 use std::alloc::{AllocError, Global};
 use std::sync::{Arc, Wait};
-use std::test::Fail;
 
 #[test]
-fn a_dropped_key_gives_its_place_back(rt: HostRuntime) -> Result<(), Fail> {
-    let shared = Arc::new(rt.alloc(), 7u8)?;
-    let store = Store::new(rt.alloc())?;
+fn a_dropped_key_gives_its_place_back(rt: HostRuntime) {
+    let shared = granted(&rt, Arc::new(rt.alloc(), 7u8));
+    let store = granted(&rt, Store::new(rt.alloc()));
     let (Some(first), Some(second)) = (store.reserve(rt, 0), store.reserve(rt, 0)) else {
         panic!(rt; "there was no memory")
     };
     assert!(rt; first.number() != second.number() && store.len(&rt) == 2);
-    let before = store.put(&rt, &first, Arc::try_clone(&shared)?);
+    let before = store.put(&rt, &first, granted(&rt, Arc::try_clone(&shared)));
     assert!(rt; matches!(before, Ok(None)) && Arc::strong_count(&shared) == 2);
     drop(first);
     let collected = store.collect(&rt);
@@ -21,13 +21,12 @@ fn a_dropped_key_gives_its_place_back(rt: HostRuntime) -> Result<(), Fail> {
     assert!(rt; Arc::strong_count(&shared) == 1);
     let none_left = store.collect(&rt).is_none();
     assert!(rt; none_left && store.take(&rt, second.number()).is_none());
-    Ok(())
 }
 
 // A place that was empty is free after the same call.
 #[test]
-fn a_collect_goes_on_to_a_place_with_a_handle(rt: HostRuntime) -> Result<(), Fail> {
-    let store = Store::new(rt.alloc())?;
+fn a_collect_goes_on_to_a_place_with_a_handle(rt: HostRuntime) {
+    let store = granted(&rt, Store::new(rt.alloc()));
     let (Some(empty), Some(full)) = (store.reserve(rt, 0), store.reserve(rt, 0)) else {
         panic!(rt; "there was no memory")
     };
@@ -35,17 +34,13 @@ fn a_collect_goes_on_to_a_place_with_a_handle(rt: HostRuntime) -> Result<(), Fai
     drop(empty);
     drop(full);
     let collected = (store.collect(&rt), store.collect(&rt));
-    assert_eq!(rt;
-        (before, collected, store.len(&rt)),
-        (Ok(None), (Some(7), None), 0)
-    );
-    Ok(())
+    assert!(rt; (before, collected, store.len(&rt)) == (Ok(None), (Some(7), None), 0));
 }
 
 #[test]
-fn a_key_of_another_store_is_refused(rt: HostRuntime) -> Result<(), Fail> {
-    let store = Store::new(rt.alloc())?;
-    let other = Store::<u8>::new(rt.alloc())?;
+fn a_key_of_another_store_is_refused(rt: HostRuntime) {
+    let store = granted(&rt, Store::new(rt.alloc()));
+    let other = granted(&rt, Store::<u8>::new(rt.alloc()));
     let (Some(own), Some(foreign)) = (store.reserve(rt, 0), other.reserve(rt, 0)) else {
         panic!(rt; "there was no memory")
     };
@@ -55,10 +50,9 @@ fn a_key_of_another_store_is_refused(rt: HostRuntime) -> Result<(), Fail> {
     let there = store.take_of(&rt, &own);
     let of_other = other.put(&rt, &foreign, 3);
     let numbers = (own.number(), foreign.number());
-    assert_eq!(rt; numbers, (0, 0));
-    assert_eq!(rt; (kept, refused, taken), (Ok(None), Err(2), None));
-    assert_eq!(rt; (there, of_other), (Some(1), Ok(None)));
-    Ok(())
+    assert!(rt; numbers == (0, 0));
+    assert!(rt; (kept, refused, taken) == (Ok(None), Err(2), None));
+    assert!(rt; (there, of_other) == (Some(1), Ok(None)));
 }
 
 // How many owners a shared number has, and the number in a place, which is empty after it.
@@ -75,18 +69,17 @@ fn owners_and_there<R: Wait + Drop + Copy>(
 
 // The handle that was there has its owner still: it was not dropped.
 #[test]
-fn a_put_over_a_full_place_answers_what_was_there(rt: HostRuntime) -> Result<(), Fail> {
-    let first = Arc::new(rt.alloc(), 1u8)?;
-    let second = Arc::new(rt.alloc(), 2u8)?;
-    let store = Store::new(rt.alloc())?;
-    let key = store.reserve(rt, 0).ok_or(AllocError)?;
-    let none = store.put(&rt, &key, Arc::try_clone(&first)?);
-    let before = store.put(&rt, &key, Arc::try_clone(&second)?);
+fn a_put_over_a_full_place_answers_what_was_there(rt: HostRuntime) {
+    let first = granted(&rt, Arc::new(rt.alloc(), 1u8));
+    let second = granted(&rt, Arc::new(rt.alloc(), 2u8));
+    let store = granted(&rt, Store::new(rt.alloc()));
+    let key = granted(&rt, store.reserve(rt, 0).ok_or(AllocError));
+    let none = store.put(&rt, &key, granted(&rt, Arc::try_clone(&first)));
+    let before = store.put(&rt, &key, granted(&rt, Arc::try_clone(&second)));
     let answers = matches!(none, Ok(None)) && matches!(before, Ok(Some(_)));
     let (owners, there) = owners_and_there(rt, &store, &key, &first);
     drop(before);
     assert!(rt; answers && owners == 2 && there == Some(2) && Arc::strong_count(&first) == 1);
-    Ok(())
 }
 
 // A place for each of so many workers, with the worker's number in it.
@@ -133,23 +126,21 @@ fn walk_places<R: Wait + Drop + Copy>(rt: R, store: &Store<usize>) -> (usize, us
 
 // A store has eight parts, so two of ten workers share a part with another one.
 #[test]
-fn each_worker_has_a_place_of_its_own(rt: HostRuntime) -> Result<(), Fail> {
-    let store = Store::new(rt.alloc())?;
-    let keys = fill_places(rt, rt.alloc(), &store, 10)?;
+fn each_worker_has_a_place_of_its_own(rt: HostRuntime) {
+    let store = granted(&rt, Store::new(rt.alloc()));
+    let keys = granted(&rt, fill_places(rt, rt.alloc(), &store, 10));
     let own = count_own(rt, &store, keys.as_slice());
     let again = count_own(rt, &store, keys.as_slice());
-    assert_eq!(rt; (own, again, store.len(&rt)), (10, 0, 10));
-    Ok(())
+    assert!(rt; (own, again, store.len(&rt)) == (10, 0, 10));
 }
 
 // The numbers of ten workers sum up to 45. The places stay those of their keys.
 #[test]
-fn a_walk_takes_each_handle_once(rt: HostRuntime) -> Result<(), Fail> {
-    let store = Store::new(rt.alloc())?;
-    let keys = fill_places(rt, rt.alloc(), &store, 10)?;
+fn a_walk_takes_each_handle_once(rt: HostRuntime) {
+    let store = granted(&rt, Store::new(rt.alloc()));
+    let keys = granted(&rt, fill_places(rt, rt.alloc(), &store, 10));
     let first = walk_places(rt, &store);
     let second = walk_places(rt, &store);
-    assert_eq!(rt; (first, second, store.len(&rt)), ((10, 45), (0, 0), 10));
+    assert!(rt; (first, second, store.len(&rt)) == ((10, 45), (0, 0), 10));
     drop(keys);
-    Ok(())
 }

@@ -4,11 +4,11 @@ ghost use Rattle.std.specs.Prelude.{⊤};
 use async_task::{Future, Poll, TaskPoll, Yields};
 use awaiters::Nobody;
 use executor::{Key, Pool, PoolTask, PoolWaker, collect, keep_waker, place_for_waker, wake_kept};
+use granted::granted;
 use std::alloc::{AllocError, Global};
 use std::collections::VecDeque;
 use std::sync::atomic::{AtomicU64, Ordering};
 use std::sync::{Arc, Wait};
-use std::test::Fail;
 use std::thread;
 
 /// How many tasks a storm has.
@@ -210,11 +210,14 @@ fn left_of<R: Wait + Drop + Copy>(pool: &StormPool<R>, storm: &Arc<Storm>) -> (u
 }
 
 #[test]
-fn a_storm_loses_no_wake(rt: HostRuntime) -> Result<(), Fail> {
-    let storm = Storm::new(rt.alloc())?;
-    let pool = StormPool::new(rt, rt.alloc(), WORKERS)?;
+fn a_storm_loses_no_wake(rt: HostRuntime) {
+    let storm = granted(&rt, Storm::new(rt.alloc()));
+    let pool = granted(&rt, StormPool::new(rt, rt.alloc(), WORKERS));
     let mut tasks = Vec::new(rt.alloc());
-    let places = spawn_storm(&pool, rt.alloc(), &storm, 2 * ROUNDS, &mut tasks)?;
+    let places = granted(
+        &rt,
+        spawn_storm(&pool, rt.alloc(), &storm, 2 * ROUNDS, &mut tasks),
+    );
     let (ran, _) = thread::join(
         &rt,
         || thread::map_indices(&rt, rt.alloc(), WORKERS, &|worker| pool.run(worker).is_ok()),
@@ -225,18 +228,20 @@ fn a_storm_loses_no_wake(rt: HostRuntime) -> Result<(), Fail> {
         ),
     );
     let seen = taken_and_closed(tasks);
-    let (ran, left) = (all_ran(ran?), left_of(&pool, &storm));
+    let (ran, left) = (all_ran(granted(&rt, ran)), left_of(&pool, &storm));
     assert!(rt; ran && seen == (2 * ROUNDS * TASKS, 0) && left == (0, 1));
-    Ok(())
 }
 
 // One of two threads wakes to its end, the other shuts the pool down between. Each task wants one ticket more than there will be, so it is cancelled: by a worker, or by a thread that wakes it, after which the workers may have ended.
 #[test]
-fn a_shutdown_in_a_storm_leaves_nothing(rt: HostRuntime) -> Result<(), Fail> {
-    let storm = Storm::new(rt.alloc())?;
-    let pool = StormPool::new(rt, rt.alloc(), WORKERS)?;
+fn a_shutdown_in_a_storm_leaves_nothing(rt: HostRuntime) {
+    let storm = granted(&rt, Storm::new(rt.alloc()));
+    let pool = granted(&rt, StormPool::new(rt, rt.alloc(), WORKERS));
     let mut tasks = Vec::new(rt.alloc());
-    let places = spawn_storm(&pool, rt.alloc(), &storm, 2 * ROUNDS + 1, &mut tasks)?;
+    let places = granted(
+        &rt,
+        spawn_storm(&pool, rt.alloc(), &storm, 2 * ROUNDS + 1, &mut tasks),
+    );
     let (ran, _) = thread::join(
         &rt,
         || thread::map_indices(&rt, rt.alloc(), WORKERS, &|worker| pool.run(worker).is_ok()),
@@ -248,21 +253,20 @@ fn a_shutdown_in_a_storm_leaves_nothing(rt: HostRuntime) -> Result<(), Fail> {
     );
     let seen = taken_and_closed(tasks);
     collect((&pool, 0));
-    let (ran, left) = (all_ran(ran?), left_of(&pool, &storm));
+    let (ran, left) = (all_ran(granted(&rt, ran)), left_of(&pool, &storm));
     assert!(rt; ran && seen == (0, TASKS) && left == (0, 1));
-    Ok(())
 }
 
 // Of two tasks the second has a key of another pool, with the number of the first one's place. Both are polled, and then the first is woken.
 #[test]
-fn a_key_of_another_pool_keeps_no_waker(rt: HostRuntime) -> Result<(), Fail> {
-    let storm = Storm::new(rt.alloc())?;
-    let pool = StormPool::new(rt, rt.alloc(), 1)?;
-    let other = StormPool::new(rt, rt.alloc(), 1)?;
+fn a_key_of_another_pool_keeps_no_waker(rt: HostRuntime) {
+    let storm = granted(&rt, Storm::new(rt.alloc()));
+    let pool = granted(&rt, StormPool::new(rt, rt.alloc(), 1));
+    let other = granted(&rt, StormPool::new(rt, rt.alloc(), 1));
     let mut tasks = Vec::new(rt.alloc());
-    let own = spawn_at(&pool, &pool, 0, &storm, &mut tasks)?;
-    let foreign = spawn_at(&pool, &other, 1, &storm, &mut tasks)?;
-    let mut turns = pool.turns(0)?;
+    let own = granted(&rt, spawn_at(&pool, &pool, 0, &storm, &mut tasks));
+    let foreign = granted(&rt, spawn_at(&pool, &other, 1, &storm, &mut tasks));
+    let mut turns = granted(&rt, pool.turns(0));
     let mut ran = 0u8;
     for _ in 0..2 {
         ran = ran.saturating_add(u8::from(turns.tick()));
@@ -274,5 +278,4 @@ fn a_key_of_another_pool_keeps_no_waker(rt: HostRuntime) -> Result<(), Fail> {
     }
     let seen = taken_and_closed(tasks);
     assert!(rt; own == foreign && ran == 4 && woken == (true, false) && seen == (1, 0));
-    Ok(())
 }

@@ -7,10 +7,10 @@ use executor::{
     Key, Pool, PoolTask, PoolWaker, keep_task, keep_waker, place_for_task, place_for_waker,
     poll_kept, wake_kept,
 };
+use granted::granted;
 use std::alloc::AllocError;
 use std::sync::atomic::{AtomicU64, Ordering};
 use std::sync::{Arc, Wait};
-use std::test::Fail;
 use std::thread;
 
 /// What the tasks of a program count together, and when it is over. A child that was refused memory counts as `refused`.
@@ -170,43 +170,39 @@ fn all_began(began: Vec<bool>) -> bool {
 }
 
 #[test]
-fn every_task_ends_on_one_thread(rt: HostRuntime) -> Result<(), Fail> {
-    let pool = JobPool::new(rt, rt.alloc(), 1)?;
-    let counts = spawn_all(&pool, Program::Few)?;
-    let began = thread::map_indices(&rt, rt.alloc(), 1, &|worker| pool.run(worker).is_ok())?;
-    let (began, ended) = (all_began(began), ended(&counts));
+fn every_task_ends_on_one_thread(rt: HostRuntime) {
+    let pool = granted(&rt, JobPool::new(rt, rt.alloc(), 1));
+    let counts = granted(&rt, spawn_all(&pool, Program::Few));
+    let began = thread::map_indices(&rt, rt.alloc(), 1, &|worker| pool.run(worker).is_ok());
+    let (began, ended) = (all_began(granted(&rt, began)), ended(&counts));
     assert!(rt; began && ended == Some(100));
-    Ok(())
 }
 
 #[test]
-fn every_task_ends_on_two_threads(rt: HostRuntime) -> Result<(), Fail> {
-    let pool = JobPool::new(rt, rt.alloc(), 2)?;
-    let counts = spawn_all(&pool, Program::Few)?;
-    let began = thread::map_indices(&rt, rt.alloc(), 2, &|worker| pool.run(worker).is_ok())?;
-    let (began, ended) = (all_began(began), ended(&counts));
+fn every_task_ends_on_two_threads(rt: HostRuntime) {
+    let pool = granted(&rt, JobPool::new(rt, rt.alloc(), 2));
+    let counts = granted(&rt, spawn_all(&pool, Program::Few));
+    let began = thread::map_indices(&rt, rt.alloc(), 2, &|worker| pool.run(worker).is_ok());
+    let (began, ended) = (all_began(granted(&rt, began)), ended(&counts));
     assert!(rt; began && ended == Some(100));
-    Ok(())
 }
 
 #[test]
-fn every_task_ends_on_four_threads(rt: HostRuntime) -> Result<(), Fail> {
-    let pool = JobPool::new(rt, rt.alloc(), 4)?;
-    let counts = spawn_all(&pool, Program::Many)?;
-    let began = thread::map_indices(&rt, rt.alloc(), 4, &|worker| pool.run(worker).is_ok())?;
-    let (began, ended) = (all_began(began), ended(&counts));
+fn every_task_ends_on_four_threads(rt: HostRuntime) {
+    let pool = granted(&rt, JobPool::new(rt, rt.alloc(), 4));
+    let counts = granted(&rt, spawn_all(&pool, Program::Many));
+    let began = thread::map_indices(&rt, rt.alloc(), 4, &|worker| pool.run(worker).is_ok());
+    let (began, ended) = (all_began(granted(&rt, began)), ended(&counts));
     assert!(rt; began && ended == Some(1000));
-    Ok(())
 }
 
 #[test]
-fn a_task_spawns_tasks(rt: HostRuntime) -> Result<(), Fail> {
-    let pool = JobPool::new(rt, rt.alloc(), 4)?;
-    let counts = spawn_all(&pool, Program::Trees)?;
-    let began = thread::map_indices(&rt, rt.alloc(), 4, &|worker| pool.run(worker).is_ok())?;
-    let (began, ended) = (all_began(began), ended(&counts));
+fn a_task_spawns_tasks(rt: HostRuntime) {
+    let pool = granted(&rt, JobPool::new(rt, rt.alloc(), 4));
+    let counts = granted(&rt, spawn_all(&pool, Program::Trees));
+    let began = thread::map_indices(&rt, rt.alloc(), 4, &|worker| pool.run(worker).is_ok());
+    let (began, ended) = (all_began(granted(&rt, began)), ended(&counts));
     assert!(rt; began && ended == Some(1020));
-    Ok(())
 }
 
 /// A future that waits until another thread wakes it, and then ends the pool. `number` is one more than the number under which its waker is kept.
@@ -284,46 +280,43 @@ fn places<R: Wait + Drop + Copy>(pool: &WaitsPool<R>) -> usize {
 }
 
 #[test]
-fn another_thread_wakes_a_kept_waker(rt: HostRuntime) -> Result<(), Fail> {
-    let number = Arc::new(rt.alloc(), AtomicU64::new(0))?;
-    let pool = WaitsPool::new(rt, rt.alloc(), 4)?;
-    let mut task = spawn_waits(&pool, &number)?;
+fn another_thread_wakes_a_kept_waker(rt: HostRuntime) {
+    let number = granted(&rt, Arc::new(rt.alloc(), AtomicU64::new(0)));
+    let pool = granted(&rt, WaitsPool::new(rt, rt.alloc(), 4));
+    let mut task = granted(&rt, spawn_waits(&pool, &number));
     let (began, woke) = thread::join(
         &rt,
         || thread::map_indices(&rt, rt.alloc(), 4, &|worker| pool.run(worker).is_ok()),
         || wake_once(&pool, &number),
     );
-    let began = all_began(began?);
+    let began = all_began(granted(&rt, began));
     let answer = output_of(&mut task);
     assert!(rt; began && woke && answer == Some(7));
-    Ok(())
 }
 
 #[test]
-fn a_shutdown_cancels_a_task_that_waits(rt: HostRuntime) -> Result<(), Fail> {
-    let number = Arc::new(rt.alloc(), AtomicU64::new(0))?;
-    let pool = WaitsPool::new(rt, rt.alloc(), 1)?;
-    let mut task = spawn_waits(&pool, &number)?;
-    let mut turns = pool.turns(0)?;
+fn a_shutdown_cancels_a_task_that_waits(rt: HostRuntime) {
+    let number = granted(&rt, Arc::new(rt.alloc(), AtomicU64::new(0)));
+    let pool = granted(&rt, WaitsPool::new(rt, rt.alloc(), 1));
+    let mut task = granted(&rt, spawn_waits(&pool, &number));
+    let mut turns = granted(&rt, pool.turns(0));
     let ran = turns.tick();
     let before = places(&pool);
     pool.shutdown();
     let closed = is_closed(&mut task);
     let (after, left) = (places(&pool), Arc::strong_count(&number));
     assert!(rt; ran && before == 1 && closed && after == 0 && left == 1);
-    Ok(())
 }
 
 #[test]
-fn a_shutdown_cancels_a_task_that_is_kept(rt: HostRuntime) -> Result<(), Fail> {
-    let number = Arc::new(rt.alloc(), AtomicU64::new(0))?;
-    let pool = WaitsPool::new(rt, rt.alloc(), 1)?;
-    let task = spawn_waits(&pool, &number)?;
-    let key = place_for_task((&pool, 0)).ok_or(AllocError)?;
+fn a_shutdown_cancels_a_task_that_is_kept(rt: HostRuntime) {
+    let number = granted(&rt, Arc::new(rt.alloc(), AtomicU64::new(0)));
+    let pool = granted(&rt, WaitsPool::new(rt, rt.alloc(), 1));
+    let task = granted(&rt, spawn_waits(&pool, &number));
+    let key = granted(&rt, place_for_task((&pool, 0)).ok_or(AllocError));
     let kept = keep_task(task, &key).is_ok();
     pool.shutdown();
     let is_gone = poll_kept((&pool, 0), &key, &Nobody).is_none();
     let left = Arc::strong_count(&number);
     assert!(rt; kept && is_gone && left == 1);
-    Ok(())
 }

@@ -1,5 +1,5 @@
 //! The tests of the machine as a program (lives of a task, replayed, and each reason to refuse a step), and of what programs are asked for, count and print.
-//! It stands on `task_replay`, `bench_report` and `counted_values`. Nothing is public. The page is docs/PROOFS.md.
+//! It stands on `trace_printer`, `task_replay`, `bench_report` and `counted_values`. Nothing is public. The page is docs/PROOFS.md.
 #![tactic(auto)]
 
 #[cfg(test)]
@@ -20,6 +20,8 @@ mod refusals;
 mod replay;
 #[cfg(test)]
 mod row_tests;
+#[cfg(test)]
+mod trace;
 #[cfg(test)]
 mod turns;
 #[cfg(test)]

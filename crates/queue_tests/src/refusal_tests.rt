@@ -1,9 +1,10 @@
 //! Tests of queues that are refused memory: what the items stand in is of a small heap, which is filled. And which queue a worker looks at first.
 
+use granted::granted;
 use linked_list_allocator::LocalHeap;
 use std::alloc::{AllocError, Global};
+use std::process::Abort;
 use std::sync::Wait;
-use std::test::Fail;
 use work_queues::{Bells, Board, Crew, Worker};
 
 /// Room for two queues, and for what a worker has in its hands.
@@ -53,24 +54,23 @@ fn pop_four<R: Wait>(rt: &R, crew: &HeapCrew<'_>) -> [Option<u64>; 4] {
 
 // The queue has room for two items. Each time the third is the one that is refused.
 #[test]
-fn a_refused_push_hands_the_item_back(rt: HostRuntime) -> Result<(), Fail> {
-    let heap = LocalHeap::new(rt.alloc(), HEAP)?;
-    let crew = HeapCrew::new(rt.alloc(), &heap, 1, ROOM)?;
+fn a_refused_push_hands_the_item_back(rt: HostRuntime) {
+    let heap = granted(&rt, LocalHeap::new(rt.alloc(), HEAP));
+    let crew = granted(&rt, HeapCrew::new(rt.alloc(), &heap, 1, ROOM));
     let two = push_two(&rt, &crew);
-    let filling = fill(rt.alloc(), &heap)?;
+    let filling = granted(&rt, fill(rt.alloc(), &heap));
     let refused = crew.push(&rt, 0, 3);
     let left = pop_four(&rt, &crew);
     let two_again = push_two(&rt, &crew);
     let refused_again = crew.push(&rt, 0, 4);
     drop(filling);
-    let granted = crew.push(&rt, 0, 5);
+    let pushed = crew.push(&rt, 0, 5);
     let all = pop_four(&rt, &crew);
     drop(crew);
     assert!(rt; two && refused == Err(3) && left == [Some(1), Some(2), None, None]);
     assert!(rt; two_again && refused_again == Err(4));
-    assert!(rt; granted == Ok(()) && all == [Some(1), Some(2), Some(5), None]);
+    assert!(rt; pushed == Ok(()) && all == [Some(1), Some(2), Some(5), None]);
     assert!(rt; heap.used() == 0);
-    Ok(())
 }
 
 // Pushes an item at the queue for what comes from outside, and rings the bell of the worker that is to be woken.
@@ -89,13 +89,13 @@ fn push_and_ring<R: Wait>(
 
 // The worker counts as asleep beside a full queue, so the push makes it awake, though the queue is refused memory.
 #[test]
-fn a_refused_push_wakes_a_worker(rt: HostRuntime) -> Result<(), Fail> {
-    let heap = LocalHeap::new(rt.alloc(), HEAP)?;
-    let bells = Bells::new(rt.alloc(), 1)?;
-    let board = HeapBoard::new(rt.alloc(), &heap, 1, ROOM)?;
+fn a_refused_push_wakes_a_worker(rt: HostRuntime) {
+    let heap = granted(&rt, LocalHeap::new(rt.alloc(), HEAP));
+    let bells = granted(&rt, Bells::new(rt.alloc(), 1));
+    let board = granted(&rt, HeapBoard::new(rt.alloc(), &heap, 1, ROOM));
     let first = push_and_ring(&rt, &board, &bells, 1);
     let second = push_and_ring(&rt, &board, &bells, 2);
-    let filling = fill(rt.alloc(), &heap)?;
+    let filling = granted(&rt, fill(rt.alloc(), &heap));
     let before = bells.shows(0);
     let sleeper = board.lie_down(0);
     let third = push_and_ring(&rt, &board, &bells, 3);
@@ -103,7 +103,6 @@ fn a_refused_push_wakes_a_worker(rt: HostRuntime) -> Result<(), Fail> {
     drop(filling);
     assert!(rt; first == Ok(()) && second == Ok(()) && third == Err(3));
     assert!(rt; before == 0 && bells.shows(0) == 1);
-    Ok(())
 }
 
 // Pushes 1 to 10 at the queue for what comes from outside: whether all were taken.
@@ -130,52 +129,48 @@ fn find_eleven<'heap, R: Wait>(
 
 // The first batch is 1 to 5: it runs 1, its queue has room for 2 and 3, and 4 and 5 stay in its hands. The second is 6 to 8.
 #[test]
-fn a_thief_that_is_refused_memory_loses_nothing(rt: HostRuntime) -> Result<(), Fail> {
-    let heap = LocalHeap::new(rt.alloc(), HEAP)?;
-    let crew = HeapCrew::new(rt.alloc(), &heap, 1, ROOM)?;
-    let mut worker = crew.worker(&heap, 0)?;
+fn a_thief_that_is_refused_memory_loses_nothing(rt: HostRuntime) {
+    let heap = granted(&rt, LocalHeap::new(rt.alloc(), HEAP));
+    let crew = granted(&rt, HeapCrew::new(rt.alloc(), &heap, 1, ROOM));
+    let mut worker = granted(&rt, crew.worker(&heap, 0));
     let taken = push_ten(&rt, &crew);
-    let filling = fill(rt.alloc(), &heap)?;
+    let filling = granted(&rt, fill(rt.alloc(), &heap));
     let found = find_eleven(&rt, &crew, &mut worker);
     drop(filling);
     drop(worker);
     drop(crew);
     assert!(rt; taken && found == [1, 4, 5, 2, 3, 6, 7, 8, 9, 10, 0]);
     assert!(rt; heap.used() == 0);
-    Ok(())
 }
 
-// What a worker finds of ten items in one look, how many interruptions there are once it has left with 4 and 5 in its hands, and what another one finds
+// Whether a queue takes ten items, what a worker finds of them in one look, how many interruptions there are once it has left with 4 and 5 in its hands, and what another one finds
 // then in eleven looks.
-fn leave_and_find<R: Wait>(
+fn leave_and_find<R: Wait + Abort>(
     rt: &R,
     alloc: Global,
     heap: &LocalHeap,
-) -> Result<(Option<u64>, u64, [u64; 11]), AllocError> {
-    let crew = HeapCrew::new(alloc, heap, 2, ROOM)?;
-    let mut worker = crew.worker(heap, 0)?;
-    let mut other = crew.worker(heap, 1)?;
-    if !push_ten(rt, &crew) {
-        return Err(AllocError);
-    }
-    let filling = fill(alloc, heap)?;
+) -> (bool, Option<u64>, u64, [u64; 11]) {
+    let crew = granted(rt, HeapCrew::new(alloc, heap, 2, ROOM));
+    let mut worker = granted(rt, crew.worker(heap, 0));
+    let mut other = granted(rt, crew.worker(heap, 1));
+    let taken = push_ten(rt, &crew);
+    let filling = granted(rt, fill(alloc, heap));
     let first = crew.find(rt, &mut worker);
     drop(filling);
     crew.end_turns(rt, &mut worker);
     drop(worker);
     let interruptions = crew.bells().interruptions();
     let found = find_eleven(rt, &crew, &mut other);
-    Ok((first, interruptions, found))
+    (taken, first, interruptions, found)
 }
 
 // Outside stand 6 to 10, and behind these 4 and 5, of which the other worker takes half at a time. Then it takes 2 and 3 out of the first one's queue.
 #[test]
-fn another_worker_finds_what_one_that_leaves_had_in_its_hands(rt: HostRuntime) -> Result<(), Fail> {
-    let heap = LocalHeap::new(rt.alloc(), 2 * HEAP)?;
-    let (first, interruptions, found) = leave_and_find(&rt, rt.alloc(), &heap)?;
+fn another_worker_finds_what_one_that_leaves_had_in_its_hands(rt: HostRuntime) {
+    let heap = granted(&rt, LocalHeap::new(rt.alloc(), 2 * HEAP));
+    let (taken, first, interruptions, found) = leave_and_find(&rt, rt.alloc(), &heap);
     let is_all = found == [6, 7, 8, 9, 10, 4, 5, 2, 3, 0, 0];
-    assert!(rt; first == Some(1) && interruptions == 1 && is_all);
-    Ok(())
+    assert!(rt; taken && first == Some(1) && interruptions == 1 && is_all);
 }
 
 // Pushes 11 at the queue for what comes from outside until it is refused memory, and takes its first item: then it has room for one.
@@ -202,12 +197,12 @@ fn last_outside<R: Wait>(rt: &R, crew: &HeapCrew<'_>) -> Option<u64> {
 
 // It has 4 and 5 in its hands, and the queue for what comes from outside has room for one.
 #[test]
-fn a_worker_that_leaves_keeps_what_does_not_fit(rt: HostRuntime) -> Result<(), Fail> {
-    let heap = LocalHeap::new(rt.alloc(), HEAP)?;
-    let crew = HeapCrew::new(rt.alloc(), &heap, 1, ROOM)?;
-    let mut worker = crew.worker(&heap, 0)?;
+fn a_worker_that_leaves_keeps_what_does_not_fit(rt: HostRuntime) {
+    let heap = granted(&rt, LocalHeap::new(rt.alloc(), HEAP));
+    let crew = granted(&rt, HeapCrew::new(rt.alloc(), &heap, 1, ROOM));
+    let mut worker = granted(&rt, crew.worker(&heap, 0));
     let pushed = push_ten(&rt, &crew);
-    let filling = fill(rt.alloc(), &heap)?;
+    let filling = granted(&rt, fill(rt.alloc(), &heap));
     let first = crew.find(&rt, &mut worker);
     let popped = leave_room_for_one(&rt, &crew);
     crew.end_turns(&rt, &mut worker);
@@ -218,7 +213,6 @@ fn a_worker_that_leaves_keeps_what_does_not_fit(rt: HostRuntime) -> Result<(), F
     let before = (first, popped) == (Some(1), Some(6));
     let after = (kept, own, last) == (Some(5), Some(2), Some(4));
     assert!(rt; pushed && before && after);
-    Ok(())
 }
 
 // Whether a crew of one worker is refused its queues by this heap.
@@ -228,23 +222,22 @@ fn refuses_a_crew(alloc: Global, heap: &LocalHeap) -> bool {
 
 // Of the heap of one block the first of two queues takes it, and the second is refused.
 #[test]
-fn a_crew_without_memory_is_refused(rt: HostRuntime) -> Result<(), Fail> {
-    let heap = LocalHeap::new(rt.alloc(), HEAP)?;
-    let crew = HeapCrew::new(rt.alloc(), &heap, 1, ROOM)?;
-    let filling = fill(rt.alloc(), &heap)?;
+fn a_crew_without_memory_is_refused(rt: HostRuntime) {
+    let heap = granted(&rt, LocalHeap::new(rt.alloc(), HEAP));
+    let crew = granted(&rt, HeapCrew::new(rt.alloc(), &heap, 1, ROOM));
+    let filling = granted(&rt, fill(rt.alloc(), &heap));
     let full = heap.used();
     let refused = refuses_a_crew(rt.alloc(), &heap) && crew.worker(&heap, 0).is_err();
     let left = heap.used();
     drop(filling);
     drop(crew);
-    let one_block = LocalHeap::new(rt.alloc(), BLOCK)?;
+    let one_block = granted(&rt, LocalHeap::new(rt.alloc(), BLOCK));
     let half_refused = refuses_a_crew(rt.alloc(), &one_block);
-    let two_blocks = LocalHeap::new(rt.alloc(), 2 * BLOCK)?;
-    let granted = !refuses_a_crew(rt.alloc(), &two_blocks);
+    let two_blocks = granted(&rt, LocalHeap::new(rt.alloc(), 2 * BLOCK));
+    let built = !refuses_a_crew(rt.alloc(), &two_blocks);
     assert!(rt; refused && left == full && heap.used() == 0);
     assert!(rt; half_refused && one_block.used() == 0);
-    assert!(rt; granted && two_blocks.used() == 0);
-    Ok(())
+    assert!(rt; built && two_blocks.used() == 0);
 }
 
 // At which of so many looks a worker finds an item from outside, which is a 0.
@@ -266,15 +259,14 @@ fn looks_outside<R: Wait>(
 
 // The worker always has items of its own, and two wait outside.
 #[test]
-fn each_61st_look_is_first_for_what_came_from_outside(rt: HostRuntime) -> Result<(), Fail> {
-    let crew = Crew::new(rt.alloc(), rt.alloc(), 1, ROOM)?;
+fn each_61st_look_is_first_for_what_came_from_outside(rt: HostRuntime) {
+    let crew = granted(&rt, Crew::new(rt.alloc(), rt.alloc(), 1, ROOM));
     let mut taken = crew.push(&rt, 1, 0).is_ok() && crew.push(&rt, 1, 0).is_ok();
     for own in 1..201u64 {
         taken = crew.push(&rt, 0, own).is_ok() && taken;
     }
-    let found = looks_outside(&rt, rt.alloc(), &crew, 150)?;
+    let found = granted(&rt, looks_outside(&rt, rt.alloc(), &crew, 150));
     assert!(rt; taken && found.as_slice() == [61, 122].as_slice());
-    Ok(())
 }
 
 // How many zeros, which stand in the queues of others, worker 0 finds in so many looks, and how many of them at a 976th look. It always has items of its own.
@@ -299,11 +291,10 @@ fn look_beside_others<R: Wait>(
 
 // Nobody runs workers 1 and 2. At each 976th look the queue of one of the three workers is first, of each in turn.
 #[test]
-fn a_busy_worker_finds_what_stands_in_the_queues_of_others(rt: HostRuntime) -> Result<(), Fail> {
-    let crew = Crew::new(rt.alloc(), rt.alloc(), 3, ROOM)?;
+fn a_busy_worker_finds_what_stands_in_the_queues_of_others(rt: HostRuntime) {
+    let crew = granted(&rt, Crew::new(rt.alloc(), rt.alloc(), 3, ROOM));
     let others = crew.push(&rt, 1, 0).is_ok() && crew.push(&rt, 2, 0).is_ok();
     let own = crew.push(&rt, 0, 1).is_ok();
-    let found = look_beside_others(&rt, rt.alloc(), &crew, 3 * 976)?;
+    let found = granted(&rt, look_beside_others(&rt, rt.alloc(), &crew, 3 * 976));
     assert!(rt; others && own && found == (2, 2));
-    Ok(())
 }

@@ -1,16 +1,14 @@
 //! The program that runs the worked rows.
-//! It stands on `worked_rows` and `local_task`, and on `counted_values` for the arguments and what is printed.
+//! It stands on `row_table`, and on `counted_values` for the arguments and what is printed.
 //! A user runs it. Nothing is public only to carry a claim.
 //! The page is docs/ROWS.md.
 #![tactic(auto)]
 
 use counted_values::report::answer;
 use counted_values::row::Row;
+use row_table::table;
 use std::process::ExitCode;
 use std::{env, io};
-
-mod local;
-mod table;
 
 fn main(rt: HostRuntime) -> io::Result<ExitCode> {
     let alloc = rt.alloc();

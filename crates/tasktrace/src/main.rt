@@ -1,31 +1,13 @@
 //! The program that plays the steps that it reads from standard input, and prints how the task stands after each.
-//! It stands on `task_replay`, on `task_progress` for the steps that are left, and on the kit's `strsim`.
+//! It stands on `trace_printer`, which reads the arguments and the steps, and prints the rows.
 //! A user runs it. Nothing is public only to carry a claim.
 //! The page is docs/TRACES.md.
 #![tactic(auto)]
 
-use crate::arguments::answer;
 use std::io::{BufReader, BufWriter};
 use std::process::ExitCode;
 use std::{env, io};
-
-#[cfg(test)]
-mod argument_tests;
-mod arguments;
-mod holders;
-mod line;
-#[cfg(test)]
-mod line_tests;
-mod names;
-mod nearest;
-mod progress;
-#[cfg(test)]
-mod progress_tests;
-mod reason;
-mod row;
-mod trace;
-#[cfg(test)]
-mod trace_tests;
+use trace_printer::arguments::answer;
 
 fn main(rt: HostRuntime) -> io::Result<ExitCode> {
     let mut args = Vec::new(rt.alloc());

@@ -28,12 +28,25 @@ const LOOKS: usize = 2048;
 const LOOKS_A_ROUND: usize = 128;
 
 /// The board of a pool and its bells. `A` is where the queues take their memory. The items that are left are dropped with it.
-#[derive(Drop)]
 pub struct Crew<T, A: Allocator = Global> {
     board: Board<T, A>,
     bells: Arc<Bells>,
     // How often items came from outside.
     arrivals: AtomicU64,
+}
+
+impl<T: Drop, A: Allocator> Drop for Crew<T, A> {
+    // As a derived drop, which would stand field by field in each function that drops a crew.
+    fn drop(self) {
+        let Crew {
+            board,
+            bells,
+            arrivals,
+        } = self;
+        drop(board);
+        drop(bells);
+        drop(arrivals);
+    }
 }
 
 /// What one worker keeps for itself. While it lives, no other one has its number.

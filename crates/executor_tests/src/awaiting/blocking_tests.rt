@@ -1,25 +1,27 @@
 //! `block_on`, of a task that has ended, of one that another thread runs, and of one that is closed.
 use super::line::{Errand, Line, LineTask};
 use awaiters::{BlockOnError, block_on};
+use granted::granted;
 use std::alloc::{AllocError, Global};
+use std::process::Abort;
 use std::sync::Wait;
 use std::thread::{self, Threads};
 
 type Answers = [Result<u64, BlockOnError>; 2];
 
 // Waits twice for a task that has ended before: the second time it is closed.
-fn wait_for_ended<R: Wait + Drop + Copy>(rt: R, alloc: Global) -> Result<Answers, AllocError> {
-    let line = Line::new(rt, alloc, 1)?;
-    let mut task = line.spawn(0, Errand::GiveWay(7)).ok_or(AllocError)?;
+fn wait_for_ended<R: Wait + Abort + Drop + Copy>(rt: R, alloc: Global) -> Answers {
+    let line = granted(&rt, Line::new(rt, alloc, 1));
+    let mut task = granted(&rt, line.spawn(0, Errand::GiveWay(7)).ok_or(AllocError));
     line.run();
     let first = block_on(rt, alloc, &mut task);
-    Ok([first, block_on(rt, alloc, &mut task)])
+    [first, block_on(rt, alloc, &mut task)]
 }
 
 #[test]
 fn block_on_gives_an_output_once(rt: HostRuntime) {
     let answers = wait_for_ended(rt, rt.alloc());
-    assert_eq!(rt; answers, Ok([Ok(7), Err(BlockOnError::Closed)]));
+    assert!(rt; answers == [Ok(7), Err(BlockOnError::Closed)]);
 }
 
 // Waits for a task, and drops its Task.
@@ -43,17 +45,17 @@ fn run_and_wait<'x, R: Wait + Threads + Drop + Copy + Send + Sync>(
 }
 
 // Waits for a task that another thread runs meanwhile.
-fn wait_for_other<R: Wait + Threads + Drop + Copy + Send + Sync>(
+fn wait_for_other<R: Wait + Abort + Threads + Drop + Copy + Send + Sync>(
     rt: R,
     alloc: Global,
-) -> Result<Result<u64, BlockOnError>, AllocError> {
-    let line = Line::new(rt, alloc, 1)?;
-    let task = line.spawn(0, Errand::GiveWay(9)).ok_or(AllocError)?;
-    Ok(run_and_wait(rt, alloc, &line, task))
+) -> Result<u64, BlockOnError> {
+    let line = granted(&rt, Line::new(rt, alloc, 1));
+    let task = granted(&rt, line.spawn(0, Errand::GiveWay(9)).ok_or(AllocError));
+    run_and_wait(rt, alloc, &line, task)
 }
 
 #[test]
 fn block_on_sleeps_until_another_thread_has_run_the_task(rt: HostRuntime) {
     let answer = wait_for_other(rt, rt.alloc());
-    assert_eq!(rt; answer, Ok(Ok(9)));
+    assert!(rt; answer == Ok(9));
 }

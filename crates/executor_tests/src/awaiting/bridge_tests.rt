@@ -4,13 +4,15 @@ ghost use Rattle.std.specs.Prelude.{⊤};
 use async_task::{Future, Poll, Runnable, Schedule, ScheduleInfo, Task, Wake, Yields, spawn};
 use futures::executor::block_on;
 use futures::future::{Either, join, ready, select};
+use granted::granted;
 use kit_bridge::{AwaitError, Awaits, KitAwaiter};
 use linked_list_allocator::LocalHeap;
 use std::alloc::{AllocError, AllocGlobal, Global};
+use std::process::Abort;
 use std::random::RandomSource;
 use std::sync::atomic::{AtomicU64, Ordering};
 use std::sync::{Arc, Wait};
-use std::{io, thread};
+use std::thread;
 
 // Gives way so often, and then answers. It counts its drop.
 struct Count {
@@ -93,83 +95,72 @@ fn bridged<R: Wait + Drop + Copy>(
 }
 
 #[test]
-fn the_kit_waits_for_a_task_that_another_thread_runs(rt: HostRuntime) -> io::Result<()> {
-    let dropped = Arc::new(rt.alloc(), AtomicU64::new(0))?;
-    let (runnable, awaits) = bridged(rt, rt.alloc(), 7, &dropped)?;
+fn the_kit_waits_for_a_task_that_another_thread_runs(rt: HostRuntime) {
+    let dropped = granted(&rt, Arc::new(rt.alloc(), AtomicU64::new(0)));
+    let (runnable, awaits) = granted(&rt, bridged(rt, rt.alloc(), 7, &dropped));
     let (_, answer) = thread::join(&rt, move || runnable.run(), move || block_on(&rt, awaits));
-    assert_eq!(rt; answer?, Ok(7));
-    assert_eq!(rt; dropped.load(Ordering::SeqCst), 1);
-    Ok(())
+    assert!(rt; granted(&rt, answer) == Ok(7));
+    assert!(rt; dropped.load(Ordering::SeqCst) == 1);
 }
 
 #[test]
-fn the_kit_joins_two_tasks(rt: HostRuntime) -> io::Result<()> {
-    let dropped = Arc::new(rt.alloc(), AtomicU64::new(0))?;
-    let (first, left) = bridged(rt, rt.alloc(), 1, &dropped)?;
-    let (second, right) = bridged(rt, rt.alloc(), 2, &dropped)?;
+fn the_kit_joins_two_tasks(rt: HostRuntime) {
+    let dropped = granted(&rt, Arc::new(rt.alloc(), AtomicU64::new(0)));
+    let (first, left) = granted(&rt, bridged(rt, rt.alloc(), 1, &dropped));
+    let (second, right) = granted(&rt, bridged(rt, rt.alloc(), 2, &dropped));
     let run = move || {
         first.run();
         second.run()
     };
     let (_, answers) = thread::join(&rt, run, move || block_on(&rt, join(left, right)));
-    assert_eq!(rt; answers?, (Ok(1), Ok(2)));
-    Ok(())
+    assert!(rt; granted(&rt, answers) == (Ok(1), Ok(2)));
 }
 
 #[test]
-fn the_loser_of_a_select_is_cancelled(rt: HostRuntime) -> io::Result<()> {
-    let dropped = Arc::new(rt.alloc(), AtomicU64::new(0))?;
-    let (first, left) = bridged(rt, rt.alloc(), 1, &dropped)?;
-    let (second, right) = bridged(rt, rt.alloc(), 2, &dropped)?;
+fn the_loser_of_a_select_is_cancelled(rt: HostRuntime) {
+    let dropped = granted(&rt, Arc::new(rt.alloc(), AtomicU64::new(0)));
+    let (first, left) = granted(&rt, bridged(rt, rt.alloc(), 1, &dropped));
+    let (second, right) = granted(&rt, bridged(rt, rt.alloc(), 2, &dropped));
     first.run();
-    let won = match block_on(&rt, select(left, right))? {
+    let won = match granted(&rt, block_on(&rt, select(left, right))) {
         Either::Left((answer, _)) => answer,
         Either::Right(_) => Err(AwaitError::Refused),
     };
     let woken = second.run();
-    assert_eq!(rt; won, Ok(1));
-    assert_eq!(rt; woken, false);
-    assert_eq!(rt; dropped.load(Ordering::SeqCst), 2);
-    Ok(())
+    assert!(rt; won == Ok(1) && !woken && dropped.load(Ordering::SeqCst) == 2);
 }
 
 #[test]
-fn a_closed_task_answers_closed(rt: HostRuntime) -> io::Result<()> {
-    let dropped = Arc::new(rt.alloc(), AtomicU64::new(0))?;
-    let (runnable, awaits) = bridged(rt, rt.alloc(), 1, &dropped)?;
+fn a_closed_task_answers_closed(rt: HostRuntime) {
+    let dropped = granted(&rt, Arc::new(rt.alloc(), AtomicU64::new(0)));
+    let (runnable, awaits) = granted(&rt, bridged(rt, rt.alloc(), 1, &dropped));
     drop(runnable);
-    let answer = block_on(&rt, awaits)?;
-    assert_eq!(rt; answer, Err(AwaitError::Closed));
-    assert_eq!(rt; dropped.load(Ordering::SeqCst), 1);
-    Ok(())
+    let answer = granted(&rt, block_on(&rt, awaits));
+    assert!(rt; answer == Err(AwaitError::Closed) && dropped.load(Ordering::SeqCst) == 1);
 }
 
 #[test]
-fn a_dropped_bridge_cancels_its_task_and_leaves_nothing(rt: HostRuntime) -> io::Result<()> {
-    let dropped = Arc::new(rt.alloc(), AtomicU64::new(0))?;
-    let (runnable, awaits) = bridged(rt, rt.alloc(), 1, &dropped)?;
+fn a_dropped_bridge_cancels_its_task_and_leaves_nothing(rt: HostRuntime) {
+    let dropped = granted(&rt, Arc::new(rt.alloc(), AtomicU64::new(0)));
+    let (runnable, awaits) = granted(&rt, bridged(rt, rt.alloc(), 1, &dropped));
     drop(awaits);
     let woken = runnable.run();
     let futures = dropped.load(Ordering::SeqCst);
     let alone = Arc::try_unwrap(dropped).is_ok();
-    assert_eq!(rt; woken, false);
-    assert_eq!(rt; futures, 1);
-    assert!(rt; alone);
-    Ok(())
+    assert!(rt; !woken && futures == 1 && alone);
 }
 
 #[test]
-fn a_task_that_is_given_back_goes_on(rt: HostRuntime) -> io::Result<()> {
-    let dropped = Arc::new(rt.alloc(), AtomicU64::new(0))?;
-    let (runnable, awaits) = bridged(rt, rt.alloc(), 5, &dropped)?;
+fn a_task_that_is_given_back_goes_on(rt: HostRuntime) {
+    let dropped = granted(&rt, Arc::new(rt.alloc(), AtomicU64::new(0)));
+    let (runnable, awaits) = granted(&rt, bridged(rt, rt.alloc(), 5, &dropped));
     let again = Awaits::new(rt.alloc(), awaits.into_task()).ok();
     runnable.run();
     let answer = match again {
-        Some(awaits) => block_on(&rt, awaits)?,
+        Some(awaits) => granted(&rt, block_on(&rt, awaits)),
         None => Err(AwaitError::Refused),
     };
-    assert_eq!(rt; answer, Ok(5));
-    Ok(())
+    assert!(rt; answer == Ok(5));
 }
 
 // Room for a task and an awaiter, and more.
@@ -244,37 +235,36 @@ fn bridged_later<'heap, R: Wait + Drop + Copy>(
 }
 
 // Lets the kit poll a bridge once: the bridge, where that was pending.
-fn poll_once<'heap, R: Wait + RandomSource + AllocGlobal + Drop + Copy>(
+fn poll_once<'heap, R: Wait + Abort + RandomSource + AllocGlobal + Drop + Copy>(
     rt: R,
     awaits: HeapAwaited<'heap, R>,
-) -> io::Result<Option<HeapAwaited<'heap, R>>> {
-    match block_on(&rt, select(awaits, ready(())))? {
-        Either::Left(_) => Ok(None),
-        Either::Right((_, awaits)) => Ok(Some(awaits)),
+) -> Option<HeapAwaited<'heap, R>> {
+    match granted(&rt, block_on(&rt, select(awaits, ready(())))) {
+        Either::Left(_) => None,
+        Either::Right((_, awaits)) => Some(awaits),
     }
 }
 
 // Polls such a task, runs it and waits for it: whether the first bridge was refused, and what the second one answered.
-fn wait_after_refusal<R: Wait + RandomSource + AllocGlobal + Drop + Copy>(
+fn wait_after_refusal<R: Wait + Abort + RandomSource + AllocGlobal + Drop + Copy>(
     rt: R,
     alloc: Global,
     heap: &LocalHeap,
     dropped: &Arc<AtomicU64>,
-) -> io::Result<(bool, Result<u64, AwaitError>)> {
-    let (refused, runnable, awaits) = bridged_later(rt, alloc, heap, dropped)?;
-    let Some(pending) = poll_once(rt, awaits)? else {
-        return Ok((refused, Err(AwaitError::Refused)));
+) -> (bool, Result<u64, AwaitError>) {
+    let (refused, runnable, awaits) = granted(&rt, bridged_later(rt, alloc, heap, dropped));
+    let Some(pending) = poll_once(rt, awaits) else {
+        return (refused, Err(AwaitError::Refused));
     };
     runnable.run();
-    Ok((refused, block_on(&rt, pending)?))
+    (refused, granted(&rt, block_on(&rt, pending)))
 }
 
 #[test]
-fn a_bridge_that_was_refused_memory_is_made_later(rt: HostRuntime) -> io::Result<()> {
-    let dropped = Arc::new(rt.alloc(), AtomicU64::new(0))?;
-    let heap = LocalHeap::new(rt.alloc(), HEAP)?;
-    let seen = wait_after_refusal(rt, rt.alloc(), &heap, &dropped)?;
-    assert_eq!(rt; seen, (true, Ok(6)));
-    assert_eq!(rt; (heap.used(), dropped.load(Ordering::SeqCst)), (0, 1));
-    Ok(())
+fn a_bridge_that_was_refused_memory_is_made_later(rt: HostRuntime) {
+    let dropped = granted(&rt, Arc::new(rt.alloc(), AtomicU64::new(0)));
+    let heap = granted(&rt, LocalHeap::new(rt.alloc(), HEAP));
+    let seen = wait_after_refusal(rt, rt.alloc(), &heap, &dropped);
+    assert!(rt; seen == (true, Ok(6)));
+    assert!(rt; heap.used() == 0 && dropped.load(Ordering::SeqCst) == 1);
 }

@@ -2,7 +2,9 @@
 use super::line::{Errand, Line, LineTask};
 use async_task::TaskPoll;
 use awaiters::{Awaiter, Mailbox};
+use granted::granted;
 use std::alloc::{AllocError, Global};
+use std::process::Abort;
 use std::sync::Wait;
 
 // How many tasks the chain has.
@@ -21,28 +23,28 @@ fn poll_once<R: Wait + Drop + Copy>(
 }
 
 // The same of the Task of this number.
-fn answer_of<R: Wait + Drop + Copy>(
+fn answer_of<R: Wait + Abort + Drop + Copy>(
     line: &Line<R>,
     rt: R,
     alloc: Global,
     number: usize,
-) -> Result<Option<u64>, AllocError> {
-    let mailbox = Mailbox::new(rt, alloc, 1)?;
-    let awaiter = Awaiter::new(&mailbox, 0).ok_or(AllocError)?;
-    let task = line.take_task(number).ok_or(AllocError)?;
-    Ok(poll_once(task, &awaiter))
+) -> Option<u64> {
+    let mailbox = granted(&rt, Mailbox::new(rt, alloc, 1));
+    let awaiter = granted(&rt, Awaiter::new(&mailbox, 0).ok_or(AllocError));
+    let task = granted(&rt, line.take_task(number).ok_or(AllocError));
+    poll_once(task, &awaiter)
 }
 
 // Each task awaits the next one, and the last answers 1: what the first answers.
-fn run_chain<R: Wait + Drop + Copy>(rt: R, alloc: Global) -> Result<Option<u64>, AllocError> {
-    let line = Line::new(rt, alloc, CHAIN)?;
+fn run_chain<R: Wait + Abort + Drop + Copy>(rt: R, alloc: Global) -> Option<u64> {
+    let line = granted(&rt, Line::new(rt, alloc, CHAIN));
     for number in 0..CHAIN {
         let errand = if number + 1 < CHAIN {
             Errand::Await(number + 1)
         } else {
             Errand::GiveWay(1)
         };
-        let task = line.spawn(number, errand).ok_or(AllocError)?;
+        let task = granted(&rt, line.spawn(number, errand).ok_or(AllocError));
         line.keep_task(number, task);
     }
     line.run();
@@ -52,29 +54,31 @@ fn run_chain<R: Wait + Drop + Copy>(rt: R, alloc: Global) -> Result<Option<u64>,
 #[test]
 fn a_chain_of_tasks_that_await_one_another(rt: HostRuntime) {
     let answer = run_chain(rt, rt.alloc());
-    assert_eq!(rt; answer, Ok(Some(1000)));
+    assert!(rt; answer == Some(1000));
 }
 
 // Two tasks that await each other, of which the first is then cancelled: the answers before the cancel, and that of the second after it.
-fn run_ring<R: Wait + Drop + Copy>(rt: R, alloc: Global) -> Result<[bool; 2], AllocError> {
-    let line = Line::new(rt, alloc, 2)?;
+fn run_ring<R: Wait + Abort + Drop + Copy>(rt: R, alloc: Global) -> [bool; 2] {
+    let line = granted(&rt, Line::new(rt, alloc, 2));
     for number in 0..2usize {
-        let task = line
-            .spawn(number, Errand::Await(1 - number))
-            .ok_or(AllocError)?;
+        let task = granted(
+            &rt,
+            line.spawn(number, Errand::Await(1 - number))
+                .ok_or(AllocError),
+        );
         line.keep_task(number, task);
     }
     line.run();
-    let first = line.take_task(0).ok_or(AllocError)?;
-    let mut second = line.take_task(1).ok_or(AllocError)?;
+    let first = granted(&rt, line.take_task(0).ok_or(AllocError));
+    let mut second = granted(&rt, line.take_task(1).ok_or(AllocError));
     let pending = !second.is_finished();
     drop(first);
     line.run();
-    Ok([pending, second.is_finished()])
+    [pending, second.is_finished()]
 }
 
 #[test]
 fn a_ring_of_two_ends_by_a_cancel(rt: HostRuntime) {
     let ends = run_ring(rt, rt.alloc());
-    assert_eq!(rt; ends, Ok([true, true]));
+    assert!(rt; ends == [true, true]);
 }

@@ -1,7 +1,9 @@
 //! Groups: the order in which members come out, those that ended before their push, a group that is full, the ways to let all go, and what waits after them.
 use super::line::{Errand, Line, LineGroup, LineTask};
 use async_task::TaskClosed;
+use granted::granted;
 use std::alloc::{AllocError, Global};
+use std::process::Abort;
 use std::sync::Wait;
 use task_group::TaskGroup;
 
@@ -33,32 +35,31 @@ fn push<'x, R: Wait + Drop + Copy>(
 }
 
 // Three tasks, of which the first ends last: how they come out, and what comes after them.
-fn in_order<R: Wait + Drop + Copy>(rt: R, alloc: Global) -> Result<[CameOut; 4], AllocError> {
-    let line = Line::new(rt, alloc, 1)?;
-    let mut group: LineGroup<'_, R> = TaskGroup::new(rt, alloc, 3)?;
-    push(&line, &mut group, Errand::GiveWay(10))?;
-    push(&line, &mut group, Errand::Answer(11))?;
-    push(&line, &mut group, Errand::Answer(12))?;
+fn in_order<R: Wait + Abort + Drop + Copy>(rt: R, alloc: Global) -> [CameOut; 4] {
+    let line = granted(&rt, Line::new(rt, alloc, 1));
+    let mut group: LineGroup<'_, R> = granted(&rt, TaskGroup::new(rt, alloc, 3));
+    granted(&rt, push(&line, &mut group, Errand::GiveWay(10)));
+    granted(&rt, push(&line, &mut group, Errand::Answer(11)));
+    granted(&rt, push(&line, &mut group, Errand::Answer(12)));
     line.run();
-    Ok([
+    [
         next_of(&mut group),
         next_of(&mut group),
         next_of(&mut group),
         next_of(&mut group),
-    ])
+    ]
 }
 
 #[test]
 fn members_come_out_in_the_order_in_which_they_end(rt: HostRuntime) {
     let seen = in_order(rt, rt.alloc());
-    assert_eq!(rt;
-        seen,
-        Ok([
+    assert!(rt;
+        seen == [
             Some((1, Ok(11))),
             Some((2, Ok(12))),
             Some((0, Ok(10))),
             None
-        ])
+        ]
     );
 }
 
@@ -77,24 +78,21 @@ fn push_both<'x, R: Wait + Drop + Copy>(
 }
 
 // Pushes two tasks that have ended: how they come out, and what comes after them.
-fn push_ended<R: Wait + Drop + Copy>(rt: R, alloc: Global) -> Result<[CameOut; 3], AllocError> {
-    let line = Line::new(rt, alloc, 1)?;
-    let mut group: LineGroup<'_, R> = TaskGroup::new(rt, alloc, 2)?;
-    push_both(&line, &mut group).ok_or(AllocError)?;
-    Ok([
+fn push_ended<R: Wait + Abort + Drop + Copy>(rt: R, alloc: Global) -> [CameOut; 3] {
+    let line = granted(&rt, Line::new(rt, alloc, 1));
+    let mut group: LineGroup<'_, R> = granted(&rt, TaskGroup::new(rt, alloc, 2));
+    granted(&rt, push_both(&line, &mut group).ok_or(AllocError));
+    [
         next_of(&mut group),
         next_of(&mut group),
         next_of(&mut group),
-    ])
+    ]
 }
 
 #[test]
 fn tasks_that_ended_before_their_push_come_out(rt: HostRuntime) {
     let seen = push_ended(rt, rt.alloc());
-    assert_eq!(rt;
-        seen,
-        Ok([Some((0, Ok(15))), Some((1, Err(TaskClosed))), None])
-    );
+    assert!(rt; seen == [Some((0, Ok(15))), Some((1, Err(TaskClosed))), None]);
 }
 
 // How a group lets its tasks go.
@@ -117,22 +115,18 @@ fn let_all_go<R: Wait + Drop + Copy>(mut group: LineGroup<'_, R>, how: LetGo) ->
 
 // Fills a group with tasks, pushes one more, and lets all go: whether that one was refused, whether the group was empty then,
 // and whether any of the tasks answered when they were run.
-fn let_go<R: Wait + Drop + Copy>(
-    rt: R,
-    alloc: Global,
-    how: LetGo,
-) -> Result<[bool; 3], AllocError> {
-    let line = Line::new(rt, alloc, 1)?;
-    let mut group: LineGroup<'_, R> = TaskGroup::new(rt, alloc, 2)?;
+fn let_go<R: Wait + Abort + Drop + Copy>(rt: R, alloc: Global, how: LetGo) -> [bool; 3] {
+    let line = granted(&rt, Line::new(rt, alloc, 1));
+    let mut group: LineGroup<'_, R> = granted(&rt, TaskGroup::new(rt, alloc, 2));
     for _ in 0..64u64 {
         if !group.is_full() {
-            push(&line, &mut group, Errand::GiveWay(20))?;
+            granted(&rt, push(&line, &mut group, Errand::GiveWay(20)));
         }
     }
-    let refused = !push(&line, &mut group, Errand::Stay)?;
+    let refused = !granted(&rt, push(&line, &mut group, Errand::Stay));
     let emptied = let_all_go(group, how);
     line.run();
-    Ok([refused, emptied, line.answered() > 0])
+    [refused, emptied, line.answered() > 0]
 }
 
 #[test]
@@ -140,13 +134,13 @@ fn an_abort_and_a_drop_cancel_what_a_detach_lets_go_on(rt: HostRuntime) {
     let aborted = let_go(rt, rt.alloc(), LetGo::Abort);
     let detached = let_go(rt, rt.alloc(), LetGo::Detach);
     let dropped = let_go(rt, rt.alloc(), LetGo::Drop);
-    assert_eq!(rt;
-        [aborted, detached, dropped],
-        [
-            Ok([true, true, false]),
-            Ok([true, true, true]),
-            Ok([true, false, false])
-        ]
+    assert!(rt;
+        [aborted, detached, dropped]
+            == [
+                [true, true, false],
+                [true, true, true],
+                [true, false, false]
+            ]
     );
 }
 
@@ -157,23 +151,23 @@ fn look_once<R: Wait + Drop + Copy>(group: &mut LineGroup<'_, R>) -> CameOut {
 }
 
 // Two members end, the second one first, and are let go. Then a member ends that has the number of the first: what one look finds.
-fn look_after_abort<R: Wait + Drop + Copy>(rt: R, alloc: Global) -> Result<CameOut, AllocError> {
-    let line = Line::new(rt, alloc, 1)?;
-    let mut group: LineGroup<'_, R> = TaskGroup::new(rt, alloc, 2)?;
-    push(&line, &mut group, Errand::GiveWay(30))?;
-    push(&line, &mut group, Errand::Answer(31))?;
+fn look_after_abort<R: Wait + Abort + Drop + Copy>(rt: R, alloc: Global) -> CameOut {
+    let line = granted(&rt, Line::new(rt, alloc, 1));
+    let mut group: LineGroup<'_, R> = granted(&rt, TaskGroup::new(rt, alloc, 2));
+    granted(&rt, push(&line, &mut group, Errand::GiveWay(30)));
+    granted(&rt, push(&line, &mut group, Errand::Answer(31)));
     line.run();
     group.abort_all();
-    push(&line, &mut group, Errand::Answer(32))?;
+    granted(&rt, push(&line, &mut group, Errand::Answer(32)));
     line.run();
-    Ok(look_once(&mut group))
+    look_once(&mut group)
 }
 
 // The number 1, of no member now, still waits before the number 0.
 #[test]
 fn one_look_passes_over_the_number_of_no_member(rt: HostRuntime) {
     let seen = look_after_abort(rt, rt.alloc());
-    assert_eq!(rt; seen, Ok(Some((0, Ok(32)))));
+    assert!(rt; seen == Some((0, Ok(32))));
 }
 
 // The numbers of two members that are spawned in a group with room for one.
@@ -190,21 +184,18 @@ fn spawn_both<'x, R: Wait + Drop + Copy>(
 }
 
 // Spawns two members of a group with room for one: their numbers, and what comes out after a run.
-fn spawn_two<R: Wait + Drop + Copy>(
-    rt: R,
-    alloc: Global,
-) -> Result<(Numbers, CameOut), AllocError> {
-    let line = Line::new(rt, alloc, 1)?;
-    let mut group: LineGroup<'_, R> = TaskGroup::new(rt, alloc, 1)?;
+fn spawn_two<R: Wait + Abort + Drop + Copy>(rt: R, alloc: Global) -> (Numbers, CameOut) {
+    let line = granted(&rt, Line::new(rt, alloc, 1));
+    let mut group: LineGroup<'_, R> = granted(&rt, TaskGroup::new(rt, alloc, 1));
     let numbers = spawn_both(&line, &mut group);
     line.run();
-    Ok((numbers, next_of(&mut group)))
+    (numbers, next_of(&mut group))
 }
 
 #[test]
 fn a_full_group_spawns_nothing(rt: HostRuntime) {
     let seen = spawn_two(rt, rt.alloc());
-    assert_eq!(rt; seen, Ok(([Some(0), None], Some((0, Ok(13))))));
+    assert!(rt; seen == ([Some(0), None], Some((0, Ok(13)))));
 }
 
 // Whether a group with that room is refused.

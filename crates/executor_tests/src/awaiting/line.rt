@@ -57,7 +57,6 @@ type KeptTask<R> = Task<R, Member, ToLine, (), Awaiter<R>, ()>;
 type KeptWaker<R> = TaskWaker<R, Member, ToLine, (), Awaiter<R>, ()>;
 
 /// A queue, a store of wakers and one of Tasks, and a mailbox of the numbers whose wakers are to be woken.
-#[derive(Drop)]
 pub struct Line<R: Wait + Drop + Copy> {
     rt: R,
     alloc: Global,
@@ -66,6 +65,26 @@ pub struct Line<R: Wait + Drop + Copy> {
     queue: Mutex<VecDeque<Runnable<R, Member, ToLine, (), Awaiter<R>, ()>>>,
     wakers: Mutex<Vec<Option<KeptWaker<R>>>>,
     tasks: Mutex<Vec<Option<KeptTask<R>>>>,
+}
+
+impl<R: Wait + Drop + Copy> Drop for Line<R> {
+    // As a derived drop, which would stand field by field in each function that drops a line.
+    fn drop(self) {
+        let Line {
+            rt: _,
+            alloc: _,
+            mailbox,
+            answered,
+            queue,
+            wakers,
+            tasks,
+        } = self;
+        drop(mailbox);
+        drop(answered);
+        drop(queue);
+        drop(wakers);
+        drop(tasks);
+    }
 }
 
 impl<'x, R: Wait + Drop + Copy> Schedule<LineRunnable<'x, R>> for ToLine {

@@ -1,7 +1,9 @@
 //! Who listens at a mailbox: when a listener is told of a post, and what becomes of one that is replaced.
 use awaiters::{Listener, Mailbox};
 use fixtures::rendezvous::Rendezvous;
+use granted::granted;
 use std::alloc::{AllocError, Global};
+use std::process::Abort;
 use std::sync::atomic::{AtomicU64, Ordering};
 use std::sync::{Arc, Wait};
 use std::thread::{self, Threads};
@@ -55,41 +57,37 @@ fn post<R: Wait + Drop + Copy>(
 
 // Posts 0, 1, 0, 2 and 1 to a mailbox with room for two numbers: what is seen after each post. One listener comes before the
 // first post, one before the third, and two before the fourth, of which the second replaces the first.
-fn listen_and_post<R: Wait + Drop + Copy>(
-    rt: R,
-    alloc: Global,
-) -> Result<[(bool, u64, u64); 5], AllocError> {
+fn listen_and_post<R: Wait + Abort + Drop + Copy>(rt: R, alloc: Global) -> [(bool, u64, u64); 5] {
     let counts = Counts {
         told: AtomicU64::new(0),
         untold: AtomicU64::new(0),
     };
-    let counts = Arc::new(alloc, counts)?;
-    let mailbox = Mailbox::new(rt, alloc, 2)?;
-    listen(&mailbox, &counts)?;
+    let counts = granted(&rt, Arc::new(alloc, counts));
+    let mailbox = granted(&rt, Mailbox::new(rt, alloc, 2));
+    granted(&rt, listen(&mailbox, &counts));
     let first = post(&mailbox, &counts, 0);
     let second = post(&mailbox, &counts, 1);
-    listen(&mailbox, &counts)?;
+    granted(&rt, listen(&mailbox, &counts));
     let again = post(&mailbox, &counts, 0);
-    listen(&mailbox, &counts)?;
-    listen(&mailbox, &counts)?;
+    granted(&rt, listen(&mailbox, &counts));
+    granted(&rt, listen(&mailbox, &counts));
     let outside = post(&mailbox, &counts, 2);
     let last = post(&mailbox, &counts, 1);
-    Ok([first, second, again, outside, last])
+    [first, second, again, outside, last]
 }
 
 // It is told once, also of a number that waits already, and not of one for which there is no room.
 #[test]
 fn a_listener_is_told_of_the_next_post(rt: HostRuntime) {
     let seen = listen_and_post(rt, rt.alloc());
-    assert_eq!(rt;
-        seen,
-        Ok([
+    assert!(rt;
+        seen == [
             (true, 1, 0),
             (true, 1, 0),
             (true, 2, 0),
             (false, 2, 1),
             (true, 3, 1)
-        ])
+        ]
     );
 }
 
@@ -117,15 +115,15 @@ fn take_meanwhile<R: Wait + Drop + Copy>(
 }
 
 // What is taken while a listener is told of the number 1, and whether it was told until then.
-fn post_and_take<R: Wait + Threads + Drop + Copy + Send + Sync>(
+fn post_and_take<R: Wait + Abort + Threads + Drop + Copy + Send + Sync>(
     rt: R,
     alloc: Global,
-) -> Result<(Option<usize>, bool), AllocError> {
-    let rendezvous = Arc::new(alloc, Rendezvous::new())?;
-    let mailbox = Mailbox::new(rt, alloc, 2)?;
+) -> (Option<usize>, bool) {
+    let rendezvous = granted(&rt, Arc::new(alloc, Rendezvous::new()));
+    let mailbox = granted(&rt, Mailbox::new(rt, alloc, 2));
     rendezvous.arm();
     let listener = Meets {
-        rendezvous: Arc::try_clone(&rendezvous)?,
+        rendezvous: granted(&rt, Arc::try_clone(&rendezvous)),
     };
     mailbox.listen(listener);
     let (_, taken) = thread::join(
@@ -133,11 +131,11 @@ fn post_and_take<R: Wait + Threads + Drop + Copy + Send + Sync>(
         || mailbox.post(1),
         || take_meanwhile(&mailbox, &rendezvous),
     );
-    Ok((taken, rendezvous.met()))
+    (taken, rendezvous.met())
 }
 
 #[test]
 fn a_number_can_be_taken_while_a_listener_is_told_of_it(rt: HostRuntime) {
     let seen = post_and_take(rt, rt.alloc());
-    assert_eq!(rt; seen, Ok((Some(1), true)));
+    assert!(rt; seen == (Some(1), true));
 }

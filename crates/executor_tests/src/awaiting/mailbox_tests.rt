@@ -1,7 +1,9 @@
 //! The mailbox: order, numbers that wait already, the room, and two threads that sleep at it.
 use async_task::Wake;
 use awaiters::{Awaiter, Mailbox};
+use granted::granted;
 use std::alloc::{AllocError, Global};
+use std::process::Abort;
 use std::sync::atomic::{AtomicU64, Ordering};
 use std::sync::{Arc, Wait};
 use std::thread::{self, Threads};
@@ -13,31 +15,28 @@ const ROUNDS: usize = 20;
 const YIELDS: usize = 500;
 
 // Posts 2, 0, 2 and 3 to a mailbox with room for three numbers, one by an awaiter: the answers, and what is taken out.
-fn post_and_take<R: Wait + Drop + Copy>(
+fn post_and_take<R: Wait + Abort + Drop + Copy>(
     rt: R,
     alloc: Global,
-) -> Result<([bool; 3], [Option<usize>; 4]), AllocError> {
-    let mailbox = Mailbox::new(rt, alloc, 3)?;
-    let awaiter = Awaiter::new(&mailbox, 0).ok_or(AllocError)?;
+) -> ([bool; 3], [Option<usize>; 4]) {
+    let mailbox = granted(&rt, Mailbox::new(rt, alloc, 3));
+    let awaiter = granted(&rt, Awaiter::new(&mailbox, 0).ok_or(AllocError));
     let first = mailbox.post(2);
     awaiter.wake_by_ref();
     let again = mailbox.post(2);
     let outside = mailbox.post(3);
     let taken = [mailbox.take(), mailbox.take(), mailbox.take()];
     awaiter.wake();
-    Ok((
+    (
         [first, again, outside],
         [taken[0], taken[1], taken[2], Some(mailbox.wait())],
-    ))
+    )
 }
 
 #[test]
 fn a_mailbox_keeps_the_order_and_each_number_once(rt: HostRuntime) {
     let seen = post_and_take(rt, rt.alloc());
-    assert_eq!(rt;
-        seen,
-        Ok(([true, true, false], [Some(2), Some(0), None, Some(0)]))
-    );
+    assert!(rt; seen == ([true, true, false], [Some(2), Some(0), None, Some(0)]));
 }
 
 // Whether a mailbox with that room is refused.
@@ -72,11 +71,11 @@ fn post_both<R: Wait + Drop + Copy>(rt: R, mailbox: &Mailbox<R>, said: &AtomicU6
 }
 
 // What two threads get that wait while a third one posts 0 and 1.
-fn wait_in_two<R: Wait + Threads + Drop + Copy + Send + Sync>(
+fn wait_in_two<R: Wait + Abort + Threads + Drop + Copy + Send + Sync>(
     rt: R,
     alloc: Global,
-) -> Result<(usize, usize), AllocError> {
-    let mailbox: Arc<Mailbox<R>> = Mailbox::new(rt, alloc, 2)?;
+) -> (usize, usize) {
+    let mailbox: Arc<Mailbox<R>> = granted(&rt, Mailbox::new(rt, alloc, 2));
     let said = AtomicU64::new(0);
     let (_, numbers) = thread::join(
         &rt,
@@ -87,7 +86,7 @@ fn wait_in_two<R: Wait + Threads + Drop + Copy + Send + Sync>(
             || say_and_wait(&mailbox, &said),
         ),
     );
-    Ok(numbers)
+    numbers
 }
 
 // The second post wakes the second sleeper, also where the first has not taken its number yet.
@@ -96,7 +95,7 @@ fn two_threads_that_sleep_at_a_mailbox_are_both_woken(rt: HostRuntime) {
     let mut have_both = true;
     for _ in 0..ROUNDS {
         let numbers = wait_in_two(rt, rt.alloc());
-        have_both = have_both && matches!(numbers, Ok((0, 1) | (1, 0)));
+        have_both = have_both && matches!(numbers, (0, 1) | (1, 0));
     }
     assert!(rt; have_both);
 }

@@ -3,7 +3,9 @@ ghost use Rattle.std.specs.Prelude.{⊤};
 
 use async_task::{Future, Poll, Schedule, ScheduleInfo, Task, TaskPoll, Wake, Yields, spawn};
 use awaiters::Nobody;
+use granted::granted;
 use std::alloc::{AllocError, Global};
+use std::process::Abort;
 use std::sync::Wait;
 
 // A future that answers 5.
@@ -33,17 +35,20 @@ impl<N: Drop> Schedule<N> for Nowhere {
 }
 
 // Polls a task before and after its run: whether the first poll was pending, and the second had the output.
-fn await_by_nobody<R: Wait + Drop + Copy>(rt: R, alloc: Global) -> Result<[bool; 2], AllocError> {
+fn await_by_nobody<R: Wait + Abort + Drop + Copy>(rt: R, alloc: Global) -> [bool; 2] {
     let spawned = spawn(rt, alloc, Five, Nowhere, ());
-    let (runnable, mut task): (_, Task<_, _, _, _, Nobody, ()>) = spawned.ok().ok_or(AllocError)?;
+    let (runnable, mut task): (_, Task<_, _, _, _, Nobody, ()>) = granted(
+        &rt,
+        spawned.ok().ok_or(AllocError),
+    );
     let pending = matches!(task.poll(&Nobody), TaskPoll::Pending);
     runnable.run();
     let ready = matches!(task.poll(&Nobody), TaskPoll::Ready(Ok(5)));
-    Ok([pending, ready])
+    [pending, ready]
 }
 
 #[test]
 fn nobody_awaits_an_output(rt: HostRuntime) {
     let seen = await_by_nobody(rt, rt.alloc());
-    assert_eq!(rt; (seen, Nobody.will_wake(&Nobody)), (Ok([true, true]), true));
+    assert!(rt; seen == [true, true] && Nobody.will_wake(&Nobody));
 }

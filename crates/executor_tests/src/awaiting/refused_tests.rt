@@ -3,7 +3,9 @@ ghost use Rattle.std.specs.Prelude.{⊤};
 
 use async_task::{Future, Poll, Runnable, Schedule, ScheduleInfo, Wake, Yields, spawn};
 use awaiters::{Mailbox, Nobody, Posts};
+use granted::granted;
 use std::alloc::{AllocError, Global};
+use std::process::Abort;
 use std::sync::{Arc, Wait};
 use task_group::{AwaiterRefused, TaskGroup};
 
@@ -111,35 +113,30 @@ fn push<R: Wait + Drop + Copy>(
 }
 
 // Pushes two tasks, and runs both after a first look, the second one first: how many members there are after that look, and what is found.
-fn look_before_and_after<R: Wait + Drop + Copy>(
+fn look_before_and_after<R: Wait + Abort + Drop + Copy>(
     rt: R,
     alloc: Global,
-) -> Result<(usize, [Found; 4]), AllocError> {
-    let mut group: OnlyGroup<R> = TaskGroup::new(rt, alloc, 2)?;
-    let first = push(rt, alloc, &mut group, 5)?;
-    let second = push(rt, alloc, &mut group, 6)?;
+) -> (usize, [Found; 4]) {
+    let mut group: OnlyGroup<R> = granted(&rt, TaskGroup::new(rt, alloc, 2));
+    let first = granted(&rt, push(rt, alloc, &mut group, 5));
+    let second = granted(&rt, push(rt, alloc, &mut group, 6));
     let refused = look(&mut group);
     let len = group.len();
     second.run();
     first.run();
     let ended = [look(&mut group), look(&mut group), look(&mut group)];
-    Ok((len, [refused, ended[0], ended[1], ended[2]]))
+    (len, [refused, ended[0], ended[1], ended[2]])
 }
 
 // The second member is refused its awaiter by its push and by the first look, until the first one has ended.
 #[test]
 fn a_member_that_was_refused_its_awaiter_is_polled_again(rt: HostRuntime) {
     let seen = look_before_and_after(rt, rt.alloc());
-    assert_eq!(rt;
-        seen,
-        Ok((
-            2,
-            [
-                Err(AwaiterRefused),
-                Ok(Some((1, 6))),
-                Ok(Some((0, 5))),
-                Ok(None)
-            ]
-        ))
-    );
+    let found = [
+        Err(AwaiterRefused),
+        Ok(Some((1, 6))),
+        Ok(Some((0, 5))),
+        Ok(None),
+    ];
+    assert!(rt; seen == (2, found));
 }

@@ -54,7 +54,7 @@ type HeapGroup<'heap, R> = TaskGroup<R, Number, Nowhere, (), Awaiter<R>, (), &'h
 type CameOut = Option<(usize, bool)>;
 
 // What a spawn came to.
-#[derive(Clone, Copy, Debug, PartialEq, Eq)]
+#[derive(Clone, Copy, PartialEq, Eq)]
 enum Spawned {
     // It was granted, and this came out of the group.
     Granted(CameOut),
@@ -182,8 +182,5 @@ fn spawn_in_turn<R: Wait + Drop + Copy>(
 fn a_group_hands_back_what_a_spawn_was_refused(rt: HostRuntime) {
     let seen = spawn_in_turn(rt, rt.alloc());
     let granted = Spawned::Granted(Some((0, true)));
-    assert_eq!(rt;
-        seen,
-        Ok(([false, true, true, true, true], (4, granted, true)))
-    );
+    assert!(rt; seen == Ok(([false, true, true, true, true], (4, granted, true))));
 }

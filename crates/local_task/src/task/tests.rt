@@ -35,7 +35,7 @@ enum Call {
 }
 
 // What a call left to do: an awaiter is told by its number.
-#[derive(Clone, Copy, Debug, PartialEq, Eq)]
+#[derive(Clone, Copy, PartialEq, Eq)]
 struct Left {
     future: bool,
     output: bool,
@@ -54,7 +54,7 @@ const NOTHING: Left = Left {
     emptied: false,
 };
 
-#[derive(Clone, Copy, Debug, PartialEq, Eq)]
+#[derive(Clone, Copy, PartialEq, Eq)]
 enum Answer {
     Polls,
     Ends(Left),
@@ -86,7 +86,7 @@ fn left_of(rt: &impl Abort, settled: Settled<u8, u8, Awaiter>) -> Left {
 fn started(rt: &impl Abort, task: &mut Task) -> Answer {
     match task.start() {
         super::Start::Poll(future) => {
-            assert_eq!(rt; future, FUTURE);
+            assert!(rt; future == FUTURE);
             Polls
         }
         super::Start::Ended(settled) => Ends(left_of(rt, settled)),
@@ -107,7 +107,7 @@ fn polled(rt: &impl Abort, task: &mut Task, awaiter: Awaiter) -> Answer {
         TaskPoll::Pending => Pends(left),
         TaskPoll::Ready(output) => Readies(output, left),
         TaskPoll::Refused => {
-            assert_eq!(rt; left, NOTHING);
+            assert!(rt; left == NOTHING);
             Refuses
         }
     }
@@ -151,7 +151,7 @@ fn answer_of(rt: &impl Abort, task: &mut Task, call: Call) -> Answer {
 // The calls, one after another, and the answer of each.
 fn answers(rt: &impl Abort, task: &mut Task, calls: &[(Call, Answer)]) {
     for (i, (call, answer)) in calls.iter().enumerate() {
-        assert_eq!(rt; answer_of(rt, task, *call), *answer, "call {i}: {call:?}");
+        assert!(rt; answer_of(rt, task, *call) == *answer, "call {i}: {call:?}");
     }
 }
 
@@ -159,7 +159,7 @@ fn answers(rt: &impl Abort, task: &mut Task, calls: &[(Call, Answer)]) {
 fn lives(rt: &impl Abort, calls: &[(Call, Answer)]) {
     let mut task = LocalTask::new("metadata", FUTURE);
     answers(rt, &mut task, calls);
-    assert_eq!(rt; *task.metadata(), "metadata");
+    assert!(rt; *task.metadata() == "metadata");
 }
 
 const ENDS: Left = Left {

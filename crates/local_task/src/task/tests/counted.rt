@@ -225,9 +225,8 @@ fn meets(rt: &impl Abort, before: &[Call], call: Call, first: Fate, second: Fate
     let pair = Pair::new();
     let task = task_after(rt, before, &pair);
     let counted = counted_from(rt, task, call, &pair);
-    assert_eq!(rt;
-        counted,
-        [first.counted(), second.counted()],
+    assert!(rt;
+        counted == [first.counted(), second.counted()],
         "{before:?}, {call:?}"
     );
 }

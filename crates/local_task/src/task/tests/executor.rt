@@ -179,18 +179,25 @@ impl Executor {
     }
 }
 
-#[test]
-fn tasks_of_one_thread_wake_each_other(rt: HostRuntime) -> Result<(), Fail> {
-    let mut executor = Executor::new(rt.alloc())?;
+// Polls the Tasks of all three: what they answer.
+fn poll_tasks(
+    rt: &impl Abort,
+    executor: &mut Executor,
+) -> Result<[Option<TaskPoll<Option<usize>>>; 3], AllocError> {
+    let mut answers = [None, None, None];
     for number in 0..3 {
-        assert!(rt; executor.poll_task(&rt, number)? == Some(TaskPoll::Pending));
+        answers[number] = executor.poll_task(rt, number)?;
     }
-    executor.run_all(&rt)?;
-    assert!(rt; executor.queue.is_empty());
-    assert_eq!(rt;
-        executor.polled.as_slice(),
-        [0, 1, 2, 0, 2, 1, 0, 2, 1].as_slice()
-    );
+    Ok(answers)
+}
+
+// Drops the Tasks of all three: whether nobody is left of each.
+fn detach_all(rt: &impl Abort, executor: &mut Executor) -> bool {
+    executor.detach(rt, 0) && executor.detach(rt, 1) && executor.detach(rt, 2)
+}
+
+// Whether the tasks were polled, queued, woken and ended in the order that their futures ask for.
+fn is_in_order(executor: &Executor) -> bool {
     let orders = [
         (0, false),
         (2, true),
@@ -199,13 +206,23 @@ fn tasks_of_one_thread_wake_each_other(rt: HostRuntime) -> Result<(), Fail> {
         (2, false),
         (1, false),
     ];
-    assert_eq!(rt; executor.orders.as_slice(), orders.as_slice());
-    assert_eq!(rt; executor.woken.as_slice(), [0, 2, 1].as_slice());
-    assert_eq!(rt; executor.dropped.as_slice(), [0, 2, 1].as_slice());
-    for number in 0..3 {
-        let answer = Some(TaskPoll::Ready(Some(number)));
-        assert!(rt; executor.poll_task(&rt, number)? == answer);
-        assert!(rt; executor.detach(&rt, number));
-    }
+    executor.polled.as_slice() == [0, 1, 2, 0, 2, 1, 0, 2, 1].as_slice()
+        && executor.orders.as_slice() == orders.as_slice()
+        && executor.woken.as_slice() == [0, 2, 1].as_slice()
+        && executor.dropped.as_slice() == [0, 2, 1].as_slice()
+}
+
+#[test]
+fn tasks_of_one_thread_wake_each_other(rt: HostRuntime) -> Result<(), Fail> {
+    let mut executor = Executor::new(rt.alloc())?;
+    let before = poll_tasks(&rt, &mut executor)?;
+    executor.run_all(&rt)?;
+    let in_order = executor.queue.is_empty() && is_in_order(&executor);
+    let after = poll_tasks(&rt, &mut executor)?;
+    let ended = detach_all(&rt, &mut executor);
+    let ready = [0, 1, 2].map(|number| Some(TaskPoll::Ready(Some(number))));
+    let pending = [0, 1, 2].map(|_| Some(TaskPoll::Pending));
+    assert!(rt; before == pending && after == ready);
+    assert!(rt; in_order && ended);
     Ok(())
 }

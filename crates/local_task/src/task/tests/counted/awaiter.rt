@@ -5,7 +5,7 @@ use std::cell::Cell;
 use task_core::traits::Wake;
 
 /// What was done to the clones of an awaiter, and how often it was asked. The awaiter itself, which a caller lends, is not counted.
-#[derive(Clone, Copy, Debug, PartialEq, Eq)]
+#[derive(Clone, Copy, PartialEq, Eq)]
 pub struct Counts {
     pub clones: u8,
     pub refusals: u8,

@@ -95,9 +95,8 @@ fn a_poll_of_a_done_task_hands_a_stored_awaiter_out(rt: HostRuntime) {
         task.awaiter = traits::Wake::try_clone(&stored);
         stored.go();
         let counted = counted_from(&rt, task, Poll(number), &pair);
-        assert_eq!(rt;
-            counted,
-            [expected, Unknown.counted()],
+        assert!(rt;
+            counted == [expected, Unknown.counted()],
             "{completed}, {number}"
         );
     }

@@ -1,6 +1,6 @@
 //! What a line of the input says.
 ghost use Rattle.std.specs.Prelude.{◌≡◌, IfOk};
-ghost use Rattle.tasktrace.specs.Names.{name_of};
+ghost use Rattle.trace_printer.specs.Names.{name_of};
 
 use crate::names::{name, named};
 use crate::nearest::nearest;

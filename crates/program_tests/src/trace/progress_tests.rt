@@ -1,8 +1,6 @@
 //! How far each party is in its call: how many steps it has left at most, and an act that it may make now.
 
-use crate::progress::{act_there, steps_left};
-use crate::row::Shown;
-use crate::trace_tests::{READY, prints};
+use crate::trace::trace_tests::{READY, prints};
 use std::test::Fail;
 use task_core::acts::Act;
 use task_core::acts::Act::*;
@@ -14,6 +12,8 @@ use task_laws::positions::PollAnswer::*;
 use task_laws::positions::Position::*;
 use task_laws::positions::WithoutPoll::*;
 use task_laws::positions::{Position, Rest};
+use trace_printer::progress::{act_there, steps_left};
+use trace_printer::row::Shown;
 
 // The rows of a run whose poll answers Ready, and of the Task that drops afterwards.
 const READY_ROWS: &str = "\
@@ -137,7 +137,7 @@ const LEFT: [(Position, u64); 52] = [
 #[test]
 fn each_position_has_its_steps_left(rt: HostRuntime) {
     for (position, left) in LEFT {
-        assert_eq!(rt; steps_left(position), left, "{position:?}");
+        assert!(rt; steps_left(position) == left, "{position:?}");
     }
 }
 
@@ -179,12 +179,11 @@ const ACTS: [(u64, Position, Act); 30] = [
 fn each_party_in_a_call_has_an_act(rt: HostRuntime) {
     for (bits, position, act) in ACTS {
         let found = act_there(Word::from_bits(bits), position);
-        assert_eq!(rt; found, Some(act), "0x{bits:03X} {position:?}");
+        assert!(rt; found == Some(act), "0x{bits:03X} {position:?}");
     }
     for rest in [Rest::Runnable, Rest::Task(0), Rest::Lent, Rest::Ended] {
-        assert_eq!(rt;
-            act_there(Word::from_bits(0x111), At(rest)),
-            None,
+        assert!(rt;
+            act_there(Word::from_bits(0x111), At(rest)).is_none(),
             "{rest:?}"
         );
     }

@@ -1,5 +1,5 @@
-use Rattle.tasktrace.proofs.Allowed.{is_allowed}
-use Rattle.tasktrace.proofs.progress.next_act.Goals as goal
+use Rattle.trace_printer.proofs.Allowed.{is_allowed}
+use Rattle.trace_printer.proofs.progress.next_act.Goals as goal
 
 pub returns-in-Some-clause-allowed : goal.returns-in-Some-clause-allowed
 returns-in-Some-clause-allowed g c =

@@ -1,12 +1,13 @@
 //! What the arguments ask for, and what is printed of them.
 
-use crate::arguments::{Request, answer, asked};
-use crate::names::{ACTS, name};
-use crate::row::Shown;
-use crate::trace_tests::HEAD;
+use crate::trace::trace_tests::HEAD;
+use crate::words::{Told, words_of};
 use std::alloc::Global;
 use std::io;
 use std::test::Fail;
+use trace_printer::arguments::{Request, answer, asked};
+use trace_printer::names::{ACTS, name};
+use trace_printer::row::Shown;
 
 // A writer that fails.
 #[derive(Drop)]
@@ -36,23 +37,6 @@ const PROGRESS: &str =
 
 const USAGE: &str = "usage: tasktrace [--all | --progress | --help]\n";
 
-// The status, and what is printed.
-#[derive(Drop)]
-struct Told {
-    status: u8,
-    out: String,
-    err: String,
-}
-
-// The words of a line of arguments.
-fn words_of(alloc: Global, line: &str) -> Result<Vec<String>, Fail> {
-    let mut words = Vec::new(alloc);
-    for word in line.split_whitespace() {
-        words.push(String::from_str(alloc, word)?)?;
-    }
-    Ok(words)
-}
-
 // What the program answers to a line of arguments.
 fn answered(alloc: Global, line: &str) -> Result<Told, Fail> {
     let words = words_of(alloc, line)?;
@@ -60,9 +44,7 @@ fn answered(alloc: Global, line: &str) -> Result<Told, Fail> {
     let mut err = Vec::new(alloc);
     let input = INPUT.as_bytes();
     let status = answer(alloc, words.as_slice(), input, &mut out, &mut err);
-    let out = String::from_utf8(out)?;
-    let err = String::from_utf8(err)?;
-    Ok(Told { status, out, err })
+    Told::new(status, out, err)
 }
 
 // Whether this row is printed below the head.

@@ -1,20 +1,19 @@
 //! What lines say, and what is expected where one cannot be read.
 
-use crate::line::{Expected, content, is_blank, read_limit, read_step};
-use crate::names::{ACTS, name};
-use crate::nearest::nearest;
 use std::test::Fail;
 use task_core::acts::Act;
 use task_replay::machine::Step;
+use trace_printer::line::{Expected, content, is_blank, read_limit, read_step};
+use trace_printer::names::{ACTS, name};
+use trace_printer::nearest::nearest;
 
 #[test]
 fn each_act_is_read_by_its_name(rt: HostRuntime) -> Result<(), Fail> {
     for act in ACTS {
         let text = name(act);
         let line = format!(in rt.alloc(); "7 {text}")?;
-        assert_eq!(rt;
-            read_step(line.as_str()),
-            Ok(Step { party: 7, act }),
+        assert!(rt;
+            read_step(line.as_str()) == Ok(Step { party: 7, act }),
             "{text}"
         );
     }
@@ -31,7 +30,7 @@ fn steps_are_read_with_any_white_space(rt: HostRuntime) {
         ("18446744073709551615 wake-idle", last, Act::WakeIdle),
     ];
     for (line, party, act) in cases {
-        assert_eq!(rt; read_step(line), Ok(Step { party, act }), "{line}");
+        assert!(rt; read_step(line) == Ok(Step { party, act }), "{line}");
     }
 }
 
@@ -49,7 +48,7 @@ fn what_is_no_step_is_told(rt: HostRuntime) {
         ("1 look 2", Expected::End),
     ];
     for (line, expected) in cases {
-        assert_eq!(rt; read_step(line), Err(expected), "{line}");
+        assert!(rt; read_step(line) == Err(expected), "{line}");
     }
 }
 
@@ -65,7 +64,7 @@ fn a_limit_is_read_by_its_line(rt: HostRuntime) {
         ("limit 4 5", Err(Expected::End)),
     ];
     for (line, answer) in cases {
-        assert_eq!(rt; read_limit(line), answer, "{line}");
+        assert!(rt; read_limit(line) == answer, "{line}");
     }
 }
 
@@ -78,7 +77,7 @@ fn a_comment_ends_a_line(rt: HostRuntime) {
         ("a#b#c", "a"),
     ];
     for (line, before) in cases {
-        assert_eq!(rt; content(line), before, "{line}");
+        assert!(rt; content(line) == before, "{line}");
     }
     assert!(rt; is_blank("  \t "));
     assert!(rt; !is_blank(" x "));
@@ -102,7 +101,7 @@ fn the_act_of_the_nearest_name_is_meant(rt: HostRuntime) -> Result<(), Fail> {
         ("", None),
     ];
     for (word, act) in cases {
-        assert_eq!(rt; nearest(rt.alloc(), word)?, act, "{word}");
+        assert!(rt; nearest(rt.alloc(), word)? == act, "{word}");
     }
     Ok(())
 }

@@ -1,6 +1,6 @@
 //! Which function each row is.
 ghost use Rattle.std.specs.Prelude.{IfOk};
-ghost use Rattle.taskrows.specs.Row.{AgreesAs};
+ghost use Rattle.row_table.specs.Row.{AgreesAs};
 
 use crate::local;
 use counted_values::outcome::Outcome;

@@ -3,7 +3,7 @@ ghost use Rattle.std.specs.Prelude.{◌≡◌, Some, IfSome};
 ghost use Rattle.std.specs.List.{find};
 ghost use Rattle.std.specs.Str.{bytes_eq};
 ghost use Rattle.task_core.specs.declared.acts.Act.{Act};
-ghost use Rattle.tasktrace.specs.Names.{name_of};
+ghost use Rattle.trace_printer.specs.Names.{name_of};
 
 use task_core::acts::Act;
 use task_core::acts::Act::*;

@@ -16,7 +16,7 @@ use Rattle.task_progress.proofs.Waits.{no_call_waits}
 use Rattle.task_replay.specs.Replay.{Standing, scene_at, StepsTo, Played}
 use Rattle.task_replay.proofs.Replayed.{shown}
 use Rattle.task_replay.proofs.Refused.{allowed_there}
-use Rattle.tasktrace.specs.Progress.{act_at}
+use Rattle.trace_printer.specs.Progress.{act_at}
 
 -- a step that is allowed has a row
 ruled_after : (m : Machine) (i : ℕ) (p : Position) (o : Option Outcome) → is_some (after m i p o) ≡ true → IsSome o

@@ -1,8 +1,8 @@
 //! What the arguments of the program ask for.
 ghost use Rattle.std.specs.Prelude.{◌≡◌, ◌≤◌, ◌↔◌, [], Some, IfOk};
-ghost use Rattle.tasktrace.specs.Arguments.{AskForAll, AskForHelp, AskForProgress, AskForTrace};
-ghost use Rattle.tasktrace.specs.declared.arguments.Request.TheVariants.{Help, Trace};
-ghost use Rattle.tasktrace.specs.declared.row.Shown.TheVariants.{Changed, All, Progress};
+ghost use Rattle.trace_printer.specs.Arguments.{AskForAll, AskForHelp, AskForProgress, AskForTrace};
+ghost use Rattle.trace_printer.specs.declared.arguments.Request.TheVariants.{Help, Trace};
+ghost use Rattle.trace_printer.specs.declared.row.Shown.TheVariants.{Changed, All, Progress};
 
 use crate::names::{ACTS, name};
 use crate::row::Shown;

@@ -1,10 +1,11 @@
 //! Whole inputs, and what is printed of them.
 
-use crate::row::Shown;
-use crate::trace::trace;
+use crate::words::Told;
 use std::alloc::Global;
 use std::io;
 use std::test::Fail;
+use trace_printer::row::Shown;
+use trace_printer::trace::trace;
 
 // A writer that takes so many bytes and then fails, and may fail to flush.
 #[derive(Drop)]
@@ -30,21 +31,11 @@ impl io::Write for Limited {
     }
 }
 
-// The status, and what is printed.
-#[derive(Drop)]
-struct Told {
-    status: u8,
-    out: String,
-    err: String,
-}
-
 fn traced(alloc: Global, shown: Shown, input: &[u8]) -> Result<Told, Fail> {
     let mut out = Vec::new(alloc);
     let mut err = Vec::new(alloc);
     let status = trace(alloc, shown, input, &mut out, &mut err);
-    let out = String::from_utf8(out)?;
-    let err = String::from_utf8(err)?;
-    Ok(Told { status, out, err })
+    Told::new(status, out, err)
 }
 
 // Whether all steps are played, and these rows are printed below the head.

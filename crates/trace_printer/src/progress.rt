@@ -3,7 +3,7 @@ ghost use Rattle.std.specs.Prelude.{◌≡◌, ◌≤◌, ◌||◌, nat_lt, if�
 ghost use Rattle.task_progress.specs.StepsLeft as bound;
 ghost use Rattle.task_progress.specs.Waiting as waiting;
 ghost use Rattle.task_replay.specs.Replay.{Standing, StepsTo};
-ghost use Rattle.tasktrace.specs.Progress.{act_at, act_of};
+ghost use Rattle.trace_printer.specs.Progress.{act_at, act_of};
 
 use std::alloc::Allocator;
 use task_core::acts::Act;

@@ -1,0 +1,150 @@
+//! Calls of a pool of links and of its handles, each in a function of its own, generic in the runtime alone: what such a call asks of its types is shown
+//! there once, and not in each test.
+
+use crate::link::{Counts, KNOCKS, LinkPool, LinkTask, LinkTurns};
+use async_task::{TaskPoll, Wake};
+use executor::{
+    BellAwaiter, BlockOnError, Key, collect, keep_task, place_for_task, place_for_waker, poll_kept,
+    wake_posted,
+};
+use granted::granted;
+use std::alloc::{AllocError, Global};
+use std::process::Abort;
+use std::sync::Wait;
+use std::sync::atomic::Ordering;
+use std::thread;
+
+/// A pool of so many workers. Stops where there is no memory.
+pub fn new_pool<R: Wait + Abort + Drop + Copy>(
+    rt: R,
+    alloc: Global,
+    workers: usize,
+) -> LinkPool<R> {
+    granted(&rt, LinkPool::new(rt, alloc, workers))
+}
+
+/// The turns of worker 0. Stops where they are refused.
+pub fn turns_of<R: Wait + Abort + Drop + Copy>(rt: R, pool: &LinkPool<R>) -> LinkTurns<'_, R> {
+    granted(&rt, pool.turns(0))
+}
+
+/// An empty place for a Task. Stops where there is none.
+pub fn place_of_task<R: Wait + Abort + Drop + Copy>(rt: R, pool: &LinkPool<R>) -> Key<R> {
+    granted(&rt, place_for_task((pool, 0)).ok_or(AllocError))
+}
+
+/// An empty place for a waker. Stops where there is none.
+pub fn place_of_waker<R: Wait + Abort + Drop + Copy>(rt: R, pool: &LinkPool<R>) -> Key<R> {
+    granted(&rt, place_for_waker((pool, 0)).ok_or(AllocError))
+}
+
+/// Keeps a Task at a place: whether it was kept.
+pub fn keep<R: Wait + Drop + Copy>(task: LinkTask<'_, R>, key: &Key<R>) -> bool {
+    keep_task(task, key).is_ok()
+}
+
+/// One turn: whether a task was run.
+pub fn tick<R: Wait + Drop + Copy>(turns: &mut LinkTurns<'_, R>) -> bool {
+    turns.tick()
+}
+
+/// Is a worker until a task is over.
+pub fn wait_for<'x, R: Wait + Drop + Copy>(
+    turns: &mut LinkTurns<'x, R>,
+    task: &mut LinkTask<'x, R>,
+) -> Result<u64, BlockOnError> {
+    turns.block_on(task)
+}
+
+/// Wakes for one number that was posted: whether there was one.
+pub fn wakes_posted<R: Wait + Drop + Copy>(pool: &LinkPool<R>) -> bool {
+    wake_posted((pool, 0))
+}
+
+/// Frees the places of keys that were dropped.
+pub fn collect_all<R: Wait + Drop + Copy>(pool: &LinkPool<R>) {
+    collect((pool, 0));
+}
+
+/// Shuts a pool down.
+pub fn shut_down<R: Wait + Drop + Copy>(pool: &LinkPool<R>) {
+    pool.shutdown();
+}
+
+/// Drops a Task.
+pub fn drop_task<R: Wait + Drop + Copy>(task: LinkTask<'_, R>) {
+    drop(task);
+}
+
+/// Drops turns.
+pub fn drop_turns<R: Wait + Drop + Copy>(turns: LinkTurns<'_, R>) {
+    drop(turns);
+}
+
+/// Drops a pool.
+pub fn drop_pool<R: Wait + Drop + Copy>(pool: LinkPool<R>) {
+    drop(pool);
+}
+
+/// How often the links that await were polled, and how often the last one.
+pub fn polls(counts: &Counts) -> (u64, u64) {
+    (
+        counts.waiting.load(Ordering::SeqCst),
+        counts.last.load(Ordering::SeqCst),
+    )
+}
+
+/// How many places are taken, for wakers and for Tasks.
+pub fn places_taken<R: Wait + Drop + Copy>(pool: &LinkPool<R>) -> (usize, usize) {
+    (pool.kept_wakers(), pool.kept_tasks())
+}
+
+/// Whether a poll of a Task answers that its task is closed.
+pub fn is_closed<R: Wait + Drop + Copy>(pool: &LinkPool<R>, task: &mut LinkTask<'_, R>) -> bool {
+    match BellAwaiter::new(pool, 0) {
+        Some(awaiter) => matches!(task.poll(&awaiter), TaskPoll::Ready(Err(_))),
+        None => false,
+    }
+}
+
+/// What a poll of the Task at the place of a key answers: its output, or 0 where it is pending. `None` where there is none, or where it is closed.
+pub fn poll_at<R: Wait + Drop + Copy>(pool: &LinkPool<R>, key: &Key<R>) -> Option<u64> {
+    let awaiter = BellAwaiter::new(pool, 0)?;
+    match poll_kept((pool, 0), key, &awaiter)? {
+        TaskPoll::Ready(answer) => answer.ok(),
+        TaskPoll::Pending | TaskPoll::Refused => Some(0),
+    }
+}
+
+/// Wakes by the awaiter of a number, by reference and by value. Answers false where the awaiter was refused.
+pub fn wake_number<R: Wait + Drop + Copy>(pool: &LinkPool<R>, number: usize) -> bool {
+    match BellAwaiter::of_kept(pool, number) {
+        Some(awaiter) => {
+            awaiter.wake_by_ref();
+            awaiter.wake();
+            true
+        }
+        None => false,
+    }
+}
+
+/// Wakes the last link once for each time that it kept its waker, up to `KNOCKS` times.
+pub fn knock<R: Wait + Drop + Copy>(pool: &LinkPool<R>, counts: &Counts) -> bool {
+    let mut done = 0;
+    for _ in pool.rt().forever() {
+        if done == KNOCKS {
+            return true;
+        }
+        if counts.rounds.load(Ordering::SeqCst) > done {
+            let number = counts.number.load(Ordering::SeqCst).wrapping_sub(1);
+            let Some(awaiter) = BellAwaiter::of_kept(pool, number as usize) else {
+                return false;
+            };
+            awaiter.wake();
+            done += 1;
+        } else {
+            thread::yield_now();
+        }
+    }
+    unreachable!()
+}

@@ -1,0 +1,19 @@
+//! What the tests ask for as they begin.
+//! It stands on no other crate. Public is `granted`.
+#![tactic(auto)]
+
+ghost use Rattle.std.specs.Prelude.{◌≡◌, Ok};
+
+use std::process::Abort;
+
+/// What was asked for. An `Err` stops the program.
+///
+/// A test that asks by `?` has a way out beside all that it holds then, and its proof follows each of them. A test that asks by this has none.
+pub fn granted<R: Abort, T, E>(rt: &R, asked: Result<T, E>) -> T
+    ensures { asked ≡ Ok result }
+{
+    match asked {
+        Ok(granted) => granted,
+        Err(_) => panic!(rt; "a request was refused"),
+    }
+}
