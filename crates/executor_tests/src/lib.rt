@@ -8,6 +8,8 @@ mod awaiting;
 #[cfg(test)]
 mod calls;
 #[cfg(test)]
+mod granted;
+#[cfg(test)]
 mod heap_tests;
 #[cfg(test)]
 mod priority_tests;

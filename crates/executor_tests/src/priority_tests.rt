@@ -1,13 +1,13 @@
 //! Tests of the heap of priorities, and of the queue over it.
 
 use crate::calls;
+use crate::granted::granted;
 use counted_values::behaviour::Behaviour;
 use counted_values::counters::Counts;
 use counted_values::flag::Flag;
 use fixtures::executor::{PriorityQueue, PriorityRunnable, PriorityScheduler, PriorityTask};
 use fixtures::fixture::Fixture;
 use fixtures::future::RowFuture;
-use granted::granted;
 use priority_heap::{PrioritizedRunnable, PriorityHeap};
 use std::alloc::{AllocError, Global};
 use std::process::Abort;

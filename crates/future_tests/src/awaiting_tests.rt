@@ -2,12 +2,11 @@
 
 use crate::calls::{
     collect_all, drop_pool, drop_task, drop_turns, is_closed, keep, knock, new_pool, place_of_task,
-    place_of_waker, places_taken, poll_at, polls, shut_down, tick, turns_of, wait_for, wake_number,
-    wakes_posted,
+    place_of_waker, places_taken, poll_at, polls, shut_down, turns_of, wake_number, wakes_posted,
 };
+use crate::granted::granted;
 use crate::link::{Counts, Errand, KNOCKS, spawn_link, spawn_pair};
 use executor::BlockOnError;
-use granted::granted;
 use std::sync::Arc;
 use std::thread;
 
@@ -24,7 +23,7 @@ fn a_task_awaits_a_task(rt: HostRuntime) {
     let pool = new_pool(rt, rt.alloc(), 1);
     let mut task = granted(&rt, spawn_link(&pool, 1, 1, Errand::GiveWay(3), &counts));
     let mut turns = turns_of(rt, &pool);
-    let answer = wait_for(&mut turns, &mut task);
+    let answer = turns.block_on(&mut task);
     drop_task(task);
     collect_all(&pool);
     let (polls, places) = (polls(&counts), places_taken(&pool));
@@ -45,7 +44,7 @@ fn a_task_awaits_two_tasks(rt: HostRuntime) {
         spawn_pair(&pool, Errand::GiveWay(1), Errand::GiveWay(9), &counts),
     );
     let mut turns = turns_of(rt, &pool);
-    let answer = wait_for(&mut turns, &mut task);
+    let answer = turns.block_on(&mut task);
     let polls = polls(&counts);
     drop_turns(turns);
     drop_task(task);
@@ -63,11 +62,11 @@ fn a_loop_of_ticks_wakes_what_was_posted(rt: HostRuntime) {
     let mut ran = [false; 5];
     let mut woke = [false; 5];
     for turn in 0..5 {
-        ran[turn] = tick(&mut turns);
+        ran[turn] = turns.tick();
         woke[turn] = wakes_posted(&pool);
     }
     let polls = polls(&counts);
-    let answer = wait_for(&mut turns, &mut task);
+    let answer = turns.block_on(&mut task);
     drop_turns(turns);
     drop_task(task);
     drop_pool(pool);
@@ -85,9 +84,9 @@ fn a_kept_task_stays_until_it_is_ready(rt: HostRuntime) {
     let kept = keep(task, &key);
     let mut turns = turns_of(rt, &pool);
     let first = (poll_at(&pool, &key), poll_at(&pool, &key));
-    let mut ran = (tick(&mut turns), false);
+    let mut ran = (turns.tick(), false);
     let second = poll_at(&pool, &key);
-    ran.1 = tick(&mut turns);
+    ran.1 = turns.tick();
     let third = (poll_at(&pool, &key), poll_at(&pool, &key));
     drop_turns(turns);
     drop_pool(pool);
@@ -106,7 +105,7 @@ fn a_chain_of_tasks_on_one_worker(rt: HostRuntime) {
         spawn_link(&pool, 1, CHAIN - 1, Errand::GiveWay(1), &counts),
     );
     let mut turns = turns_of(rt, &pool);
-    let answer = wait_for(&mut turns, &mut task);
+    let answer = turns.block_on(&mut task);
     drop_task(task);
     collect_all(&pool);
     let (polls, places) = (polls(&counts), places_taken(&pool));
@@ -129,7 +128,7 @@ fn a_chain_of_tasks_on_two_workers(rt: HostRuntime) {
         &rt,
         || pool.run(1).is_ok(),
         || {
-            let answer = wait_for(&mut turns, &mut task);
+            let answer = turns.block_on(&mut task);
             shut_down(&pool);
             answer
         },
@@ -159,7 +158,7 @@ fn a_worker_takes_each_wake_of_another_thread(rt: HostRuntime) {
             &rt,
             || pool.run(1).is_ok(),
             || {
-                let answer = wait_for(&mut turns, &mut task);
+                let answer = turns.block_on(&mut task);
                 shut_down(&pool);
                 answer
             },
@@ -182,7 +181,7 @@ fn the_cancel_of_a_task_that_awaits_leaves_no_place(rt: HostRuntime) {
     let mut turns = turns_of(rt, &pool);
     for _ in 0..TURNS {
         let woke = wakes_posted(&pool);
-        if !tick(&mut turns) && !woke {
+        if !turns.tick() && !woke {
             break;
         }
     }
@@ -191,7 +190,7 @@ fn the_cancel_of_a_task_that_awaits_leaves_no_place(rt: HostRuntime) {
     for _ in 0..TURNS {
         collect_all(&pool);
         let woke = wakes_posted(&pool);
-        if !tick(&mut turns) && !woke {
+        if !turns.tick() && !woke {
             break;
         }
     }
@@ -211,13 +210,13 @@ fn a_posted_wake_after_the_shutdown_does_nothing(rt: HostRuntime) {
     let pool = new_pool(rt, rt.alloc(), 1);
     let mut task = granted(&rt, spawn_link(&pool, 1, 1, Errand::Stay, &counts));
     let mut turns = turns_of(rt, &pool);
-    let ran = (tick(&mut turns), tick(&mut turns));
+    let ran = (turns.tick(), turns.tick());
     let before = places_taken(&pool);
     shut_down(&pool);
     let woken = wake_number(&pool, 0);
     turns.work();
     let posted = (wakes_posted(&pool), wakes_posted(&pool));
-    let ran_again = tick(&mut turns);
+    let ran_again = turns.tick();
     let closed = is_closed(&pool, &mut task);
     let (polls, places) = (polls(&counts), places_taken(&pool));
     let left = Arc::strong_count(&counts);
@@ -237,14 +236,14 @@ fn a_wake_of_an_empty_place_wakes_nothing(rt: HostRuntime) {
     let key = place_of_waker(rt, &pool);
     let mut task = granted(&rt, spawn_link(&pool, 1, 0, Errand::Stay, &counts));
     let mut turns = turns_of(rt, &pool);
-    let ran = tick(&mut turns);
+    let ran = turns.tick();
     let without_room = wake_number(&pool, 99);
     let none = wakes_posted(&pool);
     let empty = wake_number(&pool, key.number());
     let one = wakes_posted(&pool);
-    let ran_again = tick(&mut turns);
+    let ran_again = turns.tick();
     shut_down(&pool);
-    let answer = wait_for(&mut turns, &mut task);
+    let answer = turns.block_on(&mut task);
     drop_turns(turns);
     drop_task(task);
     drop_pool(pool);

@@ -1,10 +1,10 @@
 //! Futures that borrow from the scope of the pool: what they read, and what they count together.
 ghost use Rattle.std.specs.Prelude.{⊤};
 
+use crate::granted::granted;
 use async_task::{Future, Poll, TaskPoll, Wake, Yields};
 use awaiters::Nobody;
 use executor::{Pool, PoolTask, PoolWaker, Turns};
-use granted::granted;
 use std::alloc::{AllocError, Global};
 use std::sync::Wait;
 use std::sync::atomic::{AtomicU64, Ordering};

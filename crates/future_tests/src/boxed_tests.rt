@@ -2,10 +2,10 @@
 //! what rings wakes by number. The prover takes no pool that is written out with a box, so all here but the tests is generic in what takes the steps.
 ghost use Rattle.std.specs.Prelude.{⊤};
 
+use crate::granted::granted;
 use async_task::{Future, Poll, TaskPoll, Yields};
 use awaiters::Nobody;
 use executor::{Key, Pool, PoolTask, PoolWaker, Turns, keep_waker, place_for_waker, wake_kept};
-use granted::granted;
 use std::alloc::{AllocError, Global};
 use std::process::Abort;
 use std::sync::atomic::{AtomicU32, AtomicU64, Ordering};

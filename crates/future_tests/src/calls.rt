@@ -1,13 +1,12 @@
 //! Calls of a pool of links and of its handles, each in a function of its own, generic in the runtime alone: what such a call asks of its types is shown
-//! there once, and not in each test.
+//! there once, and not in each test. Calls that run tasks stand in the tests, where the runtime is known: the prover must see that it outlives the pool.
 
+use crate::granted::granted;
 use crate::link::{Counts, KNOCKS, LinkPool, LinkTask, LinkTurns};
 use async_task::{TaskPoll, Wake};
 use executor::{
-    BellAwaiter, BlockOnError, Key, collect, keep_task, place_for_task, place_for_waker, poll_kept,
-    wake_posted,
+    BellAwaiter, Key, collect, keep_task, place_for_task, place_for_waker, poll_kept, wake_posted,
 };
-use granted::granted;
 use std::alloc::{AllocError, Global};
 use std::process::Abort;
 use std::sync::Wait;
@@ -41,19 +40,6 @@ pub fn place_of_waker<R: Wait + Abort + Drop + Copy>(rt: R, pool: &LinkPool<R>) 
 /// Keeps a Task at a place: whether it was kept.
 pub fn keep<R: Wait + Drop + Copy>(task: LinkTask<'_, R>, key: &Key<R>) -> bool {
     keep_task(task, key).is_ok()
-}
-
-/// One turn: whether a task was run.
-pub fn tick<R: Wait + Drop + Copy>(turns: &mut LinkTurns<'_, R>) -> bool {
-    turns.tick()
-}
-
-/// Is a worker until a task is over.
-pub fn wait_for<'x, R: Wait + Drop + Copy>(
-    turns: &mut LinkTurns<'x, R>,
-    task: &mut LinkTask<'x, R>,
-) -> Result<u64, BlockOnError> {
-    turns.block_on(task)
 }
 
 /// Wakes for one number that was posted: whether there was one.

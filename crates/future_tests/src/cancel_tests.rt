@@ -1,12 +1,12 @@
 //! The cancel of a parent that keeps children and wakers: all children are cancelled, and all wakers freed.
 ghost use Rattle.std.specs.Prelude.{⊤};
 
+use crate::granted::granted;
 use async_task::{Future, Poll, Yields};
 use awaiters::Nobody;
 use executor::{
     Key, Pool, PoolWaker, collect, keep_task, keep_waker, place_for_task, place_for_waker,
 };
-use granted::granted;
 use std::alloc::{AllocError, Global};
 use std::sync::atomic::{AtomicU64, Ordering};
 use std::sync::{Arc, Wait};

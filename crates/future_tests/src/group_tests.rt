@@ -1,15 +1,13 @@
 //! Groups of tasks of a pool, some of which await a task of their own: one type of awaiter serves these, the group, and `block_on`.
-use crate::calls::{
-    drop_pool, drop_task, drop_turns, new_pool, shut_down, tick, turns_of, wait_for, wakes_posted,
-};
-use crate::link::{Counts, Errand, Link, LinkPool, LinkTurns, spawn_link};
+use crate::calls::{drop_pool, drop_task, drop_turns, new_pool, shut_down, turns_of, wakes_posted};
+use crate::granted::granted;
+use crate::link::{Counts, Errand, Link, LinkPool, spawn_link};
 use executor::{NextMemberError, PoolGroup};
-use granted::granted;
 use std::alloc::AllocError;
 use std::sync::{Arc, Wait};
 use std::thread;
 use std::time::Duration;
-use task_group::TaskGroup;
+use task_group::{Ended, TaskGroup};
 
 // The most turns that anything takes.
 const TURNS: usize = 1000;
@@ -18,6 +16,8 @@ const TURNS: usize = 1000;
 const GROUPS: u64 = 200;
 
 type LinkGroup<'x, R> = PoolGroup<'x, R, Link<R>>;
+
+type NextMember<R> = Result<Option<Ended<Link<R>>>, NextMemberError>;
 
 // What came out of a group: how many members, and the sum of their outputs.
 type CameOut = (u64, u64);
@@ -68,9 +68,9 @@ fn a_worker_looks_at_a_group_between_its_turns(rt: HostRuntime) {
     for _ in 0..TURNS {
         add_next(&mut group, &mut came_out);
         wakes_posted(&pool);
-        tick(&mut turns);
+        turns.tick();
     }
-    let answer = wait_for(&mut turns, &mut last);
+    let answer = turns.block_on(&mut last);
     drop_turns(turns);
     drop_group(group);
     drop_task(last);
@@ -91,7 +91,7 @@ fn a_thread_waits_for_a_group_and_then_for_a_task(rt: HostRuntime) {
         || pool.run(1).is_ok(),
         || {
             let came_out = all_of(&mut group);
-            let answer = wait_for(&mut turns, &mut last);
+            let answer = turns.block_on(&mut last);
             shut_down(&pool);
             (came_out, answer)
         },
@@ -116,31 +116,12 @@ fn new_lone<'x, R: Wait + Drop + Copy>(
     Ok(group)
 }
 
-// The output of the next member, 0 where none comes out.
-fn next_output<'x, R: Wait + Drop + Copy>(
-    turns: &mut LinkTurns<'x, R>,
-    group: &mut LinkGroup<'x, R>,
-) -> u64 {
-    match turns.next_member(group) {
+// The output of a member, 0 where none came out.
+fn output_of<R: Wait + Drop + Copy>(next: NextMember<R>) -> u64 {
+    match next {
         Ok(Some(ended)) => ended.answer.unwrap_or(0),
         _ => 0,
     }
-}
-
-// Whether there is no next member.
-fn is_over<'x, R: Wait + Drop + Copy>(
-    turns: &mut LinkTurns<'x, R>,
-    group: &mut LinkGroup<'x, R>,
-) -> bool {
-    matches!(turns.next_member(group), Ok(None))
-}
-
-// Whether the wait for the next member ends with the pool.
-fn is_shut_down<'x, R: Wait + Drop + Copy>(
-    turns: &mut LinkTurns<'x, R>,
-    group: &mut LinkGroup<'x, R>,
-) -> bool {
-    matches!(turns.next_member(group), Err(NextMemberError::ShutDown))
 }
 
 // Drops a group.
@@ -157,9 +138,9 @@ fn a_worker_waits_for_members_that_it_runs(rt: HostRuntime) {
     let mut turns = turns_of(rt, &pool);
     let mut sum = 0u64;
     for _ in 0..3 {
-        sum = sum.wrapping_add(next_output(&mut turns, &mut group));
+        sum = sum.wrapping_add(output_of(turns.next_member(&mut group)));
     }
-    let is_over = is_over(&mut turns, &mut group);
+    let is_over = matches!(turns.next_member(&mut group), Ok(None));
     drop_turns(turns);
     drop_group(group);
     drop_pool(pool);
@@ -181,7 +162,7 @@ fn a_member_that_ends_elsewhere_wakes_the_worker_that_waits(rt: HostRuntime) {
                 let Ok(mut group) = new_lone(&pool, 1, Errand::GiveWay(2), &counts) else {
                     break;
                 };
-                sum = sum.wrapping_add(next_output(&mut turns, &mut group));
+                sum = sum.wrapping_add(output_of(turns.next_member(&mut group)));
             }
             shut_down(&pool);
             sum
@@ -208,7 +189,7 @@ fn a_member_of_another_pool_wakes_the_worker_that_waits(rt: HostRuntime) {
                 let Ok(mut group) = new_lone(&other, 1, Errand::GiveWay(2), &counts) else {
                     break;
                 };
-                sum = sum.wrapping_add(next_output(&mut turns, &mut group));
+                sum = sum.wrapping_add(output_of(turns.next_member(&mut group)));
             }
             shut_down(&other);
             sum
@@ -227,7 +208,7 @@ fn a_wait_for_a_member_ends_with_the_pool(rt: HostRuntime) {
     let pool = new_pool(rt, rt.alloc(), 1);
     let mut group = granted(&rt, new_lone(&pool, 0, Errand::Stay, &counts));
     let mut turns = turns_of(rt, &pool);
-    let ran = tick(&mut turns);
+    let ran = turns.tick();
     let (_, ended) = thread::join(
         &rt,
         || {
@@ -235,7 +216,10 @@ fn a_wait_for_a_member_ends_with_the_pool(rt: HostRuntime) {
             thread::sleep(&rt, Duration::from_millis(20));
             shut_down(&pool);
         },
-        || is_shut_down(&mut turns, &mut group),
+        || matches!(
+            turns.next_member(&mut group),
+            Err(NextMemberError::ShutDown)
+        ),
     );
     let left = group.len();
     drop_turns(turns);

@@ -1,9 +1,9 @@
 //! Tasks that a pool keeps at a place: one that takes the place of another one, and one whose poll is refused its awaiter.
 ghost use Rattle.std.specs.Prelude.{⊤};
 
+use crate::granted::granted;
 use async_task::{Future, Poll, TaskPoll, Wake, Yields};
 use executor::{Key, Pool, keep_task, place_for_task, poll_kept};
-use granted::granted;
 use std::alloc::{AllocError, Global};
 use std::sync::atomic::{AtomicU64, Ordering};
 use std::sync::{Arc, Wait};

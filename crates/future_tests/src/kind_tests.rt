@@ -1,9 +1,9 @@
 //! Futures of two types in one pool, as the variants of an enum. Each has its own output, and both give way to others.
 ghost use Rattle.std.specs.Prelude.{⊤};
 
+use crate::granted::granted;
 use async_task::{Future, Poll, Wake, Yields};
 use executor::{BellAwaiter, Pool, PoolTask, PoolWaker};
-use granted::granted;
 use std::alloc::AllocError;
 use std::sync::Wait;
 use std::thread;

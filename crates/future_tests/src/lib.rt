@@ -13,6 +13,8 @@ mod calls;
 #[cfg(test)]
 mod cancel_tests;
 #[cfg(test)]
+mod granted;
+#[cfg(test)]
 mod group_tests;
 #[cfg(test)]
 mod kept_tests;

@@ -1,9 +1,9 @@
 //! The mail of a pool goes round its parts: a number that is posted again and again keeps no other one waiting.
 ghost use Rattle.std.specs.Prelude.{⊤};
 
+use crate::granted::granted;
 use async_task::{Future, Poll, Wake, Yields};
 use executor::{BellAwaiter, Key, Pool, PoolWaker, keep_waker, place_for_waker, wake_posted};
-use granted::granted;
 use std::alloc::{AllocError, Global};
 use std::sync::atomic::{AtomicU64, Ordering};
 use std::sync::{Arc, Wait};

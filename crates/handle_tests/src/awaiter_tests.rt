@@ -1,12 +1,12 @@
 //! Tests of stored awaiters: which one a task keeps, and how each clone ends.
 
 use crate::calls;
+use crate::granted::granted;
 use crate::watched::{Ends, Watched, WatchedRunnable, WatchedTask, spawn_watched};
 use counted_values::behaviour::Behaviour;
 use counted_values::counters::{Counters, Counts};
 use counted_values::flag::Flag;
 use fixtures::fixture::Fixture;
-use granted::granted;
 use std::alloc::Global;
 use std::process::Abort;
 use std::sync::{Arc, Wait};

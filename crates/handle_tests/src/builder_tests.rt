@@ -1,6 +1,7 @@
 //! Tests of the builder, and of what handles and builders show.
 
 use crate::calls;
+use crate::granted::granted;
 use async_task::Builder;
 use counted_values::behaviour::Behaviour;
 use counted_values::counters::{Counter, Counters};
@@ -10,7 +11,6 @@ use fixtures::executor::{PriorityQueue, PriorityRunnable, PriorityScheduler, Pri
 use fixtures::fixture::Fixture;
 use fixtures::future::RowFuture;
 use fixtures::surroundings::{RowRunnable, RowTask, Scheduler};
-use granted::granted;
 use std::alloc::{AllocError, Global};
 use std::fmt;
 use std::process::Abort;

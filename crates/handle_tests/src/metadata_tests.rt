@@ -1,12 +1,12 @@
 //! Tests of the metadata: it goes with the last handle, and no sooner.
 ghost use Rattle.std.specs.Prelude.{⊤};
 
+use crate::granted::granted;
 use async_task::{Builder, Runnable, Schedule, ScheduleInfo, Task, TaskWaker};
 use counted_values::behaviour::Behaviour;
 use counted_values::counters::{Counter, Counters};
 use counted_values::flag::Flag;
 use fixtures::future::RowFuture;
-use granted::granted;
 use std::alloc::{AllocError, Global};
 use std::process::Abort;
 use std::sync::{Arc, Wait};

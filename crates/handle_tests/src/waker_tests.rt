@@ -1,6 +1,7 @@
 //! Tests of wakers and of an awaiter, and of tasks that end without a run that completes.
 
 use crate::calls;
+use crate::granted::granted;
 use async_task::{Runnable, Task, TaskPoll, Wake, spawn};
 use counted_values::behaviour::Behaviour;
 use counted_values::counters::{Counters, Counts};
@@ -9,7 +10,6 @@ use counted_values::output::is_ready_with;
 use fixtures::fixture::Fixture;
 use fixtures::future::RowFuture;
 use fixtures::surroundings::{RowWaker, Scheduler, Surroundings};
-use granted::granted;
 use std::alloc::{AllocError, Global};
 use std::mem;
 use std::process::Abort;

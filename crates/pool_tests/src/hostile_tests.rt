@@ -1,11 +1,11 @@
 //! Hostile use of a pool: a future that never yields, wakes after a shutdown, and calls that make no sense.
+use crate::granted::granted;
 use crate::guest::{
     Errand, GuestPool, Guests, is_closed, output_of, shares_and_polls, spawn_guest, spawn_guests,
 };
 use async_task::TaskPoll;
 use awaiters::Nobody;
 use executor::{Key, keep_task, place_for_task, poll_kept, wake_kept};
-use granted::granted;
 use std::alloc::AllocError;
 use std::sync::{Arc, Wait};
 use std::thread;

@@ -1,6 +1,7 @@
 //! What a pool keeps for futures: what is put there after a shutdown, and what a turn frees.
 ghost use Rattle.std.specs.Prelude.{⊤};
 
+use crate::granted::granted;
 use crate::guest::{Errand, GuestPool, Guests, shares_and_polls, spawn_guest};
 use async_task::{Future, Poll, TaskPoll, Yields};
 use awaiters::Nobody;
@@ -8,7 +9,6 @@ use executor::{
     Key, Pool, PoolTask, PoolWaker, collect, keep_task, keep_waker, place_for_task,
     place_for_waker, poll_kept,
 };
-use granted::granted;
 use std::alloc::AllocError;
 use std::sync::atomic::{AtomicBool, Ordering};
 use std::sync::{Arc, Wait};

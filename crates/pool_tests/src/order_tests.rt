@@ -1,11 +1,11 @@
 //! The order of tasks: that in which they are spawned, and that of their turns on one worker.
 ghost use Rattle.std.specs.Prelude.{⊤};
 
+use crate::granted::granted;
 use crate::guest::{Errand, GuestPool, Guests, output_of, shares_and_polls, spawn_guest};
 use async_task::{Future, Poll, TaskPoll, Yields};
 use awaiters::Nobody;
 use executor::{Pool, PoolTask};
-use granted::granted;
 use std::alloc::{AllocError, Global};
 use std::collections::VecDeque;
 use std::sync::Wait;

@@ -1,11 +1,11 @@
 //! Tests of pools whose queues are refused memory: what the Runnables stand in is of a small heap, which is filled.
 ghost use Rattle.std.specs.Prelude.{⊤};
 
+use crate::granted::granted;
 use crate::guest::{Guests, shares_and_polls};
 use async_task::{Future, Poll, TaskPoll, Yields};
 use awaiters::Nobody;
 use executor::{Pool, PoolTask, Turns};
-use granted::granted;
 use linked_list_allocator::LocalHeap;
 use std::alloc::{AllocError, Global};
 use std::process::Abort;

@@ -1,6 +1,6 @@
 //! What a store gives back.
+use crate::granted::granted;
 use executor::{Key, Store, Walk};
-use granted::granted;
 use std::alloc::{AllocError, Global};
 use std::sync::{Arc, Wait};
 

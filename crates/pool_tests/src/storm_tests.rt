@@ -1,10 +1,10 @@
 //! Storms of wakes by other threads: none is lost, and a shutdown in the middle leaves nothing.
 ghost use Rattle.std.specs.Prelude.{⊤};
 
+use crate::granted::granted;
 use async_task::{Future, Poll, TaskPoll, Yields};
 use awaiters::Nobody;
 use executor::{Key, Pool, PoolTask, PoolWaker, collect, keep_waker, place_for_waker, wake_kept};
-use granted::granted;
 use std::alloc::{AllocError, Global};
 use std::collections::VecDeque;
 use std::sync::atomic::{AtomicU64, Ordering};

@@ -1,9 +1,10 @@
 //! `block_on` of a pool: alone, beside another worker, for a task that is closed, and after a shutdown.
 //!
-//! Each call of the pool and its handles stands in a function of its own, generic in the runtime alone: what it asks of their types is shown there once.
+//! Most calls of the pool and its handles stand in a function of their own, generic in the runtime alone: what such a call asks of their types is shown
+//! there once. Calls that run tasks stand in the tests, where the runtime is known: the prover must see that it outlives the pool.
+use crate::granted::granted;
 use crate::guest::{Errand, Guest, Guests, shares_and_polls, spawn_guest};
 use executor::{BellAwaiter, BlockOnError, Pool, PoolTask, Turns};
-use granted::granted;
 use std::alloc::Global;
 use std::process::Abort;
 use std::sync::{Arc, Wait};
@@ -30,13 +31,6 @@ fn spawned<'x, R: Wait + Abort + Drop + Copy>(
 
 fn turns_of<R: Wait + Abort + Drop + Copy>(pool: &WaitedPool<R>) -> WaitedTurns<'_, R> {
     granted(&pool.rt(), pool.turns(0))
-}
-
-fn wait_for<'x, R: Wait + Drop + Copy>(
-    turns: &mut WaitedTurns<'x, R>,
-    task: &mut WaitedTask<'x, R>,
-) -> Result<u64, BlockOnError> {
-    turns.block_on(task)
 }
 
 fn detach<R: Wait + Drop + Copy>(task: WaitedTask<'_, R>) {
@@ -67,8 +61,8 @@ fn block_on_runs_the_task_itself(rt: HostRuntime) {
     let before = spawned(&pool, 1, Errand::GiveWay(3), &guests);
     let mut task = spawned(&pool, 1, Errand::GiveWay(10), &guests);
     let mut turns = turns_of(&pool);
-    let first = wait_for(&mut turns, &mut task);
-    let second = wait_for(&mut turns, &mut task);
+    let first = turns.block_on(&mut task);
+    let second = turns.block_on(&mut task);
     detach(before);
     drop_task(task);
     let (left, _) = shares_and_polls(&guests);
@@ -89,7 +83,7 @@ fn block_on_waits_beside_another_worker(rt: HostRuntime) {
         &rt,
         || pool.run(1).is_ok(),
         || {
-            let answer = wait_for(&mut turns, &mut task);
+            let answer = turns.block_on(&mut task);
             shut_down(&pool);
             answer
         },
@@ -107,8 +101,8 @@ fn block_on_ends_with_the_pool(rt: HostRuntime) {
     let mut ending = spawned(&pool, 1, Errand::ShutDown, &guests);
     let mut staying = spawned(&pool, 1, Errand::Stay, &guests);
     let mut turns = turns_of(&pool);
-    let closed = wait_for(&mut turns, &mut ending);
-    let cancelled = wait_for(&mut turns, &mut staying);
+    let closed = turns.block_on(&mut ending);
+    let cancelled = turns.block_on(&mut staying);
     drop_turns(turns);
     drop_task(staying);
     drop_task(ending);
@@ -124,7 +118,7 @@ fn block_on_leaves_a_task_that_nobody_wakes(rt: HostRuntime) {
     let mut turns = turns_of(&pool);
     let ran = turns.tick();
     shut_down(&pool);
-    let answer = wait_for(&mut turns, &mut task);
+    let answer = turns.block_on(&mut task);
     drop_task(task);
     let (left, _) = shares_and_polls(&guests);
     drop_turns(turns);

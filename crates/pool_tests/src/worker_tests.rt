@@ -1,13 +1,13 @@
 //! Programs of tasks on pools of one, two and four threads.
 ghost use Rattle.std.specs.Prelude.{⊤};
 
+use crate::granted::granted;
 use async_task::{Future, Poll, TaskPoll, Yields};
 use awaiters::Nobody;
 use executor::{
     Key, Pool, PoolTask, PoolWaker, keep_task, keep_waker, place_for_task, place_for_waker,
     poll_kept, wake_kept,
 };
-use granted::granted;
 use std::alloc::AllocError;
 use std::sync::atomic::{AtomicU64, Ordering};
 use std::sync::{Arc, Wait};

@@ -3,6 +3,8 @@
 #![tactic(auto)]
 
 #[cfg(test)]
+mod granted;
+#[cfg(test)]
 mod refusal_tests;
 #[cfg(test)]
 mod search_tests;

@@ -1,6 +1,6 @@
 //! Tests of queues that are refused memory: what the items stand in is of a small heap, which is filled. And which queue a worker looks at first.
 
-use granted::granted;
+use crate::granted::granted;
 use linked_list_allocator::LocalHeap;
 use std::alloc::{AllocError, Global};
 use std::process::Abort;

@@ -1,6 +1,6 @@
 //! Tests of the search of a worker that found nothing: one searches at a time, whom a push then wakes, and what it sees and finds of the queues.
 
-use granted::granted;
+use crate::granted::granted;
 use std::alloc::AllocError;
 use std::sync::Wait;
 use work_queues::{Bells, Board, Crew, Woken};

@@ -1,7 +1,7 @@
 //! `block_on`, of a task that has ended, of one that another thread runs, and of one that is closed.
 use super::line::{Errand, Line, LineTask};
+use crate::granted::granted;
 use awaiters::{BlockOnError, block_on};
-use granted::granted;
 use std::alloc::{AllocError, Global};
 use std::process::Abort;
 use std::sync::Wait;

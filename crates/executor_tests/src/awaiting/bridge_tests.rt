@@ -1,10 +1,10 @@
 //! Tasks that the kit's `block_on`, `join` and `select` wait for, a bridge that is dropped, and refused memory.
 ghost use Rattle.std.specs.Prelude.{⊤};
 
+use crate::granted::granted;
 use async_task::{Future, Poll, Runnable, Schedule, ScheduleInfo, Task, Wake, Yields, spawn};
 use futures::executor::block_on;
 use futures::future::{Either, join, ready, select};
-use granted::granted;
 use kit_bridge::{AwaitError, Awaits, KitAwaiter};
 use linked_list_allocator::LocalHeap;
 use std::alloc::{AllocError, AllocGlobal, Global};

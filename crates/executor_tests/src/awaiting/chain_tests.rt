@@ -1,8 +1,8 @@
 //! Tasks that await one another: a chain, and a ring.
 use super::line::{Errand, Line, LineTask};
+use crate::granted::granted;
 use async_task::TaskPoll;
 use awaiters::{Awaiter, Mailbox};
-use granted::granted;
 use std::alloc::{AllocError, Global};
 use std::process::Abort;
 use std::sync::Wait;

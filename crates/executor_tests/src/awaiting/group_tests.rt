@@ -1,7 +1,7 @@
 //! Groups: the order in which members come out, those that ended before their push, a group that is full, the ways to let all go, and what waits after them.
 use super::line::{Errand, Line, LineGroup, LineTask};
+use crate::granted::granted;
 use async_task::TaskClosed;
-use granted::granted;
 use std::alloc::{AllocError, Global};
 use std::process::Abort;
 use std::sync::Wait;

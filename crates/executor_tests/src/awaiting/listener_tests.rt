@@ -1,7 +1,7 @@
 //! Who listens at a mailbox: when a listener is told of a post, and what becomes of one that is replaced.
+use crate::granted::granted;
 use awaiters::{Listener, Mailbox};
 use fixtures::rendezvous::Rendezvous;
-use granted::granted;
 use std::alloc::{AllocError, Global};
 use std::process::Abort;
 use std::sync::atomic::{AtomicU64, Ordering};

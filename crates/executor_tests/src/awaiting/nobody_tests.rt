@@ -1,9 +1,9 @@
 //! The awaiter that wakes nobody.
 ghost use Rattle.std.specs.Prelude.{⊤};
 
+use crate::granted::granted;
 use async_task::{Future, Poll, Schedule, ScheduleInfo, Task, TaskPoll, Wake, Yields, spawn};
 use awaiters::Nobody;
-use granted::granted;
 use std::alloc::{AllocError, Global};
 use std::process::Abort;
 use std::sync::Wait;

@@ -1,9 +1,9 @@
 //! Members of a group whose polls are refused their awaiter.
 ghost use Rattle.std.specs.Prelude.{⊤};
 
+use crate::granted::granted;
 use async_task::{Future, Poll, Runnable, Schedule, ScheduleInfo, Wake, Yields, spawn};
 use awaiters::{Mailbox, Nobody, Posts};
-use granted::granted;
 use std::alloc::{AllocError, Global};
 use std::process::Abort;
 use std::sync::{Arc, Wait};
