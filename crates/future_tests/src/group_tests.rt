@@ -124,9 +124,9 @@ fn output_of<R: Wait + Drop + Copy>(next: NextMember<R>) -> u64 {
     }
 }
 
-// Drops a group.
-fn drop_group<R: Wait + Drop + Copy>(group: LinkGroup<'_, R>) {
-    drop(group);
+// Drops a group: how many members it had.
+fn drop_group<R: Wait + Drop + Copy>(group: LinkGroup<'_, R>) -> usize {
+    group.len()
 }
 
 // The only thread waits for each member of a group, and runs its tasks meanwhile.
@@ -221,9 +221,8 @@ fn a_wait_for_a_member_ends_with_the_pool(rt: HostRuntime) {
             Err(NextMemberError::ShutDown)
         ),
     );
-    let left = group.len();
     drop_turns(turns);
-    drop_group(group);
+    let left = drop_group(group);
     drop_pool(pool);
     assert!(rt; ran && ended && left == 1);
 }
