@@ -38,7 +38,9 @@ where
     ensures cell { task.new.inner.share ≡ task.old.inner.share }
     ensures around { task.new.around ≡ task.old.around }
 {
-    let mailbox = Mailbox::new(rt, alloc, 1).map_err(|_| BlockOnError::Refused)?;
+    let Ok(mailbox) = Mailbox::new(rt, alloc, 1) else {
+        return Err(BlockOnError::Refused);
+    };
     let awaiter = Awaiter::new(&mailbox, 0).ok_or(BlockOnError::Refused)?;
     for _ in rt.forever() {
         match task.poll(&awaiter) {

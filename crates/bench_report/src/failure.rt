@@ -42,13 +42,13 @@ impl From<io::Error> for Failure {
 impl fmt::Display for Failure {
     fn fmt<W: fmt::Write>(&self, f: &mut fmt::Formatter<W>) -> fmt::Result {
         match self {
-            Failure::NoMemory => write!(f, "no memory"),
+            Failure::NoMemory => f.write_str("no memory"),
             Failure::Lost(ended, wanted) => write!(f, "{ended} of {wanted} tasks ended"),
             Failure::Unanswered(answered, wanted) => {
                 write!(f, "a group answered for {answered} of {wanted} tasks")
             }
-            Failure::Unexpected => write!(f, "a call did not do what is to be measured"),
-            Failure::NoThread => write!(f, "no thread could be started"),
+            Failure::Unexpected => f.write_str("a call did not do what is to be measured"),
+            Failure::NoThread => f.write_str("no thread could be started"),
             Failure::Io(error) => write!(f, "{error}"),
         }
     }

@@ -36,6 +36,16 @@ const THREADS: [usize; 3] = [1, 2, 4];
 // How many tasks `check` has, and on how many threads: also one alone.
 const CHECKED: [(u64, usize); 5] = [(1, 1), (500, 1), (500, 2), (500, 3), (500, 4)];
 
+// The lines that grow, and how many tasks they have.
+const GROWING: [(Line, u64); 6] = [
+    (Line::Spawn, 10_000),
+    (Line::Spawn, 100_000),
+    (Line::Spawn, 1_000_000),
+    (Line::Group, 10_000),
+    (Line::Group, 100_000),
+    (Line::Group, 1_000_000),
+];
+
 // How often each line is measured for a table.
 const REPETITIONS: u32 = 5;
 
@@ -96,18 +106,15 @@ where
     M: Fn(Executor, Line, Size) -> Result<Measured, Failure>,
     requires { M.IsAlwaysCallable measure.now }
 {
-    match request {
-        Request::Help => print_help(out)?,
-        Request::Check => print_check(measure, out)?,
-        Request::Run(tasks) => print_run(alloc, tasks, measure, out)?,
-        Request::Grow => print_growth(alloc, measure, out)?,
-        Request::One(executor, line, size) => {
-            let measured = measure(executor, line, size)?;
-            print_one(measured, size.tasks, out)?;
-        }
-    }
-    out.flush()?;
-    Ok(())
+    let printed = match request {
+        Request::Help => print_help(out),
+        Request::Check => print_check(measure, out),
+        Request::Run(tasks) => print_run(alloc, tasks, measure, out),
+        Request::Grow => print_growth(alloc, measure, out),
+        Request::One(executor, line, size) => print_one(executor, line, size, measure, out),
+    };
+    printed?;
+    Ok(out.flush()?)
 }
 
 // How many of few tasks ended, for each line.
@@ -132,13 +139,12 @@ fn print_ended<O: io::Write>(
     threads: usize,
     (pool, futures): (u64, u64),
     out: &mut O,
-) -> Result<(), Failure> {
+) -> io::Result<()> {
     let name = line.name();
     writeln!(
         out,
         "{name} threads {threads} ended pool {pool} futures {futures}"
-    )?;
-    Ok(())
+    )
 }
 
 // The table of all lines.
@@ -175,10 +181,8 @@ where
     requires { M.IsAlwaysCallable measure.now }
 {
     writeln!(out, "{HEAD}")?;
-    for line in [Line::Spawn, Line::Group] {
-        for tasks in [10_000, 100_000, 1_000_000] {
-            print_rows(alloc, line, tasks, measure, out)?;
-        }
+    for (line, tasks) in GROWING {
+        print_rows(alloc, line, tasks, measure, out)?;
     }
     Ok(())
 }
@@ -210,19 +214,31 @@ fn print_row<O: io::Write>(
     pool: Summary,
     futures: Summary,
     out: &mut O,
-) -> Result<(), Failure> {
+) -> io::Result<()> {
     let name = line.name();
-    write!(out, "| {name} | {} | {} |", size.tasks, size.threads)?;
-    write!(out, " {} | {} |", pool.per_second, futures.per_second)?;
-    writeln!(out, " {} | {} |", pool.bytes, futures.bytes)?;
-    out.flush()?;
-    Ok(())
+    writeln!(
+        out,
+        "| {name} | {} | {} | {} | {} | {} | {} |",
+        size.tasks, size.threads, pool.per_second, futures.per_second, pool.bytes, futures.bytes
+    )?;
+    out.flush()
 }
 
-fn print_one<O: io::Write>(measured: Measured, tasks: u64, out: &mut O) -> Result<(), Failure> {
+fn print_one<M, O: io::Write>(
+    executor: Executor,
+    line: Line,
+    size: Size,
+    measure: &M,
+    out: &mut O,
+) -> Result<(), Failure>
+where
+    M: Fn(Executor, Line, Size) -> Result<Measured, Failure>,
+    requires { M.IsAlwaysCallable measure.now }
+{
+    let measured = measure(executor, line, size)?;
     let ended = measured.ended;
     let rate = per_second(ended, measured.elapsed);
-    let bytes = bytes_of_one(measured.grown, tasks);
+    let bytes = bytes_of_one(measured.grown, size.tasks);
     writeln!(out, "ended {ended} per_second {rate} bytes {bytes}")?;
     Ok(())
 }
@@ -265,9 +281,8 @@ fn print_help<O: io::Write>(out: &mut O) -> Result<(), Failure> {
     Ok(())
 }
 
-pub(crate) fn print_name<O: io::Write>(name: &str, out: &mut O) -> Result<(), Failure> {
-    writeln!(out, "    {name}")?;
-    Ok(())
+pub(crate) fn print_name<O: io::Write>(name: &str, out: &mut O) -> io::Result<()> {
+    writeln!(out, "    {name}")
 }
 
 // The part of one task.

@@ -1,9 +1,9 @@
 //! Futures of several types in one executor, each in a box. A waker's type names the type of the future, so the trait of the boxes
 //! has none: a step is lent a ticket, and the executor keeps the waker until the ticket is rung. The prover takes no line that is
-//! written out with a box as its future; so all here is generic in what takes the steps, and only `main` says that it is a box.
+//! written out with a box as its future; so all here is generic in what takes the steps, and only `main.rt` says that it is a box.
 ghost use Rattle.std.specs.Prelude.{⊤};
 
-use crate::line::{KeptWaker, Line, LineWaker};
+use crate::line::{KeptWaker, Line, LineTask, LineWaker};
 use async_task::{Future, Poll, TaskPoll, Yields};
 use awaiters::Nobody;
 use std::alloc::Global;
@@ -57,6 +57,8 @@ struct Waiting<R: Wait + Drop + Copy, F: Yields>(Mutex<VecDeque<(Ticket, KeptWak
 
 type Steps<R, T> = Line<R, Ticketed<T>, Waiting<R, Ticketed<T>>>;
 
+type StepTask<'x, R, T> = LineTask<'x, R, Ticketed<T>, Waiting<R, Ticketed<T>>>;
+
 type StepWaker<'x, R, T> = LineWaker<'x, R, Ticketed<T>, Waiting<R, Ticketed<T>>>;
 
 impl<'x, R: Wait + Drop + Copy, T: Step> Future<StepWaker<'x, R, T>> for Ticketed<T> {
@@ -100,23 +102,38 @@ fn run<R: Wait + Drop + Copy, T: Step>(line: &Steps<R, T>) {
     }
 }
 
+// Spawns a task of these steps, with a ticket of its own.
+fn spawn<R: Wait + Drop + Copy, T: Step>(
+    line: &Steps<R, T>,
+    alloc: Global,
+    inner: T,
+) -> Option<StepTask<'_, R, T>> {
+    let ticket = Ticket(Rc::new(alloc, Cell::new(false)).ok()?);
+    line.spawn(alloc, Ticketed { inner, ticket })
+}
+
+// What two tasks of a line answer.
+fn answers_on<R: Wait + Drop + Copy, T: Step>(
+    line: &Steps<R, T>,
+    alloc: Global,
+    steps: [T; 2],
+) -> Option<(u64, u64)> {
+    let [first, second] = steps;
+    let mut first = spawn(line, alloc, first)?;
+    let mut second = spawn(line, alloc, second)?;
+    run(line);
+    match (first.poll(&Nobody), second.poll(&Nobody)) {
+        (TaskPoll::Ready(Ok(first)), TaskPoll::Ready(Ok(second))) => Some((first, second)),
+        _ => None,
+    }
+}
+
 /// What two tasks of these steps answer. `None` where memory was refused.
 pub fn answers_of<R: Wait + Drop + Copy, T: Step>(
     rt: R,
     alloc: Global,
     steps: [T; 2],
 ) -> Option<(u64, u64)> {
-    let line = Line::new(rt, alloc, Waiting(Mutex::new(VecDeque::new(alloc))));
-    let spawned = |inner: T| {
-        let ticket = Ticket(Rc::new(alloc, Cell::new(false)).ok()?);
-        line.spawn(alloc, Ticketed { inner, ticket })
-    };
-    let [first, second] = steps;
-    let mut first = spawned(first)?;
-    let mut second = spawned(second)?;
-    run(&line);
-    match (first.poll(&Nobody), second.poll(&Nobody)) {
-        (TaskPoll::Ready(Ok(first)), TaskPoll::Ready(Ok(second))) => Some((first, second)),
-        _ => None,
-    }
+    let waiting = Waiting(Mutex::new(VecDeque::new(alloc)));
+    answers_on(&Line::new(rt, alloc, waiting), alloc, steps)
 }

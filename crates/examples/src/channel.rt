@@ -168,14 +168,23 @@ fn run<R: Wait + Drop + Copy>(line: &Line<R, End, Between<R>>) {
     }
 }
 
-/// Sends the digits from 1 to this one through a channel with room for two: the number that the receiver reads. `None` where memory was refused.
-pub fn digits_up_to<R: Wait + Drop + Copy>(rt: R, alloc: Global, last: u64) -> Option<u64> {
-    let line = Line::new(rt, alloc, Channel::new(alloc, 2).ok()?);
+// Sends the digits from 1 to this one by one task of a line: the number that another one reads.
+fn read_on<R: Wait + Drop + Copy>(
+    line: &Line<R, End, Between<R>>,
+    alloc: Global,
+    last: u64,
+) -> Option<u64> {
     let mut receiver = line.spawn(alloc, End::Receives(0))?;
     line.spawn(alloc, End::Sends(1, last))?.detach();
-    run(&line);
+    run(line);
     match receiver.poll(&Nobody) {
         TaskPoll::Ready(Ok(digits)) => Some(digits),
         _ => None,
     }
+}
+
+/// Sends the digits from 1 to this one through a channel with room for two: the number that the receiver reads. `None` where memory was refused.
+pub fn digits_up_to<R: Wait + Drop + Copy>(rt: R, alloc: Global, last: u64) -> Option<u64> {
+    let line = Line::new(rt, alloc, Channel::new(alloc, 2).ok()?);
+    read_on(&line, alloc, last)
 }

@@ -23,6 +23,7 @@ use boxed::Step;
 use boxed_steps::{Brings, Doubles, Place};
 use pooled::JobPool;
 use std::alloc::{AllocGlobal, Global};
+use std::fmt::Debug;
 use std::io::{self, Print};
 use std::random::RandomSource;
 use std::rc::Rc;
@@ -30,34 +31,48 @@ use std::sync::Wait;
 use std::thread::{self, Threads};
 use two_kinds::Kind;
 
+// Prints the line of an example: its name, and what it answers.
+fn print<R: Print + Drop, A: Debug + Drop>(rt: R, name: &str, answer: A) -> io::Result<()> {
+    println!(rt; "{name}: {answer:?}")
+}
+
 // The tasks that are run by hand, by threads of their own, or one by one.
 fn print_first<R: Print + Wait + Threads + Drop + Copy + Send + Sync>(
     rt: R,
     alloc: Global,
 ) -> io::Result<()> {
-    println!(rt; "borrowed: {:?}", borrowed::sum_of(rt, alloc, &[3, 5, 8]))?;
-    println!(rt; "cleanup: {:?}", cleanup::free_permits(rt, alloc))?;
-    println!(rt; "new_thread: {:?}", new_thread::primes_below(rt, alloc, 30))?;
-    println!(rt;
-        "channel_worker: {:?}",
-        channel_worker::square_of(rt, alloc, 12)
+    print(rt, "borrowed", borrowed::sum_of(rt, alloc, &[3, 5, 8]))?;
+    print(rt, "cleanup", cleanup::free_permits(rt, alloc))?;
+    print(rt, "new_thread", new_thread::primes_below(rt, alloc, 30))?;
+    print(
+        rt,
+        "channel_worker",
+        channel_worker::square_of(rt, alloc, 12),
     )?;
-    println!(rt;
-        "priorities: {:?}",
-        priorities::order_of(rt, alloc, [2, 9, 5])
+    print(rt, "priorities", priorities::order_of(rt, alloc, [2, 9, 5]))?;
+    print(
+        rt,
+        "parallel_sum",
+        parallel_sum::sum_in_two(rt, alloc, &[1, 2, 3, 4, 5]),
     )?;
-    println!(rt;
-        "parallel_sum: {:?}",
-        parallel_sum::sum_in_two(rt, alloc, &[1, 2, 3, 4, 5])
+    print(
+        rt,
+        "two_kinds",
+        two_kinds::answer_of(rt, alloc, Kind::Sum(20, 22)),
     )?;
-    println!(rt;
-        "two_kinds: {:?}",
-        two_kinds::answer_of(rt, alloc, Kind::Sum(20, 22))
-    )?;
-    println!(rt;
-        "two_kinds: {:?}",
-        two_kinds::answer_of(rt, alloc, Kind::Bytes("seven bytes"))
+    print(
+        rt,
+        "two_kinds",
+        two_kinds::answer_of(rt, alloc, Kind::Bytes("seven bytes")),
     )
+}
+
+// The futures in boxes: only here is it said that they are.
+fn print_boxed<R: Print + Wait + Drop + Copy>(rt: R, alloc: Global) -> io::Result<()> {
+    let place = Rc::new(alloc, Place::default())?;
+    let doubles: Box<dyn Step> = Box::new(alloc, Doubles(place.clone()?))?;
+    let brings: Box<dyn Step> = Box::new(alloc, Brings(21, place))?;
+    print(rt, "boxed", boxed::answers_of(rt, alloc, [doubles, brings]))
 }
 
 // The tasks that wake one another, and those that are futures of the kit.
@@ -65,40 +80,36 @@ fn print_wakes<R>(rt: R, alloc: Global) -> io::Result<()>
 where
     R: Print + RandomSource + AllocGlobal + Wait + Threads + Drop + Copy + Send + Sync,
 {
-    println!(rt;
-        "timer: {:?}",
-        timer::ends_of(rt, alloc, [(8, 1), (3, 2), (5, 1)])
+    print(
+        rt,
+        "timer",
+        timer::ends_of(rt, alloc, [(8, 1), (3, 2), (5, 1)]),
     )?;
-    println!(rt; "channel: {:?}", channel::digits_up_to(rt, alloc, 5))?;
-    println!(rt; "pipeline: {:?}", pipeline::sum_of_squares(rt, alloc, 4))?;
-    println!(rt;
-        "kit_futures: {:?}",
-        kit_futures::joined(rt, alloc, [&[1, 2, 3], &[4, 5]])
+    print(rt, "channel", channel::digits_up_to(rt, alloc, 5))?;
+    print(rt, "pipeline", pipeline::sum_of_squares(rt, alloc, 4))?;
+    print(
+        rt,
+        "kit_futures",
+        kit_futures::joined(rt, alloc, [&[1, 2, 3], &[4, 5]]),
     )?;
-    println!(rt;
-        "kit_futures: {:?}",
-        kit_futures::selected(rt, alloc, [&[1, 2, 3], &[4, 5]])
+    print(
+        rt,
+        "kit_futures",
+        kit_futures::selected(rt, alloc, [&[1, 2, 3], &[4, 5]]),
     )?;
-    println!(rt; "kit_thread: {:?}", kit_thread::double_of(rt, alloc, 21))
+    print(rt, "kit_thread", kit_thread::double_of(rt, alloc, 21))
 }
 
 fn main(rt: HostRuntime) -> io::Result<()> {
     let alloc = rt.alloc();
     print_first(rt, alloc)?;
-    let place = Rc::new(alloc, Place::default())?;
-    let doubles: Box<dyn Step> = Box::new(alloc, Doubles(place.clone()?))?;
-    let brings: Box<dyn Step> = Box::new(alloc, Brings(21, place))?;
-    println!(rt;
-        "boxed: {:?}",
-        boxed::answers_of(rt, alloc, [doubles, brings])
-    )?;
+    print_boxed(rt, alloc)?;
     print_wakes(rt, alloc)?;
     // A pool of two workers: this thread is one, and waits for two tasks.
     let pool = JobPool::new(rt, alloc, 2)?;
-    let mut sum = pooled::spawn_sum(&pool, 100)?;
-    let mut average = pooled::spawn_average(&pool, 9)?;
     let mut turns = pool.turns(0)?;
-    let (_, (sum, average)) = thread::join(
+    let (mut sum, mut average) = pooled::spawn_both(&pool, 100, 9)?;
+    let (_, answers) = thread::join(
         &rt,
         || pool.run(1).is_ok(),
         || {
@@ -108,5 +119,5 @@ fn main(rt: HostRuntime) -> io::Result<()> {
             (sum, average)
         },
     );
-    println!(rt; "pooled: {:?}", (sum, average))
+    print(rt, "pooled", answers)
 }

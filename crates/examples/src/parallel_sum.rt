@@ -4,17 +4,31 @@ ghost use Rattle.std.specs.Prelude.{⊤};
 
 use crate::borrowed::SumOf;
 use crate::last::DropsRunnables;
-use async_task::spawn;
+use async_task::{Runnable, spawn};
 use awaiters::Awaiter;
 use std::alloc::Global;
 use std::sync::Wait;
 use std::thread::{self, Threads};
 use task_group::TaskGroup;
 
+type Work<'x, R> = Runnable<R, SumOf<'x>, DropsRunnables, (), Awaiter<R>, ()>;
+
 type Sums<'x, R> = TaskGroup<R, SumOf<'x>, DropsRunnables, (), Awaiter<R>, ()>;
 
+// Spawns a task that sums a slice, and puts it into the group: its Runnable.
+fn spawn_into<'x, R: Wait + Drop + Copy>(
+    group: &mut Sums<'x, R>,
+    rt: R,
+    alloc: Global,
+    numbers: &'x [u64],
+) -> Option<Work<'x, R>> {
+    let (runnable, task) = spawn(rt, alloc, SumOf { numbers }, DropsRunnables, ()).ok()?;
+    group.push(task).ok()?;
+    Some(runnable)
+}
+
 // The sum of what both members of the group answer.
-fn total<R: Wait + Drop + Copy>(mut group: Sums<'_, R>) -> Option<u64> {
+fn total<R: Wait + Drop + Copy>(group: &mut Sums<'_, R>) -> Option<u64> {
     let mut total = 0u64;
     for _ in 0..2 {
         let ended = group.next().ok()??;
@@ -31,10 +45,8 @@ pub fn sum_in_two<R: Wait + Threads + Drop + Copy + Send + Sync>(
 ) -> Option<u64> {
     let (left, right) = numbers.split_at(numbers.len() / 2);
     let mut group: Sums<'_, R> = TaskGroup::new(rt, alloc, 2).ok()?;
-    let (first, left) = spawn(rt, alloc, SumOf { numbers: left }, DropsRunnables, ()).ok()?;
-    let (second, right) = spawn(rt, alloc, SumOf { numbers: right }, DropsRunnables, ()).ok()?;
-    group.push(left).ok()?;
-    group.push(right).ok()?;
+    let first = spawn_into(&mut group, rt, alloc, left)?;
+    let second = spawn_into(&mut group, rt, alloc, right)?;
     thread::join(&rt, move || first.run(), move || second.run());
-    total(group)
+    total(&mut group)
 }

@@ -113,19 +113,27 @@ fn run<R: Wait + Drop + Copy>(line: &Line<R, Stage, Pipes<R>>) {
     }
 }
 
+// The sum of the squares from 1 to this number, by three tasks of a line.
+fn sum_on<R: Wait + Drop + Copy>(
+    line: &Line<R, Stage, Pipes<R>>,
+    alloc: Global,
+    last: u64,
+) -> Option<u64> {
+    let mut sum = line.spawn(alloc, Stage::Sum(0))?;
+    line.spawn(alloc, Stage::Squares(None))?.detach();
+    line.spawn(alloc, Stage::Numbers(1, last))?.detach();
+    run(line);
+    match sum.poll(&Nobody) {
+        TaskPoll::Ready(Ok(sum)) => Some(sum),
+        _ => None,
+    }
+}
+
 /// The sum of the squares from 1 to this number, by three tasks. `None` where memory was refused.
 pub fn sum_of_squares<R: Wait + Drop + Copy>(rt: R, alloc: Global, last: u64) -> Option<u64> {
     let pipes = Pipes {
         numbers: Channel::new(alloc, 2).ok()?,
         squares: Channel::new(alloc, 1).ok()?,
     };
-    let line = Line::new(rt, alloc, pipes);
-    let mut sum = line.spawn(alloc, Stage::Sum(0))?;
-    line.spawn(alloc, Stage::Squares(None))?.detach();
-    line.spawn(alloc, Stage::Numbers(1, last))?.detach();
-    run(&line);
-    match sum.poll(&Nobody) {
-        TaskPoll::Ready(Ok(sum)) => Some(sum),
-        _ => None,
-    }
+    sum_on(&Line::new(rt, alloc, pipes), alloc, last)
 }

@@ -112,19 +112,23 @@ fn keep_sum<'x, R: Wait + Drop + Copy>(waker: &JobWaker<'x, R>, last: u64) -> Op
     Some(Places { own, awaited })
 }
 
-/// Spawns the sum of the numbers from 1 to the last one. An error says that there was no memory.
-pub fn spawn_sum<R: Wait + Drop + Copy>(
+fn spawn<R: Wait + Drop + Copy>(
     pool: &JobPool<R>,
-    last: u64,
+    job: Job<R>,
 ) -> Result<JobTask<'_, R>, AllocError> {
-    pool.spawn(sum_to(last)).ok().ok_or(AllocError)
+    pool.spawn(job).ok().ok_or(AllocError)
 }
 
-/// Spawns the average of these numbers. An error says that there was no memory.
-pub fn spawn_average<R: Wait + Drop + Copy>(
+/// Spawns the sum of the numbers from 1 to `last`, and the average of those from 1 to `of`. An error says that there was no memory.
+pub fn spawn_both<R: Wait + Drop + Copy>(
     pool: &JobPool<R>,
     last: u64,
-) -> Result<JobTask<'_, R>, AllocError> {
-    let average = Job::Average(Average { last, places: None });
-    pool.spawn(average).ok().ok_or(AllocError)
+    of: u64,
+) -> Result<(JobTask<'_, R>, JobTask<'_, R>), AllocError> {
+    let sum = spawn(pool, sum_to(last))?;
+    let average = Job::Average(Average {
+        last: of,
+        places: None,
+    });
+    Ok((sum, spawn(pool, average)?))
 }

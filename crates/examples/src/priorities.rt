@@ -71,6 +71,14 @@ impl<R: Wait + Drop + Copy> Executor<R> {
         runnable.run();
         Some(priority)
     }
+
+    // Spawns three tasks of these priorities: in what order they are run.
+    fn run_all(&self, alloc: Global, priorities: [u64; 3]) -> Option<[u64; 3]> {
+        for priority in priorities {
+            self.spawn(alloc, priority)?;
+        }
+        Some([self.run_next()?, self.run_next()?, self.run_next()?])
+    }
 }
 
 /// Spawns three tasks of these priorities: in what order they are run. `None` where there is no memory.
@@ -81,12 +89,5 @@ pub fn order_of<R: Wait + Drop + Copy>(
 ) -> Option<[u64; 3]> {
     let heap = Mutex::new(PriorityHeap::new(alloc, 3).ok()?);
     let executor = Executor { rt, heap };
-    for priority in priorities {
-        executor.spawn(alloc, priority)?;
-    }
-    Some([
-        executor.run_next()?,
-        executor.run_next()?,
-        executor.run_next()?,
-    ])
+    executor.run_all(alloc, priorities)
 }

@@ -90,11 +90,40 @@ fn run<R: Wait + Drop + Copy>(line: &Sleepers<R>) {
     }
 }
 
+// Spawns a task with a pause and how often it waits.
+fn spawn<R: Wait + Drop + Copy>(
+    line: &Sleepers<R>,
+    alloc: Global,
+    number: u64,
+    (pause, left): (u64, u64),
+) -> Option<LineTask<'_, R, Sleep, Timer<R>>> {
+    let future = Sleep {
+        number,
+        pause,
+        left,
+        deadline: 0,
+    };
+    line.spawn(alloc, future)
+}
+
 fn answer_of<R: Wait + Drop + Copy>(mut task: LineTask<'_, R, Sleep, Timer<R>>) -> Option<u64> {
     match task.poll(&Nobody) {
         TaskPoll::Ready(Ok(time)) => Some(time),
         _ => None,
     }
+}
+
+// Runs three tasks of a line: at what time each ends.
+fn ends_on<R: Wait + Drop + Copy>(
+    line: &Sleepers<R>,
+    alloc: Global,
+    pauses: [(u64, u64); 3],
+) -> Option<[u64; 3]> {
+    let first = spawn(line, alloc, 1, pauses[0])?;
+    let second = spawn(line, alloc, 2, pauses[1])?;
+    let third = spawn(line, alloc, 3, pauses[2])?;
+    run(line);
+    Some([answer_of(first)?, answer_of(second)?, answer_of(third)?])
 }
 
 /// Spawns three tasks, each with a pause and how often it waits: at what time each ends. `None` where memory was refused.
@@ -107,19 +136,5 @@ pub fn ends_of<R: Wait + Drop + Copy>(
         clock: AtomicU64::new(0),
         waiting: Mutex::new(BTreeMap::new(alloc)),
     };
-    let line = Line::new(rt, alloc, timer);
-    let spawned = |number: u64, (pause, left): (u64, u64)| {
-        let future = Sleep {
-            number,
-            pause,
-            left,
-            deadline: 0,
-        };
-        line.spawn(alloc, future)
-    };
-    let first = spawned(1, pauses[0])?;
-    let second = spawned(2, pauses[1])?;
-    let third = spawned(3, pauses[2])?;
-    run(&line);
-    Some([answer_of(first)?, answer_of(second)?, answer_of(third)?])
+    ends_on(&Line::new(rt, alloc, timer), alloc, pauses)
 }

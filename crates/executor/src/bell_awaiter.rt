@@ -24,9 +24,16 @@ pub(crate) enum Wakes<R: Wait + Drop + Copy> {
 }
 
 /// An awaiter of a pool. Its wake needs no memory. That of `new` and `of_kept` rings a bell: a worker looks once more for what is to be done. That of `of_mailbox` posts a number to a mailbox.
-#[derive(Drop)]
 pub struct BellAwaiter<R: Wait + Drop + Copy> {
     wakes: Wakes<R>,
+}
+
+impl<R: Wait + Drop + Copy> Drop for BellAwaiter<R> {
+    // As a derived drop, whose cases would stand in each function that drops an awaiter.
+    fn drop(self) {
+        let BellAwaiter { wakes } = self;
+        drop(wakes);
+    }
 }
 
 impl<R: Wait + Drop + Copy> BellAwaiter<R> {

@@ -33,7 +33,9 @@ pub fn place_for_waker<'x, R: Wait + Drop + Copy, F: Yields, A: Wake, B: Allocat
 ) -> Option<Key<R>> {
     let (pool, worker) = place;
     let key = pool.wakers.reserve(pool.rt, worker)?;
-    pool.mail.make_room(key.number()).ok()?;
+    if pool.mail.make_room(key.number()).is_err() {
+        return None;
+    }
     Some(key)
 }
 
@@ -51,7 +53,7 @@ pub fn keep_waker<'x, R: Wait + Drop + Copy, F: Yields, A: Wake, B: Allocator + 
     match pool.wakers.put(&pool.rt, key, clone.with_around(())) {
         Ok(before) => {
             if let Some(before) = before {
-                drop(before.with_around(place));
+                drop_waker(place, before);
             }
             if pool.is_shut_down() {
                 wake_kept(place, key.number());
@@ -59,7 +61,7 @@ pub fn keep_waker<'x, R: Wait + Drop + Copy, F: Yields, A: Wake, B: Allocator + 
             true
         }
         Err(clone) => {
-            drop(clone.with_around(place));
+            drop_waker(place, clone);
             false
         }
     }
@@ -114,7 +116,7 @@ pub fn keep_task<'x, R: Wait + Drop + Copy, F: Yields, A: Wake, B: Allocator + C
     match pool.tasks.put(&pool.rt, key, task.with_around(())) {
         Ok(before) => {
             if let Some(before) = before {
-                drop(before.with_around(place));
+                drop_task(place, before);
             }
             if pool.is_shut_down() {
                 drop_kept(place, key.number());
@@ -168,31 +170,29 @@ pub fn await_kept<'x, R: Wait + Drop + Copy, F: Yields, B: Allocator + Copy>(
 pub fn collect<'x, R: Wait + Drop + Copy, F: Yields, A: Wake, B: Allocator + Copy>(
     place: Place<'x, R, F, A, B>,
 ) {
-    collect_tasks(place);
-    collect_wakers(place);
-}
-
-fn collect_wakers<'x, R: Wait + Drop + Copy, F: Yields, A: Wake, B: Allocator + Copy>(
-    place: Place<'x, R, F, A, B>,
-) {
     let pool = place.0;
     for _ in pool.rt.forever() {
-        match pool.wakers.collect(&pool.rt) {
-            Some(waker) => drop(waker.with_around(place)),
-            None => return,
+        if !collect_one(place) {
+            return;
         }
     }
 }
 
-fn collect_tasks<'x, R: Wait + Drop + Copy, F: Yields, A: Wake, B: Allocator + Copy>(
+// Drops a Task, or else a waker, that is left at the place of a key that was dropped. False where there is none.
+fn collect_one<'x, R: Wait + Drop + Copy, F: Yields, A: Wake, B: Allocator + Copy>(
     place: Place<'x, R, F, A, B>,
-) {
+) -> bool {
     let pool = place.0;
-    for _ in pool.rt.forever() {
-        match pool.tasks.collect(&pool.rt) {
-            Some(task) => drop(task.with_around(place)),
-            None => return,
+    if let Some(task) = pool.tasks.collect(&pool.rt) {
+        drop_task(place, task);
+        return true;
+    }
+    match pool.wakers.collect(&pool.rt) {
+        Some(waker) => {
+            drop_waker(place, waker);
+            true
         }
+        None => false,
     }
 }
 
@@ -202,43 +202,55 @@ fn drop_kept<'x, R: Wait + Drop + Copy, F: Yields, A: Wake, B: Allocator + Copy>
     number: usize,
 ) {
     if let Some(task) = place.0.tasks.take(&place.0.rt, number) {
-        drop(task.with_around(place));
+        drop_task(place, task);
     }
 }
 
-// Wakes all wakers that are kept: after the shutdown that cancels their tasks.
-fn wake_all<'x, R: Wait + Drop + Copy, F: Yields, A: Wake, B: Allocator + Copy>(
+fn drop_task<'x, R: Wait + Drop + Copy, F: Yields, A: Wake, B: Allocator + Copy>(
     place: Place<'x, R, F, A, B>,
+    task: KeptTask<R, F, A>,
 ) {
-    let pool = place.0;
-    let mut walk = Walk::default();
-    for _ in pool.rt.forever() {
-        match pool.wakers.take_next(&pool.rt, &mut walk) {
-            Some(waker) => waker.with_around(place).wake(),
-            None => return,
-        }
-    }
+    drop(task.with_around(place));
 }
 
-// Drops all Tasks that are kept, which cancels their tasks.
-fn drop_all<'x, R: Wait + Drop + Copy, F: Yields, A: Wake, B: Allocator + Copy>(
+fn drop_waker<'x, R: Wait + Drop + Copy, F: Yields, A: Wake, B: Allocator + Copy>(
     place: Place<'x, R, F, A, B>,
+    waker: KeptWaker<R, F, A>,
 ) {
+    drop(waker.with_around(place));
+}
+
+// Wakes the next waker that is kept, or else drops the next Task: after the shutdown that cancels its task. False where both walks are over.
+fn cancel_one<'x, R: Wait + Drop + Copy, F: Yields, A: Wake, B: Allocator + Copy>(
+    place: Place<'x, R, F, A, B>,
+    wakers: &mut Walk,
+    tasks: &mut Walk,
+) -> bool {
     let pool = place.0;
-    let mut walk = Walk::default();
-    for _ in pool.rt.forever() {
-        match pool.tasks.take_next(&pool.rt, &mut walk) {
-            Some(task) => drop(task.with_around(place)),
-            None => return,
+    if let Some(waker) = pool.wakers.take_next(&pool.rt, wakers) {
+        waker.with_around(place).wake();
+        return true;
+    }
+    match pool.tasks.take_next(&pool.rt, tasks) {
+        Some(task) => {
+            drop_task(place, task);
+            true
         }
+        None => false,
     }
 }
 
-// Cancels what is kept, after the shutdown.
+// Cancels what is kept, after the shutdown: all wakers are woken, and then all Tasks are dropped.
 pub(crate) fn cancel_kept<'x, R: Wait + Drop + Copy, F: Yields, A: Wake, B: Allocator + Copy>(
     place: Place<'x, R, F, A, B>,
 ) {
-    wake_all(place);
-    drop_all(place);
-    collect(place);
+    let pool = place.0;
+    let mut wakers = Walk::default();
+    let mut tasks = Walk::default();
+    for _ in pool.rt.forever() {
+        if !cancel_one(place, &mut wakers, &mut tasks) {
+            collect(place);
+            return;
+        }
+    }
 }

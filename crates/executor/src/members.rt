@@ -5,7 +5,7 @@ ghost use Rattle.task_group.specs.Members.{Leaves, SameMembers, IfNext, is_over}
 
 use crate::bell_awaiter::BellAwaiter;
 use crate::pool::{Place, PoolWaker, ToPool};
-use crate::turns::Turns;
+use crate::turns::{Turns, run_if_any};
 use async_task::{Future, Yields};
 use std::alloc::{Allocator, Global};
 use std::sync::Wait;
@@ -50,11 +50,11 @@ impl<'x, R: Wait + Drop + Copy, F: Yields, B: Allocator + Copy> Turns<'x, R, F, 
         }
         for _ in pool.rt.forever() {
             let interruptions = pool.bells().interruptions();
-            let ends = pool.is_shut_down();
-            if ends {
-                self.cancel_found();
-            }
-            group.listen(self.bell().ok_or(NextMemberError::Refused)?);
+            let ends = self.ends();
+            let Some(bell) = self.bell() else {
+                return Err(NextMemberError::Refused);
+            };
+            group.listen(bell);
             let next = group.try_next();
             if !matches!(next, Ok(None)) {
                 // What woke this worker may have been meant for a task that another one has to run now.
@@ -63,9 +63,7 @@ impl<'x, R: Wait + Drop + Copy, F: Yields, B: Allocator + Copy> Turns<'x, R, F, 
             match next {
                 Ok(None) if ends => return Err(NextMemberError::ShutDown),
                 Ok(None) => {
-                    if let Some(runnable) = self.take_turn(interruptions) {
-                        runnable.run();
-                    }
+                    run_if_any(self.take_turn(interruptions));
                 }
                 Ok(Some(ended)) => return Ok(Some(ended)),
                 Err(_) => return Err(NextMemberError::Refused),

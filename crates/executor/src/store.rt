@@ -25,11 +25,19 @@ struct Part<H> {
 }
 
 /// Handles by number. A future keeps the key, and what it waits for the number.
-#[derive(Drop)]
 pub struct Store<H> {
     parts: Vec<Part<H>>,
     // The parts that have slots to be freed, a bit for each.
     due: Arc<AtomicU64>,
+}
+
+impl<H: Drop> Drop for Store<H> {
+    // As a derived drop, which would stand field by field where a `Pool` is made.
+    fn drop(self) {
+        let Store { parts, due } = self;
+        drop(parts);
+        drop(due);
+    }
 }
 
 /// Where a walk over the places of a store stands: `Walk::default()` is its beginning.
@@ -66,6 +74,11 @@ impl<R: Wait + Drop + Copy> Key<R> {
     {
         self.number
     }
+}
+
+// Takes the handle out of a place, if there is one.
+fn take_out<H: Drop>(places: &mut Slab<Option<H>>, slot: usize) -> Option<H> {
+    places.get_mut(slot)?.take()
 }
 
 impl<H: Drop> Part<H> {
@@ -169,14 +182,14 @@ impl<H: Drop> Store<H> {
         if !part.knows(key) {
             return None;
         }
-        places.get_mut(slot_of(key.number))?.take()
+        take_out(&mut *places, slot_of(key.number))
     }
 
     /// Takes the handle out of the place of a number, if there is one. The place stays that of its key.
     pub fn take<R: Wait>(&self, rt: &R, number: usize) -> Option<H> {
         let part = self.parts.get(part_of(number))?;
         let mut places = part.places.lock(rt);
-        places.get_mut(slot_of(number))?.take()
+        take_out(&mut *places, slot_of(number))
     }
 
     /// Frees the places of keys that were dropped, up to one that has a handle, and answers that handle. `None` where no such key is left.
@@ -223,10 +236,7 @@ impl<H: Drop> Store<H> {
         }
         let slot = walk.slot;
         walk.slot = slot.saturating_add(1);
-        match places.get_mut(slot) {
-            Some(place) => Some(place.take()),
-            None => Some(None),
-        }
+        Some(take_out(&mut *places, slot))
     }
 
     /// How many places have a key, or are not collected yet.

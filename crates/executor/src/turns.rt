@@ -5,12 +5,14 @@ ghost use mathlib.Core.Option.{some};
 ghost use lib.ListN.{get_elem?};
 ghost use Rattle.task_steps.specs.Steps.{saw_ended};
 ghost use Rattle.task_cell.specs.Calls.{deeds};
+ghost use Rattle.task_cell.specs.PollPaths.{IfOutput};
+ghost use Rattle.async_task.specs.HandlePaths.{is_closed};
 
 use crate::bell_awaiter::BellAwaiter;
 use crate::kept::{collect, wake_posted};
 use crate::pool::{Place, Pool, PoolRunnable, PoolTask, PoolWaker, Queued};
 use crate::worker_bell::WorkerBell;
-use async_task::{Future, TaskPoll, Wake, Yields};
+use async_task::{Future, TaskClosed, TaskPoll, Wake, Yields};
 use std::alloc::{AllocError, Allocator, Global};
 use std::sync::{Arc, Wait};
 use work_queues::Worker;
@@ -111,13 +113,7 @@ impl<'x, R: Wait + Drop + Copy, F: Yields, A: Wake, B: Allocator + Copy> Turns<'
     where
         F: Future<PoolWaker<'x, R, F, A, B>>,
     {
-        match self.next() {
-            Some(runnable) => {
-                runnable.run();
-                true
-            }
-            None => false,
-        }
+        run_if_any(self.next())
     }
 
     /// Searches for a while, if no other worker does, and then sleeps, if no queue shows a Runnable, the pool was not shut down, and the bells counted no interruption since `interruptions`. It may also return for no reason. `take_turn` calls it where it is due.
@@ -150,8 +146,7 @@ impl<'x, R: Wait + Drop + Copy, F: Yields, A: Wake, B: Allocator + Copy> Turns<'
         let pool = self.pool;
         for _ in pool.rt.forever() {
             let interruptions = pool.bells().interruptions();
-            if pool.is_shut_down() {
-                self.cancel_found();
+            if self.ends() {
                 collect(self.place());
                 return None;
             }
@@ -169,18 +164,57 @@ impl<'x, R: Wait + Drop + Copy, F: Yields, A: Wake, B: Allocator + Copy> Turns<'
     {
         let pool = self.pool;
         for _ in pool.rt.forever() {
-            match self.await_next() {
-                Some(runnable) => {
-                    runnable.run();
-                }
-                None => return,
+            if !run_if_any(self.await_next()) {
+                return;
             }
         }
     }
 
-    // Drops the Runnables that this worker has in its hands, and those that it finds. A worker does it as it ends, since it may have moved Runnables
-    // past the shutdown.
-    pub(crate) fn cancel_found(&mut self) {
+    // Takes turns until a Task has an answer. `Pending` says that the pool was shut down before.
+    fn await_answer(
+        &mut self,
+        task: &mut PoolTask<'x, R, F, A, B>,
+        awaiter: &A,
+    ) -> TaskPoll<Result<F::Output, TaskClosed>>
+    where
+        F: Future<PoolWaker<'x, R, F, A, B>>,
+        ensures meets { IfOutput result (λ output. ∥ F.Yields.meets output ∥₁) }
+        ensures closed { is_closed result ≡ true → saw_ended (deeds task.new.inner.party) ≡ true }
+        ensures ended { saw_ended (deeds task.old.inner.party) ≡ true → is_closed result ≡ true }
+        ensures cell { task.new.inner.share ≡ task.old.inner.share }
+        ensures around { task.new.around ≡ task.old.around }
+    {
+        let pool = self.pool;
+        for _ in pool.rt.forever() {
+            let interruptions = pool.bells().interruptions();
+            let answer = task.poll(awaiter);
+            let ends = self.ends();
+            match answer {
+                TaskPoll::Pending if ends => return answer,
+                TaskPoll::Pending => {
+                    run_if_any(self.take_turn(interruptions));
+                }
+                answer => {
+                    // What woke this worker may have been meant for a task that another one has to run now.
+                    pool.bells().interrupt();
+                    return answer;
+                }
+            }
+        }
+        unreachable!()
+    }
+
+    // Whether the pool was shut down. Then this worker cancels what it finds: it may have moved Runnables past the shutdown.
+    pub(crate) fn ends(&mut self) -> bool {
+        let ends = self.pool.is_shut_down();
+        if ends {
+            self.cancel_found();
+        }
+        ends
+    }
+
+    // Drops the Runnables that this worker has in its hands, and those that it finds.
+    fn cancel_found(&mut self) {
         let pool = self.pool;
         for _ in pool.rt.forever() {
             match self.next() {
@@ -188,6 +222,22 @@ impl<'x, R: Wait + Drop + Copy, F: Yields, A: Wake, B: Allocator + Copy> Turns<'
                 None => return,
             }
         }
+    }
+}
+
+// Runs the task of a Runnable, where there is one.
+pub(crate) fn run_if_any<'x, R: Wait + Drop + Copy, F: Yields, A: Wake, B: Allocator + Copy>(
+    runnable: Option<PoolRunnable<'x, R, F, A, B>>,
+) -> bool
+where
+    F: Future<PoolWaker<'x, R, F, A, B>>,
+{
+    match runnable {
+        Some(runnable) => {
+            runnable.run();
+            true
+        }
+        None => false,
     }
 }
 
@@ -207,31 +257,15 @@ impl<'x, R: Wait + Drop + Copy, F: Yields, B: Allocator + Copy> Turns<'x, R, F, 
         ensures cell { task.new.inner.share ≡ task.old.inner.share }
         ensures around { task.new.around ≡ task.old.around }
     {
-        let pool = self.pool;
-        let awaiter = BellAwaiter::new(pool, self.worker.number()).ok_or(BlockOnError::Refused)?;
-        for _ in pool.rt.forever() {
-            let interruptions = pool.bells().interruptions();
-            let answer = task.poll(&awaiter);
-            let ends = pool.is_shut_down();
-            if ends {
-                self.cancel_found();
-            }
-            if !matches!(answer, TaskPoll::Pending) {
-                // What woke this worker may have been meant for a task that another one has to run now.
-                pool.bells().interrupt();
-            }
-            match answer {
-                TaskPoll::Ready(Ok(output)) => return Ok(output),
-                TaskPoll::Ready(Err(_)) => return Err(BlockOnError::Closed),
-                TaskPoll::Refused => return Err(BlockOnError::Refused),
-                TaskPoll::Pending if ends => return Err(BlockOnError::ShutDown),
-                TaskPoll::Pending => {
-                    if let Some(runnable) = self.take_turn(interruptions) {
-                        runnable.run();
-                    }
-                }
-            }
+        let answer = match BellAwaiter::new(self.pool, self.worker.number()) {
+            Some(awaiter) => self.await_answer(task, &awaiter),
+            None => TaskPoll::Refused,
+        };
+        match answer {
+            TaskPoll::Ready(Ok(output)) => Ok(output),
+            TaskPoll::Ready(Err(_)) => Err(BlockOnError::Closed),
+            TaskPoll::Refused => Err(BlockOnError::Refused),
+            TaskPoll::Pending => Err(BlockOnError::ShutDown),
         }
-        unreachable!()
     }
 }

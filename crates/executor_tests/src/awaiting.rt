@@ -9,5 +9,6 @@ mod line;
 mod listener_tests;
 mod mailbox_tests;
 mod nobody_tests;
+mod number;
 mod refused_tests;
 mod spawn_tests;

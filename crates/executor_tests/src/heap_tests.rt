@@ -152,16 +152,17 @@ fn poll_in_full_heap<R: Wait + Abort + Drop + Copy>(
     let mut cancel = last.cancel();
     let filling = tray::fill(rt, alloc, heap);
     let used = heap.used();
-    let task_waits = tray::is_pending(&mut task, flag);
-    let fallible_waits = tray::is_fallible_pending(&mut fallible, flag);
-    let cancel_waits = tray::is_cancel_pending(&mut cancel, flag);
+    let [task_waits, fallible_waits, cancel_waits] = tray::are_pending(
+        &mut task,
+        &mut fallible,
+        &mut cancel,
+        flag,
+    );
     let is_same = heap.used() == used;
     tray::run(first);
     tray::drop_runnable(second);
     tray::run(third);
-    let task_ends = tray::ends_ready(task, flag, 1);
-    let fallible_ends = tray::ends_fallible(fallible, flag);
-    let cancel_ends = tray::ends_cancel(cancel, flag);
+    let [task_ends, fallible_ends, cancel_ends] = tray::are_ready(task, fallible, cancel, flag, 1);
     drop(filling);
     let seen = [
         (task_waits, task_ends),

@@ -22,18 +22,12 @@ const TOO_MUCH: usize = usize::MAX;
 
 // An empty queue with that room. Stops where there is no memory.
 fn queue_of<R: Wait + Abort + Drop + Copy>(fixture: &Fixture<R>, room: usize) -> PriorityQueue<R> {
-    match fixture.priorities(room) {
-        Ok(queue) => queue,
-        Err(_) => panic!(fixture.rt; "no memory"),
-    }
+    granted(&fixture.rt, fixture.priorities(room))
 }
 
 // An empty heap with that room. Stops where there is no memory.
 fn heap_of<R: Wait + Abort + Drop + Copy>(rt: R, alloc: Global, room: usize) -> Heap<R> {
-    match PriorityHeap::new(alloc, room) {
-        Ok(heap) => heap,
-        Err(_) => panic!(rt; "no memory"),
-    }
+    granted(&rt, PriorityHeap::new(alloc, room))
 }
 
 // Spawns a task of that priority. Stops where there is no memory.
@@ -42,10 +36,8 @@ fn spawn<'x, R: Wait + Abort + Drop + Copy>(
     queue: &'x PriorityQueue<R>,
     priority: u64,
 ) -> (PriorityRunnable<'x, R>, PriorityTask<'x, R>) {
-    match fixture.spawn_prior(queue, priority, Behaviour::Ready(priority)) {
-        Ok(handles) => handles,
-        Err(_) => panic!(fixture.rt; "no memory"),
-    }
+    let spawned = fixture.spawn_prior(queue, priority, Behaviour::Ready(priority));
+    granted(&fixture.rt, spawned)
 }
 
 // A Runnable of that priority, whose Task was detached.
@@ -97,23 +89,20 @@ fn pop<R: Wait + Drop>(heap: &mut Heap<R>) -> Option<u64> {
     }
 }
 
-// Whether there is no heap with that room.
-fn refuses_heap<R: Wait + Drop>(_rt: R, alloc: Global, room: usize) -> bool {
-    let made: Result<Heap<R>, AllocError> = PriorityHeap::new(alloc, room);
-    made.is_err()
+// Takes one more Runnable out, and drops the heap and the queue: its priority.
+fn pop_last<R: Wait + Drop>(_queue: PriorityQueue<R>, mut heap: Heap<R>) -> Option<u64> {
+    pop(&mut heap)
 }
 
-// Whether there is no queue with that room.
-fn refuses_queue<R: Wait + Drop>(rt: R, alloc: Global, room: usize) -> bool {
-    PriorityQueue::new(rt, alloc, room).is_err()
+// Whether there is no heap with that room, and whether there is no queue.
+fn refuses<R: Wait + Drop>(rt: R, alloc: Global, room: usize) -> [bool; 2] {
+    let made: Result<Heap<R>, AllocError> = PriorityHeap::new(alloc, room);
+    [made.is_err(), PriorityQueue::new(rt, alloc, room).is_err()]
 }
 
 #[test]
 fn new_is_refused_for_memory(rt: HostRuntime) {
-    let refused = [
-        refuses_heap(rt, rt.alloc(), TOO_MUCH),
-        refuses_queue(rt, rt.alloc(), TOO_MUCH),
-    ];
+    let refused = refuses(rt, rt.alloc(), TOO_MUCH);
     assert!(rt; refused == [true; 2]);
 }
 
@@ -169,7 +158,7 @@ fn push_and_pop<R: Wait + Abort + Drop + Copy>(
     let kept = push_all(&mut heap, fixture, &queue, priorities);
     priorities.sort_unstable();
     let right = pop_all(&mut heap, priorities);
-    (kept, right, pop(&mut heap))
+    (kept, right, pop_last(queue, heap))
 }
 
 #[test]
@@ -196,10 +185,9 @@ fn fill_heap_of_two<R: Wait + Abort + Drop + Copy>(
     let fifth = push(&mut heap, &fixture, &queue, 4);
     let next = pop(&mut heap);
     let least = pop(&mut heap);
-    let none = pop(&mut heap);
     (
         [first, second, third, fourth, fifth],
-        [largest, next, least, none],
+        [largest, next, least, pop_last(queue, heap)],
     )
 }
 
@@ -217,7 +205,7 @@ fn push_without_room<R: Wait + Abort + Drop + Copy>(rt: R, alloc: Global) -> [Op
     let mut heap = heap_of(rt, alloc, 0);
     let before = pop(&mut heap);
     let pushed = push(&mut heap, &fixture, &queue, 1);
-    [before, pushed, pop(&mut heap)]
+    [before, pushed, pop_last(queue, heap)]
 }
 
 #[test]

@@ -2,6 +2,7 @@
 ghost use Rattle.std.specs.Prelude.{⊤};
 
 use crate::calls;
+use crate::granted::granted;
 use async_task::{
     Builder, Future, Poll, Runnable, Schedule, ScheduleInfo, SpawnError, Task, TaskPoll, TaskWaker,
     Yields, spawn,
@@ -127,7 +128,7 @@ fn is_four<R: Wait + Drop>(
     is_ready
 }
 
-// Whether a task of that future and schedule value, over a heap with room, comes to its output 4.
+// Whether a task of that future and schedule value, over a heap with room, comes to its output 4. Stops where it is refused.
 fn succeeds<R: Wait + Abort + Drop + Copy>(
     rt: R,
     alloc: Global,
@@ -137,9 +138,8 @@ fn succeeds<R: Wait + Abort + Drop + Copy>(
     let flag = calls::flag(rt, alloc, 1);
     let heap = calls::heap(rt, alloc, HEAP);
     let refused_clones = Counter::new();
-    let Ok((runnable, task)) = spawn(rt, &heap, future, schedule, &refused_clones) else {
-        return false;
-    };
+    let spawned = spawn(rt, &heap, future, schedule, &refused_clones);
+    let (runnable, task) = granted(&rt, spawned);
     let is_ready = is_four(runnable, task, &flag);
     is_ready && heap.used() == 0 && refused_clones.get() == 0
 }
@@ -196,8 +196,8 @@ fn spawn_in<R: Wait + Abort + Drop + Copy>(rt: R, alloc: Global, blocks: u16) ->
 // dropped, must have freed what it took, and must succeed with them where there is room.
 fn refused_spawn<R: Wait + Abort + Drop + Copy>(rt: R, alloc: Global, blocks: u16) -> Option<u64> {
     match spawn_in(rt, alloc, blocks) {
-        Ok(granted) => {
-            assert!(rt; granted == (4, 0));
+        Ok(all_granted) => {
+            assert!(rt; all_granted == (4, 0));
             None
         }
         Err((requests, left, again, last)) => {
@@ -315,8 +315,8 @@ fn use_builder<R: Wait + Abort + Drop + Copy, G: FnOnce(&u64) -> WideFuture>(
 // The request that was refused, or `None` where all were granted, by the fourth.
 fn refused_build<R: Wait + Abort + Drop + Copy>(rt: R, alloc: Global, blocks: u16) -> Option<u64> {
     match build_in(rt, alloc, blocks) {
-        Ok(granted) => {
-            assert!(rt; granted == (4, 1, 0));
+        Ok(all_granted) => {
+            assert!(rt; all_granted == (4, 1, 0));
             None
         }
         Err((requests, left, again, last)) => {
@@ -352,10 +352,7 @@ fn spawn_limited<'x, 'heap, R: Wait + Abort + Drop + Copy>(
     let future = WideFuture::new(rt, Behaviour::Pending, counters);
     let schedule = WideScheduler::new(rt, counters);
     let builder = Builder::new().reference_limit(2);
-    match builder.spawn(rt, heap, |_| future, schedule, around) {
-        Ok(handles) => handles,
-        Err(_) => panic!(rt; "the heap has room"),
-    }
+    granted(&rt, builder.spawn(rt, heap, |_| future, schedule, around))
 }
 
 // A waker of a Runnable. Stops where it is refused.

@@ -1,6 +1,7 @@
 //! A test of a schedule value that keeps the last Runnable in a slot before its list.
 ghost use Rattle.std.specs.Prelude.{⊤};
 
+use crate::granted::granted;
 use async_task::{
     Builder, Future, ParkedRunnable, Poll, Runnable, Schedule, ScheduleInfo, Task, TaskWaker,
     WithInfo, Yields,
@@ -42,6 +43,11 @@ type SlotWaker<'x, R> = TaskWaker<R, Yielding, WithInfo<LastFirst>, u64, Flag, &
 
 type SlotParked<R> = ParkedRunnable<R, Yielding, WithInfo<LastFirst>, u64, Flag>;
 
+// A parked handle cannot be dropped: it is unparked first.
+fn drop_parked<R: Wait + Drop>(parked: SlotParked<R>) {
+    drop(parked.unpark(()));
+}
+
 // A slot of one Runnable, and the list beside it.
 struct Slots<R: Wait + Drop> {
     rt: R,
@@ -62,7 +68,7 @@ impl<R: Wait + Drop> Slots<R> {
     fn push_back(&self, parked: SlotParked<R>) {
         let pushed = self.list.lock(&self.rt).push_back(parked);
         if let Err(refused) = pushed {
-            drop(refused.value.unpark(()));
+            drop_parked(refused.value);
         }
     }
 
@@ -105,16 +111,15 @@ impl<R: Wait + Drop> Slots<R> {
     }
 }
 
-// A parked handle cannot be dropped: what is left is unparked first.
 impl<R: Wait + Drop> Drop for Slots<R> {
     fn drop(self) {
         let Slots { rt, slot, list } = self;
         if let Some(parked) = slot.into_inner() {
-            drop(parked.unpark(()));
+            drop_parked(parked);
         }
         let mut list = list.into_inner();
         while let Some(parked) = list.pop_front() {
-            drop(parked.unpark(()));
+            drop_parked(parked);
         }
         list.destroy_empty();
         drop(rt);
@@ -145,9 +150,7 @@ fn spawn_scheduled<R: Wait + Abort + Drop + Copy>(
     let spawned = Builder::new()
         .metadata(number)
         .spawn(rt, alloc, |_| Yielding, schedule, slots);
-    let Ok((runnable, task)) = spawned else {
-        panic!(rt; "no memory");
-    };
+    let (runnable, task) = granted(&rt, spawned);
     runnable.schedule();
     task
 }

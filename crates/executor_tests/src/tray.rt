@@ -3,6 +3,7 @@ ghost use Rattle.std.specs.Prelude.{⊤};
 ghost use Rattle.counted_values.specs.Behaviour.{IsPolled};
 
 use crate::calls;
+use crate::granted::granted;
 use async_task::{
     Builder, Cancel, FallibleTask, Future, ParkedRunnable, Poll, Runnable, Schedule, ScheduleInfo,
     Task, TaskPoll, TaskWaker, Yields,
@@ -107,7 +108,7 @@ impl<'heap, R: Wait + Drop> Tray<'heap, R> {
             mem::replace(&mut *held, Some(parked))
         };
         if let Some(previous) = previous {
-            drop(previous.unpark(()));
+            drop_parked(previous);
         }
     }
 
@@ -130,12 +131,16 @@ impl<'heap, R: Wait + Drop> Tray<'heap, R> {
     }
 }
 
-// A parked handle cannot be dropped: one that is left is unparked first.
+// A parked handle cannot be dropped: it is unparked first.
+fn drop_parked<R: Wait + Drop>(parked: TrayParked<'_, R>) {
+    drop(parked.unpark(()));
+}
+
 impl<'heap, R: Wait + Drop> Drop for Tray<'heap, R> {
     fn drop(self) {
         let Tray { rt, held } = self;
         if let Some(parked) = held.into_inner() {
-            drop(parked.unpark(()));
+            drop_parked(parked);
         }
         drop(rt);
     }
@@ -187,9 +192,7 @@ pub fn fill<R: Abort + Drop + Copy>(rt: R, alloc: Global, heap: &LocalHeap) -> F
         let Ok(block) = Vec::with_capacity(heap, 1) else {
             return filling;
         };
-        if filling.push(block).is_err() {
-            panic!(rt; "no memory");
-        }
+        granted(&rt, filling.push(block));
     }
     panic!(rt; "the heap is larger than it was made")
 }
@@ -210,10 +213,7 @@ pub fn spawn_in<'x, 'heap, R: Wait + Abort + Drop + Copy>(
     let spawned = Builder::new()
         .metadata(7)
         .spawn(tray.rt, heap, |_| future, scheduler, tray);
-    match spawned {
-        Ok(handles) => handles,
-        Err(_) => panic!(tray.rt; "a spawn was refused"),
-    }
+    granted(&tray.rt, spawned)
 }
 
 /// Runs: what the run answers.
@@ -256,44 +256,33 @@ pub fn detach<R: Wait + Drop>(task: TrayTask<'_, '_, R>, counters: &Counters) ->
     counters.counts()
 }
 
-/// Polls a Task: whether it is pending.
-pub fn is_pending<R: Wait + Drop>(task: &mut TrayTask<'_, '_, R>, awaiter: &Flag) -> bool {
-    matches!(task.poll(awaiter), TaskPoll::Pending)
-}
-
-/// Polls a Task, and drops it: whether it was ready with that number.
-pub fn ends_ready<R: Wait + Drop>(
-    mut task: TrayTask<'_, '_, R>,
-    awaiter: &Flag,
-    number: u64,
-) -> bool {
-    is_ready_with(&task.poll(awaiter), number)
-}
-
-/// Polls a FallibleTask: whether it is pending.
-pub fn is_fallible_pending<R: Wait + Drop>(
-    task: &mut TrayFallible<'_, '_, R>,
-    awaiter: &Flag,
-) -> bool {
-    matches!(task.poll(awaiter), TaskPoll::Pending)
-}
-
-/// Polls a FallibleTask, and drops it: whether it was ready without an output.
-pub fn ends_fallible<R: Wait + Drop>(mut task: TrayFallible<'_, '_, R>, awaiter: &Flag) -> bool {
-    matches!(task.poll(awaiter), TaskPoll::Ready(None))
-}
-
-/// Polls a Cancel: whether it is pending.
-pub fn is_cancel_pending<R: Wait + Drop>(
+/// Polls each of the three handles that await a task: whether it is pending.
+pub fn are_pending<R: Wait + Drop>(
+    task: &mut TrayTask<'_, '_, R>,
+    fallible: &mut TrayFallible<'_, '_, R>,
     cancel: &mut TrayCancel<'_, '_, R>,
     awaiter: &Flag,
-) -> bool {
-    matches!(cancel.poll(awaiter), TaskPoll::Pending)
+) -> [bool; 3] {
+    [
+        matches!(task.poll(awaiter), TaskPoll::Pending),
+        matches!(fallible.poll(awaiter), TaskPoll::Pending),
+        matches!(cancel.poll(awaiter), TaskPoll::Pending),
+    ]
 }
 
-/// Polls a Cancel, and drops it: whether it was ready without an output.
-pub fn ends_cancel<R: Wait + Drop>(mut cancel: TrayCancel<'_, '_, R>, awaiter: &Flag) -> bool {
-    matches!(cancel.poll(awaiter), TaskPoll::Ready(None))
+/// Polls each of the three, and drops it: whether the Task was ready with that number, and each of the others without an output.
+pub fn are_ready<R: Wait + Drop>(
+    mut task: TrayTask<'_, '_, R>,
+    mut fallible: TrayFallible<'_, '_, R>,
+    mut cancel: TrayCancel<'_, '_, R>,
+    awaiter: &Flag,
+    number: u64,
+) -> [bool; 3] {
+    [
+        is_ready_with(&task.poll(awaiter), number),
+        matches!(fallible.poll(awaiter), TaskPoll::Ready(None)),
+        matches!(cancel.poll(awaiter), TaskPoll::Ready(None)),
+    ]
 }
 
 /// Drops a Task.

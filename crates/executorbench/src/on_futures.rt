@@ -1,5 +1,6 @@
 //! The lines on the `TaskSet` of the kit's `futures`.
 
+use crate::group::measured_of;
 use crate::kit_tasks::{Job, Row};
 use bench_report::failure::Failure;
 use bench_report::lines::{Line, Size};
@@ -27,37 +28,70 @@ where
     R: Clock + Files + RandomSource + AllocGlobal + Threads + Wait + Drop + Copy + Send + Sync,
 {
     if line == Line::Group {
-        await_group(rt, alloc, size)
+        let tasks = TaskSet::new(&rt, Doorbell::parking(), size.threads)?;
+        await_group(&rt, alloc, &tasks, size)
     } else {
-        run(rt, alloc, line, size)
+        let tasks = TaskSet::new(&rt, Doorbell::parking(), size.threads)?;
+        let course = Course::new(&rt, alloc, line, size)?;
+        run(&rt, alloc, &tasks, &course, size.threads)
     }
 }
 
-// Spawns all tasks of a line, has the threads run them, and measures it.
-fn run<R>(rt: R, alloc: Global, line: Line, size: Size) -> Result<Measured, Failure>
+// What the measurement of a line needs beside the set.
+#[derive(Drop)]
+struct Course {
+    line: Line,
+    tally: Arc<Tally>,
+    row: Arc<Row>,
+    start: Start,
+}
+
+impl Course {
+    // It starts at the end of this call.
+    fn new<R: Clock + Files>(
+        rt: &R,
+        alloc: Global,
+        line: Line,
+        size: Size,
+    ) -> Result<Course, Failure> {
+        let tally = Tally::new(alloc, size.tasks)?;
+        let row = Row::new(alloc, &tally, line == Line::Chain)?;
+        let start = Start::new(rt, alloc)?;
+        Ok(Course {
+            line,
+            tally,
+            row,
+            start,
+        })
+    }
+}
+
+// Spawns all tasks of a line, has so many threads run them, and measures it.
+fn run<R>(
+    rt: &R,
+    alloc: Global,
+    tasks: &TaskSet<Job>,
+    course: &Course,
+    threads: usize,
+) -> Result<Measured, Failure>
 where
     R: Clock + Files + RandomSource + AllocGlobal + Threads + Wait + Drop + Copy + Send + Sync,
 {
-    let tally = Tally::new(alloc, size.tasks)?;
-    let row = Row::new(alloc, &tally, line == Line::Chain)?;
-    let tasks = TaskSet::new(&rt, Doorbell::parking(), size.threads)?;
-    let start = Start::new(&rt, alloc)?;
-    if line.is_row() {
-        spawn_row(alloc, &tasks, &row)?;
+    if course.line.is_row() {
+        spawn_row(alloc, tasks, &course.row)?;
     } else {
-        spawn_jobs(&tasks, &tally, line.yields())?;
+        spawn_jobs(tasks, &course.tally, course.line.yields())?;
     }
-    let grown = start.grown(&rt, alloc);
-    let hands_over = line == Line::Handoff;
+    let grown = course.start.grown(rt, alloc);
     let (elapsed, ()) = thread::join(
-        &rt,
+        rt,
         || {
-            work(&rt, alloc, &tasks, size.threads);
-            start.elapsed(&rt)
+            work(rt, alloc, tasks, threads);
+            course.start.elapsed(rt)
         },
-        || oversee(&rt, &tasks, &tally, &row, hands_over),
+        || oversee(rt, tasks, course),
     );
-    Measured::new(&tally, elapsed?, grown)
+    Measured::new(&course.tally, elapsed?, grown)
 }
 
 // Runs the tasks of a set on so many threads, until none is left.
@@ -92,49 +126,48 @@ fn spawn_row(alloc: Global, tasks: &TaskSet<Job>, row: &Arc<Row>) -> Result<(), 
 }
 
 // Wakes the tasks of the row where it hands over, and ends the set where a task is lost.
-fn oversee<R: Clock + Wait>(
-    rt: &R,
-    tasks: &TaskSet<Job>,
-    tally: &Tally,
-    row: &Row,
-    hands_over: bool,
-) {
-    if hands_over {
-        for at in 0..row.len() {
-            row.wake(at);
-            if !tally.passes(at as u64) {
-                break;
-            }
-        }
+fn oversee<R: Clock + Wait>(rt: &R, tasks: &TaskSet<Job>, course: &Course) {
+    if course.line == Line::Handoff {
+        hand_over(&course.tally, &course.row);
     }
-    if !tally.wait(rt) {
+    if !course.tally.wait(rt) {
         tasks.shut_down();
     }
 }
 
+// Wakes the tasks of a row one after the other, each once the one before it has ended.
+fn hand_over(tally: &Tally, row: &Row) {
+    for at in 0..row.len() {
+        row.wake(at);
+        if !tally.passes(at as u64) {
+            return;
+        }
+    }
+}
+
 // As `run`, of tasks that are ready at once, whose outputs this thread awaits in one set while the threads run them.
-fn await_group<R>(rt: R, alloc: Global, size: Size) -> Result<Measured, Failure>
+fn await_group<R>(
+    rt: &R,
+    alloc: Global,
+    tasks: &TaskSet<RemoteJob>,
+    size: Size,
+) -> Result<Measured, Failure>
 where
     R: Clock + Files + RandomSource + AllocGlobal + Threads + Wait + Drop + Copy + Send + Sync,
 {
     let tally = Tally::new(alloc, size.tasks)?;
-    let tasks = TaskSet::new(&rt, Doorbell::parking(), size.threads)?;
-    let start = Start::new(&rt, alloc)?;
-    let handles = spawn_remote(alloc, &tasks, &tally)?;
-    let grown = start.grown(&rt, alloc);
+    let start = Start::new(rt, alloc)?;
+    let handles = spawn_remote(alloc, tasks, &tally)?;
+    let grown = start.grown(rt, alloc);
     let ((), (elapsed, answered)) = thread::join(
-        &rt,
-        || work(&rt, alloc, &tasks, size.threads),
+        rt,
+        || work(rt, alloc, tasks, size.threads),
         || {
-            let answered = answers_of(&rt, alloc, &tasks, &tally, handles);
-            (start.elapsed(&rt), answered)
+            let answered = answers_of(rt, alloc, tasks, &tally, handles);
+            (start.elapsed(rt), answered)
         },
     );
-    let answered = answered?;
-    if answered != size.tasks {
-        return Err(Failure::Unanswered(answered, size.tasks));
-    }
-    Measured::new(&tally, elapsed?, grown)
+    measured_of(&tally, elapsed, answered?, grown)
 }
 
 // Spawns jobs, and puts what gives their outputs into one set.

@@ -1,11 +1,12 @@
 //! The lines on the pool of `executor`.
 
+use crate::group::measured_of;
 use crate::pool_tasks::{Job, Row};
 use awaiters::Awaiter;
 use bench_report::failure::Failure;
 use bench_report::lines::{Line, Size};
 use bench_report::tally::{Measured, Start, Tally};
-use executor::{Place, Pool, PoolTask, ToPool};
+use executor::{Place, Pool, ToPool};
 use std::alloc::Global;
 use std::fs::Files;
 use std::rt::Clock;
@@ -46,9 +47,10 @@ where
     requires { W.IsAlwaysCallable worker.now }
 {
     if line == Line::Group {
-        await_group(rt, alloc, pool, size, worker)
+        await_group(&rt, alloc, pool, size, worker)
     } else {
-        run(rt, alloc, pool, line, size, worker)
+        let course = Course::new(&rt, alloc, line, size)?;
+        run(&rt, alloc, pool, &course, worker)
     }
 }
 
@@ -62,13 +64,41 @@ where
     drop(thread::map_indices(rt, alloc, workers, worker));
 }
 
+// What the measurement of a line needs beside the pool.
+#[derive(Drop)]
+struct Course {
+    line: Line,
+    tally: Arc<Tally>,
+    row: Arc<Row>,
+    start: Start,
+}
+
+impl Course {
+    // It starts at the end of this call.
+    fn new<R: Clock + Files>(
+        rt: &R,
+        alloc: Global,
+        line: Line,
+        size: Size,
+    ) -> Result<Course, Failure> {
+        let tally = Tally::new(alloc, size.tasks)?;
+        let row = Row::new(alloc, &tally, line == Line::Chain)?;
+        let start = Start::new(rt, alloc)?;
+        Ok(Course {
+            line,
+            tally,
+            row,
+            start,
+        })
+    }
+}
+
 // Spawns all tasks of a line, has the workers run them, and measures it.
 fn run<R, W>(
-    rt: R,
+    rt: &R,
     alloc: Global,
     pool: &JobPool<R>,
-    line: Line,
-    size: Size,
+    course: &Course,
     worker: &W,
 ) -> Result<Measured, Failure>
 where
@@ -76,27 +106,23 @@ where
     W: Fn(usize) -> bool + Sync,
     requires { W.IsAlwaysCallable worker.now }
 {
-    let tally = Tally::new(alloc, size.tasks)?;
-    let row = Row::new(alloc, &tally, line == Line::Chain)?;
-    let start = Start::new(&rt, alloc)?;
-    if line.is_row() {
-        spawn_row(alloc, pool, &row)?;
+    if course.line.is_row() {
+        spawn_row(alloc, pool, &course.row)?;
     } else {
-        spawn_jobs(pool, &tally, line.yields())?;
+        spawn_jobs(pool, &course.tally, course.line.yields())?;
     }
-    let grown = start.grown(&rt, alloc);
-    let hands_over = line == Line::Handoff;
+    let grown = course.start.grown(rt, alloc);
     let (elapsed, ()) = thread::join(
-        &rt,
+        rt,
         ||
             requires { W.IsAlwaysCallable worker.now }
         {
-            work(&rt, alloc, pool.workers(), worker);
-            start.elapsed(&rt)
+            work(rt, alloc, pool.workers(), worker);
+            course.start.elapsed(rt)
         },
-        || oversee(&rt, pool, &tally, &row, hands_over),
+        || oversee(rt, pool, course),
     );
-    Measured::new(&tally, elapsed?, grown)
+    Measured::new(&course.tally, elapsed?, grown)
 }
 
 // Spawns jobs that give way so often.
@@ -106,18 +132,17 @@ fn spawn_jobs<R: Wait + Drop + Copy>(
     left: u64,
 ) -> Result<(), Failure> {
     for _ in 0..tally.wanted() {
-        spawn_job(pool, tally, left)?.detach();
+        spawn_detached(pool, Job::new(tally, left)?)?;
     }
     Ok(())
 }
 
-fn spawn_job<'x, R: Wait + Drop + Copy>(
-    pool: &'x JobPool<R>,
-    tally: &Arc<Tally>,
-    left: u64,
-) -> Result<PoolTask<'x, R, Job<R>, Awaiter<R>>, Failure> {
-    let job = Job::new(tally, left)?;
-    pool.spawn(job).ok().ok_or(Failure::NoMemory)
+fn spawn_detached<R: Wait + Drop + Copy>(pool: &JobPool<R>, job: Job<R>) -> Result<(), Failure> {
+    let Ok(task) = pool.spawn(job) else {
+        return Err(Failure::NoMemory);
+    };
+    task.detach();
+    Ok(())
 }
 
 // Spawns the jobs of a row, the first one last: so the others wait by then. Where the row passes on, the first needs no wake.
@@ -130,37 +155,34 @@ fn spawn_row<R: Wait + Drop + Copy>(
         row.wake((pool, pool.workers()), 0);
     }
     for at in (0..row.len()).rev() {
-        let job = Job::in_row(alloc, row, at)?;
-        let spawned = pool.spawn(job);
-        spawned.ok().ok_or(Failure::NoMemory)?.detach();
+        spawn_detached(pool, Job::in_row(alloc, row, at)?)?;
     }
     Ok(())
 }
 
 // Wakes the tasks of the row where it hands over, and ends the pool where a task is lost.
-fn oversee<R: Clock + Wait + Drop + Copy>(
-    rt: &R,
-    pool: &JobPool<R>,
-    tally: &Tally,
-    row: &Row,
-    hands_over: bool,
-) {
-    if hands_over {
-        for at in 0..row.len() {
-            row.wake((pool, pool.workers()), at);
-            if !tally.passes(at as u64) {
-                break;
-            }
-        }
+fn oversee<R: Clock + Wait + Drop + Copy>(rt: &R, pool: &JobPool<R>, course: &Course) {
+    if course.line == Line::Handoff {
+        hand_over(pool, &course.tally, &course.row);
     }
-    if !tally.wait(rt) {
+    if !course.tally.wait(rt) {
         pool.shutdown();
+    }
+}
+
+// Wakes the tasks of a row one after the other, each once the one before it has ended.
+fn hand_over<R: Wait + Drop + Copy>(pool: &JobPool<R>, tally: &Tally, row: &Row) {
+    for at in 0..row.len() {
+        row.wake((pool, pool.workers()), at);
+        if !tally.passes(at as u64) {
+            return;
+        }
     }
 }
 
 // As `run`, of tasks that are ready at once, whose outputs this thread awaits in a group while the workers run them.
 fn await_group<R, W>(
-    rt: R,
+    rt: &R,
     alloc: Global,
     pool: &JobPool<R>,
     size: Size,
@@ -172,29 +194,48 @@ where
     requires { W.IsAlwaysCallable worker.now }
 {
     let tally = Tally::new(alloc, size.tasks)?;
-    let start = Start::new(&rt, alloc)?;
-    let mut group = TaskGroup::new(rt, alloc, size.tasks as usize)?;
-    for _ in 0..size.tasks {
-        let refused = group.push(spawn_job(pool, &tally, 0)?).is_err();
-        if refused {
-            return Err(Failure::NoMemory);
-        }
-    }
-    let grown = start.grown(&rt, alloc);
+    let start = Start::new(rt, alloc)?;
+    let mut group = spawn_group(*rt, alloc, pool, &tally)?;
+    let grown = start.grown(rt, alloc);
     let (_, (elapsed, answered)) = thread::join(
-        &rt,
+        rt,
         ||
             requires { W.IsAlwaysCallable worker.now }
-        { work(&rt, alloc, pool.workers(), worker) },
+        { work(rt, alloc, pool.workers(), worker) },
         || {
-            let answered = answers_of(&rt, pool, &tally, &mut group);
-            (start.elapsed(&rt), answered)
+            let answered = answers_of(rt, pool, &tally, &mut group);
+            (start.elapsed(rt), answered)
         },
     );
-    if answered != size.tasks {
-        return Err(Failure::Unanswered(answered, size.tasks));
+    measured_of(&tally, elapsed, answered, grown)
+}
+
+// Spawns jobs, and puts their Tasks into one group.
+fn spawn_group<'x, R: Wait + Drop + Copy>(
+    rt: R,
+    alloc: Global,
+    pool: &'x JobPool<R>,
+    tally: &Arc<Tally>,
+) -> Result<JobGroup<'x, R>, Failure> {
+    let mut group = TaskGroup::new(rt, alloc, tally.wanted() as usize)?;
+    for _ in 0..tally.wanted() {
+        spawn_member(pool, Job::new(tally, 0)?, &mut group)?;
     }
-    Measured::new(&tally, elapsed?, grown)
+    Ok(group)
+}
+
+fn spawn_member<'x, R: Wait + Drop + Copy>(
+    pool: &'x JobPool<R>,
+    job: Job<R>,
+    group: &mut JobGroup<'x, R>,
+) -> Result<(), Failure> {
+    let Ok(task) = pool.spawn(job) else {
+        return Err(Failure::NoMemory);
+    };
+    if group.push(task).is_err() {
+        return Err(Failure::NoMemory);
+    }
+    Ok(())
 }
 
 // How many tasks of a group gave an output. Another thread ends the pool where a task is lost.

@@ -1,13 +1,13 @@
 //! Tasks of a pool that await tasks of the same pool: alone, in a long chain, cancelled, and after a shutdown.
 
 use crate::calls::{
-    collect_all, drop_pool, drop_task, drop_turns, is_closed, keep, knock, new_pool, place_of_task,
-    place_of_waker, places_taken, poll_at, polls, shut_down, turns_of, wake_number, wakes_posted,
+    collect_all, drop_both, drop_pool, drop_task, drop_turns, is_closed, knock, link_task,
+    new_counts, new_pool, pair_task, place_of_task, place_of_waker, places_taken, poll_at, polls,
+    shut_down, tick, turns_of, wake_number, wakes_posted, work,
 };
-use crate::granted::granted;
-use crate::link::{Counts, Errand, KNOCKS, spawn_link, spawn_pair};
+use crate::link::{Errand, KNOCKS, LinkPool, LinkTurns, keep};
 use executor::BlockOnError;
-use std::sync::Arc;
+use std::sync::{Arc, Wait};
 use std::thread;
 
 /// How many tasks the chain has.
@@ -19,10 +19,10 @@ const TURNS: u64 = 1000;
 // The parent is polled as it is spawned, and once more for the output of its child, which gives way three times.
 #[test]
 fn a_task_awaits_a_task(rt: HostRuntime) {
-    let counts = granted(&rt, Counts::new(rt.alloc()));
     let pool = new_pool(rt, rt.alloc(), 1);
-    let mut task = granted(&rt, spawn_link(&pool, 1, 1, Errand::GiveWay(3), &counts));
-    let mut turns = turns_of(rt, &pool);
+    let counts = new_counts(&pool);
+    let mut task = link_task(&pool, 1, 1, Errand::GiveWay(3), &counts);
+    let mut turns = turns_of(&pool);
     let answer = turns.block_on(&mut task);
     drop_task(task);
     collect_all(&pool);
@@ -37,17 +37,13 @@ fn a_task_awaits_a_task(rt: HostRuntime) {
 // One child ends long before the other: the parent is polled as it is spawned, and once more for each.
 #[test]
 fn a_task_awaits_two_tasks(rt: HostRuntime) {
-    let counts = granted(&rt, Counts::new(rt.alloc()));
     let pool = new_pool(rt, rt.alloc(), 1);
-    let mut task = granted(
-        &rt,
-        spawn_pair(&pool, Errand::GiveWay(1), Errand::GiveWay(9), &counts),
-    );
-    let mut turns = turns_of(rt, &pool);
+    let counts = new_counts(&pool);
+    let mut task = pair_task(&pool, Errand::GiveWay(1), Errand::GiveWay(9), &counts);
+    let mut turns = turns_of(&pool);
     let answer = turns.block_on(&mut task);
     let polls = polls(&counts);
-    drop_turns(turns);
-    drop_task(task);
+    drop_both(turns, task);
     drop_pool(pool);
     assert!(rt; (answer, polls) == (Ok(3), (3, 12)));
 }
@@ -55,10 +51,10 @@ fn a_task_awaits_two_tasks(rt: HostRuntime) {
 // By a loop around `tick`, in which the child ends in the third turn, and the parent in the fourth.
 #[test]
 fn a_loop_of_ticks_wakes_what_was_posted(rt: HostRuntime) {
-    let counts = granted(&rt, Counts::new(rt.alloc()));
     let pool = new_pool(rt, rt.alloc(), 1);
-    let mut task = granted(&rt, spawn_link(&pool, 1, 1, Errand::GiveWay(1), &counts));
-    let mut turns = turns_of(rt, &pool);
+    let counts = new_counts(&pool);
+    let mut task = link_task(&pool, 1, 1, Errand::GiveWay(1), &counts);
+    let mut turns = turns_of(&pool);
     let mut ran = [false; 5];
     let mut woke = [false; 5];
     for turn in 0..5 {
@@ -67,8 +63,7 @@ fn a_loop_of_ticks_wakes_what_was_posted(rt: HostRuntime) {
     }
     let polls = polls(&counts);
     let answer = turns.block_on(&mut task);
-    drop_turns(turns);
-    drop_task(task);
+    drop_both(turns, task);
     drop_pool(pool);
     assert!(rt; ran == [true, true, true, true, false]);
     assert!(rt; woke == [false, false, true, false, false]);
@@ -77,16 +72,16 @@ fn a_loop_of_ticks_wakes_what_was_posted(rt: HostRuntime) {
 
 #[test]
 fn a_kept_task_stays_until_it_is_ready(rt: HostRuntime) {
-    let counts = granted(&rt, Counts::new(rt.alloc()));
     let pool = new_pool(rt, rt.alloc(), 1);
-    let key = place_of_task(rt, &pool);
-    let task = granted(&rt, spawn_link(&pool, 1, 0, Errand::GiveWay(1), &counts));
+    let counts = new_counts(&pool);
+    let key = place_of_task(&pool);
+    let task = link_task(&pool, 1, 0, Errand::GiveWay(1), &counts);
     let kept = keep(task, &key);
-    let mut turns = turns_of(rt, &pool);
+    let mut turns = turns_of(&pool);
     let first = (poll_at(&pool, &key), poll_at(&pool, &key));
-    let mut ran = (turns.tick(), false);
+    let mut ran = (tick(&mut turns), false);
     let second = poll_at(&pool, &key);
-    ran.1 = turns.tick();
+    ran.1 = tick(&mut turns);
     let third = (poll_at(&pool, &key), poll_at(&pool, &key));
     drop_turns(turns);
     drop_pool(pool);
@@ -98,13 +93,10 @@ fn a_kept_task_stays_until_it_is_ready(rt: HostRuntime) {
 // Each link is polled as it is spawned, and once more for the output of the next one.
 #[test]
 fn a_chain_of_tasks_on_one_worker(rt: HostRuntime) {
-    let counts = granted(&rt, Counts::new(rt.alloc()));
     let pool = new_pool(rt, rt.alloc(), 1);
-    let mut task = granted(
-        &rt,
-        spawn_link(&pool, 1, CHAIN - 1, Errand::GiveWay(1), &counts),
-    );
-    let mut turns = turns_of(rt, &pool);
+    let counts = new_counts(&pool);
+    let mut task = link_task(&pool, 1, CHAIN - 1, Errand::GiveWay(1), &counts);
+    let mut turns = turns_of(&pool);
     let answer = turns.block_on(&mut task);
     drop_task(task);
     collect_all(&pool);
@@ -117,13 +109,10 @@ fn a_chain_of_tasks_on_one_worker(rt: HostRuntime) {
 
 #[test]
 fn a_chain_of_tasks_on_two_workers(rt: HostRuntime) {
-    let counts = granted(&rt, Counts::new(rt.alloc()));
     let pool = new_pool(rt, rt.alloc(), 2);
-    let mut task = granted(
-        &rt,
-        spawn_link(&pool, 2, CHAIN - 1, Errand::GiveWay(1), &counts),
-    );
-    let mut turns = turns_of(rt, &pool);
+    let counts = new_counts(&pool);
+    let mut task = link_task(&pool, 2, CHAIN - 1, Errand::GiveWay(1), &counts);
+    let mut turns = turns_of(&pool);
     let (ran, answer) = thread::join(
         &rt,
         || pool.run(1).is_ok(),
@@ -145,18 +134,15 @@ fn a_chain_of_tasks_on_two_workers(rt: HostRuntime) {
 // Each wake comes while the task waits, and the worker may sleep or be about to.
 #[test]
 fn a_worker_takes_each_wake_of_another_thread(rt: HostRuntime) {
-    let counts = granted(&rt, Counts::new(rt.alloc()));
     let pool = new_pool(rt, rt.alloc(), 2);
-    let mut task = granted(
-        &rt,
-        spawn_link(&pool, 2, 1, Errand::Knocks(KNOCKS), &counts),
-    );
-    let mut turns = turns_of(rt, &pool);
+    let counts = new_counts(&pool);
+    let mut task = link_task(&pool, 2, 1, Errand::Knocks(KNOCKS), &counts);
+    let mut turns = turns_of(&pool);
     let ((ran, answer), knocked) = thread::join(
         &rt,
         || thread::join(
             &rt,
-            || pool.run(1).is_ok(),
+            || work(&pool, 1),
             || {
                 let answer = turns.block_on(&mut task);
                 shut_down(&pool);
@@ -166,34 +152,33 @@ fn a_worker_takes_each_wake_of_another_thread(rt: HostRuntime) {
         || knock(&pool, &counts),
     );
     let (_, last) = polls(&counts);
-    drop_turns(turns);
-    drop_task(task);
+    drop_both(turns, task);
     drop_pool(pool);
     assert!(rt; (ran, knocked) == (true, true));
     assert!(rt; (answer, last) == (Ok(2), KNOCKS + 1));
 }
 
+// Frees the places of keys that were dropped, wakes what was posted, and runs tasks, until there is neither a wake nor a task.
+fn run_all<R: Wait + Drop + Copy>(pool: &LinkPool<R>, turns: &mut LinkTurns<'_, R>) {
+    for _ in 0..TURNS {
+        collect_all(pool);
+        let woke = wakes_posted(pool);
+        if !tick(turns) && !woke {
+            return;
+        }
+    }
+}
+
 #[test]
 fn the_cancel_of_a_task_that_awaits_leaves_no_place(rt: HostRuntime) {
-    let counts = granted(&rt, Counts::new(rt.alloc()));
     let pool = new_pool(rt, rt.alloc(), 1);
-    let task = granted(&rt, spawn_link(&pool, 1, 2, Errand::Stay, &counts));
-    let mut turns = turns_of(rt, &pool);
-    for _ in 0..TURNS {
-        let woke = wakes_posted(&pool);
-        if !turns.tick() && !woke {
-            break;
-        }
-    }
+    let counts = new_counts(&pool);
+    let task = link_task(&pool, 1, 2, Errand::Stay, &counts);
+    let mut turns = turns_of(&pool);
+    run_all(&pool, &mut turns);
     let before = (places_taken(&pool), polls(&counts));
     drop_task(task);
-    for _ in 0..TURNS {
-        collect_all(&pool);
-        let woke = wakes_posted(&pool);
-        if !turns.tick() && !woke {
-            break;
-        }
-    }
+    run_all(&pool, &mut turns);
     let after = (places_taken(&pool), polls(&counts));
     let left = Arc::strong_count(&counts);
     drop_turns(turns);
@@ -206,22 +191,21 @@ fn the_cancel_of_a_task_that_awaits_leaves_no_place(rt: HostRuntime) {
 // The parent waits, and its waker has the number 0, the first of the pool.
 #[test]
 fn a_posted_wake_after_the_shutdown_does_nothing(rt: HostRuntime) {
-    let counts = granted(&rt, Counts::new(rt.alloc()));
     let pool = new_pool(rt, rt.alloc(), 1);
-    let mut task = granted(&rt, spawn_link(&pool, 1, 1, Errand::Stay, &counts));
-    let mut turns = turns_of(rt, &pool);
-    let ran = (turns.tick(), turns.tick());
+    let counts = new_counts(&pool);
+    let mut task = link_task(&pool, 1, 1, Errand::Stay, &counts);
+    let mut turns = turns_of(&pool);
+    let ran = (tick(&mut turns), tick(&mut turns));
     let before = places_taken(&pool);
     shut_down(&pool);
     let woken = wake_number(&pool, 0);
     turns.work();
     let posted = (wakes_posted(&pool), wakes_posted(&pool));
-    let ran_again = turns.tick();
+    let ran_again = tick(&mut turns);
     let closed = is_closed(&pool, &mut task);
     let (polls, places) = (polls(&counts), places_taken(&pool));
     let left = Arc::strong_count(&counts);
-    drop_turns(turns);
-    drop_task(task);
+    drop_both(turns, task);
     drop_pool(pool);
     assert!(rt; ran == (true, true) && woken && closed && !ran_again);
     assert!(rt; (before, posted) == ((1, 1), (true, false)));
@@ -231,21 +215,20 @@ fn a_posted_wake_after_the_shutdown_does_nothing(rt: HostRuntime) {
 // Also one for which the pool has no room.
 #[test]
 fn a_wake_of_an_empty_place_wakes_nothing(rt: HostRuntime) {
-    let counts = granted(&rt, Counts::new(rt.alloc()));
     let pool = new_pool(rt, rt.alloc(), 1);
-    let key = place_of_waker(rt, &pool);
-    let mut task = granted(&rt, spawn_link(&pool, 1, 0, Errand::Stay, &counts));
-    let mut turns = turns_of(rt, &pool);
-    let ran = turns.tick();
+    let counts = new_counts(&pool);
+    let key = place_of_waker(&pool);
+    let mut task = link_task(&pool, 1, 0, Errand::Stay, &counts);
+    let mut turns = turns_of(&pool);
+    let ran = tick(&mut turns);
     let without_room = wake_number(&pool, 99);
     let none = wakes_posted(&pool);
     let empty = wake_number(&pool, key.number());
     let one = wakes_posted(&pool);
-    let ran_again = turns.tick();
+    let ran_again = tick(&mut turns);
     shut_down(&pool);
     let answer = turns.block_on(&mut task);
-    drop_turns(turns);
-    drop_task(task);
+    drop_both(turns, task);
     drop_pool(pool);
     assert!(rt; (ran, without_room, none) == (true, true, false));
     assert!(rt; (empty, one, ran_again) == (true, true, false));

@@ -5,7 +5,8 @@ use crate::granted::granted;
 use async_task::{Future, Poll, TaskPoll, Wake, Yields};
 use awaiters::Nobody;
 use executor::{Pool, PoolTask, PoolWaker, Turns};
-use std::alloc::{AllocError, Global};
+use std::alloc::Global;
+use std::process::Abort;
 use std::sync::Wait;
 use std::sync::atomic::{AtomicU64, Ordering};
 use std::thread;
@@ -57,30 +58,52 @@ type SumTurns<'x, 'd, R> = Turns<'x, R, SumOf<'d>, Nobody>;
 
 type SumTask<'x, 'd, R> = PoolTask<'x, R, SumOf<'d>, Nobody>;
 
-fn spawned<'x, 'd, R: Wait + Drop + Copy>(
+fn new_pool<'d, R: Wait + Abort + Drop + Copy>(
+    rt: R,
+    alloc: Global,
+    workers: usize,
+) -> SumPool<'d, R> {
+    granted(&rt, SumPool::new(rt, alloc, workers))
+}
+
+fn spawned<'x, 'd, R: Wait + Abort + Drop + Copy>(
     pool: &'x SumPool<'d, R>,
     numbers: &'d [u64],
     unfinished: &'d AtomicU64,
-) -> Result<SumTask<'x, 'd, R>, AllocError> {
-    pool.spawn(SumOf::new(numbers, unfinished))
-        .ok()
-        .ok_or(AllocError)
+) -> SumTask<'x, 'd, R> {
+    granted(&pool.rt(), pool.spawn(SumOf::new(numbers, unfinished)))
 }
 
-fn output_of<'x, 'd, R: Wait + Drop + Copy>(task: &mut SumTask<'x, 'd, R>) -> Option<u64> {
+fn turns_of<'x, 'd, R: Wait + Abort + Drop + Copy>(
+    pool: &'x SumPool<'d, R>,
+    worker: usize,
+) -> SumTurns<'x, 'd, R> {
+    granted(&pool.rt(), pool.turns(worker))
+}
+
+// The output of a Task, which is dropped.
+fn output_of<'x, 'd, R: Wait + Drop + Copy>(mut task: SumTask<'x, 'd, R>) -> Option<u64> {
     match task.poll(&Nobody) {
         TaskPoll::Ready(Ok(output)) => Some(output),
         _ => None,
     }
 }
 
+fn drop_turns<R: Wait + Drop + Copy>(turns: SumTurns<'_, '_, R>) {
+    drop(turns);
+}
+
+fn drop_pool<R: Wait + Drop + Copy>(pool: SumPool<'_, R>) {
+    drop(pool);
+}
+
 // The sums of these are 1275 up to 50, and 5050 up to 100.
-fn numbers_up_to(alloc: Global, last: u64) -> Result<Vec<u64>, AllocError> {
+fn numbers_up_to<R: Abort>(rt: &R, alloc: Global, last: u64) -> Vec<u64> {
     let mut numbers = Vec::new(alloc);
     for number in 1..=last {
-        numbers.push(number)?;
+        granted(rt, numbers.push(number));
     }
-    Ok(numbers)
+    numbers
 }
 
 // Is a worker until the shutdown. `Turns::work` would do the same, but the prover takes no call of it for futures that borrow.
@@ -96,29 +119,34 @@ fn work<'x, 'd, R: Wait + Drop + Copy>(turns: &mut SumTurns<'x, 'd, R>) {
 
 #[test]
 fn one_worker_runs_futures_that_borrow(rt: HostRuntime) {
-    let low = granted(&rt, numbers_up_to(rt.alloc(), 50));
-    let high = granted(&rt, numbers_up_to(rt.alloc(), 100));
+    let low = numbers_up_to(&rt, rt.alloc(), 50);
+    let high = numbers_up_to(&rt, rt.alloc(), 100);
     let unfinished = AtomicU64::new(2);
-    let pool = granted(&rt, SumPool::new(rt, rt.alloc(), 1));
-    let mut first = granted(&rt, spawned(&pool, low.as_slice(), &unfinished));
-    let mut second = granted(&rt, spawned(&pool, high.as_slice(), &unfinished));
-    let mut turns = granted(&rt, pool.turns(0));
+    let pool = new_pool(rt, rt.alloc(), 1);
+    let first = spawned(&pool, low.as_slice(), &unfinished);
+    let second = spawned(&pool, high.as_slice(), &unfinished);
+    let mut turns = turns_of(&pool, 0);
     work(&mut turns);
-    let (first, second) = (output_of(&mut first), output_of(&mut second));
+    drop_turns(turns);
+    let (first, second) = (output_of(first), output_of(second));
+    drop_pool(pool);
     assert!(rt; first == Some(1275) && second == Some(5050));
 }
 
 #[test]
 fn two_workers_run_futures_that_borrow(rt: HostRuntime) {
-    let low = granted(&rt, numbers_up_to(rt.alloc(), 50));
-    let high = granted(&rt, numbers_up_to(rt.alloc(), 100));
+    let low = numbers_up_to(&rt, rt.alloc(), 50);
+    let high = numbers_up_to(&rt, rt.alloc(), 100);
     let unfinished = AtomicU64::new(2);
-    let pool = granted(&rt, SumPool::new(rt, rt.alloc(), 2));
-    let mut first = granted(&rt, spawned(&pool, low.as_slice(), &unfinished));
-    let mut second = granted(&rt, spawned(&pool, high.as_slice(), &unfinished));
-    let mut one = granted(&rt, pool.turns(0));
-    let mut other = granted(&rt, pool.turns(1));
+    let pool = new_pool(rt, rt.alloc(), 2);
+    let first = spawned(&pool, low.as_slice(), &unfinished);
+    let second = spawned(&pool, high.as_slice(), &unfinished);
+    let mut one = turns_of(&pool, 0);
+    let mut other = turns_of(&pool, 1);
     thread::join(&rt, || work(&mut one), || work(&mut other));
-    let (first, second) = (output_of(&mut first), output_of(&mut second));
+    drop_turns(one);
+    drop_turns(other);
+    let (first, second) = (output_of(first), output_of(second));
+    drop_pool(pool);
     assert!(rt; first == Some(1275) && second == Some(5050));
 }

@@ -170,21 +170,44 @@ impl<'x, R: Wait + Drop + Copy, T: Step> Future<StepWaker<'x, R, T>> for Tickete
     }
 }
 
-fn spawned<'x, R: Wait + Drop + Copy, T: Step>(
+fn new_pool<R: Wait + Abort + Drop + Copy, T: Step>(
+    rt: R,
+    alloc: Global,
+    workers: usize,
+) -> StepPool<R, T> {
+    granted(&rt, StepPool::new(rt, alloc, workers))
+}
+
+fn spawned<'x, R: Wait + Abort + Drop + Copy, T: Step>(
     pool: &'x StepPool<R, T>,
     inner: T,
     shared: &Arc<Shared>,
-) -> Result<StepTask<'x, R, T>, AllocError> {
-    let shared = Arc::try_clone(shared)?;
+) -> StepTask<'x, R, T> {
     let future = Ticketed {
         inner,
-        shared,
+        shared: granted(&pool.rt(), Arc::try_clone(shared)),
         own: None,
     };
-    pool.spawn(future).ok().ok_or(AllocError)
+    granted(&pool.rt(), pool.spawn(future))
 }
 
-fn output_of<'x, R: Wait + Drop + Copy, T: Step>(task: &mut StepTask<'x, R, T>) -> Option<u64> {
+fn turns_of<R: Wait + Abort + Drop + Copy, T: Step>(
+    pool: &StepPool<R, T>,
+    worker: usize,
+) -> StepTurns<'_, R, T> {
+    granted(&pool.rt(), pool.turns(worker))
+}
+
+fn drop_turns<R: Wait + Drop + Copy, T: Step>(turns: StepTurns<'_, R, T>) {
+    drop(turns);
+}
+
+fn drop_pool<R: Wait + Drop + Copy, T: Step>(pool: StepPool<R, T>) {
+    drop(pool);
+}
+
+// The output of a Task, which is dropped.
+fn output_of<R: Wait + Drop + Copy, T: Step>(mut task: StepTask<'_, R, T>) -> Option<u64> {
     match task.poll(&Nobody) {
         TaskPoll::Ready(answer) => answer.ok(),
         _ => None,
@@ -216,14 +239,17 @@ fn answers_of_one<R: Wait + Abort + Drop + Copy, T: Step>(
     alloc: Global,
     steps: [T; 2],
 ) -> (Option<u64>, Option<u64>) {
-    let pool = granted(&rt, StepPool::new(rt, alloc, 1));
+    let pool = new_pool(rt, alloc, 1);
     let shared = granted(&rt, new_shared(alloc));
     let [first, second] = steps;
-    let mut first = granted(&rt, spawned(&pool, first, &shared));
-    let mut second = granted(&rt, spawned(&pool, second, &shared));
-    let mut turns = granted(&rt, pool.turns(0));
+    let first = spawned(&pool, first, &shared);
+    let second = spawned(&pool, second, &shared);
+    let mut turns = turns_of(&pool, 0);
     work(&mut turns);
-    (output_of(&mut first), output_of(&mut second))
+    drop_turns(turns);
+    let answers = (output_of(first), output_of(second));
+    drop_pool(pool);
+    answers
 }
 
 // Two workers, each on a thread, until the last task has ended.
@@ -241,15 +267,19 @@ fn answers_of_two<R: Wait + Abort + Threads + Drop + Copy + Send + Sync, T: Step
     alloc: Global,
     steps: [T; 2],
 ) -> (Option<u64>, Option<u64>) {
-    let pool = granted(&rt, StepPool::new(rt, alloc, 2));
+    let pool = new_pool(rt, alloc, 2);
     let shared = granted(&rt, new_shared(alloc));
     let [first, second] = steps;
-    let mut first = granted(&rt, spawned(&pool, first, &shared));
-    let mut second = granted(&rt, spawned(&pool, second, &shared));
-    let mut one = granted(&rt, pool.turns(0));
-    let mut other = granted(&rt, pool.turns(1));
+    let first = spawned(&pool, first, &shared);
+    let second = spawned(&pool, second, &shared);
+    let mut one = turns_of(&pool, 0);
+    let mut other = turns_of(&pool, 1);
     work_both(&rt, &mut one, &mut other);
-    (output_of(&mut first), output_of(&mut second))
+    drop_turns(one);
+    drop_turns(other);
+    let answers = (output_of(first), output_of(second));
+    drop_pool(pool);
+    answers
 }
 
 fn new_doubles(meeting: &Arc<Meeting>) -> Result<Doubles, AllocError> {

@@ -2,15 +2,15 @@
 //! there once, and not in each test. Calls that run tasks stand in the tests, where the runtime is known: the prover must see that it outlives the pool.
 
 use crate::granted::granted;
-use crate::link::{Counts, KNOCKS, LinkPool, LinkTask, LinkTurns};
+use crate::link::{Counts, Errand, KNOCKS, LinkPool, LinkTask, LinkTurns, spawn_link, spawn_pair};
 use async_task::{TaskPoll, Wake};
 use executor::{
-    BellAwaiter, Key, collect, keep_task, place_for_task, place_for_waker, poll_kept, wake_posted,
+    BellAwaiter, Key, collect, place_for_task, place_for_waker, poll_kept, wake_posted,
 };
 use std::alloc::{AllocError, Global};
 use std::process::Abort;
-use std::sync::Wait;
 use std::sync::atomic::Ordering;
+use std::sync::{Arc, Wait};
 use std::thread;
 
 /// A pool of so many workers. Stops where there is no memory.
@@ -22,24 +22,73 @@ pub fn new_pool<R: Wait + Abort + Drop + Copy>(
     granted(&rt, LinkPool::new(rt, alloc, workers))
 }
 
+/// What the links of this pool count together: nothing yet. Stops where there is no memory.
+pub fn new_counts<R: Wait + Abort + Drop + Copy>(pool: &LinkPool<R>) -> Arc<Counts> {
+    granted(&pool.rt(), Counts::new(pool.alloc()))
+}
+
 /// The turns of worker 0. Stops where they are refused.
-pub fn turns_of<R: Wait + Abort + Drop + Copy>(rt: R, pool: &LinkPool<R>) -> LinkTurns<'_, R> {
-    granted(&rt, pool.turns(0))
+pub fn turns_of<R: Wait + Abort + Drop + Copy>(pool: &LinkPool<R>) -> LinkTurns<'_, R> {
+    granted(&pool.rt(), pool.turns(0))
+}
+
+/// The Task of a link, as `spawn_link` spawns it. Stops where there is no memory.
+pub fn link_task<'x, R: Wait + Abort + Drop + Copy>(
+    pool: &'x LinkPool<R>,
+    worker: usize,
+    below: u64,
+    errand: Errand,
+    counts: &Arc<Counts>,
+) -> LinkTask<'x, R> {
+    granted(&pool.rt(), spawn_link(pool, worker, below, errand, counts))
+}
+
+/// The Task of a link that awaits two, as `spawn_pair` spawns it. Stops where there is no memory.
+pub fn pair_task<'x, R: Wait + Abort + Drop + Copy>(
+    pool: &'x LinkPool<R>,
+    first: Errand,
+    second: Errand,
+    counts: &Arc<Counts>,
+) -> LinkTask<'x, R> {
+    granted(&pool.rt(), spawn_pair(pool, first, second, counts))
 }
 
 /// An empty place for a Task. Stops where there is none.
-pub fn place_of_task<R: Wait + Abort + Drop + Copy>(rt: R, pool: &LinkPool<R>) -> Key<R> {
-    granted(&rt, place_for_task((pool, 0)).ok_or(AllocError))
+pub fn place_of_task<R: Wait + Abort + Drop + Copy>(pool: &LinkPool<R>) -> Key<R> {
+    granted(&pool.rt(), place_for_task((pool, 0)).ok_or(AllocError))
 }
 
 /// An empty place for a waker. Stops where there is none.
-pub fn place_of_waker<R: Wait + Abort + Drop + Copy>(rt: R, pool: &LinkPool<R>) -> Key<R> {
-    granted(&rt, place_for_waker((pool, 0)).ok_or(AllocError))
+pub fn place_of_waker<R: Wait + Abort + Drop + Copy>(pool: &LinkPool<R>) -> Key<R> {
+    granted(&pool.rt(), place_for_waker((pool, 0)).ok_or(AllocError))
 }
 
-/// Keeps a Task at a place: whether it was kept.
-pub fn keep<R: Wait + Drop + Copy>(task: LinkTask<'_, R>, key: &Key<R>) -> bool {
-    keep_task(task, key).is_ok()
+/// Runs the next task, as `Turns::tick` does: whether there was one. The prover takes no call of that where the runtime is a parameter.
+pub fn tick<R: Wait + Drop + Copy>(turns: &mut LinkTurns<'_, R>) -> bool {
+    match turns.next() {
+        Some(runnable) => {
+            runnable.run();
+            true
+        }
+        None => false,
+    }
+}
+
+/// Is the worker of a number until the pool is shut down, as by `Pool::run`: whether there was such a worker. The prover takes no call of that where the
+/// runtime is a parameter.
+pub fn work<R: Wait + Drop + Copy>(pool: &LinkPool<R>, worker: usize) -> bool {
+    let Ok(mut turns) = pool.turns(worker) else {
+        return false;
+    };
+    for _ in pool.rt().forever() {
+        match turns.await_next() {
+            Some(runnable) => {
+                runnable.run();
+            }
+            None => return true,
+        }
+    }
+    unreachable!()
 }
 
 /// Wakes for one number that was posted: whether there was one.
@@ -65,6 +114,12 @@ pub fn drop_task<R: Wait + Drop + Copy>(task: LinkTask<'_, R>) {
 /// Drops turns.
 pub fn drop_turns<R: Wait + Drop + Copy>(turns: LinkTurns<'_, R>) {
     drop(turns);
+}
+
+/// Drops the turns and the Task that a test ends with.
+pub fn drop_both<'x, R: Wait + Drop + Copy>(turns: LinkTurns<'x, R>, task: LinkTask<'x, R>) {
+    drop(turns);
+    drop(task);
 }
 
 /// Drops a pool.

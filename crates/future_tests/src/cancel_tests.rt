@@ -5,7 +5,7 @@ use crate::granted::granted;
 use async_task::{Future, Poll, Yields};
 use awaiters::Nobody;
 use executor::{
-    Key, Pool, PoolWaker, collect, keep_task, keep_waker, place_for_task, place_for_waker,
+    Key, Pool, PoolWaker, Turns, collect, keep_task, keep_waker, place_for_task, place_for_waker,
 };
 use std::alloc::{AllocError, Global};
 use std::sync::atomic::{AtomicU64, Ordering};
@@ -102,11 +102,24 @@ fn kept_child<'x, R: Wait + Drop + Copy>(
     Some(key)
 }
 
+type MemberPool<R> = Pool<R, Member<R>, Nobody>;
+
+// Frees the places of keys that were dropped, and runs tasks, until none is left.
+fn run_all<R: Wait + Drop + Copy>(
+    pool: &MemberPool<R>,
+    turns: &mut Turns<'_, R, Member<R>, Nobody>,
+) {
+    for _ in 0..TURNS {
+        collect((pool, 0));
+        let Some(runnable) = turns.next() else {
+            return;
+        };
+        runnable.run();
+    }
+}
+
 // How many places for wakers and for Tasks are taken, and how many futures were dropped.
-fn seen<R: Wait + Drop + Copy>(
-    pool: &Pool<R, Member<R>, Nobody>,
-    dropped: &AtomicU64,
-) -> (u64, u64, u64) {
+fn seen<R: Wait + Drop + Copy>(pool: &MemberPool<R>, dropped: &AtomicU64) -> (u64, u64, u64) {
     (
         pool.kept_wakers() as u64,
         pool.kept_tasks() as u64,
@@ -117,24 +130,14 @@ fn seen<R: Wait + Drop + Copy>(
 #[test]
 fn the_cancel_of_a_parent_leaves_nothing(rt: HostRuntime) {
     let dropped = granted(&rt, Arc::new(rt.alloc(), AtomicU64::new(0)));
-    let pool = granted(&rt, Pool::<_, Member<_>, Nobody>::new(rt, rt.alloc(), 1));
+    let pool = granted(&rt, MemberPool::new(rt, rt.alloc(), 1));
     let parent = granted(&rt, member_of(rt.alloc(), CHILDREN, WAKERS, &dropped));
-    let task = granted(&rt, pool.spawn(parent).ok().ok_or(AllocError));
+    let task = granted(&rt, pool.spawn(parent));
     let mut turns = granted(&rt, pool.turns(0));
-    for _ in 0..TURNS {
-        collect((&pool, 0));
-        if !turns.tick() {
-            break;
-        }
-    }
+    run_all(&pool, &mut turns);
     let before = seen(&pool, &dropped);
     drop(task);
-    for _ in 0..TURNS {
-        collect((&pool, 0));
-        if !turns.tick() {
-            break;
-        }
-    }
+    run_all(&pool, &mut turns);
     let after = seen(&pool, &dropped);
     assert!(rt; before == (WAKERS + CHILDREN, CHILDREN, 0));
     assert!(rt; after == (0, 0, CHILDREN + 1));

@@ -1,9 +1,12 @@
 //! Groups of tasks of a pool, some of which await a task of their own: one type of awaiter serves these, the group, and `block_on`.
-use crate::calls::{drop_pool, drop_task, drop_turns, new_pool, shut_down, turns_of, wakes_posted};
+use crate::calls::{
+    drop_both, drop_pool, drop_turns, link_task, new_counts, new_pool, shut_down, tick, turns_of,
+    wakes_posted, work,
+};
 use crate::granted::granted;
-use crate::link::{Counts, Errand, Link, LinkPool, spawn_link};
+use crate::link::{Counts, Errand, Link, LinkPool};
 use executor::{NextMemberError, PoolGroup};
-use std::alloc::AllocError;
+use std::process::Abort;
 use std::sync::{Arc, Wait};
 use std::thread;
 use std::time::Duration;
@@ -22,17 +25,44 @@ type NextMember<R> = Result<Option<Ended<Link<R>>>, NextMemberError>;
 // What came out of a group: how many members, and the sum of their outputs.
 type CameOut = (u64, u64);
 
+// An empty group with room for so many members.
+fn empty_group<'x, R: Wait + Abort + Drop + Copy>(
+    pool: &'x LinkPool<R>,
+    room: usize,
+) -> LinkGroup<'x, R> {
+    granted(&pool.rt(), TaskGroup::new(pool.rt(), pool.alloc(), room))
+}
+
+// Spawns a link, and puts its Task into a group.
+fn push_link<'x, R: Wait + Abort + Drop + Copy>(
+    group: &mut LinkGroup<'x, R>,
+    pool: &'x LinkPool<R>,
+    worker: usize,
+    below: u64,
+    errand: Errand,
+    counts: &Arc<Counts>,
+) {
+    let task = link_task(pool, worker, below, errand, counts);
+    granted(&pool.rt(), group.push(task));
+}
+
 // A group of three links, the first with none below it, the second with one and the third with two: they answer 1, 2 and 3.
-fn new_group<'x, R: Wait + Drop + Copy>(
+fn new_group<'x, R: Wait + Abort + Drop + Copy>(
     pool: &'x LinkPool<R>,
     counts: &Arc<Counts>,
-) -> Result<LinkGroup<'x, R>, AllocError> {
-    let mut group: LinkGroup<'x, R> = TaskGroup::new(pool.rt(), pool.alloc(), 3)?;
+) -> LinkGroup<'x, R> {
+    let mut group = empty_group(pool, 3);
     for below in 0..3 {
-        let task = spawn_link(pool, pool.workers(), below, Errand::GiveWay(2), counts)?;
-        group.push(task).ok().ok_or(AllocError)?;
+        push_link(
+            &mut group,
+            pool,
+            pool.workers(),
+            below,
+            Errand::GiveWay(2),
+            counts,
+        );
     }
-    Ok(group)
+    group
 }
 
 // What comes out of a group until it is empty, while other threads run its tasks.
@@ -59,21 +89,20 @@ fn add_next<R: Wait + Drop + Copy>(group: &mut LinkGroup<'_, R>, came_out: &mut 
 // One thread looks at the group between its turns as a worker, and then waits for one more task.
 #[test]
 fn a_worker_looks_at_a_group_between_its_turns(rt: HostRuntime) {
-    let counts = granted(&rt, Counts::new(rt.alloc()));
     let pool = new_pool(rt, rt.alloc(), 1);
-    let mut group = granted(&rt, new_group(&pool, &counts));
-    let mut last = granted(&rt, spawn_link(&pool, 1, 1, Errand::GiveWay(2), &counts));
-    let mut turns = turns_of(rt, &pool);
+    let counts = new_counts(&pool);
+    let mut group = new_group(&pool, &counts);
+    let mut last = link_task(&pool, 1, 1, Errand::GiveWay(2), &counts);
+    let mut turns = turns_of(&pool);
     let mut came_out = (0, 0);
     for _ in 0..TURNS {
         add_next(&mut group, &mut came_out);
         wakes_posted(&pool);
-        turns.tick();
+        tick(&mut turns);
     }
     let answer = turns.block_on(&mut last);
-    drop_turns(turns);
     drop_group(group);
-    drop_task(last);
+    drop_both(turns, last);
     drop_pool(pool);
     assert!(rt; came_out == (3, 6) && answer == Ok(2));
 }
@@ -81,14 +110,14 @@ fn a_worker_looks_at_a_group_between_its_turns(rt: HostRuntime) {
 // One thread waits for a group while another one is a worker, and then is a worker, too, until one more task ends.
 #[test]
 fn a_thread_waits_for_a_group_and_then_for_a_task(rt: HostRuntime) {
-    let counts = granted(&rt, Counts::new(rt.alloc()));
     let pool = new_pool(rt, rt.alloc(), 2);
-    let mut group = granted(&rt, new_group(&pool, &counts));
-    let mut last = granted(&rt, spawn_link(&pool, 2, 1, Errand::GiveWay(2), &counts));
-    let mut turns = turns_of(rt, &pool);
+    let counts = new_counts(&pool);
+    let mut group = new_group(&pool, &counts);
+    let mut last = link_task(&pool, 2, 1, Errand::GiveWay(2), &counts);
+    let mut turns = turns_of(&pool);
     let (ran, (came_out, answer)) = thread::join(
         &rt,
-        || pool.run(1).is_ok(),
+        || work(&pool, 1),
         || {
             let came_out = all_of(&mut group);
             let answer = turns.block_on(&mut last);
@@ -96,24 +125,22 @@ fn a_thread_waits_for_a_group_and_then_for_a_task(rt: HostRuntime) {
             (came_out, answer)
         },
     );
-    drop_turns(turns);
     drop_group(group);
-    drop_task(last);
+    drop_both(turns, last);
     drop_pool(pool);
     assert!(rt; ran && came_out == (3, 6) && answer == Ok(2));
 }
 
 // A group of one link, which does this errand at the queue of a worker.
-fn new_lone<'x, R: Wait + Drop + Copy>(
+fn new_lone<'x, R: Wait + Abort + Drop + Copy>(
     pool: &'x LinkPool<R>,
     worker: usize,
     errand: Errand,
     counts: &Arc<Counts>,
-) -> Result<LinkGroup<'x, R>, AllocError> {
-    let mut group: LinkGroup<'x, R> = TaskGroup::new(pool.rt(), pool.alloc(), 1)?;
-    let task = spawn_link(pool, worker, 0, errand, counts)?;
-    group.push(task).ok().ok_or(AllocError)?;
-    Ok(group)
+) -> LinkGroup<'x, R> {
+    let mut group = empty_group(pool, 1);
+    push_link(&mut group, pool, worker, 0, errand, counts);
+    group
 }
 
 // The output of a member, 0 where none came out.
@@ -124,23 +151,30 @@ fn output_of<R: Wait + Drop + Copy>(next: NextMember<R>) -> u64 {
     }
 }
 
+// Whether a group was empty that was asked for its next member.
+fn is_empty<R: Wait + Drop + Copy>(next: &NextMember<R>) -> bool {
+    matches!(next, Ok(None))
+}
+
 // Drops a group: how many members it had.
 fn drop_group<R: Wait + Drop + Copy>(group: LinkGroup<'_, R>) -> usize {
     group.len()
 }
 
-// The only thread waits for each member of a group, and runs its tasks meanwhile.
+// The only thread waits for each member of a group, and runs its tasks meanwhile. It asks once more than there are members.
 #[test]
 fn a_worker_waits_for_members_that_it_runs(rt: HostRuntime) {
-    let counts = granted(&rt, Counts::new(rt.alloc()));
     let pool = new_pool(rt, rt.alloc(), 1);
-    let mut group = granted(&rt, new_group(&pool, &counts));
-    let mut turns = turns_of(rt, &pool);
+    let counts = new_counts(&pool);
+    let mut group = new_group(&pool, &counts);
+    let mut turns = turns_of(&pool);
     let mut sum = 0u64;
-    for _ in 0..3 {
-        sum = sum.wrapping_add(output_of(turns.next_member(&mut group)));
+    let mut is_over = false;
+    for _ in 0..4 {
+        let next = turns.next_member(&mut group);
+        is_over = is_empty(&next);
+        sum = sum.wrapping_add(output_of(next));
     }
-    let is_over = matches!(turns.next_member(&mut group), Ok(None));
     drop_turns(turns);
     drop_group(group);
     drop_pool(pool);
@@ -150,19 +184,18 @@ fn a_worker_waits_for_members_that_it_runs(rt: HostRuntime) {
 // A worker that waits sleeps while another one runs the member, and is woken by its end.
 #[test]
 fn a_member_that_ends_elsewhere_wakes_the_worker_that_waits(rt: HostRuntime) {
-    let counts = granted(&rt, Counts::new(rt.alloc()));
     let pool = new_pool(rt, rt.alloc(), 2);
-    let mut turns = turns_of(rt, &pool);
+    let counts = new_counts(&pool);
+    let mut turns = turns_of(&pool);
     let (ran, sum) = thread::join(
         &rt,
-        || pool.run(1).is_ok(),
+        || work(&pool, 1),
         || {
             let mut sum = 0u64;
             for _ in 0..GROUPS {
-                let Ok(mut group) = new_lone(&pool, 1, Errand::GiveWay(2), &counts) else {
-                    break;
-                };
+                let mut group = new_lone(&pool, 1, Errand::GiveWay(2), &counts);
                 sum = sum.wrapping_add(output_of(turns.next_member(&mut group)));
+                drop_group(group);
             }
             shut_down(&pool);
             sum
@@ -176,20 +209,19 @@ fn a_member_that_ends_elsewhere_wakes_the_worker_that_waits(rt: HostRuntime) {
 // The pool of the worker that waits has no task, so nothing else wakes it.
 #[test]
 fn a_member_of_another_pool_wakes_the_worker_that_waits(rt: HostRuntime) {
-    let counts = granted(&rt, Counts::new(rt.alloc()));
     let pool = new_pool(rt, rt.alloc(), 1);
+    let counts = new_counts(&pool);
     let other = new_pool(rt, rt.alloc(), 1);
-    let mut turns = turns_of(rt, &pool);
+    let mut turns = turns_of(&pool);
     let (ran, sum) = thread::join(
         &rt,
-        || other.run(0).is_ok(),
+        || work(&other, 0),
         || {
             let mut sum = 0u64;
             for _ in 0..GROUPS {
-                let Ok(mut group) = new_lone(&other, 1, Errand::GiveWay(2), &counts) else {
-                    break;
-                };
+                let mut group = new_lone(&other, 1, Errand::GiveWay(2), &counts);
                 sum = sum.wrapping_add(output_of(turns.next_member(&mut group)));
+                drop_group(group);
             }
             shut_down(&other);
             sum
@@ -204,11 +236,11 @@ fn a_member_of_another_pool_wakes_the_worker_that_waits(rt: HostRuntime) {
 // A shutdown ends the wait for a member that nothing will wake; it stays in the group.
 #[test]
 fn a_wait_for_a_member_ends_with_the_pool(rt: HostRuntime) {
-    let counts = granted(&rt, Counts::new(rt.alloc()));
     let pool = new_pool(rt, rt.alloc(), 1);
-    let mut group = granted(&rt, new_lone(&pool, 0, Errand::Stay, &counts));
-    let mut turns = turns_of(rt, &pool);
-    let ran = turns.tick();
+    let counts = new_counts(&pool);
+    let mut group = new_lone(&pool, 0, Errand::Stay, &counts);
+    let mut turns = turns_of(&pool);
+    let ran = tick(&mut turns);
     let (_, ended) = thread::join(
         &rt,
         || {

@@ -3,8 +3,9 @@ ghost use Rattle.std.specs.Prelude.{⊤};
 
 use crate::granted::granted;
 use async_task::{Future, Poll, TaskPoll, Wake, Yields};
-use executor::{Key, Pool, keep_task, place_for_task, poll_kept};
+use executor::{Key, Pool, Turns, keep_task, place_for_task, poll_kept};
 use std::alloc::{AllocError, Global};
+use std::process::Abort;
 use std::sync::atomic::{AtomicU64, Ordering};
 use std::sync::{Arc, Wait};
 
@@ -55,20 +56,47 @@ impl Wake for Single {
 
 type SevenPool<R> = Pool<R, Seven, Single>;
 
+type SevenTurns<'x, R> = Turns<'x, R, Seven, Single>;
+
 // No polls yet.
-fn no_polls(alloc: Global) -> Result<Arc<AtomicU64>, AllocError> {
-    Ok(Arc::new(alloc, AtomicU64::new(0))?)
+fn no_polls<R: Abort>(rt: &R, alloc: Global) -> Arc<AtomicU64> {
+    granted(rt, Arc::new(alloc, AtomicU64::new(0)))
+}
+
+fn new_pool<R: Wait + Abort + Drop + Copy>(rt: R, alloc: Global) -> SevenPool<R> {
+    granted(&rt, SevenPool::new(rt, alloc, 1))
+}
+
+fn turns_of<R: Wait + Abort + Drop + Copy>(pool: &SevenPool<R>) -> SevenTurns<'_, R> {
+    granted(&pool.rt(), pool.turns(0))
+}
+
+fn place_of_task<R: Wait + Abort + Drop + Copy>(pool: &SevenPool<R>) -> Key<R> {
+    granted(&pool.rt(), place_for_task((pool, 0)).ok_or(AllocError))
+}
+
+fn drop_turns<R: Wait + Drop + Copy>(turns: SevenTurns<'_, R>) {
+    drop(turns);
+}
+
+fn drop_pool<R: Wait + Drop + Copy>(pool: SevenPool<R>) {
+    drop(pool);
+}
+
+// Runs the next task: whether there was one.
+fn tick<R: Wait + Drop + Copy>(turns: &mut SevenTurns<'_, R>) -> bool {
+    turns.tick()
 }
 
 // Spawns a task that counts its polls there, and keeps its Task at the place of a key: whether it was kept.
-fn keep_seven<R: Wait + Drop + Copy>(
+fn keep_seven<R: Wait + Abort + Drop + Copy>(
     pool: &SevenPool<R>,
     key: &Key<R>,
     polls: &Arc<AtomicU64>,
-) -> Result<bool, AllocError> {
-    let polls = Arc::try_clone(polls)?;
-    let task = pool.spawn(Seven { polls }).ok().ok_or(AllocError)?;
-    Ok(keep_task(task, key).is_ok())
+) -> bool {
+    let polls = granted(&pool.rt(), Arc::try_clone(polls));
+    let task = granted(&pool.rt(), pool.spawn(Seven { polls }));
+    keep_task(task, key).is_ok()
 }
 
 // What a poll of the Task at the place of a key answers: its output, or 0 where its awaiter was refused. `None` where there is no Task, or none that will answer.
@@ -83,17 +111,19 @@ fn poll_at<R: Wait + Drop + Copy>(pool: &SevenPool<R>, key: &Key<R>) -> Option<u
 // The task of the earlier Task is never polled, and its future is dropped. That of the later one answers.
 #[test]
 fn a_task_that_is_kept_cancels_the_one_that_was_there(rt: HostRuntime) {
-    let earlier = granted(&rt, no_polls(rt.alloc()));
-    let later = granted(&rt, no_polls(rt.alloc()));
-    let pool = granted(&rt, SevenPool::new(rt, rt.alloc(), 1));
-    let key = granted(&rt, place_for_task((&pool, 0)).ok_or(AllocError));
-    let first = granted(&rt, keep_seven(&pool, &key, &earlier));
-    let second = granted(&rt, keep_seven(&pool, &key, &later));
-    let mut turns = granted(&rt, pool.turns(0));
-    let ran = (turns.tick(), turns.tick());
+    let earlier = no_polls(&rt, rt.alloc());
+    let later = no_polls(&rt, rt.alloc());
+    let pool = new_pool(rt, rt.alloc());
+    let key = place_of_task(&pool);
+    let first = keep_seven(&pool, &key, &earlier);
+    let second = keep_seven(&pool, &key, &later);
+    let mut turns = turns_of(&pool);
+    let ran = (tick(&mut turns), tick(&mut turns));
     let polls = (earlier.load(Ordering::SeqCst), later.load(Ordering::SeqCst));
     let owners = Arc::strong_count(&earlier);
     let answer = poll_at(&pool, &key);
+    drop_turns(turns);
+    drop_pool(pool);
     assert!(rt; first && second && ran == (true, true));
     assert!(rt; (polls, owners, answer) == ((0, 1), 1, Some(7)));
 }
@@ -101,14 +131,16 @@ fn a_task_that_is_kept_cancels_the_one_that_was_there(rt: HostRuntime) {
 // It is refused twice before the task has run. The poll after that needs no awaiter, and the last one finds no Task.
 #[test]
 fn a_kept_task_stays_where_its_awaiter_is_refused(rt: HostRuntime) {
-    let polls = granted(&rt, no_polls(rt.alloc()));
-    let pool = granted(&rt, SevenPool::new(rt, rt.alloc(), 1));
-    let key = granted(&rt, place_for_task((&pool, 0)).ok_or(AllocError));
-    let kept = granted(&rt, keep_seven(&pool, &key, &polls));
-    let mut turns = granted(&rt, pool.turns(0));
+    let polls = no_polls(&rt, rt.alloc());
+    let pool = new_pool(rt, rt.alloc());
+    let key = place_of_task(&pool);
+    let kept = keep_seven(&pool, &key, &polls);
+    let mut turns = turns_of(&pool);
     let before = (poll_at(&pool, &key), poll_at(&pool, &key));
-    let ran = turns.tick();
+    let ran = tick(&mut turns);
     let after = (poll_at(&pool, &key), poll_at(&pool, &key));
+    drop_turns(turns);
+    drop_pool(pool);
     assert!(rt; kept && ran);
     assert!(rt; (before, after) == ((Some(0), Some(0)), (Some(7), None)));
 }

@@ -3,8 +3,9 @@ ghost use Rattle.std.specs.Prelude.{⊤};
 
 use crate::granted::granted;
 use async_task::{Future, Poll, Wake, Yields};
-use executor::{BellAwaiter, Pool, PoolTask, PoolWaker};
-use std::alloc::AllocError;
+use executor::{BellAwaiter, Pool, PoolTask, PoolWaker, Turns};
+use std::alloc::Global;
+use std::process::Abort;
 use std::sync::Wait;
 use std::thread;
 
@@ -111,42 +112,75 @@ type KindPool<R> = Pool<R, Kind, BellAwaiter<R>>;
 
 type KindTask<'x, R> = PoolTask<'x, R, Kind, BellAwaiter<R>>;
 
-fn spawned<'x, R: Wait + Drop + Copy>(
+type KindTurns<'x, R> = Turns<'x, R, Kind, BellAwaiter<R>>;
+
+// Each of these calls is generic in the runtime alone: what it asks of its types is shown there once, and not in each test.
+
+fn new_pool<R: Wait + Abort + Drop + Copy>(rt: R, alloc: Global, workers: usize) -> KindPool<R> {
+    granted(&rt, KindPool::new(rt, alloc, workers))
+}
+
+fn spawned<'x, R: Wait + Abort + Drop + Copy>(
     pool: &'x KindPool<R>,
     future: Kind,
-) -> Result<KindTask<'x, R>, AllocError> {
-    pool.spawn(future).ok().ok_or(AllocError)
+) -> KindTask<'x, R> {
+    granted(&pool.rt(), pool.spawn(future))
+}
+
+fn turns_of<R: Wait + Abort + Drop + Copy>(pool: &KindPool<R>) -> KindTurns<'_, R> {
+    granted(&pool.rt(), pool.turns(0))
+}
+
+fn drop_task<R: Wait + Drop + Copy>(task: KindTask<'_, R>) {
+    drop(task);
+}
+
+fn drop_turns<R: Wait + Drop + Copy>(turns: KindTurns<'_, R>) {
+    drop(turns);
+}
+
+fn drop_pool<R: Wait + Drop + Copy>(pool: KindPool<R>) {
+    drop(pool);
 }
 
 #[test]
 fn one_worker_runs_futures_of_two_types(rt: HostRuntime) {
-    let pool = granted(&rt, KindPool::new(rt, rt.alloc(), 1));
-    let mut first = granted(&rt, spawned(&pool, polled_future(3)));
-    let mut second = granted(&rt, spawned(&pool, finding_future("async-task", b'-')));
-    let mut third = granted(&rt, spawned(&pool, finding_future("async-task", b'_')));
-    let mut turns = granted(&rt, pool.turns(0));
-    let first = turns.block_on(&mut first);
-    let second = turns.block_on(&mut second);
-    let third = turns.block_on(&mut third);
-    assert!(rt; first == Ok(Answer::Polled(4)));
-    assert!(rt; second == Ok(Answer::Found(true)) && third == Ok(Answer::Found(false)));
+    let pool = new_pool(rt, rt.alloc(), 1);
+    let mut first = spawned(&pool, polled_future(3));
+    let mut second = spawned(&pool, finding_future("async-task", b'-'));
+    let mut third = spawned(&pool, finding_future("async-task", b'_'));
+    let mut turns = turns_of(&pool);
+    let polled = turns.block_on(&mut first);
+    drop_task(first);
+    let found = turns.block_on(&mut second);
+    drop_task(second);
+    let missed = turns.block_on(&mut third);
+    drop_task(third);
+    drop_turns(turns);
+    drop_pool(pool);
+    assert!(rt; polled == Ok(Answer::Polled(4)));
+    assert!(rt; found == Ok(Answer::Found(true)) && missed == Ok(Answer::Found(false)));
 }
 
 #[test]
 fn two_workers_run_futures_of_two_types(rt: HostRuntime) {
-    let pool = granted(&rt, KindPool::new(rt, rt.alloc(), 2));
-    let mut first = granted(&rt, spawned(&pool, polled_future(1000)));
-    let mut second = granted(&rt, spawned(&pool, finding_future("runnable", b'z')));
-    let mut turns = granted(&rt, pool.turns(0));
-    let (ran, (first, second)) = thread::join(
+    let pool = new_pool(rt, rt.alloc(), 2);
+    let mut first = spawned(&pool, polled_future(1000));
+    let mut second = spawned(&pool, finding_future("runnable", b'z'));
+    let mut turns = turns_of(&pool);
+    let (ran, (polled, found)) = thread::join(
         &rt,
         || pool.run(1).is_ok(),
         || {
-            let first = turns.block_on(&mut first);
-            let second = turns.block_on(&mut second);
+            let polled = turns.block_on(&mut first);
+            let found = turns.block_on(&mut second);
             pool.shutdown();
-            (first, second)
+            (polled, found)
         },
     );
-    assert!(rt; ran && first == Ok(Answer::Polled(1001)) && second == Ok(Answer::Found(false)));
+    drop_turns(turns);
+    drop_task(second);
+    drop_task(first);
+    drop_pool(pool);
+    assert!(rt; ran && polled == Ok(Answer::Polled(1001)) && found == Ok(Answer::Found(false)));
 }

@@ -101,6 +101,21 @@ fn new_link<R: Wait + Drop + Copy>(
     })
 }
 
+// Spawns the task of a link.
+fn spawn_future<'x, R: Wait + Drop + Copy>(
+    pool: &'x LinkPool<R>,
+    worker: usize,
+    future: Link<R>,
+) -> Result<LinkTask<'x, R>, AllocError> {
+    match pool.spawn_on(worker, future) {
+        Ok(task) => Ok(task),
+        Err(refused) => {
+            drop(refused);
+            Err(AllocError)
+        }
+    }
+}
+
 /// Spawns a link with so many below it, of which the last one does this errand.
 pub fn spawn_link<'x, R: Wait + Drop + Copy>(
     pool: &'x LinkPool<R>,
@@ -109,8 +124,7 @@ pub fn spawn_link<'x, R: Wait + Drop + Copy>(
     errand: Errand,
     counts: &Arc<Counts>,
 ) -> Result<LinkTask<'x, R>, AllocError> {
-    let future = new_link(below, errand, counts)?;
-    pool.spawn_on(worker, future).ok().ok_or(AllocError)
+    spawn_future(pool, worker, new_link(below, errand, counts)?)
 }
 
 /// Spawns a link that awaits two, which do these errands.
@@ -122,7 +136,17 @@ pub fn spawn_pair<'x, R: Wait + Drop + Copy>(
 ) -> Result<LinkTask<'x, R>, AllocError> {
     let mut future = new_link(1, first, counts)?;
     future.second = Some(second);
-    pool.spawn(future).ok().ok_or(AllocError)
+    spawn_future(pool, pool.workers(), future)
+}
+
+/// Keeps a Task at a place: whether it was kept.
+pub fn keep<R: Wait + Drop + Copy>(task: LinkTask<'_, R>, key: &Key<R>) -> bool {
+    keep_task(task, key).is_ok()
+}
+
+// Takes a place for the waker of a link.
+fn own_place<'x, R: Wait + Drop + Copy>(waker: &LinkWaker<'x, R>) -> Option<Key<R>> {
+    place_for_waker(waker.around())
 }
 
 // Spawns a link for another one, and keeps its Task.
@@ -132,11 +156,12 @@ fn spawn_kept<'x, R: Wait + Drop + Copy>(
     errand: Errand,
     counts: &Arc<Counts>,
 ) -> Option<Key<R>> {
-    let (pool, worker) = waker.around();
-    let key = place_for_task(waker.around())?;
-    let task = spawn_link(pool, worker, below, errand, counts).ok()?;
-    keep_task(task, &key).ok()?;
-    Some(key)
+    let place = waker.around();
+    let key = place_for_task(place)?;
+    match spawn_link(place.0, place.1, below, errand, counts) {
+        Ok(task) => keep(task, &key).then_some(key),
+        Err(_) => None,
+    }
 }
 
 // One poll of the link at a place, for that of this waker. Where it is not pending the place is given up: its answer, 0 where it was closed or refused.
@@ -171,7 +196,7 @@ fn add_answer(sum: &mut u64, answer: Poll<u64>) -> bool {
 impl<R: Wait + Drop + Copy> Link<R> {
     // Spawns the links that this one awaits.
     fn spawn_next<'x>(&self, waker: &LinkWaker<'x, R>) -> Option<Places<R>> {
-        let own = place_for_waker(waker.around())?;
+        let own = own_place(waker)?;
         let below = self.below.saturating_sub(1);
         let first = spawn_kept(waker, below, self.errand, &self.counts);
         let second = match self.second {
@@ -202,7 +227,7 @@ impl<R: Wait + Drop + Copy> Link<R> {
     // Keeps the waker, and then says that it was kept once more.
     fn waits_for_knock<'x>(&mut self, waker: &LinkWaker<'x, R>) -> bool {
         if self.own.is_none() {
-            self.own = place_for_waker(waker.around());
+            self.own = own_place(waker);
         }
         let Some(own) = &self.own else {
             return false;

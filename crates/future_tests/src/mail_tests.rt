@@ -3,8 +3,11 @@ ghost use Rattle.std.specs.Prelude.{⊤};
 
 use crate::granted::granted;
 use async_task::{Future, Poll, Wake, Yields};
-use executor::{BellAwaiter, Key, Pool, PoolWaker, keep_waker, place_for_waker, wake_posted};
-use std::alloc::{AllocError, Global};
+use executor::{
+    BellAwaiter, Key, Pool, PoolWaker, Turns, keep_waker, place_for_waker, wake_posted,
+};
+use std::alloc::AllocError;
+use std::process::Abort;
 use std::sync::atomic::{AtomicU64, Ordering};
 use std::sync::{Arc, Wait};
 
@@ -52,40 +55,51 @@ impl<'x, R: Wait + Drop + Copy> Future<PosterWaker<'x, R>> for Poster<R> {
 }
 
 // Spawns a task whose waker is kept at a place of this worker's part, and lets it go on.
-fn spawn_poster<R: Wait + Drop + Copy>(
+fn spawn_poster<R: Wait + Abort + Drop + Copy>(
     pool: &PosterPool<R>,
-    alloc: Global,
     worker: usize,
     is_eager: bool,
-) -> Result<Arc<Seen>, AllocError> {
-    let key = place_for_waker((pool, worker)).ok_or(AllocError)?;
+) -> Arc<Seen> {
+    let rt = pool.rt();
+    let key = granted(&rt, place_for_waker((pool, worker)).ok_or(AllocError));
     let seen = Seen {
         polls: AtomicU64::new(0),
         number: AtomicU64::new(key.number() as u64),
     };
-    let seen = Arc::new(alloc, seen)?;
+    let seen = granted(&rt, Arc::new(pool.alloc(), seen));
     let poster = Poster {
         key,
         is_eager,
-        seen: Arc::try_clone(&seen)?,
+        seen: granted(&rt, Arc::try_clone(&seen)),
     };
-    pool.spawn(poster).ok().ok_or(AllocError)?.detach();
-    Ok(seen)
+    granted(&rt, pool.spawn(poster)).detach();
+    seen
+}
+
+// Runs the next task, as `Turns::tick` does: whether there was one. The prover takes no call of that where the runtime is a parameter.
+fn tick<R: Wait + Drop + Copy>(turns: &mut Turns<'_, R, Poster<R>, BellAwaiter<R>>) -> bool {
+    match turns.next() {
+        Some(runnable) => {
+            runnable.run();
+            true
+        }
+        None => false,
+    }
 }
 
 // The places are of two parts. In four turns the eager one is woken thrice and the other one once, in whatever order the parts come.
 #[test]
 fn a_number_that_is_always_posted_keeps_no_other_waiting(rt: HostRuntime) {
     let pool = granted(&rt, PosterPool::new(rt, rt.alloc(), 1));
-    let eager = granted(&rt, spawn_poster(&pool, rt.alloc(), 0, true));
-    let patient = granted(&rt, spawn_poster(&pool, rt.alloc(), 1, false));
+    let eager = spawn_poster(&pool, 0, true);
+    let patient = spawn_poster(&pool, 1, false);
     let mut turns = granted(&rt, pool.turns(0));
-    let first = (turns.tick(), turns.tick());
+    let first = (tick(&mut turns), tick(&mut turns));
     post(&pool, patient.number.load(Ordering::SeqCst) as usize);
     let mut woken = 0u8;
     for _ in 0..4 {
         woken = woken.saturating_add(u8::from(wake_posted((&pool, 0))));
-        turns.tick();
+        tick(&mut turns);
     }
     let polls = (
         eager.polls.load(Ordering::SeqCst),

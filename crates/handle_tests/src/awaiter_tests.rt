@@ -245,9 +245,9 @@ fn ends_after<R: Wait + Abort + Drop + Copy>(
     behaviour: Behaviour,
     first: First,
 ) -> Ends {
-    let awaiter = granted(rt, Watched::new(alloc));
+    let awaiter = Watched::new(rt, alloc);
     let counters = granted(rt, Arc::new(alloc, Counters::new()));
-    let (runnable, mut task) = granted(rt, spawn_watched(*rt, alloc, behaviour, &counters));
+    let (runnable, mut task) = spawn_watched(*rt, alloc, behaviour, &counters);
     drop(task.poll(&awaiter));
     end_by(runnable, task, first);
     awaiter.ends()

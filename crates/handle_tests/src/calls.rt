@@ -1,6 +1,7 @@
 //! Calls of handles of the rows, each in a function of its own that answers plain data. A test sees all that it looks at
 //! by these while its handles live, lets them go, and compares at its end.
 
+use crate::granted::granted;
 use async_task::{Cancel, TaskClosed, TaskPoll};
 use counted_values::behaviour::Behaviour;
 use counted_values::flag::Flag;
@@ -17,18 +18,12 @@ pub type RowCancel<'x, R> = Cancel<R, RowFuture, Scheduler, (), Flag, &'x Surrou
 
 /// Surroundings of a test's own. Stops where there is no memory.
 pub fn fixture<R: Wait + Abort + Drop + Copy>(rt: R, alloc: Global) -> Fixture<R> {
-    match Fixture::new(rt, alloc) {
-        Ok(fixture) => fixture,
-        Err(_) => panic!(rt; "no memory"),
-    }
+    granted(&rt, Fixture::new(rt, alloc))
 }
 
 /// An awaiter of that number. Stops where there is no memory.
 pub fn flag<R: Wait + Abort + Drop + Copy>(fixture: &Fixture<R>, number: u64) -> Flag {
-    match fixture.flag(number) {
-        Ok(flag) => flag,
-        Err(_) => panic!(fixture.rt; "no memory"),
-    }
+    granted(&fixture.rt, fixture.flag(number))
 }
 
 /// Spawns a task whose future behaves like that. Stops where there is no memory.
@@ -36,10 +31,7 @@ pub fn spawn<'x, R: Wait + Abort + Drop + Copy>(
     fixture: &'x Fixture<R>,
     behaviour: Behaviour,
 ) -> (RowRunnable<'x, R>, RowTask<'x, R>) {
-    match fixture.spawn(behaviour) {
-        Ok(handles) => handles,
-        Err(_) => panic!(fixture.rt; "no memory"),
-    }
+    granted(&fixture.rt, fixture.spawn(behaviour))
 }
 
 /// Spawns a task that may have that many references. Stops where there is no memory.
@@ -47,10 +39,10 @@ pub fn spawn_limited<'x, R: Wait + Abort + Drop + Copy>(
     fixture: &'x Fixture<R>,
     references: u64,
 ) -> (RowRunnable<'x, R>, RowTask<'x, R>) {
-    match fixture.spawn_limited(Behaviour::Pending, references) {
-        Ok(handles) => handles,
-        Err(_) => panic!(fixture.rt; "no memory"),
-    }
+    granted(
+        &fixture.rt,
+        fixture.spawn_limited(Behaviour::Pending, references),
+    )
 }
 
 /// Runs: what the run answers.
@@ -153,7 +145,7 @@ pub fn waker_of<'x, R: Wait + Abort + Drop + Copy>(
 
 /// Whether a Runnable is refused a waker. One that is given is dropped.
 pub fn refuses_waker<R: Wait + Drop>(runnable: &RowRunnable<'_, R>) -> bool {
-    runnable.waker().is_none()
+    !drop_given(runnable.waker())
 }
 
 /// A clone of a waker. Stops where it is refused.
@@ -169,7 +161,12 @@ pub fn clone_of<'x, R: Wait + Abort + Drop + Copy>(
 
 /// Whether a waker is refused a clone. One that is given is dropped.
 pub fn refuses_clone<R: Wait + Drop>(waker: &RowWaker<'_, R>) -> bool {
-    waker.try_clone().is_none()
+    !drop_given(waker.try_clone())
+}
+
+/// Drops a waker, if one was given: whether it was.
+pub fn drop_given<R: Wait + Drop>(given: Option<RowWaker<'_, R>>) -> bool {
+    given.is_some()
 }
 
 /// Wakes by value.

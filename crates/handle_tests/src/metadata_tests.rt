@@ -7,7 +7,7 @@ use counted_values::behaviour::Behaviour;
 use counted_values::counters::{Counter, Counters};
 use counted_values::flag::Flag;
 use fixtures::future::RowFuture;
-use std::alloc::{AllocError, Global};
+use std::alloc::Global;
 use std::process::Abort;
 use std::sync::{Arc, Wait};
 
@@ -43,20 +43,20 @@ impl<R: Wait + Drop> Schedule<TagRunnable<R>> for Dropper {
 }
 
 // Spawns a task whose metadata counts its drop here.
-fn spawn_tagged<R: Wait + Drop + Copy>(
+fn spawn_tagged<R: Wait + Abort + Drop + Copy>(
     rt: R,
     alloc: Global,
     drops: &Arc<Counter>,
-) -> Result<(TagRunnable<R>, TagTask<R>), AllocError> {
-    let counters = Arc::new(alloc, Counters::new())?;
+) -> (TagRunnable<R>, TagTask<R>) {
+    let counters = granted(&rt, Arc::new(alloc, Counters::new()));
     let future = RowFuture::new(Behaviour::Pending, counters);
     let tag = Tag {
-        drops: Arc::try_clone(drops)?,
+        drops: granted(&rt, Arc::try_clone(drops)),
     };
-    Builder::new()
+    let spawned = Builder::new()
         .metadata(tag)
-        .spawn(rt, alloc, |_| future, Dropper, ())
-        .map_err(|_| AllocError)
+        .spawn(rt, alloc, |_| future, Dropper, ());
+    granted(&rt, spawned)
 }
 
 fn drop_runnable<R: Wait + Drop>(runnable: TagRunnable<R>) {
@@ -77,7 +77,7 @@ fn drops_until_task<R: Wait + Abort + Drop + Copy>(
     alloc: Global,
     drops: &Arc<Counter>,
 ) -> [u64; 3] {
-    let (runnable, task) = granted(&rt, spawn_tagged(rt, alloc, drops));
+    let (runnable, task) = spawn_tagged(rt, alloc, drops);
     let spawned = drops.get();
     drop_runnable(runnable);
     let kept = drops.get();
@@ -99,7 +99,7 @@ fn drops_until_waker<R: Wait + Abort + Drop + Copy>(
     alloc: Global,
     drops: &Arc<Counter>,
 ) -> [u64; 3] {
-    let (runnable, task) = granted(&rt, spawn_tagged(rt, alloc, drops));
+    let (runnable, task) = spawn_tagged(rt, alloc, drops);
     let waker = runnable.waker();
     drop_task(task);
     let cancelled = drops.get();
@@ -124,7 +124,7 @@ fn show_parked<R: Wait + Abort + Drop + Copy>(
     alloc: Global,
     drops: &Arc<Counter>,
 ) -> [u64; 3] {
-    let (runnable, task) = granted(&rt, spawn_tagged(rt, alloc, drops));
+    let (runnable, task) = spawn_tagged(rt, alloc, drops);
     drops.add_one();
     let (runnable, task) = (runnable.park(), task.park());
     let by_runnable = runnable.metadata().drops.get();

@@ -1,5 +1,7 @@
 //! Tests of what is done while a Task registers: the drop of the older awaiter is the one place for it.
 
+use crate::calls;
+use crate::granted::granted;
 use crate::watched::{Ends, Watched, WatchedRunnable, WatchedTask, spawn_watched};
 use async_task::{TaskClosed, TaskPoll};
 use counted_values::behaviour::Behaviour;
@@ -10,7 +12,6 @@ use std::alloc::{AllocError, Global};
 use std::process::Abort;
 use std::string::String;
 use std::sync::{Arc, Wait};
-use std::test::Fail;
 use std::thread;
 use std::thread::Threads;
 
@@ -107,7 +108,9 @@ where
     let (runnable, mut task) = handles;
     let (older, newer) = awaiters;
     let waits = matches!(task.poll(older), TaskPoll::Pending);
-    let beside = poll_beside(&fixture.rt, alloc, (runnable, task), older, newer, runs)?;
+    let Some(beside) = poll_beside(&fixture.rt, alloc, (runnable, task), older, newer, runs) else {
+        return None;
+    };
     Some(look_at(fixture, beside, waits, word))
 }
 
@@ -115,32 +118,26 @@ where
 type Ended = (Option<Registered>, bool, [Ends; 2]);
 
 // Spawns a task that counts there, and lets it end while the second poll of its Task registers.
-fn register<R>(
-    rt: R,
-    alloc: Global,
-    counters: &Arc<Counters>,
-    runs: bool,
-    word: u64,
-) -> Result<Ended, AllocError>
-where
-    R: Wait + Threads + Drop + Copy + Send + Sync,
-{
-    let fixture = Fixture::new(rt, alloc)?;
-    let older = Watched::new(alloc)?;
-    let newer = Watched::new(alloc)?;
-    let handles = spawn_watched(rt, alloc, Behaviour::Ready(6), counters)?;
-    let registered = poll_twice(&fixture, alloc, handles, (&older, &newer), runs, word);
-    let ends = [older.ends(), newer.ends()];
-    Ok((registered, older.rendezvous().met(), ends))
-}
-
-// A task ends, by a run or by the drop of its Runnable, while the second poll of its Task registers.
-fn end_while_registering<R>(rt: R, alloc: Global, runs: bool, word: u64) -> Result<(), Fail>
+fn register<R>(rt: R, alloc: Global, counters: &Arc<Counters>, runs: bool, word: u64) -> Ended
 where
     R: Wait + Threads + Abort + Drop + Copy + Send + Sync,
 {
-    let counters = Arc::new(alloc, Counters::new())?;
-    let (registered, met, ends) = register(rt, alloc, &counters, runs, word)?;
+    let fixture = calls::fixture(rt, alloc);
+    let older = Watched::new(&rt, alloc);
+    let newer = Watched::new(&rt, alloc);
+    let handles = spawn_watched(rt, alloc, Behaviour::Ready(6), counters);
+    let registered = poll_twice(&fixture, alloc, handles, (&older, &newer), runs, word);
+    let ends = [older.ends(), newer.ends()];
+    (registered, older.rendezvous().met(), ends)
+}
+
+// A task ends, by a run or by the drop of its Runnable, while the second poll of its Task registers.
+fn end_while_registering<R>(rt: R, alloc: Global, runs: bool, word: u64)
+where
+    R: Wait + Threads + Abort + Drop + Copy + Send + Sync,
+{
+    let counters = granted(&rt, Arc::new(alloc, Counters::new()));
+    let (registered, met, ends) = register(rt, alloc, &counters, runs, word);
     let counts = counters.counts();
     let Some(registered) = registered else {
         panic!(rt; "no thread");
@@ -149,17 +146,16 @@ where
     assert!(rt; (answers, met) == ([true, runs, !runs, true, true], true));
     assert!(rt; ends == [Ends::new(1, 0, 0, 1), Ends::new(1, 1, 0, 0)]);
     assert!(rt; counts == Counts::new(u64::from(runs), 0, 1, 1));
-    assert!(rt; text?.as_str() == REGISTERING);
-    Ok(())
+    assert!(rt; granted(&rt, text).as_str() == REGISTERING);
 }
 
 // The poll is ready by its second look, and wakes its own awaiter, which the other thread could not take.
 #[test]
-fn a_run_while_a_task_registers_is_seen_by_its_poll(rt: HostRuntime) -> Result<(), Fail> {
-    end_while_registering(rt, rt.alloc(), true, 0x01C)
+fn a_run_while_a_task_registers_is_seen_by_its_poll(rt: HostRuntime) {
+    end_while_registering(rt, rt.alloc(), true, 0x01C);
 }
 
 #[test]
-fn a_drop_while_a_task_registers_is_seen_by_its_poll(rt: HostRuntime) -> Result<(), Fail> {
-    end_while_registering(rt, rt.alloc(), false, 0x018)
+fn a_drop_while_a_task_registers_is_seen_by_its_poll(rt: HostRuntime) {
+    end_while_registering(rt, rt.alloc(), false, 0x018);
 }

@@ -10,7 +10,7 @@ use counted_values::output::is_ready_with;
 use fixtures::fixture::Fixture;
 use fixtures::future::RowFuture;
 use fixtures::surroundings::{RowWaker, Scheduler, Surroundings};
-use std::alloc::{AllocError, Global};
+use std::alloc::Global;
 use std::mem;
 use std::process::Abort;
 use std::sync::{Arc, Wait};
@@ -46,10 +46,10 @@ fn an_idle_task_ends_by_a_closing_runnable(rt: HostRuntime) {
 }
 
 // Spawns a task without surroundings, detaches it and runs it: what the run answered.
-fn run_detached_bare<R: Wait + Drop + Copy>(fixture: &Fixture<R>) -> Result<bool, AllocError> {
-    let (runnable, task) = fixture.spawn_bare(Behaviour::Pending)?;
+fn run_detached_bare<R: Wait + Abort + Drop + Copy>(fixture: &Fixture<R>) -> bool {
+    let (runnable, task) = granted(&fixture.rt, fixture.spawn_bare(Behaviour::Pending));
     task.detach();
-    Ok(runnable.run())
+    runnable.run()
 }
 
 // The run of a detached pending task without wakers hands a closing Runnable over, which the schedule value drops.
@@ -57,7 +57,7 @@ fn run_detached_bare<R: Wait + Drop + Copy>(fixture: &Fixture<R>) -> Result<bool
 fn a_closing_runnable_may_be_dropped(rt: HostRuntime) {
     let fixture = calls::fixture(rt, rt.alloc());
     let rescheduled = run_detached_bare(&fixture);
-    assert!(rt; (rescheduled, fixture.counts()) == (Ok(false), Counts::new(1, 1, 1, 1)));
+    assert!(rt; (rescheduled, fixture.counts()) == (false, Counts::new(1, 1, 1, 1)));
 }
 
 // Parks a waker, unparks it and discards it.
@@ -154,37 +154,29 @@ type AwaitedTask<'x, R> = Task<R, RowFuture, Scheduler, (), RowWaker<'x, R>, ()>
 type AwaitedHandles<'x, R> = (AwaitedRunnable<'x, R>, AwaitedTask<'x, R>);
 
 // Spawns a task that other tasks may await, whose future answers 5 and which counts here.
-fn spawn_awaited<'x, R: Wait + Drop + Copy>(
+fn spawn_awaited<'x, R: Wait + Abort + Drop + Copy>(
     rt: R,
     alloc: Global,
     counters: &Arc<Counters>,
-) -> Result<AwaitedHandles<'x, R>, AllocError> {
-    let future = RowFuture::new(Behaviour::Ready(5), Arc::try_clone(counters)?);
-    let scheduler = Scheduler::new(Arc::try_clone(counters)?);
-    spawn(rt, alloc, future, scheduler, ()).map_err(|_| AllocError)
+) -> AwaitedHandles<'x, R> {
+    let future = RowFuture::new(Behaviour::Ready(5), granted(&rt, Arc::try_clone(counters)));
+    let scheduler = Scheduler::new(granted(&rt, Arc::try_clone(counters)));
+    granted(&rt, spawn(rt, alloc, future, scheduler, ()))
 }
 
 // What was seen of a task that is awaited by a waker: whether it was pending and then ready, and what was queued before its run and after it.
 type Awaited = ([bool; 2], [usize; 2]);
 
-// Polls such a Task: whether it is pending.
-fn awaits<'x, R: Wait + Drop>(task: &mut AwaitedTask<'x, R>, waker: &RowWaker<'x, R>) -> bool {
-    matches!(task.poll(waker), TaskPoll::Pending)
-}
-
-// Polls such a Task: whether it is ready.
-fn has_awaited<'x, R: Wait + Drop>(task: &mut AwaitedTask<'x, R>, waker: &RowWaker<'x, R>) -> bool {
-    is_ready_with(&task.poll(waker), 5)
-}
-
-// Runs such a task.
-fn run_awaited<R: Wait + Drop>(runnable: AwaitedRunnable<'_, R>) {
-    runnable.run();
-}
-
-// Drops such a Task.
-fn drop_awaited<R: Wait + Drop>(task: AwaitedTask<'_, R>) {
-    drop(task);
+// Polls such a Task: whether it is pending, and whether it is ready.
+fn poll_awaited<'x, R: Wait + Drop>(
+    task: &mut AwaitedTask<'x, R>,
+    waker: &RowWaker<'x, R>,
+) -> (bool, bool) {
+    let polled = task.poll(waker);
+    (
+        matches!(&polled, TaskPoll::Pending),
+        is_ready_with(&polled, 5),
+    )
 }
 
 fn await_by<'x, R: Wait + Drop>(
@@ -193,12 +185,12 @@ fn await_by<'x, R: Wait + Drop>(
     runnable: AwaitedRunnable<'x, R>,
     mut task: AwaitedTask<'x, R>,
 ) -> Awaited {
-    let waits = awaits(&mut task, waker);
+    let (waits, _) = poll_awaited(&mut task, waker);
     let before = surroundings.queued();
-    run_awaited(runnable);
+    runnable.run();
     let after = surroundings.queued();
-    let completed = has_awaited(&mut task, waker);
-    drop_awaited(task);
+    let (_, completed) = poll_awaited(&mut task, waker);
+    drop(task);
     ([waits, completed], [before, after])
 }
 
@@ -207,8 +199,8 @@ fn await_another<R: Wait + Abort + Drop + Copy>(
     fixture: &Fixture<R>,
     alloc: Global,
     counters: &Arc<Counters>,
-) -> Result<(Awaited, Counts), AllocError> {
-    let (awaited_runnable, awaited) = spawn_awaited(fixture.rt, alloc, counters)?;
+) -> (Awaited, Counts) {
+    let (awaited_runnable, awaited) = spawn_awaited(fixture.rt, alloc, counters);
     let (runnable, task) = calls::spawn(fixture, Behaviour::Pending);
     let waker = calls::waker_of(fixture.rt, &runnable);
     calls::run(runnable);
@@ -216,7 +208,7 @@ fn await_another<R: Wait + Abort + Drop + Copy>(
     let counts = fixture.counts();
     calls::drop_waker(waker);
     calls::drop_task(task);
-    Ok((seen, counts))
+    (seen, counts)
 }
 
 // A task that awaits another one by its own waker is scheduled once the other one has completed.
@@ -228,7 +220,7 @@ fn a_task_awaits_another(rt: HostRuntime) {
     assert!(rt;
         (seen, counters.counts())
             == (
-                Ok((([true; 2], [0, 1]), Counts::new(1, 1, 0, 0))),
+                (([true; 2], [0, 1]), Counts::new(1, 1, 0, 0)),
                 Counts::new(1, 0, 1, 1)
             )
     );
@@ -268,11 +260,6 @@ fn run_keeping<R: Wait + Abort + Drop + Copy>(fixture: &Fixture<R>) {
     calls::wake(waker);
 }
 
-// Drops the waker that was kept: whether there was one.
-fn drop_kept<R: Wait + Drop>(surroundings: &Surroundings<R>) -> bool {
-    surroundings.take_kept().is_some()
-}
-
 // A poll that keeps its waker drops the one that an earlier poll kept: else the task would have another handle.
 #[test]
 fn a_kept_waker_replaces_the_one_before(rt: HostRuntime) {
@@ -280,8 +267,8 @@ fn a_kept_waker_replaces_the_one_before(rt: HostRuntime) {
     run_keeping(&fixture);
     let second = fixture.surroundings.run_next();
     let kept = fixture.counts();
-    let dropped = drop_kept(&fixture.surroundings);
-    let has_another = drop_kept(&fixture.surroundings);
+    let dropped = calls::drop_given(fixture.surroundings.take_kept());
+    let has_another = calls::drop_given(fixture.surroundings.take_kept());
     let last = fixture.surroundings.run_next();
     assert!(rt; ([second, last], dropped, has_another) == ([Some(false); 2], true, false));
     assert!(rt; [kept, fixture.counts()] == [Counts::new(2, 1, 0, 0), Counts::new(2, 2, 1, 1)]);

@@ -1,13 +1,15 @@
 //! An awaiter that counts each kind of end apart, and whose drop may wait for a second thread.
 ghost use Rattle.std.specs.Prelude.{⊤};
 
+use crate::granted::granted;
 use async_task::{Runnable, Task, Wake, spawn};
 use counted_values::behaviour::Behaviour;
 use counted_values::counters::{Counter, Counters};
 use fixtures::future::RowFuture;
 use fixtures::rendezvous::Rendezvous;
 use fixtures::surroundings::Scheduler;
-use std::alloc::{AllocError, Global};
+use std::alloc::Global;
+use std::process::Abort;
 use std::sync::{Arc, Wait};
 
 /// How often an awaiter was cloned, and how the clones ended.
@@ -51,8 +53,8 @@ pub struct Watched {
 }
 
 impl Watched {
-    /// An awaiter with counters at zero.
-    pub fn new(alloc: Global) -> Result<Watched, AllocError> {
+    /// An awaiter with counters at zero. Stops where there is no memory.
+    pub fn new<R: Abort>(rt: &R, alloc: Global) -> Watched {
         let tally = Tally {
             clones: Counter::new(),
             wakes: Counter::new(),
@@ -60,9 +62,9 @@ impl Watched {
             drops: Counter::new(),
             rendezvous: Rendezvous::new(),
         };
-        Ok(Watched {
-            tally: Arc::new(alloc, tally)?,
-        })
+        Watched {
+            tally: granted(rt, Arc::new(alloc, tally)),
+        }
     }
 
     /// The counters so far.
@@ -110,7 +112,9 @@ impl Wake for Watched {
     }
 
     fn try_clone(&self) -> Option<Watched> {
-        let tally = Arc::try_clone(&self.tally).ok()?;
+        let Ok(tally) = Arc::try_clone(&self.tally) else {
+            return None;
+        };
         tally.clones.add_one();
         Some(Watched { tally })
     }
@@ -126,14 +130,14 @@ pub type WatchedRunnable<R> = Runnable<R, RowFuture, Scheduler, (), Watched, ()>
 /// A Task without surroundings that is awaited by such awaiters.
 pub type WatchedTask<R> = Task<R, RowFuture, Scheduler, (), Watched, ()>;
 
-/// Spawns such a task, which counts here. Its schedule value drops each Runnable.
-pub fn spawn_watched<R: Wait + Drop + Copy>(
+/// Spawns such a task, which counts here. Its schedule value drops each Runnable. Stops where there is no memory.
+pub fn spawn_watched<R: Wait + Abort + Drop + Copy>(
     rt: R,
     alloc: Global,
     behaviour: Behaviour,
     counters: &Arc<Counters>,
-) -> Result<(WatchedRunnable<R>, WatchedTask<R>), AllocError> {
-    let future = RowFuture::new(behaviour, Arc::try_clone(counters)?);
-    let scheduler = Scheduler::new(Arc::try_clone(counters)?);
-    spawn(rt, alloc, future, scheduler, ()).map_err(|_| AllocError)
+) -> (WatchedRunnable<R>, WatchedTask<R>) {
+    let future = RowFuture::new(behaviour, granted(&rt, Arc::try_clone(counters)));
+    let scheduler = Scheduler::new(granted(&rt, Arc::try_clone(counters)));
+    granted(&rt, spawn(rt, alloc, future, scheduler, ()))
 }

@@ -3,7 +3,7 @@ ghost use Rattle.std.specs.Prelude.{⊤};
 
 use async_task::{Future, Poll, TaskPoll, Wake, Yields};
 use awaiters::Nobody;
-use executor::{Pool, PoolTask, PoolWaker};
+use executor::{Pool, PoolTask, PoolWaker, Turns};
 use std::alloc::{AllocError, Global};
 use std::collections::VecDeque;
 use std::sync::atomic::{AtomicBool, AtomicU64, Ordering};
@@ -129,6 +129,9 @@ pub type GuestPool<R> = Pool<R, Guest, Nobody>;
 /// The Task of such a guest.
 pub type GuestTask<'x, R> = PoolTask<'x, R, Guest, Nobody>;
 
+/// The turns of a worker of such a pool.
+pub type GuestTurns<'x, R> = Turns<'x, R, Guest, Nobody>;
+
 /// Spawns a guest at the queue of a worker, or from outside where there is no worker of this number.
 pub fn spawn_guest<'x, R: Wait + Drop + Copy, A: Wake>(
     pool: &'x Pool<R, Guest, A>,
@@ -136,8 +139,13 @@ pub fn spawn_guest<'x, R: Wait + Drop + Copy, A: Wake>(
     errand: Errand,
     guests: &Arc<Guests>,
 ) -> Result<PoolTask<'x, R, Guest, A>, AllocError> {
-    let guest = Guest::new(errand, guests)?;
-    pool.spawn_on(worker, guest).ok().ok_or(AllocError)
+    match pool.spawn_on(worker, Guest::new(errand, guests)?) {
+        Ok(task) => Ok(task),
+        Err(refused) => {
+            drop(refused);
+            Err(AllocError)
+        }
+    }
 }
 
 /// Spawns so many guests that give way ten times, at the queue of a worker.

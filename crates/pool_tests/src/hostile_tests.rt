@@ -1,13 +1,13 @@
 //! Hostile use of a pool: a future that never yields, wakes after a shutdown, and calls that make no sense.
-use crate::granted::granted;
-use crate::guest::{
-    Errand, GuestPool, Guests, is_closed, output_of, shares_and_polls, spawn_guest, spawn_guests,
+use crate::calls::{
+    all_turns, drop_all, drop_pool, drop_task, drop_tasks, drop_turns, guest_task, guest_tasks,
+    is_empty, keep, new_guests, new_pool, place_of_task, shut_down, tick, turns_of,
 };
+use crate::guest::{Errand, GuestPool, is_closed, output_of, shares_and_polls};
 use async_task::TaskPoll;
 use awaiters::Nobody;
-use executor::{Key, keep_task, place_for_task, poll_kept, wake_kept};
-use std::alloc::AllocError;
-use std::sync::{Arc, Wait};
+use executor::{Key, poll_kept, wake_kept};
+use std::sync::Wait;
 use std::thread;
 use work_queues::board::MOST_WORKERS;
 
@@ -17,49 +17,67 @@ const BEHIND: u64 = 100;
 // The others stand in the queue of the same worker.
 #[test]
 fn a_future_that_never_yields_keeps_only_its_thread(rt: HostRuntime) {
-    let guests = granted(&rt, Guests::new(rt.alloc(), BEHIND));
-    let pool = granted(&rt, GuestPool::new(rt, rt.alloc(), 2));
-    let mut task = granted(&rt, spawn_guest(&pool, 0, Errand::SpinAndEnd, &guests));
-    let tasks = granted(&rt, spawn_guests(&pool, 0, BEHIND, &guests));
-    let mut all = granted(&rt, pool.all_turns());
+    let guests = new_guests(&rt, rt.alloc(), BEHIND);
+    let pool = new_pool(rt, rt.alloc(), 2);
+    let mut task = guest_task(&pool, 0, Errand::SpinAndEnd, &guests);
+    let tasks = guest_tasks(&pool, 0, BEHIND, &guests);
+    let mut all = all_turns(&pool);
     thread::for_each_mut(&rt, &mut all, 2, &|_, turns| turns.work());
     let answer = output_of(&mut task);
-    drop(task);
-    drop(tasks);
+    drop_task(task);
+    drop_tasks(tasks);
     let (left, _) = shares_and_polls(&guests);
+    drop_all(all);
+    drop_pool(pool);
     assert!(rt; answer == Some(BEHIND) && left == 1);
 }
 
 #[test]
 fn a_wake_after_the_shutdown_does_nothing(rt: HostRuntime) {
-    let guests = granted(&rt, Guests::new(rt.alloc(), 0));
-    let pool = granted(&rt, GuestPool::new(rt, rt.alloc(), 1));
-    let mut task = granted(&rt, spawn_guest(&pool, 1, Errand::ShutDown, &guests));
-    let mut turns = granted(&rt, pool.turns(0));
-    let ran = turns.tick();
-    let ran_again = turns.tick();
+    let guests = new_guests(&rt, rt.alloc(), 0);
+    let pool = new_pool(rt, rt.alloc(), 1);
+    let mut task = guest_task(&pool, 1, Errand::ShutDown, &guests);
+    let mut turns = turns_of(&pool, 0);
+    let ran = tick(&mut turns);
+    let ran_again = tick(&mut turns);
     let closed = is_closed(&mut task);
     let (left, polls) = shares_and_polls(&guests);
+    drop_turns(turns);
+    drop_task(task);
+    drop_pool(pool);
     assert!(rt; ran && !ran_again && closed && left == 1 && polls == 1);
+}
+
+// How many workers a pool has that was asked for so many.
+fn workers_of<R: Wait + Drop + Copy>(pool: GuestPool<R>) -> usize {
+    pool.workers()
 }
 
 #[test]
 fn a_pool_has_one_worker_at_least_and_has_a_most(rt: HostRuntime) {
-    let few = granted(&rt, GuestPool::new(rt, rt.alloc(), 0)).workers();
-    let many = granted(&rt, GuestPool::new(rt, rt.alloc(), MOST_WORKERS + 1)).workers();
+    let few = workers_of(new_pool(rt, rt.alloc(), 0));
+    let many = workers_of(new_pool(rt, rt.alloc(), MOST_WORKERS + 1));
     assert!(rt; few == 1 && many == MOST_WORKERS);
+}
+
+// Whether the turns of a number are refused.
+fn refuses_turns<R: Wait + Drop + Copy>(pool: &GuestPool<R>, worker: usize) -> bool {
+    pool.turns(worker).is_err()
 }
 
 #[test]
 fn a_worker_that_does_not_exist_is_refused_or_outside(rt: HostRuntime) {
-    let guests = granted(&rt, Guests::new(rt.alloc(), 1));
-    let pool = granted(&rt, GuestPool::new(rt, rt.alloc(), 1));
-    let refused = pool.turns(1).is_err() && pool.run(1).is_err();
-    let mut task = granted(&rt, spawn_guest(&pool, 99, Errand::GiveWay(0), &guests));
+    let guests = new_guests(&rt, rt.alloc(), 1);
+    let pool = new_pool(rt, rt.alloc(), 1);
+    let refused = refuses_turns(&pool, 1) && pool.run(1).is_err();
+    let mut task = guest_task(&pool, 99, Errand::GiveWay(0), &guests);
     pool.bells().interrupt_worker(99);
-    let mut turns = granted(&rt, pool.turns(0));
-    let ran = turns.tick();
+    let mut turns = turns_of(&pool, 0);
+    let ran = tick(&mut turns);
     let answer = output_of(&mut task);
+    drop_turns(turns);
+    drop_task(task);
+    drop_pool(pool);
     assert!(rt; refused && ran && answer == Some(1));
 }
 
@@ -73,15 +91,16 @@ fn may_have_turns<R: Wait + Drop + Copy>(pool: &GuestPool<R>, worker: usize) -> 
 // A run of a pool that was shut down ends at once.
 #[test]
 fn no_two_threads_are_one_worker(rt: HostRuntime) {
-    let pool = granted(&rt, GuestPool::new(rt, rt.alloc(), 2));
-    pool.shutdown();
-    let turns = granted(&rt, pool.turns(0));
+    let pool = new_pool(rt, rt.alloc(), 2);
+    shut_down(&pool);
+    let turns = turns_of(&pool, 0);
     let while_it_lives = may_have_turns(&pool, 0);
     let runs_beside_it = pool.run(0).is_ok();
-    let the_other = pool.turns(1).is_ok();
-    drop(turns);
+    let the_other = !refuses_turns(&pool, 1);
+    drop_turns(turns);
     let once_dropped = may_have_turns(&pool, 0);
     let runs_after_it = pool.run(0).is_ok();
+    drop_pool(pool);
     assert!(rt; while_it_lives == [false, false] && !runs_beside_it && the_other);
     assert!(rt; once_dropped == [true, true] && runs_after_it);
 }
@@ -91,11 +110,6 @@ fn is_pending<R: Wait + Drop + Copy>(pool: &GuestPool<R>, key: &Key<R>) -> bool 
     matches!(poll_kept((pool, 0), key, &Nobody), Some(TaskPoll::Pending))
 }
 
-// Whether there is no Task at the place of a key.
-fn is_empty<R: Wait + Drop + Copy>(pool: &GuestPool<R>, key: &Key<R>) -> bool {
-    poll_kept((pool, 0), key, &Nobody).is_none()
-}
-
 // Whether a waker was kept under one of two numbers.
 fn wakes_any<R: Wait + Drop + Copy>(pool: &GuestPool<R>) -> bool {
     wake_kept((pool, 0), 0) || wake_kept((pool, 99), usize::MAX)
@@ -103,61 +117,68 @@ fn wakes_any<R: Wait + Drop + Copy>(pool: &GuestPool<R>) -> bool {
 
 #[test]
 fn an_empty_place_answers_that_it_is_empty(rt: HostRuntime) {
-    let guests = granted(&rt, Guests::new(rt.alloc(), 1));
-    let pool = granted(&rt, GuestPool::new(rt, rt.alloc(), 1));
-    let key = granted(&rt, place_for_task((&pool, 0)).ok_or(AllocError));
+    let guests = new_guests(&rt, rt.alloc(), 1);
+    let pool = new_pool(rt, rt.alloc(), 1);
+    let key = place_of_task(&pool);
     let before = is_empty(&pool, &key);
     let woken = wakes_any(&pool);
-    let task = granted(&rt, spawn_guest(&pool, 1, Errand::Stay, &guests));
-    let kept = keep_task(task, &key).is_ok();
+    let task = guest_task(&pool, 1, Errand::Stay, &guests);
+    let kept = keep(task, &key);
     let pending = is_pending(&pool, &key);
+    drop_pool(pool);
     assert!(rt; before && !woken && kept && pending);
 }
 
 // The second pool has a Task at the place of the same number.
 #[test]
 fn a_key_of_another_pool_keeps_no_task(rt: HostRuntime) {
-    let guests = granted(&rt, Guests::new(rt.alloc(), 1));
-    let pool = granted(&rt, GuestPool::new(rt, rt.alloc(), 1));
-    let other = granted(&rt, GuestPool::new(rt, rt.alloc(), 1));
-    let foreign = granted(&rt, place_for_task((&pool, 0)).ok_or(AllocError));
-    let key = granted(&rt, place_for_task((&other, 0)).ok_or(AllocError));
-    let task = granted(&rt, spawn_guest(&other, 1, Errand::Stay, &guests));
-    let kept = keep_task(task, &key).is_ok();
-    let task = granted(&rt, spawn_guest(&other, 1, Errand::Stay, &guests));
-    let refused = keep_task(task, &foreign).is_err();
+    let guests = new_guests(&rt, rt.alloc(), 1);
+    let pool = new_pool(rt, rt.alloc(), 1);
+    let other = new_pool(rt, rt.alloc(), 1);
+    let foreign = place_of_task(&pool);
+    let key = place_of_task(&other);
+    let kept = keep(guest_task(&other, 1, Errand::Stay, &guests), &key);
+    let refused = !keep(guest_task(&other, 1, Errand::Stay, &guests), &foreign);
     let empty = is_empty(&other, &foreign);
     let pending = is_pending(&other, &key);
     let same = key.number() == foreign.number();
+    drop_pool(other);
+    drop_pool(pool);
     assert!(rt; kept && refused && empty && pending && same);
 }
 
 // The interruptions are counted after the shutdown, so they do not keep it from a sleep.
 #[test]
 fn a_rest_after_the_shutdown_returns(rt: HostRuntime) {
-    let pool = granted(&rt, GuestPool::new(rt, rt.alloc(), 1));
-    let mut turns = granted(&rt, pool.turns(0));
-    pool.shutdown();
+    let pool = new_pool(rt, rt.alloc(), 1);
+    let mut turns = turns_of(&pool, 0);
+    shut_down(&pool);
     let interruptions = pool.bells().interruptions();
     turns.rest(interruptions);
-    assert!(rt; interruptions > 0 && pool.is_shut_down());
+    let ended = pool.is_shut_down();
+    drop_turns(turns);
+    drop_pool(pool);
+    assert!(rt; interruptions > 0 && ended);
 }
 
 // Also a second shutdown, and no futures to spawn.
 #[test]
 fn a_pool_that_was_shut_down_cancels_what_comes(rt: HostRuntime) {
-    let guests = granted(&rt, Guests::new(rt.alloc(), 1));
-    let pool = granted(&rt, GuestPool::new(rt, rt.alloc(), 2));
-    pool.shutdown();
-    pool.shutdown();
-    let mut task = granted(&rt, spawn_guest(&pool, 2, Errand::GiveWay(0), &guests));
-    let mut all = granted(&rt, pool.all_turns());
+    let guests = new_guests(&rt, rt.alloc(), 1);
+    let pool = new_pool(rt, rt.alloc(), 2);
+    shut_down(&pool);
+    shut_down(&pool);
+    let mut task = guest_task(&pool, 2, Errand::GiveWay(0), &guests);
+    let mut all = all_turns(&pool);
     thread::for_each_mut(&rt, &mut all, 2, &|_, turns| turns.work());
-    drop(all);
-    let mut turns = granted(&rt, pool.turns(1));
-    let ran = turns.tick();
+    drop_all(all);
+    let mut turns = turns_of(&pool, 1);
+    let ran = tick(&mut turns);
     let closed = is_closed(&mut task);
-    let none = granted(&rt, spawn_guests(&pool, 0, 0, &guests)).len();
+    let none = drop_tasks(guest_tasks(&pool, 0, 0, &guests));
     let (_, polls) = shares_and_polls(&guests);
+    drop_turns(turns);
+    drop_task(task);
+    drop_pool(pool);
     assert!(rt; !ran && closed && none == 0 && polls == 0);
 }

@@ -1,15 +1,17 @@
 //! What a pool keeps for futures: what is put there after a shutdown, and what a turn frees.
 ghost use Rattle.std.specs.Prelude.{⊤};
 
+use crate::calls::{
+    drop_pool, drop_turns, guest_task, is_empty, keep, new_guests, new_pool, place_of_task,
+    shut_down, tick, turns_of,
+};
 use crate::granted::granted;
-use crate::guest::{Errand, GuestPool, Guests, shares_and_polls, spawn_guest};
+use crate::guest::{Errand, GuestPool, GuestTurns, Guests, shares_and_polls};
 use async_task::{Future, Poll, TaskPoll, Yields};
 use awaiters::Nobody;
-use executor::{
-    Key, Pool, PoolTask, PoolWaker, collect, keep_task, keep_waker, place_for_task,
-    place_for_waker, poll_kept,
-};
+use executor::{Key, Pool, PoolTask, PoolWaker, collect, keep_waker, place_for_waker};
 use std::alloc::AllocError;
+use std::process::Abort;
 use std::sync::atomic::{AtomicBool, Ordering};
 use std::sync::{Arc, Wait};
 
@@ -40,15 +42,39 @@ type KeepsPool<R> = Pool<R, Keeps<R>, Nobody>;
 
 type KeepsTask<'x, R> = PoolTask<'x, R, Keeps<R>, Nobody>;
 
-fn spawn_keeps<'x, R: Wait + Drop + Copy>(
+fn spawn_keeps<'x, R: Wait + Abort + Drop + Copy>(
     pool: &'x KeepsPool<R>,
     kept: &Arc<AtomicBool>,
-) -> Result<KeepsTask<'x, R>, AllocError> {
+) -> KeepsTask<'x, R> {
+    let rt = pool.rt();
     let keeps = Keeps {
-        key: place_for_waker((pool, 0)).ok_or(AllocError)?,
-        kept: Arc::try_clone(kept)?,
+        key: granted(&rt, place_for_waker((pool, 0)).ok_or(AllocError)),
+        kept: granted(&rt, Arc::try_clone(kept)),
     };
-    pool.spawn(keeps).ok().ok_or(AllocError)
+    granted(&rt, pool.spawn(keeps))
+}
+
+// Runs the only task of a pool: whether it ran, and whether a poll of its Task answers that it is closed.
+fn run_and_poll<R: Wait + Abort + Drop + Copy>(
+    pool: &KeepsPool<R>,
+    mut task: KeepsTask<'_, R>,
+) -> (bool, bool) {
+    let mut turns = granted(&pool.rt(), pool.turns(0));
+    let ran = match turns.next() {
+        Some(runnable) => {
+            runnable.run();
+            true
+        }
+        None => false,
+    };
+    let closed = matches!(task.poll(&Nobody), TaskPoll::Ready(Err(_)));
+    (ran, closed)
+}
+
+// Frees the places of keys that were dropped: how many places for wakers are taken then.
+fn places_left<R: Wait + Drop + Copy>(pool: &KeepsPool<R>) -> usize {
+    collect((pool, 0));
+    pool.kept_wakers()
 }
 
 // Whether a waker was kept, and how many owners that word has.
@@ -61,62 +87,61 @@ fn kept_and_owners(kept: &Arc<AtomicBool>) -> (bool, usize) {
 fn a_waker_that_is_kept_after_the_shutdown_cancels_its_task(rt: HostRuntime) {
     let kept = granted(&rt, Arc::new(rt.alloc(), AtomicBool::new(false)));
     let pool = granted(&rt, KeepsPool::new(rt, rt.alloc(), 1));
-    let mut task = granted(&rt, spawn_keeps(&pool, &kept));
-    let mut turns = granted(&rt, pool.turns(0));
-    let ran = turns.tick();
-    let closed = matches!(task.poll(&Nobody), TaskPoll::Ready(Err(_)));
-    collect((&pool, 0));
-    let (places, seen) = (pool.kept_wakers(), kept_and_owners(&kept));
+    let (ran, closed) = run_and_poll(&pool, spawn_keeps(&pool, &kept));
+    let (places, seen) = (places_left(&pool), kept_and_owners(&kept));
     assert!(rt; ran && closed && places == 0 && seen == (true, 1));
-}
-
-// Whether there is no Task at the place of a key.
-fn is_empty<R: Wait + Drop + Copy>(pool: &GuestPool<R>, key: &Key<R>) -> bool {
-    poll_kept((pool, 0), key, &Nobody).is_none()
 }
 
 // The task was polled once and waits: it is neither queued nor kept as the pool is shut down, so it lives until its Task is put into the place. Its future, which then is dropped, has a share of what guests count.
 #[test]
 fn a_task_that_is_kept_after_the_shutdown_is_cancelled(rt: HostRuntime) {
-    let guests = granted(&rt, Guests::new(rt.alloc(), 0));
-    let pool = granted(&rt, GuestPool::new(rt, rt.alloc(), 1));
-    let key = granted(&rt, place_for_task((&pool, 0)).ok_or(AllocError));
-    let task = granted(&rt, spawn_guest(&pool, 1, Errand::Stay, &guests));
-    let mut turns = granted(&rt, pool.turns(0));
-    let ran = turns.tick();
-    pool.shutdown();
+    let guests = new_guests(&rt, rt.alloc(), 0);
+    let pool = new_pool(rt, rt.alloc(), 1);
+    let key = place_of_task(&pool);
+    let task = guest_task(&pool, 1, Errand::Stay, &guests);
+    let mut turns = turns_of(&pool, 0);
+    let ran = tick(&mut turns);
+    shut_down(&pool);
     let before = shares_and_polls(&guests);
-    let kept = keep_task(task, &key).is_ok();
+    let kept = keep(task, &key);
     let after = shares_and_polls(&guests);
     let is_gone = is_empty(&pool, &key);
+    drop_turns(turns);
+    drop_pool(pool);
     assert!(rt; ran && kept && is_gone && before == (2, 1) && after == (1, 1));
 }
 
-// Keeps the Task of a guest, and drops the key: how many places for Tasks are taken.
-fn keep_and_drop_key<R: Wait + Drop + Copy>(
+// Keeps the Task of a guest, and drops the key: whether it was kept, and how many places for Tasks are taken.
+fn keep_and_drop_key<R: Wait + Abort + Drop + Copy>(
     pool: &GuestPool<R>,
     guests: &Arc<Guests>,
-) -> Result<usize, AllocError> {
-    let key = place_for_task((pool, 0)).ok_or(AllocError)?;
-    let task = spawn_guest(pool, 1, Errand::Stay, guests)?;
-    keep_task(task, &key).ok().ok_or(AllocError)?;
+) -> (bool, usize) {
+    let key = place_of_task(pool);
+    let kept = keep(guest_task(pool, 1, Errand::Stay, guests), &key);
     drop(key);
-    Ok(pool.kept_tasks())
+    (kept, pool.kept_tasks())
 }
 
-// The interruption keeps the turn from a sleep. It answers the Runnable of the task that it cancelled, which drops the future.
-#[test]
-fn a_turn_frees_the_place_of_a_dropped_key(rt: HostRuntime) {
-    let guests = granted(&rt, Guests::new(rt.alloc(), 0));
-    let pool = granted(&rt, GuestPool::new(rt, rt.alloc(), 1));
-    let before = granted(&rt, keep_and_drop_key(&pool, &guests));
-    let mut turns = granted(&rt, pool.turns(0));
+// One turn, which an interruption keeps from a sleep, and the run of what it answers: how many places for Tasks are taken then.
+fn take_turn<R: Wait + Drop + Copy>(pool: &GuestPool<R>, turns: &mut GuestTurns<'_, R>) -> usize {
     let interruptions = pool.bells().interruptions();
     pool.bells().interrupt();
     if let Some(runnable) = turns.take_turn(interruptions) {
         runnable.run();
     }
-    let after = pool.kept_tasks();
+    pool.kept_tasks()
+}
+
+// The turn answers the Runnable of the task that it cancelled, which drops the future.
+#[test]
+fn a_turn_frees_the_place_of_a_dropped_key(rt: HostRuntime) {
+    let guests = new_guests(&rt, rt.alloc(), 0);
+    let pool = new_pool(rt, rt.alloc(), 1);
+    let before = keep_and_drop_key(&pool, &guests);
+    let mut turns = turns_of(&pool, 0);
+    let after = take_turn(&pool, &mut turns);
     let left = shares_and_polls(&guests);
-    assert!(rt; before == 1 && after == 0 && left == (1, 0));
+    drop_turns(turns);
+    drop_pool(pool);
+    assert!(rt; before == (true, 1) && after == 0 && left == (1, 0));
 }

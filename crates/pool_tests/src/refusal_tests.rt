@@ -59,40 +59,76 @@ type HeapPool<'heap, R> = Pool<R, Prompt, Nobody, &'heap LocalHeap>;
 
 type HeapTask<'x, 'heap, R> = PoolTask<'x, R, Prompt, Nobody, &'heap LocalHeap>;
 
+type HeapTurns<'x, 'heap, R> = Turns<'x, R, Prompt, Nobody, &'heap LocalHeap>;
+
+// A pool of one worker, whose queues are of a heap.
+fn new_pool<'heap, R: Wait + Abort + Drop + Copy>(
+    rt: R,
+    alloc: Global,
+    heap: &'heap LocalHeap,
+) -> HeapPool<'heap, R> {
+    granted(&rt, HeapPool::with_queues_in(rt, alloc, heap, 1))
+}
+
+fn turns_of<'x, 'heap, R: Wait + Abort + Drop + Copy>(
+    pool: &'x HeapPool<'heap, R>,
+) -> HeapTurns<'x, 'heap, R> {
+    granted(&pool.rt(), pool.turns(0))
+}
+
 // Spawns one task from outside.
-fn spawn_prompt<'x, 'heap, R: Wait + Drop + Copy>(
+fn spawn_prompt<'x, 'heap, R: Wait + Abort + Drop + Copy>(
     pool: &'x HeapPool<'heap, R>,
     guests: &Arc<Guests>,
-) -> Result<HeapTask<'x, 'heap, R>, AllocError> {
-    let guests = Arc::try_clone(guests)?;
-    pool.spawn(Prompt { guests }).ok().ok_or(AllocError)
+) -> HeapTask<'x, 'heap, R> {
+    let guests = granted(&pool.rt(), Arc::try_clone(guests));
+    granted(&pool.rt(), pool.spawn(Prompt { guests }))
 }
 
 // Spawns so many tasks from outside.
-fn spawn_prompts<'x, 'heap, R: Wait + Drop + Copy>(
+fn spawn_prompts<'x, 'heap, R: Wait + Abort + Drop + Copy>(
     pool: &'x HeapPool<'heap, R>,
     guests: &Arc<Guests>,
     count: usize,
-) -> Result<Vec<HeapTask<'x, 'heap, R>>, AllocError> {
-    let mut tasks = Vec::with_capacity(pool.alloc(), count)?;
+) -> Vec<HeapTask<'x, 'heap, R>> {
+    let rt = pool.rt();
+    let mut tasks = Vec::new(pool.alloc());
     for _ in 0..count {
-        tasks.push(spawn_prompt(pool, guests)?)?;
+        granted(&rt, tasks.push(spawn_prompt(pool, guests)));
     }
-    Ok(tasks)
+    tasks
+}
+
+// Runs the next task: whether there was one.
+fn tick<'x, 'heap, R: Wait + Drop + Copy>(turns: &mut HeapTurns<'x, 'heap, R>) -> bool {
+    turns.tick()
 }
 
 // Runs tasks until none is left, at most one more than so many: how many ran.
 fn run_prompts<'x, 'heap, R: Wait + Drop + Copy>(
-    turns: &mut Turns<'x, R, Prompt, Nobody, &'heap LocalHeap>,
+    turns: &mut HeapTurns<'x, 'heap, R>,
     count: usize,
 ) -> usize {
     let mut ran = 0usize;
     for _ in 0..=count {
-        if turns.tick() {
+        if tick(turns) {
             ran = ran.saturating_add(1);
         }
     }
     ran
+}
+
+fn drop_turns<'x, 'heap, R: Wait + Drop + Copy>(turns: HeapTurns<'x, 'heap, R>) {
+    drop(turns);
+}
+
+// Drops Tasks: how many there were.
+fn drop_tasks<'x, 'heap, R: Wait + Drop + Copy>(tasks: Vec<HeapTask<'x, 'heap, R>>) -> usize {
+    tasks.len()
+}
+
+fn drop_pool<'heap, R: Wait + Drop + Copy>(pool: HeapPool<'heap, R>) {
+    drop(pool);
 }
 
 // How many of the tasks have answered 1, and how many are closed.
@@ -109,6 +145,18 @@ fn count_ends<R: Wait + Drop + Copy>(tasks: &mut Vec<HeapTask<'_, '_, R>>) -> (u
     (answered, closed)
 }
 
+// Spawns one task more, and runs the next one: whether there was one, and whether the one more has answered.
+fn run_one_more<'x, 'heap, R: Wait + Abort + Drop + Copy>(
+    pool: &'x HeapPool<'heap, R>,
+    turns: &mut HeapTurns<'x, 'heap, R>,
+    guests: &Arc<Guests>,
+) -> (bool, bool) {
+    let mut later = spawn_prompt(pool, guests);
+    let ran = tick(turns);
+    let answered = matches!(later.poll(&Nobody), TaskPoll::Ready(Ok(1)));
+    (ran, answered)
+}
+
 // What a pool comes to whose queues are of a heap that is full, and then has room again: how many tasks ran, answered and were closed; and whether one
 // more ran and answered.
 fn fill_and_spawn<R: Wait + Abort + Drop + Copy>(
@@ -117,17 +165,18 @@ fn fill_and_spawn<R: Wait + Abort + Drop + Copy>(
     heap: &LocalHeap,
     guests: &Arc<Guests>,
 ) -> (usize, (usize, usize), (bool, bool)) {
-    let pool = granted(&rt, HeapPool::with_queues_in(rt, alloc, heap, 1));
-    let mut turns = granted(&rt, pool.turns(0));
+    let pool = new_pool(rt, alloc, heap);
+    let mut turns = turns_of(&pool);
     let filling = granted(&rt, fill(alloc, heap));
-    let mut tasks = granted(&rt, spawn_prompts(&pool, guests, TASKS));
+    let mut tasks = spawn_prompts(&pool, guests, TASKS);
     let ran = run_prompts(&mut turns, TASKS);
     let ends = count_ends(&mut tasks);
     drop(filling);
-    let mut later = granted(&rt, spawn_prompt(&pool, guests));
-    let ran_later = turns.tick();
-    let answered_later = matches!(later.poll(&Nobody), TaskPoll::Ready(Ok(1)));
-    (ran, ends, (ran_later, answered_later))
+    let later = run_one_more(&pool, &mut turns, guests);
+    drop_turns(turns);
+    drop_tasks(tasks);
+    drop_pool(pool);
+    (ran, ends, later)
 }
 
 // The queue has room for 64 Runnables. The 65th is dropped, which closes its task, and nothing else is lost.
@@ -151,19 +200,21 @@ fn shut_down_beside_full_hands<R: Wait + Abort + Drop + Copy>(
     guests: &Arc<Guests>,
     works: bool,
 ) -> ((usize, usize), (usize, usize)) {
-    let pool = granted(&rt, HeapPool::with_queues_in(rt, alloc, heap, 1));
-    let mut turns = granted(&rt, pool.turns(0));
-    let mut tasks = granted(&rt, spawn_prompts(&pool, guests, 200));
+    let pool = new_pool(rt, alloc, heap);
+    let mut turns = turns_of(&pool);
+    let mut tasks = spawn_prompts(&pool, guests, 200);
     let filling = granted(&rt, fill(alloc, heap));
-    turns.tick();
+    tick(&mut turns);
     pool.shutdown();
     let after_shutdown = count_ends(&mut tasks);
     if works {
         turns.work();
     }
     drop(filling);
-    drop(turns);
+    drop_turns(turns);
     let after_end = count_ends(&mut tasks);
+    drop_tasks(tasks);
+    drop_pool(pool);
     (after_shutdown, after_end)
 }
 
@@ -197,16 +248,19 @@ fn drop_turns_with_full_hands<R: Wait + Abort + Drop + Copy>(
     heap: &LocalHeap,
     guests: &Arc<Guests>,
 ) -> (usize, (usize, usize)) {
-    let pool = granted(&rt, HeapPool::with_queues_in(rt, alloc, heap, 1));
-    let mut turns = granted(&rt, pool.turns(0));
-    let mut tasks = granted(&rt, spawn_prompts(&pool, guests, 200));
+    let pool = new_pool(rt, alloc, heap);
+    let mut turns = turns_of(&pool);
+    let mut tasks = spawn_prompts(&pool, guests, 200);
     let filling = granted(&rt, fill(alloc, heap));
-    turns.tick();
+    tick(&mut turns);
     drop(filling);
-    drop(turns);
-    let mut next = granted(&rt, pool.turns(0));
+    drop_turns(turns);
+    let mut next = turns_of(&pool);
     let ran = run_prompts(&mut next, 200);
     let ends = count_ends(&mut tasks);
+    drop_turns(next);
+    drop_tasks(tasks);
+    drop_pool(pool);
     (ran, ends)
 }
 

@@ -2,18 +2,34 @@
 use crate::granted::granted;
 use executor::{Key, Store, Walk};
 use std::alloc::{AllocError, Global};
+use std::process::Abort;
 use std::sync::{Arc, Wait};
+
+// A place of a store for worker 0. Stops where there is no memory.
+fn reserved<R: Wait + Abort + Drop + Copy, H: Drop>(rt: R, store: &Store<H>) -> Key<R> {
+    granted(&rt, store.reserve(rt, 0).ok_or(AllocError))
+}
+
+// A place with a share of a number. Stops where there is no memory, or a handle was there.
+fn put_share<R: Wait + Abort + Drop + Copy>(
+    rt: R,
+    store: &Store<Arc<u8>>,
+    key: &Key<R>,
+    shared: &Arc<u8>,
+) -> Option<Arc<u8>> {
+    let share = granted(&rt, Arc::try_clone(shared));
+    granted(&rt, store.put(&rt, key, share))
+}
 
 #[test]
 fn a_dropped_key_gives_its_place_back(rt: HostRuntime) {
     let shared = granted(&rt, Arc::new(rt.alloc(), 7u8));
     let store = granted(&rt, Store::new(rt.alloc()));
-    let (Some(first), Some(second)) = (store.reserve(rt, 0), store.reserve(rt, 0)) else {
-        panic!(rt; "there was no memory")
-    };
+    let first = reserved(rt, &store);
+    let second = reserved(rt, &store);
     assert!(rt; first.number() != second.number() && store.len(&rt) == 2);
-    let before = store.put(&rt, &first, granted(&rt, Arc::try_clone(&shared)));
-    assert!(rt; matches!(before, Ok(None)) && Arc::strong_count(&shared) == 2);
+    let was_empty = put_share(rt, &store, &first, &shared).is_none();
+    assert!(rt; was_empty && Arc::strong_count(&shared) == 2);
     drop(first);
     let collected = store.collect(&rt);
     assert!(rt; collected.is_some() && store.len(&rt) == 1);
@@ -27,9 +43,8 @@ fn a_dropped_key_gives_its_place_back(rt: HostRuntime) {
 #[test]
 fn a_collect_goes_on_to_a_place_with_a_handle(rt: HostRuntime) {
     let store = granted(&rt, Store::new(rt.alloc()));
-    let (Some(empty), Some(full)) = (store.reserve(rt, 0), store.reserve(rt, 0)) else {
-        panic!(rt; "there was no memory")
-    };
+    let empty = reserved(rt, &store);
+    let full = reserved(rt, &store);
     let before = store.put(&rt, &full, 7u8);
     drop(empty);
     drop(full);
@@ -41,9 +56,8 @@ fn a_collect_goes_on_to_a_place_with_a_handle(rt: HostRuntime) {
 fn a_key_of_another_store_is_refused(rt: HostRuntime) {
     let store = granted(&rt, Store::new(rt.alloc()));
     let other = granted(&rt, Store::<u8>::new(rt.alloc()));
-    let (Some(own), Some(foreign)) = (store.reserve(rt, 0), other.reserve(rt, 0)) else {
-        panic!(rt; "there was no memory")
-    };
+    let own = reserved(rt, &store);
+    let foreign = reserved(rt, &other);
     let kept = store.put(&rt, &own, 1u8);
     let refused = store.put(&rt, &foreign, 2);
     let taken = store.take_of(&rt, &foreign);
@@ -73,29 +87,29 @@ fn a_put_over_a_full_place_answers_what_was_there(rt: HostRuntime) {
     let first = granted(&rt, Arc::new(rt.alloc(), 1u8));
     let second = granted(&rt, Arc::new(rt.alloc(), 2u8));
     let store = granted(&rt, Store::new(rt.alloc()));
-    let key = granted(&rt, store.reserve(rt, 0).ok_or(AllocError));
-    let none = store.put(&rt, &key, granted(&rt, Arc::try_clone(&first)));
-    let before = store.put(&rt, &key, granted(&rt, Arc::try_clone(&second)));
-    let answers = matches!(none, Ok(None)) && matches!(before, Ok(Some(_)));
+    let key = reserved(rt, &store);
+    let was_empty = put_share(rt, &store, &key, &first).is_none();
+    let before = put_share(rt, &store, &key, &second);
+    let answers = was_empty && before.is_some();
     let (owners, there) = owners_and_there(rt, &store, &key, &first);
     drop(before);
     assert!(rt; answers && owners == 2 && there == Some(2) && Arc::strong_count(&first) == 1);
 }
 
 // A place for each of so many workers, with the worker's number in it.
-fn fill_places<R: Wait + Drop + Copy>(
+fn fill_places<R: Wait + Abort + Drop + Copy>(
     rt: R,
     alloc: Global,
     store: &Store<usize>,
     workers: usize,
-) -> Result<Vec<Key<R>>, AllocError> {
+) -> Vec<Key<R>> {
     let mut keys = Vec::new(alloc);
     for worker in 0..workers {
-        let key = store.reserve(rt, worker).ok_or(AllocError)?;
-        store.put(&rt, &key, worker).map_err(|_| AllocError)?;
-        keys.push(key)?;
+        let key = granted(&rt, store.reserve(rt, worker).ok_or(AllocError));
+        granted(&rt, store.put(&rt, &key, worker));
+        granted(&rt, keys.push(key));
     }
-    Ok(keys)
+    keys
 }
 
 // How many keys have the number of their worker at their place, which is empty after it.
@@ -128,7 +142,7 @@ fn walk_places<R: Wait + Drop + Copy>(rt: R, store: &Store<usize>) -> (usize, us
 #[test]
 fn each_worker_has_a_place_of_its_own(rt: HostRuntime) {
     let store = granted(&rt, Store::new(rt.alloc()));
-    let keys = granted(&rt, fill_places(rt, rt.alloc(), &store, 10));
+    let keys = fill_places(rt, rt.alloc(), &store, 10);
     let own = count_own(rt, &store, keys.as_slice());
     let again = count_own(rt, &store, keys.as_slice());
     assert!(rt; (own, again, store.len(&rt)) == (10, 0, 10));
@@ -138,7 +152,7 @@ fn each_worker_has_a_place_of_its_own(rt: HostRuntime) {
 #[test]
 fn a_walk_takes_each_handle_once(rt: HostRuntime) {
     let store = granted(&rt, Store::new(rt.alloc()));
-    let keys = granted(&rt, fill_places(rt, rt.alloc(), &store, 10));
+    let keys = fill_places(rt, rt.alloc(), &store, 10);
     let first = walk_places(rt, &store);
     let second = walk_places(rt, &store);
     assert!(rt; (first, second, store.len(&rt)) == ((10, 45), (0, 0), 10));

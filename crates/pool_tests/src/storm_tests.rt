@@ -4,12 +4,15 @@ ghost use Rattle.std.specs.Prelude.{⊤};
 use crate::granted::granted;
 use async_task::{Future, Poll, TaskPoll, Yields};
 use awaiters::Nobody;
-use executor::{Key, Pool, PoolTask, PoolWaker, collect, keep_waker, place_for_waker, wake_kept};
+use executor::{
+    Key, Pool, PoolTask, PoolWaker, Turns, collect, keep_waker, place_for_waker, wake_kept,
+};
 use std::alloc::{AllocError, Global};
 use std::collections::VecDeque;
+use std::process::Abort;
 use std::sync::atomic::{AtomicU64, Ordering};
 use std::sync::{Arc, Wait};
-use std::thread;
+use std::thread::{self, Threads};
 
 /// How many tasks a storm has.
 const TASKS: u64 = 100;
@@ -106,50 +109,79 @@ type StormPool<R> = Pool<R, Takes<R>, Nobody>;
 
 type StormTask<'x, R> = PoolTask<'x, R, Takes<R>, Nobody>;
 
-// Spawns all tasks of a storm, each of which wants so many tickets: the places of their wakers.
-fn spawn_storm<'x, R: Wait + Drop + Copy>(
-    pool: &'x StormPool<R>,
-    alloc: Global,
-    storm: &Arc<Storm>,
-    wanted: u64,
-    tasks: &mut Vec<StormTask<'x, R>>,
-) -> Result<Vec<usize>, AllocError> {
-    let mut places = Vec::new(alloc);
-    let mut futures = VecDeque::new(alloc);
-    for task in 0..TASKS as usize {
-        let key = place_for_waker((pool, task)).ok_or(AllocError)?;
-        places.push(key.number())?;
-        futures.push_back(Takes {
-            task,
-            taken: 0,
-            wanted,
-            key,
-            storm: Arc::try_clone(storm)?,
-        })?;
-    }
-    pool.spawn_many(pool.workers(), &mut futures, tasks)?;
-    Ok(places)
+type StormTurns<'x, R> = Turns<'x, R, Takes<R>, Nobody>;
+
+fn new_pool<R: Wait + Abort + Drop + Copy>(rt: R, alloc: Global, workers: usize) -> StormPool<R> {
+    granted(&rt, StormPool::new(rt, alloc, workers))
 }
 
-// Spawns the task of this number, which wants one ticket, and keeps its waker at a place of `keeper`.
-fn spawn_at<'x, R: Wait + Drop + Copy>(
+// The future of the task of this number, whose waker is to be kept at a place of this worker's part of a pool.
+fn new_takes<R: Wait + Abort + Drop + Copy>(
+    keeper: &StormPool<R>,
+    worker: usize,
+    task: usize,
+    storm: &Arc<Storm>,
+    wanted: u64,
+) -> Takes<R> {
+    let rt = keeper.rt();
+    Takes {
+        task,
+        taken: 0,
+        wanted,
+        key: granted(&rt, place_for_waker((keeper, worker)).ok_or(AllocError)),
+        storm: granted(&rt, Arc::try_clone(storm)),
+    }
+}
+
+// Spawns all tasks of a storm, each of which wants so many tickets: the places of their wakers, and their Tasks.
+fn spawn_storm<'x, R: Wait + Abort + Drop + Copy>(
+    pool: &'x StormPool<R>,
+    storm: &Arc<Storm>,
+    wanted: u64,
+) -> (Vec<usize>, Vec<StormTask<'x, R>>) {
+    let rt = pool.rt();
+    let mut places = Vec::new(pool.alloc());
+    let mut futures = VecDeque::new(pool.alloc());
+    for task in 0..TASKS as usize {
+        let takes = new_takes(pool, task, task, storm, wanted);
+        granted(&rt, places.push(takes.key.number()));
+        granted(&rt, futures.push_back(takes));
+    }
+    let mut tasks = Vec::new(pool.alloc());
+    granted(
+        &rt,
+        pool.spawn_many(pool.workers(), &mut futures, &mut tasks),
+    );
+    (places, tasks)
+}
+
+// Spawns the task of this number, which wants one ticket, and keeps its waker at a place of `keeper`: its Task, and the number of that place.
+fn spawn_at<'x, R: Wait + Abort + Drop + Copy>(
     pool: &'x StormPool<R>,
     keeper: &StormPool<R>,
     task: usize,
     storm: &Arc<Storm>,
-    tasks: &mut Vec<StormTask<'x, R>>,
-) -> Result<usize, AllocError> {
-    let key = place_for_waker((keeper, 0)).ok_or(AllocError)?;
-    let number = key.number();
-    let takes = Takes {
-        task,
-        taken: 0,
-        wanted: 1,
-        key,
-        storm: Arc::try_clone(storm)?,
+) -> (StormTask<'x, R>, usize) {
+    let takes = new_takes(keeper, 0, task, storm, 1);
+    let number = takes.key.number();
+    (granted(&pool.rt(), pool.spawn(takes)), number)
+}
+
+// Is the worker of a number until the pool is shut down, as by `Pool::run`, of which the prover takes no call where the runtime is a parameter: whether
+// there was such a worker.
+fn work<R: Wait + Drop + Copy>(pool: &StormPool<R>, worker: usize) -> bool {
+    let Ok(mut turns) = pool.turns(worker) else {
+        return false;
     };
-    tasks.push(pool.spawn(takes).ok().ok_or(AllocError)?)?;
-    Ok(number)
+    for _ in pool.rt().forever() {
+        match turns.await_next() {
+            Some(runnable) => {
+                runnable.run();
+            }
+            None => return true,
+        }
+    }
+    unreachable!()
 }
 
 // Wakes each task once, with a ticket for it.
@@ -186,22 +218,52 @@ fn wake_and_shut_down<R: Wait + Drop + Copy>(pool: &StormPool<R>, storm: &Storm,
     }
 }
 
-// How many tickets the tasks took that have ended, and how many tasks are closed.
-fn taken_and_closed<R: Wait + Drop + Copy>(tasks: Vec<StormTask<'_, R>>) -> (u64, u64) {
-    let mut seen = (0u64, 0u64);
-    for mut task in tasks {
-        match task.poll(&Nobody) {
-            TaskPoll::Ready(Ok(taken)) => seen.0 = seen.0.saturating_add(taken),
-            TaskPoll::Ready(Err(_)) => seen.1 = seen.1.saturating_add(1),
-            TaskPoll::Pending | TaskPoll::Refused => {}
-        }
-    }
-    seen
+// One of two threads wakes each task as often as there are rounds, at the queue of a worker. The other one does so from outside, and may shut the pool
+// down between.
+fn wake_by_two<R: Wait + Threads + Drop + Copy + Send + Sync>(
+    pool: &StormPool<R>,
+    storm: &Storm,
+    places: &[usize],
+    worker: usize,
+    shuts_down: bool,
+) {
+    thread::join(
+        &pool.rt(),
+        || wake_often(pool, storm, places, worker),
+        || {
+            if shuts_down {
+                wake_and_shut_down(pool, storm, places);
+            } else {
+                wake_often(pool, storm, places, pool.workers());
+            }
+        },
+    );
 }
 
-// Whether all threads of a pool began.
-fn all_ran(ran: Vec<bool>) -> bool {
-    ran.iter().all(|ran| *ran)
+// All workers of a pool, each on a thread: whether all began.
+fn work_all<R: Wait + Abort + Threads + Drop + Copy + Send + Sync>(pool: &StormPool<R>) -> bool {
+    let rt = pool.rt();
+    let began = thread::map_indices(&rt, pool.alloc(), WORKERS, &|worker| work(pool, worker));
+    granted(&rt, began).iter().all(|began| *began)
+}
+
+// How many tickets a task took that has ended, and 1 where a task is closed.
+fn taken_or_closed<R: Wait + Drop + Copy>(task: &mut StormTask<'_, R>) -> (u64, u64) {
+    match task.poll(&Nobody) {
+        TaskPoll::Ready(Ok(taken)) => (taken, 0),
+        TaskPoll::Ready(Err(_)) => (0, 1),
+        TaskPoll::Pending | TaskPoll::Refused => (0, 0),
+    }
+}
+
+// How many tickets the tasks took that have ended, and how many tasks are closed.
+fn taken_and_closed<R: Wait + Drop + Copy>(mut tasks: Vec<StormTask<'_, R>>) -> (u64, u64) {
+    let mut seen = (0u64, 0u64);
+    for task in tasks.iter_mut() {
+        let (taken, closed) = taken_or_closed(task);
+        seen = (seen.0.saturating_add(taken), seen.1.saturating_add(closed));
+    }
+    seen
 }
 
 // How many places for wakers are taken, and how many shares there are of a storm.
@@ -209,26 +271,23 @@ fn left_of<R: Wait + Drop + Copy>(pool: &StormPool<R>, storm: &Arc<Storm>) -> (u
     (pool.kept_wakers(), Arc::strong_count(storm))
 }
 
+fn drop_pool<R: Wait + Drop + Copy>(pool: StormPool<R>) {
+    drop(pool);
+}
+
 #[test]
 fn a_storm_loses_no_wake(rt: HostRuntime) {
     let storm = granted(&rt, Storm::new(rt.alloc()));
-    let pool = granted(&rt, StormPool::new(rt, rt.alloc(), WORKERS));
-    let mut tasks = Vec::new(rt.alloc());
-    let places = granted(
-        &rt,
-        spawn_storm(&pool, rt.alloc(), &storm, 2 * ROUNDS, &mut tasks),
-    );
+    let pool = new_pool(rt, rt.alloc(), WORKERS);
+    let (places, tasks) = spawn_storm(&pool, &storm, 2 * ROUNDS);
     let (ran, _) = thread::join(
         &rt,
-        || thread::map_indices(&rt, rt.alloc(), WORKERS, &|worker| pool.run(worker).is_ok()),
-        || thread::join(
-            &rt,
-            || wake_often(&pool, &storm, &places, pool.workers()),
-            || wake_often(&pool, &storm, &places, 0),
-        ),
+        || work_all(&pool),
+        || wake_by_two(&pool, &storm, &places, 0, false),
     );
     let seen = taken_and_closed(tasks);
-    let (ran, left) = (all_ran(granted(&rt, ran)), left_of(&pool, &storm));
+    let left = left_of(&pool, &storm);
+    drop_pool(pool);
     assert!(rt; ran && seen == (2 * ROUNDS * TASKS, 0) && left == (0, 1));
 }
 
@@ -236,46 +295,66 @@ fn a_storm_loses_no_wake(rt: HostRuntime) {
 #[test]
 fn a_shutdown_in_a_storm_leaves_nothing(rt: HostRuntime) {
     let storm = granted(&rt, Storm::new(rt.alloc()));
-    let pool = granted(&rt, StormPool::new(rt, rt.alloc(), WORKERS));
-    let mut tasks = Vec::new(rt.alloc());
-    let places = granted(
-        &rt,
-        spawn_storm(&pool, rt.alloc(), &storm, 2 * ROUNDS + 1, &mut tasks),
-    );
+    let pool = new_pool(rt, rt.alloc(), WORKERS);
+    let (places, tasks) = spawn_storm(&pool, &storm, 2 * ROUNDS + 1);
     let (ran, _) = thread::join(
         &rt,
-        || thread::map_indices(&rt, rt.alloc(), WORKERS, &|worker| pool.run(worker).is_ok()),
-        || thread::join(
-            &rt,
-            || wake_often(&pool, &storm, &places, 1),
-            || wake_and_shut_down(&pool, &storm, &places),
-        ),
+        || work_all(&pool),
+        || wake_by_two(&pool, &storm, &places, 1, true),
     );
     let seen = taken_and_closed(tasks);
     collect((&pool, 0));
-    let (ran, left) = (all_ran(granted(&rt, ran)), left_of(&pool, &storm));
+    let left = left_of(&pool, &storm);
+    drop_pool(pool);
     assert!(rt; ran && seen == (0, TASKS) && left == (0, 1));
+}
+
+// Runs at most two tasks: how many there were.
+fn run_two<R: Wait + Drop + Copy>(turns: &mut StormTurns<'_, R>) -> u8 {
+    let mut ran = 0u8;
+    for _ in 0..2 {
+        if let Some(runnable) = turns.next() {
+            runnable.run();
+            ran = ran.saturating_add(1);
+        }
+    }
+    ran
+}
+
+// What `taken_or_closed` answers of a Task, which is dropped.
+fn end_of<R: Wait + Drop + Copy>(mut task: StormTask<'_, R>) -> (u64, u64) {
+    taken_or_closed(&mut task)
+}
+
+// Runs two tasks of a pool, adds a ticket for the first, wakes what is kept at places of this pool and of another one, and runs two: how many ran, and
+// whether a waker was there.
+fn run_and_wake<R: Wait + Abort + Drop + Copy>(
+    storm: &Storm,
+    own: (&StormPool<R>, usize),
+    foreign: (&StormPool<R>, usize),
+) -> (u8, (bool, bool)) {
+    let mut turns = granted(&own.0.rt(), own.0.turns(0));
+    let before = run_two(&mut turns);
+    storm.add_ticket(0);
+    let woken = (
+        wake_kept((own.0, 0), own.1),
+        wake_kept((foreign.0, 0), foreign.1),
+    );
+    let after = run_two(&mut turns);
+    (before.saturating_add(after), woken)
 }
 
 // Of two tasks the second has a key of another pool, with the number of the first one's place. Both are polled, and then the first is woken.
 #[test]
 fn a_key_of_another_pool_keeps_no_waker(rt: HostRuntime) {
     let storm = granted(&rt, Storm::new(rt.alloc()));
-    let pool = granted(&rt, StormPool::new(rt, rt.alloc(), 1));
-    let other = granted(&rt, StormPool::new(rt, rt.alloc(), 1));
-    let mut tasks = Vec::new(rt.alloc());
-    let own = granted(&rt, spawn_at(&pool, &pool, 0, &storm, &mut tasks));
-    let foreign = granted(&rt, spawn_at(&pool, &other, 1, &storm, &mut tasks));
-    let mut turns = granted(&rt, pool.turns(0));
-    let mut ran = 0u8;
-    for _ in 0..2 {
-        ran = ran.saturating_add(u8::from(turns.tick()));
-    }
-    storm.add_ticket(0);
-    let woken = (wake_kept((&pool, 0), own), wake_kept((&other, 0), foreign));
-    for _ in 0..2 {
-        ran = ran.saturating_add(u8::from(turns.tick()));
-    }
-    let seen = taken_and_closed(tasks);
-    assert!(rt; own == foreign && ran == 4 && woken == (true, false) && seen == (1, 0));
+    let pool = new_pool(rt, rt.alloc(), 1);
+    let other = new_pool(rt, rt.alloc(), 1);
+    let (first, own) = spawn_at(&pool, &pool, 0, &storm);
+    let (second, foreign) = spawn_at(&pool, &other, 1, &storm);
+    let (ran, woken) = run_and_wake(&storm, (&pool, own), (&other, foreign));
+    let seen = (end_of(first), end_of(second));
+    drop_pool(pool);
+    drop_pool(other);
+    assert!(rt; own == foreign && ran == 4 && woken == (true, false) && seen == ((1, 0), (0, 0)));
 }

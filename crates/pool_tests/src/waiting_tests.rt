@@ -2,6 +2,7 @@
 //!
 //! Most calls of the pool and its handles stand in a function of their own, generic in the runtime alone: what such a call asks of their types is shown
 //! there once. Calls that run tasks stand in the tests, where the runtime is known: the prover must see that it outlives the pool.
+use crate::calls::new_guests;
 use crate::granted::granted;
 use crate::guest::{Errand, Guest, Guests, shares_and_polls, spawn_guest};
 use executor::{BellAwaiter, BlockOnError, Pool, PoolTask, Turns};
@@ -56,7 +57,7 @@ fn drop_pool<R: Wait + Drop + Copy>(pool: WaitedPool<R>) {
 // The thread that waits runs the other task of the pool, too, as far as it comes before.
 #[test]
 fn block_on_runs_the_task_itself(rt: HostRuntime) {
-    let guests = granted(&rt, Guests::new(rt.alloc(), 2));
+    let guests = new_guests(&rt, rt.alloc(), 2);
     let pool = new_pool(rt, rt.alloc(), 1);
     let before = spawned(&pool, 1, Errand::GiveWay(3), &guests);
     let mut task = spawned(&pool, 1, Errand::GiveWay(10), &guests);
@@ -74,7 +75,7 @@ fn block_on_runs_the_task_itself(rt: HostRuntime) {
 // One worker is kept by the task that is waited for, and the other runs the task for which that one waits.
 #[test]
 fn block_on_waits_beside_another_worker(rt: HostRuntime) {
-    let guests = granted(&rt, Guests::new(rt.alloc(), 1));
+    let guests = new_guests(&rt, rt.alloc(), 1);
     let pool = new_pool(rt, rt.alloc(), 2);
     let mut task = spawned(&pool, 1, Errand::Spin, &guests);
     detach(spawned(&pool, 2, Errand::GiveWay(1000), &guests));
@@ -96,7 +97,7 @@ fn block_on_waits_beside_another_worker(rt: HostRuntime) {
 
 #[test]
 fn block_on_ends_with_the_pool(rt: HostRuntime) {
-    let guests = granted(&rt, Guests::new(rt.alloc(), 1));
+    let guests = new_guests(&rt, rt.alloc(), 1);
     let pool = new_pool(rt, rt.alloc(), 1);
     let mut ending = spawned(&pool, 1, Errand::ShutDown, &guests);
     let mut staying = spawned(&pool, 1, Errand::Stay, &guests);
@@ -112,7 +113,7 @@ fn block_on_ends_with_the_pool(rt: HostRuntime) {
 
 #[test]
 fn block_on_leaves_a_task_that_nobody_wakes(rt: HostRuntime) {
-    let guests = granted(&rt, Guests::new(rt.alloc(), 1));
+    let guests = new_guests(&rt, rt.alloc(), 1);
     let pool = new_pool(rt, rt.alloc(), 1);
     let mut task = spawned(&pool, 1, Errand::Stay, &guests);
     let mut turns = turns_of(&pool);

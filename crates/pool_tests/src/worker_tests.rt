@@ -8,10 +8,11 @@ use executor::{
     Key, Pool, PoolTask, PoolWaker, keep_task, keep_waker, place_for_task, place_for_waker,
     poll_kept, wake_kept,
 };
-use std::alloc::AllocError;
+use std::alloc::{AllocError, Global};
+use std::process::Abort;
 use std::sync::atomic::{AtomicU64, Ordering};
 use std::sync::{Arc, Wait};
-use std::thread;
+use std::thread::{self, Threads};
 
 /// What the tasks of a program count together, and when it is over. A child that was refused memory counts as `refused`.
 #[derive(Drop)]
@@ -143,65 +144,81 @@ fn ended(counts: &Arc<Counts>) -> Option<u64> {
 }
 
 // Spawns the tasks of a program: what they count together.
-fn spawn_all<R: Wait + Drop + Copy>(
-    pool: &JobPool<R>,
-    program: Program,
-) -> Result<Arc<Counts>, AllocError> {
+fn spawn_all<R: Wait + Abort + Drop + Copy>(pool: &JobPool<R>, program: Program) -> Arc<Counts> {
+    let rt = pool.rt();
     let counts = Counts {
         done: AtomicU64::new(0),
         refused: AtomicU64::new(0),
         wanted: program.wanted(),
     };
-    let counts = Arc::new(pool.alloc(), counts)?;
+    let counts = granted(&rt, Arc::new(pool.alloc(), counts));
     for _ in 0..program.tasks() {
         let job = Job {
             left: program.left(),
             depth: program.depth(),
-            counts: Arc::try_clone(&counts)?,
+            counts: granted(&rt, Arc::try_clone(&counts)),
         };
-        pool.spawn(job).ok().ok_or(AllocError)?.detach();
+        granted(&rt, pool.spawn(job)).detach();
     }
-    Ok(counts)
+    counts
+}
+
+// Is the worker of a number until the pool is shut down, as by `Pool::run`, of which the prover takes no call where the runtime is a parameter: whether
+// there was such a worker.
+fn work<R: Wait + Drop + Copy>(pool: &JobPool<R>, worker: usize) -> bool {
+    let Ok(mut turns) = pool.turns(worker) else {
+        return false;
+    };
+    for _ in pool.rt().forever() {
+        match turns.await_next() {
+            Some(runnable) => {
+                runnable.run();
+            }
+            None => return true,
+        }
+    }
+    unreachable!()
 }
 
 // Whether all threads of a pool began.
-fn all_began(began: Vec<bool>) -> bool {
-    began.iter().all(|began| *began)
+fn all_began<R: Abort>(rt: &R, began: Result<Vec<bool>, AllocError>) -> bool {
+    granted(rt, began).iter().all(|began| *began)
+}
+
+// Runs a program on so many threads: whether all began, and how many tasks have ended.
+fn run_on<R: Wait + Abort + Threads + Drop + Copy + Send + Sync>(
+    rt: R,
+    alloc: Global,
+    workers: usize,
+    program: Program,
+) -> (bool, Option<u64>) {
+    let pool = granted(&rt, JobPool::new(rt, alloc, workers));
+    let counts = spawn_all(&pool, program);
+    let began = thread::map_indices(&rt, alloc, workers, &|worker| work(&pool, worker));
+    (all_began(&rt, began), ended(&counts))
 }
 
 #[test]
 fn every_task_ends_on_one_thread(rt: HostRuntime) {
-    let pool = granted(&rt, JobPool::new(rt, rt.alloc(), 1));
-    let counts = granted(&rt, spawn_all(&pool, Program::Few));
-    let began = thread::map_indices(&rt, rt.alloc(), 1, &|worker| pool.run(worker).is_ok());
-    let (began, ended) = (all_began(granted(&rt, began)), ended(&counts));
+    let (began, ended) = run_on(rt, rt.alloc(), 1, Program::Few);
     assert!(rt; began && ended == Some(100));
 }
 
 #[test]
 fn every_task_ends_on_two_threads(rt: HostRuntime) {
-    let pool = granted(&rt, JobPool::new(rt, rt.alloc(), 2));
-    let counts = granted(&rt, spawn_all(&pool, Program::Few));
-    let began = thread::map_indices(&rt, rt.alloc(), 2, &|worker| pool.run(worker).is_ok());
-    let (began, ended) = (all_began(granted(&rt, began)), ended(&counts));
+    let (began, ended) = run_on(rt, rt.alloc(), 2, Program::Few);
     assert!(rt; began && ended == Some(100));
 }
 
 #[test]
 fn every_task_ends_on_four_threads(rt: HostRuntime) {
-    let pool = granted(&rt, JobPool::new(rt, rt.alloc(), 4));
-    let counts = granted(&rt, spawn_all(&pool, Program::Many));
-    let began = thread::map_indices(&rt, rt.alloc(), 4, &|worker| pool.run(worker).is_ok());
-    let (began, ended) = (all_began(granted(&rt, began)), ended(&counts));
+    let (began, ended) = run_on(rt, rt.alloc(), 4, Program::Many);
     assert!(rt; began && ended == Some(1000));
 }
 
 #[test]
 fn a_task_spawns_tasks(rt: HostRuntime) {
-    let pool = granted(&rt, JobPool::new(rt, rt.alloc(), 4));
-    let counts = granted(&rt, spawn_all(&pool, Program::Trees));
-    let began = thread::map_indices(&rt, rt.alloc(), 4, &|worker| pool.run(worker).is_ok());
-    let (began, ended) = (all_began(granted(&rt, began)), ended(&counts));
+    let (began, ended) = run_on(rt, rt.alloc(), 4, Program::Trees);
     assert!(rt; began && ended == Some(1020));
 }
 
@@ -240,15 +257,31 @@ type WaitsPool<R> = Pool<R, Waits<R>, Nobody>;
 
 type WaitsTask<'x, R> = PoolTask<'x, R, Waits<R>, Nobody>;
 
-fn spawn_waits<'x, R: Wait + Drop + Copy>(
+fn new_pool<R: Wait + Abort + Drop + Copy>(rt: R, alloc: Global, workers: usize) -> WaitsPool<R> {
+    granted(&rt, WaitsPool::new(rt, alloc, workers))
+}
+
+fn spawn_waits<'x, R: Wait + Abort + Drop + Copy>(
     pool: &'x WaitsPool<R>,
     number: &Arc<AtomicU64>,
-) -> Result<WaitsTask<'x, R>, AllocError> {
+) -> WaitsTask<'x, R> {
     let waits = Waits {
         key: None,
-        number: Arc::try_clone(number)?,
+        number: granted(&pool.rt(), Arc::try_clone(number)),
     };
-    pool.spawn(waits).ok().ok_or(AllocError)
+    granted(&pool.rt(), pool.spawn(waits))
+}
+
+// Runs the only task of a pool: whether there was one.
+fn run_one<R: Wait + Abort + Drop + Copy>(pool: &WaitsPool<R>) -> bool {
+    let mut turns = granted(&pool.rt(), pool.turns(0));
+    match turns.next() {
+        Some(runnable) => {
+            runnable.run();
+            true
+        }
+        None => false,
+    }
 }
 
 fn wake_once<R: Wait + Drop + Copy>(pool: &WaitsPool<R>, number: &AtomicU64) -> bool {
@@ -262,15 +295,15 @@ fn wake_once<R: Wait + Drop + Copy>(pool: &WaitsPool<R>, number: &AtomicU64) -> 
     unreachable!()
 }
 
-// The output of a task that has answered.
-fn output_of<'x, R: Wait + Drop + Copy>(task: &mut WaitsTask<'x, R>) -> Option<u64> {
+// The output of a task that has answered. Its Task is dropped.
+fn output_of<R: Wait + Drop + Copy>(mut task: WaitsTask<'_, R>) -> Option<u64> {
     match task.poll(&Nobody) {
         TaskPoll::Ready(Ok(output)) => Some(output),
         _ => None,
     }
 }
 
-fn is_closed<'x, R: Wait + Drop + Copy>(task: &mut WaitsTask<'x, R>) -> bool {
+fn is_closed<R: Wait + Drop + Copy>(task: &mut WaitsTask<'_, R>) -> bool {
     matches!(task.poll(&Nobody), TaskPoll::Ready(Err(_)))
 }
 
@@ -279,44 +312,59 @@ fn places<R: Wait + Drop + Copy>(pool: &WaitsPool<R>) -> usize {
     pool.kept_wakers()
 }
 
+fn drop_pool<R: Wait + Drop + Copy>(pool: WaitsPool<R>) {
+    drop(pool);
+}
+
 #[test]
 fn another_thread_wakes_a_kept_waker(rt: HostRuntime) {
     let number = granted(&rt, Arc::new(rt.alloc(), AtomicU64::new(0)));
-    let pool = granted(&rt, WaitsPool::new(rt, rt.alloc(), 4));
-    let mut task = granted(&rt, spawn_waits(&pool, &number));
+    let pool = new_pool(rt, rt.alloc(), 4);
+    let task = spawn_waits(&pool, &number);
     let (began, woke) = thread::join(
         &rt,
         || thread::map_indices(&rt, rt.alloc(), 4, &|worker| pool.run(worker).is_ok()),
         || wake_once(&pool, &number),
     );
-    let began = all_began(granted(&rt, began));
-    let answer = output_of(&mut task);
+    let began = all_began(&rt, began);
+    let answer = output_of(task);
+    drop_pool(pool);
     assert!(rt; began && woke && answer == Some(7));
 }
 
 #[test]
 fn a_shutdown_cancels_a_task_that_waits(rt: HostRuntime) {
     let number = granted(&rt, Arc::new(rt.alloc(), AtomicU64::new(0)));
-    let pool = granted(&rt, WaitsPool::new(rt, rt.alloc(), 1));
-    let mut task = granted(&rt, spawn_waits(&pool, &number));
-    let mut turns = granted(&rt, pool.turns(0));
-    let ran = turns.tick();
+    let pool = new_pool(rt, rt.alloc(), 1);
+    let mut task = spawn_waits(&pool, &number);
+    let ran = run_one(&pool);
     let before = places(&pool);
     pool.shutdown();
     let closed = is_closed(&mut task);
     let (after, left) = (places(&pool), Arc::strong_count(&number));
+    drop(task);
+    drop_pool(pool);
     assert!(rt; ran && before == 1 && closed && after == 0 && left == 1);
+}
+
+// Keeps a Task, and shuts the pool down: whether it was kept, and whether its place is empty then.
+fn keep_and_shut_down<R: Wait + Abort + Drop + Copy>(
+    pool: &WaitsPool<R>,
+    task: WaitsTask<'_, R>,
+) -> (bool, bool) {
+    let key = granted(&pool.rt(), place_for_task((pool, 0)).ok_or(AllocError));
+    let kept = keep_task(task, &key).is_ok();
+    pool.shutdown();
+    let is_gone = poll_kept((pool, 0), &key, &Nobody).is_none();
+    (kept, is_gone)
 }
 
 #[test]
 fn a_shutdown_cancels_a_task_that_is_kept(rt: HostRuntime) {
     let number = granted(&rt, Arc::new(rt.alloc(), AtomicU64::new(0)));
-    let pool = granted(&rt, WaitsPool::new(rt, rt.alloc(), 1));
-    let task = granted(&rt, spawn_waits(&pool, &number));
-    let key = granted(&rt, place_for_task((&pool, 0)).ok_or(AllocError));
-    let kept = keep_task(task, &key).is_ok();
-    pool.shutdown();
-    let is_gone = poll_kept((&pool, 0), &key, &Nobody).is_none();
+    let pool = new_pool(rt, rt.alloc(), 1);
+    let (kept, is_gone) = keep_and_shut_down(&pool, spawn_waits(&pool, &number));
     let left = Arc::strong_count(&number);
+    drop_pool(pool);
     assert!(rt; kept && is_gone && left == 1);
 }

@@ -1,6 +1,6 @@
 //! A player with many parties: each step takes the same time, however many there are.
 
-use std::test::Fail;
+use crate::stops::granted;
 use task_core::acts::Act;
 use task_core::acts::Act::*;
 use task_core::word::LIMIT;
@@ -56,26 +56,17 @@ fn shown(player: &Player) -> (u64, usize) {
 // dropped. The start of a run turns SCHEDULED, 0x01, into RUNNING, 0x02; the wake of the lent waker, party 2, sets SCHEDULED again. Each call by reference
 // adds two parties: its own, and the waker that it gains.
 #[test]
-fn a_hundred_thousand_wakers_are_gained_twice(rt: HostRuntime) -> Result<(), Fail> {
-    let mut player = Player::new(rt.alloc(), LIMIT)?;
-    gain_all(&mut player, 0)?;
-    let gained = shown(&player);
-    wake_or_drop_all(&mut player, 3, 1)?;
-    let acted = shown(&player);
-    play_acts(&mut player, 0, &[StartRun, StartPoll])?;
-    play_acts(&mut player, 2, &[WakeRunning, EndCall])?;
-    gain_all_by_reference(&mut player, 2, 100_003)?;
-    let lent_gained = shown(&player);
-    wake_or_drop_all(&mut player, 100_004, 2)?;
-    let lent_acted = shown(&player);
-    let seen = [gained, acted, lent_gained, lent_acted];
-    let expected = [
-        (0x100 * 100_001 + 0x11, 100_003),
-        (0x100 * 50_001 + 0x11, 100_003),
-        (0x100 * 150_001 + 0x13, 300_003),
-        (0x100 * 100_001 + 0x13, 300_003),
-    ];
-    assert_eq!(rt; seen, expected);
-    assert_eq!(rt; player.steps(), 900_004);
-    Ok(())
+fn a_hundred_thousand_wakers_are_gained_twice(rt: HostRuntime) {
+    let mut player = granted(&rt, Player::new(rt.alloc(), LIMIT));
+    granted(&rt, gain_all(&mut player, 0));
+    assert!(rt; shown(&player) == (0x100 * 100_001 + 0x11, 100_003));
+    granted(&rt, wake_or_drop_all(&mut player, 3, 1));
+    assert!(rt; shown(&player) == (0x100 * 50_001 + 0x11, 100_003));
+    granted(&rt, play_acts(&mut player, 0, &[StartRun, StartPoll]));
+    granted(&rt, play_acts(&mut player, 2, &[WakeRunning, EndCall]));
+    granted(&rt, gain_all_by_reference(&mut player, 2, 100_003));
+    assert!(rt; shown(&player) == (0x100 * 150_001 + 0x13, 300_003));
+    granted(&rt, wake_or_drop_all(&mut player, 100_004, 2));
+    assert!(rt; shown(&player) == (0x100 * 100_001 + 0x13, 300_003));
+    assert!(rt; player.steps() == 900_004);
 }

@@ -9,6 +9,8 @@ mod crowd;
 #[cfg(test)]
 mod execution_tests;
 #[cfg(test)]
+mod limited;
+#[cfg(test)]
 mod lives;
 #[cfg(test)]
 mod operation_tests;
@@ -20,6 +22,8 @@ mod refusals;
 mod replay;
 #[cfg(test)]
 mod row_tests;
+#[cfg(test)]
+mod stops;
 #[cfg(test)]
 mod trace;
 #[cfg(test)]

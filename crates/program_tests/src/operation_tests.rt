@@ -1,113 +1,129 @@
 //! Tests of the arguments of `taskbench`.
 
+use crate::stops::{granted, holds};
 use crate::words::words_of;
 use bench_report::benchmark::Benchmark;
 use bench_report::failure::Failure;
 use bench_report::operations::{Command, answer, asked, print_help};
-use std::alloc::{AllocError, Global};
-use std::test::Fail;
+use std::alloc::Global;
+use std::process::Abort;
 
-// What a line of arguments asks for.
-fn asked_by(alloc: Global, line: &str) -> Result<Option<Command>, AllocError> {
-    Ok(asked(words_of(alloc, line)?.as_slice()))
+// Stops where a line of arguments does not ask for this.
+fn asks<R: Abort>(rt: &R, alloc: Global, line: &str, command: Option<Command>) {
+    let words = granted(rt, words_of(alloc, line));
+    holds(rt, asked(words.as_slice()) == command, &line);
 }
+
+const UNDERSTOOD: [(&str, Command); 7] = [
+    ("", Command::DoNothing),
+    ("--help", Command::Help),
+    ("check", Command::Check),
+    ("run", Command::Measure(15)),
+    ("quick", Command::Measure(5)),
+    (
+        "perform c_waker_clone_drop 12",
+        Command::Perform(Benchmark::CloneDrop, 12),
+    ),
+    (
+        "perform e_executor_n10000_k10_per_task 0",
+        Command::Perform(Benchmark::Execute10000Yield10, 0),
+    ),
+];
 
 #[test]
-fn each_word_is_understood(rt: HostRuntime) -> Result<(), Fail> {
-    let expected = [
-        ("", Command::DoNothing),
-        ("--help", Command::Help),
-        ("check", Command::Check),
-        ("run", Command::Measure(15)),
-        ("quick", Command::Measure(5)),
-        (
-            "perform c_waker_clone_drop 12",
-            Command::Perform(Benchmark::CloneDrop, 12),
-        ),
-        (
-            "perform e_executor_n10000_k10_per_task 0",
-            Command::Perform(Benchmark::Execute10000Yield10, 0),
-        ),
-    ];
-    for (line, command) in expected {
-        assert!(rt; asked_by(rt.alloc(), line)? == Some(command), "{line}");
+fn each_word_is_understood(rt: HostRuntime) {
+    for &(line, command) in &UNDERSTOOD {
+        asks(&rt, rt.alloc(), line, Some(command));
     }
-    Ok(())
 }
+
+const NOT_UNDERSTOOD: [&str; 8] = [
+    "fast",
+    "run 5",
+    "quick quick",
+    "perform",
+    "perform c_waker_clone_drop",
+    "perform c_waker_clone_drop many",
+    "perform c_waker_clone_drop 1 2",
+    "perform spin 1",
+];
 
 #[test]
-fn other_words_are_not_understood(rt: HostRuntime) -> Result<(), Fail> {
-    for line in [
-        "fast",
-        "run 5",
-        "quick quick",
-        "perform",
-        "perform c_waker_clone_drop",
-        "perform c_waker_clone_drop many",
-        "perform c_waker_clone_drop 1 2",
-        "perform spin 1",
-    ] {
-        assert!(rt; asked_by(rt.alloc(), line)?.is_none(), "{line}");
+fn other_words_are_not_understood(rt: HostRuntime) {
+    for &line in &NOT_UNDERSTOOD {
+        asks(&rt, rt.alloc(), line, None);
     }
-    Ok(())
 }
 
-// Whether the help is printed, and its text.
-fn help(alloc: Global) -> Result<(bool, String), Fail> {
+// The text of the help. Stops where it is not printed.
+fn help<R: Abort>(rt: &R, alloc: Global) -> String {
     let mut out = Vec::new(alloc);
-    let is_printed = print_help(&mut out).is_ok();
-    Ok((is_printed, String::from_utf8(out)?))
+    granted(rt, print_help(&mut out));
+    granted(rt, String::from_utf8(out))
 }
 
-// The status, and what is told of a failure, where whatever is to be done fails.
-fn failing(alloc: Global, line: &str) -> Result<(u8, String), Fail> {
+const USAGE: &str = "usage: taskbench [check | run | quick | perform NAME COUNT]\n";
+
+const FAILURE: &str = "taskbench: a call did not do what is to be measured\n";
+
+// Stops where another status is answered, or something else told of a failure, where whatever is to be done fails.
+fn fails<R: Abort>(rt: &R, alloc: Global, line: &str, status: u8, text: &str) {
     let fail = |_: Command| -> Result<(), Failure> { Err(Failure::Unexpected) };
+    let words = granted(rt, words_of(alloc, line));
     let mut err = Vec::new(alloc);
-    let status = answer(words_of(alloc, line)?.as_slice(), &fail, &mut err);
-    Ok((status, String::from_utf8(err)?))
+    let found = answer(words.as_slice(), &fail, &mut err);
+    holds(
+        rt,
+        found == status && err.as_slice() == text.as_bytes(),
+        &line,
+    );
 }
 
 #[test]
-fn each_status_is_told(rt: HostRuntime) -> Result<(), Fail> {
-    let usage = "usage: taskbench [check | run | quick | perform NAME COUNT]\n";
-    let failure = "taskbench: a call did not do what is to be measured\n";
-    let expected = [("", 0u8, ""), ("run", 1, failure), ("fast", 2, usage)];
-    for (line, status, text) in expected {
-        let (found, told) = failing(rt.alloc(), line)?;
-        assert!(rt; found == status && told.as_str() == text, "{line}");
-    }
-    Ok(())
+fn each_status_is_told(rt: HostRuntime) {
+    fails(&rt, rt.alloc(), "", 0, "");
+    fails(&rt, rt.alloc(), "run", 1, FAILURE);
+    fails(&rt, rt.alloc(), "fast", 2, USAGE);
 }
+
+const ARGUMENTS: [&str; 5] = [
+    "\n    check ",
+    "\n    run ",
+    "\n    quick ",
+    "\n    perform NAME COUNT ",
+    "\n    --help ",
+];
 
 // The help begins with the usage, tells each argument, and ends with the last benchmark.
 #[test]
-fn the_help_lists_what_may_be_written(rt: HostRuntime) -> Result<(), Fail> {
-    let alloc = rt.alloc();
-    let (is_printed, text) = help(alloc)?;
+fn the_help_lists_what_may_be_written(rt: HostRuntime) {
+    let text = help(&rt, rt.alloc());
     let begins = text.as_str().starts_with("usage: taskbench [");
     let ends = text
         .as_str()
         .ends_with("    e_executor_n10000_k10_per_task\n");
-    assert!(rt; is_printed && begins && ends);
-    for word in ["check", "run", "quick", "perform NAME COUNT", "--help"] {
-        let word = format!(in alloc; "\n    {word} ")?;
-        assert!(rt; text.as_str().contains(word.as_str()));
+    assert!(rt; begins && ends);
+    for &word in &ARGUMENTS {
+        holds(&rt, text.as_str().contains(word), &word);
     }
-    Ok(())
+}
+
+// Whether a line of this text is that name, after four spaces.
+fn lists(text: &str, name: &str) -> bool {
+    for line in text.lines() {
+        if line.strip_prefix("    ") == Some(name) {
+            return true;
+        }
+    }
+    false
 }
 
 #[test]
-fn the_help_lists_each_benchmark(rt: HostRuntime) -> Result<(), Fail> {
-    let alloc = rt.alloc();
-    let (_, text) = help(alloc)?;
-    for benchmark in Benchmark::ALL {
+fn the_help_lists_each_benchmark(rt: HostRuntime) {
+    let text = help(&rt, rt.alloc());
+    for &benchmark in &Benchmark::ALL {
         let name = benchmark.name();
-        let line = format!(in alloc; "\n    {name}\n")?;
-        let is_listed = text.as_str().contains(line.as_str());
-        assert!(rt;
-            is_listed && Benchmark::named(name) == Some(benchmark),
-            "{name}"
-        );
+        holds(&rt, lists(text.as_str(), name), &name);
+        holds(&rt, Benchmark::named(name) == Some(benchmark), &name);
     }
-    Ok(())
 }

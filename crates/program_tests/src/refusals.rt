@@ -6,17 +6,17 @@
 //! What no run reaches has no case: COMPLETED beside SCHEDULED or RUNNING, and a word that does not fit EndClosed or EndRegisterNotified where a party is
 //! to make them. CloseOrphan, Unschedule and EndNotify ask for nothing. These five are refused by the position alone.
 
-use crate::turns::steps_of;
+use crate::stops::{granted, holds};
+use crate::turns::{is_refused_at, player_after, steps_of};
 use std::alloc::Global;
 use std::process::Abort;
-use std::test::Fail;
 use task_core::acts::Act;
 use task_core::acts::Act::*;
 use task_core::word::Word;
 use task_laws::positions::{NotifyingCall, Position, Rest, WithoutPoll};
-use task_replay::player::{PlayError, Player};
+use task_replay::Step;
+use task_replay::player::PlayError;
 use task_replay::refusal::Refusal;
-use task_replay::{ReplayError, Step, replay};
 
 // The turns that lead there, the word found, the party and the act that is refused, and the word at which it would be allowed.
 type Unfit = (&'static [(u64, &'static [Act])], u64, u64, Act, u64);
@@ -473,91 +473,81 @@ const ALLOWED: [(&[(u64, &[Act])], u64, Act); 4] = [
     (ENDS_BY_REFERENCE, 3, RefuseGain),
 ];
 
-// A player after these turns.
-fn player_after(alloc: Global, limit: u64, turns: &[(u64, &[Act])]) -> Result<Player, Fail> {
-    let mut player = Player::new(alloc, limit)?;
-    for step in steps_of(alloc, turns)?.iter() {
-        player.play(*step)?;
-    }
-    Ok(player)
-}
-
-// What is told of this act after these turns: the word found, the reason, and that neither a player nor a replay makes it.
-fn told(
+// Stops where this act, after these turns, is not refused for this reason, by a player and by a replay. The answer is the word found.
+fn refused<R: Abort>(
+    rt: &R,
     alloc: Global,
     limit: u64,
     turns: &[(u64, &[Act])],
     step: Step,
-) -> Result<(u64, Option<Refusal>, bool), Fail> {
-    let mut player = player_after(alloc, limit, turns)?;
+    reason: Refusal,
+) -> u64 {
+    let mut player = player_after(rt, alloc, limit, turns);
     let word = player.machine().word().bits();
-    let reason = player.refusal(step);
+    holds(rt, player.refusal(step) == Some(reason), &step.act);
     let is_refused = player.play(step) == Err(PlayError::NotAllowed);
-    let mut steps = steps_of(alloc, turns)?;
+    let mut steps = steps_of(rt, alloc, turns);
     let number = steps.len();
-    steps.push(step)?;
-    let answer = replay(alloc, limit, steps.as_slice()).err();
-    let is_named = answer == Some(ReplayError::NotAllowed(number));
-    Ok((word, reason, is_refused && is_named))
+    granted(rt, steps.push(step));
+    let is_named = is_refused_at(alloc, limit, steps.as_slice(), number);
+    holds(rt, is_refused && is_named, &step.act);
+    word
 }
 
 // Each case is refused for its word, at that limit.
-fn are_unfit(rt: &impl Abort, alloc: Global, limit: u64, cases: &[Unfit]) -> Result<(), Fail> {
+fn are_unfit<R: Abort>(rt: &R, alloc: Global, limit: u64, cases: &[Unfit]) {
     for (turns, word, party, act, fitting) in cases {
         let step = Step {
             party: *party,
             act: *act,
         };
-        let seen = told(alloc, limit, turns, step)?;
         let reason = Refusal::UnfitWord(Some(Word::from_bits(*fitting)));
-        assert_eq!(rt; seen, (*word, Some(reason), true), "{act:?}");
+        let found = refused(rt, alloc, limit, turns, step, reason);
+        holds(rt, found == *word, act);
     }
-    Ok(())
 }
 
 #[test]
-fn each_row_is_refused_where_its_word_does_not_fit(rt: HostRuntime) -> Result<(), Fail> {
-    are_unfit(&rt, rt.alloc(), 4, &REFERENCES)?;
-    are_unfit(&rt, rt.alloc(), 4, &WAKES)?;
-    are_unfit(&rt, rt.alloc(), 4, &CLOSINGS)?;
-    are_unfit(&rt, rt.alloc(), 4, &DETACHERS)?;
-    are_unfit(&rt, rt.alloc(), 4, &RUNS)?;
-    are_unfit(&rt, rt.alloc(), 4, &HANDSHAKES)
+fn each_row_is_refused_where_its_word_does_not_fit(rt: HostRuntime) {
+    are_unfit(&rt, rt.alloc(), 4, &REFERENCES);
+    are_unfit(&rt, rt.alloc(), 4, &WAKES);
+    are_unfit(&rt, rt.alloc(), 4, &CLOSINGS);
+    are_unfit(&rt, rt.alloc(), 4, &DETACHERS);
+    are_unfit(&rt, rt.alloc(), 4, &RUNS);
+    are_unfit(&rt, rt.alloc(), 4, &HANDSHAKES);
 }
 
+const LENT_GAIN: Step = Step {
+    party: 2,
+    act: GainReference,
+};
+
 #[test]
-fn a_reference_is_refused_by_the_limit(rt: HostRuntime) -> Result<(), Fail> {
-    for (limit, case) in LIMITS {
-        are_unfit(&rt, rt.alloc(), limit, &[case])?;
+fn a_reference_is_refused_by_the_limit(rt: HostRuntime) {
+    for &(limit, case) in &LIMITS {
+        are_unfit(&rt, rt.alloc(), limit, &[case]);
     }
-    let gain = Step {
-        party: 2,
-        act: GainReference,
-    };
-    let seen = told(rt.alloc(), 0, &[(0, STARTS)], gain)?;
-    assert_eq!(rt; seen, (0x112, Some(Refusal::UnfitWord(None)), true));
-    Ok(())
+    let reason = Refusal::UnfitWord(None);
+    let found = refused(&rt, rt.alloc(), 0, &[(0, STARTS)], LENT_GAIN, reason);
+    assert!(rt; found == 0x112);
 }
 
 #[test]
-fn each_act_is_refused_at_other_positions(rt: HostRuntime) -> Result<(), Fail> {
-    for (turns, party, act, position) in NEVER {
-        let (_, reason, is_refused) = told(rt.alloc(), 4, turns, Step { party, act })?;
-        let expected = Some(Refusal::NeverThere(position));
-        assert_eq!(rt; (reason, is_refused), (expected, true), "{act:?}");
+fn each_act_is_refused_at_other_positions(rt: HostRuntime) {
+    for &(turns, party, act, position) in &NEVER {
+        let reason = Refusal::NeverThere(position);
+        refused(&rt, rt.alloc(), 4, turns, Step { party, act }, reason);
     }
-    Ok(())
 }
 
 #[test]
-fn a_lent_waker_is_refused_where_no_handle_is_left(rt: HostRuntime) -> Result<(), Fail> {
-    are_unfit(&rt, rt.alloc(), 4, &UNHELD)?;
-    are_unfit(&rt, rt.alloc(), 4, &ROW_ALONE)?;
-    for (turns, party, act) in ALLOWED {
-        let mut player = player_after(rt.alloc(), 4, turns)?;
+fn a_lent_waker_is_refused_where_no_handle_is_left(rt: HostRuntime) {
+    are_unfit(&rt, rt.alloc(), 4, &UNHELD);
+    are_unfit(&rt, rt.alloc(), 4, &ROW_ALONE);
+    for &(turns, party, act) in &ALLOWED {
         let step = Step { party, act };
-        let seen = (player.refusal(step), player.play(step).is_ok());
-        assert_eq!(rt; seen, (None, true), "{act:?}");
+        let mut player = player_after(&rt, rt.alloc(), 4, turns);
+        let is_allowed = player.refusal(step).is_none() && player.play(step).is_ok();
+        holds(&rt, is_allowed, &act);
     }
-    Ok(())
 }

@@ -1,5 +1,7 @@
 //! Tests of the arguments of `taskrows`, and of what it prints.
 
+use crate::limited::Limited;
+use crate::stops::{granted, holds};
 use crate::words::{Told, words_of};
 use counted_values::counters::Counts;
 use counted_values::outcome::Outcome;
@@ -7,31 +9,7 @@ use counted_values::report::answer;
 use counted_values::row::Row;
 use std::alloc::{AllocError, Global};
 use std::io;
-use std::test::Fail;
-
-// A writer that takes so many bytes and then fails, and may fail to flush.
-#[derive(Drop)]
-struct Limited {
-    left: usize,
-    flushes: bool,
-}
-
-impl io::Write for Limited {
-    fn write(&mut self, bytes: &[u8]) -> io::Result<usize> {
-        if self.left < bytes.len() {
-            return Err(io::Error::from(io::ErrorKind::StorageFull));
-        }
-        self.left -= bytes.len();
-        Ok(bytes.len())
-    }
-
-    fn flush(&mut self) -> io::Result<()> {
-        if !self.flushes {
-            return Err(io::Error::from(io::ErrorKind::StorageFull));
-        }
-        Ok(())
-    }
-}
+use std::process::Abort;
 
 // How each row ends.
 #[derive(Clone, Copy)]
@@ -61,11 +39,11 @@ fn status_of<W: io::Write, E: io::Write>(
 }
 
 // What the program answers to a line of arguments.
-fn answered(alloc: Global, line: &str, end: End) -> Result<Told, Fail> {
+fn answered<R: Abort>(rt: &R, alloc: Global, line: &str, end: End) -> Told {
     let mut out = Vec::new(alloc);
     let mut err = Vec::new(alloc);
-    let status = status_of(alloc, line, end, &mut out, &mut err)?;
-    Told::new(status, out, err)
+    let status = granted(rt, status_of(alloc, line, end, &mut out, &mut err));
+    granted(rt, Told::new(status, out, err))
 }
 
 const USAGE: &str = "usage: taskrows [threads | all]\n";
@@ -100,19 +78,17 @@ const WITHOUT_MEMORY: &str = "16 wake_during_run NO MEMORY
 rows ok: 0 of 7
 ";
 
+// Stops where rows that end so are not answered by this.
+fn tells<R: Abort>(rt: &R, alloc: Global, end: End, status: u8, text: &str) {
+    let told = answered(rt, alloc, "threads", end);
+    holds(rt, told.is(status, text, ""), &text);
+}
+
 #[test]
-fn each_end_of_a_row_is_told(rt: HostRuntime) -> Result<(), Fail> {
-    let ends = [
-        (End::Agrees, AGREEING, 0u8),
-        (End::Disagrees, DISAGREEING, 1),
-        (End::NoMemory, WITHOUT_MEMORY, 1),
-    ];
-    for (end, text, status) in ends {
-        let told = answered(rt.alloc(), "threads", end)?;
-        let is_told = told.out.as_str() == text && told.err.is_empty() && told.status == status;
-        assert!(rt; is_told, "{text}");
-    }
-    Ok(())
+fn each_end_of_a_row_is_told(rt: HostRuntime) {
+    tells(&rt, rt.alloc(), End::Agrees, 0, AGREEING);
+    tells(&rt, rt.alloc(), End::Disagrees, 1, DISAGREEING);
+    tells(&rt, rt.alloc(), End::NoMemory, 1, WITHOUT_MEMORY);
 }
 
 fn has_line(text: &str, wanted: &str) -> bool {
@@ -136,51 +112,54 @@ fn tells_each_row(all: &str, rows: &str) -> bool {
 
 // 38 rows are the 31 that need no threads, and 7 others.
 #[test]
-fn all_rows_are_those_without_threads_and_with(rt: HostRuntime) -> Result<(), Fail> {
-    let alloc = rt.alloc();
-    let all = answered(alloc, "all", End::Agrees)?.out;
-    let without = answered(alloc, "", End::Agrees)?.out;
-    let has_counts = all.as_str().ends_with("\nrows ok: 38 of 38\n")
-        && without.as_str().ends_with("\nrows ok: 31 of 31\n");
-    assert!(rt; has_counts && tells_each_row(all.as_str(), without.as_str()));
-    assert!(rt; tells_each_row(all.as_str(), AGREEING));
+fn all_rows_are_those_without_threads_and_with(rt: HostRuntime) {
+    let all = answered(&rt, rt.alloc(), "all", End::Agrees);
+    let without = answered(&rt, rt.alloc(), "", End::Agrees);
+    let all = all.out.as_str();
+    let without = without.out.as_str();
+    let has_counts = all.ends_with("\nrows ok: 38 of 38\n")
+        && without.ends_with("\nrows ok: 31 of 31\n");
+    assert!(rt; has_counts && tells_each_row(all, without) && tells_each_row(all, AGREEING));
     for line in AGREEING.lines() {
-        assert!(rt; !has_line(without.as_str(), line), "{line}");
+        holds(&rt, !has_line(without, line), &line);
     }
-    Ok(())
 }
 
 #[test]
-fn other_arguments_are_refused(rt: HostRuntime) -> Result<(), Fail> {
-    for line in ["thread", "threads threads", "threads all", "--help all"] {
-        let told = answered(rt.alloc(), line, End::Agrees)?;
-        let is_usage = told.err.as_str() == USAGE;
-        assert!(rt;
-            is_usage && told.out.is_empty() && told.status == 2,
-            "{line}"
-        );
+fn other_arguments_are_refused(rt: HostRuntime) {
+    for &line in &["thread", "threads threads", "threads all", "--help all"] {
+        let told = answered(&rt, rt.alloc(), line, End::Agrees);
+        holds(&rt, told.is(2, "", USAGE), &line);
     }
-    Ok(())
 }
 
 #[test]
-fn the_help_lists_the_arguments(rt: HostRuntime) -> Result<(), Fail> {
-    let told = answered(rt.alloc(), "--help", End::Agrees)?;
-    let text = told.out.as_str();
-    let begins = text.starts_with(USAGE);
-    let is_alone = told.err.is_empty() && told.status == 0;
-    assert!(rt; begins && is_alone);
-    for word in ["threads", "all", "--help"] {
-        let word = format!(in rt.alloc(); "\n    {word} ")?;
-        assert!(rt; text.contains(word.as_str()));
+fn the_help_lists_the_arguments(rt: HostRuntime) {
+    let told = answered(&rt, rt.alloc(), "--help", End::Agrees);
+    assert!(rt; told.is_well() && told.out.as_str().starts_with(USAGE));
+    for &word in &["\n    threads ", "\n    all ", "\n    --help "] {
+        holds(&rt, told.out.as_str().contains(word), &word);
     }
-    Ok(())
+}
+
+// The status, where `out` takes so many bytes and then fails, and may fail to flush. Nothing is told of it.
+fn limited_status<R: Abort>(
+    rt: &R,
+    alloc: Global,
+    line: &str,
+    (left, flushes): (usize, bool),
+) -> u8 {
+    let mut limited = Limited { left, flushes };
+    let mut other = Vec::new(alloc);
+    let asked = status_of(alloc, line, End::Agrees, &mut limited, &mut other);
+    let status = granted(rt, asked);
+    assert!(rt; other.is_empty());
+    status
 }
 
 #[test]
-fn a_writer_that_fails_gives_status_one(rt: HostRuntime) -> Result<(), Fail> {
-    let alloc = rt.alloc();
-    let whole = answered(alloc, "", End::Agrees)?.out.len();
+fn a_writer_that_fails_gives_status_one(rt: HostRuntime) {
+    let whole = answered(&rt, rt.alloc(), "", End::Agrees).out.len();
     let limits = [
         (0, true),
         (3, true),
@@ -188,27 +167,24 @@ fn a_writer_that_fails_gives_status_one(rt: HostRuntime) -> Result<(), Fail> {
         (whole.saturating_sub(1), true),
         (whole, false),
     ];
-    let mut other = Vec::new(alloc);
-    for (left, flushes) in limits {
-        let mut limited = Limited { left, flushes };
-        let status = status_of(alloc, "", End::Agrees, &mut limited, &mut other)?;
-        assert!(rt; status == 1, "after {left} bytes");
+    for limit in limits {
+        let status = limited_status(&rt, rt.alloc(), "", limit);
+        holds(&rt, status == 1, &limit);
     }
-    assert!(rt; other.is_empty());
-    Ok(())
 }
 
 #[test]
-fn other_writers_that_fail_give_status_one(rt: HostRuntime) -> Result<(), Fail> {
-    let alloc = rt.alloc();
-    let mut full = Limited {
-        left: 0,
-        flushes: true,
-    };
-    let mut other = Vec::new(alloc);
-    let threads = status_of(alloc, "threads", End::Agrees, &mut full, &mut other)?;
-    let help = status_of(alloc, "--help", End::Agrees, &mut full, &mut other)?;
-    let unknown = status_of(alloc, "thread", End::Agrees, &mut other, &mut full)?;
-    assert!(rt; (threads, help, unknown) == (1, 1, 1) && other.is_empty());
-    Ok(())
+fn other_writers_that_fail_give_status_one(rt: HostRuntime) {
+    let threads = limited_status(&rt, rt.alloc(), "threads", (0, true));
+    let help = limited_status(&rt, rt.alloc(), "--help", (0, true));
+    assert!(rt; threads == 1 && help == 1);
+}
+
+#[test]
+fn a_writer_of_errors_that_fails_gives_status_one(rt: HostRuntime) {
+    let mut full = Limited::full();
+    let mut other = Vec::new(rt.alloc());
+    let asked = status_of(rt.alloc(), "thread", End::Agrees, &mut other, &mut full);
+    let status = granted(&rt, asked);
+    assert!(rt; status == 1 && other.is_empty());
 }

@@ -1,19 +1,42 @@
 //! A list of steps, written as turns: a party, and the acts that it makes one after another.
 
-use std::alloc::{AllocError, Global};
+use crate::stops::granted;
+use std::alloc::Global;
+use std::process::Abort;
 use task_core::acts::Act;
-use task_replay::Step;
+use task_replay::player::Player;
+use task_replay::{ReplayError, Step, replay};
 
-/// The steps of these turns, in their order.
-pub fn steps_of(alloc: Global, turns: &[(u64, &[Act])]) -> Result<Vec<Step>, AllocError> {
+/// The steps of these turns, in their order. Stops where there is no memory.
+pub fn steps_of<R: Abort>(rt: &R, alloc: Global, turns: &[(u64, &[Act])]) -> Vec<Step> {
     let mut steps = Vec::new(alloc);
     for (party, acts) in turns {
         for act in *acts {
-            steps.push(Step {
+            let step = Step {
                 party: *party,
                 act: *act,
-            })?;
+            };
+            granted(rt, steps.push(step));
         }
     }
-    Ok(steps)
+    steps
+}
+
+/// A player after these turns. Stops where a step is not allowed.
+pub fn player_after<R: Abort>(
+    rt: &R,
+    alloc: Global,
+    limit: u64,
+    turns: &[(u64, &[Act])],
+) -> Player {
+    let mut player = granted(rt, Player::new(alloc, limit));
+    for step in steps_of(rt, alloc, turns).iter() {
+        granted(rt, player.play(*step));
+    }
+    player
+}
+
+/// Whether a replay tells that the step of this number is the first that is not allowed.
+pub fn is_refused_at(alloc: Global, limit: u64, steps: &[Step], number: usize) -> bool {
+    replay(alloc, limit, steps).err() == Some(ReplayError::NotAllowed(number))
 }

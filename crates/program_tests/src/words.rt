@@ -28,4 +28,14 @@ impl Told {
         let err = String::from_utf8(err)?;
         Ok(Told { status, out, err })
     }
+
+    /// Whether it is this.
+    pub fn is(&self, status: u8, out: &str, err: &str) -> bool {
+        self.status == status && self.out.as_str() == out && self.err.as_str() == err
+    }
+
+    /// Whether all went well: the status is 0, and no error was told.
+    pub fn is_well(&self) -> bool {
+        self.status == 0 && self.err.is_empty()
+    }
 }

@@ -3,7 +3,7 @@
 mod phases;
 
 use crate::futures::Pending;
-use crate::queue::{Queue, QueueWaker};
+use crate::queue::{Queue, QueueRunnable, QueueWaker};
 use bench_report::benchmark::Contention;
 use bench_report::failure::Failure;
 use bench_report::times::{Summary, hundredths_of_one, per_second, summarize};
@@ -58,14 +58,27 @@ fn measure_once<R: Clock + Threads + Wait + Drop + Copy + Send + Sync>(
 ) -> Result<Counted, Failure> {
     let queue = Queue::new(rt, alloc);
     let (runnable, task) = queue.spawn(Pending)?;
+    let wakers = wakers_of(alloc, &runnable, threads)?;
+    runnable.schedule();
+    let counted = count(contention, rt, &queue, wakers);
+    drop(task);
+    counted
+}
+
+// A waker of the task for each thread.
+fn wakers_of<'x, R: Wait + Drop + Copy>(
+    alloc: Global,
+    runnable: &QueueRunnable<'x, R, Pending>,
+    threads: u32,
+) -> Result<Vec<QueueWaker<'x, R, Pending>>, AllocError> {
     let mut wakers = Vec::new(alloc);
     for _ in 0..threads {
-        wakers.push(runnable.waker().ok_or(AllocError)?)?;
+        let Some(waker) = runnable.waker() else {
+            return Err(AllocError);
+        };
+        wakers.push(waker)?;
     }
-    runnable.schedule();
-    let counted = count(contention, rt, &queue, wakers)?;
-    drop(task);
-    Ok(counted)
+    Ok(wakers)
 }
 
 // A thread is started for each waker, works for a time, and ends. The task is run by this thread.
@@ -106,18 +119,31 @@ fn count<R: Clock + Threads + Wait + Drop + Copy + Send + Sync>(
 
 // The medians of what the measurements counted.
 fn medians_of(alloc: Global, threads: u32, counted: &[Counted]) -> Result<Throughput, Failure> {
+    let (rate, runs) = median_rates(alloc, counted)?;
+    Ok(Throughput {
+        time: summarize_times(alloc, threads, counted)?,
+        per_second: rate,
+        runs_per_second: runs,
+    })
+}
+
+// The time of one operation, as each of so many threads sees it.
+fn summarize_times(alloc: Global, threads: u32, counted: &[Counted]) -> Result<Summary, Failure> {
     let mut times = Vec::new(alloc);
-    let mut rates = Vec::new(alloc);
-    let mut runs = Vec::new(alloc);
     for one in counted {
         let work = one.elapsed.saturating_mul(threads);
         times.push(hundredths_of_one(work, one.operations))?;
+    }
+    summarize(times)
+}
+
+// How many operations there were in a second, and how many runs: the medians.
+fn median_rates(alloc: Global, counted: &[Counted]) -> Result<(u64, u64), Failure> {
+    let mut rates = Vec::new(alloc);
+    let mut runs = Vec::new(alloc);
+    for one in counted {
         rates.push(per_second(one.operations, one.elapsed))?;
         runs.push(per_second(one.runs, one.elapsed))?;
     }
-    Ok(Throughput {
-        time: summarize(times)?,
-        per_second: summarize(rates)?.median,
-        runs_per_second: summarize(runs)?.median,
-    })
+    Ok((summarize(rates)?.median, summarize(runs)?.median))
 }

@@ -8,11 +8,22 @@ use std::collections::VecDeque;
 use std::sync::{Mutex, Wait};
 
 /// A queue of the Runnables of one type of future.
-#[derive(Drop)]
 pub struct Queue<R: Wait + Drop + Copy, F: Yields, B: Allocator = Global> {
     rt: R,
     alloc: B,
     waiting: Mutex<VecDeque<Runnable<R, F, ToQueue, (), Nobody, (), B>, B>>,
+}
+
+impl<R: Wait + Drop + Copy, F: Yields, B: Allocator> Drop for Queue<R, F, B> {
+    // As a derived drop, which would stand field by field in each function that makes a queue.
+    fn drop(self) {
+        let Queue {
+            rt: _,
+            alloc: _,
+            waiting,
+        } = self;
+        drop(waiting);
+    }
 }
 
 /// The schedule value of tasks whose Runnables go to the queue that they carry.
@@ -20,7 +31,15 @@ pub struct Queue<R: Wait + Drop + Copy, F: Yields, B: Allocator = Global> {
 pub struct ToQueue;
 
 /// A Runnable that carries a queue.
-pub type QueueRunnable<'x, R, F, B> = Runnable<R, F, ToQueue, (), Nobody, &'x Queue<R, F, B>, B>;
+pub type QueueRunnable<'x, R, F, B = Global> = Runnable<
+    R,
+    F,
+    ToQueue,
+    (),
+    Nobody,
+    &'x Queue<R, F, B>,
+    B,
+>;
 
 /// A Task that carries a queue.
 pub type QueueTask<'x, R, F, B> = Task<R, F, ToQueue, (), Nobody, &'x Queue<R, F, B>, B>;
@@ -38,6 +57,13 @@ pub type QueueWaker<'x, R, F, B = Global> = TaskWaker<
 
 /// A Runnable and its Task.
 pub type QueueHandles<'x, R, F, B> = (QueueRunnable<'x, R, F, B>, QueueTask<'x, R, F, B>);
+
+/// A Runnable, its Task and a waker.
+pub type QueueParties<'x, R, F, B> = (
+    QueueRunnable<'x, R, F, B>,
+    QueueTask<'x, R, F, B>,
+    QueueWaker<'x, R, F, B>,
+);
 
 impl<'x, R: Wait + Drop + Copy, F: Yields, B: Allocator + Copy> Schedule<QueueRunnable<'x, R, F, B>>
     for ToQueue {
@@ -68,6 +94,15 @@ impl<R: Wait + Drop + Copy, F: Yields, B: Allocator + Copy> Queue<R, F, B> {
         match spawn(self.rt, self.alloc, future, ToQueue, self) {
             Ok(handles) => Ok(handles),
             Err(_) => Err(AllocError),
+        }
+    }
+
+    /// Spawns a task, and makes a waker.
+    pub fn spawn_with_waker(&self, future: F) -> Result<QueueParties<'_, R, F, B>, AllocError> {
+        let (runnable, task) = self.spawn(future)?;
+        match runnable.waker() {
+            Some(waker) => Ok((runnable, task, waker)),
+            None => Err(AllocError),
         }
     }
 

@@ -1,6 +1,7 @@
 //! What is done for the arguments, and what is printed of it.
 
 use crate::benchmark::perform;
+use crate::contended::Throughput;
 use crate::{contended, measure, requests};
 use bench_report::benchmark::{Benchmark, Contention};
 use bench_report::failure::Failure;
@@ -94,10 +95,15 @@ where
     R: Clock + Threads + Wait + Drop + Copy + Send + Sync,
 {
     for contention in Contention::ALL {
-        let name = contention.name();
         contended::measure(contention, rt, alloc, 2, 1)?;
-        writeln!(out, "{name}")?;
+        print_name(contention.name(), out)?;
     }
+    Ok(())
+}
+
+// A name, on a line of its own.
+fn print_name<W: io::Write>(name: &str, out: &mut W) -> Result<(), Failure> {
+    writeln!(out, "{name}")?;
     Ok(())
 }
 
@@ -155,10 +161,17 @@ where
     R: Clock + Wait + Drop + Copy,
 {
     let name = benchmark.name();
-    writeln!(err, "{name}")?;
+    print_name(name, err)?;
     let time = measure::time(rt, alloc, benchmark, repetitions)?;
-    let median = Hundredths(time.median);
-    let least = Hundredths(time.least);
+    print_times(name, Hundredths(time.median), Hundredths(time.least), out)
+}
+
+fn print_times<W: io::Write>(
+    name: &str,
+    median: Hundredths,
+    least: Hundredths,
+    out: &mut W,
+) -> Result<(), Failure> {
     writeln!(out, "{name} {median} min {least}")?;
     out.flush()?;
     Ok(())
@@ -176,10 +189,17 @@ fn print_requests<R, W: io::Write, E: io::Write>(
 where
     R: Wait + Drop + Copy,
 {
-    writeln!(err, "{name}")?;
+    print_name(name, err)?;
     let counted = requests::count_requests(rt, alloc, benchmark)?;
-    let allocations = counted.allocations;
-    let bytes = counted.bytes;
+    print_counted(name, counted.allocations, counted.bytes, out)
+}
+
+fn print_counted<W: io::Write>(
+    name: &str,
+    allocations: Hundredths,
+    bytes: Hundredths,
+    out: &mut W,
+) -> Result<(), Failure> {
     writeln!(out, "{name} allocations {allocations} bytes {bytes}")?;
     out.flush()?;
     Ok(())
@@ -201,6 +221,15 @@ where
     let name = contention.name();
     writeln!(err, "{name}_t{threads}")?;
     let measured = contended::measure(contention, rt, alloc, threads, repetitions)?;
+    print_rates(name, threads, &measured, out)
+}
+
+fn print_rates<W: io::Write>(
+    name: &str,
+    threads: u32,
+    measured: &Throughput,
+    out: &mut W,
+) -> Result<(), Failure> {
     let median = Hundredths(measured.time.median);
     let least = Hundredths(measured.time.least);
     let rate = measured.per_second;

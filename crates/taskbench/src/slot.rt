@@ -2,17 +2,28 @@
 ghost use Rattle.std.specs.Prelude.{⊤};
 
 use crate::futures::Nobody;
-use async_task::{Runnable, Schedule, ScheduleInfo, Task, Yields, spawn};
+use async_task::{Runnable, Schedule, ScheduleInfo, Task, TaskWaker, Yields, spawn};
 use std::alloc::{AllocError, Allocator};
 use std::cell::Cell;
 use std::sync::Wait;
 
 /// A place for one Runnable.
-#[derive(Drop)]
 pub struct Slot<R: Wait + Drop + Copy, F: Yields, B: Allocator> {
     rt: R,
     alloc: B,
     held: Cell<Option<Runnable<R, F, ToSlot, (), Nobody, (), B>>>,
+}
+
+impl<R: Wait + Drop + Copy, F: Yields, B: Allocator> Drop for Slot<R, F, B> {
+    // As a derived drop, which would stand field by field in each function that makes a place.
+    fn drop(self) {
+        let Slot {
+            rt: _,
+            alloc: _,
+            held,
+        } = self;
+        drop(held);
+    }
 }
 
 /// The schedule value of tasks whose Runnables go to the place that they carry.
@@ -24,6 +35,9 @@ pub type SlotRunnable<'x, R, F, B> = Runnable<R, F, ToSlot, (), Nobody, &'x Slot
 
 /// A Task that carries a place.
 pub type SlotTask<'x, R, F, B> = Task<R, F, ToSlot, (), Nobody, &'x Slot<R, F, B>, B>;
+
+/// A waker that carries a place.
+pub type SlotWaker<'x, R, F, B> = TaskWaker<R, F, ToSlot, (), Nobody, &'x Slot<R, F, B>, B>;
 
 /// A Runnable and its Task.
 pub type SlotHandles<'x, R, F, B> = (SlotRunnable<'x, R, F, B>, SlotTask<'x, R, F, B>);

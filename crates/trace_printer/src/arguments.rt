@@ -78,8 +78,8 @@ fn print_help<W: io::Write>(out: &mut W) -> io::Result<u8>
     ensures { IfOk result (λ status. status ≡ 0) }
 {
     write!(out, "{USAGE}\n{HELP}")?;
-    for act in ACTS {
-        let act = name(act);
+    for act in &ACTS {
+        let act = name(*act);
         writeln!(out, "    {act}")?;
     }
     out.flush()?;

@@ -13,10 +13,10 @@ const EDITS: usize = 3;
 pub fn nearest(alloc: Global, word: &str) -> Result<Option<Act>, AllocError> {
     let mut nearest = None;
     let mut fewest = EDITS + 1;
-    for act in ACTS {
-        let edits = levenshtein(alloc, word, name(act))?;
+    for act in &ACTS {
+        let edits = levenshtein(alloc, word, name(*act))?;
         if edits < fewest {
-            nearest = Some(act);
+            nearest = Some(*act);
             fewest = edits;
         }
     }

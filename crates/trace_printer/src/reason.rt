@@ -37,9 +37,9 @@ fn print_parties<W: io::Write>(player: &Player<Global>, out: &mut W) -> io::Resu
 // Which acts are made where the party of this step stands.
 fn print_acts<W: io::Write>(player: &Player<Global>, step: Step, out: &mut W) -> io::Result<()> {
     let mut mark = "";
-    for act in ACTS {
-        if player.is_made_there(Step { act, ..step }) {
-            let act = name(act);
+    for act in &ACTS {
+        if player.is_made_there(Step { act: *act, ..step }) {
+            let act = name(*act);
             write!(out, "{mark} {act}")?;
             mark = ",";
         }
@@ -61,12 +61,10 @@ fn print_word<W: io::Write>(found: Word, fitting: Option<Word>, out: &mut W) -> 
         out,
         "the word 0x{bits:03X} does not fit, 0x{wanted:03X} would:"
     )?;
-    for (flag, name) in FLAGS {
-        if bits & flag == 0 && wanted & flag != 0 {
-            write!(out, " {name} set")?;
-        }
-        if bits & flag != 0 && wanted & flag == 0 {
-            write!(out, " {name} clear")?;
+    for (flag, name) in &FLAGS {
+        if bits & *flag != wanted & *flag {
+            let state = if wanted & *flag == 0 { "clear" } else { "set" };
+            write!(out, " {name} {state}")?;
         }
     }
     if found.references() != fitting.references() {

@@ -35,13 +35,13 @@ pub enum Shown {
     Progress,
 }
 
+const HEAD: &str = "\
+| Step | Act | Word | Flags | Count | Future | Output | Awaiter | Parties |
+|---|---|---|---|---|---|---|---|---|";
+
 /// Prints the names of the columns.
 pub fn print_head<W: io::Write>(out: &mut W) -> io::Result<()> {
-    writeln!(
-        out,
-        "| Step | Act | Word | Flags | Count | Future | Output | Awaiter | Parties |"
-    )?;
-    writeln!(out, "|---|---|---|---|---|---|---|---|---|")
+    writeln!(out, "{HEAD}")
 }
 
 /// Prints how the machine stands after the spawn.
@@ -50,7 +50,7 @@ pub fn print_spawn<W: io::Write>(player: &Player<Global>, out: &mut W) -> io::Re
     write!(out, "| 0 | spawn | ")?;
     print_word(machine.word(), out)?;
     print_slots(machine, out)?;
-    print_all(machine, out)?;
+    print_all(player, false, out)?;
     writeln!(out, " |")
 }
 
@@ -69,10 +69,10 @@ pub fn print_row<W: io::Write>(
     print_word(machine.word(), out)?;
     print_slots(machine, out)?;
     match shown {
-        Shown::Changed => print_changed(machine, step.party, before, out)?,
-        Shown::All => print_all(machine, out)?,
-        Shown::Progress => print_progress(player, out)?,
-    }
+        Shown::Changed => print_changed(machine, step.party, before, out),
+        Shown::All => print_all(player, false, out),
+        Shown::Progress => print_all(player, true, out),
+    }?;
     writeln!(out, " |")
 }
 
@@ -92,8 +92,8 @@ fn print_word<W: io::Write>(word: Word, out: &mut W) -> io::Result<()> {
     let bits = word.bits();
     let count = word.references();
     write!(out, "0x{bits:03X} |")?;
-    for (flag, name) in FLAGS {
-        if bits & flag != 0 {
+    for (flag, name) in &FLAGS {
+        if bits & *flag != 0 {
             write!(out, " {name}")?;
         }
     }
@@ -129,23 +129,9 @@ fn print_changed<W: io::Write>(
     Ok(())
 }
 
-// Where each party stands that has not ended.
-fn print_all<W: io::Write>(machine: &Machine<Global>, out: &mut W) -> io::Result<()> {
-    let mut mark = "";
-    for party in 0..machine.parties() as u64 {
-        match machine.position(party) {
-            None | Some(Position::At(Rest::Ended)) => {}
-            Some(position) => {
-                write!(out, "{mark} {party} {position:?}")?;
-                mark = ",";
-            }
-        }
-    }
-    Ok(())
-}
-
-// The same, and of each in a call how many steps it has left at most, and an act that it may make now.
-fn print_progress<W: io::Write>(player: &Player<Global>, out: &mut W) -> io::Result<()> {
+// Where each party stands that has not ended; where `progress` is set, also of each in a call how many steps it has left at most, and an act that it may
+// make now.
+fn print_all<W: io::Write>(player: &Player<Global>, progress: bool, out: &mut W) -> io::Result<()> {
     let machine = player.machine();
     let mut mark = "";
     for party in 0..machine.parties() as u64 {
@@ -153,14 +139,27 @@ fn print_progress<W: io::Write>(player: &Player<Global>, out: &mut W) -> io::Res
             None | Some(Position::At(Rest::Ended)) => {}
             Some(position) => {
                 write!(out, "{mark} {party} {position:?}")?;
-                if let Some(act) = next_act(player, party) {
-                    let left = steps_left(position);
-                    let act = name(act);
-                    write!(out, " ({left} left, may {act})")?;
+                if progress {
+                    print_next(player, party, position, out)?;
                 }
                 mark = ",";
             }
         }
     }
     Ok(())
+}
+
+// The progress of a party that stands there, if it is in a call.
+fn print_next<W: io::Write>(
+    player: &Player<Global>,
+    party: u64,
+    position: Position,
+    out: &mut W,
+) -> io::Result<()> {
+    let Some(act) = next_act(player, party) else {
+        return Ok(());
+    };
+    let left = steps_left(position);
+    let act = name(act);
+    write!(out, " ({left} left, may {act})")
 }

@@ -4,7 +4,6 @@ ghost use Rattle.worked_rows.specs.Agreement.{AgreesAt};
 
 use crate::calls;
 use counted_values::behaviour::Behaviour;
-use counted_values::counters::Counts;
 use counted_values::outcome::Outcome;
 use fixtures::fixture::Fixture;
 use std::alloc::AllocError;
@@ -14,63 +13,65 @@ use std::sync::Wait;
 pub fn drop_and_detach<R: Wait + Drop + Copy>(fixture: &Fixture<R>) -> Result<Outcome, AllocError>
     ensures { IfOk result (AgreesAt 0 0 1 1) }
 {
-    let (runnable, task) = calls::spawn(fixture, Behaviour::Ready(1))?;
+    let Ok((runnable, task)) = calls::spawn(fixture, Behaviour::Ready(1)) else {
+        return Err(AllocError);
+    };
     calls::drop_runnable(runnable);
-    let dropped = fixture.counts() == Counts::new(0, 0, 1, 0);
+    let dropped = calls::counts_are(fixture, 0, 0, 1, 0);
     calls::detach(task);
-    Ok(fixture.end(dropped, Counts::new(0, 0, 1, 1)))
+    calls::ended(fixture, dropped, 0, 0, 1, 1)
 }
 
 /// The Task is detached, then the Runnable is dropped.
 pub fn detach_and_drop<R: Wait + Drop + Copy>(fixture: &Fixture<R>) -> Result<Outcome, AllocError>
     ensures { IfOk result (AgreesAt 0 0 1 1) }
 {
-    let (runnable, task) = calls::spawn(fixture, Behaviour::Ready(1))?;
+    let Ok((runnable, task)) = calls::spawn(fixture, Behaviour::Ready(1)) else {
+        return Err(AllocError);
+    };
     calls::detach(task);
-    let kept = fixture.counts() == Counts::new(0, 0, 0, 0);
+    let kept = calls::counts_are(fixture, 0, 0, 0, 0);
     calls::drop_runnable(runnable);
-    Ok(fixture.end(kept, Counts::new(0, 0, 1, 1)))
+    calls::ended(fixture, kept, 0, 0, 1, 1)
 }
 
 /// The Task is detached, then the run completes and drops the output.
 pub fn detach_and_run<R: Wait + Drop + Copy>(fixture: &Fixture<R>) -> Result<Outcome, AllocError>
     ensures { IfOk result (AgreesAt 1 0 1 1) }
 {
-    let (runnable, task) = calls::spawn(fixture, Behaviour::Ready(1))?;
+    let Ok((runnable, task)) = calls::spawn(fixture, Behaviour::Ready(1)) else {
+        return Err(AllocError);
+    };
     calls::detach(task);
-    let kept = fixture.counts() == Counts::new(0, 0, 0, 0);
+    let kept = calls::counts_are(fixture, 0, 0, 0, 0);
     let rescheduled = calls::run(runnable);
     let output_dropped = fixture.output_drops() == 1;
-    let agrees = kept && !rescheduled && output_dropped;
-    Ok(fixture.end(agrees, Counts::new(1, 0, 1, 1)))
+    calls::ended(fixture, kept & !rescheduled & output_dropped, 1, 0, 1, 1)
 }
 
 /// The run completes, then the Task is detached, which drops the output.
 pub fn run_and_detach<R: Wait + Drop + Copy>(fixture: &Fixture<R>) -> Result<Outcome, AllocError>
     ensures { IfOk result (AgreesAt 1 0 1 1) }
 {
-    let (runnable, task) = calls::spawn(fixture, Behaviour::Ready(1))?;
+    let Ok((runnable, task)) = calls::spawn(fixture, Behaviour::Ready(1)) else {
+        return Err(AllocError);
+    };
     let rescheduled = calls::run(runnable);
-    let ran = fixture.counts() == Counts::new(1, 0, 1, 0);
+    let ran = calls::counts_are(fixture, 1, 0, 1, 0);
     let output_kept = fixture.output_drops() == 0;
     calls::detach(task);
     let output_dropped = fixture.output_drops() == 1;
-    let agrees = !rescheduled && ran && output_kept && output_dropped;
-    Ok(fixture.end(agrees, Counts::new(1, 0, 1, 1)))
+    let agrees = !rescheduled & ran & output_kept & output_dropped;
+    calls::ended(fixture, agrees, 1, 0, 1, 1)
 }
 
 /// The last run of a detached task ends pending and schedules a closing Runnable, whose run drops the future unpolled.
 pub fn last_run<R: Wait + Drop + Copy>(fixture: &Fixture<R>) -> Result<Outcome, AllocError>
     ensures { IfOk result (AgreesAt 1 1 1 1) }
 {
-    let (runnable, task) = calls::spawn(fixture, Behaviour::Pending)?;
-    calls::detach(task);
-    let rescheduled = calls::run(runnable);
-    let surroundings = &fixture.surroundings;
-    let closing = fixture.counts() == Counts::new(1, 1, 0, 0)
-        && surroundings.queued() == 1
-        && surroundings.infos_are(&[false]);
-    let closed = surroundings.run_next() == Some(false);
-    let agrees = !rescheduled && closing && closed;
-    Ok(fixture.end(agrees, Counts::new(1, 1, 1, 1)))
+    let Ok(rescheduled) = calls::run_detached(fixture, Behaviour::Pending) else {
+        return Err(AllocError);
+    };
+    let closed = calls::closes(fixture);
+    calls::ended(fixture, !rescheduled & closed, 1, 1, 1, 1)
 }

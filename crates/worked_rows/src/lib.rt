@@ -3,6 +3,9 @@
 //! A user calls nothing of it; `taskrows` runs each row.
 //! Nothing is public only to carry a claim.
 //! The page is docs/ROWS.md.
+//!
+//! A row asks by `let .. else`, since a `?` is two calls at the types of the handles that it asks for,
+//! and joins what it saw by `&`, which makes no branch: both are far shorter to prove.
 #![tactic(auto)]
 
 pub mod awaiting;

@@ -5,9 +5,10 @@ ghost use Rattle.worked_rows.specs.Agreement.{AgreesAt};
 use crate::calls;
 use counted_values::behaviour::Behaviour;
 use counted_values::counters::Counts;
+use counted_values::flag::Flag;
 use counted_values::outcome::Outcome;
 use fixtures::fixture::Fixture;
-use fixtures::surroundings::{RowTask, RowWaker};
+use fixtures::surroundings::{RowRunnable, RowTask, RowWaker};
 use std::alloc::AllocError;
 use std::sync::Wait;
 use std::thread;
@@ -19,12 +20,33 @@ where
     R: Wait + Threads + Drop + Copy + Send + Sync,
     ensures { IfOk result (AgreesAt 1 1 0 0) }
 {
-    let (runnable, waker, task) = calls::spawn_with_waker(fixture, Behaviour::Pending)?;
+    let Ok((runnable, waker, task)) = calls::spawn_with_waker(fixture, Behaviour::Pending) else {
+        return Err(AllocError);
+    };
+    let Some((woken, waker)) = wake_beside(fixture, runnable, waker) else {
+        return Ok(fixture.give_up());
+    };
+    let met = fixture.surroundings.rendezvous.met();
+    let told = fixture.surroundings.infos_are(&[true]);
+    let outcome = calls::ended(fixture, woken & met & told, 1, 1, 0, 0);
+    calls::drop_waker(waker);
+    calls::drop_task(task);
+    outcome
+}
+
+// Runs, and wakes during the poll: whether the poll came, and the run answers true; and the waker.
+fn wake_beside<'x, R>(
+    fixture: &'x Fixture<R>,
+    runnable: RowRunnable<'x, R>,
+    waker: RowWaker<'x, R>,
+) -> Option<(bool, RowWaker<'x, R>)>
+where
+    R: Wait + Threads + Drop + Copy + Send + Sync,
+{
     let rt = fixture.rt;
-    let surroundings = &fixture.surroundings;
-    let rendezvous = &surroundings.rendezvous;
+    let rendezvous = &fixture.surroundings.rendezvous;
     rendezvous.arm();
-    let joined = thread::scope(thread::scope_env(), &rt, |scope| {
+    thread::scope(thread::scope_env(), &rt, |scope| {
         let second = scope.spawn(move || {
             let polled = rendezvous.await_poll();
             calls::wake_by_ref(&waker);
@@ -36,16 +58,8 @@ where
         };
         let rescheduled = calls::run(runnable);
         let (polled, waker) = second.join(&rt);
-        Some((polled && rescheduled, waker))
-    });
-    let Some((woken, waker)) = joined else {
-        return Ok(fixture.give_up());
-    };
-    let agrees = woken && rendezvous.met() && surroundings.infos_are(&[true]);
-    let outcome = fixture.end(agrees, Counts::new(1, 1, 0, 0));
-    calls::drop_waker(waker);
-    calls::drop_task(task);
-    Ok(outcome)
+        Some((polled & rescheduled, waker))
+    })
 }
 
 /// The second thread drops the Task while the future is polled: the run drops the future, and nothing is scheduled.
@@ -54,35 +68,60 @@ where
     R: Wait + Threads + Drop + Copy + Send + Sync,
     ensures { IfOk result (AgreesAt 2 1 1 1) }
 {
-    let (runnable, task) = calls::spawn(fixture, Behaviour::KeepPending)?;
-    let rt = fixture.rt;
+    let Ok((runnable, task)) = calls::spawn(fixture, Behaviour::KeepPending) else {
+        return Err(AllocError);
+    };
     let surroundings = &fixture.surroundings;
-    let rendezvous = &surroundings.rendezvous;
     calls::run(runnable);
     surroundings.wake_kept();
     let Some(received) = surroundings.receive() else {
         return Ok(fixture.give_up());
     };
+    let cancelled = let_go_beside(fixture, received, task, false, Counts::new(2, 1, 0, 0));
+    let unscheduled = (surroundings.queued() == 0) & surroundings.infos_are(&[false]);
+    let closed = calls::counts_are(fixture, 2, 1, 1, 0);
+    calls::drop_given(surroundings.take_kept());
+    let agrees = cancelled & surroundings.rendezvous.met() & unscheduled & closed;
+    calls::ended(fixture, agrees, 2, 1, 1, 1)
+}
+
+// Runs, and detaches or drops the Task during the poll: whether the poll came, that left these counters and no output dropped, and the run answers false.
+fn let_go_beside<'x, R>(
+    fixture: &'x Fixture<R>,
+    runnable: RowRunnable<'x, R>,
+    task: RowTask<'x, R>,
+    detaches: bool,
+    counts: Counts,
+) -> bool
+where
+    R: Wait + Threads + Drop + Copy + Send + Sync,
+{
+    let rt = fixture.rt;
+    let rendezvous = &fixture.surroundings.rendezvous;
     rendezvous.arm();
-    let cancelled = thread::scope(thread::scope_env(), &rt, |scope| {
+    thread::scope(thread::scope_env(), &rt, |scope| {
         let second = scope.spawn(move || {
             let polled = rendezvous.await_poll();
-            calls::drop_task(task);
-            let unchanged = fixture.counts() == Counts::new(2, 1, 0, 0);
+            let_go(task, detaches);
+            let unchanged = (fixture.counts() == counts) & (fixture.output_drops() == 0);
             rendezvous.release();
-            polled && unchanged
+            polled & unchanged
         });
         let Ok(second) = second else {
             return false;
         };
-        let rescheduled = calls::run(received);
-        second.join(&rt) && !rescheduled
-    });
-    let unscheduled = surroundings.queued() == 0 && surroundings.infos_are(&[false]);
-    let closed = fixture.counts() == Counts::new(2, 1, 1, 0);
-    calls::drop_kept(surroundings);
-    let agrees = cancelled && rendezvous.met() && unscheduled && closed;
-    Ok(fixture.end(agrees, Counts::new(2, 1, 1, 1)))
+        let rescheduled = calls::run(runnable);
+        second.join(&rt) & !rescheduled
+    })
+}
+
+// Detaches the Task, or drops it.
+fn let_go<R: Wait + Drop>(task: RowTask<'_, R>, detaches: bool) {
+    if detaches {
+        calls::detach(task);
+    } else {
+        calls::drop_task(task);
+    }
 }
 
 /// The second thread wakes the task while the future is polled, and then drops the Task: the run drops the future.
@@ -112,10 +151,10 @@ where
     R: Wait + Threads + Drop + Copy + Send + Sync,
     ensures { IfOk result (AgreesAt 2 1 1 1) }
 {
-    let (runnable, task) = calls::spawn(fixture, Behaviour::KeepPending)?;
-    let rt = fixture.rt;
+    let Ok((runnable, task)) = calls::spawn(fixture, Behaviour::KeepPending) else {
+        return Err(AllocError);
+    };
     let surroundings = &fixture.surroundings;
-    let rendezvous = &surroundings.rendezvous;
     calls::run(runnable);
     let Some(waker) = surroundings.take_kept() else {
         return Ok(fixture.give_up());
@@ -124,23 +163,38 @@ where
     let Some(received) = surroundings.receive() else {
         return Ok(fixture.give_up());
     };
+    let closed = wake_and_drop_beside(fixture, received, waker, task, wakes_first);
+    calls::drop_given(surroundings.take_kept());
+    calls::ended(fixture, closed & surroundings.rendezvous.met(), 2, 1, 1, 1)
+}
+
+// Runs, and wakes and drops the Task during the poll: whether the poll came, no counter went up by that, and the run answers false.
+fn wake_and_drop_beside<'x, R>(
+    fixture: &'x Fixture<R>,
+    runnable: RowRunnable<'x, R>,
+    waker: RowWaker<'x, R>,
+    task: RowTask<'x, R>,
+    wakes_first: bool,
+) -> bool
+where
+    R: Wait + Threads + Drop + Copy + Send + Sync,
+{
+    let rt = fixture.rt;
+    let rendezvous = &fixture.surroundings.rendezvous;
     rendezvous.arm();
-    let closed = thread::scope(thread::scope_env(), &rt, |scope| {
+    thread::scope(thread::scope_env(), &rt, |scope| {
         let second = scope.spawn(move || {
             let polled = rendezvous.await_poll();
             let unchanged = wake_and_drop(fixture, waker, task, wakes_first);
             rendezvous.release();
-            polled && unchanged
+            polled & unchanged
         });
         let Ok(second) = second else {
             return false;
         };
-        let rescheduled = calls::run(received);
-        second.join(&rt) && !rescheduled
-    });
-    calls::drop_kept(surroundings);
-    let agrees = closed && rendezvous.met();
-    Ok(fixture.end(agrees, Counts::new(2, 1, 1, 1)))
+        let rescheduled = calls::run(runnable);
+        second.join(&rt) & !rescheduled
+    })
 }
 
 // Wakes the task and drops the Task, in that order or in the other one: whether no counter goes up by either.
@@ -150,18 +204,18 @@ fn wake_and_drop<'x, R: Wait + Drop + Copy>(
     task: RowTask<'x, R>,
     wakes_first: bool,
 ) -> bool {
-    let polled_twice = Counts::new(2, 1, 0, 0);
-    if wakes_first {
+    let unchanged = if wakes_first {
         calls::wake(waker);
-        let unchanged = fixture.counts() == polled_twice;
+        let unchanged = calls::counts_are(fixture, 2, 1, 0, 0);
         calls::drop_task(task);
-        unchanged && fixture.counts() == polled_twice
+        unchanged
     } else {
         calls::drop_task(task);
-        let unchanged = fixture.counts() == polled_twice;
+        let unchanged = calls::counts_are(fixture, 2, 1, 0, 0);
         calls::wake(waker);
-        unchanged && fixture.counts() == polled_twice
-    }
+        unchanged
+    };
+    unchanged & calls::counts_are(fixture, 2, 1, 0, 0)
 }
 
 /// The second thread detaches the Task while the future is polled: the run drops the output.
@@ -188,32 +242,13 @@ where
     R: Wait + Threads + Drop + Copy + Send + Sync,
     ensures { IfOk result (AgreesAt 1 0 1 1) }
 {
-    let (runnable, task) = calls::spawn(fixture, Behaviour::Ready(1))?;
-    let rt = fixture.rt;
-    let rendezvous = &fixture.surroundings.rendezvous;
-    rendezvous.arm();
-    let left = thread::scope(thread::scope_env(), &rt, |scope| {
-        let second = scope.spawn(move || {
-            let polled = rendezvous.await_poll();
-            if detaches {
-                calls::detach(task);
-            } else {
-                calls::drop_task(task);
-            }
-            let unchanged = fixture.counts() == Counts::new(1, 0, 0, 0);
-            let output_kept = fixture.output_drops() == 0;
-            rendezvous.release();
-            polled && unchanged && output_kept
-        });
-        let Ok(second) = second else {
-            return false;
-        };
-        let rescheduled = calls::run(runnable);
-        let output_dropped = fixture.output_drops() == 1;
-        second.join(&rt) && !rescheduled && output_dropped
-    });
-    let agrees = left && rendezvous.met();
-    Ok(fixture.end(agrees, Counts::new(1, 0, 1, 1)))
+    let Ok((runnable, task)) = calls::spawn(fixture, Behaviour::Ready(1)) else {
+        return Err(AllocError);
+    };
+    let left = let_go_beside(fixture, runnable, task, detaches, Counts::new(1, 0, 0, 0));
+    let met = fixture.surroundings.rendezvous.met();
+    let output_dropped = fixture.output_drops() == 1;
+    calls::ended(fixture, left & met & output_dropped, 1, 0, 1, 1)
 }
 
 /// The second thread polls the Task while the future is polled: the run wakes the awaiter, and a second poll gets the output.
@@ -222,33 +257,45 @@ where
     R: Wait + Threads + Drop + Copy + Send + Sync,
     ensures { IfOk result (AgreesAt 1 0 1 0) }
 {
-    let flag = fixture.flag(1)?;
-    let awaiter = &flag;
-    let (runnable, mut task) = calls::spawn(fixture, Behaviour::Ready(1))?;
+    let Ok((flag, runnable, task)) = calls::spawn_with_flag(fixture, Behaviour::Ready(1)) else {
+        return Err(AllocError);
+    };
+    let Some((waits, mut task)) = poll_beside(fixture, runnable, task, &flag) else {
+        return Ok(fixture.give_up());
+    };
+    let woken = flag.wakes() == 1;
+    let completed = calls::is_ready(&mut task, &flag, 1) & (flag.wakes() == 1);
+    let met = fixture.surroundings.rendezvous.met();
+    let outcome = calls::ended(fixture, waits & met & woken & completed, 1, 0, 1, 0);
+    calls::drop_task(task);
+    outcome
+}
+
+// Runs, and polls the Task during the poll of the future: whether that came, the Task waits with its awaiter unwoken, and the run answers false; and the Task.
+fn poll_beside<'x, R>(
+    fixture: &'x Fixture<R>,
+    runnable: RowRunnable<'x, R>,
+    mut task: RowTask<'x, R>,
+    awaiter: &Flag,
+) -> Option<(bool, RowTask<'x, R>)>
+where
+    R: Wait + Threads + Drop + Copy + Send + Sync,
+{
     let rt = fixture.rt;
     let rendezvous = &fixture.surroundings.rendezvous;
     rendezvous.arm();
-    let joined = thread::scope(thread::scope_env(), &rt, |scope| {
+    thread::scope(thread::scope_env(), &rt, |scope| {
         let second = scope.spawn(move || {
             let polled = rendezvous.await_poll();
-            let waits = calls::is_pending(&mut task, awaiter) && awaiter.wakes() == 0;
+            let waits = calls::is_pending(&mut task, awaiter) & (awaiter.wakes() == 0);
             rendezvous.release();
-            (polled && waits, task)
+            (polled & waits, task)
         });
         let Ok(second) = second else {
             return None;
         };
         let rescheduled = calls::run(runnable);
         let (waits, task) = second.join(&rt);
-        Some((waits && !rescheduled, task))
-    });
-    let Some((waits, mut task)) = joined else {
-        return Ok(fixture.give_up());
-    };
-    let woken = flag.wakes() == 1;
-    let completed = calls::is_ready(&mut task, &flag, 1) && flag.wakes() == 1;
-    let agrees = waits && rendezvous.met() && woken && completed;
-    let outcome = fixture.end(agrees, Counts::new(1, 0, 1, 0));
-    calls::drop_task(task);
-    Ok(outcome)
+        Some((waits & !rescheduled, task))
+    })
 }

@@ -1,8 +1,7 @@
 //! `block_on`, of a task that has ended, of one that another thread runs, and of one that is closed.
 use super::line::{Errand, Line, LineTask};
-use crate::granted::granted;
 use awaiters::{BlockOnError, block_on};
-use std::alloc::{AllocError, Global};
+use std::alloc::Global;
 use std::process::Abort;
 use std::sync::Wait;
 use std::thread::{self, Threads};
@@ -11,11 +10,11 @@ type Answers = [Result<u64, BlockOnError>; 2];
 
 // Waits twice for a task that has ended before: the second time it is closed.
 fn wait_for_ended<R: Wait + Abort + Drop + Copy>(rt: R, alloc: Global) -> Answers {
-    let line = granted(&rt, Line::new(rt, alloc, 1));
-    let mut task = granted(&rt, line.spawn(0, Errand::GiveWay(7)).ok_or(AllocError));
+    let line = Line::new(rt, alloc, 1);
+    let mut task = line.spawn(0, Errand::GiveWay(7));
     line.run();
     let first = block_on(rt, alloc, &mut task);
-    [first, block_on(rt, alloc, &mut task)]
+    [first, wait_for(rt, alloc, task)]
 }
 
 #[test]
@@ -49,8 +48,8 @@ fn wait_for_other<R: Wait + Abort + Threads + Drop + Copy + Send + Sync>(
     rt: R,
     alloc: Global,
 ) -> Result<u64, BlockOnError> {
-    let line = granted(&rt, Line::new(rt, alloc, 1));
-    let task = granted(&rt, line.spawn(0, Errand::GiveWay(9)).ok_or(AllocError));
+    let line = Line::new(rt, alloc, 1);
+    let task = line.spawn(0, Errand::GiveWay(9));
     run_and_wait(rt, alloc, &line, task)
 }
 

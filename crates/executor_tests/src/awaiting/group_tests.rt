@@ -10,10 +10,26 @@ use task_group::TaskGroup;
 // The number and the answer of a member that came out.
 type CameOut = Option<(usize, Result<u64, TaskClosed>)>;
 
+// An empty group with that room. Stops where there is no memory.
+fn group_of<'x, R: Wait + Abort + Drop + Copy>(
+    rt: R,
+    alloc: Global,
+    room: usize,
+) -> LineGroup<'x, R> {
+    granted(&rt, TaskGroup::new(rt, alloc, room))
+}
+
 // Waits for the next member: `None` where there is none.
 fn next_of<R: Wait + Drop + Copy>(group: &mut LineGroup<'_, R>) -> CameOut {
-    let ended = group.next().ok()??;
-    Some((ended.number, ended.answer))
+    match group.next() {
+        Ok(Some(ended)) => Some((ended.number, ended.answer)),
+        _ => None,
+    }
+}
+
+// Waits for the next member, and drops the group.
+fn last_of<R: Wait + Drop + Copy>(mut group: LineGroup<'_, R>) -> CameOut {
+    next_of(&mut group)
 }
 
 // Pushes a Task to a group: whether there was room.
@@ -25,28 +41,27 @@ fn push_task<'x, R: Wait + Drop + Copy>(
 }
 
 // Spawns a task and pushes it to a group: whether there was room.
-fn push<'x, R: Wait + Drop + Copy>(
+fn push<'x, R: Wait + Abort + Drop + Copy>(
     line: &'x Line<R>,
     group: &mut LineGroup<'x, R>,
     errand: Errand,
-) -> Result<bool, AllocError> {
-    let task = line.spawn(0, errand).ok_or(AllocError)?;
-    Ok(push_task(group, task))
+) -> bool {
+    push_task(group, line.spawn(0, errand))
 }
 
 // Three tasks, of which the first ends last: how they come out, and what comes after them.
 fn in_order<R: Wait + Abort + Drop + Copy>(rt: R, alloc: Global) -> [CameOut; 4] {
-    let line = granted(&rt, Line::new(rt, alloc, 1));
-    let mut group: LineGroup<'_, R> = granted(&rt, TaskGroup::new(rt, alloc, 3));
-    granted(&rt, push(&line, &mut group, Errand::GiveWay(10)));
-    granted(&rt, push(&line, &mut group, Errand::Answer(11)));
-    granted(&rt, push(&line, &mut group, Errand::Answer(12)));
+    let line = Line::new(rt, alloc, 1);
+    let mut group = group_of(rt, alloc, 3);
+    push(&line, &mut group, Errand::GiveWay(10));
+    push(&line, &mut group, Errand::Answer(11));
+    push(&line, &mut group, Errand::Answer(12));
     line.run();
     [
         next_of(&mut group),
         next_of(&mut group),
         next_of(&mut group),
-        next_of(&mut group),
+        last_of(group),
     ]
 }
 
@@ -64,29 +79,21 @@ fn members_come_out_in_the_order_in_which_they_end(rt: HostRuntime) {
 }
 
 // Pushes a task that has run to its output, and one that was cancelled.
-fn push_both<'x, R: Wait + Drop + Copy>(
-    line: &'x Line<R>,
-    group: &mut LineGroup<'x, R>,
-) -> Option<()> {
-    let answered = line.spawn(0, Errand::Answer(15))?;
+fn push_both<'x, R: Wait + Abort + Drop + Copy>(line: &'x Line<R>, group: &mut LineGroup<'x, R>) {
+    let answered = line.spawn(0, Errand::Answer(15));
     line.run();
     push_task(group, answered);
-    let closed = line.spawn(0, Errand::Answer(16))?;
+    let closed = line.spawn(0, Errand::Answer(16));
     line.drop_next();
     push_task(group, closed);
-    Some(())
 }
 
 // Pushes two tasks that have ended: how they come out, and what comes after them.
 fn push_ended<R: Wait + Abort + Drop + Copy>(rt: R, alloc: Global) -> [CameOut; 3] {
-    let line = granted(&rt, Line::new(rt, alloc, 1));
-    let mut group: LineGroup<'_, R> = granted(&rt, TaskGroup::new(rt, alloc, 2));
-    granted(&rt, push_both(&line, &mut group).ok_or(AllocError));
-    [
-        next_of(&mut group),
-        next_of(&mut group),
-        next_of(&mut group),
-    ]
+    let line = Line::new(rt, alloc, 1);
+    let mut group = group_of(rt, alloc, 2);
+    push_both(&line, &mut group);
+    [next_of(&mut group), next_of(&mut group), last_of(group)]
 }
 
 #[test]
@@ -116,14 +123,14 @@ fn let_all_go<R: Wait + Drop + Copy>(mut group: LineGroup<'_, R>, how: LetGo) ->
 // Fills a group with tasks, pushes one more, and lets all go: whether that one was refused, whether the group was empty then,
 // and whether any of the tasks answered when they were run.
 fn let_go<R: Wait + Abort + Drop + Copy>(rt: R, alloc: Global, how: LetGo) -> [bool; 3] {
-    let line = granted(&rt, Line::new(rt, alloc, 1));
-    let mut group: LineGroup<'_, R> = granted(&rt, TaskGroup::new(rt, alloc, 2));
+    let line = Line::new(rt, alloc, 1);
+    let mut group = group_of(rt, alloc, 2);
     for _ in 0..64u64 {
         if !group.is_full() {
-            granted(&rt, push(&line, &mut group, Errand::GiveWay(20)));
+            push(&line, &mut group, Errand::GiveWay(20));
         }
     }
-    let refused = !granted(&rt, push(&line, &mut group, Errand::Stay));
+    let refused = !push(&line, &mut group, Errand::Stay);
     let emptied = let_all_go(group, how);
     line.run();
     [refused, emptied, line.answered() > 0]
@@ -144,23 +151,25 @@ fn an_abort_and_a_drop_cancel_what_a_detach_lets_go_on(rt: HostRuntime) {
     );
 }
 
-// Looks for a member that has ended.
-fn look_once<R: Wait + Drop + Copy>(group: &mut LineGroup<'_, R>) -> CameOut {
-    let ended = group.try_next().ok()??;
-    Some((ended.number, ended.answer))
+// Looks for a member that has ended, and drops the group.
+fn look_once<R: Wait + Drop + Copy>(mut group: LineGroup<'_, R>) -> CameOut {
+    match group.try_next() {
+        Ok(Some(ended)) => Some((ended.number, ended.answer)),
+        _ => None,
+    }
 }
 
 // Two members end, the second one first, and are let go. Then a member ends that has the number of the first: what one look finds.
 fn look_after_abort<R: Wait + Abort + Drop + Copy>(rt: R, alloc: Global) -> CameOut {
-    let line = granted(&rt, Line::new(rt, alloc, 1));
-    let mut group: LineGroup<'_, R> = granted(&rt, TaskGroup::new(rt, alloc, 2));
-    granted(&rt, push(&line, &mut group, Errand::GiveWay(30)));
-    granted(&rt, push(&line, &mut group, Errand::Answer(31)));
+    let line = Line::new(rt, alloc, 1);
+    let mut group = group_of(rt, alloc, 2);
+    push(&line, &mut group, Errand::GiveWay(30));
+    push(&line, &mut group, Errand::Answer(31));
     line.run();
     group.abort_all();
-    granted(&rt, push(&line, &mut group, Errand::Answer(32)));
+    push(&line, &mut group, Errand::Answer(32));
     line.run();
-    look_once(&mut group)
+    look_once(group)
 }
 
 // The number 1, of no member now, still waits before the number 0.
@@ -185,11 +194,11 @@ fn spawn_both<'x, R: Wait + Drop + Copy>(
 
 // Spawns two members of a group with room for one: their numbers, and what comes out after a run.
 fn spawn_two<R: Wait + Abort + Drop + Copy>(rt: R, alloc: Global) -> (Numbers, CameOut) {
-    let line = granted(&rt, Line::new(rt, alloc, 1));
-    let mut group: LineGroup<'_, R> = granted(&rt, TaskGroup::new(rt, alloc, 1));
+    let line = Line::new(rt, alloc, 1);
+    let mut group = group_of(rt, alloc, 1);
     let numbers = spawn_both(&line, &mut group);
     line.run();
-    (numbers, next_of(&mut group))
+    (numbers, last_of(group))
 }
 
 #[test]

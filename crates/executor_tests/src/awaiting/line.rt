@@ -1,13 +1,15 @@
 //! An executor of one queue, with a waker and a Task kept for each number, and the mailbox that awaiters post to.
 ghost use Rattle.std.specs.Prelude.{⊤};
 
+use crate::granted::granted;
 use async_task::{
     Future, Poll, Runnable, Schedule, ScheduleInfo, Task, TaskPoll, TaskWaker, Yields, spawn,
 };
 use awaiters::{Awaiter, Mailbox};
-use std::alloc::{AllocError, Global};
+use std::alloc::Global;
 use std::collections::VecDeque;
 use std::mem;
+use std::process::Abort;
 use std::sync::atomic::{AtomicU64, Ordering};
 use std::sync::{Arc, Mutex, Wait};
 use task_group::TaskGroup;
@@ -52,6 +54,8 @@ pub type LineWaker<'x, R> = TaskWaker<R, Member, ToLine, (), Awaiter<R>, &'x Lin
 /// A group of Tasks of a line.
 pub type LineGroup<'x, R> = TaskGroup<R, Member, ToLine, (), Awaiter<R>, &'x Line<R>>;
 
+type KeptRunnable<R> = Runnable<R, Member, ToLine, (), Awaiter<R>, ()>;
+
 type KeptTask<R> = Task<R, Member, ToLine, (), Awaiter<R>, ()>;
 
 type KeptWaker<R> = TaskWaker<R, Member, ToLine, (), Awaiter<R>, ()>;
@@ -62,7 +66,7 @@ pub struct Line<R: Wait + Drop + Copy> {
     alloc: Global,
     mailbox: Arc<Mailbox<R>>,
     answered: AtomicU64,
-    queue: Mutex<VecDeque<Runnable<R, Member, ToLine, (), Awaiter<R>, ()>>>,
+    queue: Mutex<VecDeque<KeptRunnable<R>>>,
     wakers: Mutex<Vec<Option<KeptWaker<R>>>>,
     tasks: Mutex<Vec<Option<KeptTask<R>>>>,
 }
@@ -100,14 +104,10 @@ impl<'x, R: Wait + Drop + Copy> Schedule<LineRunnable<'x, R>> for ToLine {
     }
 }
 
-impl<R: Wait + Drop + Copy> Schedule<Runnable<R, Member, ToLine, (), Awaiter<R>, ()>> for ToLine {
+impl<R: Wait + Drop + Copy> Schedule<KeptRunnable<R>> for ToLine {
     ghost scheduled = { λ _ _ _. ⊤ };
 
-    fn schedule(
-        &self,
-        runnable: Runnable<R, Member, ToLine, (), Awaiter<R>, ()>,
-        _info: ScheduleInfo,
-    ) {
+    fn schedule(&self, runnable: KeptRunnable<R>, _info: ScheduleInfo) {
         drop(runnable);
     }
 }
@@ -140,17 +140,22 @@ fn swap_at<V: Drop>(store: &mut Vec<Option<V>>, number: usize, value: Option<V>)
     }
 }
 
-impl<R: Wait + Drop + Copy> Line<R> {
-    /// A line for the numbers below `room`.
-    pub fn new(rt: R, alloc: Global, room: usize) -> Result<Line<R>, AllocError> {
-        let mailbox = Mailbox::new(rt, alloc, room)?;
-        let mut wakers = Vec::with_capacity(alloc, room)?;
-        let mut tasks = Vec::with_capacity(alloc, room)?;
-        for _ in 0..room {
-            wakers.push(None)?;
-            tasks.push(None)?;
-        }
-        Ok(Line {
+// A store with so many empty places. Stops where there is no memory.
+fn empty_store<R: Abort, V: Drop>(rt: &R, alloc: Global, room: usize) -> Vec<Option<V>> {
+    let mut store = granted(rt, Vec::with_capacity(alloc, room));
+    for _ in 0..room {
+        granted(rt, store.push(None));
+    }
+    store
+}
+
+impl<R: Wait + Abort + Drop + Copy> Line<R> {
+    /// A line for the numbers below `room`. Stops where there is no memory.
+    pub fn new(rt: R, alloc: Global, room: usize) -> Line<R> {
+        let mailbox = granted(&rt, Mailbox::new(rt, alloc, room));
+        let wakers = empty_store(&rt, alloc, room);
+        let tasks = empty_store(&rt, alloc, room);
+        Line {
             rt,
             alloc,
             mailbox,
@@ -158,17 +163,33 @@ impl<R: Wait + Drop + Copy> Line<R> {
             queue: Mutex::new(VecDeque::new(alloc)),
             wakers: Mutex::new(wakers),
             tasks: Mutex::new(tasks),
-        })
+        }
     }
 
-    /// Spawns a task of this number and schedules it. `None` where memory was refused.
-    pub fn spawn(&self, number: usize, errand: Errand) -> Option<LineTask<'_, R>> {
+    /// Spawns a task of this number and schedules it. Stops where it is refused.
+    pub fn spawn(&self, number: usize, errand: Errand) -> LineTask<'_, R> {
         let future = Member { number, errand };
-        let (runnable, task) = spawn(self.rt, self.alloc, future, ToLine, self).ok()?;
+        let spawned = spawn(self.rt, self.alloc, future, ToLine, self);
+        let (runnable, task) = granted(&self.rt, spawned);
         runnable.schedule();
-        Some(task)
+        task
     }
 
+    /// Spawns a task of this number, schedules it and keeps its Task. Stops where it is refused.
+    pub fn spawn_kept(&self, number: usize, errand: Errand) {
+        self.keep_task(number, self.spawn(number, errand));
+    }
+
+    /// Takes the Task of a number out of the store. Stops where there is none.
+    pub fn task_of(&self, number: usize) -> LineTask<'_, R> {
+        match self.take_task(number) {
+            Some(task) => task,
+            None => panic!(self.rt; "no Task was kept"),
+        }
+    }
+}
+
+impl<R: Wait + Drop + Copy> Line<R> {
     /// Spawns a task of a group: the number that it got there, or `None` where the spawn was refused.
     pub fn spawn_in<'x>(&'x self, group: &mut LineGroup<'x, R>, errand: Errand) -> Option<usize> {
         let future = Member { number: 0, errand };
@@ -187,13 +208,13 @@ impl<R: Wait + Drop + Copy> Line<R> {
         swap_at(&mut *wakers, number, waker)
     }
 
-    /// Keeps the Task of a number, and drops the one that was there.
-    pub fn keep_task<'x>(&'x self, number: usize, task: LineTask<'x, R>) {
+    // Keeps the Task of a number, and drops the one that was there.
+    fn keep_task<'x>(&'x self, number: usize, task: LineTask<'x, R>) {
         drop(self.swap_task(number, Some(task.with_around(()))));
     }
 
-    /// Takes the Task of a number out of the store.
-    pub fn take_task(&self, number: usize) -> Option<LineTask<'_, R>> {
+    // Takes the Task of a number out of the store.
+    fn take_task(&self, number: usize) -> Option<LineTask<'_, R>> {
         Some(self.swap_task(number, None)?.with_around(self))
     }
 
@@ -204,23 +225,38 @@ impl<R: Wait + Drop + Copy> Line<R> {
         other: usize,
         waker: &LineWaker<'x, R>,
     ) -> Poll<u64> {
-        let Some(clone) = waker.try_clone() else {
+        if !self.keep_waker(number, waker) {
             return Poll::Ready(0);
+        }
+        match Awaiter::new(&self.mailbox, number) {
+            Some(awaiter) => self.poll_kept(other, &awaiter),
+            None => Poll::Ready(0),
+        }
+    }
+
+    // Keeps a clone of the waker of a number, and drops the one that was there: whether there is a clone.
+    fn keep_waker<'x>(&'x self, number: usize, waker: &LineWaker<'x, R>) -> bool {
+        let Some(clone) = waker.try_clone() else {
+            return false;
         };
         drop(self.swap_waker(number, Some(clone.with_around(()))));
-        let Some(awaiter) = Awaiter::new(&self.mailbox, number) else {
+        true
+    }
+
+    // One poll of the Task of a number, which stays in the store where it is pending: one more than its answer, or 0.
+    fn poll_kept(&self, number: usize, awaiter: &Awaiter<R>) -> Poll<u64> {
+        let Some(mut task) = self.take_task(number) else {
             return Poll::Ready(0);
         };
-        let Some(mut task) = self.take_task(other) else {
-            return Poll::Ready(0);
-        };
-        match task.poll(&awaiter) {
+        let polled = task.poll(awaiter);
+        if matches!(polled, TaskPoll::Pending) {
+            self.keep_task(number, task);
+            return Poll::Pending;
+        }
+        drop(task);
+        match polled {
             TaskPoll::Ready(Ok(answer)) => Poll::Ready(answer.saturating_add(1)),
-            TaskPoll::Ready(Err(_)) | TaskPoll::Refused => Poll::Ready(0),
-            TaskPoll::Pending => {
-                self.keep_task(other, task);
-                Poll::Pending
-            }
+            _ => Poll::Ready(0),
         }
     }
 
@@ -238,16 +274,19 @@ impl<R: Wait + Drop + Copy> Line<R> {
         }
     }
 
+    // The Runnable that has waited longest.
+    fn pop(&self) -> Option<KeptRunnable<R>> {
+        self.queue.lock(&self.rt).pop_front()
+    }
+
     /// Drops the Runnable that has waited longest, which cancels its task.
     pub fn drop_next(&self) {
-        let next = self.queue.lock(&self.rt).pop_front();
-        drop(next);
+        drop(self.pop());
     }
 
     // Runs the Runnable that has waited longest: whether there was one.
     fn run_next(&self) -> bool {
-        let next = self.queue.lock(&self.rt).pop_front();
-        let Some(runnable) = next else {
+        let Some(runnable) = self.pop() else {
             return false;
         };
         runnable.with_around(self).run();

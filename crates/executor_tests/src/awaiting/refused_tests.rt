@@ -1,39 +1,14 @@
 //! Members of a group whose polls are refused their awaiter.
 ghost use Rattle.std.specs.Prelude.{⊤};
 
+use super::number::{Nowhere, Number};
 use crate::granted::granted;
-use async_task::{Future, Poll, Runnable, Schedule, ScheduleInfo, Wake, Yields, spawn};
+use async_task::{Runnable, Wake, spawn};
 use awaiters::{Mailbox, Nobody, Posts};
-use std::alloc::{AllocError, Global};
+use std::alloc::Global;
 use std::process::Abort;
 use std::sync::{Arc, Wait};
 use task_group::{AwaiterRefused, TaskGroup};
-
-// A future that answers its number.
-#[derive(Drop)]
-struct Number(u64);
-
-impl Yields for Number {
-    type Output = u64;
-}
-
-impl<W> Future<W> for Number {
-    ghost polled = { λ _ _ _ _. ⊤ };
-
-    fn poll(&mut self, _waker: &W) -> Poll<u64> {
-        Poll::Ready(self.0)
-    }
-}
-
-// A schedule value that drops each Runnable.
-#[derive(Drop)]
-struct Nowhere;
-
-impl<N: Drop> Schedule<N> for Nowhere {
-    ghost scheduled = { λ _ _ _. ⊤ };
-
-    fn schedule(&self, _runnable: N, _info: ScheduleInfo) {}
-}
 
 // An awaiter that is refused while the mailbox has another one: as if no more owners could be counted.
 #[derive(Drop)]
@@ -100,16 +75,20 @@ fn look<R: Wait + Drop + Copy>(group: &mut OnlyGroup<R>) -> Found {
 }
 
 // Pushes a task that answers a number to a group: its Runnable.
-fn push<R: Wait + Drop + Copy>(
+fn push<R: Wait + Abort + Drop + Copy>(
     rt: R,
     alloc: Global,
     group: &mut OnlyGroup<R>,
     answer: u64,
-) -> Result<OnlyRunnable<R>, AllocError> {
-    let spawned = spawn(rt, alloc, Number(answer), Nowhere, ());
-    let (runnable, task) = spawned.ok().ok_or(AllocError)?;
-    group.push(task).ok().ok_or(AllocError)?;
-    Ok(runnable)
+) -> OnlyRunnable<R> {
+    let (runnable, task) = granted(&rt, spawn(rt, alloc, Number(answer), Nowhere, ()));
+    granted(&rt, group.push(task));
+    runnable
+}
+
+// Runs.
+fn run<R: Wait + Drop + Copy>(runnable: OnlyRunnable<R>) {
+    runnable.run();
 }
 
 // Pushes two tasks, and runs both after a first look, the second one first: how many members there are after that look, and what is found.
@@ -118,12 +97,12 @@ fn look_before_and_after<R: Wait + Abort + Drop + Copy>(
     alloc: Global,
 ) -> (usize, [Found; 4]) {
     let mut group: OnlyGroup<R> = granted(&rt, TaskGroup::new(rt, alloc, 2));
-    let first = granted(&rt, push(rt, alloc, &mut group, 5));
-    let second = granted(&rt, push(rt, alloc, &mut group, 6));
+    let first = push(rt, alloc, &mut group, 5);
+    let second = push(rt, alloc, &mut group, 6);
     let refused = look(&mut group);
     let len = group.len();
-    second.run();
-    first.run();
+    run(second);
+    run(first);
     let ended = [look(&mut group), look(&mut group), look(&mut group)];
     (len, [refused, ended[0], ended[1], ended[2]])
 }

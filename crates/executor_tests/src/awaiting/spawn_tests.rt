@@ -1,11 +1,14 @@
 //! Spawns of a group that are refused memory, each of their requests in turn.
 ghost use Rattle.std.specs.Prelude.{⊤};
 
-use async_task::{Future, Poll, Schedule, ScheduleInfo, Yields};
+use super::number::Number;
+use crate::granted::granted;
+use async_task::{Schedule, ScheduleInfo};
 use awaiters::Awaiter;
 use bench_report::counting::Counting;
 use linked_list_allocator::LocalHeap;
 use std::alloc::{AllocError, Global};
+use std::process::Abort;
 use std::sync::Wait;
 use task_group::{GroupSpawnError, TaskGroup};
 
@@ -15,22 +18,6 @@ const WIDTH: usize = 64;
 
 // The largest heap that is tried, which has room for a task and more, in blocks of 16 bytes.
 const BLOCKS: u16 = 256;
-
-// A future that answers its number.
-#[derive(Drop)]
-struct Number(u64);
-
-impl Yields for Number {
-    type Output = u64;
-}
-
-impl<W> Future<W> for Number {
-    ghost polled = { λ _ _ _ _. ⊤ };
-
-    fn poll(&mut self, _waker: &W) -> Poll<u64> {
-        Poll::Ready(self.0)
-    }
-}
 
 // A schedule value that drops each Runnable, which cancels its task.
 #[derive(Drop)]
@@ -75,8 +62,8 @@ const HANDED_BACK: Spawned = Spawned::Refused {
 };
 
 // A heap of that many blocks of 16 bytes.
-fn heap_of(alloc: Global, blocks: u16) -> Result<Heap, AllocError> {
-    Ok(Counting::new(LocalHeap::new(alloc, 16 * usize::from(blocks))?))
+fn heap_of<R: Abort + Drop + Copy>(rt: R, alloc: Global, blocks: u16) -> Heap {
+    Counting::new(granted(&rt, LocalHeap::new(alloc, 16 * usize::from(blocks))))
 }
 
 // Whether nothing of a heap of that many blocks is taken: all of it can be had at once.
@@ -90,8 +77,10 @@ fn is_unused(heap: &Heap, blocks: u16) -> bool {
 
 // Waits for the next member.
 fn next_of<R: Wait + Drop + Copy>(group: &mut HeapGroup<'_, R>) -> CameOut {
-    let ended = group.next().ok()??;
-    Some((ended.number, ended.answer.is_err()))
+    match group.next() {
+        Ok(Some(ended)) => Some((ended.number, ended.answer.is_err())),
+        _ => None,
+    }
 }
 
 // Whether a refused spawn handed back what it was given, and says that the group was not full.
@@ -110,64 +99,73 @@ fn spawn_again<'heap, R: Wait + Drop + Copy>(
         future,
         schedule,
     } = refused;
-    group.spawn(roomy, future, schedule, ()).ok()?;
-    next_of(group)
+    match group.spawn(roomy, future, schedule, ()) {
+        Ok(_) => next_of(group),
+        Err(_) => None,
+    }
+}
+
+// What is seen of a refused spawn, and of another one of what it handed back.
+fn look_at_refused<'heap, R: Wait + Drop + Copy>(
+    group: &mut HeapGroup<'heap, R>,
+    refused: GroupSpawnError<Number, Nowhere>,
+    heap: &'heap Heap,
+    blocks: u16,
+    roomy: &'heap Heap,
+) -> Spawned {
+    let is_whole = is_handed_back(&refused) && group.is_empty();
+    let is_unused = is_unused(heap, blocks);
+    let later = spawn_again(group, roomy, refused);
+    Spawned::Refused {
+        is_whole,
+        is_unused,
+        later,
+    }
 }
 
 // One spawn of a group, over a heap of that many blocks: how many requests it made, and what it came to. The group ends here.
-fn spawn_once<'heap, R: Wait + Drop + Copy>(
+fn spawn_once<'heap, R: Wait + Abort + Drop + Copy>(
     rt: R,
     alloc: Global,
     heap: &'heap Heap,
     blocks: u16,
     roomy: &'heap Heap,
-) -> Result<(u64, Spawned), AllocError> {
-    let mut group: HeapGroup<'heap, R> = TaskGroup::new(rt, alloc, 1)?;
+) -> (u64, Spawned) {
+    let mut group: HeapGroup<'heap, R> = granted(&rt, TaskGroup::new(rt, alloc, 1));
     let schedule = Nowhere {
         numbers: [3; WIDTH],
     };
     let spawned = group.spawn(heap, Number(5), schedule, ());
     let requests = heap.allocations();
-    match spawned {
-        Ok(_) => Ok((requests, Spawned::Granted(next_of(&mut group)))),
-        Err(refused) => {
-            let is_whole = is_handed_back(&refused) && group.is_empty();
-            let is_unused = is_unused(heap, blocks);
-            let later = spawn_again(&mut group, roomy, refused);
-            Ok((
-                requests,
-                Spawned::Refused {
-                    is_whole,
-                    is_unused,
-                    later,
-                },
-            ))
-        }
-    }
+    let seen = match spawned {
+        Ok(_) => Spawned::Granted(next_of(&mut group)),
+        Err(refused) => look_at_refused(&mut group, refused, heap, blocks, roomy),
+    };
+    (requests, seen)
 }
 
 // The same with heaps of its own, and whether nothing of them is taken when the group has ended.
-fn spawn_in<R: Wait + Drop + Copy>(
+fn spawn_in<R: Wait + Abort + Drop + Copy>(
     rt: R,
     alloc: Global,
     blocks: u16,
-) -> Result<(u64, Spawned, bool), AllocError> {
-    let heap = heap_of(alloc, blocks)?;
-    let roomy = heap_of(alloc, BLOCKS)?;
-    let (requests, spawned) = spawn_once(rt, alloc, &heap, blocks, &roomy)?;
+) -> (u64, Spawned, bool) {
+    let heap = heap_of(rt, alloc, blocks);
+    let roomy = heap_of(rt, alloc, BLOCKS);
+    let (requests, spawned) = spawn_once(rt, alloc, &heap, blocks, &roomy);
     let are_unused = is_unused(&heap, blocks) && is_unused(&roomy, BLOCKS);
-    Ok((requests, spawned, are_unused))
+    (requests, spawned, are_unused)
 }
 
 // Spawns over heaps each of which has one block more than the one before, until one does not hand everything back: which
 // requests were refused before, and what was seen of that one.
-fn spawn_in_turn<R: Wait + Drop + Copy>(
+fn spawn_in_turn<R: Wait + Abort + Drop + Copy>(
     rt: R,
     alloc: Global,
 ) -> Result<([bool; 5], (u64, Spawned, bool)), AllocError> {
     let mut refused = [false; 5];
     for blocks in 1..BLOCKS {
-        let seen = spawn_in(rt, alloc, blocks)?;
+        let seen = spawn_in(rt, alloc, blocks);
         let (requests, spawned, are_unused) = seen;
         match refused.get_mut(requests as usize) {
             Some(request) if spawned == HANDED_BACK && are_unused => *request = true,

@@ -1,6 +1,7 @@
 //! Calls of the handles of a race, each in a function of its own that is generic in `R` alone: so each is proved once,
 //! and a test that makes it costs little more.
 
+use crate::granted::granted;
 use crate::races::awaiter::RaceAwaiter;
 use crate::races::raced::{
     RaceCancel, RaceOutput, RaceRunnable, RaceSurroundings, RaceTask, RaceWaker,
@@ -10,12 +11,14 @@ use std::alloc::Global;
 use std::process::Abort;
 use std::sync::Wait;
 
+/// Surroundings before the first round. Stops where there is no memory.
+pub fn surroundings<R: Wait + Abort + Drop + Copy>(rt: R, alloc: Global) -> RaceSurroundings<R> {
+    granted(&rt, RaceSurroundings::new(rt, alloc))
+}
+
 /// An awaiter that has counted nothing. Stops where there is no memory.
 pub fn awaiter<R: Wait + Abort>(rt: &R, alloc: Global) -> RaceAwaiter {
-    match RaceAwaiter::new(alloc) {
-        Ok(awaiter) => awaiter,
-        Err(_) => panic!(rt; "no memory for an awaiter"),
-    }
+    granted(rt, RaceAwaiter::new(alloc))
 }
 
 /// An awaiter that is cloned so many turns after the future of this round was dropped. Stops where there is no memory.
@@ -25,10 +28,7 @@ pub fn late_awaiter<R: Wait + Abort + Drop + Copy>(
     round: u64,
     turns: u64,
 ) -> RaceAwaiter {
-    match surroundings.late_awaiter(round, turns) {
-        Ok(awaiter) => awaiter,
-        Err(_) => panic!(rt; "no memory for an awaiter"),
-    }
+    granted(rt, surroundings.late_awaiter(round, turns))
 }
 
 /// Spawns the task of a round. Stops where there is no memory.
@@ -37,10 +37,7 @@ pub fn spawn<'x, R: Wait + Abort + Drop + Copy>(
     surroundings: &'x RaceSurroundings<R>,
     has_happened: bool,
 ) -> (RaceRunnable<'x, R>, RaceTask<'x, R>) {
-    match surroundings.spawn(has_happened) {
-        Ok(handles) => handles,
-        Err(_) => panic!(rt; "no memory for a task"),
-    }
+    granted(rt, surroundings.spawn(has_happened))
 }
 
 /// A waker of a Runnable. Stops where it is refused.
@@ -72,11 +69,6 @@ pub fn is_pending<R: Wait + Drop>(task: &mut RaceTask<'_, R>, awaiter: &RaceAwai
     matches!(task.poll(awaiter), TaskPoll::Pending)
 }
 
-/// Polls a Task: whether it is ready with an output.
-pub fn is_ready<R: Wait + Drop>(task: &mut RaceTask<'_, R>, awaiter: &RaceAwaiter) -> bool {
-    matches!(task.poll(awaiter), TaskPoll::Ready(Ok(_)))
-}
-
 /// Drops a Task.
 pub fn drop_task<R: Wait + Drop>(task: RaceTask<'_, R>) {
     drop(task);
@@ -93,19 +85,6 @@ pub fn poll_cancel<R: Wait + Drop>(
     awaiter: &RaceAwaiter,
 ) -> TaskPoll<Option<RaceOutput>> {
     cancel.poll(awaiter)
-}
-
-/// Polls a Cancel: whether it is ready without an output.
-pub fn is_cancel_empty<R: Wait + Drop>(
-    cancel: &mut RaceCancel<'_, R>,
-    awaiter: &RaceAwaiter,
-) -> bool {
-    matches!(cancel.poll(awaiter), TaskPoll::Ready(None))
-}
-
-/// Drops a Cancel.
-pub fn drop_cancel<R: Wait + Drop>(cancel: RaceCancel<'_, R>) {
-    drop(cancel);
 }
 
 /// Wakes by value, if there is a waker.

@@ -5,10 +5,9 @@ use crate::races::handles;
 use crate::races::raced::{RaceOutput, RaceSurroundings, RaceTask};
 use crate::races::rounds::{LEAST_MET, Rounds, Tally};
 use async_task::{TaskClosed, TaskPoll};
-use std::alloc::{AllocError, Global};
+use std::alloc::Global;
 use std::process::Abort;
 use std::sync::Wait;
-use std::test::Fail;
 use std::thread;
 use std::thread::Threads;
 
@@ -71,6 +70,24 @@ fn end_all<R: Wait + Drop>(
     }
 }
 
+// Whether a poll of a Task beside its end, which was answered so, tells of that end: at once, or, where it was pending, by a wake
+// and at the next poll. Drops the Task.
+fn is_told<R: Wait + Drop>(
+    mut task: RaceTask<'_, R>,
+    awaiter: &RaceAwaiter,
+    polled: TaskPoll<Result<RaceOutput, TaskClosed>>,
+    ending: Ending,
+) -> bool {
+    let waits = matches!(polled, TaskPoll::Pending);
+    let told = ending.is_told_by(&polled);
+    drop(polled);
+    let told_later = waits
+        && awaiter.is_woken()
+        && ending.is_told_by(&handles::poll(&mut task, awaiter));
+    handles::drop_task(task);
+    told || told_later
+}
+
 // One round: a second poll of the Task, beside the end. Whether it met the notifier where it began to register, which alone
 // wakes by reference; and whether it came to its end as it must: ready, or woken and then ready; each clone ended.
 fn poll_once<R: Wait + Abort + Drop + Copy>(
@@ -88,17 +105,10 @@ fn poll_once<R: Wait + Abort + Drop + Copy>(
     surroundings.queue(runnable);
     rounds.open(rt, round);
     rounds.start(round, 1);
-    let mut polled = handles::poll(&mut task, &second);
+    let polled = handles::poll(&mut task, &second);
     rounds.close(rt, round);
-    let is_woken = second.is_woken();
     let met = second.reference_wakes() != 0;
-    let waits = matches!(polled, TaskPoll::Pending);
-    if waits {
-        polled = handles::poll(&mut task, &second);
-    }
-    let told = ending.is_told_by(&polled) && (is_woken || !waits);
-    drop(polled);
-    handles::drop_task(task);
+    let told = is_told(task, &second, polled, ending);
     let all_ended = first.clones() == first.ends() && second.clones() == second.ends();
     let right = registered && told && all_ended && surroundings.ended(round.wrapping_add(1));
     (met, right)
@@ -129,13 +139,13 @@ fn play<R: Wait + Threads + Abort + Drop + Copy + Send + Sync>(
 }
 
 // A race: how many rounds did not come to their end as they must, how many outputs there were, polls, and Runnables that were
-// scheduled; how many rounds there were, and how many met a notifier.
+// scheduled; how many rounds there were, and how many met a notifier. Stops where there is no memory.
 fn race<R: Wait + Threads + Abort + Drop + Copy + Send + Sync>(
     rt: R,
     alloc: Global,
     ending: Ending,
-) -> Result<([u64; 4], u64, u64), AllocError> {
-    let surroundings = RaceSurroundings::new(rt, alloc)?;
+) -> ([u64; 4], u64, u64) {
+    let surroundings = handles::surroundings(rt, alloc);
     let rounds = Rounds::new(2);
     let tally = Tally::new();
     play(rt, alloc, &rounds, &surroundings, &tally, ending);
@@ -145,25 +155,23 @@ fn race<R: Wait + Threads + Abort + Drop + Copy + Send + Sync>(
         surroundings.polls(),
         surroundings.schedules(),
     ];
-    Ok((counts, tally.rounds(), tally.met()))
+    (counts, tally.rounds(), tally.met())
 }
 
 // Each round has the Runnable of the spawn and no other: it is polled once.
 #[test]
-fn a_poll_registers_beside_a_run_that_completes(rt: HostRuntime) -> Result<(), Fail> {
-    let (counts, all, met) = race(rt, rt.alloc(), Ending::Run)?;
+fn a_poll_registers_beside_a_run_that_completes(rt: HostRuntime) {
+    let (counts, all, met) = race(rt, rt.alloc(), Ending::Run);
     assert!(rt; ROUNDS <= all && counts == [0, all, all, 0]);
     assert!(rt; LEAST_MET <= met, "{met} polls met a notifier");
-    Ok(())
 }
 
 // Each round has the Runnable of the spawn and no other: it is dropped, and never polled.
 #[test]
-fn a_poll_registers_beside_a_drop_of_the_runnable(rt: HostRuntime) -> Result<(), Fail> {
-    let (counts, all, met) = race(rt, rt.alloc(), Ending::Discard)?;
+fn a_poll_registers_beside_a_drop_of_the_runnable(rt: HostRuntime) {
+    let (counts, all, met) = race(rt, rt.alloc(), Ending::Discard);
     assert!(rt; ROUNDS <= all && counts == [0; 4]);
     assert!(rt; LEAST_MET <= met, "{met} polls met a notifier");
-    Ok(())
 }
 
 // The second poll of a task, whose first awaiter is dropped by it while the second thread ends the task. Whether that thread came
@@ -195,15 +203,15 @@ fn poll_beside<'x, R: Wait + Threads + Drop + Copy + Send + Sync>(
 
 // A poll that finds a notifier where its registration ends, whatever the schedule: while it drops the awaiter of the poll
 // before, the second thread ends the task. Whether the poll is ready, its own clone was woken, and the other was dropped.
-fn poll_meeting<R: Wait + Threads + Drop + Copy + Send + Sync>(
+fn poll_meeting<R: Wait + Threads + Abort + Drop + Copy + Send + Sync>(
     rt: R,
     alloc: Global,
     ending: Ending,
-) -> Result<bool, AllocError> {
-    let surroundings = RaceSurroundings::new(rt, alloc)?;
-    let first = RaceAwaiter::new(alloc)?;
-    let second = RaceAwaiter::new(alloc)?;
-    let (runnable, mut task) = surroundings.spawn(true)?;
+) -> bool {
+    let surroundings = handles::surroundings(rt, alloc);
+    let first = handles::awaiter(&rt, alloc);
+    let second = handles::awaiter(&rt, alloc);
+    let (runnable, mut task) = handles::spawn(&rt, &surroundings, true);
     let registered = handles::is_pending(&mut task, &first);
     surroundings.queue(runnable);
     let told = poll_beside(&rt, &surroundings, task, &first, &second, ending);
@@ -213,13 +221,12 @@ fn poll_meeting<R: Wait + Threads + Drop + Copy + Send + Sync>(
     ];
     let ends = (first.ends(), second.ends());
     let right = registered && told && first.rendezvous().met() && surroundings.ended(1);
-    Ok(right && counted == [(1, 0, 0), (1, 1, 0)] && ends == (1, 1))
+    right && counted == [(1, 0, 0), (1, 1, 0)] && ends == (1, 1)
 }
 
 #[test]
-fn a_registration_ends_beside_a_notifier(rt: HostRuntime) -> Result<(), Fail> {
-    let run = poll_meeting(rt, rt.alloc(), Ending::Run)?;
-    let discard = poll_meeting(rt, rt.alloc(), Ending::Discard)?;
+fn a_registration_ends_beside_a_notifier(rt: HostRuntime) {
+    let run = poll_meeting(rt, rt.alloc(), Ending::Run);
+    let discard = poll_meeting(rt, rt.alloc(), Ending::Discard);
     assert!(rt; (run, discard) == (true, true));
-    Ok(())
 }

@@ -7,10 +7,9 @@ use crate::races::raced::{RaceCancel, RaceOutput, RaceSurroundings, RaceTask};
 use crate::races::rounds::{Calls, LEAST_MET, Rounds, Tally};
 use async_task::{TaskClosed, TaskPoll};
 use counted_values::counters::Counter;
-use std::alloc::{AllocError, Global};
+use std::alloc::Global;
 use std::process::Abort;
 use std::sync::Wait;
-use std::test::Fail;
 use std::thread;
 use std::thread::{Threads, yield_now};
 
@@ -68,10 +67,7 @@ impl Act {
                 Left::Cancel(cancel, polled)
             }
             Act::Await => {
-                let mut polled = handles::poll(&mut task, awaiter);
-                if matches!(polled, TaskPoll::Pending) && await_wake(awaiter) {
-                    polled = handles::poll(&mut task, awaiter);
-                }
+                let polled = poll_until_ready(&mut task, awaiter);
                 Left::Task(task, polled)
             }
         }
@@ -86,6 +82,18 @@ impl Act {
     fn leaves_open(self) -> bool {
         matches!(self, Act::Detach | Act::Poll | Act::Await)
     }
+}
+
+// Polls a Task, and where it is pending once more after a wake.
+fn poll_until_ready<R: Wait + Drop>(
+    task: &mut RaceTask<'_, R>,
+    awaiter: &RaceAwaiter,
+) -> TaskPoll<Result<RaceOutput, TaskClosed>> {
+    let polled = handles::poll(task, awaiter);
+    if matches!(polled, TaskPoll::Pending) && await_wake(awaiter) {
+        return handles::poll(task, awaiter);
+    }
+    polled
 }
 
 // Waits until the awaiter is woken. False where it never was.
@@ -111,7 +119,7 @@ impl<'x, R: Wait + Drop> Left<'x, R> {
     }
 }
 
-// Whether a Task was answered as it must be: with an output, now or at a poll after a wake.
+// Whether a Task was answered as it must be: with an output, now or at a poll after a wake. Drops the Task.
 fn is_task_right<R: Wait + Drop>(
     mut task: RaceTask<'_, R>,
     polled: TaskPoll<Result<RaceOutput, TaskClosed>>,
@@ -120,12 +128,13 @@ fn is_task_right<R: Wait + Drop>(
     let waits = matches!(polled, TaskPoll::Pending);
     let ready = matches!(polled, TaskPoll::Ready(Ok(_)));
     drop(polled);
-    let right = ready || waits && awaiter.is_woken() && handles::is_ready(&mut task, awaiter);
-    handles::drop_task(task);
-    right
+    ready
+        || waits
+            && awaiter.is_woken()
+            && matches!(handles::poll(&mut task, awaiter), TaskPoll::Ready(Ok(_)))
 }
 
-// Whether a Cancel was answered as it must be: ready, or without an output at a poll after a wake.
+// Whether a Cancel was answered as it must be: ready, or without an output at a poll after a wake. Drops the Cancel.
 fn is_cancel_right<R: Wait + Drop>(
     mut cancel: RaceCancel<'_, R>,
     polled: TaskPoll<Option<RaceOutput>>,
@@ -134,10 +143,13 @@ fn is_cancel_right<R: Wait + Drop>(
     let waits = matches!(polled, TaskPoll::Pending);
     let ready = matches!(polled, TaskPoll::Ready(_));
     drop(polled);
-    let right = ready
-        || waits && awaiter.is_woken() && handles::is_cancel_empty(&mut cancel, awaiter);
-    handles::drop_cancel(cancel);
-    right
+    ready
+        || waits
+            && awaiter.is_woken()
+            && matches!(
+                handles::poll_cancel(&mut cancel, awaiter),
+                TaskPoll::Ready(None)
+            )
 }
 
 // What the threads of a race share.
@@ -153,18 +165,6 @@ struct Race<R: Wait + Drop> {
 }
 
 impl<R: Wait + Drop + Copy> Race<R> {
-    fn new(rt: R, alloc: Global) -> Result<Race<R>, AllocError> {
-        Ok(Race {
-            rt,
-            rounds: Rounds::new(3),
-            surroundings: RaceSurroundings::new(rt, alloc)?,
-            runs: Calls::new(),
-            wakes: Calls::new(),
-            acted: Counter::new(),
-            tally: Tally::new(),
-        })
-    }
-
     // What the second thread does: it runs whatever is queued, until the other two have acted and nothing is left.
     fn run_all(&self) {
         for round in 0..ROUNDS {
@@ -208,6 +208,18 @@ impl<R: Wait + Drop + Copy> Race<R> {
 }
 
 impl<R: Wait + Abort + Drop + Copy> Race<R> {
+    fn new(rt: R, alloc: Global) -> Race<R> {
+        Race {
+            rt,
+            rounds: Rounds::new(3),
+            surroundings: handles::surroundings(rt, alloc),
+            runs: Calls::new(),
+            wakes: Calls::new(),
+            acted: Counter::new(),
+            tally: Tally::new(),
+        }
+    }
+
     // What the first thread does in one round. Whether its act overlapped a run or the wake is counted, and whether all ended as it must.
     fn act_once(&self, alloc: Global, act: Act, round: u64) {
         let awaiter = handles::awaiter(&self.rt, alloc);
@@ -250,12 +262,8 @@ fn play<R: Wait + Threads + Abort + Drop + Copy + Send + Sync>(
 }
 
 // A race: each round must come to its end as it must, and some must meet what the race is for.
-fn race_act<R: Wait + Threads + Abort + Drop + Copy + Send + Sync>(
-    rt: R,
-    alloc: Global,
-    act: Act,
-) -> Result<(), Fail> {
-    let race = Race::new(rt, alloc)?;
+fn race_act<R: Wait + Threads + Abort + Drop + Copy + Send + Sync>(rt: R, alloc: Global, act: Act) {
+    let race = Race::new(rt, alloc);
     play(&race, alloc, act);
     let met = race.tally.met();
     let outputs = race.surroundings.outputs();
@@ -267,30 +275,29 @@ fn race_act<R: Wait + Threads + Abort + Drop + Copy + Send + Sync>(
         "{outputs} outputs"
     );
     assert!(rt; LEAST_MET <= met, "{met} acts overlapped a run or a wake");
-    Ok(())
 }
 
 #[test]
-fn a_drop_beside_a_run_and_a_wake(rt: HostRuntime) -> Result<(), Fail> {
-    race_act(rt, rt.alloc(), Act::Drop)
+fn a_drop_beside_a_run_and_a_wake(rt: HostRuntime) {
+    race_act(rt, rt.alloc(), Act::Drop);
 }
 
 #[test]
-fn a_detach_beside_a_run_and_a_wake(rt: HostRuntime) -> Result<(), Fail> {
-    race_act(rt, rt.alloc(), Act::Detach)
+fn a_detach_beside_a_run_and_a_wake(rt: HostRuntime) {
+    race_act(rt, rt.alloc(), Act::Detach);
 }
 
 #[test]
-fn a_poll_beside_a_run_and_a_wake(rt: HostRuntime) -> Result<(), Fail> {
-    race_act(rt, rt.alloc(), Act::Poll)
+fn a_poll_beside_a_run_and_a_wake(rt: HostRuntime) {
+    race_act(rt, rt.alloc(), Act::Poll);
 }
 
 #[test]
-fn a_cancel_beside_a_run_and_a_wake(rt: HostRuntime) -> Result<(), Fail> {
-    race_act(rt, rt.alloc(), Act::Cancel)
+fn a_cancel_beside_a_run_and_a_wake(rt: HostRuntime) {
+    race_act(rt, rt.alloc(), Act::Cancel);
 }
 
 #[test]
-fn an_await_beside_a_run_and_a_wake(rt: HostRuntime) -> Result<(), Fail> {
-    race_act(rt, rt.alloc(), Act::Await)
+fn an_await_beside_a_run_and_a_wake(rt: HostRuntime) {
+    race_act(rt, rt.alloc(), Act::Await);
 }

@@ -6,7 +6,6 @@ use crate::races::rounds::{Calls, LEAST_MET, Rounds, Tally};
 use std::alloc::Global;
 use std::process::Abort;
 use std::sync::Wait;
-use std::test::Fail;
 use std::thread;
 use std::thread::Threads;
 
@@ -80,12 +79,8 @@ fn play<R: Wait + Abort + Threads + Drop + Copy + Send + Sync>(
 
 // A race: each spawned Runnable is polled once. In every second round the run answers pending, and the last handle schedules one more
 // Runnable, of a closed task, which is not polled.
-fn race<R: Wait + Abort + Threads + Drop + Copy + Send + Sync>(
-    rt: R,
-    alloc: Global,
-    thread: u64,
-) -> Result<(), Fail> {
-    let surroundings = RaceSurroundings::new(rt, alloc)?;
+fn race<R: Wait + Abort + Threads + Drop + Copy + Send + Sync>(rt: R, alloc: Global, thread: u64) {
+    let surroundings = handles::surroundings(rt, alloc);
     let rounds = Rounds::new(2);
     let tally = Tally::new();
     let drops = Calls::new();
@@ -100,16 +95,15 @@ fn race<R: Wait + Abort + Threads + Drop + Copy + Send + Sync>(
     let met = tally.met();
     assert!(rt; counts == [ROUNDS, 0, ROUNDS / 2, ROUNDS, ROUNDS / 2]);
     assert!(rt; LEAST_MET <= met, "{met} drops overlapped a run");
-    Ok(())
 }
 
 #[test]
-fn the_last_waker_goes_beside_a_run(rt: HostRuntime) -> Result<(), Fail> {
-    race(rt, rt.alloc(), 2)
+fn the_last_waker_goes_beside_a_run(rt: HostRuntime) {
+    race(rt, rt.alloc(), 2);
 }
 
 // The same, with other delays, so that the two calls meet at other points.
 #[test]
-fn the_last_waker_goes_later_beside_a_run(rt: HostRuntime) -> Result<(), Fail> {
-    race(rt, rt.alloc(), 5)
+fn the_last_waker_goes_later_beside_a_run(rt: HostRuntime) {
+    race(rt, rt.alloc(), 5);
 }

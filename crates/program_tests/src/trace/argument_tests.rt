@@ -1,27 +1,15 @@
 //! What the arguments ask for, and what is printed of them.
 
+use crate::limited::Limited;
+use crate::stops::{granted, holds};
 use crate::trace::trace_tests::HEAD;
 use crate::words::{Told, words_of};
 use std::alloc::Global;
 use std::io;
-use std::test::Fail;
+use std::process::Abort;
 use trace_printer::arguments::{Request, answer, asked};
 use trace_printer::names::{ACTS, name};
 use trace_printer::row::Shown;
-
-// A writer that fails.
-#[derive(Drop)]
-struct Full;
-
-impl io::Write for Full {
-    fn write(&mut self, _bytes: &[u8]) -> io::Result<usize> {
-        Err(io::Error::from(io::ErrorKind::StorageFull))
-    }
-
-    fn flush(&mut self) -> io::Result<()> {
-        Ok(())
-    }
-}
 
 // A task that is spawned and run for one step.
 const INPUT: &str = "limit 4\n0 start-run\n";
@@ -38,109 +26,118 @@ const PROGRESS: &str =
 const USAGE: &str = "usage: tasktrace [--all | --progress | --help]\n";
 
 // What the program answers to a line of arguments.
-fn answered(alloc: Global, line: &str) -> Result<Told, Fail> {
-    let words = words_of(alloc, line)?;
+fn answered<R: Abort>(rt: &R, alloc: Global, line: &str) -> Told {
+    let words = granted(rt, words_of(alloc, line));
     let mut out = Vec::new(alloc);
     let mut err = Vec::new(alloc);
     let input = INPUT.as_bytes();
     let status = answer(alloc, words.as_slice(), input, &mut out, &mut err);
-    Told::new(status, out, err)
+    granted(rt, Told::new(status, out, err))
 }
 
-// Whether this row is printed below the head.
-fn prints(alloc: Global, line: &str, row: &str) -> Result<bool, Fail> {
-    let told = answered(alloc, line)?;
-    let wanted = format!(in alloc; "{HEAD}{row}")?;
-    Ok(told.status == 0 && told.err.is_empty() && told.out == wanted)
-}
-
-#[test]
-fn each_argument_asks_for_its_rows(rt: HostRuntime) -> Result<(), Fail> {
-    for (line, row) in [("", CHANGED), ("--all", ALL), ("--progress", PROGRESS)] {
-        assert!(rt; prints(rt.alloc(), line, row)?, "{line}");
-    }
-    Ok(())
+// Stops where this row is not all that is printed below the head.
+fn prints<R: Abort>(rt: &R, alloc: Global, line: &str, row: &str) {
+    let told = answered(rt, alloc, line);
+    let is_row = told.out.as_str().strip_prefix(HEAD) == Some(row);
+    holds(rt, told.is_well() && is_row, &line);
 }
 
 #[test]
-fn other_arguments_are_told_the_usage(rt: HostRuntime) -> Result<(), Fail> {
-    for line in [
-        "--al",
-        "--progres",
-        "--all --progress",
-        "all",
-        "steps.txt",
-        "--all --all",
-        "--all --help",
-    ] {
-        let told = answered(rt.alloc(), line)?;
-        let is_usage = told.out.is_empty() && told.err.as_str() == USAGE;
-        assert!(rt; is_usage && told.status == 2, "{line}");
-    }
-    Ok(())
+fn each_argument_asks_for_its_rows(rt: HostRuntime) {
+    prints(&rt, rt.alloc(), "", CHANGED);
+    prints(&rt, rt.alloc(), "--all", ALL);
+    prints(&rt, rt.alloc(), "--progress", PROGRESS);
 }
+
+const UNKNOWN: [&str; 7] = [
+    "--al",
+    "--progres",
+    "--all --progress",
+    "all",
+    "steps.txt",
+    "--all --all",
+    "--all --help",
+];
+
+#[test]
+fn other_arguments_are_told_the_usage(rt: HostRuntime) {
+    for &line in &UNKNOWN {
+        let told = answered(&rt, rt.alloc(), line);
+        holds(&rt, told.is(2, "", USAGE), &line);
+    }
+}
+
+const HELP: [&str; 6] = [
+    "    --all ",
+    "    --progress ",
+    "    --help ",
+    "`limit N`",
+    "`PARTY ACT`",
+    "`#`",
+];
 
 // The help begins with the usage, tells each argument, and ends with a line for each act.
 #[test]
-fn the_help_lists_what_may_be_written(rt: HostRuntime) -> Result<(), Fail> {
-    let told = answered(rt.alloc(), "--help")?;
+fn the_help_lists_what_may_be_written(rt: HostRuntime) {
+    let told = answered(&rt, rt.alloc(), "--help");
     let text = told.out.as_str();
-    let is_alone = told.err.is_empty() && told.status == 0;
-    assert!(rt; is_alone && text.starts_with(USAGE) && text.ends_with("    end-call\n"));
-    for word in [
-        "    --all ",
-        "    --progress ",
-        "    --help ",
-        "`limit N`",
-        "`PARTY ACT`",
-        "`#`",
-    ] {
-        assert!(rt; text.contains(word), "{word}");
+    assert!(rt; told.is_well() && text.starts_with(USAGE) && text.ends_with("    end-call\n"));
+    for &word in &HELP {
+        holds(&rt, text.contains(word), &word);
     }
-    Ok(())
+}
+
+// A line for each act.
+fn lines_of_acts<R: Abort>(rt: &R, alloc: Global) -> String {
+    let mut lines = String::new(alloc);
+    for &act in &ACTS {
+        for part in ["    ", name(act), "\n"] {
+            granted(rt, lines.push_str(part));
+        }
+    }
+    lines
 }
 
 #[test]
-fn the_help_lists_each_act(rt: HostRuntime) -> Result<(), Fail> {
-    let alloc = rt.alloc();
-    let told = answered(alloc, "--help")?;
-    let mut acts = String::new(alloc);
-    for act in ACTS {
-        let act = name(act);
-        let line = format!(in alloc; "    {act}\n")?;
-        acts.push_str(line.as_str())?;
-    }
-    assert!(rt; told.out.as_str().ends_with(acts.as_str()));
-    Ok(())
+fn the_help_lists_each_act(rt: HostRuntime) {
+    let told = answered(&rt, rt.alloc(), "--help");
+    let lines = lines_of_acts(&rt, rt.alloc());
+    assert!(rt; told.out.as_str().ends_with(lines.as_str()));
 }
 
-// What a line of arguments asks for.
-fn asked_by(alloc: Global, line: &str) -> Result<Option<Request>, Fail> {
-    Ok(asked(words_of(alloc, line)?.as_slice()))
+const REQUESTS: [(&str, Option<Request>); 5] = [
+    ("", Some(Request::Trace(Shown::Changed))),
+    ("--all", Some(Request::Trace(Shown::All))),
+    ("--progress", Some(Request::Trace(Shown::Progress))),
+    ("--help", Some(Request::Help)),
+    ("-h", None),
+];
+
+#[test]
+fn a_request_is_read_from_the_arguments(rt: HostRuntime) {
+    for &(line, request) in &REQUESTS {
+        let words = granted(&rt, words_of(rt.alloc(), line));
+        holds(&rt, asked(words.as_slice()) == request, &line);
+    }
+}
+
+// The status, where this writer is asked for the help, and that one for errors.
+fn status_of<R: Abort, W: io::Write, E: io::Write>(
+    rt: &R,
+    alloc: Global,
+    line: &str,
+    out: &mut W,
+    err: &mut E,
+) -> u8 {
+    let words = granted(rt, words_of(alloc, line));
+    answer(alloc, words.as_slice(), INPUT.as_bytes(), out, err)
 }
 
 #[test]
-fn a_request_is_read_from_the_arguments(rt: HostRuntime) -> Result<(), Fail> {
-    for (line, request) in [
-        ("", Some(Request::Trace(Shown::Changed))),
-        ("--all", Some(Request::Trace(Shown::All))),
-        ("--progress", Some(Request::Trace(Shown::Progress))),
-        ("--help", Some(Request::Help)),
-        ("-h", None),
-    ] {
-        assert!(rt; asked_by(rt.alloc(), line)? == request, "{line}");
-    }
-    Ok(())
-}
-
-#[test]
-fn a_writer_that_fails_gives_status_one(rt: HostRuntime) -> Result<(), Fail> {
-    let alloc = rt.alloc();
-    let help = [String::from_str(alloc, "--help")?];
-    let other = [String::from_str(alloc, "-h")?];
-    let mut taken = Vec::new(alloc);
-    let helped = answer(alloc, &help, INPUT.as_bytes(), &mut Full, &mut taken);
-    let refused = answer(alloc, &other, INPUT.as_bytes(), &mut taken, &mut Full);
+fn a_writer_that_fails_gives_status_one(rt: HostRuntime) {
+    let mut full = Limited::full();
+    let mut taken = Vec::new(rt.alloc());
+    let helped = status_of(&rt, rt.alloc(), "--help", &mut full, &mut taken);
+    let refused = status_of(&rt, rt.alloc(), "-h", &mut taken, &mut full);
     assert!(rt; helped == 1 && refused == 1 && taken.is_empty());
-    Ok(())
 }

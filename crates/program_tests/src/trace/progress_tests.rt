@@ -1,7 +1,7 @@
 //! How far each party is in its call: how many steps it has left at most, and an act that it may make now.
 
+use crate::stops::holds;
 use crate::trace::trace_tests::{READY, prints};
-use std::test::Fail;
 use task_core::acts::Act;
 use task_core::acts::Act::*;
 use task_core::word::Word;
@@ -68,14 +68,9 @@ const DROPPED_ROWS: &str = "\
 ";
 
 #[test]
-fn a_row_shows_how_far_each_party_is(rt: HostRuntime) -> Result<(), Fail> {
-    for (input, rows) in [(READY, READY_ROWS), (DROPPED, DROPPED_ROWS)] {
-        assert!(rt;
-            prints(rt.alloc(), Shown::Progress, input, rows)?,
-            "{input}"
-        );
-    }
-    Ok(())
+fn a_row_shows_how_far_each_party_is(rt: HostRuntime) {
+    prints(&rt, rt.alloc(), Shown::Progress, READY, READY_ROWS);
+    prints(&rt, rt.alloc(), Shown::Progress, DROPPED, DROPPED_ROWS);
 }
 
 // What the table of steps left tells of each position, with and without an awaiter in hand, and of each way.
@@ -136,8 +131,8 @@ const LEFT: [(Position, u64); 52] = [
 
 #[test]
 fn each_position_has_its_steps_left(rt: HostRuntime) {
-    for (position, left) in LEFT {
-        assert!(rt; steps_left(position) == left, "{position:?}");
+    for &(position, left) in &LEFT {
+        holds(&rt, steps_left(position) == left, &position);
     }
 }
 
@@ -177,14 +172,12 @@ const ACTS: [(u64, Position, Act); 30] = [
 
 #[test]
 fn each_party_in_a_call_has_an_act(rt: HostRuntime) {
-    for (bits, position, act) in ACTS {
+    for &(bits, position, act) in &ACTS {
         let found = act_there(Word::from_bits(bits), position);
-        assert!(rt; found == Some(act), "0x{bits:03X} {position:?}");
+        holds(&rt, found == Some(act), &(bits, position));
     }
-    for rest in [Rest::Runnable, Rest::Task(0), Rest::Lent, Rest::Ended] {
-        assert!(rt;
-            act_there(Word::from_bits(0x111), At(rest)).is_none(),
-            "{rest:?}"
-        );
+    for &rest in &[Rest::Runnable, Rest::Task(0), Rest::Lent, Rest::Ended] {
+        let found = act_there(Word::from_bits(0x111), At(rest));
+        holds(&rt, found.is_none(), &rest);
     }
 }

@@ -1,48 +1,25 @@
 //! Whole inputs, and what is printed of them.
 
+use crate::limited::Limited;
+use crate::stops::{granted, holds};
 use crate::words::Told;
 use std::alloc::Global;
-use std::io;
-use std::test::Fail;
+use std::process::Abort;
 use trace_printer::row::Shown;
 use trace_printer::trace::trace;
 
-// A writer that takes so many bytes and then fails, and may fail to flush.
-#[derive(Drop)]
-struct Limited {
-    left: usize,
-    flushes: bool,
-}
-
-impl io::Write for Limited {
-    fn write(&mut self, bytes: &[u8]) -> io::Result<usize> {
-        if self.left < bytes.len() {
-            return Err(io::Error::from(io::ErrorKind::StorageFull));
-        }
-        self.left -= bytes.len();
-        Ok(bytes.len())
-    }
-
-    fn flush(&mut self) -> io::Result<()> {
-        if !self.flushes {
-            return Err(io::Error::from(io::ErrorKind::StorageFull));
-        }
-        Ok(())
-    }
-}
-
-fn traced(alloc: Global, shown: Shown, input: &[u8]) -> Result<Told, Fail> {
+fn traced<R: Abort>(rt: &R, alloc: Global, shown: Shown, input: &[u8]) -> Told {
     let mut out = Vec::new(alloc);
     let mut err = Vec::new(alloc);
     let status = trace(alloc, shown, input, &mut out, &mut err);
-    Told::new(status, out, err)
+    granted(rt, Told::new(status, out, err))
 }
 
-// Whether all steps are played, and these rows are printed below the head.
-pub(crate) fn prints(alloc: Global, shown: Shown, input: &str, rows: &str) -> Result<bool, Fail> {
-    let told = traced(alloc, shown, input.as_bytes())?;
-    let wanted = format!(in alloc; "{HEAD}{rows}")?;
-    Ok(told.status == 0 && told.err.is_empty() && told.out == wanted)
+// Stops where not all steps are played, or other rows are printed below the head.
+pub(crate) fn prints<R: Abort>(rt: &R, alloc: Global, shown: Shown, input: &str, rows: &str) {
+    let told = traced(rt, alloc, shown, input.as_bytes());
+    let are_rows = told.out.as_str().strip_prefix(HEAD) == Some(rows);
+    holds(rt, told.is_well() && are_rows, &input);
 }
 
 pub(crate) const HEAD: &str =
@@ -125,16 +102,10 @@ const REGISTER_ROWS: &str = "\
 ";
 
 #[test]
-fn a_row_is_printed_for_each_step(rt: HostRuntime) -> Result<(), Fail> {
-    let lives = [
-        (READY, READY_ROWS),
-        (IDLE, IDLE_ROWS),
-        (REGISTER, REGISTER_ROWS),
-    ];
-    for (input, rows) in lives {
-        assert!(rt; prints(rt.alloc(), Shown::All, input, rows)?, "{input}");
-    }
-    Ok(())
+fn a_row_is_printed_for_each_step(rt: HostRuntime) {
+    prints(&rt, rt.alloc(), Shown::All, READY, READY_ROWS);
+    prints(&rt, rt.alloc(), Shown::All, IDLE, IDLE_ROWS);
+    prints(&rt, rt.alloc(), Shown::All, REGISTER, REGISTER_ROWS);
 }
 
 // The same life of a task, with the parties that a step has changed or added. One that ends is shown once more.
@@ -170,14 +141,16 @@ const BY_REFERENCE_CHANGES: &str = "\
 ";
 
 #[test]
-fn a_row_shows_what_its_step_changed(rt: HostRuntime) -> Result<(), Fail> {
-    for (input, changes) in [(IDLE, IDLE_CHANGES), (BY_REFERENCE, BY_REFERENCE_CHANGES)] {
-        assert!(rt;
-            prints(rt.alloc(), Shown::Changed, input, changes)?,
-            "{input}"
-        );
-    }
-    Ok(())
+fn a_row_shows_what_its_step_changed(rt: HostRuntime) {
+    let alloc = rt.alloc();
+    prints(&rt, alloc, Shown::Changed, IDLE, IDLE_CHANGES);
+    prints(
+        &rt,
+        alloc,
+        Shown::Changed,
+        BY_REFERENCE,
+        BY_REFERENCE_CHANGES,
+    );
 }
 
 // A limit, the first step, and why it is not allowed.
@@ -211,20 +184,21 @@ const REFUSED: [(u64, &str, &str); 7] = [
     (0, "0 gain-reference", "no word fits at this limit."),
 ];
 
-// Whether this step is refused for this reason, and nothing is printed before that but the head.
-fn is_refused(alloc: Global, limit: u64, step: &str, reason: &str) -> Result<bool, Fail> {
-    let input = format!(in alloc; "limit {limit}\n{step}\n1 look\n")?;
-    let told = traced(alloc, Shown::All, input.as_str().as_bytes())?;
-    let wanted = format!(in alloc; "{HEAD}\nStep 1, `{step}`, is not allowed: {reason}\n")?;
-    Ok(told.status == 1 && told.err.is_empty() && told.out == wanted)
+// Stops where this step is not refused for this reason, or more is printed before that than the head.
+fn is_refused<R: Abort>(rt: &R, alloc: Global, limit: u64, step: &str, reason: &str) {
+    let input = format!(in alloc; "limit {limit}\n{step}\n1 look\n");
+    let input = granted(rt, input);
+    let told = traced(rt, alloc, Shown::All, input.as_str().as_bytes());
+    let wanted = format!(in alloc; "{HEAD}\nStep 1, `{step}`, is not allowed: {reason}\n");
+    let wanted = granted(rt, wanted);
+    holds(rt, told.is(1, wanted.as_str(), ""), &step);
 }
 
 #[test]
-fn a_refused_step_is_told_with_its_reason(rt: HostRuntime) -> Result<(), Fail> {
-    for (limit, step, reason) in REFUSED {
-        assert!(rt; is_refused(rt.alloc(), limit, step, reason)?, "{step}");
+fn a_refused_step_is_told_with_its_reason(rt: HostRuntime) {
+    for &(limit, step, reason) in &REFUSED {
+        is_refused(&rt, rt.alloc(), limit, step, reason);
     }
-    Ok(())
 }
 
 // A waker has given up the last reference of an open task, which it is about to close: a lent waker wakes it no more.
@@ -257,81 +231,75 @@ const DROPPED: &str = "limit 4
 2 gain-reference
 ";
 
-// Whether the step 11 is refused for this reason.
-fn ends_refused(alloc: Global, input: &str, step: &str, reason: &str) -> Result<bool, Fail> {
-    let told = traced(alloc, Shown::All, input.as_bytes())?;
-    let wanted = format!(in alloc; "\nStep 11, `{step}`, is not allowed: {reason}\n")?;
-    let is_last = told.out.as_str().ends_with(wanted.as_str());
-    Ok(told.status == 1 && told.err.is_empty() && is_last)
+// Stops where the last step is not refused so.
+fn ends_refused<R: Abort>(rt: &R, alloc: Global, input: &str, refusal: &str) {
+    let told = traced(rt, alloc, Shown::All, input.as_bytes());
+    let is_last = told.out.as_str().ends_with(refusal);
+    holds(
+        rt,
+        told.status == 1 && told.err.is_empty() && is_last,
+        &refusal,
+    );
 }
+
+const NOT_WOKEN: &str =
+    "\nStep 11, `2 wake-idle`, is not allowed: the word 0x000 does not fit, 0x010 would: TASK set.\n";
+
+const NOT_GAINED: &str =
+    "\nStep 11, `2 gain-reference`, is not allowed: the word 0x008 does not fit, 0x018 would: TASK set.\n";
 
 #[test]
-fn a_lent_waker_is_refused_where_no_handle_is_left(rt: HostRuntime) -> Result<(), Fail> {
-    let cases = [
-        (
-            ORPHANED,
-            "2 wake-idle",
-            "the word 0x000 does not fit, 0x010 would: TASK set.",
-        ),
-        (
-            DROPPED,
-            "2 gain-reference",
-            "the word 0x008 does not fit, 0x018 would: TASK set.",
-        ),
-    ];
-    for (input, step, reason) in cases {
-        assert!(rt; ends_refused(rt.alloc(), input, step, reason)?, "{step}");
-    }
-    Ok(())
+fn a_lent_waker_is_refused_where_no_handle_is_left(rt: HostRuntime) {
+    ends_refused(&rt, rt.alloc(), ORPHANED, NOT_WOKEN);
+    ends_refused(&rt, rt.alloc(), DROPPED, NOT_GAINED);
 }
 
+const UNREAD: [(&[u8], &str); 10] = [
+    (b"", "line 1: expected `limit` and a number below 2^64\n"),
+    (
+        b"# nothing\n\n",
+        "line 3: expected `limit` and a number below 2^64\n",
+    ),
+    (
+        b"0 look\n",
+        "line 1: expected `limit` and a number below 2^64\n",
+    ),
+    (
+        b"limit 4\n\nlook\n",
+        "line 3: expected the number of a party, below 2^64\n",
+    ),
+    (b"limit 4\n1\n", "line 2: expected the name of an act\n"),
+    (
+        b"limit 4\n1 loom\n",
+        "line 2: expected the name of an act in place of \"loom\": `look` is the nearest\n",
+    ),
+    (
+        b"limit 4\n0 start_run # once\n",
+        "line 2: expected the name of an act in place of \"start_run\": `start-run` is the nearest\n",
+    ),
+    (
+        b"limit 4\n1 spin\n",
+        "line 2: expected the name of an act in place of \"spin\": `tasktrace --help` lists them\n",
+    ),
+    (
+        b"limit 4\n1 look now\n",
+        "line 2: expected the end of the line\n",
+    ),
+    (b"limit 4\n\xFF\n", "line 2: expected text in UTF-8\n"),
+];
+
+// Each line that cannot be read is told, and nothing is printed but the head, if the limit was read.
 #[test]
-fn a_line_that_cannot_be_read_is_named(rt: HostRuntime) -> Result<(), Fail> {
-    let cases: [(&[u8], &str); 10] = [
-        (b"", "line 1: expected `limit` and a number below 2^64\n"),
-        (
-            b"# nothing\n\n",
-            "line 3: expected `limit` and a number below 2^64\n",
-        ),
-        (
-            b"0 look\n",
-            "line 1: expected `limit` and a number below 2^64\n",
-        ),
-        (
-            b"limit 4\n\nlook\n",
-            "line 3: expected the number of a party, below 2^64\n",
-        ),
-        (b"limit 4\n1\n", "line 2: expected the name of an act\n"),
-        (
-            b"limit 4\n1 loom\n",
-            "line 2: expected the name of an act in place of \"loom\": `look` is the nearest\n",
-        ),
-        (
-            b"limit 4\n0 start_run # once\n",
-            "line 2: expected the name of an act in place of \"start_run\": `start-run` is the nearest\n",
-        ),
-        (
-            b"limit 4\n1 spin\n",
-            "line 2: expected the name of an act in place of \"spin\": `tasktrace --help` lists them\n",
-        ),
-        (
-            b"limit 4\n1 look now\n",
-            "line 2: expected the end of the line\n",
-        ),
-        (b"limit 4\n\xFF\n", "line 2: expected text in UTF-8\n"),
-    ];
-    for (input, text) in cases {
-        assert!(rt; is_unread(rt.alloc(), input, text)?, "{text}");
+fn a_line_that_cannot_be_read_is_named(rt: HostRuntime) {
+    for &(input, text) in &UNREAD {
+        let told = traced(&rt, rt.alloc(), Shown::All, input);
+        let rows = if input.starts_with(b"limit") {
+            HEAD
+        } else {
+            ""
+        };
+        holds(&rt, told.is(2, rows, text), &text);
     }
-    Ok(())
-}
-
-// Whether this is told of a line that cannot be read, and nothing is printed but the head, if the limit was read.
-fn is_unread(alloc: Global, input: &[u8], text: &str) -> Result<bool, Fail> {
-    let told = traced(alloc, Shown::All, input)?;
-    let begun = input.starts_with(b"limit");
-    let rows = if begun { HEAD } else { "" };
-    Ok(told.status == 2 && told.err.as_str() == text && told.out.as_str() == rows)
 }
 
 // The status, where `out` takes so many bytes and then fails, and may fail to flush.
@@ -353,16 +321,13 @@ fn a_writer_that_fails_gives_status_one(rt: HostRuntime) {
         (whole, false),
     ] {
         let (status, _) = status_of(rt.alloc(), READY, left, flushes);
-        assert!(rt; status == 1, "after {left} bytes");
+        holds(&rt, status == 1, &left);
     }
 }
 
 #[test]
 fn another_writer_that_fails_gives_status_one(rt: HostRuntime) {
-    let mut full = Limited {
-        left: 0,
-        flushes: true,
-    };
+    let mut full = Limited::full();
     let mut out = Vec::new(rt.alloc());
     let input = b"0 look\n".as_slice();
     let status = trace(rt.alloc(), Shown::All, input, &mut out, &mut full);
@@ -372,8 +337,8 @@ fn another_writer_that_fails_gives_status_one(rt: HostRuntime) {
 // What was printed of the steps before is flushed also where the trace ends early: where that fails it is told, and the status is 1.
 #[test]
 fn a_trace_that_ends_early_is_flushed(rt: HostRuntime) {
-    for input in ["limit 4\n7 look\n", "limit 4\nlook\n"] {
+    for &input in &["limit 4\n7 look\n", "limit 4\nlook\n"] {
         let (status, told) = status_of(rt.alloc(), input, 4000, false);
-        assert!(rt; status == 1 && told > 0, "{input}");
+        holds(&rt, status == 1 && told > 0, &input);
     }
 }

@@ -1,10 +1,10 @@
 //! Tasks from their spawn to their end.
 
 use crate::futures::{Nobody, Ready};
-use crate::queue::Queue;
+use crate::queue::{Queue, QueueTask};
 use async_task::TaskPoll;
 use bench_report::failure::Failure;
-use std::alloc::Allocator;
+use std::alloc::{AllocError, Allocator};
 use std::sync::Wait;
 
 /// Spawns, runs to the output, polls the Task for it, and drops the Task.
@@ -15,14 +15,28 @@ pub fn run_and_poll<R: Wait + Drop + Copy, B: Allocator + Copy>(
 ) -> Result<(), Failure> {
     let queue = Queue::new(rt, alloc);
     for number in 0..count {
-        let (runnable, mut task) = queue.spawn(Ready(number))?;
-        runnable.run();
-        let TaskPoll::Ready(Ok(_)) = task.poll(&Nobody) else {
-            return Err(Failure::Unexpected);
-        };
-        drop(task);
+        run_and_poll_one(&queue, number)?;
     }
     Ok(())
+}
+
+fn run_and_poll_one<R: Wait + Drop + Copy, B: Allocator + Copy>(
+    queue: &Queue<R, Ready, B>,
+    number: u64,
+) -> Result<(), Failure> {
+    let (runnable, mut task) = queue.spawn(Ready(number))?;
+    runnable.run();
+    take_output(&mut task)
+}
+
+// Polls a Task for its output.
+fn take_output<R: Wait + Drop + Copy, B: Allocator + Copy>(
+    task: &mut QueueTask<'_, R, Ready, B>,
+) -> Result<(), Failure> {
+    match task.poll(&Nobody) {
+        TaskPoll::Ready(Ok(_)) => Ok(()),
+        _ => Err(Failure::Unexpected),
+    }
 }
 
 /// Spawns, detaches, and runs to the output, which the run drops.
@@ -33,10 +47,18 @@ pub fn detach_and_run<R: Wait + Drop + Copy, B: Allocator + Copy>(
 ) -> Result<(), Failure> {
     let queue = Queue::new(rt, alloc);
     for number in 0..count {
-        let (runnable, task) = queue.spawn(Ready(number))?;
-        task.detach();
-        runnable.run();
+        detach_and_run_one(&queue, number)?;
     }
+    Ok(())
+}
+
+fn detach_and_run_one<R: Wait + Drop + Copy, B: Allocator + Copy>(
+    queue: &Queue<R, Ready, B>,
+    number: u64,
+) -> Result<(), AllocError> {
+    let (runnable, task) = queue.spawn(Ready(number))?;
+    task.detach();
+    runnable.run();
     Ok(())
 }
 
@@ -48,16 +70,21 @@ pub fn poll_run_and_poll<R: Wait + Drop + Copy, B: Allocator + Copy>(
 ) -> Result<(), Failure> {
     let queue = Queue::new(rt, alloc);
     for number in 0..count {
-        let (runnable, mut task) = queue.spawn(Ready(number))?;
-        let TaskPoll::Pending = task.poll(&Nobody) else {
-            return Err(Failure::Unexpected);
-        };
-        runnable.run();
-        let TaskPoll::Ready(Ok(_)) = task.poll(&Nobody) else {
-            return Err(Failure::Unexpected);
-        };
+        poll_run_and_poll_one(&queue, number)?;
     }
     Ok(())
+}
+
+fn poll_run_and_poll_one<R: Wait + Drop + Copy, B: Allocator + Copy>(
+    queue: &Queue<R, Ready, B>,
+    number: u64,
+) -> Result<(), Failure> {
+    let (runnable, mut task) = queue.spawn(Ready(number))?;
+    let TaskPoll::Pending = task.poll(&Nobody) else {
+        return Err(Failure::Unexpected);
+    };
+    runnable.run();
+    take_output(&mut task)
 }
 
 /// Spawns, and drops the Runnable and then the Task.
@@ -68,9 +95,17 @@ pub fn drop_both<R: Wait + Drop + Copy, B: Allocator + Copy>(
 ) -> Result<(), Failure> {
     let queue = Queue::new(rt, alloc);
     for number in 0..count {
-        let (runnable, task) = queue.spawn(Ready(number))?;
-        drop(runnable);
-        drop(task);
+        drop_both_of_one(&queue, number)?;
     }
+    Ok(())
+}
+
+fn drop_both_of_one<R: Wait + Drop + Copy, B: Allocator + Copy>(
+    queue: &Queue<R, Ready, B>,
+    number: u64,
+) -> Result<(), AllocError> {
+    let (runnable, task) = queue.spawn(Ready(number))?;
+    drop(runnable);
+    drop(task);
     Ok(())
 }

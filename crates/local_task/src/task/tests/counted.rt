@@ -69,16 +69,16 @@ use Fate::*;
 
 impl Fate {
     // What is then counted of it.
-    fn counted(self) -> Counted {
+    fn counted(self) -> &'static Counted {
         match self {
-            Unknown => [NONE, NONE, NONE],
-            Kept => [CLONE, CLONE, DROP],
-            Woken => [CLONE, WAKE, WAKE],
-            Dropped => [CLONE, DROP, DROP],
-            WokenBefore => [WAKE, WAKE, WAKE],
-            DroppedBefore => [DROP, DROP, DROP],
-            Refused => [REFUSAL, REFUSAL, REFUSAL],
-            Replaced => [CLONES, ONE_DROP, TWO_DROPS],
+            Unknown => &[NONE, NONE, NONE],
+            Kept => &[CLONE, CLONE, DROP],
+            Woken => &[CLONE, WAKE, WAKE],
+            Dropped => &[CLONE, DROP, DROP],
+            WokenBefore => &[WAKE, WAKE, WAKE],
+            DroppedBefore => &[DROP, DROP, DROP],
+            Refused => &[REFUSAL, REFUSAL, REFUSAL],
+            Replaced => &[CLONES, ONE_DROP, TWO_DROPS],
         }
     }
 }
@@ -226,7 +226,7 @@ fn meets(rt: &impl Abort, before: &[Call], call: Call, first: Fate, second: Fate
     let task = task_after(rt, before, &pair);
     let counted = counted_from(rt, task, call, &pair);
     assert!(rt;
-        counted == [first.counted(), second.counted()],
+        counted == [*first.counted(), *second.counted()],
         "{before:?}, {call:?}"
     );
 }

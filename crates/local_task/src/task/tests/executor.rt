@@ -5,8 +5,15 @@ use crate::task::{LocalTask, Settled, Start};
 use std::alloc::{AllocError, Global};
 use std::collections::VecDeque;
 use std::process::Abort;
-use std::test::Fail;
 use task_core::traits::{Poll, ScheduleInfo, TaskPoll};
+
+// What was asked for. An `Err` stops the test.
+fn granted<R: Abort, T, E>(rt: &R, asked: Result<T, E>) -> T {
+    match asked {
+        Ok(granted) => granted,
+        Err(_) => panic!(rt; "a request was refused"),
+    }
+}
 
 // A future that wakes the task `next` at each poll, and its own at the first, if it says so. It answers its number after some polls.
 #[derive(Debug, PartialEq, Eq, Drop)]
@@ -196,33 +203,43 @@ fn detach_all(rt: &impl Abort, executor: &mut Executor) -> bool {
     executor.detach(rt, 0) && executor.detach(rt, 1) && executor.detach(rt, 2)
 }
 
+const ORDERS: [Order; 6] = [
+    (0, false),
+    (2, true),
+    (1, false),
+    (0, false),
+    (2, false),
+    (1, false),
+];
+
 // Whether the tasks were polled, queued, woken and ended in the order that their futures ask for.
 fn is_in_order(executor: &Executor) -> bool {
-    let orders = [
-        (0, false),
-        (2, true),
-        (1, false),
-        (0, false),
-        (2, false),
-        (1, false),
-    ];
     executor.polled.as_slice() == [0, 1, 2, 0, 2, 1, 0, 2, 1].as_slice()
-        && executor.orders.as_slice() == orders.as_slice()
+        && executor.orders.as_slice() == ORDERS.as_slice()
         && executor.woken.as_slice() == [0, 2, 1].as_slice()
         && executor.dropped.as_slice() == [0, 2, 1].as_slice()
 }
 
+const PENDING: [Option<TaskPoll<Option<usize>>>; 3] = [
+    Some(TaskPoll::Pending),
+    Some(TaskPoll::Pending),
+    Some(TaskPoll::Pending),
+];
+
+const READY: [Option<TaskPoll<Option<usize>>>; 3] = [
+    Some(TaskPoll::Ready(Some(0))),
+    Some(TaskPoll::Ready(Some(1))),
+    Some(TaskPoll::Ready(Some(2))),
+];
+
 #[test]
-fn tasks_of_one_thread_wake_each_other(rt: HostRuntime) -> Result<(), Fail> {
-    let mut executor = Executor::new(rt.alloc())?;
-    let before = poll_tasks(&rt, &mut executor)?;
-    executor.run_all(&rt)?;
+fn tasks_of_one_thread_wake_each_other(rt: HostRuntime) {
+    let mut executor = granted(&rt, Executor::new(rt.alloc()));
+    let before = granted(&rt, poll_tasks(&rt, &mut executor));
+    granted(&rt, executor.run_all(&rt));
     let in_order = executor.queue.is_empty() && is_in_order(&executor);
-    let after = poll_tasks(&rt, &mut executor)?;
+    let after = granted(&rt, poll_tasks(&rt, &mut executor));
     let ended = detach_all(&rt, &mut executor);
-    let ready = [0, 1, 2].map(|number| Some(TaskPoll::Ready(Some(number))));
-    let pending = [0, 1, 2].map(|_| Some(TaskPoll::Pending));
-    assert!(rt; before == pending && after == ready);
+    assert!(rt; before == PENDING && after == READY);
     assert!(rt; in_order && ended);
-    Ok(())
 }

@@ -66,31 +66,35 @@ fn a_settle_with_ready(rt: HostRuntime) {
     );
 }
 
+// Future and output are dropped, and nobody is left.
+const GIVES_UP_EMPTIED: Left = Left {
+    emptied: true,
+    ..GIVES_UP
+};
+
+// .. and the awaiter 1 is woken.
+const GIVES_UP_AND_WAKES: Left = Left {
+    wake: Some(1),
+    ..GIVES_UP_EMPTIED
+};
+
 #[test]
 fn a_settle_with_ready_of_a_detached_task(rt: HostRuntime) {
-    let given_up = Left {
-        emptied: true,
-        ..GIVES_UP
-    };
     lives(
         &rt,
         &[
             (Start, Polls),
             (Detach, Leaves(NOTHING)),
-            (Ready, Leaves(given_up)),
+            (Ready, Leaves(GIVES_UP_EMPTIED)),
         ],
     );
-    let awaited = Left {
-        wake: Some(1),
-        ..given_up
-    };
     lives(
         &rt,
         &[
             (Poll(1), Pends(NOTHING)),
             (Start, Polls),
             (Detach, Leaves(NOTHING)),
-            (Ready, Leaves(awaited)),
+            (Ready, Leaves(GIVES_UP_AND_WAKES)),
         ],
     );
     lives(

@@ -33,6 +33,12 @@ fn a_cancel_of_a_queued_or_running_task(rt: HostRuntime) {
     );
 }
 
+// The task is queued, and the awaiter 1 woken.
+const QUEUED_AND_WAKES: Left = Left {
+    wake: Some(1),
+    ..QUEUED
+};
+
 #[test]
 fn a_cancel_of_an_idle_or_completed_task(rt: HostRuntime) {
     lives_on(
@@ -44,14 +50,10 @@ fn a_cancel_of_an_idle_or_completed_task(rt: HostRuntime) {
             (Cancel, Leaves(NOTHING)),
         ],
     );
-    let queued_and_wakes = Left {
-        wake: Some(1),
-        ..QUEUED
-    };
     lives_on(
         &rt,
         &AWAITED,
-        &[(Cancel, Leaves(queued_and_wakes)), (Start, Ends(ENDS))],
+        &[(Cancel, Leaves(QUEUED_AND_WAKES)), (Start, Ends(ENDS))],
     );
     lives(
         &rt,
@@ -64,22 +66,26 @@ fn a_cancel_of_an_idle_or_completed_task(rt: HostRuntime) {
     );
 }
 
+// The output is dropped.
+const UNCLAIMED: Left = Left {
+    output: true,
+    ..NOTHING
+};
+
+// .. and nobody is left.
+const UNCLAIMED_EMPTIED: Left = Left {
+    emptied: true,
+    ..UNCLAIMED
+};
+
 #[test]
 fn a_detach_of_a_completed_task(rt: HostRuntime) {
-    let unclaimed = Left {
-        output: true,
-        ..NOTHING
-    };
-    let unclaimed_emptied = Left {
-        emptied: true,
-        ..unclaimed
-    };
     lives(
         &rt,
         &[
             (Start, Polls),
             (Ready, Leaves(ENDS)),
-            (Detach, Leaves(unclaimed_emptied)),
+            (Detach, Leaves(UNCLAIMED_EMPTIED)),
         ],
     );
     lives(
@@ -88,7 +94,7 @@ fn a_detach_of_a_completed_task(rt: HostRuntime) {
             (AddWaker, Adds(true)),
             (Start, Polls),
             (Ready, Leaves(ENDS)),
-            (Detach, Leaves(unclaimed)),
+            (Detach, Leaves(UNCLAIMED)),
             (DropWaker, Leaves(EMPTIED)),
         ],
     );
@@ -126,6 +132,18 @@ fn a_detach_of_an_open_task(rt: HostRuntime) {
     lives(&rt, &[(Detach, Leaves(NOTHING)), (Start, Polls)]);
 }
 
+// The awaiter 1 is dropped.
+const FORGETS: Left = Left {
+    dropped: Some(1),
+    ..NOTHING
+};
+
+// The future is dropped, and the awaiter 2 woken.
+const ENDS_AND_WAKES_SECOND: Left = Left {
+    wake: Some(2),
+    ..ENDS
+};
+
 #[test]
 fn a_poll_of_the_task(rt: HostRuntime) {
     lives(
@@ -137,21 +155,13 @@ fn a_poll_of_the_task(rt: HostRuntime) {
             (Poll(1), Readies(None, NOTHING)),
         ],
     );
-    let second = Left {
-        dropped: Some(1),
-        ..NOTHING
-    };
-    let wakes_second = Left {
-        wake: Some(2),
-        ..ENDS
-    };
     lives(
         &rt,
         &[
             (Poll(1), Pends(NOTHING)),
-            (Poll(2), Pends(second)),
+            (Poll(2), Pends(FORGETS)),
             (RefusedPoll, Refuses),
-            (Discard, Leaves(wakes_second)),
+            (Discard, Leaves(ENDS_AND_WAKES_SECOND)),
         ],
     );
 }
@@ -168,14 +178,7 @@ fn a_poll_of_a_done_task_with_an_awaiter(rt: HostRuntime) {
         };
         task.awaiter = Some(Awaiter::new(1));
         let output = if completed { Some(OUTPUT) } else { None };
-        let settled = if number == 1 {
-            Left {
-                dropped: Some(1),
-                ..NOTHING
-            }
-        } else {
-            WAKES
-        };
+        let settled = if number == 1 { FORGETS } else { WAKES };
         answers(
             &rt,
             &mut task,

@@ -56,21 +56,23 @@ fn shows(
     answer_of(rt, task, call) == answer && looks(task) == seen
 }
 
+const SEEN: [(Call, Answer, [bool; 5]); 6] = [
+    (Start, Polls, [false, true, false, false, true]),
+    (Pending, Leaves(NOTHING), [false, false, false, false, true]),
+    (Wake, Queues(Some(false)), [true, false, false, false, true]),
+    (Cancel, Leaves(NOTHING), [true, false, true, false, true]),
+    (Start, Ends(ENDS), [false, false, true, false, true]),
+    (Detach, Leaves(EMPTIED), [false, false, true, true, false]),
+];
+
 #[test]
 fn what_can_be_seen(rt: HostRuntime) {
     let mut task: Task = LocalTask::new("metadata", FUTURE);
     assert!(rt;
         looks(&task) == [true, false, false, false, true] && *task.metadata() == "metadata"
     );
-    for step in [
-        (Start, Polls, [false, true, false, false, true]),
-        (Pending, Leaves(NOTHING), [false, false, false, false, true]),
-        (Wake, Queues(Some(false)), [true, false, false, false, true]),
-        (Cancel, Leaves(NOTHING), [true, false, true, false, true]),
-        (Start, Ends(ENDS), [false, false, true, false, true]),
-        (Detach, Leaves(EMPTIED), [false, false, true, true, false]),
-    ] {
-        assert!(rt; shows(&rt, &mut task, step), "{:?}", step.0);
+    for step in &SEEN {
+        assert!(rt; shows(&rt, &mut task, *step), "{:?}", step.0);
     }
 }
 

@@ -61,43 +61,49 @@ fn a_poll_of_a_done_task_clones_nothing(rt: HostRuntime) {
     meets(&rt, &[Poll(1), Start, Ready], Poll(2), WokenBefore, Unknown);
 }
 
+const COMPARED: Counts = Counts {
+    comparisons: 1,
+    ..CLONE
+};
+
+const COMPARED_AND_WOKEN: Counts = Counts {
+    wakes: 1,
+    ..COMPARED
+};
+
+const COMPARED_AND_DROPPED: Counts = Counts {
+    drops: 1,
+    ..COMPARED
+};
+
+// A poll by the same awaiter as the stored one, and by another.
+const SAME: [Counted; 2] = [
+    [COMPARED, COMPARED_AND_DROPPED, COMPARED_AND_DROPPED],
+    [NONE, NONE, NONE],
+];
+
+const ANOTHER: [Counted; 2] = [
+    [COMPARED, COMPARED_AND_WOKEN, COMPARED_AND_WOKEN],
+    [NONE, NONE, NONE],
+];
+
+// This awaiter polls a task that is done, in which the awaiter 1 is stored.
+fn meets_done(rt: &impl Abort, stage: Stage<u8, u8>, number: usize, expected: &[Counted; 2]) {
+    let pair = Pair::new();
+    let mut task: CountedTask<'_> = LocalTask::new((), FUTURE);
+    task.stage = stage;
+    let stored = pair.awaiter(1, false);
+    task.awaiter = traits::Wake::try_clone(&stored);
+    stored.go();
+    let counted = counted_from(rt, task, Poll(number), &pair);
+    assert!(rt; counted == *expected);
+}
+
 // A task that is done holds no awaiter: the awaiter 1 is put there to show what a poll would do. Each poll compares it once, by its own `will_wake`.
 #[test]
 fn a_poll_of_a_done_task_hands_a_stored_awaiter_out(rt: HostRuntime) {
-    let compared = Counts {
-        comparisons: 1,
-        ..CLONE
-    };
-    let woken = Counts {
-        wakes: 1,
-        ..compared
-    };
-    let dropped = Counts {
-        drops: 1,
-        ..compared
-    };
-    let same = [compared, dropped, dropped];
-    let another = [compared, woken, woken];
-    for (completed, number, expected) in [
-        (true, 1, same),
-        (true, 2, another),
-        (false, 1, same),
-        (false, 2, another),
-    ] {
-        let pair = Pair::new();
-        let mut task: CountedTask<'_> = LocalTask::new((), FUTURE);
-        task.stage = if completed {
-            Stage::Completed(OUTPUT)
-        } else {
-            Stage::Ended
-        };
-        let stored = pair.awaiter(1, false);
-        task.awaiter = traits::Wake::try_clone(&stored);
-        stored.go();
-        let counted = counted_from(&rt, task, Poll(number), &pair);
-        assert!(rt;
-            counted == [expected, Unknown.counted()],
-            "{completed}, {number}"
-        );
-    }
+    meets_done(&rt, Stage::Completed(OUTPUT), 1, &SAME);
+    meets_done(&rt, Stage::Completed(OUTPUT), 2, &ANOTHER);
+    meets_done(&rt, Stage::Ended, 1, &SAME);
+    meets_done(&rt, Stage::Ended, 2, &ANOTHER);
 }

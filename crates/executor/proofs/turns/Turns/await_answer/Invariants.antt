@@ -1,7 +1,7 @@
 use Rattle.std.proofs.Common.{◌≡◌, true}
 use Rattle.task_steps.specs.Steps.{saw_ended}
 use Rattle.task_cell.specs.Calls.{deeds}
-use Rattle.executor.proofs.turns.Turns+R+F+BellAwaiter+R+B.block_on.Given as goal
+use Rattle.executor.proofs.turns.Turns.await_answer.Given as goal
 
 abbrev pub invariant-loop : goal.invariant-loop
 invariant-loop g l = record {

@@ -1,0 +1,113 @@
+//! Calls of a pool of guests and of its handles, each in a function of its own, generic in the runtime alone: what such a call asks of its types is shown
+//! there once, and not in each test.
+
+use crate::granted::granted;
+use crate::guest::{Errand, GuestPool, GuestTask, GuestTurns, Guests, spawn_guest, spawn_guests};
+use awaiters::Nobody;
+use executor::{Key, keep_task, place_for_task, poll_kept};
+use std::alloc::{AllocError, Global};
+use std::process::Abort;
+use std::sync::{Arc, Wait};
+
+/// Guests of which so many are to end. Stops where there is no memory.
+pub fn new_guests<R: Abort>(rt: &R, alloc: Global, wanted: u64) -> Arc<Guests> {
+    granted(rt, Guests::new(alloc, wanted))
+}
+
+/// A pool of so many workers. Stops where there is no memory.
+pub fn new_pool<R: Wait + Abort + Drop + Copy>(
+    rt: R,
+    alloc: Global,
+    workers: usize,
+) -> GuestPool<R> {
+    granted(&rt, GuestPool::new(rt, alloc, workers))
+}
+
+/// The Task of a guest, as `spawn_guest` spawns it. Stops where there is no memory.
+pub fn guest_task<'x, R: Wait + Abort + Drop + Copy>(
+    pool: &'x GuestPool<R>,
+    worker: usize,
+    errand: Errand,
+    guests: &Arc<Guests>,
+) -> GuestTask<'x, R> {
+    granted(&pool.rt(), spawn_guest(pool, worker, errand, guests))
+}
+
+/// The Tasks of so many guests, as `spawn_guests` spawns them. Stops where there is no memory.
+pub fn guest_tasks<'x, R: Wait + Abort + Drop + Copy>(
+    pool: &'x GuestPool<R>,
+    worker: usize,
+    count: u64,
+    guests: &Arc<Guests>,
+) -> Vec<GuestTask<'x, R>> {
+    granted(&pool.rt(), spawn_guests(pool, worker, count, guests))
+}
+
+/// The turns of a worker. Stops where they are refused.
+pub fn turns_of<R: Wait + Abort + Drop + Copy>(
+    pool: &GuestPool<R>,
+    worker: usize,
+) -> GuestTurns<'_, R> {
+    granted(&pool.rt(), pool.turns(worker))
+}
+
+/// The turns of all workers. Stops where they are refused.
+pub fn all_turns<R: Wait + Abort + Drop + Copy>(pool: &GuestPool<R>) -> Vec<GuestTurns<'_, R>> {
+    granted(&pool.rt(), pool.all_turns())
+}
+
+/// Runs the next task, as `Turns::tick` does: whether there was one. The prover takes no call of that where the runtime is a parameter.
+pub fn tick<R: Wait + Drop + Copy>(turns: &mut GuestTurns<'_, R>) -> bool {
+    match turns.next() {
+        Some(runnable) => {
+            runnable.run();
+            true
+        }
+        None => false,
+    }
+}
+
+/// An empty place for a Task. Stops where there is none.
+pub fn place_of_task<R: Wait + Abort + Drop + Copy>(pool: &GuestPool<R>) -> Key<R> {
+    granted(&pool.rt(), place_for_task((pool, 0)).ok_or(AllocError))
+}
+
+/// Keeps a Task at a place: whether it was kept.
+pub fn keep<R: Wait + Drop + Copy>(task: GuestTask<'_, R>, key: &Key<R>) -> bool {
+    keep_task(task, key).is_ok()
+}
+
+/// Whether there is no Task at the place of a key.
+pub fn is_empty<R: Wait + Drop + Copy>(pool: &GuestPool<R>, key: &Key<R>) -> bool {
+    poll_kept((pool, 0), key, &Nobody).is_none()
+}
+
+/// Shuts a pool down.
+pub fn shut_down<R: Wait + Drop + Copy>(pool: &GuestPool<R>) {
+    pool.shutdown();
+}
+
+/// Drops a Task.
+pub fn drop_task<R: Wait + Drop + Copy>(task: GuestTask<'_, R>) {
+    drop(task);
+}
+
+/// Drops Tasks: how many there were.
+pub fn drop_tasks<R: Wait + Drop + Copy>(tasks: Vec<GuestTask<'_, R>>) -> usize {
+    tasks.len()
+}
+
+/// Drops turns.
+pub fn drop_turns<R: Wait + Drop + Copy>(turns: GuestTurns<'_, R>) {
+    drop(turns);
+}
+
+/// Drops the turns of all workers: how many there were.
+pub fn drop_all<R: Wait + Drop + Copy>(all: Vec<GuestTurns<'_, R>>) -> usize {
+    all.len()
+}
+
+/// Drops a pool.
+pub fn drop_pool<R: Wait + Drop + Copy>(pool: GuestPool<R>) {
+    drop(pool);
+}
