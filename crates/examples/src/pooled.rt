@@ -119,15 +119,15 @@ fn spawn<R: Wait + Drop + Copy>(
     pool.spawn(job).ok().ok_or(AllocError)
 }
 
-/// Spawns the sum of the numbers from 1 to `last`, and the average of those from 1 to `of`. An error says that there was no memory.
+/// Spawns the sum of the numbers from 1 to `summed`, and the average of those from 1 to `averaged`. An error says that there was no memory.
 pub fn spawn_both<R: Wait + Drop + Copy>(
     pool: &JobPool<R>,
-    last: u64,
-    of: u64,
+    summed: u64,
+    averaged: u64,
 ) -> Result<(JobTask<'_, R>, JobTask<'_, R>), AllocError> {
-    let sum = spawn(pool, sum_to(last))?;
+    let sum = spawn(pool, sum_to(summed))?;
     let average = Job::Average(Average {
-        last: of,
+        last: averaged,
         places: None,
     });
     Ok((sum, spawn(pool, average)?))

@@ -1,10 +1,11 @@
 //! The program that measures the pool of `executor` beside the kit's `futures`: tasks in a second, and the memory of a task.
 //! It stands on `executor`, `task_group` and `awaiters`, on the kit's `futures`, and on `bench_report` for arguments and tables.
-//! A user runs it; a module has the futures of an executor, and one its lines; `group` has what both say of a group.
+//! A user runs it; a module has the futures of an executor, and one its lines; `course` and `group` have what both share.
 //! Nothing is public only to carry a claim.
 //! The page is docs/PERFORMANCE.md.
 #![tactic(auto)]
 
+mod course;
 mod group;
 mod kit_tasks;
 mod on_futures;

@@ -1,5 +1,6 @@
 //! The lines on the `TaskSet` of the kit's `futures`.
 
+use crate::course::Course;
 use crate::group::measured_of;
 use crate::kit_tasks::{Job, Row};
 use bench_report::failure::Failure;
@@ -32,37 +33,10 @@ where
         await_group(&rt, alloc, &tasks, size)
     } else {
         let tasks = TaskSet::new(&rt, Doorbell::parking(), size.threads)?;
-        let course = Course::new(&rt, alloc, line, size)?;
-        run(&rt, alloc, &tasks, &course, size.threads)
-    }
-}
-
-// What the measurement of a line needs beside the set.
-#[derive(Drop)]
-struct Course {
-    line: Line,
-    tally: Arc<Tally>,
-    row: Arc<Row>,
-    start: Start,
-}
-
-impl Course {
-    // It starts at the end of this call.
-    fn new<R: Clock + Files>(
-        rt: &R,
-        alloc: Global,
-        line: Line,
-        size: Size,
-    ) -> Result<Course, Failure> {
         let tally = Tally::new(alloc, size.tasks)?;
         let row = Row::new(alloc, &tally, line == Line::Chain)?;
-        let start = Start::new(rt, alloc)?;
-        Ok(Course {
-            line,
-            tally,
-            row,
-            start,
-        })
+        let course = Course::begin(&rt, alloc, line, tally, row)?;
+        run(&rt, alloc, &tasks, &course, size.threads)
     }
 }
 
@@ -71,7 +45,7 @@ fn run<R>(
     rt: &R,
     alloc: Global,
     tasks: &TaskSet<Job>,
-    course: &Course,
+    course: &Course<Row>,
     threads: usize,
 ) -> Result<Measured, Failure>
 where
@@ -126,7 +100,7 @@ fn spawn_row(alloc: Global, tasks: &TaskSet<Job>, row: &Arc<Row>) -> Result<(), 
 }
 
 // Wakes the tasks of the row where it hands over, and ends the set where a task is lost.
-fn oversee<R: Clock + Wait>(rt: &R, tasks: &TaskSet<Job>, course: &Course) {
+fn oversee<R: Clock + Wait>(rt: &R, tasks: &TaskSet<Job>, course: &Course<Row>) {
     if course.line == Line::Handoff {
         hand_over(&course.tally, &course.row);
     }

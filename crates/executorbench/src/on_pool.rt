@@ -1,5 +1,6 @@
 //! The lines on the pool of `executor`.
 
+use crate::course::Course;
 use crate::group::measured_of;
 use crate::pool_tasks::{Job, Row};
 use awaiters::Awaiter;
@@ -49,7 +50,9 @@ where
     if line == Line::Group {
         await_group(&rt, alloc, pool, size, worker)
     } else {
-        let course = Course::new(&rt, alloc, line, size)?;
+        let tally = Tally::new(alloc, size.tasks)?;
+        let row = Row::new(alloc, &tally, line == Line::Chain)?;
+        let course = Course::begin(&rt, alloc, line, tally, row)?;
         run(&rt, alloc, pool, &course, worker)
     }
 }
@@ -64,41 +67,12 @@ where
     drop(thread::map_indices(rt, alloc, workers, worker));
 }
 
-// What the measurement of a line needs beside the pool.
-#[derive(Drop)]
-struct Course {
-    line: Line,
-    tally: Arc<Tally>,
-    row: Arc<Row>,
-    start: Start,
-}
-
-impl Course {
-    // It starts at the end of this call.
-    fn new<R: Clock + Files>(
-        rt: &R,
-        alloc: Global,
-        line: Line,
-        size: Size,
-    ) -> Result<Course, Failure> {
-        let tally = Tally::new(alloc, size.tasks)?;
-        let row = Row::new(alloc, &tally, line == Line::Chain)?;
-        let start = Start::new(rt, alloc)?;
-        Ok(Course {
-            line,
-            tally,
-            row,
-            start,
-        })
-    }
-}
-
 // Spawns all tasks of a line, has the workers run them, and measures it.
 fn run<R, W>(
     rt: &R,
     alloc: Global,
     pool: &JobPool<R>,
-    course: &Course,
+    course: &Course<Row>,
     worker: &W,
 ) -> Result<Measured, Failure>
 where
@@ -161,7 +135,7 @@ fn spawn_row<R: Wait + Drop + Copy>(
 }
 
 // Wakes the tasks of the row where it hands over, and ends the pool where a task is lost.
-fn oversee<R: Clock + Wait + Drop + Copy>(rt: &R, pool: &JobPool<R>, course: &Course) {
+fn oversee<R: Clock + Wait + Drop + Copy>(rt: &R, pool: &JobPool<R>, course: &Course<Row>) {
     if course.line == Line::Handoff {
         hand_over(pool, &course.tally, &course.row);
     }

@@ -1,7 +1,7 @@
 //! Steps played one at a time, and why one is refused.
 
 use crate::stops::{granted, holds};
-use crate::turns::player_after;
+use crate::turns::{END, GAIN, player_after};
 use linked_list_allocator::LocalHeap;
 use std::alloc::{Allocator, Global};
 use std::process::Abort;
@@ -96,16 +96,6 @@ fn acts_are_made_where_the_table_has_a_line(rt: HostRuntime) {
         holds(&rt, is_made == made, &act);
     }
 }
-
-const GAIN: Step = Step {
-    party: 0,
-    act: GainReference,
-};
-
-const END: Step = Step {
-    party: 0,
-    act: EndCall,
-};
 
 // Whether a player that gains 8 references is refused memory for one. Stops where it does not stand as before then.
 fn is_refused<R: Abort, A: Allocator>(rt: &R, player: &mut Player<A>) -> bool {

@@ -2,7 +2,7 @@
 
 use crate::lives::{self, Life};
 use crate::stops::{granted, holds};
-use crate::turns::{is_refused_at, steps_of};
+use crate::turns::{END, GAIN, is_refused_at, steps_of};
 use linked_list_allocator::LocalHeap;
 use std::alloc::Global;
 use std::process::Abort;
@@ -77,16 +77,6 @@ fn the_first_step_that_is_not_allowed_is_named(rt: HostRuntime) {
         assert!(rt; is_refused_at(rt.alloc(), LIMIT, steps.as_slice(), number));
     }
 }
-
-const GAIN: Step = Step {
-    party: 0,
-    act: GainReference,
-};
-
-const END: Step = Step {
-    party: 0,
-    act: EndCall,
-};
 
 #[test]
 fn a_waker_is_gained_below_the_limit_alone(rt: HostRuntime) {

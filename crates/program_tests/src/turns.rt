@@ -7,6 +7,18 @@ use task_core::acts::Act;
 use task_replay::player::Player;
 use task_replay::{ReplayError, Step, replay};
 
+/// The Runnable gains a reference.
+pub const GAIN: Step = Step {
+    party: 0,
+    act: Act::GainReference,
+};
+
+/// Its call ends.
+pub const END: Step = Step {
+    party: 0,
+    act: Act::EndCall,
+};
+
 /// The steps of these turns, in their order. Stops where there is no memory.
 pub fn steps_of<R: Abort>(rt: &R, alloc: Global, turns: &[(u64, &[Act])]) -> Vec<Step> {
     let mut steps = Vec::new(alloc);
