@@ -1,8 +1,9 @@
 //! Tests of stored awaiters: which one a task keeps, and how each clone ends.
 
 use crate::calls;
+use crate::calls::ends_of;
 use crate::granted::granted;
-use crate::watched::{Ends, Watched, WatchedRunnable, WatchedTask, spawn_watched};
+use crate::watched::{Ends, Watched, WatchedRunnable, WatchedTask, poll_awaited, spawn_awaited};
 use counted_values::behaviour::Behaviour;
 use counted_values::counters::{Counters, Counts};
 use counted_values::flag::Flag;
@@ -21,10 +22,6 @@ const STORED: Ended = (1, 0, 0);
 const DROPPED: Ended = (1, 0, 1);
 
 const WOKEN: Ended = (1, 1, 0);
-
-fn ends_of(flag: &Flag) -> Ended {
-    (flag.clones(), flag.wakes(), flag.drops())
-}
 
 // Polls with one awaiter, with another, and after the run with that again: what was answered and shown, and how the awaiters ended.
 fn poll_with_two<R: Wait + Abort + Drop + Copy>(
@@ -152,8 +149,7 @@ fn drop_awaited_idle<R: Wait + Abort + Drop + Copy>(
     fixture: &Fixture<R>,
     flag: &Flag,
 ) -> ([bool; 2], Ended, Counts) {
-    let (runnable, mut task) = calls::spawn(fixture, Behaviour::Pending);
-    calls::run(runnable);
+    let (_, mut task) = calls::spawn_and_run(fixture, Behaviour::Pending);
     let waits = calls::is_pending(&mut task, flag);
     let shown = calls::task_shows(fixture, &task, 0x030);
     calls::drop_task(task);
@@ -184,8 +180,7 @@ fn poll_past_the_output<R: Wait + Abort + Drop + Copy>(
     fixture: &Fixture<R>,
     flag: &Flag,
 ) -> ([bool; 5], Counts) {
-    let (runnable, mut task) = calls::spawn(fixture, Behaviour::Ready(9));
-    calls::run(runnable);
+    let (_, mut task) = calls::spawn_and_run(fixture, Behaviour::Ready(9));
     let completed = calls::is_ready(&mut task, flag, 9);
     let closed = calls::is_closed(&mut task, flag);
     let still_closed = calls::is_closed(&mut task, flag);
@@ -247,27 +242,40 @@ fn ends_after<R: Wait + Abort + Drop + Copy>(
 ) -> Ends {
     let awaiter = Watched::new(rt, alloc);
     let counters = granted(rt, Arc::new(alloc, Counters::new()));
-    let (runnable, mut task) = spawn_watched(*rt, alloc, behaviour, &counters);
-    drop(task.poll(&awaiter));
+    let (runnable, mut task) = spawn_awaited(*rt, alloc, behaviour, &counters);
+    poll_awaited(&mut task, &awaiter, 1);
     end_by(runnable, task, first);
     awaiter.ends()
 }
 
+const ENDS_BY_WAKE: Ends = Ends {
+    clones: 1,
+    wakes: 1,
+    wakes_by_ref: 0,
+    drops: 0,
+};
+
+const ENDS_BY_DROP: Ends = Ends {
+    clones: 1,
+    wakes: 0,
+    wakes_by_ref: 0,
+    drops: 1,
+};
+
+const ENDS: [(Behaviour, First, Ends); 7] = [
+    (Behaviour::Ready(1), First::Run, ENDS_BY_WAKE),
+    (Behaviour::Ready(1), First::DropRunnable, ENDS_BY_WAKE),
+    (Behaviour::Ready(1), First::DropTask, ENDS_BY_WAKE),
+    (Behaviour::Ready(1), First::Detach, ENDS_BY_WAKE),
+    (Behaviour::Pending, First::DropTask, ENDS_BY_WAKE),
+    (Behaviour::Pending, First::Detach, ENDS_BY_DROP),
+    (Behaviour::Pending, First::Run, ENDS_BY_WAKE),
+];
+
 // A stored clone ends once: woken by value where the task ends as an awaited one, and dropped where nobody holds the task.
 #[test]
 fn a_stored_awaiter_ends_once(rt: HostRuntime) {
-    let woken = Ends::new(1, 1, 0, 0);
-    let forgotten = Ends::new(1, 0, 0, 1);
-    let cases = [
-        (Behaviour::Ready(1), First::Run, woken),
-        (Behaviour::Ready(1), First::DropRunnable, woken),
-        (Behaviour::Ready(1), First::DropTask, woken),
-        (Behaviour::Ready(1), First::Detach, woken),
-        (Behaviour::Pending, First::DropTask, woken),
-        (Behaviour::Pending, First::Detach, forgotten),
-        (Behaviour::Pending, First::Run, woken),
-    ];
-    for (behaviour, first, expected) in cases {
+    for &(behaviour, first, expected) in &ENDS {
         let ends = ends_after(&rt, rt.alloc(), behaviour, first);
         assert!(rt; ends == expected, "{behaviour:?}, {first:?}");
     }

@@ -10,125 +10,93 @@ use counted_values::output::is_ready_with;
 use fixtures::executor::{PriorityQueue, PriorityRunnable, PriorityScheduler, PriorityTask};
 use fixtures::fixture::Fixture;
 use fixtures::future::RowFuture;
-use fixtures::surroundings::{RowRunnable, RowTask, Scheduler};
+use fixtures::surroundings::Scheduler;
 use std::alloc::{AllocError, Global};
 use std::fmt;
 use std::process::Abort;
-use std::string::String;
 use std::sync::{Arc, Wait};
 
 // What a handle shows of a task after its spawn, after the handle's own name.
 const SPAWNED: &str =
     " { header: Header { scheduled: true, running: false, completed: false, closed: false, awaiter: false, task: true, ref_count: 1, metadata: () } }";
 
-// What a value shows.
-type Shown = Result<String, AllocError>;
-
-fn text_of<T: fmt::Debug>(alloc: Global, value: &T) -> Shown {
-    format!(in alloc; "{value:?}")
+// Whether a value shows that text. Stops where there is no memory.
+fn shows<R: Abort, T: fmt::Debug>(rt: &R, alloc: Global, value: &T, expected: &str) -> bool {
+    granted(rt, format!(in alloc; "{value:?}")).as_str() == expected
 }
 
-// Stops where a value showed another text, or there was no memory for it.
-fn assert_shown<R: Abort + Drop + Copy>(rt: R, shown: Shown, expected: &str) {
-    match shown {
-        Ok(text) => assert!(rt; text.as_str() == expected),
-        Err(_) => panic!(rt; "no memory"),
-    }
+// Whether a handle of that name shows a spawned task.
+fn shows_spawned<R: Abort, T: fmt::Debug>(rt: &R, alloc: Global, handle: &T, name: &str) -> bool {
+    let expected = granted(rt, format!(in alloc; "{name}{SPAWNED}"));
+    shows(rt, alloc, handle, expected.as_str())
 }
 
-fn text_of_runnable<R: Wait + Drop>(alloc: Global, runnable: &RowRunnable<'_, R>) -> Shown {
-    text_of(alloc, runnable)
-}
-
-fn text_of_task<R: Wait + Drop>(alloc: Global, task: &RowTask<'_, R>) -> Shown {
-    text_of(alloc, task)
-}
-
-// Makes a FallibleTask of a Task: what it shows.
-fn text_of_fallible<R: Wait + Drop>(alloc: Global, task: RowTask<'_, R>) -> Shown {
-    let fallible = task.fallible();
-    let text = text_of(alloc, &fallible);
-    drop(fallible);
-    text
-}
-
-// Spawns a task: what its Runnable, its Task, and the FallibleTask of that show.
-fn texts_of_spawned<R: Wait + Abort + Drop + Copy>(
-    fixture: &Fixture<R>,
-    alloc: Global,
-) -> (Shown, Shown, Shown) {
+// Spawns a task: whether its Runnable, its Task, and the FallibleTask of that show it.
+fn show_spawned<R: Wait + Abort + Drop + Copy>(fixture: &Fixture<R>, alloc: Global) -> [bool; 3] {
     let (runnable, task) = calls::spawn(fixture, Behaviour::Pending);
-    let runnable_text = text_of_runnable(alloc, &runnable);
-    let task_text = text_of_task(alloc, &task);
-    let fallible_text = text_of_fallible(alloc, task);
+    let by_runnable = shows_spawned(&fixture.rt, alloc, &runnable, "Runnable");
+    let by_task = shows_spawned(&fixture.rt, alloc, &task, "Task");
+    let fallible = task.fallible();
+    let by_fallible = shows_spawned(&fixture.rt, alloc, &fallible, "FallibleTask");
+    drop(fallible);
     calls::drop_runnable(runnable);
-    (runnable_text, task_text, fallible_text)
-}
-
-// Stops where a handle of that name shows another text than that of a spawned task.
-fn assert_spawned<R: Abort + Drop + Copy>(rt: R, alloc: Global, shown: Shown, name: &str) {
-    match format!(in alloc; "{name}{SPAWNED}") {
-        Ok(expected) => assert_shown(rt, shown, expected.as_str()),
-        Err(_) => panic!(rt; "no memory"),
-    }
+    [by_runnable, by_task, by_fallible]
 }
 
 #[test]
 fn handles_show_the_flags_the_count_and_the_metadata(rt: HostRuntime) {
     let fixture = calls::fixture(rt, rt.alloc());
-    let (runnable, task, fallible) = texts_of_spawned(&fixture, rt.alloc());
-    assert_spawned(rt, rt.alloc(), runnable, "Runnable");
-    assert_spawned(rt, rt.alloc(), task, "Task");
-    assert_spawned(rt, rt.alloc(), fallible, "FallibleTask");
+    let shown = show_spawned(&fixture, rt.alloc());
+    assert!(rt; shown == [true; 3]);
 }
 
-// Completes a task: what its Task shows.
-fn text_of_completed<R: Wait + Abort + Drop + Copy>(fixture: &Fixture<R>, alloc: Global) -> Shown {
-    let (runnable, task) = calls::spawn(fixture, Behaviour::Ready(1));
-    calls::run(runnable);
-    let text = text_of_task(alloc, &task);
+// Completes a task: whether its Task shows that text.
+fn completed_shows<R: Wait + Abort + Drop + Copy>(
+    fixture: &Fixture<R>,
+    alloc: Global,
+    expected: &str,
+) -> bool {
+    let (_, task) = calls::spawn_and_run(fixture, Behaviour::Ready(1));
+    let shown = shows(&fixture.rt, alloc, &task, expected);
     calls::drop_task(task);
-    text
+    shown
 }
 
 // A completed task whose output nobody has claimed: no flag but COMPLETED and TASK, and no reference.
 #[test]
 fn a_task_shows_an_unclaimed_output(rt: HostRuntime) {
     let fixture = calls::fixture(rt, rt.alloc());
-    let shown = text_of_completed(&fixture, rt.alloc());
-    assert_shown(
-        rt,
-        shown,
+    let shown = completed_shows(
+        &fixture,
+        rt.alloc(),
         "Task { header: Header { scheduled: false, running: false, completed: true, closed: false, awaiter: false, task: true, ref_count: 0, metadata: () } }",
     );
+    assert!(rt; shown);
+}
+
+// Stops where a builder shows another metadata or another limit.
+fn assert_shown<R: Abort + Drop + Copy, M: fmt::Debug>(
+    rt: R,
+    alloc: Global,
+    builder: &Builder<M>,
+    expected: &str,
+) {
+    assert!(rt; shows(&rt, alloc, builder, expected));
 }
 
 #[test]
 fn builders_show_the_metadata_and_the_limit(rt: HostRuntime) {
+    let unlimited = "Builder { metadata: (), limit: 36028797018963967 }";
     let builder = Builder::new();
-    let fresh = text_of(rt.alloc(), &builder);
+    assert_shown(rt, rt.alloc(), &builder, unlimited);
     let builder = builder.reference_limit(18446744073709551615);
-    let capped = text_of(rt.alloc(), &builder);
+    assert_shown(rt, rt.alloc(), &builder, unlimited);
     let builder = builder.reference_limit(3).metadata(7u64);
-    let limited = text_of(rt.alloc(), &builder);
+    let limited = "Builder { metadata: 7, limit: 3 }";
+    assert_shown(rt, rt.alloc(), &builder, limited);
     let builder: Builder<u64> = Builder::default();
-    let default = text_of(rt.alloc(), &builder);
-    assert_shown(
-        rt,
-        fresh,
-        "Builder { metadata: (), limit: 36028797018963967 }",
-    );
-    assert_shown(
-        rt,
-        capped,
-        "Builder { metadata: (), limit: 36028797018963967 }",
-    );
-    assert_shown(rt, limited, "Builder { metadata: 7, limit: 3 }");
-    assert_shown(
-        rt,
-        default,
-        "Builder { metadata: 0, limit: 36028797018963967 }",
-    );
+    let default = "Builder { metadata: 0, limit: 36028797018963967 }";
+    assert_shown(rt, rt.alloc(), &builder, default);
 }
 
 // Spawns a task with metadata 7 by a maker that counts its calls.

@@ -26,6 +26,11 @@ pub fn flag<R: Wait + Abort + Drop + Copy>(fixture: &Fixture<R>, number: u64) ->
     granted(&fixture.rt, fixture.flag(number))
 }
 
+/// How often a flag was cloned and woken, and how many of its clones were dropped unwoken.
+pub fn ends_of(flag: &Flag) -> (u64, u64, u64) {
+    (flag.clones(), flag.wakes(), flag.drops())
+}
+
 /// Spawns a task whose future behaves like that. Stops where there is no memory.
 pub fn spawn<'x, R: Wait + Abort + Drop + Copy>(
     fixture: &'x Fixture<R>,
@@ -62,6 +67,24 @@ pub fn run_received<R: Wait + Abort + Drop + Copy>(
         }
         None => panic!(fixture.rt; "nothing was queued"),
     }
+}
+
+/// Spawns a task whose future behaves like that, and runs it: what the run answered, and its Task. Stops where there is no memory.
+pub fn spawn_and_run<'x, R: Wait + Abort + Drop + Copy>(
+    fixture: &'x Fixture<R>,
+    behaviour: Behaviour,
+) -> (bool, RowTask<'x, R>) {
+    let (runnable, task) = spawn(fixture, behaviour);
+    (run(runnable), task)
+}
+
+/// Runs a pending task: what the run answered, its Task, and a waker.
+pub fn go_idle<'x, R: Wait + Abort + Drop + Copy>(
+    fixture: &'x Fixture<R>,
+) -> (bool, RowTask<'x, R>, RowWaker<'x, R>) {
+    let (runnable, task) = spawn(fixture, Behaviour::Pending);
+    let waker = waker_of(fixture.rt, &runnable);
+    (run(runnable), task, waker)
 }
 
 /// Drops a Runnable.
@@ -108,6 +131,15 @@ pub fn detach<R: Wait + Drop>(task: RowTask<'_, R>) {
     task.detach();
 }
 
+/// Discards a Task, or a FallibleTask made of it.
+pub fn discard<R: Wait + Drop>(task: RowTask<'_, R>, is_fallible: bool) {
+    if is_fallible {
+        task.fallible().discard();
+    } else {
+        task.discard();
+    }
+}
+
 /// Whether a Task shows the flags and the count of that word.
 pub fn task_shows<R: Wait + Drop + Copy>(
     fixture: &Fixture<R>,
@@ -117,14 +149,13 @@ pub fn task_shows<R: Wait + Drop + Copy>(
     matches!(fixture.shows(task, word), Ok(true))
 }
 
-/// Polls a Cancel: whether it is pending.
-pub fn is_cancel_pending<R: Wait + Drop>(cancel: &mut RowCancel<'_, R>, awaiter: &Flag) -> bool {
-    matches!(cancel.poll(awaiter), TaskPoll::Pending)
-}
-
-/// Polls a Cancel: whether it is ready without an output.
-pub fn is_cancel_empty<R: Wait + Drop>(cancel: &mut RowCancel<'_, R>, awaiter: &Flag) -> bool {
-    matches!(cancel.poll(awaiter), TaskPoll::Ready(None))
+/// Polls a Cancel: whether it is pending, and whether it is ready without an output.
+pub fn poll_cancel<R: Wait + Drop>(cancel: &mut RowCancel<'_, R>, awaiter: &Flag) -> (bool, bool) {
+    let polled = cancel.poll(awaiter);
+    (
+        matches!(&polled, TaskPoll::Pending),
+        matches!(&polled, TaskPoll::Ready(None)),
+    )
 }
 
 /// Drops a Cancel.

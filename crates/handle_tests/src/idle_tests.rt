@@ -1,39 +1,19 @@
 //! Tests of a Task that is let go while its task is idle and has a waker.
 
 use crate::calls;
-use counted_values::behaviour::Behaviour;
 use counted_values::counters::Counts;
 use fixtures::fixture::Fixture;
-use fixtures::surroundings::{RowTask, RowWaker};
+use std::alloc::Global;
 use std::process::Abort;
 use std::sync::Wait;
-
-// Runs a pending task: its Task, and a waker.
-fn go_idle<'x, R: Wait + Abort + Drop + Copy>(
-    fixture: &'x Fixture<R>,
-) -> (RowTask<'x, R>, RowWaker<'x, R>) {
-    let (runnable, task) = calls::spawn(fixture, Behaviour::Pending);
-    let waker = calls::waker_of(fixture.rt, &runnable);
-    calls::run(runnable);
-    (task, waker)
-}
 
 // What was seen of an idle task whose Task was let go: what was queued and counted then, whether the next Runnable showed its word and what its run answered, and what was counted after that.
 type Seen = (usize, Counts, (bool, bool), Counts);
 
-// Discards a Task, or a FallibleTask made of it.
-fn discard<R: Wait + Drop>(task: RowTask<'_, R>, is_fallible: bool) {
-    if is_fallible {
-        task.fallible().discard();
-    } else {
-        task.discard();
-    }
-}
-
 // Discards the Task of an idle task, runs what that queued, and drops the waker.
 fn discard_idle<R: Wait + Abort + Drop + Copy>(fixture: &Fixture<R>, is_fallible: bool) -> Seen {
-    let (task, waker) = go_idle(fixture);
-    discard(task, is_fallible);
+    let (_, task, waker) = calls::go_idle(fixture);
+    calls::discard(task, is_fallible);
     let queued = fixture.surroundings.queued();
     let discarded = fixture.counts();
     let ran = calls::run_received(fixture, 0x209);
@@ -42,10 +22,12 @@ fn discard_idle<R: Wait + Abort + Drop + Copy>(fixture: &Fixture<R>, is_fallible
     (queued, discarded, ran, closed)
 }
 
-// Stops where a discard did not leave a closed task with 1 Runnable, beside the waker (0x209): its run polls nothing, and drops the future. The waker keeps the schedule value.
-fn assert_closed<R: Abort + Drop + Copy>(rt: R, seen: Seen, last: Counts) {
+// Stops where a discard does not leave a closed task with 1 Runnable, beside the waker (0x209): its run polls nothing, and drops the future. The waker keeps the schedule value.
+fn discard_closes<R: Wait + Abort + Drop + Copy>(rt: R, alloc: Global, is_fallible: bool) {
+    let fixture = calls::fixture(rt, alloc);
+    let seen = discard_idle(&fixture, is_fallible);
     assert!(rt;
-        (seen, last)
+        (seen, fixture.counts())
             == (
                 (
                     1,
@@ -61,22 +43,18 @@ fn assert_closed<R: Abort + Drop + Copy>(rt: R, seen: Seen, last: Counts) {
 // A discard of the Task cancels: it queues 1 Runnable, where a detach would queue none.
 #[test]
 fn a_discard_closes_an_idle_task(rt: HostRuntime) {
-    let fixture = calls::fixture(rt, rt.alloc());
-    let seen = discard_idle(&fixture, false);
-    assert_closed(rt, seen, fixture.counts());
+    discard_closes(rt, rt.alloc(), false);
 }
 
 // The discard of a FallibleTask does the same.
 #[test]
 fn a_discard_of_a_fallible_task_closes_an_idle_task(rt: HostRuntime) {
-    let fixture = calls::fixture(rt, rt.alloc());
-    let seen = discard_idle(&fixture, true);
-    assert_closed(rt, seen, fixture.counts());
+    discard_closes(rt, rt.alloc(), true);
 }
 
 // Detaches the FallibleTask of an idle task, wakes it by value, and runs what that queued.
 fn detach_idle<R: Wait + Abort + Drop + Copy>(fixture: &Fixture<R>) -> Seen {
-    let (task, waker) = go_idle(fixture);
+    let (_, task, waker) = calls::go_idle(fixture);
     task.fallible().detach();
     let queued = fixture.surroundings.queued();
     let detached = fixture.counts();

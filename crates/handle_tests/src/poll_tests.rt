@@ -16,15 +16,15 @@ use std::thread::Threads;
 // What a second thread saw during a poll: whether the poll came, and whether the word was the stated one before a wake and after it.
 type Seen = [bool; 3];
 
-// Runs, and wakes by value during the poll: what the run answers, what the second thread saw, and the Task.
+// Runs, and wakes by value during the poll: what the run answers, what the second thread saw, and the Task. Stops where there is no thread.
 fn wake_beside<'x, R>(
     fixture: &'x Fixture<R>,
     runnable: RowRunnable<'x, R>,
     waker: RowWaker<'x, R>,
     task: RowTask<'x, R>,
-) -> Option<(bool, Seen, RowTask<'x, R>)>
+) -> (bool, Seen, RowTask<'x, R>)
 where
-    R: Wait + Threads + Drop + Copy + Send + Sync,
+    R: Wait + Threads + Abort + Drop + Copy + Send + Sync,
 {
     let rt = fixture.rt;
     let rendezvous = &fixture.surroundings.rendezvous;
@@ -39,26 +39,26 @@ where
             ([came, running, woken], task)
         });
         let Ok(second) = second else {
-            return None;
+            panic!(rt; "no thread");
         };
         let rescheduled = calls::run(runnable);
         let (seen, task) = second.join(&rt);
-        Some((rescheduled, seen, task))
+        (rescheduled, seen, task)
     })
 }
 
 // Wakes a task by value during its poll, with its only waker: what the second thread saw, what the run answered, whether the Task showed the wake, and what was queued before it was dropped.
-fn wake_in_poll<R>(fixture: &Fixture<R>) -> Option<(Seen, bool, bool, usize)>
+fn wake_in_poll<R>(fixture: &Fixture<R>) -> (Seen, bool, bool, usize)
 where
     R: Wait + Threads + Abort + Drop + Copy + Send + Sync,
 {
     let (runnable, task) = calls::spawn(fixture, Behaviour::Pending);
     let waker = calls::waker_of(fixture.rt, &runnable);
-    let (rescheduled, seen, task) = wake_beside(fixture, runnable, waker, task)?;
+    let (rescheduled, seen, task) = wake_beside(fixture, runnable, waker, task);
     let shown = calls::task_shows(fixture, &task, 0x111);
     let queued = fixture.surroundings.queued();
     calls::drop_task(task);
-    Some((seen, rescheduled, shown, queued))
+    (seen, rescheduled, shown, queued)
 }
 
 // A task is woken by value during its poll, with its only waker: the run answers true, and hands over with true.
@@ -69,21 +69,19 @@ fn a_wake_by_value_during_the_poll_reschedules(rt: HostRuntime) {
     let ran = fixture.surroundings.run_next();
     let met = fixture.surroundings.rendezvous.met();
     let told = fixture.surroundings.infos_are(&[true]);
-    assert!(rt;
-        (seen, ran, met, told) == (Some(([true; 3], true, true, 1)), Some(false), true, true)
-    );
+    assert!(rt; (seen, ran, met, told) == (([true; 3], true, true, 1), Some(false), true, true));
     assert!(rt; fixture.counts() == Counts::new(1, 1, 1, 1));
 }
 
-// Runs, and polls the Cancel during the poll: what the run answers, whether the Cancel waits with its awaiter unwoken, and the Cancel.
+// Runs, and polls the Cancel during the poll: what the run answers, whether the Cancel waits with its awaiter unwoken, and the Cancel. Stops where there is no thread.
 fn cancel_beside<'x, R>(
     fixture: &'x Fixture<R>,
     runnable: RowRunnable<'x, R>,
     mut cancel: RowCancel<'x, R>,
     awaiter: &Flag,
-) -> Option<(bool, bool, RowCancel<'x, R>)>
+) -> (bool, bool, RowCancel<'x, R>)
 where
-    R: Wait + Threads + Drop + Copy + Send + Sync,
+    R: Wait + Threads + Abort + Drop + Copy + Send + Sync,
 {
     let rt = fixture.rt;
     let rendezvous = &fixture.surroundings.rendezvous;
@@ -91,17 +89,17 @@ where
     thread::scope(thread::scope_env(), &rt, |scope| {
         let second = scope.spawn(move || {
             let came = rendezvous.await_poll();
-            let waits = calls::is_cancel_pending(&mut cancel, awaiter);
+            let (waits, _) = calls::poll_cancel(&mut cancel, awaiter);
             let unwoken = awaiter.wakes() == 0;
             rendezvous.release();
             (came && waits && unwoken, cancel)
         });
         let Ok(second) = second else {
-            return None;
+            panic!(rt; "no thread");
         };
         let rescheduled = calls::run(runnable);
         let (waits, cancel) = second.join(&rt);
-        Some((rescheduled, waits, cancel))
+        (rescheduled, waits, cancel)
     })
 }
 
@@ -109,17 +107,17 @@ where
 type Cancelled = ([bool; 2], bool, (u64, u64, u64), Counts);
 
 // Polls a Cancel during the poll of the future, which then answers like that.
-fn cancel_in_poll<R>(fixture: &Fixture<R>, behaviour: Behaviour, flag: &Flag) -> Option<Cancelled>
+fn cancel_in_poll<R>(fixture: &Fixture<R>, behaviour: Behaviour, flag: &Flag) -> Cancelled
 where
     R: Wait + Threads + Abort + Drop + Copy + Send + Sync,
 {
     let (runnable, task) = calls::spawn(fixture, behaviour);
-    let (rescheduled, waits, mut cancel) = cancel_beside(fixture, runnable, task.cancel(), flag)?;
-    let woken = (flag.clones(), flag.wakes(), flag.drops());
-    let empty = calls::is_cancel_empty(&mut cancel, flag);
+    let (rescheduled, waits, mut cancel) = cancel_beside(fixture, runnable, task.cancel(), flag);
+    let woken = calls::ends_of(flag);
+    let (_, empty) = calls::poll_cancel(&mut cancel, flag);
     let ended = fixture.counts();
     calls::drop_cancel(cancel);
-    Some(([waits, empty], rescheduled, woken, ended))
+    ([waits, empty], rescheduled, woken, ended)
 }
 
 // A Cancel waits as long as the future is polled, and no output comes of it.
@@ -135,7 +133,7 @@ where
     assert!(rt;
         (seen, last)
             == (
-                Some(([true; 2], false, (1, 1, 0), Counts::new(1, 0, 1, 0))),
+                ([true; 2], false, (1, 1, 0), Counts::new(1, 0, 1, 0)),
                 (true, 1, output_drops, Counts::new(1, 0, 1, 1))
             )
     );

@@ -58,6 +58,19 @@ fn left_by<R: Wait + Abort + Drop + Copy>(
     }
 }
 
+// Stops where the drop of a Task, or that of a Cancel, leaves something else.
+fn assert_left<R: Wait + Abort + Drop + Copy>(
+    rt: R,
+    alloc: Global,
+    behaviour: Behaviour,
+    runs: bool,
+    expected: Left,
+) {
+    let by_drop = left_by(rt, alloc, behaviour, runs, false);
+    let by_cancel = left_by(rt, alloc, behaviour, runs, true);
+    assert!(rt; [by_drop, by_cancel] == [expected; 2]);
+}
+
 // Of a scheduled task, of an idle one and of one that has completed.
 #[test]
 fn a_dropped_cancel_leaves_what_a_dropped_task_leaves(rt: HostRuntime) {
@@ -67,28 +80,21 @@ fn a_dropped_cancel_leaves_what_a_dropped_task_leaves(rt: HostRuntime) {
         output_drops: 0,
         last: Counts::new(0, 0, 1, 1),
     };
+    assert_left(rt, rt.alloc(), Behaviour::Pending, false, scheduled);
     let idle = Left {
         counts: Counts::new(1, 1, 0, 0),
         queued: 1,
         output_drops: 0,
         last: Counts::new(1, 1, 1, 1),
     };
+    assert_left(rt, rt.alloc(), Behaviour::Pending, true, idle);
     let completed = Left {
         counts: Counts::new(1, 0, 1, 1),
         queued: 0,
         output_drops: 1,
         last: Counts::new(1, 0, 1, 1),
     };
-    let cases = [
-        (Behaviour::Pending, false, scheduled),
-        (Behaviour::Pending, true, idle),
-        (Behaviour::Ready(1), true, completed),
-    ];
-    for (behaviour, runs, expected) in cases {
-        let by_drop = left_by(rt, rt.alloc(), behaviour, runs, false);
-        let by_cancel = left_by(rt, rt.alloc(), behaviour, runs, true);
-        assert!(rt; [by_drop, by_cancel] == [expected; 2]);
-    }
+    assert_left(rt, rt.alloc(), Behaviour::Ready(1), true, completed);
 }
 
 // Drops a Task, and a Cancel of another task: whether the Runnables showed the word before the Cancel's drop, and after either.
@@ -117,19 +123,14 @@ fn a_dropped_cancel_leaves_the_same_word(rt: HostRuntime) {
 // A FallibleTask of the rows.
 type RowFallible<'x, R> = FallibleTask<R, RowFuture, Scheduler, (), Flag, &'x Surroundings<R>>;
 
-// Polls a FallibleTask: whether it is pending.
-fn is_fallible_pending<R: Wait + Drop>(task: &mut RowFallible<'_, R>, flag: &Flag) -> bool {
-    matches!(task.poll(flag), TaskPoll::Pending)
-}
-
-// Whether it is ready with the number 4.
-fn is_fallible_ready<R: Wait + Drop>(task: &mut RowFallible<'_, R>, flag: &Flag) -> bool {
-    is_some_with(&task.poll(flag), 4)
-}
-
-// Whether it is ready without an output.
-fn is_fallible_empty<R: Wait + Drop>(task: &mut RowFallible<'_, R>, flag: &Flag) -> bool {
-    matches!(task.poll(flag), TaskPoll::Ready(None))
+// Polls a FallibleTask: whether it is pending, whether it is ready with the number 4, and whether it is ready without an output.
+fn poll_fallible<R: Wait + Drop>(task: &mut RowFallible<'_, R>, flag: &Flag) -> [bool; 3] {
+    let polled = task.poll(flag);
+    [
+        matches!(&polled, TaskPoll::Pending),
+        is_some_with(&polled, 4),
+        matches!(&polled, TaskPoll::Ready(None)),
+    ]
 }
 
 // Whether the task of a FallibleTask is finished, whose metadata is nothing.
@@ -138,19 +139,19 @@ fn is_fallible_finished<R: Wait + Drop>(task: &mut RowFallible<'_, R>) -> bool {
     task.is_finished()
 }
 
-// Calls each method of a FallibleTask: whether it was finished before the run and after it, what the run answered, and what the polls did.
+// Calls each method of a FallibleTask: whether it was finished before the run and after it, what the run answered, and what the polls did: one before the run, and two after it.
 fn call_fallible<R: Wait + Abort + Drop + Copy>(
     fixture: &Fixture<R>,
     flag: &Flag,
-) -> ([bool; 2], bool, [bool; 3]) {
+) -> ([bool; 2], bool, [[bool; 3]; 3]) {
     let (runnable, task) = calls::spawn(fixture, Behaviour::Ready(4));
     let mut fallible = task.fallible();
     let spawned = is_fallible_finished(&mut fallible);
-    let first = is_fallible_pending(&mut fallible, flag);
+    let first = poll_fallible(&mut fallible, flag);
     let rescheduled = calls::run(runnable);
     let finished = is_fallible_finished(&mut fallible);
-    let second = is_fallible_ready(&mut fallible, flag);
-    let third = is_fallible_empty(&mut fallible, flag);
+    let second = poll_fallible(&mut fallible, flag);
+    let third = poll_fallible(&mut fallible, flag);
     fallible.detach();
     ([spawned, finished], rescheduled, [first, second, third])
 }
@@ -160,9 +161,14 @@ fn a_fallible_task_answers_each_call(rt: HostRuntime) {
     let fixture = calls::fixture(rt, rt.alloc());
     let flag = calls::flag(&fixture, 1);
     let (finished, rescheduled, polled) = call_fallible(&fixture, &flag);
+    let polls = [
+        [true, false, false],
+        [false, true, false],
+        [false, false, true],
+    ];
     assert!(rt;
-        (finished, rescheduled, polled, fixture.counts())
-            == ([false, true], false, [true; 3], Counts::new(1, 0, 1, 1))
+        (polled, finished, rescheduled, fixture.counts())
+            == (polls, [false, true], false, Counts::new(1, 0, 1, 1))
     );
 }
 
@@ -202,7 +208,7 @@ fn a_detached_fallible_task_runs(rt: HostRuntime) {
 
 fn run_discarded<R: Wait + Abort + Drop + Copy>(fixture: &Fixture<R>) -> Ran {
     let (runnable, task) = calls::spawn(fixture, Behaviour::Ready(4));
-    task.discard();
+    calls::discard(task, false);
     run_let_go(fixture, runnable, 0x109)
 }
 
@@ -224,7 +230,7 @@ fn a_discarded_task_cancels(rt: HostRuntime) {
 // Discards a FallibleTask and then the Runnable: whether the Runnable showed the cancel.
 fn discard_fallible<R: Wait + Abort + Drop + Copy>(fixture: &Fixture<R>) -> bool {
     let (runnable, task) = calls::spawn(fixture, Behaviour::Ready(4));
-    task.fallible().discard();
+    calls::discard(task, true);
     let shown = calls::runnable_shows(fixture, &runnable, 0x109);
     runnable.discard();
     shown
@@ -244,11 +250,11 @@ fn cancel_fallible<R: Wait + Abort + Drop + Copy>(
 ) -> ([bool; 4], bool) {
     let (runnable, task) = calls::spawn(fixture, Behaviour::Ready(4));
     let mut cancel = task.fallible().cancel();
-    let waits = calls::is_cancel_pending(&mut cancel, flag);
+    let (waits, _) = calls::poll_cancel(&mut cancel, flag);
     let shown = calls::runnable_shows(fixture, &runnable, 0x139);
     let finished = cancel.is_finished();
     let rescheduled = calls::run(runnable);
-    let empty = calls::is_cancel_empty(&mut cancel, flag);
+    let (_, empty) = calls::poll_cancel(&mut cancel, flag);
     calls::drop_cancel(cancel);
     ([waits, shown, finished, empty], rescheduled)
 }
@@ -318,8 +324,7 @@ fn take_output<R: Wait + Abort + Drop + Copy>(
     fixture: &Fixture<R>,
     flag: &Flag,
 ) -> TaskPoll<Result<Output, TaskClosed>> {
-    let (runnable, mut task) = calls::spawn(fixture, Behaviour::Ready(9));
-    calls::run(runnable);
+    let (_, mut task) = calls::spawn_and_run(fixture, Behaviour::Ready(9));
     let polled = task.poll(flag);
     calls::drop_task(task);
     polled

@@ -16,9 +16,7 @@ fn wake_awaiter<W: Wake>(awaiter: &W) {
 
 // Wakes an idle task by a waker as an awaiter: what its run answered, whether the Task showed the wake, and what was counted.
 fn wake_as_awaiter<R: Wait + Abort + Drop + Copy>(fixture: &Fixture<R>) -> (bool, bool, Counts) {
-    let (runnable, task) = calls::spawn(fixture, Behaviour::Pending);
-    let waker = calls::waker_of(fixture.rt, &runnable);
-    let rescheduled = calls::run(runnable);
+    let (rescheduled, task, waker) = calls::go_idle(fixture);
     wake_awaiter(&waker);
     let shown = calls::task_shows(fixture, &task, 0x211);
     let woken = fixture.counts();
@@ -47,9 +45,7 @@ fn wake_awaiter_by_value<W: Wake>(awaiter: W) {
 fn wake_first_by_value<R: Wait + Abort + Drop + Copy>(
     fixture: &Fixture<R>,
 ) -> (usize, bool, Counts) {
-    let (runnable, task) = calls::spawn(fixture, Behaviour::Pending);
-    let waker = calls::waker_of(fixture.rt, &runnable);
-    calls::run(runnable);
+    let (_, task, waker) = calls::go_idle(fixture);
     wake_awaiter_by_value(waker);
     let queued = fixture.surroundings.queued();
     let shown = calls::task_shows(fixture, &task, 0x111);

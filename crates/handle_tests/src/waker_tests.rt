@@ -2,14 +2,13 @@
 
 use crate::calls;
 use crate::granted::granted;
-use async_task::{Runnable, Task, TaskPoll, Wake, spawn};
+use crate::watched::{AwaitedRunnable, AwaitedTask, Polled, poll_awaited, spawn_awaited};
+use async_task::Wake;
 use counted_values::behaviour::Behaviour;
 use counted_values::counters::{Counters, Counts};
 use counted_values::flag::Flag;
-use counted_values::output::is_ready_with;
 use fixtures::fixture::Fixture;
-use fixtures::future::RowFuture;
-use fixtures::surroundings::{RowWaker, Scheduler, Surroundings};
+use fixtures::surroundings::{RowWaker, Surroundings};
 use std::alloc::Global;
 use std::mem;
 use std::process::Abort;
@@ -17,8 +16,7 @@ use std::sync::{Arc, Wait};
 
 // A pending task without wakers loses its Task after a run, by a detach or by a drop: what the run answered.
 fn leave_idle<R: Wait + Abort + Drop + Copy>(fixture: &Fixture<R>, detaches: bool) -> bool {
-    let (runnable, task) = calls::spawn(fixture, Behaviour::Pending);
-    let rescheduled = calls::run(runnable);
+    let (rescheduled, task) = calls::spawn_and_run(fixture, Behaviour::Pending);
     if detaches {
         calls::detach(task);
     } else {
@@ -127,9 +125,7 @@ fn wake_thrice<W: Wake>(awaiter: W) -> Option<bool> {
 fn call_as_awaiter<R: Wait + Abort + Drop + Copy>(
     fixture: &Fixture<R>,
 ) -> (bool, Option<bool>, usize) {
-    let (runnable, task) = calls::spawn(fixture, Behaviour::Pending);
-    let waker = calls::waker_of(fixture.rt, &runnable);
-    let rescheduled = calls::run(runnable);
+    let (rescheduled, task, waker) = calls::go_idle(fixture);
     let known = wake_thrice(waker);
     let queued = fixture.surroundings.queued();
     calls::drop_task(task);
@@ -146,52 +142,23 @@ fn a_waker_is_an_awaiter(rt: HostRuntime) {
     assert!(rt; fixture.counts() == Counts::new(1, 1, 1, 1));
 }
 
-// The handles of a task without surroundings, which is awaited by wakers of the rows.
-type AwaitedRunnable<'x, R> = Runnable<R, RowFuture, Scheduler, (), RowWaker<'x, R>, ()>;
+// What was seen of a task that is awaited by a waker: what its polls answered, and what was queued before its run and after it.
+type Awaited = ([Polled; 2], [usize; 2]);
 
-type AwaitedTask<'x, R> = Task<R, RowFuture, Scheduler, (), RowWaker<'x, R>, ()>;
-
-type AwaitedHandles<'x, R> = (AwaitedRunnable<'x, R>, AwaitedTask<'x, R>);
-
-// Spawns a task that other tasks may await, whose future answers 5 and which counts here.
-fn spawn_awaited<'x, R: Wait + Abort + Drop + Copy>(
-    rt: R,
-    alloc: Global,
-    counters: &Arc<Counters>,
-) -> AwaitedHandles<'x, R> {
-    let future = RowFuture::new(Behaviour::Ready(5), granted(&rt, Arc::try_clone(counters)));
-    let scheduler = Scheduler::new(granted(&rt, Arc::try_clone(counters)));
-    granted(&rt, spawn(rt, alloc, future, scheduler, ()))
-}
-
-// What was seen of a task that is awaited by a waker: whether it was pending and then ready, and what was queued before its run and after it.
-type Awaited = ([bool; 2], [usize; 2]);
-
-// Polls such a Task: whether it is pending, and whether it is ready.
-fn poll_awaited<'x, R: Wait + Drop>(
-    task: &mut AwaitedTask<'x, R>,
-    waker: &RowWaker<'x, R>,
-) -> (bool, bool) {
-    let polled = task.poll(waker);
-    (
-        matches!(&polled, TaskPoll::Pending),
-        is_ready_with(&polled, 5),
-    )
-}
-
-fn await_by<'x, R: Wait + Drop>(
-    surroundings: &'x Surroundings<R>,
-    waker: &RowWaker<'x, R>,
-    runnable: AwaitedRunnable<'x, R>,
-    mut task: AwaitedTask<'x, R>,
+// Awaits a task by an awaiter which queues there.
+fn await_by<R: Wait + Drop, A: Wake>(
+    surroundings: &Surroundings<R>,
+    awaiter: &A,
+    runnable: AwaitedRunnable<R, A>,
+    mut task: AwaitedTask<R, A>,
 ) -> Awaited {
-    let (waits, _) = poll_awaited(&mut task, waker);
+    let first = poll_awaited(&mut task, awaiter, 5);
     let before = surroundings.queued();
     runnable.run();
     let after = surroundings.queued();
-    let (_, completed) = poll_awaited(&mut task, waker);
+    let second = poll_awaited(&mut task, awaiter, 5);
     drop(task);
-    ([waits, completed], [before, after])
+    ([first, second], [before, after])
 }
 
 // Awaits a task of those counters by the waker of another one, which is idle: what was seen of it, and what the other one counted.
@@ -200,10 +167,13 @@ fn await_another<R: Wait + Abort + Drop + Copy>(
     alloc: Global,
     counters: &Arc<Counters>,
 ) -> (Awaited, Counts) {
-    let (awaited_runnable, awaited) = spawn_awaited(fixture.rt, alloc, counters);
-    let (runnable, task) = calls::spawn(fixture, Behaviour::Pending);
-    let waker = calls::waker_of(fixture.rt, &runnable);
-    calls::run(runnable);
+    let (awaited_runnable, awaited) = spawn_awaited(
+        fixture.rt,
+        alloc,
+        Behaviour::Ready(5),
+        counters,
+    );
+    let (_, task, waker) = calls::go_idle(fixture);
     let seen = await_by(&fixture.surroundings, &waker, awaited_runnable, awaited);
     let counts = fixture.counts();
     calls::drop_waker(waker);
@@ -217,10 +187,11 @@ fn a_task_awaits_another(rt: HostRuntime) {
     let counters = granted(&rt, Arc::new(rt.alloc(), Counters::new()));
     let fixture = calls::fixture(rt, rt.alloc());
     let seen = await_another(&fixture, rt.alloc(), &counters);
+    let polled = [(true, false, false), (false, true, false)];
     assert!(rt;
         (seen, counters.counts())
             == (
-                (([true; 2], [0, 1]), Counts::new(1, 1, 0, 0)),
+                ((polled, [0, 1]), Counts::new(1, 1, 0, 0)),
                 Counts::new(1, 0, 1, 1)
             )
     );
@@ -233,9 +204,7 @@ fn wake_without_surroundings<R: Wait + Drop>(waker: RowWaker<'_, R>) {
 
 // Wakes an idle task by a waker without surroundings: whether it was finished, and what was counted.
 fn wake_to_nowhere<R: Wait + Abort + Drop + Copy>(fixture: &Fixture<R>) -> (bool, Counts) {
-    let (runnable, mut task) = calls::spawn(fixture, Behaviour::Pending);
-    let waker = calls::waker_of(fixture.rt, &runnable);
-    calls::run(runnable);
+    let (_, mut task, waker) = calls::go_idle(fixture);
     wake_without_surroundings(waker);
     let finished = calls::is_finished(&mut task);
     let counts = fixture.counts();
@@ -315,11 +284,6 @@ fn a_forgotten_runnable_is_a_handle_that_is_left(rt: HostRuntime) {
     assert!(rt; (fixture.surroundings.queued(), fixture.counts()) == (0, Counts::new(0, 0, 0, 0)));
 }
 
-// The clones, wakes and drops of a flag.
-fn counts_of(flag: &Flag) -> (u64, u64, u64) {
-    (flag.clones(), flag.wakes(), flag.drops())
-}
-
 // Clones a flag, and wakes the clone by value: whether the flag knew it, or `None` where it was refused.
 fn wake_clone(flag: &Flag) -> Option<bool> {
     let clone = flag.try_clone()?;
@@ -337,10 +301,10 @@ fn is_cloned(flag: &Flag) -> bool {
 fn a_flag_counts_what_is_done_to_it(rt: HostRuntime) {
     let flag = granted(&rt, Flag::new(rt.alloc(), 7));
     flag.wake_by_ref();
-    let woken = counts_of(&flag);
+    let woken = calls::ends_of(&flag);
     let known = wake_clone(&flag);
     let first = is_cloned(&flag);
-    let dropped = counts_of(&flag);
+    let dropped = calls::ends_of(&flag);
     flag.refuse_next_clone();
     let cloned = [first, is_cloned(&flag), is_cloned(&flag)];
     assert!(rt;

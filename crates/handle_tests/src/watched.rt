@@ -2,9 +2,10 @@
 ghost use Rattle.std.specs.Prelude.{⊤};
 
 use crate::granted::granted;
-use async_task::{Runnable, Task, Wake, spawn};
+use async_task::{Runnable, Task, TaskClosed, TaskPoll, Wake, spawn};
 use counted_values::behaviour::Behaviour;
 use counted_values::counters::{Counter, Counters};
+use counted_values::output::is_ready_with;
 use fixtures::future::RowFuture;
 use fixtures::rendezvous::Rendezvous;
 use fixtures::surroundings::Scheduler;
@@ -124,20 +125,53 @@ impl Wake for Watched {
     }
 }
 
+/// A future that behaves like that, and a schedule value, which count here. Stops where there is no memory.
+pub fn counted<R: Abort>(
+    rt: &R,
+    behaviour: Behaviour,
+    counters: &Arc<Counters>,
+) -> (RowFuture, Scheduler) {
+    let future = RowFuture::new(behaviour, granted(rt, Arc::try_clone(counters)));
+    let scheduler = Scheduler::new(granted(rt, Arc::try_clone(counters)));
+    (future, scheduler)
+}
+
 /// A Runnable without surroundings, of a task that is awaited by such awaiters.
-pub type WatchedRunnable<R> = Runnable<R, RowFuture, Scheduler, (), Watched, ()>;
+pub type AwaitedRunnable<R, A> = Runnable<R, RowFuture, Scheduler, (), A, ()>;
 
 /// A Task without surroundings that is awaited by such awaiters.
-pub type WatchedTask<R> = Task<R, RowFuture, Scheduler, (), Watched, ()>;
+pub type AwaitedTask<R, A> = Task<R, RowFuture, Scheduler, (), A, ()>;
 
-/// Spawns such a task, which counts here. Its schedule value drops each Runnable. Stops where there is no memory.
-pub fn spawn_watched<R: Wait + Abort + Drop + Copy>(
+/// A Runnable of a task that is awaited by awaiters that count their ends.
+pub type WatchedRunnable<R> = AwaitedRunnable<R, Watched>;
+
+/// A Task that is awaited by awaiters that count their ends.
+pub type WatchedTask<R> = AwaitedTask<R, Watched>;
+
+/// What a poll of such a Task answered: whether it is pending, whether it is ready with the number that was asked for, and whether it is closed.
+pub type Polled = (bool, bool, bool);
+
+/// Polls such a Task. An output is dropped.
+pub fn poll_awaited<R: Wait + Drop, A: Wake>(
+    task: &mut AwaitedTask<R, A>,
+    awaiter: &A,
+    number: u64,
+) -> Polled {
+    let polled = task.poll(awaiter);
+    (
+        matches!(&polled, TaskPoll::Pending),
+        is_ready_with(&polled, number),
+        matches!(&polled, TaskPoll::Ready(Err(TaskClosed))),
+    )
+}
+
+/// Spawns a task that any kind of awaiter may await, which counts here. Its schedule value drops each Runnable. Stops where there is no memory.
+pub fn spawn_awaited<R: Wait + Abort + Drop + Copy, A: Wake>(
     rt: R,
     alloc: Global,
     behaviour: Behaviour,
     counters: &Arc<Counters>,
-) -> (WatchedRunnable<R>, WatchedTask<R>) {
-    let future = RowFuture::new(behaviour, granted(&rt, Arc::try_clone(counters)));
-    let scheduler = Scheduler::new(granted(&rt, Arc::try_clone(counters)));
+) -> (AwaitedRunnable<R, A>, AwaitedTask<R, A>) {
+    let (future, scheduler) = counted(&rt, behaviour, counters);
     granted(&rt, spawn(rt, alloc, future, scheduler, ()))
 }
