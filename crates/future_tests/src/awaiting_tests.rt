@@ -1,14 +1,16 @@
 //! Tasks of a pool that await tasks of the same pool: alone, in a long chain, cancelled, and after a shutdown.
 
 use crate::calls::{
-    collect_all, drop_both, drop_pool, drop_task, drop_turns, is_closed, knock, link_task,
-    new_counts, new_pool, pair_task, place_of_task, place_of_waker, places_taken, poll_at, polls,
-    shut_down, tick, turns_of, wake_number, wakes_posted, work,
+    block_on, collect_all, drop_both, drop_pool, drop_task, drop_turns, is_closed, knock,
+    link_task, new_counts, new_pool, pair_task, place_of_task, place_of_waker, places_taken,
+    poll_at, polls, shut_down, tick, turns_of, wake_number, wakes_posted, work,
 };
-use crate::link::{Errand, KNOCKS, LinkPool, LinkTurns, keep};
+use crate::link::{Counts, Errand, KNOCKS, LinkPool, LinkTask, LinkTurns, keep};
 use executor::BlockOnError;
+use std::alloc::Global;
+use std::process::Abort;
 use std::sync::{Arc, Wait};
-use std::thread;
+use std::thread::{self, Threads};
 
 /// How many tasks the chain has.
 const CHAIN: u64 = 1000;
@@ -16,20 +18,43 @@ const CHAIN: u64 = 1000;
 /// The most turns that anything takes.
 const TURNS: u64 = 1000;
 
+// What came of a Task that was awaited: its answer, how often the links that await were polled and how often the last one, how many places are taken for
+// wakers and for Tasks, and how many owners have what the links count.
+type Awaited = (Result<u64, BlockOnError>, (u64, u64), (usize, usize), usize);
+
+// Awaits a Task as the only worker of a pool, drops it, and frees the places of keys that were dropped.
+fn await_alone<'x, R: Wait + Abort + Drop + Copy + 'static>(
+    pool: &'x LinkPool<R>,
+    mut task: LinkTask<'x, R>,
+    counts: &Arc<Counts>,
+) -> Awaited {
+    let mut turns = turns_of(pool);
+    let answer = block_on(&mut turns, &mut task);
+    drop_task(task);
+    collect_all(pool);
+    let left = Arc::strong_count(counts);
+    (answer, polls(counts), places_taken(pool), left)
+}
+
+// What comes of a link with so many below it, on one worker.
+fn await_chain<R: Wait + Abort + Drop + Copy + 'static>(
+    rt: R,
+    alloc: Global,
+    below: u64,
+    errand: Errand,
+) -> Awaited {
+    let pool = new_pool(rt, alloc, 1);
+    let counts = new_counts(&pool);
+    let task = link_task(&pool, 1, below, errand, &counts);
+    let awaited = await_alone(&pool, task, &counts);
+    drop_pool(pool);
+    awaited
+}
+
 // The parent is polled as it is spawned, and once more for the output of its child, which gives way three times.
 #[test]
 fn a_task_awaits_a_task(rt: HostRuntime) {
-    let pool = new_pool(rt, rt.alloc(), 1);
-    let counts = new_counts(&pool);
-    let mut task = link_task(&pool, 1, 1, Errand::GiveWay(3), &counts);
-    let mut turns = turns_of(&pool);
-    let answer = turns.block_on(&mut task);
-    drop_task(task);
-    collect_all(&pool);
-    let (polls, places) = (polls(&counts), places_taken(&pool));
-    let left = Arc::strong_count(&counts);
-    drop_turns(turns);
-    drop_pool(pool);
+    let (answer, polls, places, left) = await_chain(rt, rt.alloc(), 1, Errand::GiveWay(3));
     assert!(rt; answer == Ok(2));
     assert!(rt; (polls, places, left) == ((2, 4), (0, 0), 1));
 }
@@ -39,11 +64,8 @@ fn a_task_awaits_a_task(rt: HostRuntime) {
 fn a_task_awaits_two_tasks(rt: HostRuntime) {
     let pool = new_pool(rt, rt.alloc(), 1);
     let counts = new_counts(&pool);
-    let mut task = pair_task(&pool, Errand::GiveWay(1), Errand::GiveWay(9), &counts);
-    let mut turns = turns_of(&pool);
-    let answer = turns.block_on(&mut task);
-    let polls = polls(&counts);
-    drop_both(turns, task);
+    let task = pair_task(&pool, Errand::GiveWay(1), Errand::GiveWay(9), &counts);
+    let (answer, polls, _, _) = await_alone(&pool, task, &counts);
     drop_pool(pool);
     assert!(rt; (answer, polls) == (Ok(3), (3, 12)));
 }
@@ -58,11 +80,11 @@ fn a_loop_of_ticks_wakes_what_was_posted(rt: HostRuntime) {
     let mut ran = [false; 5];
     let mut woke = [false; 5];
     for turn in 0..5 {
-        ran[turn] = turns.tick();
+        ran[turn] = tick(&mut turns);
         woke[turn] = wakes_posted(&pool);
     }
     let polls = polls(&counts);
-    let answer = turns.block_on(&mut task);
+    let answer = block_on(&mut turns, &mut task);
     drop_both(turns, task);
     drop_pool(pool);
     assert!(rt; ran == [true, true, true, true, false]);
@@ -93,18 +115,28 @@ fn a_kept_task_stays_until_it_is_ready(rt: HostRuntime) {
 // Each link is polled as it is spawned, and once more for the output of the next one.
 #[test]
 fn a_chain_of_tasks_on_one_worker(rt: HostRuntime) {
-    let pool = new_pool(rt, rt.alloc(), 1);
-    let counts = new_counts(&pool);
-    let mut task = link_task(&pool, 1, CHAIN - 1, Errand::GiveWay(1), &counts);
-    let mut turns = turns_of(&pool);
-    let answer = turns.block_on(&mut task);
-    drop_task(task);
-    collect_all(&pool);
-    let (polls, places) = (polls(&counts), places_taken(&pool));
-    drop_turns(turns);
-    drop_pool(pool);
+    let (answer, polls, places, _) = await_chain(rt, rt.alloc(), CHAIN - 1, Errand::GiveWay(1));
     assert!(rt; answer == Ok(1000));
     assert!(rt; (polls, places) == ((1998, 2), (0, 0)));
+}
+
+// Awaits a Task, and ends the pool.
+fn await_and_end<'x, R: Wait + Drop + Copy + 'static>(
+    turns: &mut LinkTurns<'x, R>,
+    task: &mut LinkTask<'x, R>,
+) -> Result<u64, BlockOnError> {
+    let answer = block_on(turns, task);
+    shut_down(turns.place().0);
+    answer
+}
+
+// Awaits a Task as one of two workers of a pool, and ends the pool: whether the other one began, and the answer.
+fn await_beside<'x, R: Wait + Threads + Drop + Copy + Send + Sync + 'static>(
+    pool: &'x LinkPool<R>,
+    turns: &mut LinkTurns<'x, R>,
+    task: &mut LinkTask<'x, R>,
+) -> (bool, Result<u64, BlockOnError>) {
+    thread::join(&pool.rt(), || work(pool, 1), || await_and_end(turns, task))
 }
 
 #[test]
@@ -113,15 +145,7 @@ fn a_chain_of_tasks_on_two_workers(rt: HostRuntime) {
     let counts = new_counts(&pool);
     let mut task = link_task(&pool, 2, CHAIN - 1, Errand::GiveWay(1), &counts);
     let mut turns = turns_of(&pool);
-    let (ran, answer) = thread::join(
-        &rt,
-        || pool.run(1).is_ok(),
-        || {
-            let answer = turns.block_on(&mut task);
-            shut_down(&pool);
-            answer
-        },
-    );
+    let (ran, answer) = await_beside(&pool, &mut turns, &mut task);
     drop_task(task);
     collect_all(&pool);
     let places = places_taken(&pool);
@@ -140,15 +164,7 @@ fn a_worker_takes_each_wake_of_another_thread(rt: HostRuntime) {
     let mut turns = turns_of(&pool);
     let ((ran, answer), knocked) = thread::join(
         &rt,
-        || thread::join(
-            &rt,
-            || work(&pool, 1),
-            || {
-                let answer = turns.block_on(&mut task);
-                shut_down(&pool);
-                answer
-            },
-        ),
+        || await_beside(&pool, &mut turns, &mut task),
         || knock(&pool, &counts),
     );
     let (_, last) = polls(&counts);
@@ -159,7 +175,7 @@ fn a_worker_takes_each_wake_of_another_thread(rt: HostRuntime) {
 }
 
 // Frees the places of keys that were dropped, wakes what was posted, and runs tasks, until there is neither a wake nor a task.
-fn run_all<R: Wait + Drop + Copy>(pool: &LinkPool<R>, turns: &mut LinkTurns<'_, R>) {
+fn run_all<R: Wait + Drop + Copy + 'static>(pool: &LinkPool<R>, turns: &mut LinkTurns<'_, R>) {
     for _ in 0..TURNS {
         collect_all(pool);
         let woke = wakes_posted(pool);
@@ -227,7 +243,7 @@ fn a_wake_of_an_empty_place_wakes_nothing(rt: HostRuntime) {
     let one = wakes_posted(&pool);
     let ran_again = tick(&mut turns);
     shut_down(&pool);
-    let answer = turns.block_on(&mut task);
+    let answer = block_on(&mut turns, &mut task);
     drop_both(turns, task);
     drop_pool(pool);
     assert!(rt; (ran, without_room, none) == (true, true, false));

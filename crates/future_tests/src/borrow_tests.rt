@@ -9,7 +9,7 @@ use std::alloc::Global;
 use std::process::Abort;
 use std::sync::Wait;
 use std::sync::atomic::{AtomicU64, Ordering};
-use std::thread;
+use std::thread::{self, Threads};
 
 /// A future that sums a slice of its caller's, a number a poll, and ends the pool as the last of those that count together.
 #[derive(Drop)]
@@ -89,10 +89,6 @@ fn output_of<'x, 'd, R: Wait + Drop + Copy>(mut task: SumTask<'x, 'd, R>) -> Opt
     }
 }
 
-fn drop_turns<R: Wait + Drop + Copy>(turns: SumTurns<'_, '_, R>) {
-    drop(turns);
-}
-
 fn drop_pool<R: Wait + Drop + Copy>(pool: SumPool<'_, R>) {
     drop(pool);
 }
@@ -106,9 +102,9 @@ fn numbers_up_to<R: Abort>(rt: &R, alloc: Global, last: u64) -> Vec<u64> {
     numbers
 }
 
-// Is a worker until the shutdown. `Turns::work` would do the same, but the prover takes no call of it for futures that borrow.
-fn work<'x, 'd, R: Wait + Drop + Copy>(turns: &mut SumTurns<'x, 'd, R>) {
-    let (pool, _) = turns.place();
+// Is the worker of a number until the shutdown. `Pool::run` would do the same, but the prover takes no call of it for futures that borrow.
+fn work<R: Wait + Abort + Drop + Copy>(pool: &SumPool<'_, R>, worker: usize) {
+    let mut turns = turns_of(pool, worker);
     for _ in pool.rt().forever() {
         let Some(runnable) = turns.await_next() else {
             return;
@@ -117,36 +113,41 @@ fn work<'x, 'd, R: Wait + Drop + Copy>(turns: &mut SumTurns<'x, 'd, R>) {
     }
 }
 
-#[test]
-fn one_worker_runs_futures_that_borrow(rt: HostRuntime) {
-    let low = numbers_up_to(&rt, rt.alloc(), 50);
-    let high = numbers_up_to(&rt, rt.alloc(), 100);
+// All workers of a pool of one or two, each on a thread, until the shutdown.
+fn work_all<R: Wait + Abort + Threads + Drop + Copy + Send + Sync>(pool: &SumPool<'_, R>) {
+    if pool.workers() == 1 {
+        work(pool, 0);
+    } else {
+        thread::join(&pool.rt(), || work(pool, 0), || work(pool, 1));
+    }
+}
+
+// The sums that two tasks answer, whose futures borrow from here, on one worker or two.
+fn sums_of<R: Wait + Abort + Threads + Drop + Copy + Send + Sync>(
+    rt: R,
+    alloc: Global,
+    workers: usize,
+) -> (Option<u64>, Option<u64>) {
+    let low = numbers_up_to(&rt, alloc, 50);
+    let high = numbers_up_to(&rt, alloc, 100);
     let unfinished = AtomicU64::new(2);
-    let pool = new_pool(rt, rt.alloc(), 1);
+    let pool = new_pool(rt, alloc, workers);
     let first = spawned(&pool, low.as_slice(), &unfinished);
     let second = spawned(&pool, high.as_slice(), &unfinished);
-    let mut turns = turns_of(&pool, 0);
-    work(&mut turns);
-    drop_turns(turns);
-    let (first, second) = (output_of(first), output_of(second));
+    work_all(&pool);
+    let sums = (output_of(first), output_of(second));
     drop_pool(pool);
-    assert!(rt; first == Some(1275) && second == Some(5050));
+    sums
+}
+
+#[test]
+fn one_worker_runs_futures_that_borrow(rt: HostRuntime) {
+    let sums = sums_of(rt, rt.alloc(), 1);
+    assert!(rt; sums == (Some(1275), Some(5050)));
 }
 
 #[test]
 fn two_workers_run_futures_that_borrow(rt: HostRuntime) {
-    let low = numbers_up_to(&rt, rt.alloc(), 50);
-    let high = numbers_up_to(&rt, rt.alloc(), 100);
-    let unfinished = AtomicU64::new(2);
-    let pool = new_pool(rt, rt.alloc(), 2);
-    let first = spawned(&pool, low.as_slice(), &unfinished);
-    let second = spawned(&pool, high.as_slice(), &unfinished);
-    let mut one = turns_of(&pool, 0);
-    let mut other = turns_of(&pool, 1);
-    thread::join(&rt, || work(&mut one), || work(&mut other));
-    drop_turns(one);
-    drop_turns(other);
-    let (first, second) = (output_of(first), output_of(second));
-    drop_pool(pool);
-    assert!(rt; first == Some(1275) && second == Some(5050));
+    let sums = sums_of(rt, rt.alloc(), 2);
+    assert!(rt; sums == (Some(1275), Some(5050)));
 }

@@ -198,10 +198,6 @@ fn turns_of<R: Wait + Abort + Drop + Copy, T: Step>(
     granted(&pool.rt(), pool.turns(worker))
 }
 
-fn drop_turns<R: Wait + Drop + Copy, T: Step>(turns: StepTurns<'_, R, T>) {
-    drop(turns);
-}
-
 fn drop_pool<R: Wait + Drop + Copy, T: Step>(pool: StepPool<R, T>) {
     drop(pool);
 }
@@ -214,14 +210,25 @@ fn output_of<R: Wait + Drop + Copy, T: Step>(mut task: StepTask<'_, R, T>) -> Op
     }
 }
 
-// Is a worker until the last task has ended.
-fn work<'x, R: Wait + Drop + Copy, T: Step>(turns: &mut StepTurns<'x, R, T>) {
-    let (pool, _) = turns.place();
+// Is the worker of a number until the last task has ended.
+fn work<R: Wait + Abort + Drop + Copy, T: Step>(pool: &StepPool<R, T>, worker: usize) {
+    let mut turns = turns_of(pool, worker);
     for _ in pool.rt().forever() {
         let Some(runnable) = turns.await_next() else {
             return;
         };
         runnable.run();
+    }
+}
+
+// All workers of a pool of one or two, each on a thread, until the last task has ended.
+fn work_all<R: Wait + Abort + Threads + Drop + Copy + Send + Sync, T: Step + Send>(
+    pool: &StepPool<R, T>,
+) {
+    if pool.workers() == 1 {
+        work(pool, 0);
+    } else {
+        thread::join(&pool.rt(), || work(pool, 0), || work(pool, 1));
     }
 }
 
@@ -233,50 +240,19 @@ fn new_shared(alloc: Global) -> Result<Arc<Shared>, AllocError> {
     Ok(Arc::new(alloc, shared)?)
 }
 
-// What two tasks of these steps answer, on one worker.
-fn answers_of_one<R: Wait + Abort + Drop + Copy, T: Step>(
+// What two tasks of these steps answer, on one worker or two.
+fn answers_of<R: Wait + Abort + Threads + Drop + Copy + Send + Sync, T: Step + Send>(
     rt: R,
     alloc: Global,
+    workers: usize,
     steps: [T; 2],
 ) -> (Option<u64>, Option<u64>) {
-    let pool = new_pool(rt, alloc, 1);
+    let pool = new_pool(rt, alloc, workers);
     let shared = granted(&rt, new_shared(alloc));
     let [first, second] = steps;
     let first = spawned(&pool, first, &shared);
     let second = spawned(&pool, second, &shared);
-    let mut turns = turns_of(&pool, 0);
-    work(&mut turns);
-    drop_turns(turns);
-    let answers = (output_of(first), output_of(second));
-    drop_pool(pool);
-    answers
-}
-
-// Two workers, each on a thread, until the last task has ended.
-fn work_both<'x, R: Wait + Threads + Drop + Copy + Send + Sync, T: Step + Send>(
-    rt: &R,
-    one: &mut StepTurns<'x, R, T>,
-    other: &mut StepTurns<'x, R, T>,
-) {
-    thread::join(rt, || work(one), || work(other));
-}
-
-// What two tasks of these steps answer, on two workers.
-fn answers_of_two<R: Wait + Abort + Threads + Drop + Copy + Send + Sync, T: Step + Send>(
-    rt: R,
-    alloc: Global,
-    steps: [T; 2],
-) -> (Option<u64>, Option<u64>) {
-    let pool = new_pool(rt, alloc, 2);
-    let shared = granted(&rt, new_shared(alloc));
-    let [first, second] = steps;
-    let first = spawned(&pool, first, &shared);
-    let second = spawned(&pool, second, &shared);
-    let mut one = turns_of(&pool, 0);
-    let mut other = turns_of(&pool, 1);
-    work_both(&rt, &mut one, &mut other);
-    drop_turns(one);
-    drop_turns(other);
+    work_all(&pool);
     let answers = (output_of(first), output_of(second));
     drop_pool(pool);
     answers
@@ -311,20 +287,26 @@ fn boxed<R: Abort + Drop + Copy, T: Drop>(
     granted(&rt, Box::new(alloc, granted(&rt, step)))
 }
 
+// The answers of a step that doubles and of one that brings 21, in boxes, on one worker or two.
+fn boxed_answers<R: Wait + Abort + Threads + Drop + Copy + Send + Sync>(
+    rt: R,
+    alloc: Global,
+    workers: usize,
+) -> (Option<u64>, Option<u64>) {
+    let meeting = granted(&rt, new_meeting(alloc));
+    let doubles: Box<dyn Step + Send> = boxed(rt, alloc, new_doubles(&meeting));
+    let brings: Box<dyn Step + Send> = boxed(rt, alloc, new_brings(21, &meeting));
+    answers_of(rt, alloc, workers, [doubles, brings])
+}
+
 #[test]
 fn one_worker_runs_boxed_futures(rt: HostRuntime) {
-    let meeting = granted(&rt, new_meeting(rt.alloc()));
-    let doubles: Box<dyn Step + Send> = boxed(rt, rt.alloc(), new_doubles(&meeting));
-    let brings: Box<dyn Step + Send> = boxed(rt, rt.alloc(), new_brings(21, &meeting));
-    let answers = answers_of_one(rt, rt.alloc(), [doubles, brings]);
+    let answers = boxed_answers(rt, rt.alloc(), 1);
     assert!(rt; answers == (Some(42), Some(21)));
 }
 
 #[test]
 fn two_workers_run_boxed_futures(rt: HostRuntime) {
-    let meeting = granted(&rt, new_meeting(rt.alloc()));
-    let doubles: Box<dyn Step + Send> = boxed(rt, rt.alloc(), new_doubles(&meeting));
-    let brings: Box<dyn Step + Send> = boxed(rt, rt.alloc(), new_brings(21, &meeting));
-    let answers = answers_of_two(rt, rt.alloc(), [doubles, brings]);
+    let answers = boxed_answers(rt, rt.alloc(), 2);
     assert!(rt; answers == (Some(42), Some(21)));
 }

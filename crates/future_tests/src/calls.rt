@@ -1,11 +1,13 @@
 //! Calls of a pool of links and of its handles, each in a function of its own, generic in the runtime alone: what such a call asks of its types is shown
-//! there once, and not in each test. Calls that run tasks stand in the tests, where the runtime is known: the prover must see that it outlives the pool.
+//! there once, and not in each test. Where the runtime is a parameter, the prover takes a call that runs tasks only if it is told that the runtime lives
+//! for ever: so `'static` stands at such a function, and its proof is in `proofs/calls`.
 
 use crate::granted::granted;
 use crate::link::{Counts, Errand, KNOCKS, LinkPool, LinkTask, LinkTurns, spawn_link, spawn_pair};
 use async_task::{TaskPoll, Wake};
 use executor::{
-    BellAwaiter, Key, collect, place_for_task, place_for_waker, poll_kept, wake_posted,
+    BellAwaiter, BlockOnError, Key, collect, place_for_task, place_for_waker, poll_kept,
+    wake_posted,
 };
 use std::alloc::{AllocError, Global};
 use std::process::Abort;
@@ -63,32 +65,22 @@ pub fn place_of_waker<R: Wait + Abort + Drop + Copy>(pool: &LinkPool<R>) -> Key<
     granted(&pool.rt(), place_for_waker((pool, 0)).ok_or(AllocError))
 }
 
-/// Runs the next task, as `Turns::tick` does: whether there was one. The prover takes no call of that where the runtime is a parameter.
-pub fn tick<R: Wait + Drop + Copy>(turns: &mut LinkTurns<'_, R>) -> bool {
-    match turns.next() {
-        Some(runnable) => {
-            runnable.run();
-            true
-        }
-        None => false,
-    }
+/// Runs the next task, as `Turns::tick` does: whether there was one.
+pub fn tick<R: Wait + Drop + Copy + 'static>(turns: &mut LinkTurns<'_, R>) -> bool {
+    turns.tick()
 }
 
-/// Is the worker of a number until the pool is shut down, as by `Pool::run`: whether there was such a worker. The prover takes no call of that where the
-/// runtime is a parameter.
-pub fn work<R: Wait + Drop + Copy>(pool: &LinkPool<R>, worker: usize) -> bool {
-    let Ok(mut turns) = pool.turns(worker) else {
-        return false;
-    };
-    for _ in pool.rt().forever() {
-        match turns.await_next() {
-            Some(runnable) => {
-                runnable.run();
-            }
-            None => return true,
-        }
-    }
-    unreachable!()
+/// Is the worker of a number until the pool is shut down, as by `Pool::run`: whether there was such a worker.
+pub fn work<R: Wait + Drop + Copy + 'static>(pool: &LinkPool<R>, worker: usize) -> bool {
+    pool.run(worker).is_ok()
+}
+
+/// Is the worker until the task of a Task is over, as `Turns::block_on` is.
+pub fn block_on<'x, R: Wait + Drop + Copy + 'static>(
+    turns: &mut LinkTurns<'x, R>,
+    task: &mut LinkTask<'x, R>,
+) -> Result<u64, BlockOnError> {
+    turns.block_on(task)
 }
 
 /// Wakes for one number that was posted: whether there was one.

@@ -89,17 +89,31 @@ fn kept_waker<'x, R: Wait + Drop + Copy>(
     keep_waker(waker, &key).then_some(key)
 }
 
+// Spawns a child, and keeps its Task at the place of a key: whether it was kept.
+fn keep_child<'x, R: Wait + Drop + Copy>(
+    waker: &PoolWaker<'x, R, Member<R>, Nobody>,
+    key: &Key<R>,
+    alloc: Global,
+    dropped: &Arc<AtomicU64>,
+) -> bool {
+    let Ok(child) = member_of(alloc, 0, 1, dropped) else {
+        return false;
+    };
+    let (pool, worker) = waker.around();
+    match pool.spawn_on(worker, child) {
+        Ok(task) => keep_task(task, key).is_ok(),
+        Err(_) => false,
+    }
+}
+
 // The key of a place with the Task of a child.
 fn kept_child<'x, R: Wait + Drop + Copy>(
     waker: &PoolWaker<'x, R, Member<R>, Nobody>,
     alloc: Global,
     dropped: &Arc<AtomicU64>,
 ) -> Option<Key<R>> {
-    let (pool, worker) = waker.around();
     let key = place_for_task(waker.around())?;
-    let child = member_of(alloc, 0, 1, dropped).ok()?;
-    keep_task(pool.spawn_on(worker, child).ok()?, &key).ok()?;
-    Some(key)
+    keep_child(waker, &key, alloc, dropped).then_some(key)
 }
 
 type MemberPool<R> = Pool<R, Member<R>, Nobody>;

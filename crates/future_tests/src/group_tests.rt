@@ -1,16 +1,16 @@
 //! Groups of tasks of a pool, some of which await a task of their own: one type of awaiter serves these, the group, and `block_on`.
 use crate::calls::{
-    drop_both, drop_pool, drop_turns, link_task, new_counts, new_pool, shut_down, tick, turns_of,
-    wakes_posted, work,
+    block_on, drop_both, drop_pool, drop_turns, link_task, new_counts, new_pool, shut_down, tick,
+    turns_of, wakes_posted, work,
 };
 use crate::granted::granted;
-use crate::link::{Counts, Errand, Link, LinkPool};
-use executor::{NextMemberError, PoolGroup};
+use crate::link::{Counts, Errand, Link, LinkPool, LinkTask, LinkTurns};
+use executor::{BlockOnError, NextMemberError, PoolGroup};
 use std::process::Abort;
 use std::sync::{Arc, Wait};
-use std::thread;
+use std::thread::{self, Threads};
 use std::time::Duration;
-use task_group::{Ended, TaskGroup};
+use task_group::TaskGroup;
 
 // The most turns that anything takes.
 const TURNS: usize = 1000;
@@ -19,8 +19,6 @@ const TURNS: usize = 1000;
 const GROUPS: u64 = 200;
 
 type LinkGroup<'x, R> = PoolGroup<'x, R, Link<R>>;
-
-type NextMember<R> = Result<Option<Ended<Link<R>>>, NextMemberError>;
 
 // What came out of a group: how many members, and the sum of their outputs.
 type CameOut = (u64, u64);
@@ -100,11 +98,23 @@ fn a_worker_looks_at_a_group_between_its_turns(rt: HostRuntime) {
         wakes_posted(&pool);
         tick(&mut turns);
     }
-    let answer = turns.block_on(&mut last);
+    let answer = block_on(&mut turns, &mut last);
     drop_group(group);
     drop_both(turns, last);
     drop_pool(pool);
     assert!(rt; came_out == (3, 6) && answer == Ok(2));
+}
+
+// Takes all out of a group, awaits a Task, and ends the pool.
+fn wait_for_both<'x, R: Wait + Drop + Copy + 'static>(
+    turns: &mut LinkTurns<'x, R>,
+    group: &mut LinkGroup<'x, R>,
+    task: &mut LinkTask<'x, R>,
+) -> (CameOut, Result<u64, BlockOnError>) {
+    let came_out = all_of(group);
+    let answer = block_on(turns, task);
+    shut_down(turns.place().0);
+    (came_out, answer)
 }
 
 // One thread waits for a group while another one is a worker, and then is a worker, too, until one more task ends.
@@ -118,12 +128,7 @@ fn a_thread_waits_for_a_group_and_then_for_a_task(rt: HostRuntime) {
     let (ran, (came_out, answer)) = thread::join(
         &rt,
         || work(&pool, 1),
-        || {
-            let came_out = all_of(&mut group);
-            let answer = turns.block_on(&mut last);
-            shut_down(&pool);
-            (came_out, answer)
-        },
+        || wait_for_both(&mut turns, &mut group, &mut last),
     );
     drop_group(group);
     drop_both(turns, last);
@@ -143,17 +148,32 @@ fn new_lone<'x, R: Wait + Abort + Drop + Copy>(
     group
 }
 
-// The output of a member, 0 where none came out.
-fn output_of<R: Wait + Drop + Copy>(next: NextMember<R>) -> u64 {
-    match next {
-        Ok(Some(ended)) => ended.answer.unwrap_or(0),
-        _ => 0,
+// Waits for the next member of a group, as `Turns::next_member` does: its output, 0 where its task is closed.
+fn next_output<'x, R: Wait + Drop + Copy + 'static>(
+    turns: &mut LinkTurns<'x, R>,
+    group: &mut LinkGroup<'x, R>,
+) -> Result<Option<u64>, NextMemberError> {
+    match turns.next_member(group) {
+        Ok(Some(ended)) => Ok(Some(ended.answer.unwrap_or(0))),
+        Ok(None) => Ok(None),
+        Err(error) => Err(error),
     }
 }
 
-// Whether a group was empty that was asked for its next member.
-fn is_empty<R: Wait + Drop + Copy>(next: &NextMember<R>) -> bool {
-    matches!(next, Ok(None))
+// Adds the output of the next member of a group to a sum: whether the group was empty.
+fn add_output<'x, R: Wait + Drop + Copy + 'static>(
+    turns: &mut LinkTurns<'x, R>,
+    group: &mut LinkGroup<'x, R>,
+    sum: &mut u64,
+) -> bool {
+    match next_output(turns, group) {
+        Ok(Some(output)) => {
+            *sum = sum.wrapping_add(output);
+            false
+        }
+        Ok(None) => true,
+        Err(_) => false,
+    }
 }
 
 // Drops a group: how many members it had.
@@ -171,9 +191,7 @@ fn a_worker_waits_for_members_that_it_runs(rt: HostRuntime) {
     let mut sum = 0u64;
     let mut is_over = false;
     for _ in 0..4 {
-        let next = turns.next_member(&mut group);
-        is_over = is_empty(&next);
-        sum = sum.wrapping_add(output_of(next));
+        is_over = add_output(&mut turns, &mut group, &mut sum);
     }
     drop_turns(turns);
     drop_group(group);
@@ -181,27 +199,43 @@ fn a_worker_waits_for_members_that_it_runs(rt: HostRuntime) {
     assert!(rt; sum == 6 && is_over);
 }
 
+// Waits for the one member of each of many groups, whose tasks are of a pool, and ends that pool: the sum of what came out.
+fn wait_for_groups<'x, R: Wait + Abort + Drop + Copy + 'static>(
+    turns: &mut LinkTurns<'x, R>,
+    pool: &'x LinkPool<R>,
+    counts: &Arc<Counts>,
+) -> u64 {
+    let mut sum = 0u64;
+    for _ in 0..GROUPS {
+        let mut group = new_lone(pool, 1, Errand::GiveWay(2), counts);
+        add_output(turns, &mut group, &mut sum);
+        drop_group(group);
+    }
+    shut_down(pool);
+    sum
+}
+
+// Waits as worker 0 of a pool for groups of tasks of another one, or of the same, while another thread is a worker of that: whether this began, and the
+// sum of what came out.
+fn wait_beside<'x, R: Wait + Abort + Threads + Drop + Copy + Send + Sync + 'static>(
+    pool: &'x LinkPool<R>,
+    other: &'x LinkPool<R>,
+    worker: usize,
+) -> (bool, u64) {
+    let counts = new_counts(pool);
+    let mut turns = turns_of(pool);
+    thread::join(
+        &pool.rt(),
+        || work(other, worker),
+        || wait_for_groups(&mut turns, other, &counts),
+    )
+}
+
 // A worker that waits sleeps while another one runs the member, and is woken by its end.
 #[test]
 fn a_member_that_ends_elsewhere_wakes_the_worker_that_waits(rt: HostRuntime) {
     let pool = new_pool(rt, rt.alloc(), 2);
-    let counts = new_counts(&pool);
-    let mut turns = turns_of(&pool);
-    let (ran, sum) = thread::join(
-        &rt,
-        || work(&pool, 1),
-        || {
-            let mut sum = 0u64;
-            for _ in 0..GROUPS {
-                let mut group = new_lone(&pool, 1, Errand::GiveWay(2), &counts);
-                sum = sum.wrapping_add(output_of(turns.next_member(&mut group)));
-                drop_group(group);
-            }
-            shut_down(&pool);
-            sum
-        },
-    );
-    drop_turns(turns);
+    let (ran, sum) = wait_beside(&pool, &pool, 1);
     drop_pool(pool);
     assert!(rt; ran && sum == GROUPS);
 }
@@ -210,24 +244,8 @@ fn a_member_that_ends_elsewhere_wakes_the_worker_that_waits(rt: HostRuntime) {
 #[test]
 fn a_member_of_another_pool_wakes_the_worker_that_waits(rt: HostRuntime) {
     let pool = new_pool(rt, rt.alloc(), 1);
-    let counts = new_counts(&pool);
     let other = new_pool(rt, rt.alloc(), 1);
-    let mut turns = turns_of(&pool);
-    let (ran, sum) = thread::join(
-        &rt,
-        || work(&other, 0),
-        || {
-            let mut sum = 0u64;
-            for _ in 0..GROUPS {
-                let mut group = new_lone(&other, 1, Errand::GiveWay(2), &counts);
-                sum = sum.wrapping_add(output_of(turns.next_member(&mut group)));
-                drop_group(group);
-            }
-            shut_down(&other);
-            sum
-        },
-    );
-    drop_turns(turns);
+    let (ran, sum) = wait_beside(&pool, &other, 0);
     drop_pool(pool);
     drop_pool(other);
     assert!(rt; ran && sum == GROUPS);
@@ -248,13 +266,10 @@ fn a_wait_for_a_member_ends_with_the_pool(rt: HostRuntime) {
             thread::sleep(&rt, Duration::from_millis(20));
             shut_down(&pool);
         },
-        || matches!(
-            turns.next_member(&mut group),
-            Err(NextMemberError::ShutDown)
-        ),
+        || next_output(&mut turns, &mut group),
     );
     drop_turns(turns);
     let left = drop_group(group);
     drop_pool(pool);
-    assert!(rt; ran && ended && left == 1);
+    assert!(rt; ran && matches!(ended, Err(NextMemberError::ShutDown)) && left == 1);
 }
