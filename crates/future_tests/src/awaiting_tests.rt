@@ -2,10 +2,11 @@
 
 use crate::calls::{
     block_on, collect_all, drop_both, drop_pool, drop_task, drop_turns, is_closed, knock,
-    link_task, new_counts, new_pool, pair_task, place_of_task, place_of_waker, places_taken,
-    poll_at, polls, shut_down, tick, turns_of, wake_number, wakes_posted, work,
+    link_task, new_counts, new_pool, place_of_task, place_of_waker, places_taken, poll_at, polls,
+    shut_down, tick, turns_of, wake_number, wakes_posted, work,
 };
-use crate::link::{Counts, Errand, KNOCKS, LinkPool, LinkTask, LinkTurns, keep};
+use crate::granted::granted;
+use crate::link::{Counts, Errand, KNOCKS, LinkPool, LinkTask, LinkTurns, keep, spawn_link};
 use executor::BlockOnError;
 use std::alloc::Global;
 use std::process::Abort;
@@ -64,7 +65,11 @@ fn a_task_awaits_a_task(rt: HostRuntime) {
 fn a_task_awaits_two_tasks(rt: HostRuntime) {
     let pool = new_pool(rt, rt.alloc(), 1);
     let counts = new_counts(&pool);
-    let task = pair_task(&pool, Errand::GiveWay(1), Errand::GiveWay(9), &counts);
+    let second = Some(Errand::GiveWay(9));
+    let task = granted(
+        &rt,
+        spawn_link(&pool, 1, 1, Errand::GiveWay(1), second, &counts),
+    );
     let (answer, polls, _, _) = await_alone(&pool, task, &counts);
     drop_pool(pool);
     assert!(rt; (answer, polls) == (Ok(3), (3, 12)));
@@ -120,23 +125,21 @@ fn a_chain_of_tasks_on_one_worker(rt: HostRuntime) {
     assert!(rt; (polls, places) == ((1998, 2), (0, 0)));
 }
 
-// Awaits a Task, and ends the pool.
-fn await_and_end<'x, R: Wait + Drop + Copy + 'static>(
-    turns: &mut LinkTurns<'x, R>,
-    task: &mut LinkTask<'x, R>,
-) -> Result<u64, BlockOnError> {
-    let answer = block_on(turns, task);
-    shut_down(turns.place().0);
-    answer
-}
-
 // Awaits a Task as one of two workers of a pool, and ends the pool: whether the other one began, and the answer.
 fn await_beside<'x, R: Wait + Threads + Drop + Copy + Send + Sync + 'static>(
     pool: &'x LinkPool<R>,
     turns: &mut LinkTurns<'x, R>,
     task: &mut LinkTask<'x, R>,
 ) -> (bool, Result<u64, BlockOnError>) {
-    thread::join(&pool.rt(), || work(pool, 1), || await_and_end(turns, task))
+    thread::join(
+        &pool.rt(),
+        || work(pool, 1),
+        || {
+            let answer = block_on(turns, task);
+            shut_down(pool);
+            answer
+        },
+    )
 }
 
 #[test]

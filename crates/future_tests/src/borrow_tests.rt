@@ -4,7 +4,7 @@ ghost use Rattle.std.specs.Prelude.{⊤};
 use crate::granted::granted;
 use async_task::{Future, Poll, TaskPoll, Wake, Yields};
 use awaiters::Nobody;
-use executor::{Pool, PoolTask, PoolWaker, Turns};
+use executor::{Pool, PoolTask, PoolWaker};
 use std::alloc::Global;
 use std::process::Abort;
 use std::sync::Wait;
@@ -39,32 +39,26 @@ impl<'d, 'x, R: Wait + Drop + Copy, A: Wake> Future<PoolWaker<'x, R, SumOf<'d>, 
     ghost polled = { λ _ _ _ _. ⊤ };
 
     fn poll(&mut self, waker: &PoolWaker<'x, R, SumOf<'d>, A>) -> Poll<u64> {
-        let Some(number) = self.numbers.get(self.next) else {
-            if self.unfinished.fetch_sub(1, Ordering::SeqCst) == 1 {
-                waker.around().0.shutdown();
+        match self.numbers.get(self.next) {
+            Some(number) => {
+                self.sum = self.sum.wrapping_add(*number);
+                self.next = self.next.saturating_add(1);
+                waker.wake_by_ref();
+                Poll::Pending
             }
-            return Poll::Ready(self.sum);
-        };
-        self.sum = self.sum.wrapping_add(*number);
-        self.next = self.next.saturating_add(1);
-        waker.wake_by_ref();
-        Poll::Pending
+            None => {
+                if self.unfinished.fetch_sub(1, Ordering::SeqCst) == 1 {
+                    waker.around().0.shutdown();
+                }
+                Poll::Ready(self.sum)
+            }
+        }
     }
 }
 
 type SumPool<'d, R> = Pool<R, SumOf<'d>, Nobody>;
 
-type SumTurns<'x, 'd, R> = Turns<'x, R, SumOf<'d>, Nobody>;
-
 type SumTask<'x, 'd, R> = PoolTask<'x, R, SumOf<'d>, Nobody>;
-
-fn new_pool<'d, R: Wait + Abort + Drop + Copy>(
-    rt: R,
-    alloc: Global,
-    workers: usize,
-) -> SumPool<'d, R> {
-    granted(&rt, SumPool::new(rt, alloc, workers))
-}
 
 fn spawned<'x, 'd, R: Wait + Abort + Drop + Copy>(
     pool: &'x SumPool<'d, R>,
@@ -74,23 +68,12 @@ fn spawned<'x, 'd, R: Wait + Abort + Drop + Copy>(
     granted(&pool.rt(), pool.spawn(SumOf::new(numbers, unfinished)))
 }
 
-fn turns_of<'x, 'd, R: Wait + Abort + Drop + Copy>(
-    pool: &'x SumPool<'d, R>,
-    worker: usize,
-) -> SumTurns<'x, 'd, R> {
-    granted(&pool.rt(), pool.turns(worker))
-}
-
 // The output of a Task, which is dropped.
 fn output_of<'x, 'd, R: Wait + Drop + Copy>(mut task: SumTask<'x, 'd, R>) -> Option<u64> {
     match task.poll(&Nobody) {
         TaskPoll::Ready(Ok(output)) => Some(output),
         _ => None,
     }
-}
-
-fn drop_pool<R: Wait + Drop + Copy>(pool: SumPool<'_, R>) {
-    drop(pool);
 }
 
 // The sums of these are 1275 up to 50, and 5050 up to 100.
@@ -104,10 +87,10 @@ fn numbers_up_to<R: Abort>(rt: &R, alloc: Global, last: u64) -> Vec<u64> {
 
 // Is the worker of a number until the shutdown. `Pool::run` would do the same, but the prover takes no call of it for futures that borrow.
 fn work<R: Wait + Abort + Drop + Copy>(pool: &SumPool<'_, R>, worker: usize) {
-    let mut turns = turns_of(pool, worker);
+    let mut turns = granted(&pool.rt(), pool.turns(worker));
     for _ in pool.rt().forever() {
         let Some(runnable) = turns.await_next() else {
-            return;
+            break;
         };
         runnable.run();
     }
@@ -131,13 +114,11 @@ fn sums_of<R: Wait + Abort + Threads + Drop + Copy + Send + Sync>(
     let low = numbers_up_to(&rt, alloc, 50);
     let high = numbers_up_to(&rt, alloc, 100);
     let unfinished = AtomicU64::new(2);
-    let pool = new_pool(rt, alloc, workers);
+    let pool = granted(&rt, SumPool::new(rt, alloc, workers));
     let first = spawned(&pool, low.as_slice(), &unfinished);
     let second = spawned(&pool, high.as_slice(), &unfinished);
     work_all(&pool);
-    let sums = (output_of(first), output_of(second));
-    drop_pool(pool);
-    sums
+    (output_of(first), output_of(second))
 }
 
 #[test]

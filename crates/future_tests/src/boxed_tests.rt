@@ -1,12 +1,12 @@
 //! Futures of two types in one pool, in boxes. The trait of the boxes names no waker and no runtime: a step is lent a ticket, which is plain data, and
-//! what rings wakes by number. The prover takes no pool that is written out with a box, so all here but the tests is generic in what takes the steps.
+//! what rings wakes by number. The prover takes no pool that is written out with a box, so all that has one here is generic in what takes the steps.
 ghost use Rattle.std.specs.Prelude.{⊤};
 
 use crate::granted::granted;
 use async_task::{Future, Poll, TaskPoll, Yields};
 use awaiters::Nobody;
-use executor::{Key, Pool, PoolTask, PoolWaker, Turns, keep_waker, place_for_waker, wake_kept};
-use std::alloc::{AllocError, Global};
+use executor::{Key, Pool, PoolTask, PoolWaker, keep_waker, place_for_waker, wake_kept};
+use std::alloc::Global;
 use std::process::Abort;
 use std::sync::atomic::{AtomicU32, AtomicU64, Ordering};
 use std::sync::{Arc, Wait};
@@ -115,8 +115,6 @@ type StepPool<R, T> = Pool<R, Ticketed<R, T>, Nobody>;
 
 type StepTask<'x, R, T> = PoolTask<'x, R, Ticketed<R, T>, Nobody>;
 
-type StepTurns<'x, R, T> = Turns<'x, R, Ticketed<R, T>, Nobody>;
-
 type StepWaker<'x, R, T> = PoolWaker<'x, R, Ticketed<R, T>, Nobody>;
 
 // Wakes the tasks that were rung for.
@@ -170,14 +168,6 @@ impl<'x, R: Wait + Drop + Copy, T: Step> Future<StepWaker<'x, R, T>> for Tickete
     }
 }
 
-fn new_pool<R: Wait + Abort + Drop + Copy, T: Step>(
-    rt: R,
-    alloc: Global,
-    workers: usize,
-) -> StepPool<R, T> {
-    granted(&rt, StepPool::new(rt, alloc, workers))
-}
-
 fn spawned<'x, R: Wait + Abort + Drop + Copy, T: Step>(
     pool: &'x StepPool<R, T>,
     inner: T,
@@ -191,17 +181,6 @@ fn spawned<'x, R: Wait + Abort + Drop + Copy, T: Step>(
     granted(&pool.rt(), pool.spawn(future))
 }
 
-fn turns_of<R: Wait + Abort + Drop + Copy, T: Step>(
-    pool: &StepPool<R, T>,
-    worker: usize,
-) -> StepTurns<'_, R, T> {
-    granted(&pool.rt(), pool.turns(worker))
-}
-
-fn drop_pool<R: Wait + Drop + Copy, T: Step>(pool: StepPool<R, T>) {
-    drop(pool);
-}
-
 // The output of a Task, which is dropped.
 fn output_of<R: Wait + Drop + Copy, T: Step>(mut task: StepTask<'_, R, T>) -> Option<u64> {
     match task.poll(&Nobody) {
@@ -212,10 +191,10 @@ fn output_of<R: Wait + Drop + Copy, T: Step>(mut task: StepTask<'_, R, T>) -> Op
 
 // Is the worker of a number until the last task has ended.
 fn work<R: Wait + Abort + Drop + Copy, T: Step>(pool: &StepPool<R, T>, worker: usize) {
-    let mut turns = turns_of(pool, worker);
+    let mut turns = granted(&pool.rt(), pool.turns(worker));
     for _ in pool.rt().forever() {
         let Some(runnable) = turns.await_next() else {
-            return;
+            break;
         };
         runnable.run();
     }
@@ -232,14 +211,6 @@ fn work_all<R: Wait + Abort + Threads + Drop + Copy + Send + Sync, T: Step + Sen
     }
 }
 
-fn new_shared(alloc: Global) -> Result<Arc<Shared>, AllocError> {
-    let shared = Shared {
-        rung: AtomicU64::new(0),
-        unfinished: AtomicU64::new(2),
-    };
-    Ok(Arc::new(alloc, shared)?)
-}
-
 // What two tasks of these steps answer, on one worker or two.
 fn answers_of<R: Wait + Abort + Threads + Drop + Copy + Send + Sync, T: Step + Send>(
     rt: R,
@@ -247,44 +218,27 @@ fn answers_of<R: Wait + Abort + Threads + Drop + Copy + Send + Sync, T: Step + S
     workers: usize,
     steps: [T; 2],
 ) -> (Option<u64>, Option<u64>) {
-    let pool = new_pool(rt, alloc, workers);
-    let shared = granted(&rt, new_shared(alloc));
+    let pool = granted(&rt, StepPool::new(rt, alloc, workers));
+    let shared = Shared {
+        rung: AtomicU64::new(0),
+        unfinished: AtomicU64::new(2),
+    };
+    let shared = granted(&rt, Arc::new(alloc, shared));
     let [first, second] = steps;
     let first = spawned(&pool, first, &shared);
     let second = spawned(&pool, second, &shared);
     work_all(&pool);
-    let answers = (output_of(first), output_of(second));
-    drop_pool(pool);
-    answers
-}
-
-fn new_doubles(meeting: &Arc<Meeting>) -> Result<Doubles, AllocError> {
-    Ok(Doubles(Arc::try_clone(meeting)?))
-}
-
-fn new_brings(number: u64, meeting: &Arc<Meeting>) -> Result<Brings, AllocError> {
-    Ok(Brings {
-        number,
-        gave_way: false,
-        meeting: Arc::try_clone(meeting)?,
-    })
-}
-
-fn new_meeting(alloc: Global) -> Result<Arc<Meeting>, AllocError> {
-    let meeting = Meeting {
-        brought: AtomicU64::new(0),
-        waits: AtomicU32::new(0),
-    };
-    Ok(Arc::new(alloc, meeting)?)
+    (output_of(first), output_of(second))
 }
 
 // A step in a box of its own. Stops where there is no memory.
-fn boxed<R: Abort + Drop + Copy, T: Drop>(
-    rt: R,
-    alloc: Global,
-    step: Result<T, AllocError>,
-) -> Box<T> {
-    granted(&rt, Box::new(alloc, granted(&rt, step)))
+fn boxed<R: Abort, T: Drop>(rt: &R, alloc: Global, step: T) -> Box<T> {
+    granted(rt, Box::new(alloc, step))
+}
+
+// A share of a meeting. Stops where it has as many owners as can be counted.
+fn share_of<R: Abort>(rt: &R, meeting: &Arc<Meeting>) -> Arc<Meeting> {
+    granted(rt, Arc::try_clone(meeting))
 }
 
 // The answers of a step that doubles and of one that brings 21, in boxes, on one worker or two.
@@ -293,9 +247,19 @@ fn boxed_answers<R: Wait + Abort + Threads + Drop + Copy + Send + Sync>(
     alloc: Global,
     workers: usize,
 ) -> (Option<u64>, Option<u64>) {
-    let meeting = granted(&rt, new_meeting(alloc));
-    let doubles: Box<dyn Step + Send> = boxed(rt, alloc, new_doubles(&meeting));
-    let brings: Box<dyn Step + Send> = boxed(rt, alloc, new_brings(21, &meeting));
+    let meeting = Meeting {
+        brought: AtomicU64::new(0),
+        waits: AtomicU32::new(0),
+    };
+    let meeting = granted(&rt, Arc::new(alloc, meeting));
+    let doubles = Doubles(share_of(&rt, &meeting));
+    let brings = Brings {
+        number: 21,
+        gave_way: false,
+        meeting: share_of(&rt, &meeting),
+    };
+    let doubles: Box<dyn Step + Send> = boxed(&rt, alloc, doubles);
+    let brings: Box<dyn Step + Send> = boxed(&rt, alloc, brings);
     answers_of(rt, alloc, workers, [doubles, brings])
 }
 

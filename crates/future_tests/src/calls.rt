@@ -3,7 +3,7 @@
 //! for ever: so `'static` stands at such a function, and its proof is in `proofs/calls`.
 
 use crate::granted::granted;
-use crate::link::{Counts, Errand, KNOCKS, LinkPool, LinkTask, LinkTurns, spawn_link, spawn_pair};
+use crate::link::{Counts, Errand, KNOCKS, LinkPool, LinkTask, LinkTurns, spawn_link};
 use async_task::{TaskPoll, Wake};
 use executor::{
     BellAwaiter, BlockOnError, Key, collect, place_for_task, place_for_waker, poll_kept,
@@ -34,7 +34,7 @@ pub fn turns_of<R: Wait + Abort + Drop + Copy>(pool: &LinkPool<R>) -> LinkTurns<
     granted(&pool.rt(), pool.turns(0))
 }
 
-/// The Task of a link, as `spawn_link` spawns it. Stops where there is no memory.
+/// The Task of a link that awaits at most one, as `spawn_link` spawns it. Stops where there is no memory.
 pub fn link_task<'x, R: Wait + Abort + Drop + Copy>(
     pool: &'x LinkPool<R>,
     worker: usize,
@@ -42,17 +42,10 @@ pub fn link_task<'x, R: Wait + Abort + Drop + Copy>(
     errand: Errand,
     counts: &Arc<Counts>,
 ) -> LinkTask<'x, R> {
-    granted(&pool.rt(), spawn_link(pool, worker, below, errand, counts))
-}
-
-/// The Task of a link that awaits two, as `spawn_pair` spawns it. Stops where there is no memory.
-pub fn pair_task<'x, R: Wait + Abort + Drop + Copy>(
-    pool: &'x LinkPool<R>,
-    first: Errand,
-    second: Errand,
-    counts: &Arc<Counts>,
-) -> LinkTask<'x, R> {
-    granted(&pool.rt(), spawn_pair(pool, first, second, counts))
+    granted(
+        &pool.rt(),
+        spawn_link(pool, worker, below, errand, None, counts),
+    )
 }
 
 /// An empty place for a Task. Stops where there is none.

@@ -8,6 +8,7 @@ use executor::{
     Key, Pool, PoolWaker, Turns, collect, keep_task, keep_waker, place_for_task, place_for_waker,
 };
 use std::alloc::{AllocError, Global};
+use std::process::Abort;
 use std::sync::atomic::{AtomicU64, Ordering};
 use std::sync::{Arc, Wait};
 
@@ -133,7 +134,9 @@ fn run_all<R: Wait + Drop + Copy>(
 }
 
 // How many places for wakers and for Tasks are taken, and how many futures were dropped.
-fn seen<R: Wait + Drop + Copy>(pool: &MemberPool<R>, dropped: &AtomicU64) -> (u64, u64, u64) {
+type Seen = (u64, u64, u64);
+
+fn seen<R: Wait + Drop + Copy>(pool: &MemberPool<R>, dropped: &AtomicU64) -> Seen {
     (
         pool.kept_wakers() as u64,
         pool.kept_tasks() as u64,
@@ -141,11 +144,11 @@ fn seen<R: Wait + Drop + Copy>(pool: &MemberPool<R>, dropped: &AtomicU64) -> (u6
     )
 }
 
-#[test]
-fn the_cancel_of_a_parent_leaves_nothing(rt: HostRuntime) {
-    let dropped = granted(&rt, Arc::new(rt.alloc(), AtomicU64::new(0)));
-    let pool = granted(&rt, MemberPool::new(rt, rt.alloc(), 1));
-    let parent = granted(&rt, member_of(rt.alloc(), CHILDREN, WAKERS, &dropped));
+// What is seen before and after the Task of a parent is dropped, and how many owners the count of dropped futures has in the end.
+fn cancel_parent<R: Wait + Abort + Drop + Copy>(rt: R, alloc: Global) -> (Seen, Seen, usize) {
+    let dropped = granted(&rt, Arc::new(alloc, AtomicU64::new(0)));
+    let pool = granted(&rt, MemberPool::new(rt, alloc, 1));
+    let parent = granted(&rt, member_of(alloc, CHILDREN, WAKERS, &dropped));
     let task = granted(&rt, pool.spawn(parent));
     let mut turns = granted(&rt, pool.turns(0));
     run_all(&pool, &mut turns);
@@ -153,7 +156,13 @@ fn the_cancel_of_a_parent_leaves_nothing(rt: HostRuntime) {
     drop(task);
     run_all(&pool, &mut turns);
     let after = seen(&pool, &dropped);
+    (before, after, Arc::strong_count(&dropped))
+}
+
+#[test]
+fn the_cancel_of_a_parent_leaves_nothing(rt: HostRuntime) {
+    let (before, after, owners) = cancel_parent(rt, rt.alloc());
     assert!(rt; before == (WAKERS + CHILDREN, CHILDREN, 0));
     assert!(rt; after == (0, 0, CHILDREN + 1));
-    assert!(rt; Arc::strong_count(&dropped) == 1);
+    assert!(rt; owners == 1);
 }

@@ -4,8 +4,8 @@ use crate::calls::{
     turns_of, wakes_posted, work,
 };
 use crate::granted::granted;
-use crate::link::{Counts, Errand, Link, LinkPool, LinkTask, LinkTurns};
-use executor::{BlockOnError, NextMemberError, PoolGroup};
+use crate::link::{Counts, Errand, Link, LinkPool, LinkTurns};
+use executor::{NextMemberError, PoolGroup};
 use std::process::Abort;
 use std::sync::{Arc, Wait};
 use std::thread::{self, Threads};
@@ -105,18 +105,6 @@ fn a_worker_looks_at_a_group_between_its_turns(rt: HostRuntime) {
     assert!(rt; came_out == (3, 6) && answer == Ok(2));
 }
 
-// Takes all out of a group, awaits a Task, and ends the pool.
-fn wait_for_both<'x, R: Wait + Drop + Copy + 'static>(
-    turns: &mut LinkTurns<'x, R>,
-    group: &mut LinkGroup<'x, R>,
-    task: &mut LinkTask<'x, R>,
-) -> (CameOut, Result<u64, BlockOnError>) {
-    let came_out = all_of(group);
-    let answer = block_on(turns, task);
-    shut_down(turns.place().0);
-    (came_out, answer)
-}
-
 // One thread waits for a group while another one is a worker, and then is a worker, too, until one more task ends.
 #[test]
 fn a_thread_waits_for_a_group_and_then_for_a_task(rt: HostRuntime) {
@@ -128,7 +116,12 @@ fn a_thread_waits_for_a_group_and_then_for_a_task(rt: HostRuntime) {
     let (ran, (came_out, answer)) = thread::join(
         &rt,
         || work(&pool, 1),
-        || wait_for_both(&mut turns, &mut group, &mut last),
+        || {
+            let came_out = all_of(&mut group);
+            let answer = block_on(&mut turns, &mut last);
+            shut_down(&pool);
+            (came_out, answer)
+        },
     );
     drop_group(group);
     drop_both(turns, last);

@@ -3,7 +3,7 @@ ghost use Rattle.std.specs.Prelude.{⊤};
 
 use crate::granted::granted;
 use async_task::{Future, Poll, Wake, Yields};
-use executor::{BellAwaiter, Pool, PoolTask, PoolWaker, Turns};
+use executor::{BellAwaiter, BlockOnError, Pool, PoolTask, PoolWaker, Turns};
 use std::alloc::Global;
 use std::process::Abort;
 use std::sync::Wait;
@@ -143,6 +143,19 @@ fn drop_pool<R: Wait + Drop + Copy>(pool: KindPool<R>) {
     drop(pool);
 }
 
+// Where the runtime is a parameter, the prover takes a call that runs tasks only if it is told that the runtime lives for ever.
+
+fn answer_of<'x, R: Wait + Drop + Copy + 'static>(
+    turns: &mut KindTurns<'x, R>,
+    task: &mut KindTask<'x, R>,
+) -> Result<Answer, BlockOnError> {
+    turns.block_on(task)
+}
+
+fn work<R: Wait + Drop + Copy + 'static>(pool: &KindPool<R>, worker: usize) -> bool {
+    pool.run(worker).is_ok()
+}
+
 #[test]
 fn one_worker_runs_futures_of_two_types(rt: HostRuntime) {
     let pool = new_pool(rt, rt.alloc(), 1);
@@ -150,11 +163,11 @@ fn one_worker_runs_futures_of_two_types(rt: HostRuntime) {
     let mut second = spawned(&pool, finding_future("async-task", b'-'));
     let mut third = spawned(&pool, finding_future("async-task", b'_'));
     let mut turns = turns_of(&pool);
-    let polled = turns.block_on(&mut first);
+    let polled = answer_of(&mut turns, &mut first);
     drop_task(first);
-    let found = turns.block_on(&mut second);
+    let found = answer_of(&mut turns, &mut second);
     drop_task(second);
-    let missed = turns.block_on(&mut third);
+    let missed = answer_of(&mut turns, &mut third);
     drop_task(third);
     drop_turns(turns);
     drop_pool(pool);
@@ -170,10 +183,10 @@ fn two_workers_run_futures_of_two_types(rt: HostRuntime) {
     let mut turns = turns_of(&pool);
     let (ran, (polled, found)) = thread::join(
         &rt,
-        || pool.run(1).is_ok(),
+        || work(&pool, 1),
         || {
-            let polled = turns.block_on(&mut first);
-            let found = turns.block_on(&mut second);
+            let polled = answer_of(&mut turns, &mut first);
+            let found = answer_of(&mut turns, &mut second);
             pool.shutdown();
             (polled, found)
         },

@@ -85,58 +85,32 @@ pub type LinkTurns<'x, R> = Turns<'x, R, Link<R>, BellAwaiter<R>>;
 
 type LinkWaker<'x, R> = PoolWaker<'x, R, Link<R>, BellAwaiter<R>>;
 
-fn new_link<R: Wait + Drop + Copy>(
+/// Spawns a link with so many below it, of which the last one does this errand. Where there is a second errand it awaits one more, which does that.
+pub fn spawn_link<'x, R: Wait + Drop + Copy>(
+    pool: &'x LinkPool<R>,
+    worker: usize,
     below: u64,
     errand: Errand,
+    second: Option<Errand>,
     counts: &Arc<Counts>,
-) -> Result<Link<R>, AllocError> {
-    Ok(Link {
+) -> Result<LinkTask<'x, R>, AllocError> {
+    let counts = Arc::try_clone(counts)?;
+    let link = Link {
         below,
         errand,
-        second: None,
+        second,
         places: None,
         sum: 0,
         own: None,
-        counts: Arc::try_clone(counts)?,
-    })
-}
-
-// Spawns the task of a link.
-fn spawn_future<'x, R: Wait + Drop + Copy>(
-    pool: &'x LinkPool<R>,
-    worker: usize,
-    future: Link<R>,
-) -> Result<LinkTask<'x, R>, AllocError> {
-    match pool.spawn_on(worker, future) {
+        counts,
+    };
+    match pool.spawn_on(worker, link) {
         Ok(task) => Ok(task),
         Err(refused) => {
             drop(refused);
             Err(AllocError)
         }
     }
-}
-
-/// Spawns a link with so many below it, of which the last one does this errand.
-pub fn spawn_link<'x, R: Wait + Drop + Copy>(
-    pool: &'x LinkPool<R>,
-    worker: usize,
-    below: u64,
-    errand: Errand,
-    counts: &Arc<Counts>,
-) -> Result<LinkTask<'x, R>, AllocError> {
-    spawn_future(pool, worker, new_link(below, errand, counts)?)
-}
-
-/// Spawns a link that awaits two, which do these errands.
-pub fn spawn_pair<'x, R: Wait + Drop + Copy>(
-    pool: &'x LinkPool<R>,
-    first: Errand,
-    second: Errand,
-    counts: &Arc<Counts>,
-) -> Result<LinkTask<'x, R>, AllocError> {
-    let mut future = new_link(1, first, counts)?;
-    future.second = Some(second);
-    spawn_future(pool, pool.workers(), future)
 }
 
 /// Keeps a Task at a place: whether it was kept.
@@ -158,7 +132,7 @@ fn spawn_kept<'x, R: Wait + Drop + Copy>(
 ) -> Option<Key<R>> {
     let place = waker.around();
     let key = place_for_task(place)?;
-    match spawn_link(place.0, place.1, below, errand, counts) {
+    match spawn_link(place.0, place.1, below, errand, None, counts) {
         Ok(task) => keep(task, &key).then_some(key),
         Err(_) => None,
     }
@@ -170,10 +144,11 @@ fn poll_link<'x, R: Wait + Drop + Copy>(
     own: &Key<R>,
     place: &mut Option<Key<R>>,
 ) -> Poll<u64> {
-    let Some(awaited) = &*place else {
-        return Poll::Ready(0);
+    let awaited = match &*place {
+        Some(awaited) => await_kept(waker, own, awaited),
+        None => None,
     };
-    let answer = match await_kept(waker, own, awaited) {
+    let answer = match awaited {
         Some(TaskPoll::Pending) => return Poll::Pending,
         Some(TaskPoll::Ready(Ok(answer))) => answer,
         _ => 0,
@@ -254,9 +229,10 @@ impl<R: Wait + Drop + Copy> Link<R> {
             Errand::Knocks(left) => {
                 self.errand = Errand::Knocks(left.saturating_sub(1));
                 if self.waits_for_knock(waker) {
-                    return Poll::Pending;
+                    Poll::Pending
+                } else {
+                    Poll::Ready(0)
                 }
-                Poll::Ready(0)
             }
             Errand::Stay => Poll::Pending,
         }
