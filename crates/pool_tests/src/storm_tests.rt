@@ -167,21 +167,9 @@ fn spawn_at<'x, R: Wait + Abort + Drop + Copy>(
     (granted(&pool.rt(), pool.spawn(takes)), number)
 }
 
-// Is the worker of a number until the pool is shut down, as by `Pool::run`, of which the prover takes no call where the runtime is a parameter: whether
-// there was such a worker.
-fn work<R: Wait + Drop + Copy>(pool: &StormPool<R>, worker: usize) -> bool {
-    let Ok(mut turns) = pool.turns(worker) else {
-        return false;
-    };
-    for _ in pool.rt().forever() {
-        match turns.await_next() {
-            Some(runnable) => {
-                runnable.run();
-            }
-            None => return true,
-        }
-    }
-    unreachable!()
+// Is the worker of a number until the pool is shut down, as by `Pool::run`: whether there was such a worker.
+fn work<R: Wait + Drop + Copy + 'static>(pool: &StormPool<R>, worker: usize) -> bool {
+    pool.run(worker).is_ok()
 }
 
 // Wakes each task once, with a ticket for it.
@@ -241,7 +229,9 @@ fn wake_by_two<R: Wait + Threads + Drop + Copy + Send + Sync>(
 }
 
 // All workers of a pool, each on a thread: whether all began.
-fn work_all<R: Wait + Abort + Threads + Drop + Copy + Send + Sync>(pool: &StormPool<R>) -> bool {
+fn work_all<R: Wait + Abort + Threads + Drop + Copy + Send + Sync + 'static>(
+    pool: &StormPool<R>,
+) -> bool {
     let rt = pool.rt();
     let began = thread::map_indices(&rt, pool.alloc(), WORKERS, &|worker| work(pool, worker));
     granted(&rt, began).iter().all(|began| *began)

@@ -163,21 +163,9 @@ fn spawn_all<R: Wait + Abort + Drop + Copy>(pool: &JobPool<R>, program: Program)
     counts
 }
 
-// Is the worker of a number until the pool is shut down, as by `Pool::run`, of which the prover takes no call where the runtime is a parameter: whether
-// there was such a worker.
-fn work<R: Wait + Drop + Copy>(pool: &JobPool<R>, worker: usize) -> bool {
-    let Ok(mut turns) = pool.turns(worker) else {
-        return false;
-    };
-    for _ in pool.rt().forever() {
-        match turns.await_next() {
-            Some(runnable) => {
-                runnable.run();
-            }
-            None => return true,
-        }
-    }
-    unreachable!()
+// Is the worker of a number until the pool is shut down, as by `Pool::run`: whether there was such a worker.
+fn work<R: Wait + Drop + Copy + 'static>(pool: &JobPool<R>, worker: usize) -> bool {
+    pool.run(worker).is_ok()
 }
 
 // Whether all threads of a pool began.
@@ -186,7 +174,7 @@ fn all_began<R: Abort>(rt: &R, began: Result<Vec<bool>, AllocError>) -> bool {
 }
 
 // Runs a program on so many threads: whether all began, and how many tasks have ended.
-fn run_on<R: Wait + Abort + Threads + Drop + Copy + Send + Sync>(
+fn run_on<R: Wait + Abort + Threads + Drop + Copy + Send + Sync + 'static>(
     rt: R,
     alloc: Global,
     workers: usize,
