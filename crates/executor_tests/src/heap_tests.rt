@@ -10,31 +10,30 @@ use std::alloc::Global;
 use std::process::Abort;
 use std::sync::{Arc, Wait};
 
-// What was seen of a task whose Runnable was discarded, and then its Task detached: the metadata of the Runnable, whether the
-// Task was finished with its metadata, what was counted and used before the detach, and what was counted after it.
-type Discarded = (u64, (bool, u64), (Counts, usize), Counts);
-
 // Spawns two tasks and fills the heap. Discards the Runnable of the first and detaches its Task; detaches the Task of the
-// second and drops its Runnable: what was used before, what was seen of the first, and what was counted after the second detach.
+// second and drops its Runnable: whether the first showed its metadata, by both handles, and was finished once it was discarded,
+// with nothing more used or less; and what was counted then, and after each detach.
 fn leave_two<R: Wait + Abort + Drop + Copy>(
     rt: R,
     alloc: Global,
     heap: &LocalHeap,
     counters: &Arc<Counters>,
-) -> (usize, Discarded, Counts) {
+) -> (bool, [Counts; 3]) {
     let tray = Tray::new(rt);
     let (runnable, mut task) = tray::spawn_in(heap, &tray, counters, Behaviour::Ready(1));
     let (other, other_task) = tray::spawn_in(heap, &tray, counters, Behaviour::Ready(1));
     let filling = tray::fill(rt, alloc, heap);
     let used = heap.used();
-    let metadata = tray::discard_runnable(runnable);
-    let closed = tray::finished(&mut task);
-    let left = (counters.counts(), heap.used());
+    let metadata = *runnable.metadata();
+    runnable.discard();
+    let is_shown = metadata == 7 && task.is_finished() && *task.metadata() == 7;
+    let closed = counters.counts();
+    let is_same = heap.used() == used;
     let detached = tray::detach(task, counters);
     let other_detached = tray::detach(other_task, counters);
-    tray::drop_runnable(other);
+    drop(other);
     drop(filling);
-    (used, (metadata, closed, left, detached), other_detached)
+    (is_shown && is_same, [closed, detached, other_detached])
 }
 
 // A drop of the Runnable and a detach, then the other way round, each time in a heap that is full after the spawn.
@@ -42,11 +41,10 @@ fn leave_two<R: Wait + Abort + Drop + Copy>(
 fn drops_and_detaches_ask_for_no_memory(rt: HostRuntime) {
     let counters = calls::counters(rt, rt.alloc());
     let heap = calls::heap(rt, rt.alloc(), tray::HEAP);
-    let (used, discarded, other_detached) = leave_two(rt, rt.alloc(), &heap, &counters);
-    let closing = (Counts::new(0, 0, 1, 0), used);
+    let (right, seen) = leave_two(rt, rt.alloc(), &heap, &counters);
     let detached = Counts::new(0, 0, 1, 1);
-    assert!(rt; (discarded, other_detached) == ((7, (true, 7), closing, detached), detached));
-    assert!(rt; (counters.counts(), heap.used()) == (Counts::new(0, 0, 2, 2), 0));
+    let ended = counters.counts() == Counts::new(0, 0, 2, 2) && heap.used() == 0;
+    assert!(rt; right && ended && seen == [Counts::new(0, 0, 1, 0), detached, detached]);
 }
 
 // Spawns two tasks and fills the heap. Drops the Task of the first and runs it; schedules the Runnable of the second three
@@ -61,7 +59,7 @@ fn cancel_and_schedule<R: Wait + Abort + Drop + Copy>(
     let (runnable, task) = tray::spawn_in(heap, &tray, counters, Behaviour::Ready(1));
     let (first, scheduled_task) = tray::spawn_in(heap, &tray, counters, Behaviour::Pending);
     let filling = tray::fill(rt, alloc, heap);
-    tray::drop_task(task);
+    drop(task);
     let cancelled = counters.counts();
     let rescheduled = tray::run(runnable);
     let ended = counters.counts();
@@ -69,8 +67,8 @@ fn cancel_and_schedule<R: Wait + Abort + Drop + Copy>(
     let third = tray::reschedule(&tray, second);
     let last = tray::reschedule(&tray, third);
     let queued = counters.counts();
-    tray::drop_task(scheduled_task);
-    tray::drop_runnable(last);
+    drop(scheduled_task);
+    drop(last);
     drop(filling);
     ([cancelled, ended, queued], rescheduled)
 }
@@ -80,44 +78,46 @@ fn cancel_and_schedule<R: Wait + Abort + Drop + Copy>(
 fn cancels_and_schedules_ask_for_no_memory(rt: HostRuntime) {
     let counters = calls::counters(rt, rt.alloc());
     let heap = calls::heap(rt, rt.alloc(), tray::HEAP);
-    let seen = cancel_and_schedule(rt, rt.alloc(), &heap, &counters);
+    let (seen, rescheduled) = cancel_and_schedule(rt, rt.alloc(), &heap, &counters);
     let cancelled = Counts::new(0, 0, 0, 0);
     let ended = Counts::new(0, 0, 1, 1);
     let queued = Counts::new(0, 3, 1, 1);
-    assert!(rt; seen == ([cancelled, ended, queued], false));
+    assert!(rt; !rescheduled && seen == [cancelled, ended, queued]);
 }
 
-// What was seen of a task that was woken in a full heap: what its runs answered, what was counted after the second wake, and
-// what was used before the wakers, with what was counted and used after them.
-type Woken = ((bool, [Option<bool>; 2]), Counts, usize, (Counts, usize));
-
-// Spawns a task, takes a waker and fills the heap. Takes another waker and its clone, and wakes by each after a run.
+// Spawns a task, takes a waker and fills the heap. Takes another waker and its clone, and wakes by each after a run: whether all
+// runs answered that the task was not woken meanwhile, with nothing more used or less at the end of the wakers; and what was
+// counted after the second wake and then.
 fn wake_in_full_heap<R: Wait + Abort + Drop + Copy>(
     rt: R,
     alloc: Global,
     heap: &LocalHeap,
     counters: &Arc<Counters>,
-) -> Woken {
+) -> (bool, [Counts; 2]) {
     let tray = Tray::new(rt);
     let (runnable, task) = tray::spawn_in(heap, &tray, counters, Behaviour::Pending);
     let before = tray::waker_of(rt, &runnable);
     let filling = tray::fill(rt, alloc, heap);
     let used = heap.used();
     let waker = tray::waker_of(rt, &runnable);
-    let clone = tray::clone_of(rt, &waker);
+    let Some(clone) = waker.try_clone() else {
+        panic!(rt; "a clone of a waker was refused");
+    };
     let first = tray::run(runnable);
-    tray::wake_by_ref(&waker);
+    waker.wake_by_ref();
     let second = tray.run_next();
     tray::wake(clone);
     let woken = counters.counts();
     let third = tray.run_next();
     tray::wake(before);
-    tray::discard_waker(waker);
-    let left = (counters.counts(), heap.used());
-    tray::drop_task(task);
+    waker.discard();
+    let left = counters.counts();
+    let is_same = heap.used() == used;
+    drop(task);
     tray.clear();
     drop(filling);
-    ((first, [second, third]), woken, used, left)
+    let right = !first && second == Some(false) && third == Some(false) && is_same;
+    (right, [woken, left])
 }
 
 // A waker and its clone are had in a full heap: nothing is allocated for them. They wake the task, as one that was taken before does.
@@ -125,25 +125,21 @@ fn wake_in_full_heap<R: Wait + Abort + Drop + Copy>(
 fn wakers_ask_for_no_memory(rt: HostRuntime) {
     let counters = calls::counters(rt, rt.alloc());
     let heap = calls::heap(rt, rt.alloc(), tray::HEAP);
-    let (ran, woken, used, left) = wake_in_full_heap(rt, rt.alloc(), &heap, &counters);
-    assert!(rt; ran == (false, [Some(false), Some(false)]));
-    assert!(rt; (woken, left) == (Counts::new(2, 2, 0, 0), (Counts::new(3, 3, 0, 0), used)));
-    assert!(rt; (counters.counts(), heap.used()) == (Counts::new(3, 3, 1, 1), 0));
+    let (right, seen) = wake_in_full_heap(rt, rt.alloc(), &heap, &counters);
+    let ended = counters.counts() == Counts::new(3, 3, 1, 1) && heap.used() == 0;
+    assert!(rt; right && ended && seen == [Counts::new(2, 2, 0, 0), Counts::new(3, 3, 0, 0)]);
 }
 
-// What was seen of three tasks that were polled in a full heap, before and after each ended: whether the Task was pending and then
-// ready, the FallibleTask and the Cancel pending and then without an output; and whether nothing more was used.
-type Polled = ([(bool, bool); 3], bool);
-
 // Spawns three tasks and fills the heap. Polls the Task of the first, a FallibleTask of the second and a Cancel of the third, each
-// before and after the task ends: the first and the third are run, the Runnable of the second is dropped.
+// before and after the task ends: the first and the third are run, the Runnable of the second is dropped. Whether all were pending,
+// then the Task was ready and the other two without an output, and nothing more was used or less by the first polls.
 fn poll_in_full_heap<R: Wait + Abort + Drop + Copy>(
     rt: R,
     alloc: Global,
     heap: &LocalHeap,
     counters: &Arc<Counters>,
     flag: &Flag,
-) -> Polled {
+) -> bool {
     let tray = Tray::new(rt);
     let (first, mut task) = tray::spawn_in(heap, &tray, counters, Behaviour::Ready(1));
     let (second, other) = tray::spawn_in(heap, &tray, counters, Behaviour::Ready(1));
@@ -152,24 +148,14 @@ fn poll_in_full_heap<R: Wait + Abort + Drop + Copy>(
     let mut cancel = last.cancel();
     let filling = tray::fill(rt, alloc, heap);
     let used = heap.used();
-    let [task_waits, fallible_waits, cancel_waits] = tray::are_pending(
-        &mut task,
-        &mut fallible,
-        &mut cancel,
-        flag,
-    );
+    let wait = tray::are_pending(&mut task, &mut fallible, &mut cancel, flag);
     let is_same = heap.used() == used;
     tray::run(first);
-    tray::drop_runnable(second);
+    drop(second);
     tray::run(third);
-    let [task_ends, fallible_ends, cancel_ends] = tray::are_ready(task, fallible, cancel, flag, 1);
+    let end = tray::are_ready(task, fallible, cancel, flag, 1);
     drop(filling);
-    let seen = [
-        (task_waits, task_ends),
-        (fallible_waits, fallible_ends),
-        (cancel_waits, cancel_ends),
-    ];
-    (seen, is_same)
+    wait && end && is_same
 }
 
 // Polls that register an awaiter, and those that find the task ended, in a full heap: each awaiter is cloned once, and woken once.
@@ -178,8 +164,8 @@ fn polls_ask_for_no_memory(rt: HostRuntime) {
     let counters = calls::counters(rt, rt.alloc());
     let heap = calls::heap(rt, rt.alloc(), tray::HEAP);
     let flag = calls::flag(rt, rt.alloc(), 1);
-    let seen = poll_in_full_heap(rt, rt.alloc(), &heap, &counters, &flag);
-    assert!(rt; seen == ([(true, true); 3], true));
-    assert!(rt; (flag.clones(), flag.wakes(), flag.drops()) == (3, 3, 0));
-    assert!(rt; (counters.counts(), heap.used()) == (Counts::new(1, 0, 3, 3), 0));
+    let right = poll_in_full_heap(rt, rt.alloc(), &heap, &counters, &flag);
+    let woken = flag.clones() == 3 && flag.wakes() == 3 && flag.drops() == 0;
+    let ended = counters.counts() == Counts::new(1, 0, 3, 3) && heap.used() == 0;
+    assert!(rt; right && woken && ended);
 }

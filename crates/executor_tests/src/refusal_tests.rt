@@ -4,8 +4,8 @@ ghost use Rattle.std.specs.Prelude.{⊤};
 use crate::calls;
 use crate::granted::granted;
 use async_task::{
-    Builder, Future, Poll, Runnable, Schedule, ScheduleInfo, SpawnError, Task, TaskPoll, TaskWaker,
-    Yields, spawn,
+    Builder, Future, Poll, Runnable, Schedule, ScheduleInfo, SpawnError, Task, TaskWaker, Yields,
+    spawn,
 };
 use bench_report::counting::Counting;
 use counted_values::behaviour::Behaviour;
@@ -116,18 +116,6 @@ fn discard_both<R: Wait + Drop, M: Drop>(
     task.discard();
 }
 
-// Runs a task and drops its Task: whether that was ready with the number 4.
-fn is_four<R: Wait + Drop>(
-    runnable: HeapRunnable<'_, '_, R>,
-    mut task: HeapTask<'_, '_, R>,
-    flag: &Flag,
-) -> bool {
-    runnable.run();
-    let is_ready = is_ready_with(&task.poll(flag), 4);
-    drop(task);
-    is_ready
-}
-
 // Whether a task of that future and schedule value, over a heap with room, comes to its output 4. Stops where it is refused.
 fn succeeds<R: Wait + Abort + Drop + Copy>(
     rt: R,
@@ -139,35 +127,35 @@ fn succeeds<R: Wait + Abort + Drop + Copy>(
     let heap = calls::heap(rt, alloc, HEAP);
     let refused_clones = Counter::new();
     let spawned = spawn(rt, &heap, future, schedule, &refused_clones);
-    let (runnable, task) = granted(&rt, spawned);
-    let is_ready = is_four(runnable, task, &flag);
+    let (runnable, mut task) = granted(&rt, spawned);
+    runnable.run();
+    let is_ready = is_ready_with(&task.poll(&flag), 4);
+    drop(task);
     is_ready && heap.used() == 0 && refused_clones.get() == 0
 }
 
-// What was seen of a refused spawn: how many requests there were, the last of which was refused; what was used and counted
-// then; whether the schedule value was whole and a task of what was handed back succeeded; and what was counted at last, with
-// the outputs that were dropped.
-type Refused = (u64, (usize, Counts), (bool, bool), (Counts, u64));
+// What a spawn over a small heap came to. Granted: whether it made four requests, and nothing was used at last. Refused: how many
+// requests there were, the last of which was refused, and whether all was as it has to be.
+type Spawned = Result<bool, (u64, bool)>;
 
-// What a spawn over a small heap came to: a refusal, or how many requests were granted and what was used at last.
-type Spawned = Result<(u64, usize), Refused>;
-
-// Uses what a refused spawn handed back, with a heap that has room: whether the schedule value was whole, and the spawn succeeded.
+// Uses what a refused spawn handed back, with a heap that has room: whether the schedule value was whole and the spawn succeeded.
 fn use_refused<R: Wait + Abort + Drop + Copy>(
     rt: R,
     alloc: Global,
     refused: SpawnError<(), WideFuture, WideScheduler>,
-) -> (bool, bool) {
+) -> bool {
     let SpawnError {
         builder: _,
         maker,
         schedule,
     } = refused;
     let is_whole = schedule.numbers == [3; WIDTH];
-    (is_whole, succeeds(rt, alloc, maker, schedule))
+    let has_succeeded = succeeds(rt, alloc, maker, schedule);
+    is_whole && has_succeeded
 }
 
-// A spawn over a heap of that many blocks of 16 bytes.
+// A spawn over a heap of that many blocks of 16 bytes. A refused spawn must have handed back the future and the schedule value,
+// neither of them dropped, must have freed what it took, and must succeed with them where there is room.
 fn spawn_in<R: Wait + Abort + Drop + Copy>(rt: R, alloc: Global, blocks: u16) -> Spawned {
     let counters = calls::counters(rt, alloc);
     let heap = calls::heap(rt, alloc, 16 * usize::from(blocks));
@@ -179,68 +167,21 @@ fn spawn_in<R: Wait + Abort + Drop + Copy>(rt: R, alloc: Global, blocks: u16) ->
         Ok((runnable, task)) => {
             let requests = counting.allocations();
             discard_both(runnable, task);
-            Ok((requests, heap.used()))
+            Ok(requests == 4 && heap.used() == 0)
         }
         Err(refused) => {
             let requests = counting.allocations();
-            let left = (heap.used(), counters.counts());
-            let again = use_refused(rt, alloc, refused);
-            let last = (counters.counts(), counters.output_drops.get());
-            Err((requests, left, again, last))
+            let is_freed = heap.used() == 0 && counters.counts() == Counts::new(0, 0, 0, 0);
+            let is_used = use_refused(rt, alloc, refused);
+            let is_over = counters.counts() == Counts::new(1, 0, 1, 1);
+            let right = is_freed && is_used && is_over && counters.output_drops.get() == 1;
+            Err((requests, right))
         }
     }
 }
-
-// A spawn over a heap of that many blocks of 16 bytes: which of its requests was refused, or `None` where all were
-// granted, by its fourth. A refused spawn must have handed back the future and the schedule value, neither of them
-// dropped, must have freed what it took, and must succeed with them where there is room.
-fn refused_spawn<R: Wait + Abort + Drop + Copy>(rt: R, alloc: Global, blocks: u16) -> Option<u64> {
-    match spawn_in(rt, alloc, blocks) {
-        Ok(all_granted) => {
-            assert!(rt; all_granted == (4, 0));
-            None
-        }
-        Err((requests, left, again, last)) => {
-            assert!(rt; left == (0, Counts::new(0, 0, 0, 0)));
-            assert!(rt; again == (true, true));
-            assert!(rt; last == (Counts::new(1, 0, 1, 1), 1));
-            Some(requests)
-        }
-    }
-}
-
-// Each heap has one block more than the one before, and in turn each of the four requests is refused.
-#[test]
-fn a_refused_spawn_hands_everything_back(rt: HostRuntime) {
-    let mut refused = [false; 5];
-    for blocks in 1..1000u16 {
-        let Some(request) = refused_spawn(rt, rt.alloc(), blocks) else {
-            assert!(rt; refused == [false, true, true, true, true]);
-            return;
-        };
-        note(rt, &mut refused, request);
-    }
-    panic!(rt; "no heap has room")
-}
-
-// Notes that the request of that number was refused.
-fn note<R: Abort + Drop + Copy>(rt: R, refused: &mut [bool; 5], request: u64) {
-    match usize::try_from(request) {
-        Ok(request) if request < 5 => refused[request] = true,
-        _ => panic!(rt; "a spawn asked {request} times"),
-    }
-}
-
-// What was seen of a refused builder: how many requests there were; what was used then, with the calls of the maker, and what
-// was counted; what was handed back, as `use_builder` tells; and the calls of the maker and what was counted at last.
-type RefusedBuild = (u64, (usize, u64, Counts), (bool, bool, bool), (u64, Counts));
-
-// What a builder's spawn over a small heap came to: a refusal, or how many requests were granted, the calls of the maker, and
-// what was used at last.
-type Built = Result<(u64, u64, usize), RefusedBuild>;
 
 // The same of a spawn by a builder with metadata and a limit, which must hand the builder back too, with the maker uncalled.
-fn build_in<R: Wait + Abort + Drop + Copy>(rt: R, alloc: Global, blocks: u16) -> Built {
+fn build_in<R: Wait + Abort + Drop + Copy>(rt: R, alloc: Global, blocks: u16) -> Spawned {
     let counters = calls::counters(rt, alloc);
     let heap = calls::heap(rt, alloc, 16 * usize::from(blocks));
     let counting = Counting::new(&heap);
@@ -256,14 +197,15 @@ fn build_in<R: Wait + Abort + Drop + Copy>(rt: R, alloc: Global, blocks: u16) ->
     match builder.spawn(rt, &counting, maker, schedule, &around) {
         Ok((runnable, task)) => {
             discard_both(runnable, task);
-            Ok((counting.allocations(), calls.get(), heap.used()))
+            Ok(counting.allocations() == 4 && calls.get() == 1 && heap.used() == 0)
         }
         Err(refused) => {
             let requests = counting.allocations();
-            let left = (heap.used(), calls.get(), counters.counts());
-            let again = use_builder(rt, alloc, refused);
-            let last = (calls.get(), counters.counts());
-            Err((requests, left, again, last))
+            let is_freed = heap.used() == 0 && counters.counts() == Counts::new(0, 0, 0, 0);
+            let is_uncalled = calls.get() == 0;
+            let is_used = use_builder(rt, alloc, refused);
+            let is_over = calls.get() == 1 && counters.counts() == Counts::new(0, 0, 1, 1);
+            Err((requests, is_freed && is_uncalled && is_used && is_over))
         }
     }
 }
@@ -276,24 +218,13 @@ fn is_shown(alloc: Global, builder: &Builder<u64>) -> bool {
     }
 }
 
-// Drops a Runnable and its Task: the metadata.
-fn drop_both<R: Wait + Drop>(
-    runnable: WideRunnable<'_, R, u64, &LocalHeap>,
-    task: WideTask<'_, R, u64, &LocalHeap>,
-) -> u64 {
-    let metadata = *runnable.metadata();
-    drop(runnable);
-    drop(task);
-    metadata
-}
-
 // Whether the builder was handed back as it was given, and the schedule value; and whether a task of them and the maker,
 // over a heap with room, has the metadata 7.
 fn use_builder<R: Wait + Abort + Drop + Copy, G: FnOnce(&u64) -> WideFuture>(
     rt: R,
     alloc: Global,
     refused: SpawnError<u64, G, WideScheduler>,
-) -> (bool, bool, bool)
+) -> bool
     requires { G.IsAlwaysCallable refused.maker }
 {
     let SpawnError {
@@ -306,40 +237,64 @@ fn use_builder<R: Wait + Abort + Drop + Copy, G: FnOnce(&u64) -> WideFuture>(
     let heap = calls::heap(rt, alloc, HEAP);
     let around = Counter::new();
     let Ok((runnable, task)) = builder.spawn(rt, &heap, maker, schedule, &around) else {
-        return (is_shown, is_whole, false);
+        return false;
     };
-    let metadata = drop_both(runnable, task);
-    (is_shown, is_whole, metadata == 7 && heap.used() == 0)
+    let metadata = *runnable.metadata();
+    drop(runnable);
+    drop(task);
+    is_shown && is_whole && metadata == 7 && heap.used() == 0
 }
 
-// The request that was refused, or `None` where all were granted, by the fourth.
-fn refused_build<R: Wait + Abort + Drop + Copy>(rt: R, alloc: Global, blocks: u16) -> Option<u64> {
-    match build_in(rt, alloc, blocks) {
-        Ok(all_granted) => {
-            assert!(rt; all_granted == (4, 1, 0));
-            None
-        }
-        Err((requests, left, again, last)) => {
-            assert!(rt; left == (0, 0, Counts::new(0, 0, 0, 0)));
-            assert!(rt; again == (true, true, true));
-            assert!(rt; last == (1, Counts::new(0, 0, 1, 1)));
-            Some(requests)
-        }
+// What spawns.
+#[derive(Clone, Copy)]
+enum Spawner {
+    Spawn,
+    Builder,
+}
+
+// Notes that the request of that number was refused.
+fn note<R: Abort + Drop + Copy>(rt: R, refused: &mut [bool; 5], request: u64) {
+    match usize::try_from(request) {
+        Ok(request) if request < 5 => refused[request] = true,
+        _ => panic!(rt; "a spawn asked {request} times"),
     }
 }
 
-// Each heap has one block more than the one before, and in turn each of the four requests is refused.
-#[test]
-fn a_refused_builder_hands_everything_back(rt: HostRuntime) {
+// Spawns over heaps each of which has one block more than the one before, until one has room: which requests were refused. Stops
+// where anything is not as it has to be.
+fn refused_in_turn<R: Wait + Abort + Drop + Copy>(
+    rt: R,
+    alloc: Global,
+    spawner: Spawner,
+) -> [bool; 5] {
     let mut refused = [false; 5];
     for blocks in 1..1000u16 {
-        let Some(request) = refused_build(rt, rt.alloc(), blocks) else {
-            assert!(rt; refused == [false, true, true, true, true]);
-            return;
+        let spawned = match spawner {
+            Spawner::Spawn => spawn_in(rt, alloc, blocks),
+            Spawner::Builder => build_in(rt, alloc, blocks),
         };
+        let Err((request, right)) = spawned else {
+            assert!(rt; spawned == Ok(true));
+            return refused;
+        };
+        assert!(rt; right);
         note(rt, &mut refused, request);
     }
     panic!(rt; "no heap has room")
+}
+
+// In turn each of the four requests is refused.
+#[test]
+fn a_refused_spawn_hands_everything_back(rt: HostRuntime) {
+    let refused = refused_in_turn(rt, rt.alloc(), Spawner::Spawn);
+    assert!(rt; refused == [false, true, true, true, true]);
+}
+
+// In turn each of the four requests is refused.
+#[test]
+fn a_refused_builder_hands_everything_back(rt: HostRuntime) {
+    let refused = refused_in_turn(rt, rt.alloc(), Spawner::Builder);
+    assert!(rt; refused == [false, true, true, true, true]);
 }
 
 // Spawns a task that may have two references. Stops where it is refused.
@@ -355,79 +310,39 @@ fn spawn_limited<'x, 'heap, R: Wait + Abort + Drop + Copy>(
     granted(&rt, builder.spawn(rt, heap, |_| future, schedule, around))
 }
 
-// A waker of a Runnable. Stops where it is refused.
-fn waker_of<'x, 'heap, R: Wait + Abort + Drop + Copy>(
-    rt: R,
-    runnable: &HeapRunnable<'x, 'heap, R>,
-) -> HeapWaker<'x, 'heap, R> {
-    match runnable.waker() {
-        Some(waker) => waker,
-        None => panic!(rt; "a waker was refused"),
-    }
-}
-
-// Whether a Runnable is refused a waker. One that is given is dropped.
-fn refuses_waker<R: Wait + Drop>(runnable: &HeapRunnable<'_, '_, R>) -> bool {
-    runnable.waker().is_none()
-}
-
-// A clone of a waker. Stops where it is refused.
-fn clone_of<'x, 'heap, R: Wait + Abort + Drop + Copy>(
-    rt: R,
-    waker: &HeapWaker<'x, 'heap, R>,
-) -> HeapWaker<'x, 'heap, R> {
-    match waker.try_clone() {
-        Some(clone) => clone,
-        None => panic!(rt; "a clone of a waker was refused"),
-    }
-}
-
 // Whether a waker is refused a clone. One that is given is dropped.
 fn refuses_clone<R: Wait + Drop>(waker: &HeapWaker<'_, '_, R>) -> bool {
     waker.try_clone().is_none()
 }
 
-// Runs.
-fn run<R: Wait + Drop>(runnable: HeapRunnable<'_, '_, R>) {
-    runnable.run();
-}
-
-// Drops a waker.
-fn drop_waker<R: Wait + Drop>(waker: HeapWaker<'_, '_, R>) {
-    drop(waker);
-}
-
-// Drops a Task.
-fn drop_task<R: Wait + Drop>(task: HeapTask<'_, '_, R>) {
-    drop(task);
-}
-
-// Asks a Runnable, a waker and a clone for wakers above the limit: what was refused before the run and after it, what was
-// counted by the surroundings and the rest at the end of the run, and whether memory was held when the wakers were gone.
+// Asks a Runnable, a waker and a clone for wakers above the limit: whether all were refused, before the run and after it, and one in
+// the run, as the surroundings count, and memory was held when the wakers were gone; and what was counted at the end of the run.
 fn ask_at_limit<R: Wait + Abort + Drop + Copy>(
     rt: R,
     heap: &LocalHeap,
     counters: &Arc<Counters>,
-) -> ([bool; 4], (u64, Counts), bool) {
+) -> (bool, Counts) {
     let around = Counter::new();
     let (runnable, task) = spawn_limited(rt, heap, &around, counters);
-    let waker = waker_of(rt, &runnable);
-    let refused = refuses_waker(&runnable);
+    let Some(waker) = runnable.waker() else {
+        panic!(rt; "a waker was refused");
+    };
+    let refused = runnable.waker().is_none();
     let clone_refused = refuses_clone(&waker);
-    run(runnable);
-    let polled = (around.get(), counters.counts());
-    let clone = clone_of(rt, &waker);
+    runnable.run();
+    let refused_polls = around.get();
+    let polled = counters.counts();
+    let Some(clone) = waker.try_clone() else {
+        panic!(rt; "a clone of a waker was refused");
+    };
     let refused_later = refuses_clone(&waker);
     let clone_refused_later = refuses_clone(&clone);
-    drop_waker(waker);
-    drop_waker(clone);
+    drop(waker);
+    drop(clone);
     let held = heap.used() != 0;
-    drop_task(task);
-    (
-        [refused, clone_refused, refused_later, clone_refused_later],
-        polled,
-        held,
-    )
+    drop(task);
+    let all_refused = refused && clone_refused && refused_later && clone_refused_later;
+    (all_refused && refused_polls == 1 && held, polled)
 }
 
 // At a limit of two references: the waker of a Runnable, a clone of a waker, and in the run a clone of the waker that is
@@ -436,7 +351,7 @@ fn ask_at_limit<R: Wait + Abort + Drop + Copy>(
 fn a_refused_waker_keeps_no_memory(rt: HostRuntime) {
     let counters = calls::counters(rt, rt.alloc());
     let heap = calls::heap(rt, rt.alloc(), HEAP);
-    let (refused, polled, held) = ask_at_limit(rt, &heap, &counters);
-    assert!(rt; (refused, polled) == ([true; 4], (1, Counts::new(1, 0, 0, 0))));
-    assert!(rt; (held, heap.used(), counters.counts()) == (true, 0, Counts::new(1, 1, 1, 1)));
+    let (right, polled) = ask_at_limit(rt, &heap, &counters);
+    let ended = heap.used() == 0 && counters.counts() == Counts::new(1, 1, 1, 1);
+    assert!(rt; right && ended && polled == Counts::new(1, 0, 0, 0));
 }

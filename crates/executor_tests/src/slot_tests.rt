@@ -155,17 +155,12 @@ fn spawn_scheduled<R: Wait + Abort + Drop + Copy>(
     task
 }
 
-// Drops a Task.
-fn drop_task<R: Wait + Drop>(task: SlotTask<'_, R>) {
-    drop(task);
-}
-
 // Schedules three tasks and runs the last one: its metadata and what the run answered; and whether the list was right before
-// the run, the slot was empty after it, and the list was right then.
+// the run, and after it the slot was empty and the list was right.
 fn run_last_of_three<R: Wait + Abort + Drop + Copy>(
     rt: R,
     alloc: Global,
-) -> (Option<(u64, bool)>, [bool; 3]) {
+) -> (Option<(u64, bool)>, bool) {
     let slots = Slots::new(rt, alloc);
     let first = spawn_scheduled(rt, alloc, &slots, 1);
     let second = spawn_scheduled(rt, alloc, &slots, 2);
@@ -174,14 +169,14 @@ fn run_last_of_three<R: Wait + Abort + Drop + Copy>(
     let ran = slots.run_last();
     let is_empty = slots.take().is_none();
     let listed_last = slots.list_is(&[1, 2, 3]);
-    drop_task(first);
-    drop_task(second);
-    drop_task(third);
-    (ran, [listed, is_empty, listed_last])
+    drop(first);
+    drop(second);
+    drop(third);
+    (ran, listed && is_empty && listed_last)
 }
 
 #[test]
 fn the_last_runnable_stands_in_the_slot(rt: HostRuntime) {
-    let seen = run_last_of_three(rt, rt.alloc());
-    assert!(rt; seen == (Some((3, true)), [true; 3]));
+    let (ran, right) = run_last_of_three(rt, rt.alloc());
+    assert!(rt; right && ran == Some((3, true)));
 }

@@ -1,10 +1,12 @@
 //! A test of wakes by four threads while a fifth one runs the task.
 
 use crate::calls;
+use crate::granted::granted;
 use counted_values::behaviour::Behaviour;
 use counted_values::counters::{Counter, Counts};
 use fixtures::fixture::Fixture;
 use fixtures::surroundings::{RowRunnable, RowWaker};
+use std::alloc::Global;
 use std::process::Abort;
 use std::sync::Wait;
 use std::thread;
@@ -59,30 +61,29 @@ fn storm<'x, R: Wait + Threads + Drop + Copy + Send + Sync>(
     })
 }
 
-// Spawns a task that four threads wake: whether all of them came and the last run was made, and what was counted before the Task was dropped.
+// Spawns a task that four threads wake, drops the Task and runs once more: whether all threads came and the last run was made,
+// the run after the drop was the one of a closed task, and no two polls overlapped; and what was counted before the drop and at last.
 fn wake_by_four<R: Wait + Threads + Abort + Drop + Copy + Send + Sync>(
-    fixture: &Fixture<R>,
-) -> (bool, Counts) {
-    let Ok((runnable, task)) = fixture.spawn(Behaviour::Pending) else {
-        panic!(fixture.rt; "no memory");
-    };
+    rt: R,
+    alloc: Global,
+) -> (bool, [Counts; 2]) {
+    let fixture = calls::fixture(rt, alloc);
+    let (runnable, task) = granted(&rt, fixture.spawn(Behaviour::Pending));
     let ended = Counter::new();
-    let all_ended = storm(&fixture.rt, fixture, &ended, runnable);
+    let all_ended = storm(&rt, &fixture, &ended, runnable);
     let idle = fixture.counts();
     drop(task);
-    (all_ended, idle)
+    let ran = fixture.surroundings.run_next();
+    let right = all_ended && ran == Some(false) && fixture.overlaps() == 0;
+    (right, [idle, fixture.counts()])
 }
 
 // Each Runnable that a wake hands over is polled once, and no two polls overlap.
 #[test]
 fn four_threads_wake_one_task(rt: HostRuntime) {
-    let fixture = calls::fixture(rt, rt.alloc());
-    let (all_ended, idle) = wake_by_four(&fixture);
-    let ran = fixture.surroundings.run_next();
-    let overlaps = fixture.overlaps();
-    let last = fixture.counts();
+    let (right, [idle, last]) = wake_by_four(rt, rt.alloc());
     let polls = idle.polls;
-    assert!(rt; (all_ended, ran, overlaps) == (true, Some(false), 0));
+    assert!(rt; right);
     assert!(rt;
         [idle, last]
             == [

@@ -125,9 +125,7 @@ impl<'heap, R: Wait + Drop> Tray<'heap, R> {
 
     /// Takes the Runnable off the tray and drops it.
     pub fn clear(&self) {
-        if let Some(runnable) = self.receive() {
-            drop_runnable(runnable);
-        }
+        drop(self.receive());
     }
 }
 
@@ -233,61 +231,37 @@ pub fn reschedule<'x, 'heap, R: Wait + Abort + Drop + Copy>(
     }
 }
 
-/// Discards a Runnable: its metadata.
-pub fn discard_runnable<R: Wait + Drop>(runnable: TrayRunnable<'_, '_, R>) -> u64 {
-    let metadata = *runnable.metadata();
-    runnable.discard();
-    metadata
-}
-
-/// Drops a Runnable.
-pub fn drop_runnable<R: Wait + Drop>(runnable: TrayRunnable<'_, '_, R>) {
-    drop(runnable);
-}
-
-/// Whether the task of a Task is finished, and its metadata.
-pub fn finished<R: Wait + Drop>(task: &mut TrayTask<'_, '_, R>) -> (bool, u64) {
-    (task.is_finished(), *task.metadata())
-}
-
 /// Detaches a Task: what is counted then.
 pub fn detach<R: Wait + Drop>(task: TrayTask<'_, '_, R>, counters: &Counters) -> Counts {
     task.detach();
     counters.counts()
 }
 
-/// Polls each of the three handles that await a task: whether it is pending.
+/// Polls each of the three handles that await a task: whether all are pending.
 pub fn are_pending<R: Wait + Drop>(
     task: &mut TrayTask<'_, '_, R>,
     fallible: &mut TrayFallible<'_, '_, R>,
     cancel: &mut TrayCancel<'_, '_, R>,
     awaiter: &Flag,
-) -> [bool; 3] {
-    [
-        matches!(task.poll(awaiter), TaskPoll::Pending),
-        matches!(fallible.poll(awaiter), TaskPoll::Pending),
-        matches!(cancel.poll(awaiter), TaskPoll::Pending),
-    ]
+) -> bool {
+    let task_waits = matches!(task.poll(awaiter), TaskPoll::Pending);
+    let fallible_waits = matches!(fallible.poll(awaiter), TaskPoll::Pending);
+    let cancel_waits = matches!(cancel.poll(awaiter), TaskPoll::Pending);
+    task_waits && fallible_waits && cancel_waits
 }
 
-/// Polls each of the three, and drops it: whether the Task was ready with that number, and each of the others without an output.
+/// Polls each of the three, and drops it: whether the Task was ready with that number, and both others without an output.
 pub fn are_ready<R: Wait + Drop>(
     mut task: TrayTask<'_, '_, R>,
     mut fallible: TrayFallible<'_, '_, R>,
     mut cancel: TrayCancel<'_, '_, R>,
     awaiter: &Flag,
     number: u64,
-) -> [bool; 3] {
-    [
-        is_ready_with(&task.poll(awaiter), number),
-        matches!(fallible.poll(awaiter), TaskPoll::Ready(None)),
-        matches!(cancel.poll(awaiter), TaskPoll::Ready(None)),
-    ]
-}
-
-/// Drops a Task.
-pub fn drop_task<R: Wait + Drop>(task: TrayTask<'_, '_, R>) {
-    drop(task);
+) -> bool {
+    let task_ends = is_ready_with(&task.poll(awaiter), number);
+    let fallible_ends = matches!(fallible.poll(awaiter), TaskPoll::Ready(None));
+    let cancel_ends = matches!(cancel.poll(awaiter), TaskPoll::Ready(None));
+    task_ends && fallible_ends && cancel_ends
 }
 
 /// A waker of a Runnable. Stops where it is refused.
@@ -301,28 +275,7 @@ pub fn waker_of<'x, 'heap, R: Wait + Abort + Drop + Copy>(
     }
 }
 
-/// A clone of a waker. Stops where it is refused.
-pub fn clone_of<'x, 'heap, R: Wait + Abort + Drop + Copy>(
-    rt: R,
-    waker: &TrayWaker<'x, 'heap, R>,
-) -> TrayWaker<'x, 'heap, R> {
-    match waker.try_clone() {
-        Some(clone) => clone,
-        None => panic!(rt; "a clone of a waker was refused"),
-    }
-}
-
 /// Wakes by value.
 pub fn wake<R: Wait + Drop>(waker: TrayWaker<'_, '_, R>) {
     waker.wake();
-}
-
-/// Wakes by reference.
-pub fn wake_by_ref<R: Wait + Drop>(waker: &TrayWaker<'_, '_, R>) {
-    waker.wake_by_ref();
-}
-
-/// Discards a waker.
-pub fn discard_waker<R: Wait + Drop>(waker: TrayWaker<'_, '_, R>) {
-    waker.discard();
 }

@@ -6,7 +6,7 @@ use crate::granted::granted;
 use crate::tray::{HEAP, fill};
 use async_task::{Future, Poll, Runnable, Task, Wake, Yields, spawn};
 use futures::executor::block_on;
-use futures::future::{Either, join, ready, select};
+use futures::future::{Either, join, poll_immediate, select};
 use kit_bridge::{AwaitError, Awaits, KitAwaiter};
 use linked_list_allocator::LocalHeap;
 use std::alloc::{AllocGlobal, Global};
@@ -100,10 +100,10 @@ fn wait_for<R: Wait + Abort + RandomSource + AllocGlobal + Drop + Copy>(
 // Lets the kit wait for the first of two tasks, and drop the other: what the left one answered.
 fn wait_for_left<R: Wait + Abort + RandomSource + AllocGlobal + Drop + Copy>(
     rt: R,
-    left: Awaited<R>,
-    right: Awaited<R>,
+    mut left: Awaited<R>,
+    mut right: Awaited<R>,
 ) -> Answer {
-    match block_on(&rt, select(left, right)) {
+    match block_on(&rt, select(&mut left, &mut right)) {
         Ok(Either::Left((answer, _))) => answer,
         _ => Err(AwaitError::Refused),
     }
@@ -224,28 +224,19 @@ fn bridged_later<'heap, R: Wait + Abort + Drop + Copy>(
     (refused, runnable, granted(&rt, Awaits::new(heap, task)))
 }
 
-// Lets the kit poll a bridge once. Stops where that was not pending.
-fn poll_once<'heap, R: Wait + Abort + RandomSource + AllocGlobal + Drop + Copy>(
-    rt: R,
-    awaits: HeapAwaited<'heap, R>,
-) -> HeapAwaited<'heap, R> {
-    match block_on(&rt, select(awaits, ready(()))) {
-        Ok(Either::Right((_, awaits))) => awaits,
-        _ => panic!(rt; "the first poll has an answer"),
-    }
-}
-
-// Polls such a task, runs it and waits for it: whether the first bridge was refused, and what the second one answered.
+// Lets the kit poll such a task once, runs it and waits for it: whether the first bridge was refused, whether the second one was
+// pending at its first poll, and what it answered.
 fn wait_after_refusal<R: Wait + Abort + RandomSource + AllocGlobal + Drop + Copy>(
     rt: R,
     alloc: Global,
     heap: &LocalHeap,
     dropped: &Arc<AtomicU64>,
-) -> (bool, Answer) {
-    let (refused, runnable, awaits) = bridged_later(rt, alloc, heap, dropped);
-    let pending = poll_once(rt, awaits);
+) -> (bool, bool, Answer) {
+    let (refused, runnable, mut awaits) = bridged_later(rt, alloc, heap, dropped);
+    let polled = granted(&rt, block_on(&rt, poll_immediate(&mut awaits)));
     runnable.run();
-    (refused, granted(&rt, block_on(&rt, pending)))
+    let answer = granted(&rt, block_on(&rt, awaits));
+    (refused, polled.is_none(), answer)
 }
 
 #[test]
@@ -253,6 +244,6 @@ fn a_bridge_that_was_refused_memory_is_made_later(rt: HostRuntime) {
     let dropped = none_dropped(rt, rt.alloc());
     let heap = granted(&rt, LocalHeap::new(rt.alloc(), HEAP));
     let seen = wait_after_refusal(rt, rt.alloc(), &heap, &dropped);
-    assert!(rt; seen == (true, Ok(6)));
+    assert!(rt; seen == (true, true, Ok(6)));
     assert!(rt; heap.used() == 0 && dropped.load(Ordering::SeqCst) == 1);
 }

@@ -5,6 +5,7 @@ use async_task::TaskClosed;
 use std::alloc::{AllocError, Global};
 use std::process::Abort;
 use std::sync::Wait;
+use std::sync::atomic::Ordering;
 use task_group::TaskGroup;
 
 // The number and the answer of a member that came out.
@@ -133,7 +134,7 @@ fn let_go<R: Wait + Abort + Drop + Copy>(rt: R, alloc: Global, how: LetGo) -> [b
     let refused = !push(&line, &mut group, Errand::Stay);
     let emptied = let_all_go(group, how);
     line.run();
-    [refused, emptied, line.answered() > 0]
+    [refused, emptied, line.answered.load(Ordering::SeqCst) > 0]
 }
 
 #[test]
@@ -179,26 +180,14 @@ fn one_look_passes_over_the_number_of_no_member(rt: HostRuntime) {
     assert!(rt; seen == Some((0, Ok(32))));
 }
 
-// The numbers of two members that are spawned in a group with room for one.
-type Numbers = [Option<usize>; 2];
-
-// Spawns two members of a group: their numbers.
-fn spawn_both<'x, R: Wait + Drop + Copy>(
-    line: &'x Line<R>,
-    group: &mut LineGroup<'x, R>,
-) -> Numbers {
-    let first = line.spawn_in(group, Errand::GiveWay(13));
-    let second = line.spawn_in(group, Errand::Answer(14));
-    [first, second]
-}
-
 // Spawns two members of a group with room for one: their numbers, and what comes out after a run.
-fn spawn_two<R: Wait + Abort + Drop + Copy>(rt: R, alloc: Global) -> (Numbers, CameOut) {
+fn spawn_two<R: Wait + Abort + Drop + Copy>(rt: R, alloc: Global) -> ([Option<usize>; 2], CameOut) {
     let line = Line::new(rt, alloc, 1);
     let mut group = group_of(rt, alloc, 1);
-    let numbers = spawn_both(&line, &mut group);
+    let first = line.spawn_in(&mut group, Errand::GiveWay(13));
+    let second = line.spawn_in(&mut group, Errand::Answer(14));
     line.run();
-    (numbers, last_of(group))
+    ([first, second], last_of(group))
 }
 
 #[test]
@@ -207,13 +196,12 @@ fn a_full_group_spawns_nothing(rt: HostRuntime) {
     assert!(rt; seen == ([Some(0), None], Some((0, Ok(13)))));
 }
 
-// Whether a group with that room is refused.
-fn is_refused<R: Wait + Drop + Copy>(rt: R, alloc: Global, room: usize) -> bool {
-    let group: Result<LineGroup<'_, R>, AllocError> = TaskGroup::new(rt, alloc, room);
-    group.is_err()
-}
-
 #[test]
 fn a_group_that_no_memory_can_hold_is_refused(rt: HostRuntime) {
-    assert!(rt; is_refused(rt, rt.alloc(), usize::MAX));
+    let group: Result<LineGroup<'_, HostRuntime>, AllocError> = TaskGroup::new(
+        rt,
+        rt.alloc(),
+        usize::MAX,
+    );
+    assert!(rt; group.is_err());
 }

@@ -65,7 +65,8 @@ pub struct Line<R: Wait + Drop + Copy> {
     rt: R,
     alloc: Global,
     mailbox: Arc<Mailbox<R>>,
-    answered: AtomicU64,
+    /// How many tasks have answered a number of their own.
+    pub answered: AtomicU64,
     queue: Mutex<VecDeque<KeptRunnable<R>>>,
     wakers: Mutex<Vec<Option<KeptWaker<R>>>>,
     tasks: Mutex<Vec<Option<KeptTask<R>>>>,
@@ -133,8 +134,13 @@ impl<'x, R: Wait + Drop + Copy> Future<LineWaker<'x, R>> for Member {
 }
 
 // Puts a value into a store: what was there, or the value itself where the store has no such number.
-fn swap_at<V: Drop>(store: &mut Vec<Option<V>>, number: usize, value: Option<V>) -> Option<V> {
-    match store.get_mut(number) {
+fn swap_at<R: Wait, V: Drop>(
+    rt: &R,
+    store: &Mutex<Vec<Option<V>>>,
+    number: usize,
+    value: Option<V>,
+) -> Option<V> {
+    match store.lock(rt).get_mut(number) {
         Some(place) => mem::replace(place, value),
         None => value,
     }
@@ -196,26 +202,15 @@ impl<R: Wait + Drop + Copy> Line<R> {
         group.spawn(self.alloc, future, ToLine, self).ok()
     }
 
-    // Puts a Task into the store: what was there.
-    fn swap_task(&self, number: usize, task: Option<KeptTask<R>>) -> Option<KeptTask<R>> {
-        let mut tasks = self.tasks.lock(&self.rt);
-        swap_at(&mut *tasks, number, task)
-    }
-
-    // Puts a waker into the store: what was there.
-    fn swap_waker(&self, number: usize, waker: Option<KeptWaker<R>>) -> Option<KeptWaker<R>> {
-        let mut wakers = self.wakers.lock(&self.rt);
-        swap_at(&mut *wakers, number, waker)
-    }
-
     // Keeps the Task of a number, and drops the one that was there.
     fn keep_task<'x>(&'x self, number: usize, task: LineTask<'x, R>) {
-        drop(self.swap_task(number, Some(task.with_around(()))));
+        let kept = Some(task.with_around(()));
+        drop(swap_at(&self.rt, &self.tasks, number, kept));
     }
 
     // Takes the Task of a number out of the store.
     fn take_task(&self, number: usize) -> Option<LineTask<'_, R>> {
-        Some(self.swap_task(number, None)?.with_around(self))
+        Some(swap_at(&self.rt, &self.tasks, number, None)?.with_around(self))
     }
 
     // One poll of the Task of `other`, on behalf of the task of `number`, whose waker is kept.
@@ -228,8 +223,14 @@ impl<R: Wait + Drop + Copy> Line<R> {
         if !self.keep_waker(number, waker) {
             return Poll::Ready(0);
         }
+        self.poll_kept(number, other)
+    }
+
+    /// One poll of the Task of `other`, which stays in the store where it is pending, by an awaiter of `number`: one more than its
+    /// answer, or 0.
+    pub fn poll_kept(&self, number: usize, other: usize) -> Poll<u64> {
         match Awaiter::new(&self.mailbox, number) {
-            Some(awaiter) => self.poll_kept(other, &awaiter),
+            Some(awaiter) => self.poll_by(other, &awaiter),
             None => Poll::Ready(0),
         }
     }
@@ -239,12 +240,13 @@ impl<R: Wait + Drop + Copy> Line<R> {
         let Some(clone) = waker.try_clone() else {
             return false;
         };
-        drop(self.swap_waker(number, Some(clone.with_around(()))));
+        let kept = Some(clone.with_around(()));
+        drop(swap_at(&self.rt, &self.wakers, number, kept));
         true
     }
 
-    // One poll of the Task of a number, which stays in the store where it is pending: one more than its answer, or 0.
-    fn poll_kept(&self, number: usize, awaiter: &Awaiter<R>) -> Poll<u64> {
+    // The same poll, by that awaiter.
+    fn poll_by(&self, number: usize, awaiter: &Awaiter<R>) -> Poll<u64> {
         let Some(mut task) = self.take_task(number) else {
             return Poll::Ready(0);
         };
@@ -258,11 +260,6 @@ impl<R: Wait + Drop + Copy> Line<R> {
             TaskPoll::Ready(Ok(answer)) => Poll::Ready(answer.saturating_add(1)),
             _ => Poll::Ready(0),
         }
-    }
-
-    /// How many tasks have answered a number of their own.
-    pub fn answered(&self) -> u64 {
-        self.answered.load(Ordering::SeqCst)
     }
 
     /// Runs what is queued, and wakes what was posted, until neither is left.
@@ -298,7 +295,7 @@ impl<R: Wait + Drop + Copy> Line<R> {
         let Some(number) = self.mailbox.take() else {
             return false;
         };
-        if let Some(waker) = self.swap_waker(number, None) {
+        if let Some(waker) = swap_at(&self.rt, &self.wakers, number, None) {
             waker.with_around(self).wake();
         }
         true

@@ -14,11 +14,9 @@ const ROUNDS: usize = 20;
 // How often the third thread gives way to them before it posts.
 const YIELDS: usize = 500;
 
-// Posts 2, 0, 2 and 3 to a mailbox with room for three numbers, one by an awaiter: the answers, and what is taken out.
-fn post_and_take<R: Wait + Abort + Drop + Copy>(
-    rt: R,
-    alloc: Global,
-) -> ([bool; 3], [Option<usize>; 4]) {
+// Posts 2, 0, 2 and 3 to a mailbox with room for three numbers, one by an awaiter, and takes out what is there: whether each post
+// but the last was answered yes, and 2 and 0 came out, and no more before the awaiter posted again.
+fn post_and_take<R: Wait + Abort + Drop + Copy>(rt: R, alloc: Global) -> bool {
     let mailbox = granted(&rt, Mailbox::new(rt, alloc, 3));
     let awaiter = granted(&rt, Awaiter::new(&mailbox, 0).ok_or(AllocError));
     let first = mailbox.post(2);
@@ -27,27 +25,23 @@ fn post_and_take<R: Wait + Abort + Drop + Copy>(
     let outside = mailbox.post(3);
     let taken = [mailbox.take(), mailbox.take(), mailbox.take()];
     awaiter.wake();
-    (
-        [first, again, outside],
-        [taken[0], taken[1], taken[2], Some(mailbox.wait())],
-    )
+    let last = mailbox.wait();
+    first && again && !outside && taken == [Some(2), Some(0), None] && last == 0
 }
 
 #[test]
 fn a_mailbox_keeps_the_order_and_each_number_once(rt: HostRuntime) {
-    let seen = post_and_take(rt, rt.alloc());
-    assert!(rt; seen == ([true, true, false], [Some(2), Some(0), None, Some(0)]));
-}
-
-// Whether a mailbox with that room is refused.
-fn is_refused<R: Wait + Drop + Copy>(rt: R, alloc: Global, room: usize) -> bool {
-    let mailbox: Result<Arc<Mailbox<R>>, AllocError> = Mailbox::new(rt, alloc, room);
-    mailbox.is_err()
+    assert!(rt; post_and_take(rt, rt.alloc()));
 }
 
 #[test]
 fn a_mailbox_that_no_memory_can_hold_is_refused(rt: HostRuntime) {
-    assert!(rt; is_refused(rt, rt.alloc(), usize::MAX));
+    let mailbox: Result<Arc<Mailbox<HostRuntime>>, AllocError> = Mailbox::new(
+        rt,
+        rt.alloc(),
+        usize::MAX,
+    );
+    assert!(rt; mailbox.is_err());
 }
 
 // Says that it is about to wait, and waits for a number.

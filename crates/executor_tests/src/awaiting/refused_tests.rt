@@ -103,8 +103,9 @@ fn look_before_and_after<R: Wait + Abort + Drop + Copy>(
     let len = group.len();
     run(second);
     run(first);
-    let ended = [look(&mut group), look(&mut group), look(&mut group)];
-    (len, [refused, ended[0], ended[1], ended[2]])
+    let first_ended = look(&mut group);
+    let second_ended = look(&mut group);
+    (len, [refused, first_ended, second_ended, look(&mut group)])
 }
 
 // The second member is refused its awaiter by its push and by the first look, until the first one has ended.

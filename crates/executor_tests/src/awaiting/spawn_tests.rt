@@ -40,26 +40,8 @@ type HeapGroup<'heap, R> = TaskGroup<R, Number, Nowhere, (), Awaiter<R>, (), &'h
 // The number of a member that came out, and whether it was closed.
 type CameOut = Option<(usize, bool)>;
 
-// What a spawn came to.
-#[derive(Clone, Copy, PartialEq, Eq)]
-enum Spawned {
-    // It was granted, and this came out of the group.
-    Granted(CameOut),
-    // It was refused: whether all was handed back and the group as it was, whether nothing of the heap was taken then, and
-    // what came out of the group after a spawn of what was handed back, where there is room.
-    Refused {
-        is_whole: bool,
-        is_unused: bool,
-        later: CameOut,
-    },
-}
-
-// A spawn that was refused, as it has to be.
-const HANDED_BACK: Spawned = Spawned::Refused {
-    is_whole: true,
-    is_unused: true,
-    later: Some((0, true)),
-};
+// What a spawn came to. Granted: what came out of the group. Refused: whether all was handed back, as `look_at_refused` tells.
+type Spawned = Result<CameOut, bool>;
 
 // A heap of that many blocks of 16 bytes.
 fn heap_of<R: Abort + Drop + Copy>(rt: R, alloc: Global, blocks: u16) -> Heap {
@@ -105,22 +87,19 @@ fn spawn_again<'heap, R: Wait + Drop + Copy>(
     }
 }
 
-// What is seen of a refused spawn, and of another one of what it handed back.
+// Whether a refused spawn handed all back with the group as it was, nothing of the heap was taken then, and a member came out
+// of the group, as it has to be, after a spawn of what was handed back, where there is room.
 fn look_at_refused<'heap, R: Wait + Drop + Copy>(
     group: &mut HeapGroup<'heap, R>,
     refused: GroupSpawnError<Number, Nowhere>,
     heap: &'heap Heap,
     blocks: u16,
     roomy: &'heap Heap,
-) -> Spawned {
+) -> bool {
     let is_whole = is_handed_back(&refused) && group.is_empty();
     let is_unused = is_unused(heap, blocks);
     let later = spawn_again(group, roomy, refused);
-    Spawned::Refused {
-        is_whole,
-        is_unused,
-        later,
-    }
+    is_whole && is_unused && later == Some((0, true))
 }
 
 // One spawn of a group, over a heap of that many blocks: how many requests it made, and what it came to. The group ends here.
@@ -138,8 +117,8 @@ fn spawn_once<'heap, R: Wait + Abort + Drop + Copy>(
     let spawned = group.spawn(heap, Number(5), schedule, ());
     let requests = heap.allocations();
     let seen = match spawned {
-        Ok(_) => Spawned::Granted(next_of(&mut group)),
-        Err(refused) => look_at_refused(&mut group, refused, heap, blocks, roomy),
+        Ok(_) => Ok(next_of(&mut group)),
+        Err(refused) => Err(look_at_refused(&mut group, refused, heap, blocks, roomy)),
     };
     (requests, seen)
 }
@@ -158,27 +137,26 @@ fn spawn_in<R: Wait + Abort + Drop + Copy>(
 }
 
 // Spawns over heaps each of which has one block more than the one before, until one does not hand everything back: which
-// requests were refused before, and what was seen of that one.
+// requests were refused before, and what was seen of that one. Stops where all hand everything back.
 fn spawn_in_turn<R: Wait + Abort + Drop + Copy>(
     rt: R,
     alloc: Global,
-) -> Result<([bool; 5], (u64, Spawned, bool)), AllocError> {
+) -> ([bool; 5], (u64, Spawned, bool)) {
     let mut refused = [false; 5];
     for blocks in 1..BLOCKS {
-        let seen = spawn_in(rt, alloc, blocks);
-        let (requests, spawned, are_unused) = seen;
+        let (requests, spawned, are_unused) = spawn_in(rt, alloc, blocks);
         match refused.get_mut(requests as usize) {
-            Some(request) if spawned == HANDED_BACK && are_unused => *request = true,
-            _ => return Ok((refused, seen)),
+            Some(request) if spawned == Err(true) && are_unused => *request = true,
+            _ => return (refused, (requests, spawned, are_unused)),
         }
     }
-    Err(AllocError)
+    panic!(rt; "no heap has room")
 }
 
 // In turn each of the four requests is refused. The group has its own memory before.
 #[test]
 fn a_group_hands_back_what_a_spawn_was_refused(rt: HostRuntime) {
-    let seen = spawn_in_turn(rt, rt.alloc());
-    let granted = Spawned::Granted(Some((0, true)));
-    assert!(rt; seen == Ok(([false, true, true, true, true], (4, granted, true))));
+    let (refused, last) = spawn_in_turn(rt, rt.alloc());
+    assert!(rt; refused == [false, true, true, true, true]);
+    assert!(rt; last == (4, Ok(Some((0, true))), true));
 }

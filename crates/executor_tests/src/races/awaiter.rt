@@ -1,11 +1,13 @@
 //! The awaiter of a race.
 ghost use Rattle.std.specs.Prelude.{⊤};
 
+use crate::granted::granted;
 use async_task::Wake;
 use counted_values::counters::{Counter, Counters};
 use fixtures::rendezvous::Rendezvous;
-use std::alloc::{AllocError, Global};
+use std::alloc::Global;
 use std::hint::spin_loop;
+use std::process::Abort;
 use std::sync::Arc;
 
 // How many turns a clone takes that waits for nothing.
@@ -51,26 +53,28 @@ pub struct RaceAwaiter {
 }
 
 impl RaceAwaiter {
-    /// An awaiter that has counted nothing.
-    pub fn new(alloc: Global) -> Result<RaceAwaiter, AllocError> {
-        RaceAwaiter::make(alloc, None, CLONE)
+    /// An awaiter that has counted nothing. Stops where there is no memory.
+    pub fn new<R: Abort>(rt: &R, alloc: Global) -> RaceAwaiter {
+        RaceAwaiter::make(rt, alloc, None, CLONE)
     }
 
     /// An awaiter that is cloned so many turns after so many futures were dropped: right before their runs take out an awaiter.
-    pub fn after_drop(
+    /// Stops where there is no memory.
+    pub fn after_drop<R: Abort>(
+        rt: &R,
         alloc: Global,
         counters: Arc<Counters>,
         future_drops: u64,
         turns: u64,
-    ) -> Result<RaceAwaiter, AllocError> {
+    ) -> RaceAwaiter {
         let after = Drops {
             counters,
             future_drops,
         };
-        RaceAwaiter::make(alloc, Some(after), turns)
+        RaceAwaiter::make(rt, alloc, Some(after), turns)
     }
 
-    fn make(alloc: Global, after: Option<Drops>, turns: u64) -> Result<RaceAwaiter, AllocError> {
+    fn make<R: Abort>(rt: &R, alloc: Global, after: Option<Drops>, turns: u64) -> RaceAwaiter {
         let shared = Shared {
             after,
             turns,
@@ -80,36 +84,33 @@ impl RaceAwaiter {
             drops: Counter::new(),
             rendezvous: Rendezvous::new(),
         };
-        let shared = Arc::new(alloc, shared)?;
-        Ok(RaceAwaiter { shared })
+        RaceAwaiter {
+            shared: granted(rt, Arc::new(alloc, shared)),
+        }
     }
 
-    /// How many clones were made.
-    pub fn clones(&self) -> u64 {
-        self.shared.clones.get()
+    /// How many clones were made, how many of them were woken by value, and how many dropped. Last how many wakes were by
+    /// reference: only a poll does so, which finds a notifier where it begins to register.
+    pub fn counts(&self) -> [u64; 4] {
+        let shared = &*self.shared;
+        [
+            shared.clones.get(),
+            shared.wakes.get(),
+            shared.drops.get(),
+            shared.reference_wakes.get(),
+        ]
     }
 
-    /// How many clones have ended: were woken by value, or dropped.
-    pub fn ends(&self) -> u64 {
-        self.shared
-            .wakes
-            .get()
-            .wrapping_add(self.shared.drops.get())
-    }
-
-    /// How many clones were woken by value.
-    pub fn wakes(&self) -> u64 {
-        self.shared.wakes.get()
-    }
-
-    /// How many wakes were by reference: only a poll does so, which finds a notifier where it begins to register.
-    pub fn reference_wakes(&self) -> u64 {
-        self.shared.reference_wakes.get()
+    /// Whether all clones have ended: were woken by value, or dropped.
+    pub fn all_ended(&self) -> bool {
+        let [clones, wakes, drops, _] = self.counts();
+        clones == wakes.wrapping_add(drops)
     }
 
     /// Whether it was woken, by value or by reference.
     pub fn is_woken(&self) -> bool {
-        self.wakes() != 0 || self.reference_wakes() != 0
+        let [_, wakes, _, reference_wakes] = self.counts();
+        wakes != 0 || reference_wakes != 0
     }
 
     /// Where a drop meets a second thread.

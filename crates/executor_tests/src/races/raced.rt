@@ -1,15 +1,18 @@
 //! The task of a race: its future, its output, its schedule value, and the surroundings in which its threads find what they act on.
 ghost use Rattle.std.specs.Prelude.{⊤};
 
+use crate::calls;
+use crate::granted::granted;
 use crate::races::awaiter::RaceAwaiter;
 use async_task::{
     Cancel, Future, ParkedRunnable, ParkedWaker, Poll, Runnable, Schedule, ScheduleInfo, Task,
     TaskWaker, Yields, spawn,
 };
 use counted_values::counters::{Counter, Counters, Counts};
-use std::alloc::{AllocError, Global};
+use std::alloc::Global;
 use std::hint::spin_loop;
 use std::mem;
+use std::process::Abort;
 use std::sync::atomic::{AtomicBool, Ordering};
 use std::sync::{Arc, Mutex, Wait};
 
@@ -164,41 +167,39 @@ pub struct RaceSurroundings<R: Wait + Drop> {
     kept: Mutex<Option<RaceParkedWaker<R>>>,
 }
 
-impl<R: Wait + Drop + Copy> RaceSurroundings<R> {
-    /// Surroundings before the first round.
-    pub fn new(rt: R, alloc: Global) -> Result<RaceSurroundings<R>, AllocError> {
-        let counters = Arc::new(alloc, Counters::new())?;
-        Ok(RaceSurroundings {
+impl<R: Wait + Abort + Drop + Copy> RaceSurroundings<R> {
+    /// Surroundings before the first round. Stops where there is no memory.
+    pub fn new(rt: R, alloc: Global) -> RaceSurroundings<R> {
+        RaceSurroundings {
             rt,
             alloc,
-            counters,
+            counters: calls::counters(rt, alloc),
             outputs: Counter::new(),
             second_runnables: Counter::new(),
             has_happened: AtomicBool::new(false),
             queued: Mutex::new(None),
             kept: Mutex::new(None),
-        })
+        }
     }
 
     /// An awaiter that is cloned so many turns after the future of this round was dropped. Rounds are counted from 0.
-    pub fn late_awaiter(&self, round: u64, turns: u64) -> Result<RaceAwaiter, AllocError> {
-        let counters = Arc::try_clone(&self.counters)?;
-        RaceAwaiter::after_drop(self.alloc, counters, round.wrapping_add(1), turns)
+    /// Stops where there is no memory.
+    pub fn late_awaiter(&self, round: u64, turns: u64) -> RaceAwaiter {
+        let counters = calls::share(self.rt, &self.counters);
+        RaceAwaiter::after_drop(&self.rt, self.alloc, counters, round.wrapping_add(1), turns)
     }
 
-    /// Spawns the task of a round. What its future waits for has happened, or has not.
-    pub fn spawn(
-        &self,
-        has_happened: bool,
-    ) -> Result<(RaceRunnable<'_, R>, RaceTask<'_, R>), AllocError> {
+    /// Spawns the task of a round. What its future waits for has happened, or has not. Stops where there is no memory.
+    pub fn spawn(&self, has_happened: bool) -> (RaceRunnable<'_, R>, RaceTask<'_, R>) {
         self.has_happened.store(has_happened, Ordering::SeqCst);
         let future = RaceFuture {
-            counters: Arc::try_clone(&self.counters)?,
+            counters: calls::share(self.rt, &self.counters),
         };
         let schedule = RaceScheduler {
-            counters: Arc::try_clone(&self.counters)?,
+            counters: calls::share(self.rt, &self.counters),
         };
-        spawn(self.rt, self.alloc, future, schedule, self).map_err(|_| AllocError)
+        let spawned = spawn(self.rt, self.alloc, future, schedule, self);
+        granted(&self.rt, spawned)
     }
 }
 
@@ -254,11 +255,6 @@ impl<R: Wait + Drop> RaceSurroundings<R> {
         Some(parked.unpark(self))
     }
 
-    // Takes the waker that was kept, and drops it. False where there is none.
-    fn discard_kept(&self) -> bool {
-        self.take_kept().is_some()
-    }
-
     /// What the future of the round waits for happens.
     pub fn happen(&self) {
         self.has_happened.store(true, Ordering::SeqCst);
@@ -269,35 +265,25 @@ impl<R: Wait + Drop> RaceSurroundings<R> {
     /// there were no more polls than Runnables.
     pub fn ended(&self, rounds: u64) -> bool {
         let Counts {
+            polls,
+            schedules,
             future_drops,
             scheduler_drops,
-            ..
         } = self.counters.counts();
-        let dropped = (future_drops, scheduler_drops) == (rounds, rounds);
+        let dropped = future_drops == rounds && scheduler_drops == rounds;
         let outputs = self.counters.output_drops.get() == self.outputs.get();
-        let left = self.discard_next() || self.discard_kept();
+        let left = self.discard_next() || self.take_kept().is_some();
         let doubled = self.counters.overlaps.get() != 0 || self.second_runnables.get() != 0;
-        dropped && outputs && !left && !doubled && self.polls() <= self.runnables(rounds)
+        dropped && outputs && !left && !doubled && polls <= rounds.wrapping_add(schedules)
     }
 
-    /// How many polls there were.
-    pub fn polls(&self) -> u64 {
-        self.counters.polls.get()
-    }
-
-    /// How many Runnables were scheduled.
-    pub fn schedules(&self) -> u64 {
-        self.counters.schedules.get()
-    }
-
-    /// How many Runnables there were: those that were scheduled, and those of so many spawns.
-    pub fn runnables(&self, spawns: u64) -> u64 {
-        spawns.wrapping_add(self.schedules())
-    }
-
-    /// How many outputs there were.
-    pub fn outputs(&self) -> u64 {
-        self.outputs.get()
+    /// How many outputs there were, how many polls, and how many Runnables were scheduled.
+    pub fn counts(&self) -> [u64; 3] {
+        [
+            self.outputs.get(),
+            self.counters.polls.get(),
+            self.counters.schedules.get(),
+        ]
     }
 }
 

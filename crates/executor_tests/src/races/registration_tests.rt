@@ -84,7 +84,7 @@ fn is_told<R: Wait + Drop>(
     let told_later = waits
         && awaiter.is_woken()
         && ending.is_told_by(&handles::poll(&mut task, awaiter));
-    handles::drop_task(task);
+    drop(task);
     told || told_later
 }
 
@@ -98,20 +98,20 @@ fn poll_once<R: Wait + Abort + Drop + Copy>(
     ending: Ending,
     round: u64,
 ) -> (bool, bool) {
-    let first = handles::awaiter(rt, alloc);
-    let second = handles::late_awaiter(rt, surroundings, round, round % TURNS);
-    let (runnable, mut task) = handles::spawn(rt, surroundings, true);
+    let first = RaceAwaiter::new(rt, alloc);
+    let second = surroundings.late_awaiter(round, round % TURNS);
+    let (runnable, mut task) = surroundings.spawn(true);
     let registered = handles::is_pending(&mut task, &first);
     surroundings.queue(runnable);
     rounds.open(rt, round);
     rounds.start(round, 1);
     let polled = handles::poll(&mut task, &second);
     rounds.close(rt, round);
-    let met = second.reference_wakes() != 0;
+    let [_, _, _, reference_wakes] = second.counts();
     let told = is_told(task, &second, polled, ending);
-    let all_ended = first.clones() == first.ends() && second.clones() == second.ends();
+    let all_ended = first.all_ended() && second.all_ended();
     let right = registered && told && all_ended && surroundings.ended(round.wrapping_add(1));
-    (met, right)
+    (reference_wakes != 0, right)
 }
 
 // All rounds of a race, by two threads.
@@ -129,7 +129,7 @@ fn play<R: Wait + Threads + Abort + Drop + Copy + Send + Sync>(
             return;
         }
         for round in 0..MOST_ROUNDS {
-            if round >= ROUNDS && tally.met() >= LEAST_MET {
+            if round >= ROUNDS && tally.met.get() >= LEAST_MET {
                 return rounds.end(&rt, round);
             }
             let (met, right) = poll_once(&rt, alloc, rounds, surroundings, ending, round);
@@ -138,40 +138,37 @@ fn play<R: Wait + Threads + Abort + Drop + Copy + Send + Sync>(
     });
 }
 
-// A race: how many rounds did not come to their end as they must, how many outputs there were, polls, and Runnables that were
-// scheduled; how many rounds there were, and how many met a notifier. Stops where there is no memory.
+// A race, in which some polls must meet a notifier: how many rounds there were, how many of them did not come to their end as
+// they must, and how many outputs there were, polls, and Runnables that were scheduled.
 fn race<R: Wait + Threads + Abort + Drop + Copy + Send + Sync>(
     rt: R,
     alloc: Global,
     ending: Ending,
-) -> ([u64; 4], u64, u64) {
-    let surroundings = handles::surroundings(rt, alloc);
+) -> (u64, u64, [u64; 3]) {
+    let surroundings = RaceSurroundings::new(rt, alloc);
     let rounds = Rounds::new(2);
     let tally = Tally::new();
     play(rt, alloc, &rounds, &surroundings, &tally, ending);
-    let counts = [
-        tally.faults(),
-        surroundings.outputs(),
-        surroundings.polls(),
-        surroundings.schedules(),
-    ];
-    (counts, tally.rounds(), tally.met())
+    tally.assert_met(&rt, "polls met a notifier");
+    (
+        tally.rounds.get(),
+        tally.faults.get(),
+        surroundings.counts(),
+    )
 }
 
 // Each round has the Runnable of the spawn and no other: it is polled once.
 #[test]
 fn a_poll_registers_beside_a_run_that_completes(rt: HostRuntime) {
-    let (counts, all, met) = race(rt, rt.alloc(), Ending::Run);
-    assert!(rt; ROUNDS <= all && counts == [0, all, all, 0]);
-    assert!(rt; LEAST_MET <= met, "{met} polls met a notifier");
+    let (all, faults, counts) = race(rt, rt.alloc(), Ending::Run);
+    assert!(rt; ROUNDS <= all && faults == 0 && counts == [all, all, 0]);
 }
 
 // Each round has the Runnable of the spawn and no other: it is dropped, and never polled.
 #[test]
 fn a_poll_registers_beside_a_drop_of_the_runnable(rt: HostRuntime) {
-    let (counts, all, met) = race(rt, rt.alloc(), Ending::Discard);
-    assert!(rt; ROUNDS <= all && counts == [0; 4]);
-    assert!(rt; LEAST_MET <= met, "{met} polls met a notifier");
+    let (all, faults, counts) = race(rt, rt.alloc(), Ending::Discard);
+    assert!(rt; ROUNDS <= all && faults == 0 && counts == [0; 3]);
 }
 
 // The second poll of a task, whose first awaiter is dropped by it while the second thread ends the task. Whether that thread came
@@ -208,25 +205,21 @@ fn poll_meeting<R: Wait + Threads + Abort + Drop + Copy + Send + Sync>(
     alloc: Global,
     ending: Ending,
 ) -> bool {
-    let surroundings = handles::surroundings(rt, alloc);
-    let first = handles::awaiter(&rt, alloc);
-    let second = handles::awaiter(&rt, alloc);
-    let (runnable, mut task) = handles::spawn(&rt, &surroundings, true);
+    let surroundings = RaceSurroundings::new(rt, alloc);
+    let first = RaceAwaiter::new(&rt, alloc);
+    let second = RaceAwaiter::new(&rt, alloc);
+    let (runnable, mut task) = surroundings.spawn(true);
     let registered = handles::is_pending(&mut task, &first);
     surroundings.queue(runnable);
     let told = poll_beside(&rt, &surroundings, task, &first, &second, ending);
-    let counted = [
-        (first.clones(), first.wakes(), first.reference_wakes()),
-        (second.clones(), second.wakes(), second.reference_wakes()),
-    ];
-    let ends = (first.ends(), second.ends());
-    let right = registered && told && first.rendezvous().met() && surroundings.ended(1);
-    right && counted == [(1, 0, 0), (1, 1, 0)] && ends == (1, 1)
+    let counted = first.counts() == [1, 0, 1, 0] && second.counts() == [1, 1, 0, 0];
+    let met = first.rendezvous().met();
+    registered && told && counted && met && surroundings.ended(1)
 }
 
 #[test]
 fn a_registration_ends_beside_a_notifier(rt: HostRuntime) {
     let run = poll_meeting(rt, rt.alloc(), Ending::Run);
     let discard = poll_meeting(rt, rt.alloc(), Ending::Discard);
-    assert!(rt; (run, discard) == (true, true));
+    assert!(rt; run && discard);
 }

@@ -2,6 +2,7 @@
 
 use counted_values::counters::Counter;
 use std::hint::spin_loop;
+use std::process::Abort;
 use std::sync::Wait;
 use std::sync::atomic::{AtomicBool, AtomicU64, Ordering};
 
@@ -115,8 +116,10 @@ fn delay(round: u64, thread: u64) -> u64 {
 /// The calls of one thread, one after the other, for the others to see.
 #[derive(Drop)]
 pub struct Calls {
-    begun: Counter,
-    ended: Counter,
+    /// How many have begun.
+    pub begun: Counter,
+    /// How many have ended. Another thread asks before a call of its own, and then `overlap` after it.
+    pub ended: Counter,
 }
 
 impl Calls {
@@ -128,21 +131,6 @@ impl Calls {
         }
     }
 
-    /// Notes that a call begins.
-    pub fn begin(&self) {
-        self.begun.add_one();
-    }
-
-    /// Notes that it has ended.
-    pub fn end(&self) {
-        self.ended.add_one();
-    }
-
-    /// How many have ended. Another thread asks before a call of its own, and then `overlap` after it.
-    pub fn ended(&self) -> u64 {
-        self.ended.get()
-    }
-
     /// Whether one of these calls had not ended when so many had, and has begun by now.
     pub fn overlap(&self, ended_before: u64) -> bool {
         self.begun.get() > ended_before
@@ -152,9 +140,12 @@ impl Calls {
 /// What is counted over all rounds of a race.
 #[derive(Drop)]
 pub struct Tally {
-    rounds: Counter,
-    met: Counter,
-    faults: Counter,
+    /// How many rounds there were.
+    pub rounds: Counter,
+    /// How many rounds met what the race is for.
+    pub met: Counter,
+    /// How many rounds did not come to their end as they must.
+    pub faults: Counter,
 }
 
 impl Tally {
@@ -178,18 +169,9 @@ impl Tally {
         }
     }
 
-    /// How many rounds there were.
-    pub fn rounds(&self) -> u64 {
-        self.rounds.get()
-    }
-
-    /// How many rounds met what the race is for.
-    pub fn met(&self) -> u64 {
-        self.met.get()
-    }
-
-    /// How many rounds did not come to their end as they must.
-    pub fn faults(&self) -> u64 {
-        self.faults.get()
+    /// Stops where fewer than `LEAST_MET` rounds met what the race is for, and tells how many did so, and what they did.
+    pub fn assert_met<R: Abort>(&self, rt: &R, what: &str) {
+        let met = self.met.get();
+        assert!(rt; LEAST_MET <= met, "{met} {what}");
     }
 }

@@ -4,7 +4,7 @@ ghost use Rattle.std.specs.Prelude.{⊤};
 use crate::races::awaiter::RaceAwaiter;
 use crate::races::handles;
 use crate::races::raced::{RaceCancel, RaceOutput, RaceSurroundings, RaceTask};
-use crate::races::rounds::{Calls, LEAST_MET, Rounds, Tally};
+use crate::races::rounds::{Calls, Rounds, Tally};
 use async_task::{TaskClosed, TaskPoll};
 use counted_values::counters::Counter;
 use std::alloc::Global;
@@ -32,8 +32,7 @@ enum Act {
     Await,
 }
 
-// What was answered to the first thread, and the handle that it has left.
-#[derive(Drop)]
+// What was answered to the first thread, and the handle that it has left. It is not dropped, but taken apart by `is_right`.
 enum Left<'x, R: Wait + Drop> {
     Nothing,
     Task(RaceTask<'x, R>, TaskPoll<Result<RaceOutput, TaskClosed>>),
@@ -50,7 +49,7 @@ impl Act {
         let mut task = task;
         match self {
             Act::Drop => {
-                handles::drop_task(task);
+                drop(task);
                 Left::Nothing
             }
             Act::Detach => {
@@ -71,16 +70,6 @@ impl Act {
                 Left::Task(task, polled)
             }
         }
-    }
-
-    // Whether it ends with an output whatever the schedule.
-    fn gets_output(self) -> bool {
-        matches!(self, Act::Poll | Act::Await)
-    }
-
-    // Whether it leaves the task open until its future is ready: then each Runnable is polled once, whatever the schedule.
-    fn leaves_open(self) -> bool {
-        matches!(self, Act::Detach | Act::Poll | Act::Await)
     }
 }
 
@@ -180,9 +169,9 @@ impl<R: Wait + Drop + Copy> Race<R> {
         for _ in 0..TURNS {
             let is_over = self.acted.get() == acts;
             if let Some(runnable) = self.surroundings.receive() {
-                self.runs.begin();
+                self.runs.begun.add_one();
                 handles::run(runnable);
-                self.runs.end();
+                self.runs.ended.add_one();
             } else if is_over {
                 return;
             } else {
@@ -197,10 +186,12 @@ impl<R: Wait + Drop + Copy> Race<R> {
             self.rounds.open(&self.rt, round);
             let waker = self.surroundings.take_kept();
             self.rounds.start(round, 3);
-            self.wakes.begin();
+            self.wakes.begun.add_one();
             self.surroundings.happen();
-            handles::wake(waker);
-            self.wakes.end();
+            if let Some(waker) = waker {
+                waker.wake();
+            }
+            self.wakes.ended.add_one();
             self.acted.add_one();
             self.rounds.close(&self.rt, round);
         }
@@ -212,7 +203,7 @@ impl<R: Wait + Abort + Drop + Copy> Race<R> {
         Race {
             rt,
             rounds: Rounds::new(3),
-            surroundings: handles::surroundings(rt, alloc),
+            surroundings: RaceSurroundings::new(rt, alloc),
             runs: Calls::new(),
             wakes: Calls::new(),
             acted: Counter::new(),
@@ -222,20 +213,21 @@ impl<R: Wait + Abort + Drop + Copy> Race<R> {
 
     // What the first thread does in one round. Whether its act overlapped a run or the wake is counted, and whether all ended as it must.
     fn act_once(&self, alloc: Global, act: Act, round: u64) {
-        let awaiter = handles::awaiter(&self.rt, alloc);
-        let (runnable, task) = handles::spawn(&self.rt, &self.surroundings, false);
+        let awaiter = RaceAwaiter::new(&self.rt, alloc);
+        let (runnable, task) = self.surroundings.spawn(false);
         self.surroundings
             .keep(handles::waker_of(&self.rt, &runnable));
         self.surroundings.queue(runnable);
         self.rounds.open(&self.rt, round);
         self.rounds.start(round, 1);
-        let (runs_before, wakes_before) = (self.runs.ended(), self.wakes.ended());
+        let runs_before = self.runs.ended.get();
+        let wakes_before = self.wakes.ended.get();
         let left = act.perform(task, &awaiter);
         let met = self.runs.overlap(runs_before) || self.wakes.overlap(wakes_before);
         self.acted.add_one();
         self.rounds.close(&self.rt, round);
         let answered = left.is_right(&awaiter);
-        let none_lost = awaiter.clones() == awaiter.ends();
+        let none_lost = awaiter.all_ended();
         let ended = self.surroundings.ended(round.wrapping_add(1));
         self.tally.count(met, answered && none_lost && ended);
     }
@@ -265,16 +257,17 @@ fn play<R: Wait + Threads + Abort + Drop + Copy + Send + Sync>(
 fn race_act<R: Wait + Threads + Abort + Drop + Copy + Send + Sync>(rt: R, alloc: Global, act: Act) {
     let race = Race::new(rt, alloc);
     play(&race, alloc, act);
-    let met = race.tally.met();
-    let outputs = race.surroundings.outputs();
-    let all_polled = race.surroundings.polls() == race.surroundings.runnables(ROUNDS);
-    assert!(rt; [race.tally.rounds(), race.tally.faults()] == [ROUNDS, 0]);
-    assert!(rt; all_polled || !act.leaves_open());
-    assert!(rt;
-        outputs == ROUNDS || !act.gets_output(),
-        "{outputs} outputs"
-    );
-    assert!(rt; LEAST_MET <= met, "{met} acts overlapped a run or a wake");
+    let all_right = race.tally.rounds.get() == ROUNDS && race.tally.faults.get() == 0;
+    let [outputs, polls, schedules] = race.surroundings.counts();
+    // Each Runnable is polled once where the task stays open until its future is ready, whatever the schedule.
+    let leaves_open = matches!(act, Act::Detach | Act::Poll | Act::Await);
+    let all_polled = polls == ROUNDS.wrapping_add(schedules);
+    // These end with an output, whatever the schedule.
+    let gets_output = matches!(act, Act::Poll | Act::Await);
+    assert!(rt; all_right && (all_polled || !leaves_open));
+    assert!(rt; outputs == ROUNDS || !gets_output, "{outputs} outputs");
+    race.tally
+        .assert_met(&rt, "acts overlapped a run or a wake");
 }
 
 #[test]

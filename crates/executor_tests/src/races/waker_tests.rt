@@ -2,7 +2,7 @@
 
 use crate::races::handles;
 use crate::races::raced::RaceSurroundings;
-use crate::races::rounds::{Calls, LEAST_MET, Rounds, Tally};
+use crate::races::rounds::{Calls, Rounds, Tally};
 use std::alloc::Global;
 use std::process::Abort;
 use std::sync::Wait;
@@ -24,9 +24,9 @@ fn drop_all<R: Wait + Drop>(
         rounds.open(rt, round);
         let waker = surroundings.take_kept();
         rounds.start(round, thread);
-        drops.begin();
-        handles::drop_waker(waker);
-        drops.end();
+        drops.begun.add_one();
+        drop(waker);
+        drops.ended.add_one();
         rounds.close(rt, round);
     }
 }
@@ -41,13 +41,13 @@ fn run_once<R: Wait + Abort + Drop + Copy>(
     round: u64,
 ) -> (bool, bool) {
     let is_ready = round % 2 == 0;
-    let (runnable, task) = handles::spawn(rt, surroundings, is_ready);
+    let (runnable, task) = surroundings.spawn(is_ready);
     let waker = handles::waker_of(rt, &runnable);
     handles::detach(task);
     surroundings.keep(waker);
     rounds.open(rt, round);
     rounds.start(round, 1);
-    let ended_before = drops.ended();
+    let ended_before = drops.ended.get();
     let rescheduled = handles::run(runnable);
     let met = drops.overlap(ended_before);
     rounds.close(rt, round);
@@ -80,21 +80,15 @@ fn play<R: Wait + Abort + Threads + Drop + Copy + Send + Sync>(
 // A race: each spawned Runnable is polled once. In every second round the run answers pending, and the last handle schedules one more
 // Runnable, of a closed task, which is not polled.
 fn race<R: Wait + Abort + Threads + Drop + Copy + Send + Sync>(rt: R, alloc: Global, thread: u64) {
-    let surroundings = handles::surroundings(rt, alloc);
+    let surroundings = RaceSurroundings::new(rt, alloc);
     let rounds = Rounds::new(2);
     let tally = Tally::new();
     let drops = Calls::new();
     play(rt, &rounds, &surroundings, &drops, &tally, thread);
-    let counts = [
-        tally.rounds(),
-        tally.faults(),
-        surroundings.outputs(),
-        surroundings.polls(),
-        surroundings.schedules(),
-    ];
-    let met = tally.met();
-    assert!(rt; counts == [ROUNDS, 0, ROUNDS / 2, ROUNDS, ROUNDS / 2]);
-    assert!(rt; LEAST_MET <= met, "{met} drops overlapped a run");
+    let all_right = tally.rounds.get() == ROUNDS && tally.faults.get() == 0;
+    let counts = surroundings.counts();
+    assert!(rt; all_right && counts == [ROUNDS / 2, ROUNDS, ROUNDS / 2]);
+    tally.assert_met(&rt, "drops overlapped a run");
 }
 
 #[test]
