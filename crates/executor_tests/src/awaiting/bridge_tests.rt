@@ -6,7 +6,7 @@ use crate::granted::granted;
 use crate::tray::{HEAP, fill};
 use async_task::{Future, Poll, Runnable, Task, Wake, Yields, spawn};
 use futures::executor::block_on;
-use futures::future::{Either, join, poll_immediate, select};
+use futures::future::{Either, join, ready, select};
 use kit_bridge::{AwaitError, Awaits, KitAwaiter};
 use linked_list_allocator::LocalHeap;
 use std::alloc::{AllocGlobal, Global};
@@ -233,10 +233,11 @@ fn wait_after_refusal<R: Wait + Abort + RandomSource + AllocGlobal + Drop + Copy
     dropped: &Arc<AtomicU64>,
 ) -> (bool, bool, Answer) {
     let (refused, runnable, mut awaits) = bridged_later(rt, alloc, heap, dropped);
-    let polled = granted(&rt, block_on(&rt, poll_immediate(&mut awaits)));
+    let polled = block_on(&rt, select(&mut awaits, ready(())));
+    let pending = matches!(polled, Ok(Either::Right(_)));
     runnable.run();
     let answer = granted(&rt, block_on(&rt, awaits));
-    (refused, polled.is_none(), answer)
+    (refused, pending, answer)
 }
 
 #[test]
