@@ -1,5 +1,5 @@
 //! What the tasks of a pool do: futures of two types are the variants of an enum, and one spawns a task and awaits it.
-//! `main` starts the workers, since it knows the type of the runtime: the prover takes no code that is generic in it and has another thread call `run`.
+//! `main` starts the workers, since it knows the type of the runtime: where that is a parameter, a call of `run` needs a proof that it outlives the pool.
 ghost use Rattle.std.specs.Prelude.{⊤};
 
 use async_task::{Future, Poll, TaskPoll, Yields};
