@@ -4,6 +4,7 @@ pub mod Attempts
 pub mod Carried
 pub mod Notified
 pub mod Starting
+pub mod Steps
 pub mod Spawned
 pub mod RunGoes
 pub mod RunRest

@@ -1,6 +1,6 @@
 -- What a step comes to for the party that made it.
-use Rattle.task_cell.proofs.Vocabulary.{◌≡◌, ℕ, List, [], ◌∷◌, ◌++◌, refl, sym, ap, ◌∙◌, subst, Me, rest, State, Position, Act, Slots, Slot, Deed, View, Party, member, view, head_of, future_first}
-use Rattle.task_cell.proofs.Vocabulary.{output_first, acted, Carried, Makes, deeds, position, holds, limit_of, StandsWith, GoesWith, after}
+use Rattle.task_cell.proofs.Vocabulary.{◌≡◌, ℕ, List, [], ◌∷◌, ◌++◌, refl, sym, ap, ◌∙◌, subst, Me, rest, State, Position, Act, Slots, Slot, Deed, View, Party, member, view, head_of}
+use Rattle.task_cell.proofs.Vocabulary.{acted, Carried, Makes, deeds, position, holds, limit_of, StandsWith, GoesWith, after}
 
 pub after-append : (a b l : List Deed) → after (a ++ b) l ≡ after b (after a l)
 after-append [] b l = refl
@@ -51,10 +51,3 @@ module _ {F T A : Type 0} where
   -- the first place of those that it has
   pub first_held : (p : Party F T A) (at : Position) (k : ℕ) (y : Slot F T A) (l : List (ℕ × Slot F T A)) → StandsWith at ((k, y) ∷ l) p → holds p ≡ (k, y) ∷ rest (holds p)
   first_held p at k y l s = let e = held_is p at ((k, y) ∷ l) s in e ∙ ap (λ r. (k, y) ∷ r) (ap rest (sym e))
-
-  -- .. and the first two, of future and output
-  pub future_held : (p : Party F T A) (at : Position) (y z : Slot F T A) → StandsWith at (future_first y z []) p → holds p ≡ future_first y z (rest (rest (holds p)))
-  future_held p at y z s = let e = held_is p at (future_first y z []) s in e ∙ ap (future_first y z) (ap (λ l. rest (rest l)) (sym e))
-
-  pub output_held : (p : Party F T A) (at : Position) (y z : Slot F T A) → StandsWith at (output_first y z []) p → holds p ≡ output_first y z (rest (rest (holds p)))
-  output_held p at y z s = let e = held_is p at (output_first y z []) s in e ∙ ap (output_first y z) (ap (λ l. rest (rest l)) (sym e))

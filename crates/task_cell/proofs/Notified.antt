@@ -46,9 +46,9 @@ module _ {F T A : Type 0} where
       record { hand = hand; value = y.0; waits = y.1; fits = free w.notifying w.registering is; goes = moved.goes p q (row BeginNotify w ∷ act TakeAwaiter ∷ []) (Releaser hand way) ((2, y.0) ∷ held) cell m.viewed y.2 }
 
   -- .. as nobody else was found at it
-  pub taken_free : (p q : Party F T A) (w v : State) (n r : Bool) (s : (way : NotifyingCall) × (held : List (ℕ × Slot F T A)) × StandsWith (Notifier way) held p) → q.seat.table_id ≡ p.seat.table_id → Makes (taking_awaiter w) w p.seat.me q.seat.me
-      → v ≡ w → n ≡ v.notifying → r ≡ v.registering → n ≡ false → r ≡ false → Taken s.0 s.1 w p q
-  taken_free p q w v n r s cell made same e f g h = taken s.0 s.1 p q w s.2 cell made (neither w.notifying w.registering (ap (λ u. u.notifying) (sym same) ∙ (sym e ∙ g)) (ap (λ u. u.registering) (sym same) ∙ (sym f ∙ h)))
+  pub taken_free : (p q : Party F T A) (w : State) (n r : Bool) (s : (way : NotifyingCall) × (held : List (ℕ × Slot F T A)) × StandsWith (Notifier way) held p) → q.seat.table_id ≡ p.seat.table_id → Makes (taking_awaiter w) w p.seat.me q.seat.me
+      → n ≡ w.notifying → r ≡ w.registering → n ≡ false → r ≡ false → Taken s.0 s.1 w p q
+  taken_free p q w n r s cell made e f g h = taken s.0 s.1 p q w s.2 cell made (neither w.notifying w.registering (sym e ∙ g) (sym f ∙ h))
 
   pub released : (hand : Option ℕ) (way : NotifyingCall) (y : Slot F T A) (held : List (ℕ × Slot F T A)) (p q : Party F T A) (w : State) → StandsWith (Releaser hand way) ((2, y) ∷ held) p → q.seat.table_id ≡ p.seat.table_id
       → Makes (releasing_awaiter w) w p.seat.me q.seat.me → GoesWith (row EndNotify w ∷ []) (after_taking hand way) held p q

@@ -4,7 +4,7 @@ pub use Rattle.std.proofs.Common.{Bool, IfSome, List, None, Option, Some, [], ap
 pub use Rattle.std.proofs.Common.{map, not, refl, rules, set, subst, suc, sym, true, zero, ℕ, ⊎_elim, ◌&&◌, ◌++◌, ◌+◌, ◌<◌, ◌==◌, ◌||◌, ◌∙◌, ◌∷◌, ◌≡◌, ◌≢◌, ◌⊎◌}
 pub use Rattle.std.specs.Arc.{arc_value}
 pub use Rattle.std.specs.Prelude.{Err, IfErr, IfOk, Ok, Result, if◌then◌else◌, nat_eq, nat_lt}
-pub use Rattle.task_cell.specs.Calls.{Fits, Goes, GoesWith, IsNew, Notifies, Stands, StandsWith, deeds, finds_none, holds, limit_of, misses, position}
+pub use Rattle.task_cell.specs.Calls.{Fits, Goes, GoesWith, IsNew, MayMake, Notifies, Stands, StandsWith, deeds, finds_none, holds, limit_of, misses, position}
 pub use Rattle.task_cell.specs.Calls.{takes_awaiter}
 pub use Rattle.task_cell.specs.Handed.{HandedOver, PolledOnce}
 pub use Rattle.task_cell.specs.LastWord.{IsLastWord}
@@ -57,7 +57,7 @@ pub use Rattle.task_laws.specs.declared.positions.Rest.TheVariants.{Ended, Lent,
 pub use Rattle.task_laws.specs.declared.positions.WithoutPoll.TheVariants.{ClosedRun, DroppedRunnable}
 pub use Rattle.task_steps.proofs.Acts.{both, leads_found, row_found}
 pub use Rattle.task_steps.proofs.Advance.{Finds, Steps, takes_future}
-pub use Rattle.task_steps.proofs.Allowed.{OwesEnd, steps_always}
+pub use Rattle.task_steps.proofs.Allowed.{Owes, OwesEnd, steps_always}
 pub use Rattle.task_steps.proofs.Attempts.{may_try, never_ends}
 pub use Rattle.task_steps.proofs.AwaiterOwed.{drops, on_free, on_work, releases_awaiter, same_way, takes, wakes}
 pub use Rattle.task_steps.proofs.Bools.{never}

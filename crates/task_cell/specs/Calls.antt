@@ -1,6 +1,7 @@
 -- What a call of the cell asks of its party, and says of it.
 use Rattle.std.specs.Prelude.{◌≡◌, ℕ, List, [], ◌∷◌, Bool, true, false, Option, Some, None}
-use Rattle.task_core.specs.Word.{State}
+use Rattle.atomic_table.specs.Table.{Allows}
+use Rattle.task_core.specs.Word.{State, state_of}
 use Rattle.task_core.specs.Rows.{found}
 use Rattle.task_core.specs.declared.acts.Act.{Act}
 use Rattle.task_laws.specs.declared.positions.Position.{Position}
@@ -9,10 +10,10 @@ use Rattle.task_laws.specs.Table.{after_taking}
 use Rattle.task_steps.specs.declared.table.Slot.{Slot}
 use Rattle.task_steps.specs.declared.table.Deed.{Deed}
 use Rattle.task_cell.specs.declared.cell.Party.{Party}
-use Rattle.task_steps.specs.Rule.{member, view, fresh}
+use Rattle.task_steps.specs.Rule.{member, view, fresh, RuleHolds}
 use Rattle.task_steps.specs.Deeds.{row, act, after}
 use Rattle.task_steps.specs.Standing.{way_of, as_runnable, as_waker}
-use Rattle.task_steps.specs.Steps.{head_of}
+use Rattle.task_steps.specs.Steps.{head_of, Makes}
 
 -- the table has the row for this word; no limit is asked for
 abbrev pub Fits : Act → State → Type 0
@@ -39,6 +40,11 @@ module _ {F T A : Type 0} where
 
   abbrev pub Stands : Position → Party F T A → Type 0
   Stands at p = StandsWith at [] p
+
+  -- the rule allows the party these acts by the word that is found, and to write this number in its place
+  abbrev pub MayMake : ℕ → (State → List Act) → (ℕ → ℕ) → Party F T A → Type 0
+  MayMake limit acts write p = Allows (RuleHolds {F = F} {T = T} {A = A} limit) 3 p.seat.id p.seat.me 0 write
+      (λ n me. Makes (acts (state_of n)) (state_of n) p.seat.me me)
 
   -- a Runnable or a waker that has done nothing, alone on its seat
   pub data IsFreshHandle (p : Party F T A) : Type 0 where

@@ -181,6 +181,7 @@ mod run;
 pub(crate) mod share;
 mod spawn;
 mod start;
+mod step;
 mod task;
 mod wake;
 pub(crate) mod waker;

@@ -14,9 +14,8 @@ ghost use Rattle.task_steps.specs.Standing.{way_of};
 
 use super::{Cell, Party};
 use std::alloc::Allocator;
-use task_core::word::{AWAITER, NOTIFYING, Word};
+use task_core::word::{AWAITER, NOTIFYING};
 use task_core::{Wake, Yields};
-use task_steps::Always;
 use task_steps::common::{Dropping, ReleasingAwaiter, TakingAwaiter, Waking};
 use task_steps::places::{Held, take_out};
 use task_steps::table::Kept;
@@ -28,14 +27,12 @@ impl<R: Drop, F: Yields, Q: Drop, M: Drop, A: Drop, B: Allocator> Cell<R, F, Q, 
         requires party { (way : NotifyingCall) × (held : List (ℕ × Slot F _ A)) × StandsWith (Notifier way) held party.old }
         ensures { Notifies party.old party.new (held result) }
     {
-        let shared = &self.table.shared;
-        let found = shared.fetch_or::<Always<TakingAwaiter>>(&mut party.seat, 0, NOTIFYING);
-        let found = Word::from_bits(found);
+        let found = self.fetch_or::<TakingAwaiter>(party, NOTIFYING);
         if found.notifying() || found.registering() {
             return None;
         }
-        let awaiter = take_out(shared, &mut party.seat, 2).into_awaiter();
-        shared.fetch_and::<Always<ReleasingAwaiter>>(&mut party.seat, 0, !(NOTIFYING | AWAITER));
+        let awaiter = take_out(&self.table.shared, &mut party.seat, 2).into_awaiter();
+        self.fetch_and::<ReleasingAwaiter>(party, !(NOTIFYING | AWAITER));
         awaiter
     }
 
@@ -54,7 +51,7 @@ impl<R: Drop, F: Yields, Q: Drop, M: Drop, A: Drop, B: Allocator> Cell<R, F, Q, 
         requires party { (i : ℕ) × (way : NotifyingCall) × (held : List (ℕ × Slot F _ A)) × StandsWith (AwaiterInHand i way) held party.old }
         ensures { GoesWith (act WakeAwaiter ∷ []) (after_waking (way_of (position party.old))) (holds party.old) party.old party.new }
     {
-        self.table.shared.load::<Always<Waking>>(&mut party.seat, 0);
+        self.load::<Waking>(party);
     }
 
     // Writes down that the awaiter in hand was dropped. One load.
@@ -63,9 +60,7 @@ impl<R: Drop, F: Yields, Q: Drop, M: Drop, A: Drop, B: Allocator> Cell<R, F, Q, 
         requires party { (i : ℕ) × (way : NotifyingCall) × (held : List (ℕ × Slot F _ A)) × StandsWith (AwaiterInHand i way) held party.old × (may_drop way ≡ true) }
         ensures { GoesWith (act DropAwaiter ∷ []) (after_waking (way_of (position party.old))) (holds party.old) party.old party.new }
     {
-        self.table
-            .shared
-            .load::<Always<Dropping>>(&mut party.seat, 0);
+        self.load::<Dropping>(party);
     }
 }
 

@@ -20,7 +20,6 @@ use std::alloc::Allocator;
 use std::sync::Wait;
 use task_core::word::Word;
 use task_core::{Wake, Yields};
-use task_steps::Always;
 use task_steps::places::{Held, take_out};
 use task_steps::poll::HandingOut;
 use task_steps::table::Kept;
@@ -32,9 +31,8 @@ impl<R: Drop, F: Yields, Q: Drop, M: Drop, A: Drop, B: Allocator> Cell<R, F, Q, 
         requires party { (i : ℕ) × (y : Slot F _ A) × (z : Slot F _ A) × StandsWith (TookOutput i) (output_first y z []) party.old × IsOutput z }
         ensures { Goes (act HandOutOutput ∷ act EndCall ∷ []) (as_task (poll_number (position party.old))) party.old party.new }
     {
-        let shared = &self.table.shared;
-        let output = take_out(shared, &mut party.seat, 1).into_output();
-        shared.load::<Always<HandingOut>>(&mut party.seat, 0);
+        let output = take_out(&self.table.shared, &mut party.seat, 1).into_output();
+        self.load::<HandingOut>(party);
         output
     }
 }

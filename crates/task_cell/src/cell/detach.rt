@@ -19,11 +19,11 @@ use std::alloc::Allocator;
 use std::sync::{Arc, Wait};
 use task_core::word::{TASK, Word};
 use task_core::{Schedule, Wake, Yields};
+use task_steps::Knowing;
 use task_steps::common::DroppingOutput;
 use task_steps::table::Kept;
 use task_steps::task::{Detaching, GivingTaskUp};
 use task_steps::words::{Detached, given_up_as};
-use task_steps::{Always, Knowing};
 
 impl<R: Drop, F: Yields, Q: Drop, M: Drop, A: Drop, B: Allocator> Cell<R, F, Q, M, A, B> {
     // Writes down that the output in hand was dropped, and gives the places back. One load.
@@ -32,9 +32,7 @@ impl<R: Drop, F: Yields, Q: Drop, M: Drop, A: Drop, B: Allocator> Cell<R, F, Q, 
         requires party { (y : Slot F _ A) × (z : Slot F _ A) × StandsWith OutputCloser (output_first y z []) party.old × IsEmpty z }
         ensures { Goes (act DropOutput ∷ []) Detacher party.old party.new }
     {
-        self.table
-            .shared
-            .load::<Always<DroppingOutput>>(&mut party.seat, 0);
+        self.load::<DroppingOutput>(party);
     }
 
     // The output that nobody claimed is dropped, and then the Task given up, by a single fetch. Whether the slots are to be emptied.

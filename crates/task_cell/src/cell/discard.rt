@@ -16,7 +16,6 @@ use super::{Cell, Party};
 use std::alloc::Allocator;
 use task_core::word::CLOSED;
 use task_core::{Wake, Yields};
-use task_steps::Always;
 use task_steps::run::Discarding;
 use task_steps::table::Kept;
 
@@ -27,9 +26,7 @@ impl<R: Drop, F: Yields, Q: Drop, M: Drop, A: Drop, B: Allocator> Cell<R, F, Q, 
         requires party { Stands as_runnable party.old }
         ensures { (d : Deed) × (y : Slot F _ A) × (z : Slot F _ A) × DiscardStart d × GoesWith (d ∷ []) (FutureInHand DroppedRunnable) (future_first y z []) party.old party.new × IsFuture y }
     {
-        self.table
-            .shared
-            .fetch_or::<Always<Discarding>>(&mut party.seat, 0, CLOSED);
+        self.fetch_or::<Discarding>(party, CLOSED);
     }
 }
 

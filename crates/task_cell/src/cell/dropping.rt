@@ -15,7 +15,7 @@ ghost use Rattle.task_cell.specs.WakerPaths.{DropsWaker, WakerDropPath};
 use super::{Cell, Party, Runnable};
 use std::alloc::Allocator;
 use std::sync::{Arc, Wait};
-use task_core::word::{CLOSED, REFERENCE, SCHEDULED, Word};
+use task_core::word::{CLOSED, REFERENCE, SCHEDULED};
 use task_core::{Schedule, Wake, Yields};
 use task_steps::Always;
 use task_steps::table::Kept;
@@ -32,9 +32,7 @@ impl<R: Drop, F: Yields, Q: Drop, M: Drop, A: Drop, B: Allocator> Cell<R, F, Q, 
         requires party { Stands as_waker party.old }
         ensures { DropsWaker party.old party.new result }
     {
-        let shared = &self.table.shared;
-        let found = shared.fetch_sub::<Always<DroppingWaker>>(&mut party.seat, 0, REFERENCE);
-        dropped_as(Word::from_bits(found))
+        dropped_as(self.fetch_sub::<DroppingWaker>(party))
     }
 
     // The last waker of an open task closes it, and schedules it once more. Nobody else is left to change the word.

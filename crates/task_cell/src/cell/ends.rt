@@ -20,12 +20,12 @@ use std::alloc::Allocator;
 use std::sync::Wait;
 use task_core::Yields;
 use task_core::word::{RUNNING, SCHEDULED, Word};
+use task_steps::Knowing;
 use task_steps::common::{DroppingOutput, Ending};
 use task_steps::places::{Held, put_output};
 use task_steps::run::{AnsweringPending, AnsweringReady, Completing, EndingClosed, EndingPending};
 use task_steps::table::Kept;
 use task_steps::words::{PendingEnd, pending_end};
-use task_steps::{Always, Knowing};
 
 impl<R: Drop, F: Yields, Q: Drop, M: Drop, A: Drop, B: Allocator> Cell<R, F, Q, M, A, B> {
     // Writes down that the call has ended. One load.
@@ -34,7 +34,7 @@ impl<R: Drop, F: Yields, Q: Drop, M: Drop, A: Drop, B: Allocator> Cell<R, F, Q, 
         requires party { (answer : Answer) × (r : Rest) × Stands (CallEnding answer r) party.old }
         ensures { Goes (act EndCall ∷ []) (rest_of (position party.old)) party.old party.new }
     {
-        self.table.shared.load::<Always<Ending>>(&mut party.seat, 0);
+        self.load::<Ending>(party);
     }
 
     // The poll has answered Ready: the word that was found. One load.
@@ -43,9 +43,7 @@ impl<R: Drop, F: Yields, Q: Drop, M: Drop, A: Drop, B: Allocator> Cell<R, F, Q, 
         requires party { (held : List (ℕ × Slot F _ A)) × StandsWith Polling held party.old }
         ensures { (held : List (ℕ × Slot F _ A)) → StandsWith Polling held party.old → GoesWith (act AnswerReady ∷ []) Ready held party.old party.new }
     {
-        let shared = &self.table.shared;
-        let found = shared.load::<Always<AnsweringReady>>(&mut party.seat, 0);
-        Word::from_bits(found)
+        self.load::<AnsweringReady>(party)
     }
 
     // The poll has answered Pending: the word that was found. Where it shows a closed task, the future is to be dropped. One load.
@@ -67,9 +65,7 @@ impl<R: Drop, F: Yields, Q: Drop, M: Drop, A: Drop, B: Allocator> Cell<R, F, Q, 
         ensures { (due : Bool) (y z : Slot F _ A) → StandsWith (OutputInHand due) (output_first y z []) party.old → Goes (act DropOutput ∷ []) (notifies due OfRun) party.old party.new }
     {
         self.clear(party, 1);
-        self.table
-            .shared
-            .load::<Always<DroppingOutput>>(&mut party.seat, 0);
+        self.load::<DroppingOutput>(party);
     }
 
     // The end step of a run of a closed task, after its future was dropped: a single fetch, never tried again.
@@ -78,13 +74,7 @@ impl<R: Drop, F: Yields, Q: Drop, M: Drop, A: Drop, B: Allocator> Cell<R, F, Q, 
         requires party { (y : Slot F _ A) × (z : Slot F _ A) × StandsWith PendingFutureDropped (future_first y z []) party.old }
         ensures { (y z : Slot F _ A) → StandsWith PendingFutureDropped (future_first y z []) party.old → (result.closed ≡ true) × Goes (row EndClosed result ∷ []) (notifies result.awaiter OfRun) party.old party.new }
     {
-        let shared = &self.table.shared;
-        let found = shared.fetch_and::<Always<EndingClosed>>(
-            &mut party.seat,
-            0,
-            !(SCHEDULED | RUNNING),
-        );
-        Word::from_bits(found)
+        self.fetch_and::<EndingClosed>(party, !(SCHEDULED | RUNNING))
     }
 }
 

@@ -13,7 +13,6 @@ use std::alloc::Allocator;
 use std::sync::Wait;
 use task_core::Yields;
 use task_core::word::Word;
-use task_steps::Always;
 use task_steps::table::Kept;
 use task_steps::waker::{Gaining, Parting, RefusingGain};
 
@@ -24,9 +23,7 @@ impl<R: Drop, F: Yields, Q: Drop, M: Drop, A: Drop, B: Allocator> Cell<R, F, Q, 
         requires party { Stands as_lent party.old }
         ensures path { Goes (act RefuseGain ∷ act EndCall ∷ []) as_lent party.old party.new }
     {
-        self.table
-            .shared
-            .load::<Always<RefusingGain>>(&mut party.seat, 0);
+        self.load::<RefusingGain>(party);
         refused.end();
     }
 }

@@ -19,7 +19,6 @@ use std::alloc::Allocator;
 use std::sync::Wait;
 use task_core::word::Word;
 use task_core::{TaskPoll, Wake, Yields};
-use task_steps::Always;
 use task_steps::common::Ending;
 use task_steps::poll::{Looking, LookingAgain};
 use task_steps::table::Kept;
@@ -32,7 +31,7 @@ impl<R: Drop, F: Yields, Q: Drop, M: Drop, A: Drop, B: Allocator> Cell<R, F, Q, 
         requires party { (i : ℕ) × (answer : PollAnswer) × Stands (Answering i answer) party.old }
         ensures { Goes (act EndCall ∷ []) (as_task (poll_number (position party.old))) party.old party.new }
     {
-        self.table.shared.load::<Always<Ending>>(&mut party.seat, 0);
+        self.load::<Ending>(party);
     }
 }
 

@@ -15,9 +15,7 @@ ghost use Rattle.task_cell.specs.RunCalls.{GivesUp, Releases, Rests};
 
 use super::{Cell, Party};
 use std::alloc::Allocator;
-use task_core::word::{REFERENCE, Word};
 use task_core::{Wake, Yields};
-use task_steps::Always;
 use task_steps::places::take_out;
 use task_steps::run::{Emptying, GivingReferenceUp};
 use task_steps::table::Kept;
@@ -39,9 +37,8 @@ impl<R: Drop, F: Yields, Q: Drop, M: Drop, A: Drop, B: Allocator> Cell<R, F, Q, 
         requires party { (hand : Option ℕ) × (answer : Answer) × Stands (GivingUp hand answer) party.old }
         ensures { (hand : Option ℕ) (answer : Answer) → Stands (GivingUp hand answer) party.old → GivesUp hand answer party.old party.new result }
     {
-        let shared = &self.table.shared;
-        let found = shared.fetch_sub::<Always<GivingReferenceUp>>(&mut party.seat, 0, REFERENCE);
-        Word::from_bits(found).give_up_reference().is_none()
+        let found = self.fetch_sub::<GivingReferenceUp>(party);
+        found.give_up_reference().is_none()
     }
 
     // The last party empties the place of the awaiter, and gives it back. It makes no step on the word but a load. After it the party goes on in its call: to the awaiter in hand, or to the end.
@@ -51,9 +48,7 @@ impl<R: Drop, F: Yields, Q: Drop, M: Drop, A: Drop, B: Allocator> Cell<R, F, Q, 
         ensures { (hand : Option ℕ) (answer : Answer) (y : Slot F _ A) → StandsWith (Emptier hand answer) ((2, y) ∷ []) party.old → Goes (act EmptySlots ∷ []) (after_giving_up hand answer) party.old party.new }
     {
         self.clear(party, 2);
-        self.table
-            .shared
-            .load::<Always<Emptying>>(&mut party.seat, 0);
+        self.load::<Emptying>(party);
     }
 
     // The reference is given up; who had the last one empties the places.

@@ -19,7 +19,6 @@ use std::alloc::Allocator;
 use std::sync::Wait;
 use task_core::word::{AWAITER, NOTIFYING, REGISTERING};
 use task_core::{Wake, Yields};
-use task_steps::Always;
 use task_steps::common::{Dropping, Waking};
 use task_steps::places::{Held, put_awaiter, take_out};
 use task_steps::poll::{BeginningRegister, EndingNotified, EndingRegister, Refusing};
@@ -32,9 +31,7 @@ impl<R: Drop, F: Yields, Q: Drop, M: Drop, A: Drop, B: Allocator> Cell<R, F, Q, 
         requires party { (i : ℕ) × Stands (Registrar i) party.old }
         ensures { Goes (act RefuseClone ∷ act EndCall ∷ []) (as_task (poll_number (position party.old))) party.old party.new }
     {
-        self.table
-            .shared
-            .load::<Always<Refusing>>(&mut party.seat, 0);
+        self.load::<Refusing>(party);
     }
 
     // Writes down that the clone which a notifier made useless was dropped. One load.
@@ -43,9 +40,7 @@ impl<R: Drop, F: Yields, Q: Drop, M: Drop, A: Drop, B: Allocator> Cell<R, F, Q, 
         requires party { (i : ℕ) × Stands (UnusedClone i) party.old }
         ensures { Goes (act DropAwaiter ∷ []) (Looking (poll_number (position party.old))) party.old party.new }
     {
-        self.table
-            .shared
-            .load::<Always<Dropping>>(&mut party.seat, 0);
+        self.load::<Dropping>(party);
     }
 
     // Writes down that the clone which was taken out again was woken. One load.
@@ -54,7 +49,7 @@ impl<R: Drop, F: Yields, Q: Drop, M: Drop, A: Drop, B: Allocator> Cell<R, F, Q, 
         requires party { (i : ℕ) × Stands (CloneInHand i) party.old }
         ensures { Goes (act WakeAwaiter ∷ []) (Looking (poll_number (position party.old))) party.old party.new }
     {
-        self.table.shared.load::<Always<Waking>>(&mut party.seat, 0);
+        self.load::<Waking>(party);
     }
 
     // Puts the clone into the awaiter slot, and drops what stood there.
@@ -63,11 +58,10 @@ impl<R: Drop, F: Yields, Q: Drop, M: Drop, A: Drop, B: Allocator> Cell<R, F, Q, 
         requires party { (i : ℕ) × (hand : Option ℕ) × (y : Slot F _ A) × StandsWith (after_storing i hand) ((2, y) ∷ []) party.old × Waits hand y }
         ensures { (stood : Bool) × GoesWith (dropped_if stood) (Registered (poll_number (position party.old))) ((2, Awaiter clone.value) ∷ []) party.old party.new }
     {
-        let shared = &self.table.shared;
-        let old = put_awaiter(shared, &mut party.seat, clone).into_awaiter();
+        let old = put_awaiter(&self.table.shared, &mut party.seat, clone).into_awaiter();
         if let Some(old) = old {
             old.discard();
-            shared.load::<Always<Dropping>>(&mut party.seat, 0);
+            self.load::<Dropping>(party);
         }
     }
 
@@ -78,15 +72,10 @@ impl<R: Drop, F: Yields, Q: Drop, M: Drop, A: Drop, B: Allocator> Cell<R, F, Q, 
         ensures same { holds party.old ≡ (2, Awaiter result.value) ∷ [] }
         ensures path { (v : State) × (v.notifying ≡ true) × Goes (row EndRegisterNotified v ∷ []) (CloneInHand (poll_number (position party.old))) party.old party.new }
     {
-        let shared = &self.table.shared;
-        let Some(clone) = take_out(shared, &mut party.seat, 2).into_awaiter() else {
+        let Some(clone) = take_out(&self.table.shared, &mut party.seat, 2).into_awaiter() else {
             unreachable!()
         };
-        shared.fetch_and::<Always<EndingNotified>>(
-            &mut party.seat,
-            0,
-            !(AWAITER | REGISTERING | NOTIFYING),
-        );
+        self.fetch_and::<EndingNotified>(party, !(AWAITER | REGISTERING | NOTIFYING));
         clone
     }
 }

@@ -21,7 +21,6 @@ use std::alloc::Allocator;
 use std::sync::{Arc, Wait};
 use task_core::word::{SCHEDULED, Word};
 use task_core::{Schedule, Wake, Yields};
-use task_steps::Always;
 use task_steps::places::Held;
 use task_steps::run::Unscheduling;
 use task_steps::table::Kept;
@@ -34,11 +33,7 @@ impl<R: Drop, F: Yields, Q: Drop, M: Drop, A: Drop, B: Allocator> Cell<R, F, Q, 
         requires party { (closer : WithoutPoll) × (y : Slot F _ A) × (z : Slot F _ A) × StandsWith (FutureInHand closer) (future_first y z []) party.old × IsEmpty y }
         ensures { Goes (act DropFuture ∷ row Unschedule result ∷ []) (notifies result.awaiter (closing_way (position party.old))) party.old party.new }
     {
-        let found = self
-            .table
-            .shared
-            .fetch_and::<Always<Unscheduling>>(&mut party.seat, 0, !SCHEDULED);
-        Word::from_bits(found)
+        self.fetch_and::<Unscheduling>(party, !SCHEDULED)
     }
 }
 

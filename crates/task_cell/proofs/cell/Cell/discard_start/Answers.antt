@@ -1,9 +1,10 @@
-use Rattle.task_cell.proofs.Vocabulary.{rules, ap, state_of, steps_always, discards}
+use Rattle.task_cell.proofs.Vocabulary.{[], At, Runnable, discards}
+use Rattle.task_cell.proofs.Steps.{may_make}
 use Rattle.task_cell.proofs.RunGoes.{discarded}
 use Rattle.task_cell.proofs.cell.Cell.discard_start.Goals as goal
 
-pub fetch_or-requires : goal.fetch_or-requires
-fetch_or-requires g c = (search rules, search rules, steps_always _ _ _ _ _ _ _ _ _ _ _ _ _ (search rules) (ap (λ m. m.0) c.requires.party) (discards _ _ _ _ _ _ _))
+pub fetch_or-requires-clause-allowed : goal.fetch_or-requires-clause-allowed
+fetch_or-requires-clause-allowed g c = may_make _ c.args.party.now (At Runnable) [] _ _ c.requires.party (discards _ _ _ _ _ _ _)
 
 pub returns : goal.returns
-returns g c = let f = c.fetch_or.ensures in discarded c.args.party.now (record { seat = c.fetch_or.new.seat }) (state_of c.fetch_or.result) c.requires.party f.0 f.2
+returns g c = discarded c.args.party.now c.fetch_or.new.party c.fetch_or.result c.requires.party c.fetch_or.ensures.cell c.fetch_or.ensures.made

@@ -1,7 +1,7 @@
-use Rattle.task_cell.proofs.Vocabulary.{rules, ap, steps_always}
+use Rattle.task_cell.proofs.Vocabulary.{[], CallEnding}
+use Rattle.task_cell.proofs.Steps.{may_make}
 use Rattle.task_steps.proofs.AwaiterOwed.{ends}
 use Rattle.task_cell.proofs.cell.Cell.end.Goals as goal
 
-pub load-requires : goal.load-requires
-load-requires g c = let s = c.requires.party in
-    (search rules, search rules, steps_always _ _ _ _ _ _ _ _ _ _ _ _ _ (search rules) (ap (λ m. m.0) s.2) (ends _ _ _ _ s.0 s.1 _ _ _))
+pub load-requires-clause-allowed : goal.load-requires-clause-allowed
+load-requires-clause-allowed g c = let s = c.requires.party in may_make _ c.args.party.now (CallEnding s.0 s.1) [] _ _ s.2 (ends _ _ _ _ s.0 s.1 _ _ _)

@@ -1,7 +1,6 @@
-use Rattle.task_cell.proofs.Vocabulary.{rules, ap, OutputCloser, steps_always, drops_output}
-use Rattle.task_cell.proofs.Moved.{output_held}
+use Rattle.task_cell.proofs.Vocabulary.{[], refl, OutputCloser, output_first, drops_output}
+use Rattle.task_cell.proofs.Steps.{may_make}
 use Rattle.task_cell.proofs.cell.Cell.note_output_dropped.Goals as goal
 
-pub load-requires : goal.load-requires
-load-requires g c = let s = c.requires.party in
-    (search rules, search rules, steps_always _ _ _ _ _ _ _ _ _ _ _ _ _ (search rules) (ap (λ m. m.0) s.2) (drops_output _ _ _ _ _ _ s.0 s.1 _ (output_held c.args.party.now OutputCloser s.0 s.1 s.2)))
+pub load-requires-clause-allowed : goal.load-requires-clause-allowed
+load-requires-clause-allowed g c = let s = c.requires.party in may_make _ c.args.party.now (OutputCloser) (output_first s.0 s.1 []) _ _ s.2 (drops_output _ _ _ _ _ _ s.0 s.1 _ refl)

@@ -1,6 +1,6 @@
-use Rattle.task_cell.proofs.Vocabulary.{rules, ap, steps_always, wakes}
+use Rattle.task_cell.proofs.Vocabulary.{AwaiterInHand, wakes}
+use Rattle.task_cell.proofs.Steps.{may_make}
 use Rattle.task_cell.proofs.cell.Cell.note_woken.Goals as goal
 
-pub load-requires : goal.load-requires
-load-requires g c = let s = c.requires.party in
-    (search rules, search rules, steps_always _ _ _ _ _ _ _ _ _ _ _ _ _ (search rules) (ap (λ m. m.0) s.3) (wakes _ _ _ _ s.0 s.1 _ _ _))
+pub load-requires-clause-allowed : goal.load-requires-clause-allowed
+load-requires-clause-allowed g c = let s = c.requires.party in may_make _ c.args.party.now (AwaiterInHand s.0 s.1) s.2 _ _ s.3 (wakes _ _ _ _ s.0 s.1 _ _ _)

@@ -1,11 +1,13 @@
-use Rattle.task_cell.proofs.Vocabulary.{rules, ap, sym, ◌∙◌, steps_always, drops_stored, same_first, held}
+use Rattle.task_cell.proofs.Vocabulary.{◌∷◌, [], refl, ap, sym, ◌∙◌, Awaiter, after_storing, drops_stored, held}
+use Rattle.task_cell.proofs.Steps.{may_make}
 use Rattle.task_cell.proofs.Notified.{awaiter_there}
+use Rattle.task_cell.proofs.RunGoes.{at_rest}
+use Rattle.task_cell.proofs.Carried.{exchanges}
+use Rattle.task_cell.proofs.Moved.{stands}
 use Rattle.task_cell.proofs.cell.Cell.store.Goals as goal
 
-pub load-requires : goal.load-requires
-load-requires g c = let s = c.requires.party in let e = c.put_awaiter.ensures in (
-  search rules,
-  search rules,
-  steps_always _ _ _ _ _ _ _ _ _ _ _ _ _ (search rules) (ap (λ m. m.0) e.3 ∙ ap (λ m. m.0) s.3)
-      (drops_stored _ _ _ _ s.0 s.1 s.2 c.in-Some.old.value s.4 (same_first _ _ _ 2 s.2 _ (ap (λ m. m.1) s.3) e.2 ∙ awaiter_there c.put_awaiter.result.slot c.in-Some.old.value (sym c.into_awaiter-old.ensures ∙ ap held c.in-Some.is)) _ _ _),
-)
+pub load-requires-clause-allowed : goal.load-requires-clause-allowed
+load-requires-clause-allowed g c = let s = c.requires.party in let p = c.args.party.now in let e = c.put_awaiter.ensures in let at = after_storing s.0 s.1 in
+    let x = exchanges p p (record { seat = c.put_awaiter.new.seat }) [] at 2 s.2 c.put_awaiter.result.slot (Awaiter c.args.clone.value) [] (at_rest at ((2, s.2) ∷ []) p p s.3 refl refl) e.0 e.2 e.3 in
+    may_make _ (record { seat = c.put_awaiter.new.seat }) at ((2, Awaiter c.args.clone.value) ∷ []) _ _ (stands p (record { seat = c.put_awaiter.new.seat }) [] at ((2, Awaiter c.args.clone.value) ∷ []) x.1)
+    (drops_stored _ _ _ _ s.0 s.1 s.2 c.in-Some.old.value s.4 (x.0 ∙ awaiter_there c.put_awaiter.result.slot c.in-Some.old.value (sym c.into_awaiter-old.ensures ∙ ap held c.in-Some.is)) _ _ _)
