@@ -14,6 +14,7 @@ use Rattle.task_steps.specs.Rule.{member, view, fresh, RuleHolds}
 use Rattle.task_steps.specs.Deeds.{row, act, after}
 use Rattle.task_steps.specs.Standing.{way_of, as_runnable, as_waker}
 use Rattle.task_steps.specs.Steps.{head_of, Makes}
+use Rattle.task_steps.specs.Knows.{Knows}
 
 -- the table has the row for this word; no limit is asked for
 abbrev pub Fits : Act → State → Type 0
@@ -41,10 +42,10 @@ module _ {F T A : Type 0} where
   abbrev pub Stands : Position → Party F T A → Type 0
   Stands at p = StandsWith at [] p
 
-  -- the rule allows the party these acts by the word that is found, and to write this number in its place
+  -- the rule allows the party these acts by the word that is found, of which it knows what it has seen before, and this number in its place
   abbrev pub MayMake : ℕ → (State → List Act) → (ℕ → ℕ) → Party F T A → Type 0
   MayMake limit acts write p = Allows (RuleHolds {F = F} {T = T} {A = A} limit) 3 p.seat.id p.seat.me 0 write
-      (λ n me. Makes (acts (state_of n)) (state_of n) p.seat.me me)
+      (λ n me. Makes (acts (state_of n)) (state_of n) p.seat.me me × Knows (deeds p) (state_of n))
 
   -- a Runnable or a waker that has done nothing, alone on its seat
   pub data IsFreshHandle (p : Party F T A) : Type 0 where

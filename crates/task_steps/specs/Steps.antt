@@ -1,7 +1,7 @@
 -- What a step on the word does to the seat that makes it.
 use Rattle.std.specs.Prelude.{◌≡◌, ℕ, Bool, true, false, not, ◌&&◌, ◌||◌, List, [], ◌∷◌, ◌++◌, map, Option, Some, None}
-use Rattle.atomic_table.specs.Table.{Me, Step, rest}
-use Rattle.task_core.specs.Word.{State, state_of, is_open}
+use Rattle.atomic_table.specs.Table.{Me, rest}
+use Rattle.task_core.specs.Word.{State, is_open}
 use Rattle.task_laws.specs.declared.positions.Position.{Position}
 use Rattle.task_laws.specs.declared.positions.Position.TheVariants.{At, OrphanHolder, Releaser, OldAwaiterInHand, Registered, OutputCloser}
 use Rattle.task_laws.specs.declared.positions.Position.TheVariants.{TookOutput, Notifier}
@@ -128,10 +128,6 @@ module _ {F T A : Type 0} where
     pub fits : all_fit m.0.limit w acts ≡ true
     pub viewed : m'.0 ≡ acted w slots acts m.0
     pub carried : Carried (head_of m.0.members).at (head_of m'.0.members).at m.1 m'.1
-
-  -- what a step tells that always makes its acts, by the word that it finds
-  abbrev pub made : (State → List Act) → Step (Slot F T A) → Me (Slot F T A) View → ℕ → Me (Slot F T A) View → Type 0
-  made acts st m r m' = Makes (acts (state_of r)) (state_of r) m m'
 
 -- the word that an act left, where it found one, is such a one
 abbrev pub leaves_such : (State → Bool) → Act → Option State → Bool

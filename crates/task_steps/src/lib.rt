@@ -19,4 +19,4 @@ pub mod task;
 pub mod waker;
 pub mod words;
 
-pub use script::{Always, Knowing};
+pub use script::Knowing;

@@ -1,5 +1,4 @@
 //! The steps of the calls by name: which acts each makes, by the word that it finds.
-ghost use Rattle.task_steps.specs.Steps.{made};
 ghost use Rattle.task_steps.specs.Knows.{known};
 ghost use Rattle.std.specs.Prelude.{List};
 ghost use Rattle.task_core.specs.Word.{State};
@@ -13,16 +12,7 @@ pub trait Script {
     ghost acts: { State → List Act };
 }
 
-/// A step that always makes its acts: a load, a fetch or a store.
-pub struct Always<P: Script> {
-    script: P,
-}
-
-impl<F, T, A, P: Script> Play<Slot<F, T, A>, View> for Always<P> {
-    ghost then = { made P.acts };
-}
-
-/// A step that always makes its acts, and tells what its party knows of the word by what it has seen before.
+/// A step that makes its acts whatever it finds, a load, a fetch or a store. It tells what its party knows of the word by what it has seen before.
 pub struct Knowing<P: Script> {
     script: P,
 }

@@ -17,9 +17,8 @@ ghost use Rattle.task_steps.specs.Standing.{as_task, as_ended};
 use super::{Cell, Party, Runnable};
 use std::alloc::Allocator;
 use std::sync::{Arc, Wait};
-use task_core::word::{TASK, Word};
+use task_core::word::TASK;
 use task_core::{Schedule, Wake, Yields};
-use task_steps::Knowing;
 use task_steps::common::DroppingOutput;
 use task_steps::table::Kept;
 use task_steps::task::{Detaching, GivingTaskUp};
@@ -43,11 +42,8 @@ impl<R: Drop, F: Yields, Q: Drop, M: Drop, A: Drop, B: Allocator> Cell<R, F, Q, 
     {
         self.clear(party, 1);
         self.note_output_dropped(party);
-        let found = self
-            .table
-            .shared
-            .fetch_and::<Knowing<GivingTaskUp>>(&mut party.seat, 0, !TASK);
-        Word::from_bits(found).references() == 0
+        let found = self.fetch_and::<GivingTaskUp>(party, !TASK);
+        found.references() == 0
     }
 }
 

@@ -17,7 +17,7 @@ use std::alloc::Allocator;
 use std::sync::{Arc, Wait};
 use task_core::word::{CLOSED, REFERENCE, SCHEDULED};
 use task_core::{Schedule, Wake, Yields};
-use task_steps::Always;
+use task_steps::Knowing;
 use task_steps::table::Kept;
 use task_steps::waker::{ClosingOrphan, DroppingWaker};
 use task_steps::words::{Dropped, dropped_as};
@@ -43,7 +43,7 @@ impl<R: Drop, F: Yields, Q: Drop, M: Drop, A: Drop, B: Allocator> Cell<R, F, Q, 
     {
         self.table
             .shared
-            .swap::<Always<ClosingOrphan>>(&mut party.seat, 0, ORPHAN);
+            .swap::<Knowing<ClosingOrphan>>(&mut party.seat, 0, ORPHAN);
     }
 }
 

@@ -20,7 +20,6 @@ use std::alloc::Allocator;
 use std::sync::Wait;
 use task_core::Yields;
 use task_core::word::{RUNNING, SCHEDULED, Word};
-use task_steps::Knowing;
 use task_steps::common::{DroppingOutput, Ending};
 use task_steps::places::{Held, put_output};
 use task_steps::run::{AnsweringPending, AnsweringReady, Completing, EndingClosed, EndingPending};
@@ -53,9 +52,7 @@ impl<R: Drop, F: Yields, Q: Drop, M: Drop, A: Drop, B: Allocator> Cell<R, F, Q, 
         ensures room { result.references < 72057594037927935 }
         ensures path { (held : List (ℕ × Slot F _ A)) → StandsWith Polling held party.old → AnswersPending held party.old party.new result.closed }
     {
-        let shared = &self.table.shared;
-        let found = shared.load::<Knowing<AnsweringPending>>(&mut party.seat, 0);
-        Word::from_bits(found)
+        self.load::<AnsweringPending>(party)
     }
 
     // The output that nobody will claim is dropped. One load.

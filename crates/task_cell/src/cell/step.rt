@@ -1,14 +1,15 @@
 //! The steps of a call that it makes whatever word it finds: loads and fetches, never tried again.
 ghost use Rattle.std.specs.Prelude.{◌≡◌, ◌+◌, ◌-◌, ◌%◌, ◌^◌, bit_and, bit_or};
 ghost use Rattle.task_steps.specs.Steps.{Makes};
+ghost use Rattle.task_steps.specs.Knows.{Knows};
 ghost use Rattle.task_cell.specs.Belongs.{IsOf};
-ghost use Rattle.task_cell.specs.Calls.{MayMake};
+ghost use Rattle.task_cell.specs.Calls.{MayMake, deeds};
 
 use super::{Cell, Party};
 use std::alloc::Allocator;
 use task_core::Yields;
 use task_core::word::{REFERENCE, Word};
-use task_steps::Always;
+use task_steps::Knowing;
 use task_steps::script::Script;
 use task_steps::table::Kept;
 
@@ -19,8 +20,9 @@ impl<R: Drop, F: Yields, Q: Drop, M: Drop, A: Drop, B: Allocator> Cell<R, F, Q, 
         requires allowed { MayMake self.now.limit S.acts (λ n. n) party.old }
         ensures cell { party.new.seat.table_id ≡ party.old.seat.table_id }
         ensures made { Makes (S.acts result) result party.old.seat.me party.new.seat.me }
+        ensures knows { Knows (deeds party.old) result }
     {
-        Word::from_bits(self.table.shared.load::<Always<S>>(&mut party.seat, 0))
+        Word::from_bits(self.table.shared.load::<Knowing<S>>(&mut party.seat, 0))
     }
 
     // Makes a step by a fetch that keeps these bits alone: the word that it found.
@@ -29,9 +31,10 @@ impl<R: Drop, F: Yields, Q: Drop, M: Drop, A: Drop, B: Allocator> Cell<R, F, Q, 
         requires allowed { MayMake self.now.limit S.acts (λ n. bit_and n bits) party.old }
         ensures cell { party.new.seat.table_id ≡ party.old.seat.table_id }
         ensures made { Makes (S.acts result) result party.old.seat.me party.new.seat.me }
+        ensures knows { Knows (deeds party.old) result }
     {
         let shared = &self.table.shared;
-        Word::from_bits(shared.fetch_and::<Always<S>>(&mut party.seat, 0, bits))
+        Word::from_bits(shared.fetch_and::<Knowing<S>>(&mut party.seat, 0, bits))
     }
 
     // Makes a step by a fetch that sets these bits: the word that it found.
@@ -40,9 +43,10 @@ impl<R: Drop, F: Yields, Q: Drop, M: Drop, A: Drop, B: Allocator> Cell<R, F, Q, 
         requires allowed { MayMake self.now.limit S.acts (λ n. bit_or n bits) party.old }
         ensures cell { party.new.seat.table_id ≡ party.old.seat.table_id }
         ensures made { Makes (S.acts result) result party.old.seat.me party.new.seat.me }
+        ensures knows { Knows (deeds party.old) result }
     {
         let shared = &self.table.shared;
-        Word::from_bits(shared.fetch_or::<Always<S>>(&mut party.seat, 0, bits))
+        Word::from_bits(shared.fetch_or::<Knowing<S>>(&mut party.seat, 0, bits))
     }
 
     // Makes a step by a fetch that takes one reference off: the word that it found.
@@ -51,8 +55,9 @@ impl<R: Drop, F: Yields, Q: Drop, M: Drop, A: Drop, B: Allocator> Cell<R, F, Q, 
         requires allowed { MayMake self.now.limit S.acts (λ n. (n + (2 ^ 64 - 256)) % 2 ^ 64) party.old }
         ensures cell { party.new.seat.table_id ≡ party.old.seat.table_id }
         ensures made { Makes (S.acts result) result party.old.seat.me party.new.seat.me }
+        ensures knows { Knows (deeds party.old) result }
     {
         let shared = &self.table.shared;
-        Word::from_bits(shared.fetch_sub::<Always<S>>(&mut party.seat, 0, REFERENCE))
+        Word::from_bits(shared.fetch_sub::<Knowing<S>>(&mut party.seat, 0, REFERENCE))
     }
 }

@@ -12,7 +12,6 @@ use super::{Cell, Party};
 use std::alloc::Allocator;
 use task_core::Yields;
 use task_core::word::Word;
-use task_steps::Knowing;
 use task_steps::table::Kept;
 use task_steps::task::LookingFinished;
 
@@ -24,11 +23,7 @@ impl<R: Drop, F: Yields, Q: Drop, M: Drop, A: Drop, B: Allocator> Cell<R, F, Q, 
         ensures path { (w : State) × Goes (row LookFinished w ∷ act EndCall ∷ []) (position party.old) party.old party.new × (result ≡ not (is_open w)) }
         ensures seen { saw_over (deeds party.old) ≡ true → result ≡ true }
     {
-        let found = self
-            .table
-            .shared
-            .load::<Knowing<LookingFinished>>(&mut party.seat, 0);
-        !Word::from_bits(found).is_open()
+        !self.load::<LookingFinished>(party).is_open()
     }
 
     /// The word as one load finds it. No party notes it, and the next moment it may be another; only a task that is over stays so. It waits for nobody.

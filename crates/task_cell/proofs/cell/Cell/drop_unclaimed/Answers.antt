@@ -1,5 +1,6 @@
-use Rattle.task_cell.proofs.Vocabulary.{rules, ap, ◌∷◌, [], sym, ◌∙◌, subst, nat_eq, State, OutputCloser, Detacher, DropOutput, Empty, head_of, saw_closed, output_first, act, GivesTaskUp}
-use Rattle.task_cell.proofs.Vocabulary.{steps_knowing, gives_task_up}
+use Rattle.task_cell.proofs.Vocabulary.{ap, ◌∷◌, [], sym, ◌∙◌, subst, nat_eq, OutputCloser, Detacher, DropOutput, Empty, head_of, saw_closed, output_first, act, GivesTaskUp}
+use Rattle.task_cell.proofs.Vocabulary.{gives_task_up}
+use Rattle.task_cell.proofs.Steps.{may_make}
 use Rattle.task_cell.proofs.Moved.{stands, goes_on}
 use Rattle.task_cell.proofs.TaskMoves.{gives_rest}
 use Rattle.task_cell.proofs.cell.Cell.drop_unclaimed.Goals as goal
@@ -11,14 +12,16 @@ pub note_output_dropped-requires-clause-party : goal.note_output_dropped-require
 note_output_dropped-requires-clause-party g c = let s = c.requires.party in let put = c.clear.ensures OutputCloser s.1 ((0, s.0) ∷ []) s.2 in
     (s.0, Empty, stands c.args.party.now c.clear.new.party [] OutputCloser (output_first s.0 Empty []) put, tt)
 
-pub fetch_and-found-requires : goal.fetch_and-found-requires
-fetch_and-found-requires g c = let s = c.requires.party in let put = c.clear.ensures OutputCloser s.1 ((0, s.0) ∷ []) s.2 in
+pub fetch_and-found-requires-clause-cell : goal.fetch_and-found-requires-clause-cell
+fetch_and-found-requires-clause-cell g c = let s = c.requires.party in c.note_output_dropped.ensures.cell ∙ ((c.clear.ensures OutputCloser s.1 ((0, s.0) ∷ []) s.2).cell ∙ c.requires.cell)
+
+pub fetch_and-found-requires-clause-allowed : goal.fetch_and-found-requires-clause-allowed
+fetch_and-found-requires-clause-allowed g c = let s = c.requires.party in let put = c.clear.ensures OutputCloser s.1 ((0, s.0) ∷ []) s.2 in
     let d = goes_on c.args.party.now c.clear.new.party c.note_output_dropped.new.party [] (act DropOutput ∷ []) OutputCloser Detacher (output_first s.0 Empty []) [] put c.note_output_dropped.ensures in
-    (search rules, search rules, steps_knowing _ _ _ _ _ _ _ _ _ _ _ _ _ (search rules) (ap (λ m. m.0) d.is) (gives_task_up _ _ _ _ _ _ _ s.3))
+    may_make _ c.note_output_dropped.new.party Detacher [] _ _ (stands c.args.party.now c.note_output_dropped.new.party (act DropOutput ∷ []) Detacher [] d) (gives_task_up _ _ _ _ _ _ _ (ap (λ m. saw_closed (head_of m.0.members).deeds) d.is ∙ s.3))
 
 pub returns : goal.returns
 returns g c = let s = c.requires.party in let put = c.clear.ensures OutputCloser s.1 ((0, s.0) ∷ []) s.2 in let given = c.fetch_and-found.ensures in
     let d = goes_on c.args.party.now c.clear.new.party c.note_output_dropped.new.party [] (act DropOutput ∷ []) OutputCloser Detacher (output_first s.0 Empty []) [] put c.note_output_dropped.ensures in
-    let closed = given.2.1.closed (ap (λ m. saw_closed (head_of m.0.members).deeds) d.is ∙ s.3) in
-    subst (λ k. GivesTaskUp c.args.party.now (record { seat = c.fetch_and-found.new.seat }) (nat_eq k 0)) (sym (c.references.ensures ∙ ap (λ (w : State). w.references) c.from_bits.ensures))
-    (gives_rest c.args.party.now c.note_output_dropped.new.party (record { seat = c.fetch_and-found.new.seat }) _ d given.0 closed given.2.0)
+    subst (λ k. GivesTaskUp c.args.party.now c.fetch_and-found.new.party (nat_eq k 0)) (sym c.references.ensures)
+    (gives_rest c.args.party.now c.note_output_dropped.new.party c.fetch_and-found.new.party _ d given.cell (given.knows.closed (ap (λ m. saw_closed (head_of m.0.members).deeds) d.is ∙ s.3)) given.made)
