@@ -1,9 +1,11 @@
 -- A machine that is replayed: how it stands, and what a replay may answer.
-use Rattle.std.specs.Prelude.{◌≡◌, ℕ, ◌+◌, ◌<◌, List, [], ◌∷◌, length, take, Option, Some, None, IsSome}
+use Rattle.std.specs.Prelude.{◌≡◌, true, false, ℕ, ◌+◌, ◌<◌, List, [], ◌∷◌, length, take, Option, Some, None, IsSome}
 use Rattle.task_core.specs.Word.{State}
-use Rattle.task_laws.specs.declared.positions.Rest.TheVariants.{Task}
+use Rattle.task_laws.specs.declared.positions.Answer.TheVariants.{Nothing}
+use Rattle.task_laws.specs.declared.positions.OnceDelivered.TheVariants.{ThenEnds}
+use Rattle.task_laws.specs.declared.positions.Rest.TheVariants.{Runnable, Waker, Lent, Task}
 use Rattle.task_laws.specs.declared.positions.Position.{Position}
-use Rattle.task_laws.specs.declared.positions.Position.TheVariants.{At}
+use Rattle.task_laws.specs.declared.positions.Position.TheVariants.{At, Deliverer, Storing}
 use Rattle.task_core.specs.declared.acts.Act.{Act}
 use Rattle.task_core.specs.declared.acts.Act.TheVariants.{GainReference, FindLimit, DropWaker, DropLastWaker, OrphanTask, CloseOrphan}
 use Rattle.task_core.specs.declared.acts.Act.TheVariants.{GiveUpReference, GiveUpLastReference, WakeOver, WakeScheduled, WakeRunning}
@@ -15,7 +17,7 @@ use Rattle.task_core.specs.declared.acts.Act.TheVariants.{EndRegister, EndRegist
 use Rattle.task_core.specs.declared.acts.Act.TheVariants.{AnswerReady, DropFuture, StoreOutput, DropOutput, HandOutOutput, CloneAwaiter}
 use Rattle.task_core.specs.declared.acts.Act.TheVariants.{RefuseClone, StoreAwaiter, TakeAwaiter, WakeAwaiter, DropAwaiter, HandOver}
 use Rattle.task_core.specs.declared.acts.Act.TheVariants.{EmptySlots, RefuseGain, EndCall}
-use Rattle.task_laws.specs.Table.{Slots, Scene, Outcome}
+use Rattle.task_laws.specs.Table.{Slots, Scene, Outcome, goes}
 use Rattle.task_laws.specs.Machine.{Machine, Step, step, run}
 use Rattle.task_replay.specs.declared.kind.Kind.{Kind}
 use Rattle.task_replay.specs.declared.kind.Kind.TheVariants.{Gain, GiveUp, Wake, Close, RunStart, RunEnd, HandshakeBegin, HandshakeEnd}
@@ -115,6 +117,34 @@ scene_of s = record { limit = s.limit; word = s.word; slots = slots_of s.slots }
 abbrev pub effect_of : Option Outcome → Option Effect
 effect_of None = None
 effect_of (Some o) = Some (record { word = o.word; slots = held_of o.slots; next = o.next; added = first_of o.born })
+
+-- the slots after an act that was made from this position
+abbrev pub slots_by : SlotsHeld → Act → Position → SlotsHeld
+slots_by s DropFuture p = record s { future = false }
+slots_by s StoreOutput p = record s { output = true }
+slots_by s DropOutput p = record s { output = false }
+slots_by s HandOutOutput p = record s { output = false }
+slots_by s StoreAwaiter (Storing i) = record s { awaiter = Some i }
+slots_by s TakeAwaiter p = record s { awaiter = None }
+slots_by s EmptySlots p = record s { awaiter = None }
+slots_by s act p = s
+
+-- the party that such an act adds
+abbrev pub party_added : Act → Position → Option Position
+party_added GainReference p = Some (At Waker)
+party_added WakeIdle p = Some (Deliverer false (ThenEnds Nothing))
+party_added Look (At Lent) = Some (At Lent)
+party_added HandOver p = Some (At Runnable)
+party_added act p = None
+
+-- what a party leaves that has written that word, by its next position
+abbrev pub effect_by : SceneFound → State → Act → Position → Option Position → Option Effect
+effect_by s v act p None = None
+effect_by s v act p (Some next) = Some (record { word = v; slots = slots_by s.slots act p; next = next; added = party_added act p })
+
+-- a party goes on there by its act, whatever word it writes
+abbrev pub GoesTo : SceneFound → Act → Position → Option Position → Type 0
+GoesTo s act p next = (v : State) → effect_by s v act p next ≡ effect_of (goes (scene_of s) v act p)
 
 -- how a machine stands: all of it but its trace
 pub record Standing : Type 0 where

@@ -124,9 +124,11 @@ impl<A: Allocator> Machine<A> {
         ensures { IfOk result (λ now. now ≡ standing (opening limit)) }
     {
         let mut parties = Vec::new(alloc);
-        parties.push(Position::At(Rest::Runnable))?;
-        parties.push(Position::At(Rest::Task(0)))?;
-        parties.push(Position::At(Rest::Lent))?;
+        parties.extend_from_slice(&[
+            Position::At(Rest::Runnable),
+            Position::At(Rest::Task(0)),
+            Position::At(Rest::Lent),
+        ])?;
         let slots = Slots {
             future: true,
             output: false,
@@ -156,10 +158,10 @@ impl<A: Allocator> Machine<A> {
         ensures grown { OnOk result (self.new ≡ record (self.old) { parties = self.old.parties ++ listed added }) }
         ensures refused { OnErr result (self.new ≡ self.old) }
     {
-        if let Some(added) = added {
-            self.parties.push(added)?;
+        match added {
+            Some(added) => self.parties.push(added).or(Err(AllocError)),
+            None => Ok(()),
         }
-        Ok(())
     }
 
     // One step, and whether it is allowed. A machine that does not make it stands as before.
@@ -192,8 +194,10 @@ pub fn replay<A: Allocator>(alloc: A, limit: u64, steps: &[Step]) -> Result<Mach
 {
     let mut player = Player::new(alloc, limit)?;
     for (i, step) in steps.iter().enumerate() {
-        if !player.advance(*step)? {
-            return Err(ReplayError::NotAllowed(i));
+        match player.advance(*step) {
+            Ok(true) => {}
+            Ok(false) => return Err(ReplayError::NotAllowed(i)),
+            Err(_) => return Err(ReplayError::NoMemory),
         }
     }
     Ok(player.into_machine())

@@ -51,8 +51,10 @@ impl<A: Allocator> Player<A> {
         ensures opened { IfOk result (λ player. player.machine ≡ standing (opening (min limit LIMIT))) }
         ensures unplayed { IfOk result (λ player. player.steps ≡ 0) }
     {
-        let machine = Machine::opened(alloc, limit.min(LIMIT))?;
-        Ok(Player { machine, steps: 0 })
+        match Machine::opened(alloc, limit.min(LIMIT)) {
+            Ok(machine) => Ok(Player { machine, steps: 0 }),
+            Err(refused) => Err(refused),
+        }
     }
 
     /// Makes a step where the machine allows it. It waits for nobody.
@@ -67,10 +69,11 @@ impl<A: Allocator> Player<A> {
         if self.steps == STEPS {
             return Err(PlayError::Exhausted);
         }
-        if !self.advance(step)? {
-            return Err(PlayError::NotAllowed);
+        match self.advance(step) {
+            Ok(true) => Ok(()),
+            Ok(false) => Err(PlayError::NotAllowed),
+            Err(_) => Err(PlayError::NoMemory),
         }
-        Ok(())
     }
 
     /// The machine as it stands.

@@ -1,8 +1,7 @@
 //! Where a party goes: the table of moves, one function for each kind of act.
-ghost use Rattle.std.specs.Prelude.{◌≡◌, ◌<◌, ◌-◌, ◌^◌, Some, None};
-ghost use Rattle.task_laws.specs.Table as table;
+ghost use Rattle.std.specs.Prelude.{◌≡◌, ◌<◌, ◌-◌, ◌^◌};
 ghost use Rattle.task_laws.specs.Table.{goes, rule};
-ghost use Rattle.task_replay.specs.Replay.{kind_of, begun, scene_of, effect_of};
+ghost use Rattle.task_replay.specs.Replay.{kind_of, begun, scene_of, effect_of, slots_by, party_added, GoesTo};
 
 use crate::kind::{Kind, kind_of_act};
 use crate::machine::Slots;
@@ -47,37 +46,6 @@ pub(crate) struct Effect {
     pub added: Option<Position>,
 }
 
-// A step that touches no slot.
-fn leaves(scene: Scene, written: Word, next: Position) -> Effect
-    ensures { result ≡ record { word = written; slots = scene.slots; next = next; added = None } }
-{
-    changes(written, scene.slots, next)
-}
-
-// A step that touches no slot, and adds a party.
-fn adds(scene: Scene, written: Word, next: Position, added: Position) -> Effect
-    ensures { result ≡ record { word = written; slots = scene.slots; next = next; added = Some added } }
-{
-    Effect {
-        word: written,
-        slots: scene.slots,
-        next,
-        added: Some(added),
-    }
-}
-
-// An act on the slots.
-fn changes(written: Word, slots: Slots, next: Position) -> Effect
-    ensures { result ≡ record { word = written; slots = slots; next = next; added = None } }
-{
-    Effect {
-        word: written,
-        slots,
-        next,
-        added: None,
-    }
-}
-
 /// What the party at this position leaves by an act, in the scene that it finds. `None` where it may not make that act there.
 pub(crate) fn rule_of_act(scene: Scene, act: Act, position: Position) -> Option<Effect>
     requires references { scene.word.references < 2 ^ 56 - 1 }
@@ -98,41 +66,109 @@ pub(crate) fn moves_of_act(
     requires { begun position < 2 ^ 64 - 1 }
     ensures { result ≡ effect_of (goes (scene_of scene) written act position) }
 {
-    match kind_of_act(act) {
-        Kind::Gain => gains(scene, written, act, position),
-        Kind::GiveUp => gives_up(scene, written, act, position),
-        Kind::Wake => wakes(scene, written, act, position),
-        Kind::Close => closes(scene, written, act, position),
-        Kind::RunStart => run_starts(scene, written, act, position),
-        Kind::RunEnd => run_ends(scene, written, act, position),
-        Kind::HandshakeBegin => handshake_begins(scene, written, act, position),
-        Kind::HandshakeEnd => handshake_ends(scene, written, act, position),
-        Kind::Load => loads(scene, written, act, position),
-        Kind::Value => values(scene, written, act, position),
-        Kind::Awaiter => awaiters(scene, written, act, position),
-        Kind::Ending => endings(scene, written, act, position),
+    let Some(next) = next_of_act(&scene, act, position) else {
+        return None;
+    };
+    Some(Effect {
+        word: written,
+        slots: slots_after(scene.slots, act, position),
+        next,
+        added: added_by(act, position),
+    })
+}
+
+// What the slots hold after an act from this position.
+fn slots_after(slots: Slots, act: Act, position: Position) -> Slots
+    ensures { result ≡ slots_by slots act position }
+{
+    let Slots {
+        future,
+        output,
+        awaiter,
+    } = slots;
+    match (act, position) {
+        (DropFuture, _) => Slots {
+            future: false,
+            output,
+            awaiter,
+        },
+        (StoreOutput, _) => Slots {
+            future,
+            output: true,
+            awaiter,
+        },
+        (DropOutput | HandOutOutput, _) => Slots {
+            future,
+            output: false,
+            awaiter,
+        },
+        (StoreAwaiter, Storing(i)) => Slots {
+            future,
+            output,
+            awaiter: Some(i),
+        },
+        (TakeAwaiter | EmptySlots, _) => Slots {
+            future,
+            output,
+            awaiter: None,
+        },
+        _ => slots,
     }
 }
 
-fn gains(scene: Scene, written: Word, act: Act, position: Position) -> Option<Effect>
-    requires { kind_of act ≡ Kind.Gain }
-    ensures { result ≡ effect_of (goes (scene_of scene) written act position) }
+// The party that an act from this position adds.
+fn added_by(act: Act, position: Position) -> Option<Position>
+    ensures { result ≡ party_added act position }
 {
-    match (act, position) {
-        (GainReference, At(rest)) => {
-            let may = may_gain(&scene, rest);
-            may.then_some(adds(scene, written, CallEnding(Gained(true), rest), At(Waker)))
-        }
-        (FindLimit | RefuseGain, At(rest)) => {
-            may_ask(rest).then_some(leaves(scene, written, CallEnding(Gained(false), rest)))
-        }
+    match act {
+        GainReference => Some(At(Waker)),
+        WakeIdle => Some(Deliverer(false, ThenEnds(Nothing))),
+        Look => match position {
+            At(Lent) => Some(At(Lent)),
+            _ => None,
+        },
+        HandOver => Some(At(Runnable)),
         _ => None,
     }
 }
 
-fn gives_up(scene: Scene, written: Word, act: Act, position: Position) -> Option<Effect>
+// Where the party itself goes.
+fn next_of_act(scene: &Scene, act: Act, position: Position) -> Option<Position>
+    requires { begun position < 2 ^ 64 - 1 }
+    ensures { GoesTo scene.now act position result }
+{
+    match kind_of_act(act) {
+        Kind::Gain => gains(scene, act, position),
+        Kind::GiveUp => gives_up(scene, act, position),
+        Kind::Wake => wakes(scene, act, position),
+        Kind::Close => closes(scene, act, position),
+        Kind::RunStart => run_starts(scene, act, position),
+        Kind::RunEnd => run_ends(scene, act, position),
+        Kind::HandshakeBegin => handshake_begins(scene, act, position),
+        Kind::HandshakeEnd => handshake_ends(scene, act, position),
+        Kind::Load => loads(scene, act, position),
+        Kind::Value => values(scene, act, position),
+        Kind::Awaiter => awaiters(scene, act, position),
+        Kind::Ending => endings(scene, act, position),
+    }
+}
+
+fn gains(scene: &Scene, act: Act, position: Position) -> Option<Position>
+    requires { kind_of act ≡ Kind.Gain }
+    ensures { GoesTo scene.now act position result }
+{
+    let At(rest) = position else {
+        return None;
+    };
+    match act {
+        GainReference => may_gain(scene, rest).then_some(CallEnding(Gained(true), rest)),
+        _ => may_ask(rest).then_some(CallEnding(Gained(false), rest)),
+    }
+}
+
+fn gives_up(scene: &Scene, act: Act, position: Position) -> Option<Position>
     requires { kind_of act ≡ Kind.GiveUp }
-    ensures { result ≡ effect_of (goes (scene_of scene) written act position) }
+    ensures { GoesTo scene.now act position result }
 {
     let next = match (act, position) {
         (DropWaker, At(Waker)) => CallEnding(Nothing, Ended),
@@ -143,63 +179,70 @@ fn gives_up(scene: Scene, written: Word, act: Act, position: Position) -> Option
         (GiveUpLastReference, GivingUp(hand, answer)) => Emptier(hand, answer),
         _ => return None,
     };
-    Some(leaves(scene, written, next))
+    Some(next)
 }
 
-fn wakes(scene: Scene, written: Word, act: Act, position: Position) -> Option<Effect>
+fn wakes(scene: &Scene, act: Act, position: Position) -> Option<Position>
     requires { kind_of act ≡ Kind.Wake }
-    ensures { result ≡ effect_of (goes (scene_of scene) written act position) }
+    ensures { GoesTo scene.now act position result }
 {
-    match (act, position) {
-        (WakeIdle, At(rest)) => {
-            let may = may_wake(&scene, rest);
-            let deliverer = Deliverer(false, ThenEnds(Nothing));
-            may.then_some(adds(scene, written, CallEnding(Nothing, rest), deliverer))
-        }
-        (WakeOver | WakeScheduled | WakeRunning, At(rest)) => {
-            let may = may_wake(&scene, rest);
-            may.then_some(leaves(scene, written, CallEnding(Nothing, rest)))
-        }
+    match position {
+        At(rest) if may_wake(scene, rest) => Some(CallEnding(Nothing, rest)),
         _ => None,
     }
 }
 
-fn closes(scene: Scene, written: Word, act: Act, position: Position) -> Option<Effect>
+fn closes(scene: &Scene, act: Act, position: Position) -> Option<Position>
     requires kind { kind_of act ≡ Kind.Close }
     requires polls { begun position < 2 ^ 64 - 1 }
-    ensures { result ≡ effect_of (goes (scene_of scene) written act position) }
+    ensures { GoesTo scene.now act position result }
 {
     let awaiter = scene.word.awaiter();
-    let next = match (act, position) {
-        (DiscardOpen | DiscardClosed, At(Runnable)) => FutureInHand(DroppedRunnable),
-        (CancelOver, At(Task(n))) => CallEnding(Nothing, Task(n)),
-        (CancelBusy, At(Task(n))) => notifies(awaiter, OfCancel(n)),
-        (CancelIdle, At(Task(n))) => Deliverer(false, after_cancelling(awaiter, n)),
-        (ClaimOutput, At(Task(n))) => notifies(awaiter, OfClaim(n + 1)),
-        (ClaimOutput, SawOutput(n)) => notifies(awaiter, OfClaim(n)),
-        (GiveUpOutput, At(Task(_))) => OutputCloser,
-        (DetachOrphan, At(Task(_))) => Deliverer(false, ThenEnds(Nothing)),
-        (DetachLast, At(Task(_)) | Detacher) => Emptier(None, Nothing),
-        (Detach, At(Task(_)) | Detacher) => CallEnding(Nothing, Ended),
+    let next = match position {
+        At(Runnable) => match act {
+            DiscardOpen | DiscardClosed => FutureInHand(DroppedRunnable),
+            _ => return None,
+        },
+        At(Task(n)) => match act {
+            CancelOver => CallEnding(Nothing, Task(n)),
+            CancelBusy => notifies(awaiter, OfCancel(n)),
+            CancelIdle => Deliverer(false, after_cancelling(awaiter, n)),
+            ClaimOutput => notifies(awaiter, OfClaim(n + 1)),
+            GiveUpOutput => OutputCloser,
+            DetachOrphan => Deliverer(false, ThenEnds(Nothing)),
+            DetachLast => Emptier(None, Nothing),
+            Detach => CallEnding(Nothing, Ended),
+            _ => return None,
+        },
+        SawOutput(n) => match act {
+            ClaimOutput => notifies(awaiter, OfClaim(n)),
+            _ => return None,
+        },
+        Detacher => match act {
+            DetachLast => Emptier(None, Nothing),
+            Detach => CallEnding(Nothing, Ended),
+            _ => return None,
+        },
         _ => return None,
     };
-    Some(leaves(scene, written, next))
+    Some(next)
 }
 
-fn run_starts(scene: Scene, written: Word, act: Act, position: Position) -> Option<Effect>
+fn run_starts(scene: &Scene, act: Act, position: Position) -> Option<Position>
     requires { kind_of act ≡ Kind.RunStart }
-    ensures { result ≡ effect_of (goes (scene_of scene) written act position) }
+    ensures { GoesTo scene.now act position result }
 {
-    match (act, position) {
-        (TakeUpClosed, At(Runnable)) => Some(leaves(scene, written, FutureInHand(ClosedRun))),
-        (StartRun, At(Runnable)) => Some(leaves(scene, written, Starting)),
-        _ => None,
-    }
+    let next = match (act, position) {
+        (TakeUpClosed, At(Runnable)) => FutureInHand(ClosedRun),
+        (StartRun, At(Runnable)) => Starting,
+        _ => return None,
+    };
+    Some(next)
 }
 
-fn run_ends(scene: Scene, written: Word, act: Act, position: Position) -> Option<Effect>
+fn run_ends(scene: &Scene, act: Act, position: Position) -> Option<Position>
     requires { kind_of act ≡ Kind.RunEnd }
-    ensures { result ≡ effect_of (goes (scene_of scene) written act position) }
+    ensures { GoesTo scene.now act position result }
 {
     let awaiter = scene.word.awaiter();
     let next = match (act, position) {
@@ -214,12 +257,12 @@ fn run_ends(scene: Scene, written: Word, act: Act, position: Position) -> Option
         (EndOrphaned, Pending) => Deliverer(false, ThenEnds(Ran(false))),
         _ => return None,
     };
-    Some(leaves(scene, written, next))
+    Some(next)
 }
 
-fn handshake_begins(scene: Scene, written: Word, act: Act, position: Position) -> Option<Effect>
+fn handshake_begins(scene: &Scene, act: Act, position: Position) -> Option<Position>
     requires { kind_of act ≡ Kind.HandshakeBegin }
-    ensures { result ≡ effect_of (goes (scene_of scene) written act position) }
+    ensures { GoesTo scene.now act position result }
 {
     let next = match (act, position) {
         (BeginNotify, Notifier(way)) => Taker(way),
@@ -228,12 +271,12 @@ fn handshake_begins(scene: Scene, written: Word, act: Act, position: Position) -
         (BeginRegister, HasClone(i)) => Storing(i),
         _ => return None,
     };
-    Some(leaves(scene, written, next))
+    Some(next)
 }
 
-fn handshake_ends(scene: Scene, written: Word, act: Act, position: Position) -> Option<Effect>
+fn handshake_ends(scene: &Scene, act: Act, position: Position) -> Option<Position>
     requires { kind_of act ≡ Kind.HandshakeEnd }
-    ensures { result ≡ effect_of (goes (scene_of scene) written act position) }
+    ensures { GoesTo scene.now act position result }
 {
     let next = match (act, position) {
         (EndNotify, Releaser(hand, way)) => after_taking(hand, way),
@@ -241,129 +284,77 @@ fn handshake_ends(scene: Scene, written: Word, act: Act, position: Position) -> 
         (EndRegisterNotified, TookBack(i)) => CloneInHand(i),
         _ => return None,
     };
-    Some(leaves(scene, written, next))
+    Some(next)
 }
 
-fn loads(scene: Scene, written: Word, act: Act, position: Position) -> Option<Effect>
+fn loads(scene: &Scene, act: Act, position: Position) -> Option<Position>
     requires kind { kind_of act ≡ Kind.Load }
     requires polls { begun position < 2 ^ 64 - 1 }
-    ensures { result ≡ effect_of (goes (scene_of scene) written act position) }
+    ensures { GoesTo scene.now act position result }
 {
     let word = scene.word;
-    match (act, position) {
-        (Look, At(Lent)) => Some(adds(scene, written, At(Lent), At(Lent))),
-        (Look, At(Task(n))) => {
-            let has_output = word.completed() && !word.closed();
-            let looks = leaves(scene, written, first_look(word, n + 1));
-            (!has_output).then_some(looks)
-        }
-        (Look, Looking(i)) => Some(leaves(scene, written, second_look(word, i))),
-        (LookFinished, At(Task(n))) => {
-            let next = CallEnding(Finished(word.is_over()), Task(n));
-            Some(leaves(scene, written, next))
-        }
-        _ => None,
-    }
+    let next = match (act, position) {
+        (Look, At(Lent)) => At(Lent),
+        (Look, At(Task(n))) if word.closed() || !word.completed() => first_look(word, n + 1),
+        (Look, Looking(i)) => second_look(word, i),
+        (LookFinished, At(Task(n))) => CallEnding(Finished(word.is_over()), Task(n)),
+        _ => return None,
+    };
+    Some(next)
 }
 
-fn values(scene: Scene, written: Word, act: Act, position: Position) -> Option<Effect>
+fn values(scene: &Scene, act: Act, position: Position) -> Option<Position>
     requires { kind_of act ≡ Kind.Value }
-    ensures { result ≡ effect_of (goes (scene_of scene) written act position) }
+    ensures { GoesTo scene.now act position result }
 {
-    let dropped = Slots {
-        future: false,
-        ..scene.slots
+    let next = match (act, position) {
+        (StartPoll, Starting) => Polling,
+        (AnswerPending, Polling) => Pending,
+        (AnswerReady, Polling) => Ready,
+        (DropFuture, Ready) => ReadyFutureDropped,
+        (DropFuture, Pending) if scene.word.closed() => PendingFutureDropped,
+        (DropFuture, FutureInHand(closer)) => FutureGone(closer),
+        (StoreOutput, ReadyFutureDropped) => OutputStored,
+        (DropOutput, OutputInHand(due)) => notifies(due, OfRun),
+        (DropOutput, OutputCloser) => Detacher,
+        (HandOutOutput, TookOutput(i)) => Answering(i, HasOutput),
+        _ => return None,
     };
-    let stored = Slots {
-        output: true,
-        ..scene.slots
-    };
-    let taken = Slots {
-        output: false,
-        ..scene.slots
-    };
-    match (act, position) {
-        (StartPoll, Starting) => Some(leaves(scene, written, Polling)),
-        (AnswerPending, Polling) => Some(leaves(scene, written, Pending)),
-        (AnswerReady, Polling) => Some(leaves(scene, written, Ready)),
-        (DropFuture, Ready) => Some(changes(written, dropped, ReadyFutureDropped)),
-        (DropFuture, Pending) => {
-            let may = scene.word.closed();
-            may.then_some(changes(written, dropped, PendingFutureDropped))
-        }
-        (DropFuture, FutureInHand(closer)) => Some(changes(written, dropped, FutureGone(closer))),
-        (StoreOutput, ReadyFutureDropped) => Some(changes(written, stored, OutputStored)),
-        (DropOutput, OutputInHand(due)) => Some(changes(written, taken, notifies(due, OfRun))),
-        (DropOutput, OutputCloser) => Some(changes(written, taken, Detacher)),
-        (HandOutOutput, TookOutput(i)) => Some(changes(written, taken, Answering(i, HasOutput))),
-        _ => None,
-    }
+    Some(next)
 }
 
-fn awaiters(scene: Scene, written: Word, act: Act, position: Position) -> Option<Effect>
+fn awaiters(scene: &Scene, act: Act, position: Position) -> Option<Position>
     requires { kind_of act ≡ Kind.Awaiter }
-    ensures { result ≡ effect_of (goes (scene_of scene) written act position) }
+    ensures { GoesTo scene.now act position result }
 {
-    match (act, position) {
-        (CloneAwaiter, Registrar(i)) => Some(leaves(scene, written, HasClone(i))),
-        (RefuseClone, Registrar(i)) => Some(leaves(scene, written, Answering(i, IsRefused))),
-        (StoreAwaiter, Storing(i)) => Some(stores(scene, written, i)),
-        (WakeAwaiter, CloneInHand(i)) => Some(leaves(scene, written, Looking(i))),
-        (WakeAwaiter, AwaiterInHand(_, way)) => Some(leaves(scene, written, after_waking(way))),
-        (DropAwaiter, OldAwaiterInHand(i, _)) => Some(leaves(scene, written, Registered(i))),
-        (DropAwaiter, UnusedClone(i)) => Some(leaves(scene, written, Looking(i))),
-        (DropAwaiter, AwaiterInHand(_, way)) => {
-            may_drop(way).then_some(leaves(scene, written, after_waking(way)))
-        }
-        (TakeAwaiter, Registered(i)) => {
-            let may = scene.word.notifying();
-            may.then_some(takes(scene, written, TookBack(i)))
-        }
-        (TakeAwaiter, Taker(way)) => {
-            Some(takes(scene, written, Releaser(scene.slots.awaiter, way)))
-        }
-        _ => None,
-    }
-}
-
-// The clone of this poll is stored.
-fn stores(scene: Scene, written: Word, poll: u64) -> Effect
-    ensures { result ≡ record { word = written; slots = record (scene.slots) { awaiter = Some poll }; next = table.after_storing poll scene.slots.awaiter; added = None } }
-{
-    let stored = Slots {
-        awaiter: Some(poll),
-        ..scene.slots
+    let awaiter = scene.slots.awaiter;
+    let next = match (act, position) {
+        (CloneAwaiter, Registrar(i)) => HasClone(i),
+        (RefuseClone, Registrar(i)) => Answering(i, IsRefused),
+        (StoreAwaiter, Storing(i)) => after_storing(i, awaiter),
+        (WakeAwaiter, CloneInHand(i)) => Looking(i),
+        (WakeAwaiter, AwaiterInHand(_, way)) => after_waking(way),
+        (DropAwaiter, OldAwaiterInHand(i, _)) => Registered(i),
+        (DropAwaiter, UnusedClone(i)) => Looking(i),
+        (DropAwaiter, AwaiterInHand(_, way)) if may_drop(way) => after_waking(way),
+        (TakeAwaiter, Registered(i)) if scene.word.notifying() => TookBack(i),
+        (TakeAwaiter, Taker(way)) => Releaser(awaiter, way),
+        _ => return None,
     };
-    changes(written, stored, after_storing(poll, scene.slots.awaiter))
+    Some(next)
 }
 
-// The awaiter's slot is emptied.
-fn takes(scene: Scene, written: Word, next: Position) -> Effect
-    ensures { result ≡ record { word = written; slots = record (scene.slots) { awaiter = None }; next = next; added = None } }
-{
-    let emptied = Slots {
-        awaiter: None,
-        ..scene.slots
-    };
-    changes(written, emptied, next)
-}
-
-fn endings(scene: Scene, written: Word, act: Act, position: Position) -> Option<Effect>
+fn endings(scene: &Scene, act: Act, position: Position) -> Option<Position>
     requires { kind_of act ≡ Kind.Ending }
-    ensures { result ≡ effect_of (goes (scene_of scene) written act position) }
+    ensures { GoesTo scene.now act position result }
 {
-    match (act, position) {
-        (HandOver, At(Runnable)) => {
-            Some(adds(scene, written, CallEnding(Nothing, Ended), At(Runnable)))
-        }
-        (HandOver, Deliverer(_, next)) => {
-            Some(adds(scene, written, after_handing_over(next), At(Runnable)))
-        }
-        (EmptySlots, Emptier(hand, answer)) => {
-            Some(takes(scene, written, after_giving_up(hand, answer)))
-        }
-        (EndCall, CallEnding(_, rest)) => Some(leaves(scene, written, At(rest))),
-        (EndCall, Answering(i, _)) => Some(leaves(scene, written, At(Task(i)))),
-        _ => None,
-    }
+    let next = match (act, position) {
+        (HandOver, At(Runnable)) => CallEnding(Nothing, Ended),
+        (HandOver, Deliverer(_, next)) => after_handing_over(next),
+        (EmptySlots, Emptier(hand, answer)) => after_giving_up(hand, answer),
+        (EndCall, CallEnding(_, rest)) => At(rest),
+        (EndCall, Answering(i, _)) => At(Task(i)),
+        _ => return None,
+    };
+    Some(next)
 }

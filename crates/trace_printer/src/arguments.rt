@@ -1,5 +1,5 @@
 //! What the arguments of the program ask for.
-ghost use Rattle.std.specs.Prelude.{◌≡◌, ◌≤◌, ◌↔◌, [], Some, IfOk};
+ghost use Rattle.std.specs.Prelude.{◌≡◌, ◌≤◌, ◌↔◌, [], Some, IfOk, codes};
 ghost use Rattle.trace_printer.specs.Arguments.{AskForAll, AskForHelp, AskForProgress, AskForTrace};
 ghost use Rattle.trace_printer.specs.declared.arguments.Request.TheVariants.{Help, Trace};
 ghost use Rattle.trace_printer.specs.declared.row.Shown.TheVariants.{Changed, All, Progress};
@@ -66,9 +66,22 @@ pub fn asked(args: &[String]) -> Option<Request>
 {
     match args {
         [] => Some(Request::Trace(Shown::Changed)),
-        [word] if word.as_str() == "--all" => Some(Request::Trace(Shown::All)),
-        [word] if word.as_str() == "--progress" => Some(Request::Trace(Shown::Progress)),
-        [word] if word.as_str() == "--help" => Some(Request::Help),
+        [word] => asked_by(word.as_str()),
+        _ => None,
+    }
+}
+
+// .. where they are one word.
+fn asked_by(word: &str) -> Option<Request>
+    ensures changed { ¬ (result ≡ Some (Trace Changed)) }
+    ensures all { (result ≡ Some (Trace All)) ↔ (word.now ≡ codes "--all") }
+    ensures progress { (result ≡ Some (Trace Progress)) ↔ (word.now ≡ codes "--progress") }
+    ensures help { (result ≡ Some Help) ↔ (word.now ≡ codes "--help") }
+{
+    match word {
+        "--all" => Some(Request::Trace(Shown::All)),
+        "--progress" => Some(Request::Trace(Shown::Progress)),
+        "--help" => Some(Request::Help),
         _ => None,
     }
 }

@@ -8,7 +8,7 @@ use task_laws::positions::{NotifyingCall, Position};
 use task_replay::machine::Machine;
 
 /// One of the three slots.
-#[derive(Clone, Copy, Debug, PartialEq, Eq)]
+#[derive(Clone, Copy)]
 pub enum Slot {
     /// The future.
     Future,
@@ -19,7 +19,7 @@ pub enum Slot {
 }
 
 /// Who may touch what lies in a slot.
-#[derive(Clone, Copy, Debug, PartialEq, Eq)]
+#[derive(Clone, Copy)]
 pub enum Holder {
     /// The slot is empty.
     Empty,

@@ -52,25 +52,39 @@ pub fn is_blank(content: &str) -> bool {
 /// The limit that the first line gives.
 pub fn read_limit(content: &str) -> Result<u64, Expected> {
     let mut words = content.split_ascii_whitespace();
-    if words.next() != Some("limit") {
+    let Some(word) = words.next() else {
         return Err(Expected::Limit);
+    };
+    let Some(number) = words.next() else {
+        return Err(Expected::Limit);
+    };
+    let is_end = words.next().is_none();
+    match number.parse::<u64>() {
+        Ok(limit) if word == "limit" => ended(limit, is_end),
+        _ => Err(Expected::Limit),
     }
-    let number = words.next().ok_or(Expected::Limit)?;
-    let limit = number.parse::<u64>().or(Err(Expected::Limit))?;
-    match words.next() {
-        None => Ok(limit),
-        Some(_) => Err(Expected::End),
+}
+
+// What a line gives, if that is all.
+fn ended<T: Drop>(given: T, is_end: bool) -> Result<T, Expected> {
+    if is_end {
+        Ok(given)
+    } else {
+        Err(Expected::End)
     }
 }
 
 /// The step that any other line gives.
 pub fn read_step(content: &str) -> Result<Step, Expected> {
     let mut words = content.split_ascii_whitespace();
-    let party = words.next().ok_or(Expected::Party)?;
-    let step = step_of(party, words.next().unwrap_or(""))?;
-    match words.next() {
-        None => Ok(step),
-        Some(_) => Err(Expected::End),
+    let Some(party) = words.next() else {
+        return Err(Expected::Party);
+    };
+    let act = words.next().unwrap_or("");
+    let is_end = words.next().is_none();
+    match step_of(party, act) {
+        Ok(step) => ended(step, is_end),
+        refused => refused,
     }
 }
 

@@ -3,7 +3,7 @@
 use crate::names::{ACTS, name};
 use crate::row::{FLAGS, ShownStep};
 use std::alloc::Global;
-use std::io;
+use std::{fmt, io};
 use task_core::word::Word;
 use task_replay::machine::Step;
 use task_replay::player::Player;
@@ -17,59 +17,72 @@ pub fn print_refusal<W: io::Write>(
 ) -> io::Result<()> {
     let number = player.steps().saturating_add(1);
     let shown = ShownStep(step);
-    write!(out, "\nStep {number}, `{shown}`, is not allowed: ")?;
-    match player.refusal(step) {
-        Some(Refusal::NoParty) => print_parties(player, out),
-        Some(Refusal::NeverThere(position)) => {
-            write!(out, "it is never made at {position:?}, where")?;
-            print_acts(player, step, out)
-        }
-        Some(Refusal::UnfitWord(fitting)) => print_word(player.machine().word(), fitting, out),
-        None => writeln!(out, "no reason is known."),
-    }
+    let reason = Reason { player, step };
+    writeln!(out, "\nStep {number}, `{shown}`, is not allowed: {reason}.")
 }
 
-fn print_parties<W: io::Write>(player: &Player<Global>, out: &mut W) -> io::Result<()> {
-    let parties = player.machine().parties();
-    writeln!(out, "there are {parties} parties, counted from 0.")
+// Why the player has not made this step. It is written by `fmt`, whose error holds nothing, so that no way out has anything to drop.
+#[derive(Clone, Copy)]
+struct Reason<'a> {
+    player: &'a Player<Global>,
+    step: Step,
+}
+
+impl<'a> fmt::Display for Reason<'a> {
+    fn fmt<W: fmt::Write>(&self, f: &mut fmt::Formatter<W>) -> fmt::Result {
+        match self.player.refusal(self.step) {
+            Some(Refusal::NoParty) => {
+                let parties = self.player.machine().parties();
+                write!(f, "there are {parties} parties, counted from 0")
+            }
+            Some(Refusal::NeverThere(position)) => {
+                write!(f, "it is never made at {position:?}, where")?;
+                write_acts(self.player, self.step, f)
+            }
+            Some(Refusal::UnfitWord(Some(fitting))) => {
+                write_word(self.player.machine().word(), fitting, f)
+            }
+            Some(Refusal::UnfitWord(None)) => f.write_str("no word fits at this limit"),
+            None => f.write_str("no reason is known"),
+        }
+    }
 }
 
 // Which acts are made where the party of this step stands.
-fn print_acts<W: io::Write>(player: &Player<Global>, step: Step, out: &mut W) -> io::Result<()> {
+fn write_acts<W: fmt::Write>(
+    player: &Player<Global>,
+    step: Step,
+    f: &mut fmt::Formatter<W>,
+) -> fmt::Result {
     let mut mark = "";
-    for act in &ACTS {
-        if player.is_made_there(Step { act: *act, ..step }) {
-            let act = name(*act);
-            write!(out, "{mark} {act}")?;
+    for &act in &ACTS {
+        if player.is_made_there(Step { act, ..step }) {
+            let act = name(act);
+            write!(f, "{mark} {act}")?;
             mark = ",";
         }
     }
-    if mark.is_empty() {
-        write!(out, " no act")?;
-    }
-    writeln!(out, " may be made.")
+    let none = if mark.is_empty() { " no act" } else { "" };
+    write!(f, "{none} may be made")
 }
 
 // What would have to be otherwise in the word.
-fn print_word<W: io::Write>(found: Word, fitting: Option<Word>, out: &mut W) -> io::Result<()> {
+fn write_word<W: fmt::Write>(found: Word, fitting: Word, f: &mut fmt::Formatter<W>) -> fmt::Result {
     let bits = found.bits();
-    let Some(fitting) = fitting else {
-        return writeln!(out, "no word fits at this limit.");
-    };
     let wanted = fitting.bits();
     write!(
-        out,
+        f,
         "the word 0x{bits:03X} does not fit, 0x{wanted:03X} would:"
     )?;
-    for (flag, name) in &FLAGS {
-        if bits & *flag != wanted & *flag {
-            let state = if wanted & *flag == 0 { "clear" } else { "set" };
-            write!(out, " {name} {state}")?;
+    for &(flag, name) in &FLAGS {
+        if bits & flag != wanted & flag {
+            let state = if wanted & flag == 0 { "clear" } else { "set" };
+            write!(f, " {name} {state}")?;
         }
     }
-    if found.references() != fitting.references() {
-        let count = fitting.references();
-        write!(out, " count {count}")?;
+    let count = fitting.references();
+    if found.references() == count {
+        return Ok(());
     }
-    writeln!(out, ".")
+    write!(f, " count {count}")
 }

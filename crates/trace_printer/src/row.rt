@@ -46,12 +46,13 @@ pub fn print_head<W: io::Write>(out: &mut W) -> io::Result<()> {
 
 /// Prints how the machine stands after the spawn.
 pub fn print_spawn<W: io::Write>(player: &Player<Global>, out: &mut W) -> io::Result<()> {
-    let machine = player.machine();
-    write!(out, "| 0 | spawn | ")?;
-    print_word(machine.word(), out)?;
-    print_slots(machine, out)?;
-    print_all(player, false, out)?;
-    writeln!(out, " |")
+    let columns = Columns {
+        player,
+        party: 0,
+        before: 0,
+        shown: Shown::All,
+    };
+    writeln!(out, "| 0 | spawn | {columns} |")
 }
 
 /// Prints how the machine stands after that step. There were so many parties before it.
@@ -62,18 +63,15 @@ pub fn print_row<W: io::Write>(
     shown: Shown,
     out: &mut W,
 ) -> io::Result<()> {
-    let machine = player.machine();
     let number = player.steps();
     let act = ShownStep(step);
-    write!(out, "| {number} | {act} | ")?;
-    print_word(machine.word(), out)?;
-    print_slots(machine, out)?;
-    match shown {
-        Shown::Changed => print_changed(machine, step.party, before, out),
-        Shown::All => print_all(player, false, out),
-        Shown::Progress => print_all(player, true, out),
-    }?;
-    writeln!(out, " |")
+    let columns = Columns {
+        player,
+        party: step.party,
+        before,
+        shown,
+    };
+    writeln!(out, "| {number} | {act} | {columns} |")
 }
 
 /// A step as its line gives it.
@@ -88,59 +86,83 @@ impl fmt::Display for ShownStep {
     }
 }
 
-fn print_word<W: io::Write>(word: Word, out: &mut W) -> io::Result<()> {
-    let bits = word.bits();
-    let count = word.references();
-    write!(out, "0x{bits:03X} |")?;
-    for (flag, name) in &FLAGS {
-        if bits & *flag != 0 {
-            write!(out, " {name}")?;
-        }
-    }
-    write!(out, " | {count} | ")
+// The columns of a row behind its act. They are written by `fmt`, whose error holds nothing, so that no way out has anything to drop.
+#[derive(Clone, Copy)]
+struct Columns<'a> {
+    player: &'a Player<Global>,
+    // Whose step it was.
+    party: u64,
+    // How many parties there were before it.
+    before: usize,
+    shown: Shown,
 }
 
-fn print_slots<W: io::Write>(machine: &Machine<Global>, out: &mut W) -> io::Result<()> {
+impl<'a> fmt::Display for Columns<'a> {
+    fn fmt<W: fmt::Write>(&self, f: &mut fmt::Formatter<W>) -> fmt::Result {
+        let machine = self.player.machine();
+        write_word(machine.word(), f)?;
+        write_slots(machine, f)?;
+        match self.shown {
+            Shown::Changed => write_changed(machine, self.party, self.before, f),
+            Shown::All => write_all(self.player, false, f),
+            Shown::Progress => write_all(self.player, true, f),
+        }
+    }
+}
+
+fn write_word<W: fmt::Write>(word: Word, f: &mut fmt::Formatter<W>) -> fmt::Result {
+    let bits = word.bits();
+    write!(f, "0x{bits:03X} |")?;
+    for &(flag, name) in &FLAGS {
+        if bits & flag != 0 {
+            write!(f, " {name}")?;
+        }
+    }
+    let count = word.references();
+    write!(f, " | {count} | ")
+}
+
+fn write_slots<W: fmt::Write>(machine: &Machine<Global>, f: &mut fmt::Formatter<W>) -> fmt::Result {
     let future = held_by(machine, Slot::Future);
     let output = held_by(machine, Slot::Output);
     let awaiter = held_by(machine, Slot::Awaiter);
-    write!(out, "{future} | {output} | {awaiter}")?;
+    write!(f, "{future} | {output} | {awaiter}")?;
     match machine.slots().awaiter {
-        Some(poll) => write!(out, ", of poll {poll} |"),
-        None => write!(out, " |"),
+        Some(poll) => write!(f, ", of poll {poll} |"),
+        None => f.write_str(" |"),
     }
 }
 
 // Where the party of a step stands, and each party from that number on, which the step has added.
-fn print_changed<W: io::Write>(
+fn write_changed<W: fmt::Write>(
     machine: &Machine<Global>,
     party: u64,
     before: usize,
-    out: &mut W,
-) -> io::Result<()> {
-    if let Some(position) = machine.position(party) {
-        write!(out, " {party} {position:?}")?;
-    }
+    f: &mut fmt::Formatter<W>,
+) -> fmt::Result {
+    write_party(machine, "", party, f)?;
     for added in before as u64..machine.parties() as u64 {
-        if let Some(position) = machine.position(added) {
-            write!(out, ", {added} {position:?}")?;
-        }
+        write_party(machine, ",", added, f)?;
     }
     Ok(())
 }
 
 // Where each party stands that has not ended; where `progress` is set, also of each in a call how many steps it has left at most, and an act that it may
 // make now.
-fn print_all<W: io::Write>(player: &Player<Global>, progress: bool, out: &mut W) -> io::Result<()> {
+fn write_all<W: fmt::Write>(
+    player: &Player<Global>,
+    progress: bool,
+    f: &mut fmt::Formatter<W>,
+) -> fmt::Result {
     let machine = player.machine();
     let mut mark = "";
     for party in 0..machine.parties() as u64 {
         match machine.position(party) {
             None | Some(Position::At(Rest::Ended)) => {}
             Some(position) => {
-                write!(out, "{mark} {party} {position:?}")?;
+                write_party(machine, mark, party, f)?;
                 if progress {
-                    print_next(player, party, position, out)?;
+                    write_next(player, party, position, f)?;
                 }
                 mark = ",";
             }
@@ -149,17 +171,30 @@ fn print_all<W: io::Write>(player: &Player<Global>, progress: bool, out: &mut W)
     Ok(())
 }
 
+// Where that party stands, behind the mark that parts it from the one before.
+fn write_party<W: fmt::Write>(
+    machine: &Machine<Global>,
+    mark: &str,
+    party: u64,
+    f: &mut fmt::Formatter<W>,
+) -> fmt::Result {
+    match machine.position(party) {
+        Some(position) => write!(f, "{mark} {party} {position:?}"),
+        None => Ok(()),
+    }
+}
+
 // The progress of a party that stands there, if it is in a call.
-fn print_next<W: io::Write>(
+fn write_next<W: fmt::Write>(
     player: &Player<Global>,
     party: u64,
     position: Position,
-    out: &mut W,
-) -> io::Result<()> {
+    f: &mut fmt::Formatter<W>,
+) -> fmt::Result {
     let Some(act) = next_act(player, party) else {
         return Ok(());
     };
     let left = steps_left(position);
     let act = name(act);
-    write!(out, " ({left} left, may {act})")
+    write!(f, " ({left} left, may {act})")
 }

@@ -54,20 +54,41 @@ fn play_lines<R: io::BufRead + Drop, W: io::Write, E: io::Write>(
 ) -> io::Result<u8>
     ensures { IfOk result (λ status. status ≤ 2) }
 {
-    let mut player = None;
     let mut number = 0u64;
+    match end_of(alloc, shown, input, &mut number, out) {
+        Ok(Next::Line) => passed(out),
+        Ok(Next::Refused) => refused(out),
+        Ok(Next::Unread(expected)) => unread(number, expected.as_str(), out, err),
+        Err(error) => Err(error),
+    }
+}
+
+// What ends the trace, where `number` is the number of the line that does.
+fn end_of<R: io::BufRead + Drop, W: io::Write>(
+    alloc: Global,
+    shown: Shown,
+    input: R,
+    number: &mut u64,
+    out: &mut W,
+) -> io::Result<Next> {
+    let mut player = None;
     for line in input.lines(alloc) {
-        number = number.saturating_add(1);
-        match next_of(alloc, shown, &mut player, line, out)? {
-            Next::Line => {}
-            Next::Refused => return refused(out),
-            Next::Unread(expected) => return unread(number, expected.as_str(), out, err),
+        *number = number.saturating_add(1);
+        match next_of(alloc, shown, &mut player, line, out) {
+            Ok(Next::Line) => {}
+            end => return end,
         }
     }
     if player.is_none() {
-        let expected = expectation(alloc, Expected::Limit, "")?;
-        return unread(number.saturating_add(1), expected.as_str(), out, err);
+        *number = number.saturating_add(1);
+        return expects(alloc, Expected::Limit, "");
     }
+    Ok(Next::Line)
+}
+
+fn passed<W: io::Write>(out: &mut W) -> io::Result<u8>
+    ensures { IfOk result (λ status. status ≡ 0) }
+{
     out.flush()?;
     Ok(0)
 }
@@ -104,7 +125,7 @@ fn next_of<W: io::Write>(
     let text = match line {
         Ok(text) => text,
         Err(error) if error.kind() == io::ErrorKind::InvalidData => {
-            return Ok(Next::Unread(expectation(alloc, Expected::Text, "")?));
+            return expects(alloc, Expected::Text, "");
         }
         Err(error) => return Err(error),
     };
@@ -128,13 +149,17 @@ fn begin<W: io::Write>(
     match read_limit(content) {
         Ok(limit) => {
             let opened = Player::new(alloc, limit)?;
-            print_head(out)?;
-            print_spawn(&opened, out)?;
+            print_start(&opened, out)?;
             *player = Some(opened);
             Ok(Next::Line)
         }
-        Err(expected) => Ok(Next::Unread(expectation(alloc, expected, content)?)),
+        Err(expected) => expects(alloc, expected, content),
     }
+}
+
+fn print_start<W: io::Write>(opened: &Player<Global>, out: &mut W) -> io::Result<()> {
+    print_head(out)?;
+    print_spawn(opened, out)
 }
 
 // Each other line gives a step.
@@ -147,8 +172,13 @@ fn go_on<W: io::Write>(
 ) -> io::Result<Next> {
     match read_step(content) {
         Ok(step) => play_step(shown, player, step, out),
-        Err(expected) => Ok(Next::Unread(expectation(alloc, expected, content)?)),
+        Err(expected) => expects(alloc, expected, content),
     }
+}
+
+// That line cannot be read.
+fn expects(alloc: Global, expected: Expected, content: &str) -> io::Result<Next> {
+    Ok(Next::Unread(expectation(alloc, expected, content)?))
 }
 
 fn play_step<W: io::Write>(
@@ -158,19 +188,15 @@ fn play_step<W: io::Write>(
     out: &mut W,
 ) -> io::Result<Next> {
     let before = player.machine().parties();
-    match player.play(step) {
-        Ok(()) => {
-            print_row(player, step, before, shown, out)?;
-            Ok(Next::Line)
-        }
+    let played = player.play(step);
+    match played {
+        Ok(()) => print_row(player, step, before, shown, out),
         Err(PlayError::NoMemory) => Err(io::Error::from(AllocError)),
-        Err(PlayError::Exhausted) => {
-            writeln!(out, "\nThe trace has made its last step.")?;
-            Ok(Next::Refused)
-        }
-        Err(PlayError::NotAllowed) => {
-            print_refusal(player, step, out)?;
-            Ok(Next::Refused)
-        }
+        Err(PlayError::Exhausted) => writeln!(out, "\nThe trace has made its last step."),
+        Err(PlayError::NotAllowed) => print_refusal(player, step, out),
+    }?;
+    match played {
+        Ok(()) => Ok(Next::Line),
+        Err(_) => Ok(Next::Refused),
     }
 }
