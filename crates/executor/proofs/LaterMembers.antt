@@ -1,19 +1,20 @@
--- What comes out of a group that was looked at before, when no member came out.
-use Rattle.std.proofs.Common.{◌≡◌, ◌∙◌, ℕ, false, sym, refl, subst}
-use Rattle.std.specs.Prelude.{Option, Some, None, Ok}
+-- What comes next out of a group that was looked at before, when no member came out.
+use Rattle.std.proofs.Common.{◌∙◌, ℕ, sym}
+use Rattle.std.specs.Prelude.{Option, Some, None, Result, Ok, Err, OnErr}
 use Rattle.slab.specs.Slab.{Slab}
-use Rattle.task_group.specs.Members.{Leaves, SameMembers, IfNext, came_out}
+use Rattle.task_group.specs.Members.{Leaves, SameMembers, IfNext}
 
--- nobody came out
-pub none-came-out : {U : Type 0} (E : Type 0) (out : Option U) → out ≡ None → came_out {E = E} (Ok out) ≡ false
-none-came-out {U} E out is = subst (λ (o : Option U). came_out {E = E} (Ok o) ≡ false) (sym is) refl
+-- what is next after looks that left the members as they were
+pub next-later : {T U E : Type 0} (first second third : Slab T) (number : U → ℕ) (next : Result (Option U) E) → IfNext next (λ ended. Leaves second third (number ended)) → SameMembers first second → IfNext next (λ ended. Leaves first third (number ended))
+next-later first second third number (Ok (Some ended)) leaves same = record {
+  was_member = sym (same _) ∙ leaves.was_member;
+  left = leaves.left;
+  others = λ other differs. leaves.others other differs ∙ same other;
+}
+next-later first second third number (Ok None) leaves same = leaves
+next-later first second third number (Err error) leaves same = leaves
 
--- one leaves after looks that left the members as they were
-pub leaves-later : {T U : Type 0} (E : Type 0) (number : U → ℕ) (first second third : Slab T) (out : Option U) (ended : U) → out ≡ Some ended → IfNext {E = E} (Ok out) (λ e. Leaves second third (number e)) → SameMembers first second → Leaves first third (number ended)
-leaves-later {T} {U} E number first second third out ended is next same =
-    let leaves = subst (λ (o : Option U). IfNext {E = E} (Ok o) (λ e. Leaves second third (number e))) is next in
-    record {
-      was_member = sym (same _) ∙ leaves.was_member;
-      left = leaves.left;
-      others = λ other differs. leaves.others other differs ∙ same other;
-    }
+-- an error after looks that left the members as they were
+pub refused-later : {T U E : Type 0} (first second third : Slab T) (next : Result U E) → OnErr next (SameMembers second third) → SameMembers first second → OnErr next (SameMembers first third)
+refused-later first second third (Ok out) after before = after
+refused-later first second third (Err error) after before = λ number. after number ∙ before number

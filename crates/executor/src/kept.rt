@@ -32,11 +32,13 @@ pub fn place_for_waker<'x, R: Wait + Drop + Copy, F: Yields, A: Wake, B: Allocat
     place: Place<'x, R, F, A, B>,
 ) -> Option<Key<R>> {
     let (pool, worker) = place;
-    let key = pool.wakers.reserve(pool.rt, worker)?;
-    if pool.mail.make_room(key.number()).is_err() {
+    let Some(key) = pool.wakers.reserve(pool.rt, worker) else {
         return None;
+    };
+    match pool.mail.make_room(key.number()) {
+        Ok(()) => Some(key),
+        Err(_) => None,
     }
-    Some(key)
 }
 
 /// Keeps a clone of a waker at the place of a key, and drops what was there. False where the clone was refused, or the key is not one of
@@ -52,16 +54,14 @@ pub fn keep_waker<'x, R: Wait + Drop + Copy, F: Yields, A: Wake, B: Allocator + 
     };
     match pool.wakers.put(&pool.rt, key, clone.with_around(())) {
         Ok(before) => {
-            if let Some(before) = before {
-                drop_waker(place, before);
-            }
+            drop_waker(place, before);
             if pool.is_shut_down() {
                 wake_kept(place, key.number());
             }
             true
         }
         Err(clone) => {
-            drop_waker(place, clone);
+            drop_waker(place, Some(clone));
             false
         }
     }
@@ -72,13 +72,7 @@ pub fn wake_kept<'x, R: Wait + Drop + Copy, F: Yields, A: Wake, B: Allocator + C
     place: Place<'x, R, F, A, B>,
     number: usize,
 ) -> bool {
-    match place.0.wakers.take(&place.0.rt, number) {
-        Some(waker) => {
-            waker.with_around(place).wake();
-            true
-        }
-        None => false,
-    }
+    wake_taken(place, place.0.wakers.take(&place.0.rt, number))
 }
 
 /// Wakes a task whose number an awaiter posted, as `wake_kept` does. False where none is posted. Each worker does it between its turns, and a loop around `Turns::tick` has to.
@@ -115,11 +109,9 @@ pub fn keep_task<'x, R: Wait + Drop + Copy, F: Yields, A: Wake, B: Allocator + C
     let pool = place.0;
     match pool.tasks.put(&pool.rt, key, task.with_around(())) {
         Ok(before) => {
-            if let Some(before) = before {
-                drop_task(place, before);
-            }
+            drop_task(place, before);
             if pool.is_shut_down() {
-                drop_kept(place, key.number());
+                drop_task(place, pool.tasks.take(&pool.rt, key.number()));
             }
             Ok(())
         }
@@ -136,10 +128,14 @@ pub fn poll_kept<'x, R: Wait + Drop + Copy, F: Yields, A: Wake, B: Allocator + C
 ) -> Option<TaskPoll<Result<F::Output, TaskClosed>>>
     ensures meets { IfSome result (λ answer. IfOutput answer (λ output. ∥ F.Yields.meets output ∥₁)) }
 {
-    let kept = place.0.tasks.take_of(&place.0.rt, key)?;
+    let Some(kept) = place.0.tasks.take_of(&place.0.rt, key) else {
+        return None;
+    };
     let mut task = kept.with_around(place);
     let answer = task.poll(awaiter);
-    if !matches!(answer, TaskPoll::Ready(_)) {
+    if matches!(answer, TaskPoll::Ready(_)) {
+        drop(task);
+    } else {
         drop(keep_task(task, key));
     }
     Some(answer)
@@ -160,10 +156,10 @@ pub fn await_kept<'x, R: Wait + Drop + Copy, F: Yields, B: Allocator + Copy>(
     if !keep_waker(waker, own) {
         return Some(TaskPoll::Refused);
     }
-    let Some(awaiter) = BellAwaiter::of_kept(place.0, own.number()) else {
-        return Some(TaskPoll::Refused);
-    };
-    poll_kept(place, awaited, &awaiter)
+    match BellAwaiter::of_kept(place.0, own.number()) {
+        Some(awaiter) => poll_kept(place, awaited, &awaiter),
+        None => Some(TaskPoll::Refused),
+    }
 }
 
 /// Drops what is left at the places of keys that were dropped: wakers, and Tasks, whose tasks are cancelled. Each worker does it between its turns.
@@ -172,68 +168,51 @@ pub fn collect<'x, R: Wait + Drop + Copy, F: Yields, A: Wake, B: Allocator + Cop
 ) {
     let pool = place.0;
     for _ in pool.rt.forever() {
-        if !collect_one(place) {
+        // A Task, or else a waker, that is left at the place of a key that was dropped.
+        if !drop_task(place, pool.tasks.collect(&pool.rt))
+            && !drop_waker(place, pool.wakers.collect(&pool.rt))
+        {
             return;
         }
     }
 }
 
-// Drops a Task, or else a waker, that is left at the place of a key that was dropped. False where there is none.
-fn collect_one<'x, R: Wait + Drop + Copy, F: Yields, A: Wake, B: Allocator + Copy>(
+// Drops this Task, where there is one, which cancels its task. False where there is none.
+fn drop_task<'x, R: Wait + Drop + Copy, F: Yields, A: Wake, B: Allocator + Copy>(
     place: Place<'x, R, F, A, B>,
+    task: Option<KeptTask<R, F, A>>,
 ) -> bool {
-    let pool = place.0;
-    if let Some(task) = pool.tasks.collect(&pool.rt) {
-        drop_task(place, task);
-        return true;
-    }
-    match pool.wakers.collect(&pool.rt) {
-        Some(waker) => {
-            drop_waker(place, waker);
+    match task {
+        Some(task) => {
+            drop(task.with_around(place));
             true
         }
         None => false,
     }
 }
 
-// Drops the Task at a place, which cancels its task.
-fn drop_kept<'x, R: Wait + Drop + Copy, F: Yields, A: Wake, B: Allocator + Copy>(
-    place: Place<'x, R, F, A, B>,
-    number: usize,
-) {
-    if let Some(task) = place.0.tasks.take(&place.0.rt, number) {
-        drop_task(place, task);
-    }
-}
-
-fn drop_task<'x, R: Wait + Drop + Copy, F: Yields, A: Wake, B: Allocator + Copy>(
-    place: Place<'x, R, F, A, B>,
-    task: KeptTask<R, F, A>,
-) {
-    drop(task.with_around(place));
-}
-
+// Drops this waker, where there is one. False where there is none.
 fn drop_waker<'x, R: Wait + Drop + Copy, F: Yields, A: Wake, B: Allocator + Copy>(
     place: Place<'x, R, F, A, B>,
-    waker: KeptWaker<R, F, A>,
-) {
-    drop(waker.with_around(place));
+    waker: Option<KeptWaker<R, F, A>>,
+) -> bool {
+    match waker {
+        Some(waker) => {
+            drop(waker.with_around(place));
+            true
+        }
+        None => false,
+    }
 }
 
-// Wakes the next waker that is kept, or else drops the next Task: after the shutdown that cancels its task. False where both walks are over.
-fn cancel_one<'x, R: Wait + Drop + Copy, F: Yields, A: Wake, B: Allocator + Copy>(
+// Wakes the task of this waker, where there is one. False where there is none.
+fn wake_taken<'x, R: Wait + Drop + Copy, F: Yields, A: Wake, B: Allocator + Copy>(
     place: Place<'x, R, F, A, B>,
-    wakers: &mut Walk,
-    tasks: &mut Walk,
+    waker: Option<KeptWaker<R, F, A>>,
 ) -> bool {
-    let pool = place.0;
-    if let Some(waker) = pool.wakers.take_next(&pool.rt, wakers) {
-        waker.with_around(place).wake();
-        return true;
-    }
-    match pool.tasks.take_next(&pool.rt, tasks) {
-        Some(task) => {
-            drop_task(place, task);
+    match waker {
+        Some(waker) => {
+            waker.with_around(place).wake();
             true
         }
         None => false,
@@ -248,7 +227,9 @@ pub(crate) fn cancel_kept<'x, R: Wait + Drop + Copy, F: Yields, A: Wake, B: Allo
     let mut wakers = Walk::default();
     let mut tasks = Walk::default();
     for _ in pool.rt.forever() {
-        if !cancel_one(place, &mut wakers, &mut tasks) {
+        if !wake_taken(place, pool.wakers.take_next(&pool.rt, &mut wakers))
+            && !drop_task(place, pool.tasks.take_next(&pool.rt, &mut tasks))
+        {
             collect(place);
             return;
         }

@@ -1,15 +1,17 @@
 //! Groups of tasks of a pool: a worker that waits for the next member that ends.
-ghost use Rattle.std.specs.Prelude.{◌≡◌, true, OnErr};
+ghost use Rattle.std.specs.Prelude.{◌≡◌, true, false, IfSome, IsNone, OnErr};
 ghost use Rattle.slab.specs.Slab.{slab_len};
 ghost use Rattle.task_group.specs.Members.{Leaves, SameMembers, IfNext, is_over};
 
 use crate::bell_awaiter::BellAwaiter;
 use crate::pool::{Place, PoolWaker, ToPool};
 use crate::turns::{Turns, run_if_any};
-use async_task::{Future, Yields};
+use async_task::{Future, Runnable, Schedule, Yields};
+use awaiters::Posts;
 use std::alloc::{Allocator, Global};
 use std::sync::Wait;
 use task_group::{Ended, TaskGroup};
+use work_queues::Bells;
 
 /// A group of tasks of a pool. Push the Tasks that `spawn` answers.
 pub type PoolGroup<'x, R, F, B = Global> = TaskGroup<
@@ -44,31 +46,50 @@ impl<'x, R: Wait + Drop + Copy, F: Yields, B: Allocator + Copy> Turns<'x, R, F, 
         ensures refused { OnErr result (SameMembers group.old.members group.new.members) }
         ensures room { group.new.members.capacity ≡ group.old.members.capacity }
     {
-        let pool = self.pool;
         if group.is_empty() {
             return Ok(None);
         }
+        let pool = self.pool;
+        let bells: &Bells = pool.bells();
         for _ in pool.rt.forever() {
-            let interruptions = pool.bells().interruptions();
+            let interruptions = bells.interruptions();
             let ends = self.ends();
-            let Some(bell) = self.bell() else {
-                return Err(NextMemberError::Refused);
-            };
-            group.listen(bell);
-            let next = group.try_next();
-            if !matches!(next, Ok(None)) {
-                // What woke this worker may have been meant for a task that another one has to run now.
-                pool.bells().interrupt();
+            if let Some(next) = look(group, self.bell(), bells, ends) {
+                return next;
             }
-            match next {
-                Ok(None) if ends => return Err(NextMemberError::ShutDown),
-                Ok(None) => {
-                    run_if_any(self.take_turn(interruptions));
-                }
-                Ok(Some(ended)) => return Ok(Some(ended)),
-                Err(_) => return Err(NextMemberError::Refused),
-            }
+            run_if_any(self.take_turn(interruptions));
         }
         unreachable!()
     }
+}
+
+// Takes the next member that has ended out of a group, as `TaskGroup::try_next` does, and has the next end of one ring this bell; without a bell it refuses. `None` where none has ended yet, unless the pool ends.
+fn look<R: Wait + Drop + Copy, F: Yields, Q: Drop, M: Drop, A: Posts<R>, X: Copy>(
+    group: &mut TaskGroup<R, F, Q, M, A, X>,
+    bell: Option<A::Listener>,
+    bells: &Bells,
+    ends: bool,
+) -> Option<Result<Option<Ended<F>>, NextMemberError>>
+where
+    Q: Schedule<Runnable<R, F, Q, M, A, X>>,
+    ensures found { IfSome result (λ next. is_over next ≡ false) }
+    ensures leaves { IfSome result (λ next. IfNext next (λ ended. Leaves group.old.members group.new.members ended.number)) }
+    ensures refused { IfSome result (λ next. OnErr next (SameMembers group.old.members group.new.members)) }
+    ensures stays { IsNone result → SameMembers group.old.members group.new.members }
+    ensures len { IsNone result → slab_len group.new.members ≡ slab_len group.old.members }
+    ensures room { group.new.members.capacity ≡ group.old.members.capacity }
+{
+    let Some(bell) = bell else {
+        return Some(Err(NextMemberError::Refused));
+    };
+    group.listen(bell);
+    let next = match group.try_next() {
+        Ok(Some(ended)) => Ok(Some(ended)),
+        Ok(None) if ends => return Some(Err(NextMemberError::ShutDown)),
+        Ok(None) => return None,
+        Err(_) => Err(NextMemberError::Refused),
+    };
+    // What woke this worker may have been meant for a task that another one has to run now.
+    bells.interrupt();
+    Some(next)
 }

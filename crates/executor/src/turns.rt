@@ -15,7 +15,7 @@ use crate::worker_bell::WorkerBell;
 use async_task::{Future, TaskClosed, TaskPoll, Wake, Yields};
 use std::alloc::{AllocError, Allocator, Global};
 use std::sync::{Arc, Wait};
-use work_queues::Worker;
+use work_queues::{Bells, Worker};
 
 /// The turns of one worker of a pool: the thread that has them is that worker. No other turns have its number while these live.
 ///
@@ -55,8 +55,10 @@ impl<R: Wait + Drop + Copy, F: Yields, A: Wake, B: Allocator + Copy> Pool<R, F, 
     pub fn turns(&self, worker: usize) -> Result<Turns<'_, R, F, A, B>, AllocError>
         ensures { IfOk result (λ turns. turns.worker.number ≡ worker) }
     {
-        let worker = self.crew.worker(self.items, worker)?;
-        Ok(Turns { pool: self, worker })
+        match self.crew.worker(self.items, worker) {
+            Ok(worker) => Ok(Turns { pool: self, worker }),
+            Err(refused) => Err(refused),
+        }
     }
 
     /// The turns of all workers, in the order of their numbers. An error says that there was no memory, or that there are turns of one of them.
@@ -75,9 +77,13 @@ impl<R: Wait + Drop + Copy, F: Yields, A: Wake, B: Allocator + Copy> Pool<R, F, 
     where
         F: Future<PoolWaker<'x, R, F, A, B>>,
     {
-        let mut turns = self.turns(worker)?;
-        turns.work();
-        Ok(())
+        match self.turns(worker) {
+            Ok(mut turns) => {
+                turns.work();
+                Ok(())
+            }
+            Err(refused) => Err(refused),
+        }
     }
 }
 
@@ -94,9 +100,11 @@ impl<'x, R: Wait + Drop + Copy, F: Yields, A: Wake, B: Allocator + Copy> Turns<'
         ensures bells { IfSome result (λ bell. arc_value bell.bells ≡ arc_value self.now.pool.now.crew.bells) }
         ensures worker { IfSome result (λ bell. bell.worker ≡ self.now.worker.number) }
     {
-        let bells = Arc::try_clone(self.pool.bells()).ok()?;
         let worker = self.worker.number();
-        Some(WorkerBell { bells, worker })
+        match Arc::try_clone(self.pool.bells()) {
+            Ok(bells) => Some(WorkerBell { bells, worker }),
+            Err(_) => None,
+        }
     }
 
     /// The next Runnable for this worker: its own, one that came from outside, or one of another worker. `None` where there is none, or only such as this worker leaves to another one that is about to run them. Run it; its drop cancels its task.
@@ -104,8 +112,10 @@ impl<'x, R: Wait + Drop + Copy, F: Yields, A: Wake, B: Allocator + Copy> Turns<'
         ensures place { IfSome result (λ runnable. runnable.around.1 ≡ self.old.worker.number) }
     {
         let place = self.place();
-        let runnable = place.0.crew.find(&place.0.rt, &mut self.worker)?;
-        Some(runnable.with_around(place))
+        match place.0.crew.find(&place.0.rt, &mut self.worker) {
+            Some(runnable) => Some(runnable.with_around(place)),
+            None => None,
+        }
     }
 
     /// Runs the task of the Runnable that `next` answers. False where that is `None`.
@@ -144,8 +154,9 @@ impl<'x, R: Wait + Drop + Copy, F: Yields, A: Wake, B: Allocator + Copy> Turns<'
     /// The next Runnable for this worker, for which it searches and sleeps where `next` answers `None`. Run it. `None` once the pool is shut down: then no Runnable is left that this worker can find.
     pub fn await_next(&mut self) -> Option<PoolRunnable<'x, R, F, A, B>> {
         let pool = self.pool;
+        let bells: &Bells = pool.bells();
         for _ in pool.rt.forever() {
-            let interruptions = pool.bells().interruptions();
+            let interruptions = bells.interruptions();
             if self.ends() {
                 collect(self.place());
                 return None;
@@ -185,8 +196,9 @@ impl<'x, R: Wait + Drop + Copy, F: Yields, A: Wake, B: Allocator + Copy> Turns<'
         ensures around { task.new.around ≡ task.old.around }
     {
         let pool = self.pool;
+        let bells: &Bells = pool.bells();
         for _ in pool.rt.forever() {
-            let interruptions = pool.bells().interruptions();
+            let interruptions = bells.interruptions();
             let answer = task.poll(awaiter);
             let ends = self.ends();
             match answer {
@@ -196,7 +208,7 @@ impl<'x, R: Wait + Drop + Copy, F: Yields, A: Wake, B: Allocator + Copy> Turns<'
                 }
                 answer => {
                     // What woke this worker may have been meant for a task that another one has to run now.
-                    pool.bells().interrupt();
+                    bells.interrupt();
                     return answer;
                 }
             }
@@ -257,15 +269,25 @@ impl<'x, R: Wait + Drop + Copy, F: Yields, B: Allocator + Copy> Turns<'x, R, F, 
         ensures cell { task.new.inner.share ≡ task.old.inner.share }
         ensures around { task.new.around ≡ task.old.around }
     {
-        let answer = match BellAwaiter::new(self.pool, self.worker.number()) {
-            Some(awaiter) => self.await_answer(task, &awaiter),
-            None => TaskPoll::Refused,
-        };
-        match answer {
-            TaskPoll::Ready(Ok(output)) => Ok(output),
-            TaskPoll::Ready(Err(_)) => Err(BlockOnError::Closed),
-            TaskPoll::Refused => Err(BlockOnError::Refused),
-            TaskPoll::Pending => Err(BlockOnError::ShutDown),
+        match BellAwaiter::new(self.pool, self.worker.number()) {
+            Some(awaiter) => output_of::<F>(self.await_answer(task, &awaiter)),
+            None => Err(BlockOnError::Refused),
         }
+    }
+}
+
+// The output that an answer has.
+fn output_of<F: Yields>(
+    answer: TaskPoll<Result<F::Output, TaskClosed>>,
+) -> Result<F::Output, BlockOnError>
+    ensures meets { IfOutput answer (λ output. ∥ F.Yields.meets output ∥₁) → IfOk result (λ output. ∥ F.Yields.meets output ∥₁) }
+    ensures closed { result ≡ Err BlockOnError.Closed → is_closed answer ≡ true }
+    ensures ended { is_closed answer ≡ true → IsErr result }
+{
+    match answer {
+        TaskPoll::Ready(Ok(output)) => Ok(output),
+        TaskPoll::Ready(Err(_)) => Err(BlockOnError::Closed),
+        TaskPoll::Refused => Err(BlockOnError::Refused),
+        TaskPoll::Pending => Err(BlockOnError::ShutDown),
     }
 }

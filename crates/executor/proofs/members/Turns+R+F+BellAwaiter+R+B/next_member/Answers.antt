@@ -1,13 +1,8 @@
-use Rattle.std.proofs.Common.{◌∙◌, refl}
-use Rattle.task_group.specs.declared.group.AwaiterRefused.{AwaiterRefused}
-use Rattle.executor.proofs.LaterMembers.{leaves-later, none-came-out}
+use Rattle.executor.proofs.LaterMembers.{next-later, refused-later}
 use Rattle.executor.proofs.members.Turns+R+F+BellAwaiter+R+B.next_member.Goals as goal
 
-pub returns-in-Ok-None-next-clause-refused : goal.returns-in-Ok-None-next-clause-refused
-returns-in-Ok-None-next-clause-refused g c = λ number. c.in-Ok-None-next.ensures.stays (none-came-out AwaiterRefused _ c.in-Ok-None-next.field-0-is) number ∙ c.loop.invariant.same number
+pub returns-in-Some-look-clause-leaves : goal.returns-in-Some-look-clause-leaves
+returns-in-Some-look-clause-leaves g c = next-later c.args.group.now.members c.loop.group.members c.look.new.group.members (λ ended. ended.number) _ c.in-Some-look.ensures.leaves c.loop.invariant.same
 
-pub returns-in-Ok-Some-clause-leaves : goal.returns-in-Ok-Some-clause-leaves
-returns-in-Ok-Some-clause-leaves g c = leaves-later AwaiterRefused (λ e. e.number) _ _ _ _ _ c.in-Ok-Some.field-0-is c.in-Ok-Some.ensures.leaves c.loop.invariant.same
-
-pub returns-in-Err-clause-refused : goal.returns-in-Err-clause-refused
-returns-in-Err-clause-refused g c = λ number. c.in-Err.ensures.stays refl number ∙ c.loop.invariant.same number
+pub returns-in-Some-look-clause-refused : goal.returns-in-Some-look-clause-refused
+returns-in-Some-look-clause-refused g c = refused-later c.args.group.now.members c.loop.group.members c.look.new.group.members _ c.in-Some-look.ensures.refused c.loop.invariant.same

@@ -1,5 +1,5 @@
-use Rattle.std.proofs.Common.{◌∙◌, ap, drop, arith, rules}
-use Rattle.executor.proofs.Counted.{appends-more, drop-one}
+use Rattle.std.proofs.Common.{arith, rules}
+use Rattle.executor.proofs.Counted.{appends-more, dropped-more}
 use Rattle.executor.proofs.pool.Pool.spawn_many.Goals as goal
 
 pub loop-preserved : goal.loop-preserved
@@ -9,7 +9,7 @@ loop-preserved g c =
     let room = c.loop.invariant.room in
     record {
       many = omega (arith, spawned.1, many);
-      left = spawned.0 ∙ (ap (drop 1) c.loop.invariant.left ∙ drop-one c.loop.counter _);
+      left = dropped-more c.loop.counter _ spawned.0 c.loop.invariant.left;
       added = appends-more c.loop.invariant.added (c.spawn_first.ensures.added (search rules));
       room = omega (arith, spawned.2, room);
     }
