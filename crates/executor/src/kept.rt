@@ -32,9 +32,7 @@ pub fn place_for_waker<'x, R: Wait + Drop + Copy, F: Yields, A: Wake, B: Allocat
     place: Place<'x, R, F, A, B>,
 ) -> Option<Key<R>> {
     let (pool, worker) = place;
-    let Some(key) = pool.wakers.reserve(pool.rt, worker) else {
-        return None;
-    };
+    let key = pool.wakers.reserve(pool.rt, worker)?;
     match pool.mail.make_room(key.number()) {
         Ok(()) => Some(key),
         Err(_) => None,
@@ -128,9 +126,7 @@ pub fn poll_kept<'x, R: Wait + Drop + Copy, F: Yields, A: Wake, B: Allocator + C
 ) -> Option<TaskPoll<Result<F::Output, TaskClosed>>>
     ensures meets { IfSome result (λ answer. IfOutput answer (λ output. ∥ F.Yields.meets output ∥₁)) }
 {
-    let Some(kept) = place.0.tasks.take_of(&place.0.rt, key) else {
-        return None;
-    };
+    let kept = place.0.tasks.take_of(&place.0.rt, key)?;
     let mut task = kept.with_around(place);
     let answer = task.poll(awaiter);
     if matches!(answer, TaskPoll::Ready(_)) {

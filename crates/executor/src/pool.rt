@@ -110,28 +110,16 @@ impl<R: Wait + Drop + Copy, F: Yields, A: Wake, B: Allocator + Copy> Pool<R, F, 
         items: B,
         workers: usize,
     ) -> Result<Pool<R, F, A, B>, AllocError> {
-        let Ok(crew) = Crew::new(alloc, items, workers, ROOM) else {
-            return Err(AllocError);
-        };
-        let Ok(wakers) = Store::new(alloc) else {
-            return Err(AllocError);
-        };
-        let Ok(tasks) = Store::new(alloc) else {
-            return Err(AllocError);
-        };
-        match Mail::new(rt, alloc) {
-            Ok(mail) => Ok(Pool {
-                rt,
-                alloc,
-                items,
-                crew,
-                stopped: AtomicBool::new(false),
-                wakers,
-                tasks,
-                mail,
-            }),
-            Err(refused) => Err(refused),
-        }
+        Ok(Pool {
+            rt,
+            alloc,
+            items,
+            crew: Crew::new(alloc, items, workers, ROOM)?,
+            stopped: AtomicBool::new(false),
+            wakers: Store::new(alloc)?,
+            tasks: Store::new(alloc)?,
+            mail: Mail::new(rt, alloc)?,
+        })
     }
 
     /// What its threads wait by: a future takes a lock by it, which it reaches by `waker.around()`.

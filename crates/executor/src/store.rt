@@ -177,9 +177,7 @@ impl<H: Drop> Store<H> {
 
     /// Takes the handle out of the place of a key, if there is one. `None` also where the key is of another store.
     pub fn take_of<R: Wait + Drop + Copy>(&self, rt: &R, key: &Key<R>) -> Option<H> {
-        let Some(part) = self.parts.get(part_of(key.number)) else {
-            return None;
-        };
+        let part = self.parts.get(part_of(key.number))?;
         let mut places = part.places.lock(rt);
         if !part.knows(key) {
             return None;
@@ -189,9 +187,7 @@ impl<H: Drop> Store<H> {
 
     /// Takes the handle out of the place of a number, if there is one. The place stays that of its key.
     pub fn take<R: Wait>(&self, rt: &R, number: usize) -> Option<H> {
-        let Some(part) = self.parts.get(part_of(number)) else {
-            return None;
-        };
+        let part = self.parts.get(part_of(number))?;
         let mut places = part.places.lock(rt);
         take_out(&mut *places, slot_of(number))
     }
@@ -199,10 +195,8 @@ impl<H: Drop> Store<H> {
     /// Frees the places of keys that were dropped, up to one that has a handle, and answers that handle. `None` where no such key is left.
     pub fn collect<R: Wait>(&self, rt: &R) -> Option<H> {
         for _ in rt.forever() {
-            match self.free_next(rt) {
-                Some(None) => {}
-                Some(handle) => return handle,
-                None => return None,
+            if let Some(handle) = self.free_next(rt)? {
+                return Some(handle);
             }
         }
         unreachable!()
@@ -224,10 +218,8 @@ impl<H: Drop> Store<H> {
     /// Takes the handle out of the next place that has one, in a walk over all places. The place stays that of its key. `None` where the walk is over.
     pub fn take_next<R: Wait>(&self, rt: &R, walk: &mut Walk) -> Option<H> {
         for _ in rt.forever() {
-            match self.take_at(rt, walk) {
-                Some(None) => {}
-                Some(handle) => return handle,
-                None => return None,
+            if let Some(handle) = self.take_at(rt, walk)? {
+                return Some(handle);
             }
         }
         unreachable!()
@@ -235,9 +227,7 @@ impl<H: Drop> Store<H> {
 
     // Takes what is in the place at which a walk stands, and goes on to the next one. `None` where the walk is over, and `Some(None)` where the place was empty.
     fn take_at<R: Wait>(&self, rt: &R, walk: &mut Walk) -> Option<Option<H>> {
-        let Some(part) = self.parts.get(walk.part) else {
-            return None;
-        };
+        let part = self.parts.get(walk.part)?;
         let mut places = part.places.lock(rt);
         if walk.slot >= places.capacity() {
             walk.part = walk.part.saturating_add(1);

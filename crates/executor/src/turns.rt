@@ -55,10 +55,8 @@ impl<R: Wait + Drop + Copy, F: Yields, A: Wake, B: Allocator + Copy> Pool<R, F, 
     pub fn turns(&self, worker: usize) -> Result<Turns<'_, R, F, A, B>, AllocError>
         ensures { IfOk result (λ turns. turns.worker.number ≡ worker) }
     {
-        match self.crew.worker(self.items, worker) {
-            Ok(worker) => Ok(Turns { pool: self, worker }),
-            Err(refused) => Err(refused),
-        }
+        let worker = self.crew.worker(self.items, worker)?;
+        Ok(Turns { pool: self, worker })
     }
 
     /// The turns of all workers, in the order of their numbers. An error says that there was no memory, or that there are turns of one of them.
@@ -77,13 +75,9 @@ impl<R: Wait + Drop + Copy, F: Yields, A: Wake, B: Allocator + Copy> Pool<R, F, 
     where
         F: Future<PoolWaker<'x, R, F, A, B>>,
     {
-        match self.turns(worker) {
-            Ok(mut turns) => {
-                turns.work();
-                Ok(())
-            }
-            Err(refused) => Err(refused),
-        }
+        let mut turns = self.turns(worker)?;
+        turns.work();
+        Ok(())
     }
 }
 
@@ -100,11 +94,9 @@ impl<'x, R: Wait + Drop + Copy, F: Yields, A: Wake, B: Allocator + Copy> Turns<'
         ensures bells { IfSome result (λ bell. arc_value bell.bells ≡ arc_value self.now.pool.now.crew.bells) }
         ensures worker { IfSome result (λ bell. bell.worker ≡ self.now.worker.number) }
     {
+        let bells = Arc::try_clone(self.pool.bells()).ok()?;
         let worker = self.worker.number();
-        match Arc::try_clone(self.pool.bells()) {
-            Ok(bells) => Some(WorkerBell { bells, worker }),
-            Err(_) => None,
-        }
+        Some(WorkerBell { bells, worker })
     }
 
     /// The next Runnable for this worker: its own, one that came from outside, or one of another worker. `None` where there is none, or only such as this worker leaves to another one that is about to run them. Run it; its drop cancels its task.
@@ -112,10 +104,8 @@ impl<'x, R: Wait + Drop + Copy, F: Yields, A: Wake, B: Allocator + Copy> Turns<'
         ensures place { IfSome result (λ runnable. runnable.around.1 ≡ self.old.worker.number) }
     {
         let place = self.place();
-        match place.0.crew.find(&place.0.rt, &mut self.worker) {
-            Some(runnable) => Some(runnable.with_around(place)),
-            None => None,
-        }
+        let runnable = place.0.crew.find(&place.0.rt, &mut self.worker)?;
+        Some(runnable.with_around(place))
     }
 
     /// Runs the task of the Runnable that `next` answers. False where that is `None`.
