@@ -1,0 +1,12 @@
+pub mod Bytes
+pub mod Apart
+pub mod Loans
+pub mod Sharing
+pub mod Beginning
+pub mod Ending
+pub mod Slots
+pub mod Opened
+pub mod Steps
+pub mod Shared
+pub mod Lending
+pub mod Threads
