@@ -7,7 +7,7 @@ ghost use Rattle.task_steps.specs.Standing.{as_task};
 ghost use Rattle.task_cell.specs.Calls.{Stands, deeds};
 
 use crate::task::{Task, TaskParty};
-use atomic_table::Seat;
+use inline_table::Seat;
 use std::alloc::Allocator;
 use std::sync::Wait;
 use task_cell::{Cell, Runnable, Share};
@@ -148,7 +148,7 @@ where
     B: Allocator,
     Q: Schedule<Runnable<R, F, Q, M, A, X, B>> + Drop,
     requires shares { arc_value second.cell ≡ arc_value first.cell }
-    requires seat { (seat.table_id ≡ (arc_value first.cell).table.shared.table_id) × (seat.me ≡ (laid_view (arc_value first.cell).limit, [])) }
+    requires seat { (seat.table_id ≡ (arc_value first.cell).table.table_id) × (seat.me ≡ (laid_view (arc_value first.cell).limit, [])) }
     ensures cells { (result.0.inner.share ≡ first) × (result.1.inner.share ≡ second) }
     ensures opening { Stands (as_task 0) result.1.inner.party × (deeds result.1.inner.party ≡ []) }
     ensures around { (result.0.around ≡ around) × (result.1.around ≡ around) }

@@ -27,7 +27,7 @@ pub struct TaskClosed;
 pub(crate) struct TaskParty<R, F: Yields, Q, M, A, B: Allocator> {
     pub(crate) share: Share<R, F, Q, M, A, B>,
     pub(crate) party: Party<F, Kept<F>, A>,
-    ghost seated: { party.seat.table_id ≡ (arc_value share.cell).table.shared.table_id },
+    ghost seated: { party.seat.table_id ≡ (arc_value share.cell).table.table_id },
     ghost limited: { limit_of party ≡ (arc_value share.cell).limit },
     ghost placed: { is_task (position party) ≡ true },
     ghost alone: { party.seat.me.0 ≡ view (limit_of party) (member (position party) (deeds party) ∷ []) },

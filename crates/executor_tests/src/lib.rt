@@ -18,6 +18,8 @@ mod races;
 #[cfg(test)]
 mod refusal_tests;
 #[cfg(test)]
+mod shared_tests;
+#[cfg(test)]
 mod slot_tests;
 #[cfg(test)]
 mod storm_tests;

@@ -1,4 +1,4 @@
-//! Tests of what is refused: a spawn at each of its requests for memory, and wakers at the limit of references.
+//! Tests of what is refused: a spawn its one request for memory, and wakers at the limit of references.
 ghost use Rattle.std.specs.Prelude.{⊤};
 
 use crate::calls;
@@ -19,8 +19,7 @@ use std::alloc::{Allocator, Global};
 use std::process::Abort;
 use std::sync::{Arc, Wait};
 
-// A schedule value takes so many numbers that the shared cell, in which it stands, needs a larger block than all that a
-// spawn asks for before it. So there are heaps in which only the last request is refused.
+// A schedule value has so many numbers, by which it shows that it is whole.
 const WIDTH: usize = 64;
 
 // Room for a task, and more.
@@ -134,9 +133,9 @@ fn succeeds<R: Wait + Abort + Drop + Copy>(
     is_ready && heap.used() == 0 && refused_clones.get() == 0
 }
 
-// What a spawn over a small heap came to. Granted: whether it made four requests, and nothing was used at last. Refused: how many
-// requests there were, the last of which was refused, and whether all was as it has to be.
-type Spawned = Result<bool, (u64, bool)>;
+// What a spawn over a heap came to, and whether all was as it has to be: granted, with one request, and nothing used at last; or
+// refused its one request.
+type Spawned = Result<bool, bool>;
 
 // Uses what a refused spawn handed back, with a heap that has room: whether the schedule value was whole and the spawn succeeded.
 fn use_refused<R: Wait + Abort + Drop + Copy>(
@@ -167,7 +166,7 @@ fn spawn_in<R: Wait + Abort + Drop + Copy>(rt: R, alloc: Global, blocks: u16) ->
         Ok((runnable, task)) => {
             let requests = counting.allocations();
             discard_both(runnable, task);
-            Ok(requests == 4 && heap.used() == 0)
+            Ok(requests == 1 && heap.used() == 0)
         }
         Err(refused) => {
             let requests = counting.allocations();
@@ -175,7 +174,7 @@ fn spawn_in<R: Wait + Abort + Drop + Copy>(rt: R, alloc: Global, blocks: u16) ->
             let is_used = use_refused(rt, alloc, refused);
             let is_over = counters.counts() == Counts::new(1, 0, 1, 1);
             let right = is_freed && is_used && is_over && counters.output_drops.get() == 1;
-            Err((requests, right))
+            Err(requests == 1 && right)
         }
     }
 }
@@ -197,7 +196,7 @@ fn build_in<R: Wait + Abort + Drop + Copy>(rt: R, alloc: Global, blocks: u16) ->
     match builder.spawn(rt, &counting, maker, schedule, &around) {
         Ok((runnable, task)) => {
             discard_both(runnable, task);
-            Ok(counting.allocations() == 4 && calls.get() == 1 && heap.used() == 0)
+            Ok(counting.allocations() == 1 && calls.get() == 1 && heap.used() == 0)
         }
         Err(refused) => {
             let requests = counting.allocations();
@@ -205,7 +204,7 @@ fn build_in<R: Wait + Abort + Drop + Copy>(rt: R, alloc: Global, blocks: u16) ->
             let is_uncalled = calls.get() == 0;
             let is_used = use_builder(rt, alloc, refused);
             let is_over = calls.get() == 1 && counters.counts() == Counts::new(0, 0, 1, 1);
-            Err((requests, is_freed && is_uncalled && is_used && is_over))
+            Err(requests == 1 && is_freed && is_uncalled && is_used && is_over)
         }
     }
 }
@@ -245,56 +244,23 @@ fn use_builder<R: Wait + Abort + Drop + Copy, G: FnOnce(&u64) -> WideFuture>(
     is_shown && is_whole && metadata == 7 && heap.used() == 0
 }
 
-// What spawns.
-#[derive(Clone, Copy)]
-enum Spawner {
-    Spawn,
-    Builder,
-}
+// Heaps without room for a task, and with it, in blocks.
+const FEW: u16 = 1;
 
-// Notes that the request of that number was refused.
-fn note<R: Abort + Drop + Copy>(rt: R, refused: &mut [bool; 5], request: u64) {
-    match usize::try_from(request) {
-        Ok(request) if request < 5 => refused[request] = true,
-        _ => panic!(rt; "a spawn asked {request} times"),
-    }
-}
+const MANY: u16 = 256;
 
-// Spawns over heaps each of which has one block more than the one before, until one has room: which requests were refused. Stops
-// where anything is not as it has to be.
-fn refused_in_turn<R: Wait + Abort + Drop + Copy>(
-    rt: R,
-    alloc: Global,
-    spawner: Spawner,
-) -> [bool; 5] {
-    let mut refused = [false; 5];
-    for blocks in 1..1000u16 {
-        let spawned = match spawner {
-            Spawner::Spawn => spawn_in(rt, alloc, blocks),
-            Spawner::Builder => build_in(rt, alloc, blocks),
-        };
-        let Err((request, right)) = spawned else {
-            assert!(rt; spawned == Ok(true));
-            return refused;
-        };
-        assert!(rt; right);
-        note(rt, &mut refused, request);
-    }
-    panic!(rt; "no heap has room")
-}
-
-// In turn each of the four requests is refused.
 #[test]
 fn a_refused_spawn_hands_everything_back(rt: HostRuntime) {
-    let refused = refused_in_turn(rt, rt.alloc(), Spawner::Spawn);
-    assert!(rt; refused == [false, true, true, true, true]);
+    let refused = spawn_in(rt, rt.alloc(), FEW);
+    let spawned = spawn_in(rt, rt.alloc(), MANY);
+    assert!(rt; [refused, spawned] == [Err(true), Ok(true)]);
 }
 
-// In turn each of the four requests is refused.
 #[test]
 fn a_refused_builder_hands_everything_back(rt: HostRuntime) {
-    let refused = refused_in_turn(rt, rt.alloc(), Spawner::Builder);
-    assert!(rt; refused == [false, true, true, true, true]);
+    let refused = build_in(rt, rt.alloc(), FEW);
+    let spawned = build_in(rt, rt.alloc(), MANY);
+    assert!(rt; [refused, spawned] == [Err(true), Ok(true)]);
 }
 
 // Spawns a task that may have two references. Stops where it is refused.

@@ -319,6 +319,25 @@ fn a_detach_drops_the_output(rt: HostRuntime) {
     );
 }
 
+// Runs a task that was detached and still has a waker: the outputs that were dropped before the waker was.
+fn run_before_waker<R: Wait + Abort + Drop + Copy>(rt: R, fixture: &Fixture<R>) -> u64 {
+    let (runnable, task) = calls::spawn(fixture, Behaviour::Ready(4));
+    let waker = calls::waker_of(rt, &runnable);
+    calls::detach(task);
+    calls::run(runnable);
+    let dropped = fixture.output_drops();
+    calls::drop_waker(waker);
+    dropped
+}
+
+// The run drops an output that nobody can claim, and does not leave it to the last handle.
+#[test]
+fn an_unclaimed_output_is_dropped_before_the_last_waker(rt: HostRuntime) {
+    let fixture = calls::fixture(rt, rt.alloc());
+    let dropped = run_before_waker(rt, &fixture);
+    assert!(rt; (dropped, fixture.output_drops()) == (1, 1));
+}
+
 // Takes the output of a completed task, and drops its Task.
 fn take_output<R: Wait + Abort + Drop + Copy>(
     fixture: &Fixture<R>,

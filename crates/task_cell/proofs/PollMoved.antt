@@ -94,10 +94,9 @@ module _ {F T A : Type 0} where
       → (Carried at (notifies w.awaiter (OfClaim (poll_number at))) [] q.seat.me.1 → TakesOutput [] q.seat.me.1) → ClaimsOutput w path p q
   claimed w at acts path p q s cell m there to none is takes = let g = went acts w at (notifies w.awaiter (OfClaim (poll_number at))) [] path p q s cell m to none is in let c = takes g.0 in record {
     there = there;
-    beside = c.0;
-    output = c.1;
-    is_output = c.2;
-    goes = subst (λ at. GoesWith path (notifies w.awaiter (OfClaim (poll_number at))) (output_first c.0 c.1 []) p q) (sym (position_is p at [] s)) (subst (λ l. GoesWith path (notifies w.awaiter (OfClaim (poll_number at))) l p q) c.3 g.1);
+    output = c.0;
+    is_output = c.1;
+    goes = subst (λ at. GoesWith path (notifies w.awaiter (OfClaim (poll_number at))) (output_first c.0 []) p q) (sym (position_is p at [] s)) (subst (λ l. GoesWith path (notifies w.awaiter (OfClaim (poll_number at))) l p q) c.2 g.1);
   }
 
   first_holds : (w : State) (n : ℕ) (l : List (ℕ × Slot F T A)) → Carried (as_task n) (first_look w (n + 1)) [] l → l ≡ []

@@ -139,10 +139,10 @@ module _ {F T A : Type 0} where
   handed_out taken p q r g o = then_goes p q r taken (act HandOutOutput ∷ act EndCall ∷ []) (TookOutput (poll_number (position p))) (holds p) [] ends g o
 
   -- a look that has claimed the output stands to take the awaiter
-  pub has_claimed : (w : State) (path : List Deed) (p q : Party F T A) → ClaimsOutput w path p q → (i : ℕ) × (y : Slot F T A) × (z : Slot F T A) × StandsWith (notifies w.awaiter (OfClaim i)) (output_first y z []) q × IsOutput z
-  has_claimed w path p q c = let n : ℕ = poll_number (position p) in (n, c.beside, c.output, stands p q path (notifies w.awaiter (OfClaim n)) (output_first c.beside c.output []) c.goes, c.is_output)
+  pub has_claimed : (w : State) (path : List Deed) (p q : Party F T A) → ClaimsOutput w path p q → (i : ℕ) × (z : Slot F T A) × StandsWith (notifies w.awaiter (OfClaim i)) (output_first z []) q × IsOutput z
+  has_claimed w path p q c = let n : ℕ = poll_number (position p) in (n, c.output, stands p q path (notifies w.awaiter (OfClaim n)) (output_first c.output []) c.goes, c.is_output)
 
   -- .. and goes on to the end of its poll
   pub claimed_out : (w : State) (path rest : List Deed) (p q r : Party F T A) → ClaimsOutput w path p q → Goes rest (ends (position q)) q r → Goes (path ++ rest) (ends (position p)) p r
   claimed_out w path rest p q r c o = let n : ℕ = poll_number (position p) in
-      subst (λ k. Goes (path ++ rest) (as_task k) p r) (claimed_number w.awaiter n) (then_goes p q r path rest (notifies w.awaiter (OfClaim n)) (output_first c.beside c.output []) [] ends c.goes o)
+      subst (λ k. Goes (path ++ rest) (as_task k) p r) (claimed_number w.awaiter n) (then_goes p q r path rest (notifies w.awaiter (OfClaim n)) (output_first c.output []) [] ends c.goes o)

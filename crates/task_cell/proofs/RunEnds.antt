@@ -17,28 +17,28 @@ module _ {F T A : Type 0} where
   -- the output
   pub completes_cell : (p q : Party F T A) (w : State) → Completes p q w → q.seat.table_id ≡ p.seat.table_id
   completes_cell p q w (keeps h k g) = g.cell
-  completes_cell p q w (finds_closed y z h k g) = g.cell
-  completes_cell p q w (finds_detached y z h g) = g.cell
+  completes_cell p q w (finds_closed z h k g) = g.cell
+  completes_cell p q w (finds_detached z h g) = g.cell
 
   -- an output that nobody will claim
   unclaimed : (p q : Party F T A) (w : State) → Completes p q w → (w.task && not w.closed) ≡ false
-      → (path : List Deed) × (y : Slot F T A) × (z : Slot F T A) × StorePath w (path ++ act DropOutput ∷ []) × GoesWith path (OutputInHand w.awaiter) (output_first y z []) p q
-  unclaimed p q w (keeps h k g) e = let z = unkept w h k in absurd (cc)
-  unclaimed p q w (finds_closed y z h k g) e = (act DropFuture ∷ act StoreOutput ∷ row Complete w ∷ [], y, z, not_claimed h k, g)
-  unclaimed p q w (finds_detached y z h g) e = (act DropFuture ∷ act StoreOutput ∷ row CompleteDetached w ∷ [], y, z, detached h, g)
+      → (path : List Deed) × (z : Slot F T A) × StorePath w (path ++ act DropOutput ∷ []) × GoesWith path (OutputInHand w.awaiter) (output_first z []) p q
+  unclaimed p q w (keeps h k g) e = let x = unkept w h k in absurd (cc)
+  unclaimed p q w (finds_closed z h k g) e = (act DropFuture ∷ act StoreOutput ∷ row Complete w ∷ [], z, not_claimed h k, g)
+  unclaimed p q w (finds_detached z h g) e = (act DropFuture ∷ act StoreOutput ∷ row CompleteDetached w ∷ [], z, detached h, g)
 
-  pub output_left : (p q : Party F T A) (w : State) → Completes p q w → (w.task && not w.closed) ≡ false → (y : Slot F T A) × (z : Slot F T A) × StandsWith (OutputInHand w.awaiter) (output_first y z []) q
-  output_left p q w c e = let x = unclaimed p q w c e in (x.1, x.2, moved.stands p q x.0 (OutputInHand w.awaiter) (output_first x.1 x.2 []) x.4)
+  pub output_left : (p q : Party F T A) (w : State) → Completes p q w → (w.task && not w.closed) ≡ false → (z : Slot F T A) × StandsWith (OutputInHand w.awaiter) (output_first z []) q
+  output_left p q w c e = let x = unclaimed p q w c e in (x.1, moved.stands p q x.0 (OutputInHand w.awaiter) (output_first x.1 []) x.3)
 
   pub stores_kept : (p q : Party F T A) (w : State) → Completes p q w → (w.task && not w.closed) ≡ true → Stores w p q
   stores_kept p q w (keeps h k g) e = (_, kept h k, g)
-  stores_kept p q w (finds_closed y z h k g) e = let x : (w.task && not w.closed) ≡ false = ap (λ b. b && not w.closed) h ∙ ap not k in absurd (cc)
-  stores_kept p q w (finds_detached y z h g) e = let x : (w.task && not w.closed) ≡ false = ap (λ b. b && not w.closed) h in absurd (cc)
+  stores_kept p q w (finds_closed z h k g) e = let x : (w.task && not w.closed) ≡ false = ap (λ b. b && not w.closed) h ∙ ap not k in absurd (cc)
+  stores_kept p q w (finds_detached z h g) e = let x : (w.task && not w.closed) ≡ false = ap (λ b. b && not w.closed) h in absurd (cc)
 
   pub stores_dropped : (p q r : Party F T A) (w : State) → Completes p q w → (w.task && not w.closed) ≡ false
-      → ((due : Bool) (y z : Slot F T A) → StandsWith (OutputInHand due) (output_first y z []) q → Goes (act DropOutput ∷ []) (notifies due OfRun) q r) → Stores w p r
+      → ((due : Bool) (z : Slot F T A) → StandsWith (OutputInHand due) (output_first z []) q → Goes (act DropOutput ∷ []) (notifies due OfRun) q r) → Stores w p r
   stores_dropped p q r w c e drops = let x = unclaimed p q w c e in
-      (x.0 ++ act DropOutput ∷ [], x.3, moved.goes_on p q r x.0 (act DropOutput ∷ []) (OutputInHand w.awaiter) (notifies w.awaiter OfRun) (output_first x.1 x.2 []) [] x.4 (drops w.awaiter x.1 x.2 (moved.stands p q x.0 (OutputInHand w.awaiter) (output_first x.1 x.2 []) x.4)))
+      (x.0 ++ act DropOutput ∷ [], x.2, moved.goes_on p q r x.0 (act DropOutput ∷ []) (OutputInHand w.awaiter) (notifies w.awaiter OfRun) (output_first x.1 []) [] x.3 (drops w.awaiter x.1 (moved.stands p q x.0 (OutputInHand w.awaiter) (output_first x.1 []) x.3)))
 
   pub ready_rest : (Woken : Type 0) (w : State) (held cleared : List (ℕ × Slot F T A)) (p q r s t : Party F T A) → GoesWith (act AnswerReady ∷ []) Ready held p q → GoesWith [] Ready cleared q r → Stores w r s → Rests Woken w.awaiter s t → EndsReady Woken p t
   ready_rest Woken w held cleared p q r s t f g x z = (
@@ -50,15 +50,8 @@ module _ {F T A : Type 0} where
   )
 
   -- a closed task
-  pub closes_rest : (Woken : Type 0) (w : State) (held : List (ℕ × Slot F T A)) (p q r s : Party F T A) → GoesWith [] PendingFutureDropped held p q → (w.closed ≡ true) × Goes (row EndClosed w ∷ []) (notifies w.awaiter OfRun) q r → Rests Woken w.awaiter r s → ClosesPending Woken p s
-  closes_rest Woken w held p q r s g h x = (
-    w,
-    x.0,
-    h.0,
-    x.1,
-    moved.goes_on p q s [] (row EndClosed w ∷ x.0) PendingFutureDropped (At Ended) held [] g
-        (moved.goes_on q r s (row EndClosed w ∷ []) x.0 (notifies w.awaiter OfRun) (At Ended) [] [] h.1 x.2),
-  )
+  pub closes_rest : (Woken : Type 0) (w : State) (p q r : Party F T A) → (w.closed ≡ true) × Goes (row EndClosed w ∷ []) (notifies w.awaiter OfRun) p q → Rests Woken w.awaiter q r → ClosesPending Woken p r
+  closes_rest Woken w p q r h x = (w, x.0, h.0, x.1, moved.goes_on p q r (row EndClosed w ∷ []) x.0 (notifies w.awaiter OfRun) (At Ended) [] [] h.1 x.2)
 
   -- after a poll that answered Pending, by how the run ends
   abbrev pub IsRescheduled : Party F T A → Party F T A → Type 0
@@ -72,7 +65,7 @@ module _ {F T A : Type 0} where
 
   -- what the step tells that follows a poll which answered Pending
   abbrev pub Ends : Party F T A → Party F T A → PendingEnd → Type 0
-  Ends q r e = (y z : Slot F T A) → StandsWith Pending (future_first y z []) q → EndsPending (future_first y z []) q r e
+  Ends q r e = (y : Slot F T A) → StandsWith Pending (future_first y []) q → EndsPending (future_first y []) q r e
 
   -- the task was found closed, or not
   pub cleared_first : (held : List (ℕ × Slot F T A)) (p q : Party F T A) (b : Bool) → AnswersPending held p q b → b ≡ true → GoesWith (act AnswerPending ∷ act DropFuture ∷ []) PendingFutureDropped held p q
@@ -88,25 +81,25 @@ module _ {F T A : Type 0} where
       by (stays_pending g) = g
 
   -- .. and then how the run ended
-  module _ (p q r : Party F T A) (b : Bool) (e : PendingEnd) (y z : Slot F T A) (f : AnswersPending (future_first y z []) p q b) (h : b ≡ false) (g : Ends q r e) where
-    first : GoesWith (act AnswerPending ∷ []) Pending (future_first y z []) p q
-    first = left_pending (future_first y z []) p q b f h
+  module _ (p q r : Party F T A) (b : Bool) (e : PendingEnd) (y : Slot F T A) (f : AnswersPending (future_first y []) p q b) (h : b ≡ false) (g : Ends q r e) where
+    first : GoesWith (act AnswerPending ∷ []) Pending (future_first y []) p q
+    first = left_pending (future_first y []) p q b f h
 
-    ended : (x : PendingEnd) → e ≡ x → EndsPending (future_first y z []) q r x
-    ended x is = subst (λ x. EndsPending (future_first y z []) q r x) is (g y z (moved.stands p q (act AnswerPending ∷ []) Pending (future_first y z []) first))
+    ended : (x : PendingEnd) → e ≡ x → EndsPending (future_first y []) q r x
+    ended x is = subst (λ x. EndsPending (future_first y []) q r x) is (g y (moved.stands p q (act AnswerPending ∷ []) Pending (future_first y []) first))
 
     both : (path : List Deed) (at : Position) (held : List (ℕ × Slot F T A)) → GoesWith path at held q r → GoesWith (act AnswerPending ∷ path) at held p r
-    both path at held x = moved.goes_on p q r (act AnswerPending ∷ []) path Pending at (future_first y z []) held first x
+    both path at held x = moved.goes_on p q r (act AnswerPending ∷ []) path Pending at (future_first y []) held first x
 
     -- what each end comes to
     abbrev pub After : PendingEnd → Type 0
-    After Closed = GoesWith (act AnswerPending ∷ act DropFuture ∷ []) PendingFutureDropped (future_first y z []) p r
+    After Closed = GoesWith (act AnswerPending ∷ act DropFuture ∷ []) PendingFutureDropped (future_first y []) p r
     After Rescheduled = IsRescheduled p r
     After Idle = IsIdle p r
     After Orphaned = IsOrphaned p r
 
-    at_end : (x : PendingEnd) → EndsPending (future_first y z []) q r x → After x
-    at_end Closed (is_closed k) = both (act DropFuture ∷ []) PendingFutureDropped (future_first y z []) k
+    at_end : (x : PendingEnd) → EndsPending (future_first y []) q r x → After x
+    at_end Closed (is_closed k) = both (act DropFuture ∷ []) PendingFutureDropped (future_first y []) k
     at_end Rescheduled (is_rescheduled w a c k) = (w, a, c, both (row Reschedule w ∷ []) (Deliverer true (ThenEnds (Ran true))) [] k)
     at_end Idle (is_idle w a c d k) = (w, a, c, d, both (row EndIdle w ∷ act EndCall ∷ []) (At Ended) [] k)
     at_end Orphaned (is_orphaned w a c d k) = (w, a, c, d, both (row EndOrphaned w ∷ []) (Deliverer false (ThenEnds (Ran false))) [] k)

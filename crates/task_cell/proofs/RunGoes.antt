@@ -2,7 +2,7 @@
 use Rattle.task_cell.proofs.Vocabulary.{◌≡◌, ℕ, Bool, true, false, not, ◌||◌, List, [], ◌∷◌, Option, Some, None, refl, sym, ap, ◌∙◌, subst, if◌then◌else◌, nat_lt, turned, State, number_of, Answer}
 use Rattle.task_cell.proofs.Vocabulary.{Ran, Runnable, Ended, OfRun, ThenEnds, DroppedRunnable, Position, At, Deliverer, GivingUp, Emptier, FutureInHand, Polling, Pending, Ready, PendingFutureDropped}
 use Rattle.task_cell.proofs.Vocabulary.{OutputInHand, Act, GiveUpReference, GiveUpLastReference, EmptySlots, DiscardOpen, DiscardClosed, AnswerReady, AnswerPending, DropFuture, StoreOutput, Complete}
-use Rattle.task_cell.proofs.Vocabulary.{CompleteDetached, DropOutput, EndClosed, Reschedule, EndIdle, EndCall, EndOrphaned, found, written, after_giving_up, notifies, Slot, Deed, Party, Rescheduled}
+use Rattle.task_cell.proofs.Vocabulary.{CompleteDetached, DropOutput, EndClosed, Reschedule, EndIdle, EndCall, EndOrphaned, found, written, after_giving_up, notifies, Slot, Empty, Deed, Party, Rescheduled}
 use Rattle.task_cell.proofs.Vocabulary.{Idle, Orphaned, IsFuture, IsOutput, future_first, output_first, Makes, Carried, all_fit, left_true, dropping_output, StandsWith, Stands, GoesWith, Goes}
 use Rattle.task_cell.proofs.Vocabulary.{limit_of, deeds, row, act, DiscardStart, found_open, found_closed, GivesUp, not_last, last, Releases, Completes, keeps, finds_detached, AnswersPending}
 use Rattle.task_cell.proofs.Vocabulary.{stays_pending, clears, EndsPending, is_rescheduled, is_idle, is_orphaned, ending_of, given_work, given_free, due_work, closed_already, completes, ends_pending}
@@ -37,15 +37,15 @@ was_unclosed w e = grind arith
 
 module _ {F T A : Type 0} where
   pub discarded : (p q : Party F T A) (w : State) → Stands (At Runnable) p → q.seat.table_id ≡ p.seat.table_id → Makes (discarding w) w p.seat.me q.seat.me
-      → (d : Deed) × (y : Slot F T A) × (z : Slot F T A) × DiscardStart d × GoesWith (d ∷ []) (FutureInHand DroppedRunnable) (future_first y z []) p q × IsFuture y
+      → (d : Deed) × (y : Slot F T A) × DiscardStart d × GoesWith (d ∷ []) (FutureInHand DroppedRunnable) (future_first y []) p q × IsFuture y
   discarded p q w s cell made = by w.closed refl made
     where
       by : (b : Bool) → w.closed ≡ b → Makes (if b then DiscardClosed ∷ [] else DiscardOpen ∷ []) w p.seat.me q.seat.me
-          → (d : Deed) × (y : Slot F T A) × (z : Slot F T A) × DiscardStart d × GoesWith (d ∷ []) (FutureInHand DroppedRunnable) (future_first y z []) p q × IsFuture y
+          → (d : Deed) × (y : Slot F T A) × DiscardStart d × GoesWith (d ∷ []) (FutureInHand DroppedRunnable) (future_first y []) p q × IsFuture y
       by true h made = let m = moved.moved (DiscardClosed ∷ []) w (At Runnable) [] p q s made in let y = took_work (At Runnable) (FutureInHand DroppedRunnable) [] q.seat.me.1 refl refl m.carried in
-          (row DiscardClosed w, y.0, y.1, found_closed w h, moved.goes p q (row DiscardClosed w ∷ []) (FutureInHand DroppedRunnable) (future_first y.0 y.1 []) cell m.viewed y.3, y.2)
+          (row DiscardClosed w, y.0, found_closed w h, moved.goes p q (row DiscardClosed w ∷ []) (FutureInHand DroppedRunnable) (future_first y.0 []) cell m.viewed y.2, y.1)
       by false h made = let m = moved.moved (DiscardOpen ∷ []) w (At Runnable) [] p q s made in let y = took_work (At Runnable) (FutureInHand DroppedRunnable) [] q.seat.me.1 refl refl m.carried in
-          (row DiscardOpen w, y.0, y.1, found_open w h, moved.goes p q (row DiscardOpen w ∷ []) (FutureInHand DroppedRunnable) (future_first y.0 y.1 []) cell m.viewed y.3, y.2)
+          (row DiscardOpen w, y.0, found_open w h, moved.goes p q (row DiscardOpen w ∷ []) (FutureInHand DroppedRunnable) (future_first y.0 []) cell m.viewed y.2, y.1)
 
   pub gave_up : (hand : Option ℕ) (answer : Answer) (p q : Party F T A) (w : State) → Stands (GivingUp hand answer) p → q.seat.table_id ≡ p.seat.table_id → Makes (giving_up w) w p.seat.me q.seat.me
       → GivesUp hand answer p q (not (nat_lt 1 w.references || w.task))
@@ -103,65 +103,65 @@ module _ {F T A : Type 0} where
   found_closed_meanwhile limit held p q w s cell e = let v : State = record w { closed = true } in let m = moved.moved (DropFuture ∷ []) v Pending held p q s (at_closed (DropFuture ∷ []) w p q e.at_end e.made) in
       moved.goes p q (act DropFuture ∷ []) PendingFutureDropped held cell m.viewed (keeps_places Pending PendingFutureDropped held q.seat.me.1 refl refl m.carried)
 
-  pub ended_closed : (y z : Slot F T A) (p q : Party F T A) (w : State) → StandsWith PendingFutureDropped (future_first y z []) p → q.seat.table_id ≡ p.seat.table_id → Makes (ending_closed w) w p.seat.me q.seat.me → (w.closed ≡ true) × Goes (row EndClosed w ∷ []) (notifies w.awaiter OfRun) p q
-  ended_closed y z p q w s cell made = let m = moved.moved (EndClosed ∷ []) w PendingFutureDropped (future_first y z []) p q s made in
-      (alone_fits EndClosed (limit_of p) w made.fits, moved.goes p q (row EndClosed w ∷ []) (notifies w.awaiter OfRun) [] cell m.viewed (gave_work PendingFutureDropped (notifies w.awaiter OfRun) (future_first y z []) q.seat.me.1 refl (due_work w.awaiter) m.carried))
+  pub ended_closed : (p q : Party F T A) (w : State) → StandsWith PendingFutureDropped (future_first Empty []) p → q.seat.table_id ≡ p.seat.table_id → Makes (ending_closed w) w p.seat.me q.seat.me → (w.closed ≡ true) × Goes (row EndClosed w ∷ []) (notifies w.awaiter OfRun) p q
+  ended_closed p q w s cell made = let m = moved.moved (EndClosed ∷ []) w PendingFutureDropped (future_first Empty []) p q s made in
+      (alone_fits EndClosed (limit_of p) w made.fits, moved.goes p q (row EndClosed w ∷ []) (notifies w.awaiter OfRun) [] cell m.viewed (gave_work PendingFutureDropped (notifies w.awaiter OfRun) (future_first Empty []) q.seat.me.1 refl (due_work w.awaiter) m.carried))
 
-  pub dropped_output : (due : Bool) (y z : Slot F T A) (p q : Party F T A) (w : State) → StandsWith (OutputInHand due) (output_first y z []) p → q.seat.table_id ≡ p.seat.table_id → Makes (dropping_output w) w p.seat.me q.seat.me → Goes (act DropOutput ∷ []) (notifies due OfRun) p q
-  dropped_output due y z p q w s cell made = let m = moved.moved (DropOutput ∷ []) w (OutputInHand due) (output_first y z []) p q s made in
-      moved.goes p q (act DropOutput ∷ []) (notifies due OfRun) [] cell m.viewed (gave_work (OutputInHand due) (notifies due OfRun) (output_first y z []) q.seat.me.1 refl (due_work due) m.carried)
+  pub dropped_output : (due : Bool) (p q : Party F T A) (w : State) → StandsWith (OutputInHand due) (output_first Empty []) p → q.seat.table_id ≡ p.seat.table_id → Makes (dropping_output w) w p.seat.me q.seat.me → Goes (act DropOutput ∷ []) (notifies due OfRun) p q
+  dropped_output due p q w s cell made = let m = moved.moved (DropOutput ∷ []) w (OutputInHand due) (output_first Empty []) p q s made in
+      moved.goes p q (act DropOutput ∷ []) (notifies due OfRun) [] cell m.viewed (gave_work (OutputInHand due) (notifies due OfRun) (output_first Empty []) q.seat.me.1 refl (due_work due) m.carried)
 
-  pub completed : (y z : Slot F T A) (p q : Party F T A) (w : State) → StandsWith Ready (output_first y z []) p → q.seat.table_id ≡ p.seat.table_id → Makes (completing w) w p.seat.me q.seat.me → Completes p q w
-  completed y z p q w s cell made = by w.task w.closed refl refl made
+  pub completed : (z : Slot F T A) (p q : Party F T A) (w : State) → StandsWith Ready (output_first z []) p → q.seat.table_id ≡ p.seat.table_id → Makes (completing w) w p.seat.me q.seat.me → Completes p q w
+  completed z p q w s cell made = by w.task w.closed refl refl made
     where
       by : (b c : Bool) → w.task ≡ b → w.closed ≡ c → Makes (if b then DropFuture ∷ StoreOutput ∷ Complete ∷ [] else DropFuture ∷ StoreOutput ∷ CompleteDetached ∷ []) w p.seat.me q.seat.me → Completes p q w
-      by true true h k made = let m = moved.moved (DropFuture ∷ StoreOutput ∷ Complete ∷ []) w Ready (output_first y z []) p q s made in let e : (if w.closed then OutputInHand w.awaiter else notifies w.awaiter OfRun) ≡ OutputInHand w.awaiter = ap (λ b. if b then OutputInHand w.awaiter else notifies w.awaiter OfRun) k in
-          finds_closed y z h k (subst (λ (at : Position). GoesWith (act DropFuture ∷ act StoreOutput ∷ row Complete w ∷ []) at (output_first y z []) p q) e
-          (moved.goes p q (act DropFuture ∷ act StoreOutput ∷ row Complete w ∷ []) (if w.closed then OutputInHand w.awaiter else notifies w.awaiter OfRun) (output_first y z []) cell m.viewed
-          (keeps_places Ready (OutputInHand w.awaiter) (output_first y z []) q.seat.me.1 refl refl (subst (λ (at : Position). Carried Ready at (output_first y z []) q.seat.me.1) e m.carried))))
-      by true false h k made = let m = moved.moved (DropFuture ∷ StoreOutput ∷ Complete ∷ []) w Ready (output_first y z []) p q s made in let e : (if w.closed then OutputInHand w.awaiter else notifies w.awaiter OfRun) ≡ notifies w.awaiter OfRun = ap (λ b. if b then OutputInHand w.awaiter else notifies w.awaiter OfRun) k in
+      by true true h k made = let m = moved.moved (DropFuture ∷ StoreOutput ∷ Complete ∷ []) w Ready (output_first z []) p q s made in let e : (if w.closed then OutputInHand w.awaiter else notifies w.awaiter OfRun) ≡ OutputInHand w.awaiter = ap (λ b. if b then OutputInHand w.awaiter else notifies w.awaiter OfRun) k in
+          finds_closed z h k (subst (λ (at : Position). GoesWith (act DropFuture ∷ act StoreOutput ∷ row Complete w ∷ []) at (output_first z []) p q) e
+          (moved.goes p q (act DropFuture ∷ act StoreOutput ∷ row Complete w ∷ []) (if w.closed then OutputInHand w.awaiter else notifies w.awaiter OfRun) (output_first z []) cell m.viewed
+          (keeps_places Ready (OutputInHand w.awaiter) (output_first z []) q.seat.me.1 refl refl (subst (λ (at : Position). Carried Ready at (output_first z []) q.seat.me.1) e m.carried))))
+      by true false h k made = let m = moved.moved (DropFuture ∷ StoreOutput ∷ Complete ∷ []) w Ready (output_first z []) p q s made in let e : (if w.closed then OutputInHand w.awaiter else notifies w.awaiter OfRun) ≡ notifies w.awaiter OfRun = ap (λ b. if b then OutputInHand w.awaiter else notifies w.awaiter OfRun) k in
           keeps h k (subst (λ (at : Position). Goes (act DropFuture ∷ act StoreOutput ∷ row Complete w ∷ []) at p q) e
           (moved.goes p q (act DropFuture ∷ act StoreOutput ∷ row Complete w ∷ []) (if w.closed then OutputInHand w.awaiter else notifies w.awaiter OfRun) [] cell m.viewed
-          (gave_work Ready (notifies w.awaiter OfRun) (output_first y z []) q.seat.me.1 refl (due_work w.awaiter) (subst (λ (at : Position). Carried Ready at (output_first y z []) q.seat.me.1) e m.carried))))
-      by false c h k made = let m = moved.moved (DropFuture ∷ StoreOutput ∷ CompleteDetached ∷ []) w Ready (output_first y z []) p q s made in
-          finds_detached y z h (moved.goes p q (act DropFuture ∷ act StoreOutput ∷ row CompleteDetached w ∷ []) (OutputInHand w.awaiter) (output_first y z []) cell m.viewed (keeps_places Ready (OutputInHand w.awaiter) (output_first y z []) q.seat.me.1 refl refl m.carried))
+          (gave_work Ready (notifies w.awaiter OfRun) (output_first z []) q.seat.me.1 refl (due_work w.awaiter) (subst (λ (at : Position). Carried Ready at (output_first z []) q.seat.me.1) e m.carried))))
+      by false c h k made = let m = moved.moved (DropFuture ∷ StoreOutput ∷ CompleteDetached ∷ []) w Ready (output_first z []) p q s made in
+          finds_detached z h (moved.goes p q (act DropFuture ∷ act StoreOutput ∷ row CompleteDetached w ∷ []) (OutputInHand w.awaiter) (output_first z []) cell m.viewed (keeps_places Ready (OutputInHand w.awaiter) (output_first z []) q.seat.me.1 refl refl m.carried))
 
-  pub ended_pending : (y z : Slot F T A) (p q : Party F T A) (w : State) → w.closed ≡ false → StandsWith Pending (future_first y z []) p → q.seat.table_id ≡ p.seat.table_id → Makes (ending_pending w) w p.seat.me q.seat.me → EndsPending (future_first y z []) p q (ending_of w)
-  ended_pending y z p q w unclosed s cell made = by w.scheduled (nat_lt 1 w.references || w.task) refl refl made
+  pub ended_pending : (y : Slot F T A) (p q : Party F T A) (w : State) → w.closed ≡ false → StandsWith Pending (future_first y []) p → q.seat.table_id ≡ p.seat.table_id → Makes (ending_pending w) w p.seat.me q.seat.me → EndsPending (future_first y []) p q (ending_of w)
+  ended_pending y p q w unclosed s cell made = by w.scheduled (nat_lt 1 w.references || w.task) refl refl made
     where
       by : (b d : Bool) → w.scheduled ≡ b → (nat_lt 1 w.references || w.task) ≡ d → Makes (if b then Reschedule ∷ [] else (if d then EndIdle ∷ EndCall ∷ [] else EndOrphaned ∷ [])) w p.seat.me q.seat.me
-          → EndsPending (future_first y z []) p q (if b then Rescheduled else (if d then Idle else Orphaned))
-      by true d h k made = let m = moved.moved (Reschedule ∷ []) w Pending (future_first y z []) p q s made in
-          is_rescheduled w unclosed h (moved.goes p q (row Reschedule w ∷ []) (Deliverer true (ThenEnds (Ran true))) [] cell m.viewed (gave_work Pending (Deliverer true (ThenEnds (Ran true))) (future_first y z []) q.seat.me.1 refl refl m.carried))
-      by false true h k made = let m = moved.moved (EndIdle ∷ EndCall ∷ []) w Pending (future_first y z []) p q s made in
-          is_idle w unclosed h k (moved.goes p q (row EndIdle w ∷ act EndCall ∷ []) (At Ended) [] cell m.viewed (gave_work Pending (At Ended) (future_first y z []) q.seat.me.1 refl refl m.carried))
-      by false false h k made = let m = moved.moved (EndOrphaned ∷ []) w Pending (future_first y z []) p q s made in
-          is_orphaned w unclosed h k (moved.goes p q (row EndOrphaned w ∷ []) (Deliverer false (ThenEnds (Ran false))) [] cell m.viewed (gave_work Pending (Deliverer false (ThenEnds (Ran false))) (future_first y z []) q.seat.me.1 refl refl m.carried))
+          → EndsPending (future_first y []) p q (if b then Rescheduled else (if d then Idle else Orphaned))
+      by true d h k made = let m = moved.moved (Reschedule ∷ []) w Pending (future_first y []) p q s made in
+          is_rescheduled w unclosed h (moved.goes p q (row Reschedule w ∷ []) (Deliverer true (ThenEnds (Ran true))) [] cell m.viewed (gave_work Pending (Deliverer true (ThenEnds (Ran true))) (future_first y []) q.seat.me.1 refl refl m.carried))
+      by false true h k made = let m = moved.moved (EndIdle ∷ EndCall ∷ []) w Pending (future_first y []) p q s made in
+          is_idle w unclosed h k (moved.goes p q (row EndIdle w ∷ act EndCall ∷ []) (At Ended) [] cell m.viewed (gave_work Pending (At Ended) (future_first y []) q.seat.me.1 refl refl m.carried))
+      by false false h k made = let m = moved.moved (EndOrphaned ∷ []) w Pending (future_first y []) p q s made in
+          is_orphaned w unclosed h k (moved.goes p q (row EndOrphaned w ∷ []) (Deliverer false (ThenEnds (Ran false))) [] cell m.viewed (gave_work Pending (Deliverer false (ThenEnds (Ran false))) (future_first y []) q.seat.me.1 refl refl m.carried))
 
   -- nothing was done yet
   pub at_rest : (at : Position) (held : List (ℕ × Slot F T A)) (p q : Party F T A) → StandsWith at held p → q.seat.table_id ≡ p.seat.table_id → q.seat.me ≡ p.seat.me → GoesWith [] at held p q
   at_rest at held p q s cell same = record { cell = cell; is = same ∙ s }
 
   -- the place of the output comes before that of the future
-  pub turns : (at : Position) (y z : Slot F T A) (p q : Party F T A) → StandsWith at (future_first y z []) p → q.seat.table_id ≡ p.seat.table_id → q.seat.me ≡ (p.seat.me.0, turned p.seat.me.1) → GoesWith [] at (output_first y z []) p q
-  turns at y z p q s cell turn = record { cell = cell; is = turn ∙ ap (λ m. (m.0, turned m.1)) s }
+  pub turns : (at : Position) (p q : Party F T A) → StandsWith at (future_first Empty []) p → q.seat.table_id ≡ p.seat.table_id → q.seat.me ≡ (p.seat.me.0, turned p.seat.me.1) → GoesWith [] at (output_first Empty []) p q
+  turns at p q s cell turn = record { cell = cell; is = turn ∙ ap (λ m. (m.0, turned m.1)) s }
 
   pub completes_then : (at : Position) (held : List (ℕ × Slot F T A)) (p q r : Party F T A) (w : State) → GoesWith [] at held p q → Completes q r w → Completes p r w
   completes_then at held p q r w g (keeps h k x) = keeps h k (moved.goes_on p q r [] (act DropFuture ∷ act StoreOutput ∷ row Complete w ∷ []) at (notifies w.awaiter OfRun) held [] g x)
-  completes_then at held p q r w g (finds_closed y z h k x) = finds_closed y z h k (moved.goes_on p q r [] (act DropFuture ∷ act StoreOutput ∷ row Complete w ∷ []) at (OutputInHand w.awaiter) held (output_first y z []) g x)
-  completes_then at held p q r w g (finds_detached y z h x) = finds_detached y z h (moved.goes_on p q r [] (act DropFuture ∷ act StoreOutput ∷ row CompleteDetached w ∷ []) at (OutputInHand w.awaiter) held (output_first y z []) g x)
+  completes_then at held p q r w g (finds_closed z h k x) = finds_closed z h k (moved.goes_on p q r [] (act DropFuture ∷ act StoreOutput ∷ row Complete w ∷ []) at (OutputInHand w.awaiter) held (output_first z []) g x)
+  completes_then at held p q r w g (finds_detached z h x) = finds_detached z h (moved.goes_on p q r [] (act DropFuture ∷ act StoreOutput ∷ row CompleteDetached w ∷ []) at (OutputInHand w.awaiter) held (output_first z []) g x)
 
 module _ (F T A : Type 0) (limit : ℕ) where
   -- the rule allows a run to end: with its output, and without one
-  pub may_complete : (p : Party F T A) (y z : Slot F T A) → StandsWith Ready (output_first y z []) p → IsOutput z → MayTry limit 3 p.seat.id p.seat.me (λ _ w. Some (completed_word w)) (λ _ _. false) completing (λ _. [])
-  may_complete p y z s is = may_at limit p Ready (output_first y z []) s (λ _ w. Some (completed_word w)) (λ _ _. false) completing (λ _. []) (λ w. refl)
-      (λ w v e m f here. let same : completed_word w ≡ v = cc in subst (λ (u : State). Steps m Ready (completing m.word) (number_of u) (output_first y z [])) same (completes F T A limit w (deeds p) [] y z (output_first y z []) refl is m f here))
-      (never_ends F T A limit Ready (deeds p) [] (output_first y z []))
+  pub may_complete : (p : Party F T A) (z : Slot F T A) → StandsWith Ready (output_first z []) p → IsOutput z → MayTry limit 3 p.seat.id p.seat.me (λ _ w. Some (completed_word w)) (λ _ _. false) completing (λ _. [])
+  may_complete p z s is = may_at limit p Ready (output_first z []) s (λ _ w. Some (completed_word w)) (λ _ _. false) completing (λ _. []) (λ w. refl)
+      (λ w v e m f here. let same : completed_word w ≡ v = cc in subst (λ (u : State). Steps m Ready (completing m.word) (number_of u) (output_first z [])) same (completes F T A limit w (deeds p) [] z (output_first z []) refl is m f here))
+      (never_ends F T A limit Ready (deeds p) [] (output_first z []))
 
-  pub may_end : (p : Party F T A) (y z : Slot F T A) → StandsWith Pending (future_first y z []) p → IsFuture y → MayTry limit 3 p.seat.id p.seat.me (λ _ w. if w.closed then None else Some (after_pending w)) (λ _ w. w.closed) ending_pending finding_closed
-  may_end p y z s is = may_at limit p Pending (future_first y z []) s (λ _ w. if w.closed then None else Some (after_pending w)) (λ _ w. w.closed) ending_pending finding_closed (λ w. refl)
-      (λ w v e m f here. let x = unclosed w.closed (after_pending w) v e in subst (λ (u : State). Steps m Pending (ending_pending m.word) (number_of u) (future_first y z [])) x.1 (ends_pending F T A limit w (deeds p) [] y z (future_first y z []) refl is x.0 m f here))
-      (finds_closed_task F T A limit (deeds p) [] (future_first y z []))
+  pub may_end : (p : Party F T A) (y : Slot F T A) → StandsWith Pending (future_first y []) p → IsFuture y → MayTry limit 3 p.seat.id p.seat.me (λ _ w. if w.closed then None else Some (after_pending w)) (λ _ w. w.closed) ending_pending finding_closed
+  may_end p y s is = may_at limit p Pending (future_first y []) s (λ _ w. if w.closed then None else Some (after_pending w)) (λ _ w. w.closed) ending_pending finding_closed (λ w. refl)
+      (λ w v e m f here. let x = unclosed w.closed (after_pending w) v e in subst (λ (u : State). Steps m Pending (ending_pending m.word) (number_of u) (future_first y [])) x.1 (ends_pending F T A limit w (deeds p) [] y (future_first y []) refl is x.0 m f here))
+      (finds_closed_task F T A limit (deeds p) [] (future_first y []))
     where
       unclosed : (b : Bool) (u v : State) → (if b then None else Some u) ≡ Some v → (b ≡ false) × (u ≡ v)
       unclosed false u v e = (refl, cc)

@@ -98,15 +98,15 @@ module _ {F T A : Type 0} where
       (ap closing_way (moved.position_is q (FutureInHand closer) held (moved.stands p q [] (FutureInHand closer) held g))) h)
 
   -- a Runnable's drop from p, step after step: to a and b by the drop of the future, to o with SCHEDULED cleared
-  module _ (p a b : Party F T A) (start : (d : Deed) × (y : Slot F T A) × (z : Slot F T A) × DiscardStart d × GoesWith (d ∷ []) (FutureInHand DroppedRunnable) (future_first y z []) p a × IsFuture y)
+  module _ (p a b : Party F T A) (start : (d : Deed) × (y : Slot F T A) × DiscardStart d × GoesWith (d ∷ []) (FutureInHand DroppedRunnable) (future_first y []) p a × IsFuture y)
       (clear : (at : Position) (y : Slot F T A) (held : List (ℕ × Slot F T A)) → StandsWith at ((0, y) ∷ held) a → GoesWith [] at ((0, Empty) ∷ held) a b) where
-    pub drop_clears : GoesWith [] (FutureInHand DroppedRunnable) (future_first Empty start.2 []) a b
-    drop_clears = clear (FutureInHand DroppedRunnable) start.1 ((1, start.2) ∷ []) (moved.stands p a (start.0 ∷ []) (FutureInHand DroppedRunnable) (future_first start.1 start.2 []) start.4)
+    pub drop_clears : GoesWith [] (FutureInHand DroppedRunnable) (future_first Empty []) a b
+    drop_clears = clear (FutureInHand DroppedRunnable) start.1 ((1, Empty) ∷ []) (moved.stands p a (start.0 ∷ []) (FutureInHand DroppedRunnable) (future_first start.1 []) start.3)
 
     module _ (o : Party F T A) (w : State) (unschedule : Goes (act DropFuture ∷ row Unschedule w ∷ []) (notifies w.awaiter (closing_way (position b))) b o) (due : Bool) (is : due ≡ w.awaiter) where
       pub drop_closes : Goes (start.0 ∷ act DropFuture ∷ row Unschedule w ∷ []) (notifies w.awaiter OfDrop) p o
-      drop_closes = moved.goes_on p a o (start.0 ∷ []) (act DropFuture ∷ row Unschedule w ∷ []) (FutureInHand DroppedRunnable) (notifies w.awaiter OfDrop) (future_first start.1 start.2 []) [] start.4
-          (unscheduled DroppedRunnable w (future_first Empty start.2 []) a b o drop_clears unschedule)
+      drop_closes = moved.goes_on p a o (start.0 ∷ []) (act DropFuture ∷ row Unschedule w ∷ []) (FutureInHand DroppedRunnable) (notifies w.awaiter OfDrop) (future_first start.1 []) [] start.3
+          (unscheduled DroppedRunnable w (future_first Empty []) a b o drop_clears unschedule)
 
       pub drop_notifies : Stands (notifies due OfDrop) o
       drop_notifies = subst (λ h. Stands (notifies h OfDrop) o) (sym is) (moved.stands p o (start.0 ∷ act DropFuture ∷ row Unschedule w ∷ []) (notifies w.awaiter OfDrop) [] drop_closes)
@@ -139,7 +139,7 @@ module _ {F T A : Type 0} where
             drop_leaves = moved.stands s t drop_releases.0 (CallEnding Nothing Ended) [] drop_releases.2
 
             pub drop_ends : (u : Party F T A) → Goes (act EndCall ∷ []) (rest_of (position t)) t u → Discards Woken p u
-            drop_ends u e = discard_rest Woken start.0 w p o q s t u r start.3 drop_closes drop_takes drop_wakes drop_releases (ended_call Nothing Ended t u drop_leaves e)
+            drop_ends u e = discard_rest Woken start.0 w p o q s t u r start.2 drop_closes drop_takes drop_wakes drop_releases (ended_call Nothing Ended t u drop_leaves e)
 
   pub close_rest : (Woken : Type 0) (w : State) (p q r : Party F T A) → Goes (act DropFuture ∷ row Unschedule w ∷ []) (notifies w.awaiter OfRun) p q → Rests Woken w.awaiter q r → Closes Woken p r
   close_rest Woken w p q r g x = (act DropFuture ∷ row Unschedule w ∷ x.0, closed_run w x.0 x.1, moved.goes_on p q r (act DropFuture ∷ row Unschedule w ∷ []) x.0 (notifies w.awaiter OfRun) (At Ended) [] [] g x.2)

@@ -14,26 +14,24 @@ module _ {F T A : Type 0} where
   pub record Shut (p q : Party F T A) : Type 0 where
     pub word : State
     pub place : Slot F T A
-    pub other : Slot F T A
     pub closed : word.closed ≡ true
-    pub goes : GoesWith (row TakeUpClosed word ∷ []) (FutureInHand ClosedRun) (future_first place other []) p q
+    pub goes : GoesWith (row TakeUpClosed word ∷ []) (FutureInHand ClosedRun) (future_first place []) p q
 
   -- .. and one that is
   pub record Started (p q : Party F T A) : Type 0 where
     pub word : State
     pub place : Slot F T A
-    pub other : Slot F T A
     pub unclosed : word.closed ≡ false
     pub future : IsFuture place
-    pub goes : GoesWith (row StartRun word ∷ act StartPoll ∷ []) Polling (future_first place other []) p q
+    pub goes : GoesWith (row StartRun word ∷ act StartPoll ∷ []) Polling (future_first place []) p q
 
   pub shut : (p q : Party F T A) (b : Bool) → TakesUp p q b → b ≡ false → Shut p q
-  shut p q b (finds_closed w y z e f g) is = record { word = w; place = y; other = z; closed = e; goes = g }
-  shut p q b (starts w y z e f g) is = absurd (cc)
+  shut p q b (finds_closed w y e f g) is = record { word = w; place = y; closed = e; goes = g }
+  shut p q b (starts w y e f g) is = absurd (cc)
 
   pub started : (p q : Party F T A) (b : Bool) → TakesUp p q b → b ≡ true → Started p q
-  started p q b (finds_closed w y z e f g) is = absurd (cc)
-  started p q b (starts w y z e f g) is = record { word = w; place = y; other = z; unclosed = e; future = f; goes = g }
+  started p q b (finds_closed w y e f g) is = absurd (cc)
+  started p q b (starts w y e f g) is = record { word = w; place = y; unclosed = e; future = f; goes = g }
 
   -- what is written down of a poll, by a party that has done nothing since it began to poll
   pub notes_on : {O : Type 0} (held : List (ℕ × Slot F T A)) (p q r : Party F T A) (w : State) (v : Poll O) → GoesWith [] Polling held p q → NotesAnswer held q r w v → NotesAnswer held p r w v

@@ -2,7 +2,7 @@
 use Rattle.task_cell.proofs.Vocabulary.{◌≡◌, ℕ, zero, suc, ◌<◌, ◌≢◌, Bool, true, false, List, [], ◌∷◌, ◌++◌, length, get_or, set, sym, refl, ap, ◌∙◌, subst, inr, ⊎_elim, arith, length-set}
 use Rattle.task_cell.proofs.Vocabulary.{get_or-set_same, some, none, some-injective, some-ne-none, Me, gives, stepped, carried_after, rest, Valid, Allows, Splits, Final, Seen, number_of, Position, At}
 use Rattle.task_cell.proofs.Vocabulary.{Runnable, Task, Slot, Member, View, Party, member, view, fresh, laid_view, filling_view, opening_view, IsFuture, IsEmpty, AtHome, opening_at, Explains, Running}
-use Rattle.task_cell.proofs.Vocabulary.{RuleHolds, head_of, deeds, StandsWith, IsLastWord, law, leaves, retold, staged_more, first_more, never}
+use Rattle.task_cell.proofs.Vocabulary.{RuleHolds, head_of, deeds, StandsWith, IsLastWord, law, queued, lies_there, leaves, retold, staged_more, first_more, never}
 use mathlib.Core.Logic.{dite}
 use native.Mathlib.Decide.{ℕ_discrete}
 use lib.ListN.{get_elem?}
@@ -77,7 +77,7 @@ module _ (F T A : Type 0) (limit : ℕ) where
             housed = record {
               future = λ e. absurd (cc);
               output = λ n. let h = run.housed.output n in (h.0, lists.set_else s.homes 0 1 none (λ z. omega arith) ∙ h.1, h.2);
-              awaiter = λ n e. let h = run.housed.awaiter n e in (h.0, lists.set_else s.homes 0 2 none (λ z. omega arith) ∙ h.1, h.2);
+              awaiter = λ n. let h = run.housed.awaiter n in (h.0, lists.set_else s.homes 0 2 none (λ z. omega arith) ∙ h.1, h.2);
             };
             unfilled = λ e. record { stage = Filling; first = there s id (laid_view limit) (filling_view limit) x.first here; place = inr refl };
             staged = λ j v ne e. ⊎_elim (λ (z : (j ≡ id) × (filling_view limit ≡ v)). absurd (ne refl (z.0 ∙ x.first))) (λ (z : (j ≢ id) × (get_elem? s.views j ≡ some v)). run.staged j v (λ _. ne refl) z.1) (lists.at_set s.views id j (filling_view limit) v e);
@@ -90,6 +90,7 @@ module _ (F T A : Type 0) (limit : ℕ) where
 
   pub spawns : (slots id : ℕ) (me : Me (Slot F T A) View) (y : Slot F T A) → slots ≡ 3 → me ≡ (filling_view limit, (0, y) ∷ []) → IsFuture y → Allows Rule slots id me 0 (λ n. n) (λ r m. m ≡ (opening_view me.0.limit, rest me.1))
   spawns slots id me y three is future s r deep at fits = let run = r.running in let here = at ∙ ap (λ (m : Me (Slot F T A) View). some m.0) is in let x = early s run id (filling_view limit) (λ z. absurd (cc)) here in let words = same_words s run in
+      let k = run.told.each id 0 (filling_view limit) (fresh (At Runnable)) here refl in let there_is = (queued run.machine k.0 (law limit run.log run.machine run.told.reaches) k.1.at).future in
       subst (λ (m : Me (Slot F T A) View). (w : View) × (a : Act (Slot F T A)) × Valid s.homes m.1 a × Rule (stepped s 0 (get_or s.words 0 0) id m.1 w a) × Opened (w, carried_after m.1 a) m) (sym is) (
         opening_view limit,
         gives,
@@ -105,9 +106,9 @@ module _ (F T A : Type 0) (limit : ℕ) where
             wide = words.0;
             word_is = words.1;
             housed = record {
-              future = λ e n. (y, lists.set_here s.homes 0 (some y) (omega arith), λ f. future);
+              future = λ e n. (y, lists.set_here s.homes 0 (some y) (omega arith), lies_there IsFuture run.machine.slots.future y there_is future);
               output = λ n. let h = run.housed.output n in (h.0, lists.set_else s.homes 0 1 (some y) (λ z. omega arith) ∙ h.1, h.2);
-              awaiter = λ n e. let h = run.housed.awaiter n e in (h.0, lists.set_else s.homes 0 2 (some y) (λ z. omega arith) ∙ h.1, h.2);
+              awaiter = λ n. let h = run.housed.awaiter n in (h.0, lists.set_else s.homes 0 2 (some y) (λ z. omega arith) ∙ h.1, h.2);
             };
             unfilled = λ e. absurd (cc);
             staged = λ j v ne e. ⊎_elim (λ (z : (j ≡ id) × (opening_view limit ≡ v)). ap (λ (w : View). w.stage) (sym z.1)) (λ (z : (j ≢ id) × (get_elem? s.views j ≡ some v)). run.staged j v (λ _ w. z.0 (w ∙ sym x.first)) z.1) (lists.at_set s.views id j (opening_view limit) v e);

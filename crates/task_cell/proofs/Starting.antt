@@ -15,7 +15,7 @@ module _ (F T A : Type 0) (limit : ℕ) where
     leads_to = leads_found (scene m) TakeUpClosed (At Runnable) [] (leaves_slots (scene m) m.word (FutureInHand ClosedRun) [] (TakenUp ∷ [])) (leaves_slots (scene m) m.word (FutureInHand ClosedRun) [] []) closed refl refl;
     writes = e;
     idle = (refl, refl);
-    placing = takes_future refl refl refl (inr (refl, refl)) (queued m f.number f.invariant f.stands).future (λ _ h. h);
+    placing = takes_future refl refl refl (inr refl) (queued m f.number f.invariant f.stands).future (queued m f.number f.invariant f.stands).output (λ _ h. h);
   }
 
   pub starts_run : (ds : List Deed) (l : List (ℕ × Slot F T A)) (w v : State) (old new : ℕ) → Some v ≡ row 0 StartRun w → old ≡ number_of w → new ≡ number_of v
@@ -27,7 +27,7 @@ module _ (F T A : Type 0) (limit : ℕ) where
         leads_to = leads_found (scene m) StartRun (At Runnable) (StartPoll ∷ []) o x (ap (λ (z : State). not z.closed) same ∙ r.0) refl refl;
         writes = to ∙ ap number_of (r.1 ∙ ap (written StartRun) (sym same));
         idle = (refl, refl);
-        placing = takes_future refl refl refl (inr (refl, refl)) (queued m f.number f.invariant f.stands).future (λ _ h. h);
+        placing = takes_future refl refl refl (inr refl) (queued m f.number f.invariant f.stands).future (queued m f.number f.invariant f.stands).output (λ _ h. h);
       }
 
   -- the rule allows a Runnable to start its run
@@ -41,8 +41,8 @@ open_word w e = not_true w.closed (written_if (not w.closed) (written StartRun w
 module _ {F T A : Type 0} where
   pub found_closed : (limit : ℕ) (w : State) (p q : Party F T A) → Stands (At Runnable) p → q.seat.table_id ≡ p.seat.table_id → HasEnded limit (λ _ w. w.closed) taking_up_closed w p.seat.me q.seat.me → TakesUp p q false
   found_closed limit w p q s cell e = let x = moved (TakeUpClosed ∷ []) w (At Runnable) [] p q s e.made in
-      finds_closed w x.carried.0 x.carried.1 e.at_end x.carried.2 (record { cell = cell; is = λ i. (x.viewed i, x.carried.3 i) })
+      finds_closed w x.carried.0 e.at_end x.carried.1 (record { cell = cell; is = λ i. (x.viewed i, x.carried.2 i) })
 
   pub started : (limit : ℕ) (w : State) (p q : Party F T A) → Stands (At Runnable) p → q.seat.table_id ≡ p.seat.table_id → HasChanged limit (λ _ w. row 0 StartRun w) starting_run w p.seat.me q.seat.me → TakesUp p q true
   started limit w p q s cell c = let x = moved (StartRun ∷ StartPoll ∷ []) w (At Runnable) [] p q s c.made in
-      starts w x.carried.0 x.carried.1 (open_word w c.written) x.carried.2 (record { cell = cell; is = λ i. (x.viewed i, x.carried.3 i) })
+      starts w x.carried.0 (open_word w c.written) x.carried.1 (record { cell = cell; is = λ i. (x.viewed i, x.carried.2 i) })

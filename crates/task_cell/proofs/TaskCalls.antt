@@ -76,7 +76,7 @@ module _ {F T A : Type 0} where
       → (w v : State) × Fits GiveUpOutput w × Fits DetachLast v × Goes (row GiveUpOutput w ∷ act DropOutput ∷ row DetachLast v ∷ act EmptySlots ∷ []) (CallEnding Nothing Ended) p t
   unclaimed_last p q r t false is x y e = absurd (cc)
   unclaimed_last p q r t true is x y e = let path : List Deed = row GiveUpOutput x.0 ∷ [] in let more : List Deed = act DropOutput ∷ row DetachLast y.0 ∷ [] in
-      (x.0, y.0, x.3, y.2, empties p r t (path ++ more) y.1 (goes_on p q r path more OutputCloser (Emptier None Nothing) (output_first x.1 x.2 []) ((2, y.1) ∷ []) x.5 y.3) e)
+      (x.0, y.0, x.2, y.2, empties p r t (path ++ more) y.1 (goes_on p q r path more OutputCloser (Emptier None Nothing) (output_first x.1 []) ((2, y.1) ∷ []) x.4 y.3) e)
 
   pub detaches_unclaimed_last : (Scheduled : Type 0) (p q r t u : Party F T A) (b : Bool) → b ≡ true → Detaches p q Unclaimed → GivesTaskUp q r b → Empties r t → Goes (act EndCall ∷ []) (rest_of (position t)) t u → Detaching Scheduled p u
   detaches_unclaimed_last Scheduled p q r t u b is x y e end = let z = unclaimed_last p q r t b is x y e in let path : List Deed = row GiveUpOutput z.0 ∷ act DropOutput ∷ row DetachLast z.1 ∷ act EmptySlots ∷ [] in
@@ -86,7 +86,7 @@ module _ {F T A : Type 0} where
   pub detaches_unclaimed : (Scheduled : Type 0) (p q r : Party F T A) (b : Bool) → b ≡ false → Detaches p q Unclaimed → GivesTaskUp q r b → Detaching Scheduled p r
   detaches_unclaimed Scheduled p q r true is x y = absurd (cc)
   detaches_unclaimed Scheduled p q r false is x y = let path : List Deed = row GiveUpOutput x.0 ∷ [] in let more : List Deed = act DropOutput ∷ row Detach y.0 ∷ act EndCall ∷ [] in
-      (path ++ more, drops_output x.0 y.0 x.3 y.1, goes_on p q r path more OutputCloser as_ended (output_first x.1 x.2 []) [] x.5 y.2)
+      (path ++ more, drops_output x.0 y.0 x.2 y.1, goes_on p q r path more OutputCloser as_ended (output_first x.1 []) [] x.4 y.2)
 
   pub detaches_shared : (Scheduled : Type 0) (p q : Party F T A) → Detaches p q Shared → Detaching Scheduled p q
   detaches_shared Scheduled p q x = (row Detach x.0 ∷ act EndCall ∷ [], is_shared x.0 x.1, x.2)

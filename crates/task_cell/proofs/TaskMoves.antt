@@ -57,7 +57,7 @@ module _ {F T A : Type 0} where
           → Makes (if a then GiveUpOutput ∷ [] else (if b then Detach ∷ EndCall ∷ [] else (if c then DetachLast ∷ [] else DetachOrphan ∷ []))) w p.seat.me q.seat.me
           → Detaches p q (if a then Unclaimed else (if b then Shared else (if c then Last else Orphaned)))
       made true b c claimed counted closed m = let x = moved (GiveUpOutput ∷ []) w (At (Task n)) [] p q s m in let y = x.carried in
-          (w, y.0, y.1, claimed, y.2, goes p q (row GiveUpOutput w ∷ []) OutputCloser (output_first y.0 y.1 []) cell x.viewed y.3)
+          (w, y.0, claimed, y.1, goes p q (row GiveUpOutput w ∷ []) OutputCloser (output_first y.0 []) cell x.viewed y.2)
       made false true c claimed counted closed m = let x = moved (Detach ∷ EndCall ∷ []) w (At (Task n)) [] p q s m in
           (w, both (nat_lt 0 w.references) (not (w.completed && not w.closed)) counted (over (w.completed && not w.closed) claimed), goes p q (row Detach w ∷ act EndCall ∷ []) (At Ended) [] cell x.viewed x.carried)
       made false false true claimed counted closed m = let x = moved (DetachLast ∷ []) w (At (Task n)) [] p q s m in let y = x.carried in

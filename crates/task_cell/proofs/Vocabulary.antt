@@ -56,7 +56,7 @@ pub use Rattle.task_laws.specs.declared.positions.Rest.{Rest}
 pub use Rattle.task_laws.specs.declared.positions.Rest.TheVariants.{Ended, Lent, Runnable, Task, Waker}
 pub use Rattle.task_laws.specs.declared.positions.WithoutPoll.TheVariants.{ClosedRun, DroppedRunnable}
 pub use Rattle.task_steps.proofs.Acts.{both, leads_found, row_found}
-pub use Rattle.task_steps.proofs.Advance.{Finds, Steps, takes_future}
+pub use Rattle.task_steps.proofs.Advance.{Finds, Steps, lies_there, takes_future}
 pub use Rattle.task_steps.proofs.Allowed.{Owes, OwesEnd}
 pub use Rattle.task_steps.proofs.Attempts.{may_try, never_ends}
 pub use Rattle.task_steps.proofs.AwaiterOwed.{drops, on_free, on_work, releases_awaiter, same_way, takes, wakes}

@@ -11,7 +11,7 @@ use Rattle.task_steps.specs.declared.words.Dropped.TheVariants.{Orphaned}
 use Rattle.task_steps.specs.Beside.{without_newest, newest}
 use Rattle.task_cell.specs.WakerPaths.{is_idle, GainPath, TaskWakePath}
 use Rattle.task_steps.specs.Seats.{is_spent}
-use Rattle.atomic_table.specs.Seated.{TableId}
+use Rattle.inline_table.specs.Owned.{TableId}
 use Rattle.task_cell.specs.WakerPaths as paths
 use Rattle.task_cell.proofs.Attempts.{if_some, written_if, if_is, may_at}
 use Rattle.task_steps.proofs.WakerOwed as owed

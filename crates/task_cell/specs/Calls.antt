@@ -12,7 +12,7 @@ use Rattle.task_steps.specs.declared.table.Deed.{Deed}
 use Rattle.task_cell.specs.declared.cell.Party.{Party}
 use Rattle.task_steps.specs.Rule.{member, view, fresh, RuleHolds}
 use Rattle.task_steps.specs.Deeds.{row, act, after}
-use Rattle.task_steps.specs.Standing.{way_of, as_runnable, as_waker}
+use Rattle.task_steps.specs.Standing.{way_of}
 use Rattle.task_steps.specs.Steps.{head_of, Makes}
 use Rattle.task_steps.specs.Knows.{Knows}
 
@@ -46,11 +46,6 @@ module _ {F T A : Type 0} where
   abbrev pub MayMake : ℕ → (State → List Act) → (ℕ → ℕ) → Party F T A → Type 0
   MayMake limit acts write p = Allows (RuleHolds {F = F} {T = T} {A = A} limit) 3 p.seat.id p.seat.me 0 write
       (λ n me. Makes (acts (state_of n)) (state_of n) p.seat.me me × Knows (deeds p) (state_of n))
-
-  -- a Runnable or a waker that has done nothing, alone on its seat
-  pub data IsFreshHandle (p : Party F T A) : Type 0 where
-    is_runnable : (limit : ℕ) → p.seat.me ≡ (view limit (fresh as_runnable ∷ []), []) → IsFreshHandle p
-    is_waker : (limit : ℕ) → p.seat.me ≡ (view limit (fresh as_waker ∷ []), []) → IsFreshHandle p
 
   -- q is the party p after this path: it stands here now, and has these places
   pub record GoesWith (path : List Deed) (at : Position) (held : List (ℕ × Slot F T A)) (p q : Party F T A) : Type 0 where

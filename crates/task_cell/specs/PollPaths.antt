@@ -90,10 +90,9 @@ module _ {F T A : Type 0} where
   -- by this path the output was claimed, on this word
   pub record ClaimsOutput (w : State) (path : List Deed) (p q : Party F T A) : Type 0 where
     pub there : has_output w ≡ true
-    pub beside : Slot F T A
     pub output : Slot F T A
     pub is_output : IsOutput output
-    pub goes : GoesWith path (notifies w.awaiter (OfClaim (poll_number (position p)))) (output_first beside output []) p q
+    pub goes : GoesWith path (notifies w.awaiter (OfClaim (poll_number (position p)))) (output_first output []) p q
 
   -- the first look of a poll
   pub data Looks (p q : Party F T A) : Result State State → Type 0 where

@@ -42,11 +42,11 @@ module _ {F T A : Type 0} where
   pub data Completes (p q : Party F T A) (w : State) : Type 0 where
     keeps : w.task ≡ true → w.closed ≡ false → Goes (act DropFuture ∷ act StoreOutput ∷ row Complete w ∷ []) (notifies w.awaiter OfRun) p q
         → Completes p q w
-    finds_closed : (y z : Slot F T A) → w.task ≡ true → w.closed ≡ true
-        → GoesWith (act DropFuture ∷ act StoreOutput ∷ row Complete w ∷ []) (OutputInHand w.awaiter) (output_first y z []) p q
+    finds_closed : (z : Slot F T A) → w.task ≡ true → w.closed ≡ true
+        → GoesWith (act DropFuture ∷ act StoreOutput ∷ row Complete w ∷ []) (OutputInHand w.awaiter) (output_first z []) p q
         → Completes p q w
-    finds_detached : (y z : Slot F T A) → w.task ≡ false
-        → GoesWith (act DropFuture ∷ act StoreOutput ∷ row CompleteDetached w ∷ []) (OutputInHand w.awaiter) (output_first y z []) p q
+    finds_detached : (z : Slot F T A) → w.task ≡ false
+        → GoesWith (act DropFuture ∷ act StoreOutput ∷ row CompleteDetached w ∷ []) (OutputInHand w.awaiter) (output_first z []) p q
         → Completes p q w
 
   -- the poll has answered Pending, and whether the task was found closed

@@ -62,8 +62,8 @@ module _ {F T A : Type 0} where
   -- the row by which a Task is given up
   abbrev pub Detaches : Party F T A → Party F T A → Detached → Type 0
   Detaches p q Unclaimed =
-      (w : State) × (y : Slot F T A) × (z : Slot F T A) × Fits GiveUpOutput w × IsOutput z
-      × GoesWith (row GiveUpOutput w ∷ []) OutputCloser (output_first y z []) p q
+      (w : State) × (z : Slot F T A) × Fits GiveUpOutput w × IsOutput z
+      × GoesWith (row GiveUpOutput w ∷ []) OutputCloser (output_first z []) p q
   Detaches p q Shared = (w : State) × Fits Detach w × Goes (row Detach w ∷ act EndCall ∷ []) as_ended p q
   Detaches p q Last =
       (w : State) × (y : Slot F T A) × Fits DetachLast w × GoesWith (row DetachLast w ∷ []) (Emptier None Nothing) ((2, y) ∷ []) p q

@@ -3,26 +3,26 @@ ghost use Rattle.std.specs.Prelude.{◌≡◌, ℕ, ◌<◌, [], ◌∷◌, true
 ghost use Rattle.std.specs.Arc.{arc_value};
 ghost use Rattle.task_steps.specs.Rule.{view, fresh};
 ghost use Rattle.task_steps.specs.Seats.{is_spent};
-ghost use Rattle.task_cell.specs.Calls.{limit_of, deeds, Stands, IsFreshHandle};
+ghost use Rattle.task_cell.specs.Calls.{limit_of, deeds, Stands};
 ghost use Rattle.task_steps.specs.Standing.{as_runnable, as_ended, as_lent};
 
-use atomic_table::Seat;
+use inline_table::Seat;
 use std::alloc::{Allocator, Global};
+use std::marker::PhantomData;
 use std::sync::Wait;
 use task_core::{Wake, Yields};
-use task_steps::resting::RestingSeat;
 use task_steps::table::{Board, Kept, Slot, View, discard};
 
 /// What the handles of one task share: the word and the places, the schedule value and the metadata.
 #[derive(Drop)]
-pub struct Cell<R, F: Yields, Q, M, A, B: Allocator = Global> {
-    pub(crate) table: Board<F, Kept<F>, A, B>,
+pub struct Cell<R, F: Yields, Q, M, A, B = Global> {
+    pub(crate) table: Board<F, Kept<F>, A>,
     pub(crate) schedule: Q,
     metadata: M,
     pub(crate) limit: u64,
     pub(crate) rt: R,
-    ghost limited: { (table.shared.key ≡ limit) × (limit < 36028797018963968) },
-    ghost sized: { (table.shared.table_id.words ≡ 1) × (table.shared.table_id.slots ≡ 3) },
+    memory: PhantomData<B>,
+    ghost limited: { (table.key ≡ limit) × (limit < 36028797018963968) },
 }
 
 /// One party of a task at one position. It must be spent: only calls of the cell move it, and it may be let go only once it has ended, or was lent for a call and has made it.
@@ -46,23 +46,14 @@ impl<F, T, A> Party<F, T, A> {
         let Party { seat } = self;
         discard(seat);
     }
-
-    // The seat of a Runnable or a waker that has done nothing, with which nobody steps before the handle is taken apart.
-    pub(crate) fn into_resting(self) -> RestingSeat<F, T, A>
-        requires { IsFreshHandle self }
-        ensures { (result.seat.table_id ≡ self.seat.table_id) × (result.seat.view ≡ self.seat.me.0) }
-    {
-        let Party { seat } = self;
-        RestingSeat::new(seat)
-    }
 }
 
-/// A share of a cell, and the seat of its Runnable.
+/// A share of a cell, and the party of its Runnable, which has done nothing: nobody steps with it before the handle is taken apart.
 pub(crate) struct RunnableSeat<R, F: Yields, Q, M, A, B: Allocator> {
     pub(crate) share: Share<R, F, Q, M, A, B>,
-    pub(crate) resting: RestingSeat<F, Kept<F>, A>,
-    ghost seated: { resting.seat.table_id ≡ (arc_value share.cell).table.shared.table_id },
-    ghost placed: { resting.seat.view ≡ view (arc_value share.cell).limit (fresh as_runnable ∷ []) },
+    pub(crate) party: Party<F, Kept<F>, A>,
+    ghost seated: { party.seat.table_id ≡ (arc_value share.cell).table.table_id },
+    ghost placed: { party.seat.me ≡ (view (arc_value share.cell).limit (fresh as_runnable ∷ []), []) },
 }
 
 impl<R: Wait + Drop, F: Yields, Q: Drop, M: Drop, A: Wake, B: Allocator> RunnableSeat<
@@ -78,25 +69,21 @@ impl<R: Wait + Drop, F: Yields, Q: Drop, M: Drop, A: Wake, B: Allocator> Runnabl
         share: Share<R, F, Q, M, A, B>,
         party: Party<F, Kept<F>, A>,
     ) -> RunnableSeat<R, F, Q, M, A, B>
-        requires cell { party.seat.table_id ≡ (arc_value share.cell).table.shared.table_id }
+        requires cell { party.seat.table_id ≡ (arc_value share.cell).table.table_id }
         requires party { party.seat.me ≡ (view (arc_value share.cell).limit (fresh as_runnable ∷ []), []) }
         ensures { result.share ≡ share }
     {
-        RunnableSeat {
-            share,
-            resting: party.into_resting(),
-        }
+        RunnableSeat { share, party }
     }
 
     // The share of the cell, and the party, which will step.
     pub(crate) fn into_party(self) -> (Share<R, F, Q, M, A, B>, Party<F, Kept<F>, A>)
         ensures share { result.0 ≡ self.share }
-        ensures cell { (result.1.seat.table_id ≡ (arc_value result.0.cell).table.shared.table_id) × (limit_of result.1 ≡ (arc_value result.0.cell).limit) }
+        ensures cell { (result.1.seat.table_id ≡ (arc_value result.0.cell).table.table_id) × (limit_of result.1 ≡ (arc_value result.0.cell).limit) }
         ensures party { Stands as_runnable result.1 × (deeds result.1 ≡ []) }
     {
-        let RunnableSeat { share, resting } = self;
-        let seat = resting.into_seat();
-        (share, Party { seat })
+        let RunnableSeat { share, party } = self;
+        (share, party)
     }
 }
 
@@ -140,7 +127,7 @@ impl<R: Wait + Drop, F: Yields, Q: Drop, M: Drop, A: Wake, X: Copy, B: Allocator
         party: Party<F, Kept<F>, A>,
         around: X,
     ) -> Runnable<R, F, Q, M, A, X, B>
-        requires cell { party.seat.table_id ≡ (arc_value share.cell).table.shared.table_id }
+        requires cell { party.seat.table_id ≡ (arc_value share.cell).table.table_id }
         requires party { party.seat.me ≡ (view (arc_value share.cell).limit (fresh as_runnable ∷ []), []) }
         ensures cell { result.inner.share ≡ share }
         ensures around { result.around ≡ around }

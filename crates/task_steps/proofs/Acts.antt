@@ -1,7 +1,7 @@
 -- Acts of one party in a row, with nothing of another party between.
 use Rattle.std.proofs.Common.{◌≡◌, ℕ, ◌+◌, ◌<◌, Bool, true, false, not, ◌&&◌, ◌||◌, cond, Option, Some, None, List, [], ◌∷◌, ◌++◌, length, map, set, sym, refl, ap, ◌∙◌, subst, arith, append-nil, append_assoc}
-use Rattle.task_steps.proofs.Vocabulary.{State, bit, is_open, Event, is_event, Position, Act, GainReference, WakeIdle, WakeOver, WakeRunning, WakeScheduled, At, Lent, found, written, row, Slots, Scene, Outcome, when, where_found, is_held, leaves_slots}
-use Rattle.task_steps.proofs.Vocabulary.{goes, rule, Machine, begins, scene, how_many, how_often, rule_word, Deed, Member, View, count-append}
+use Rattle.task_steps.proofs.Vocabulary.{State, bit, is_open, Position, Act, GainReference, WakeIdle, WakeOver, WakeRunning, WakeScheduled, At, Lent, found, written, row, Slots, Scene, Outcome, when, where_found, is_held, leaves_slots}
+use Rattle.task_steps.proofs.Vocabulary.{goes, rule, Machine, scene, how_many, rule_word, Deed, Member, View}
 use Rattle.task_steps.specs.Rule.{deed, member, view, fresh, found_by, Entry, Explains}
 use Rattle.task_steps.specs.Steps.{then_leaves, and_then, spot, is_lent, held_word, leaves_by, all_fit, noted}
 use Rattle.task_steps.proofs.Explains.{tells, next_machine}
@@ -95,10 +95,6 @@ leads_fit s (a ∷ more) p o e = let j = joined (rule s a p) (λ o. leads (spot 
     both (found s.limit a s.word) (all_fit s.limit (written a s.word) more) (found_is (found s.limit a s.word) (goes s (written a s.word) a p) j.first j.one).0
     (subst (λ (w : State). all_fit s.limit w more ≡ true) (rule_word s a p j.first j.one) (leads_fit (spot s.limit j.first.word j.first.slots) more j.first.next j.second j.two))
 
-begins_quietly : (p : Position) → how_often Event.Empties (begins p) ≡ 0
-begins_quietly (At r) = omega arith
-begins_quietly _ = refl
-
 fresh_append : (s t : List Position) → map fresh (s ++ t) ≡ map fresh s ++ map fresh t
 fresh_append [] t = refl
 fresh_append (p ∷ s) t = ap (λ l. fresh p ∷ l) (fresh_append s t)
@@ -112,7 +108,6 @@ pub record Followed (limit : ℕ) (views : List View) (seat l : ℕ) (p : Positi
   pub slots_is : machine.slots ≡ o.slots
   pub limit_is : machine.limit ≡ m.limit
   pub counts : (f : Position → Bool) → how_many f machine.parties + bit (f p) ≡ how_many f m.parties + bit (f o.next) + how_many f o.born
-  pub emptied : how_often Event.Empties machine.trace ≡ how_often Event.Empties o.told + how_often Event.Empties m.trace
 
 abbrev FollowedBy : ℕ → List View → ℕ → ℕ → Position → List Deed → List Member → List Act → Machine → Option Outcome → Type 0
 FollowedBy limit views seat l p ds us acts m None = Unit {0}
@@ -128,7 +123,6 @@ follows limit views seat l [] p ds us log m o t lt e = subst (λ (x : Option Out
   slots_is = refl;
   limit_is = refl;
   counts = λ f. omega arith;
-  emptied = omega arith;
 })
 follows limit views seat l (a ∷ more) p ds us log m o t lt e = let j = joined (rule (scene m) a p) (λ o. leads (spot m.limit o.word o.slots) more o.next) o e in
     let o1 : Outcome = j.first in let o2 : Outcome = j.second in
@@ -144,5 +138,4 @@ follows limit views seat l (a ∷ more) p ds us log m o t lt e = let j = joined 
       slots_is = rec.slots_is;
       limit_is = rec.limit_is;
       counts = λ f. let c1 = rec.counts f in let c2 = many_next f m.parties x.0 p o1.next o1.born x.1 in omega (arith, many_append f o1.born o2.born);
-      emptied = let c1 = rec.emptied in omega (arith, count-append (is_event Event.Empties) o2.told o1.told, count-append (is_event Event.Empties) o1.told (begins p ++ m.trace), count-append (is_event Event.Empties) (begins p) m.trace, begins_quietly p);
     })

@@ -5,9 +5,10 @@ use mathlib.Core.Option as maybe
 use lib.ListN.{get_elem?}
 use Rattle.atomic_table.specs.Table.{State as Board, Me, Act as Move, keeps, takes, gives, chain, stepped, homes_after, carried_after, Valid, rest}
 use Rattle.atomic_table.proofs.Lists as lists
-use Rattle.task_steps.proofs.Vocabulary.{bit, number_of, is_open, Position, Act, Slots, Outcome, Machine, scene, how_many, Event, how_often, owns_awaiter, Invariant, Slot, Deed, Member, View}
+use Rattle.task_steps.proofs.Vocabulary.{bit, number_of, is_open, Position, Act, Slots, Outcome, Machine, scene, how_many, owns_awaiter, Invariant, Slot, Deed, Member, View}
 use Rattle.task_steps.specs.PollScripts.{has_ended}
-use Rattle.task_steps.specs.Rule.{has_work, IsFuture, IsOutput, Waits, AtHome, HomesAgree, RuleHolds}
+use Rattle.task_steps.specs.Rule.{has_work, IsFuture, IsOutput, IsEmpty, Lies, Waits, AtHome, HomesAgree, RuleHolds}
+use Rattle.task_steps.specs.declared.table.Slot.TheVariants.{Empty, Future, Output, Awaiter}
 use Rattle.task_steps.specs.Steps.{future_first, output_first, TakesFuture, TakesOutput, Works, Awaits, Carries, Carried, saw_over, saw_closed, saw_ended}
 use Rattle.task_steps.proofs.Acts.{leads}
 
@@ -16,31 +17,44 @@ abbrev pub SameWork : Machine → Outcome → Type 0
 SameWork m o = (o.slots.future ≡ m.slots.future) × (o.slots.output ≡ m.slots.output)
 
 abbrev pub SameAwaiter : Machine → Outcome → Type 0
-SameAwaiter m o = (o.slots.awaiter ≡ m.slots.awaiter) × (how_often Event.Empties o.told ≡ 0)
+SameAwaiter m o = o.slots.awaiter ≡ m.slots.awaiter
 
 -- the step takes no place of the table, and gives none back
 abbrev PlacesSeen : Type 0
-PlacesSeen = Bool × Bool × Slots × ℕ × ℕ × ℕ
+PlacesSeen = Bool × Bool × Slots × ℕ × ℕ
 
 abbrev places_before : Machine → Position → PlacesSeen
-places_before m p = (has_work p, owns_awaiter p, m.slots, 0, 0, 0)
+places_before m p = (has_work p, owns_awaiter p, m.slots, 0, 0)
 
 abbrev places_after : Outcome → PlacesSeen
-places_after o = (has_work o.next, owns_awaiter o.next, o.slots, how_often Event.Empties o.told, how_many has_work o.born, how_many owns_awaiter o.born)
+places_after o = (has_work o.next, owns_awaiter o.next, o.slots, how_many has_work o.born, how_many owns_awaiter o.born)
 
 module _ {F T A : Type 0} where
+  is_empty : (y : Slot F T A) → IsEmpty y → y ≡ Empty
+  is_empty Empty e = refl
+  is_empty (Future f) e = absurd e
+  is_empty (Output x) e = absurd e
+  is_empty (Awaiter a) e = absurd e
+
+  -- nothing lies where the machine says so
+  pub lies_nowhere : (Is : Slot F T A → Type 0) (b : Bool) → b ≡ false → Lies Is b Empty
+  lies_nowhere Is b e = subst (λ (v : Bool). Lies Is v Empty) (sym e) tt
+
+  pub lies_there : (Is : Slot F T A → Type 0) (b : Bool) (y : Slot F T A) → b ≡ true → Is y → Lies Is b y
+  lies_there Is b y e is = subst (λ (v : Bool). Lies Is v y) (sym e) is
+
   -- the party has the places of future and output in front, with these values
   abbrev pub HasBoth : Slot F T A → Slot F T A → List (ℕ × Slot F T A) → Type 0
-  HasBoth y z l = (l ≡ future_first y z (rest (rest l))) ⊎ (l ≡ output_first y z (rest (rest l)))
+  HasBoth y z l = (l ≡ (0, y) ∷ (1, z) ∷ rest (rest l)) ⊎ (l ≡ (1, z) ∷ (0, y) ∷ rest (rest l))
 
   -- which places the party takes or gives back, and why it may
   pub data Placing (m : Machine) (p : Position) (o : Outcome) (l : List (ℕ × Slot F T A)) : Type 0 where
     stays : has_work o.next ≡ has_work p → owns_awaiter o.next ≡ owns_awaiter p → (has_work p ≡ true) ⊎ SameWork m o → (owns_awaiter p ≡ true) ⊎ SameAwaiter m o → Placing m p o l
-    takes_future : has_work p ≡ false → has_work o.next ≡ true → owns_awaiter o.next ≡ owns_awaiter p → (owns_awaiter p ≡ true) ⊎ SameAwaiter m o → m.slots.future ≡ true → ((l' : List (ℕ × Slot F T A)) → TakesFuture l l' → Works o.next l l') → Placing m p o l
-    takes_output : has_work p ≡ false → has_work o.next ≡ true → owns_awaiter o.next ≡ owns_awaiter p → (owns_awaiter p ≡ true) ⊎ SameAwaiter m o → m.slots.output ≡ true → ((l' : List (ℕ × Slot F T A)) → TakesOutput l l' → Works o.next l l') → Placing m p o l
-    gives_work : (y z : Slot F T A) → has_work p ≡ true → has_work o.next ≡ false → owns_awaiter o.next ≡ owns_awaiter p → (owns_awaiter p ≡ true) ⊎ SameAwaiter m o → HasBoth y z l → (o.slots.future ≡ true → IsFuture y) → (o.slots.output ≡ true → IsOutput z) → Placing m p o l
-    takes_awaiter : owns_awaiter p ≡ false → owns_awaiter o.next ≡ true → has_work o.next ≡ has_work p → (has_work p ≡ true) ⊎ SameWork m o → how_often Event.Empties m.trace ≡ 0 → ((y : Slot F T A) → Waits m.slots.awaiter y → Awaits o.next y) → Placing m p o l
-    gives_awaiter : (y : Slot F T A) → owns_awaiter p ≡ true → owns_awaiter o.next ≡ false → has_work o.next ≡ has_work p → (has_work p ≡ true) ⊎ SameWork m o → l ≡ (2, y) ∷ rest l → (how_often Event.Empties o.told ≡ 0 → Waits o.slots.awaiter y) → Placing m p o l
+    takes_future : has_work p ≡ false → has_work o.next ≡ true → owns_awaiter o.next ≡ owns_awaiter p → (owns_awaiter p ≡ true) ⊎ SameAwaiter m o → m.slots.future ≡ true → m.slots.output ≡ false → ((l' : List (ℕ × Slot F T A)) → TakesFuture l l' → Works o.next l l') → Placing m p o l
+    takes_output : has_work p ≡ false → has_work o.next ≡ true → owns_awaiter o.next ≡ owns_awaiter p → (owns_awaiter p ≡ true) ⊎ SameAwaiter m o → m.slots.future ≡ false → m.slots.output ≡ true → ((l' : List (ℕ × Slot F T A)) → TakesOutput l l' → Works o.next l l') → Placing m p o l
+    gives_work : (y z : Slot F T A) → has_work p ≡ true → has_work o.next ≡ false → owns_awaiter o.next ≡ owns_awaiter p → (owns_awaiter p ≡ true) ⊎ SameAwaiter m o → HasBoth y z l → Lies IsFuture o.slots.future y → Lies IsOutput o.slots.output z → Placing m p o l
+    takes_awaiter : owns_awaiter p ≡ false → owns_awaiter o.next ≡ true → has_work o.next ≡ has_work p → (has_work p ≡ true) ⊎ SameWork m o → ((y : Slot F T A) → Waits m.slots.awaiter y → Awaits o.next y) → Placing m p o l
+    gives_awaiter : (y : Slot F T A) → owns_awaiter p ≡ true → owns_awaiter o.next ≡ false → has_work o.next ≡ has_work p → (has_work p ≡ true) ⊎ SameWork m o → l ≡ (2, y) ∷ rest l → Waits o.slots.awaiter y → Placing m p o l
 
   -- the step of a party at p that makes these acts, finds the machine so, and writes this number
   pub record Steps (m : Machine) (p : Position) (acts : List Act) (new : ℕ) (l : List (ℕ × Slot F T A)) : Type 0 where
@@ -55,8 +69,8 @@ module _ {F T A : Type 0} where
     outcome = o;
     leads_to = leads_to;
     writes = writes;
-    idle = (λ i. (same i).4, λ i. (same i).5);
-    placing = stays (λ i. (same i).0) (λ i. (same i).1) (inr (λ i. (same i).2.future, λ i. (same i).2.output)) (inr (λ i. (same i).2.awaiter, λ i. (same i).3));
+    idle = (λ i. (same i).3, λ i. (same i).4);
+    placing = stays (λ i. (same i).0) (λ i. (same i).1) (inr (λ i. (same i).2.future, λ i. (same i).2.output)) (inr (λ i. (same i).2.awaiter));
   }
 
 -- what a party may use of the machine that it finds: its invariant, where it stands itself, what it has seen, and where the other parties of its seat stand
@@ -102,7 +116,6 @@ module _ (F T A : Type 0) (limit : ℕ) where
     pub here : bit (has_work p) ≤ how_many has_work m.parties
     pub here_too : bit (owns_awaiter p) ≤ how_many owns_awaiter m.parties
     pub slots_is : q.slots ≡ o.slots
-    pub emptied : how_often Event.Empties q.trace ≡ how_often Event.Empties o.told + how_often Event.Empties m.trace
     pub one_worker : how_many has_work q.parties ≤ 1
     pub one_owner : how_many owns_awaiter q.parties ≤ 1
 
@@ -118,23 +131,23 @@ module _ (F T A : Type 0) (limit : ℕ) where
 
   -- the work stays where it is
   pub same_work : (b : Bool) (m : Machine) (p : Position) (o : Outcome) (q : Machine) (homes homes' : List (maybe.Option (Slot F T A))) → After m p o q → HomesAgree b m homes → has_work o.next ≡ has_work p → (has_work p ≡ true) ⊎ SameWork m o
-      → SameHomes homes homes' → how_many has_work q.parties ≡ 0 → (b ≡ true → AtHome homes' 0 (λ y. q.slots.future ≡ true → IsFuture y)) × AtHome homes' 1 (λ z. q.slots.output ≡ true → IsOutput z)
+      → SameHomes homes homes' → how_many has_work q.parties ≡ 0 → (b ≡ true → AtHome homes' 0 (Lies IsFuture q.slots.future)) × AtHome homes' 1 (Lies IsOutput q.slots.output)
   same_work b m p o q homes homes' a h e kept at nobody = ⊎_elim
       (λ (z : has_work p ≡ true). absurd (let x = a.works in let y = a.here in let b = bit_is (has_work o.next) (has_work p) e in let c : bit (has_work p) ≡ 1 = ap bit z in omega arith))
       (λ (z : SameWork m o). let before : how_many has_work m.parties ≡ 0 = (let x = a.works in let b = bit_is (has_work o.next) (has_work p) e in omega arith) in
       let x = h.output before in (
-        (λ ready. let y = h.future ready before in (y.0, at.0 ∙ y.1, λ f. y.2 (sym z.0 ∙ (ap (λ x. x.future) (sym a.slots_is) ∙ f)))),
-        (x.0, at.1 ∙ x.1, λ f. x.2 (sym z.1 ∙ (ap (λ x. x.output) (sym a.slots_is) ∙ f))),
+        (λ ready. let y = h.future ready before in (y.0, at.0 ∙ y.1, subst (λ v. Lies IsFuture v y.0) (sym z.0 ∙ ap (λ x. x.future) (sym a.slots_is)) y.2)),
+        (x.0, at.1 ∙ x.1, subst (λ v. Lies IsOutput v x.0) (sym z.1 ∙ ap (λ x. x.output) (sym a.slots_is)) x.2),
       ))
       kept
 
   pub same_awaiter : (b : Bool) (m : Machine) (p : Position) (o : Outcome) (q : Machine) (homes homes' : List (maybe.Option (Slot F T A))) → After m p o q → HomesAgree b m homes → owns_awaiter o.next ≡ owns_awaiter p → (owns_awaiter p ≡ true) ⊎ SameAwaiter m o
-      → get_elem? homes' 2 ≡ get_elem? homes 2 → how_many owns_awaiter q.parties ≡ 0 → how_often Event.Empties q.trace ≡ 0 → AtHome homes' 2 (Waits q.slots.awaiter)
-  same_awaiter b m p o q homes homes' a h e kept at nobody left = ⊎_elim
+      → get_elem? homes' 2 ≡ get_elem? homes 2 → how_many owns_awaiter q.parties ≡ 0 → AtHome homes' 2 (Waits q.slots.awaiter)
+  same_awaiter b m p o q homes homes' a h e kept at nobody = ⊎_elim
       (λ (z : owns_awaiter p ≡ true). absurd (let x = a.owners in let y = a.here_too in let b = bit_is (owns_awaiter o.next) (owns_awaiter p) e in let c : bit (owns_awaiter p) ≡ 1 = ap bit z in omega arith))
       (λ (z : SameAwaiter m o). let before : how_many owns_awaiter m.parties ≡ 0 = (let x = a.owners in let b = bit_is (owns_awaiter o.next) (owns_awaiter p) e in omega arith) in
-      let g = h.awaiter before (let x = a.emptied in omega arith) in
-      (g.0, at ∙ g.1, subst (λ w. Waits w g.0) (sym z.0 ∙ ap (λ x. x.awaiter) (sym a.slots_is)) g.2))
+      let g = h.awaiter before in
+      (g.0, at ∙ g.1, subst (λ w. Waits w g.0) (sym z ∙ ap (λ x. x.awaiter) (sym a.slots_is)) g.2))
       kept
 
   busy_work : (m : Machine) (p : Position) (o : Outcome) (q : Machine) → After m p o q → has_work p ≡ false → has_work o.next ≡ true → how_many has_work q.parties ≡ 1 + how_many has_work m.parties
@@ -179,12 +192,12 @@ module _ (F T A : Type 0) (limit : ℕ) where
 
   gives_both : (s : B) (y z : Slot F T A) (l : List (ℕ × Slot F T A)) → length s.homes ≡ 3 → HasBoth y z l → GivesBoth s y z l
   gives_both s y z l three has = ⊎_elim
-      (λ (e : l ≡ future_first y z (rest (rest l))). subst (λ (c : List (ℕ × Slot F T A)). GivesBoth s y z c) (sym e) (
+      (λ (e : l ≡ (0, y) ∷ (1, z) ∷ rest (rest l)). subst (λ (c : List (ℕ × Slot F T A)). GivesBoth s y z c) (sym e) (
         lists.set_else (set s.homes 0 (some y)) 1 0 (some z) (λ z. omega arith) ∙ lists.set_here s.homes 0 (some y) (omega arith),
         lists.set_here (set s.homes 0 (some y)) 1 (some z) (let n = length-set s.homes 0 (some y) in omega arith),
         set_both_else s.homes 0 1 2 (some y) (some z) (λ z. omega arith) (λ z. omega arith),
       ))
-      (λ (e : l ≡ output_first y z (rest (rest l))). subst (λ (c : List (ℕ × Slot F T A)). GivesBoth s y z c) (sym e) (
+      (λ (e : l ≡ (1, z) ∷ (0, y) ∷ rest (rest l)). subst (λ (c : List (ℕ × Slot F T A)). GivesBoth s y z c) (sym e) (
         lists.set_here (set s.homes 1 (some z)) 0 (some y) (let n = length-set s.homes 1 (some z) in omega arith),
         lists.set_else (set s.homes 1 (some z)) 0 1 (some y) (λ z. omega arith) ∙ lists.set_here s.homes 1 (some z) (omega arith),
         set_both_else s.homes 1 0 2 (some z) (some y) (λ z. omega arith) (λ z. omega arith),
@@ -200,42 +213,42 @@ module _ (F T A : Type 0) (limit : ℕ) where
     still = λ _. refl;
     carried = carried_as p o.next l l (has_work p) (has_work p) (owns_awaiter p) (owns_awaiter p) refl e refl f (carries_same (has_work p) (owns_awaiter p) o.next l);
   }
-  places b m p o s l q a h ready three (takes_future e f g w there is) = let busy = busy_work m p o q a e f in let free : how_many has_work m.parties ≡ 0 = (let n = a.one_worker in omega arith) in
-      let y = h.future (ready e f) free in let z = h.output free in record {
-        move = chain (takes 1 z.0) (takes 0 y.0);
-        valid = (z.1, lists.set_else s.homes 1 0 none (λ z. omega arith) ∙ y.1);
+  places b m p o s l q a h ready three (takes_future e f g w there gone is) = let busy = busy_work m p o q a e f in let free : how_many has_work m.parties ≡ 0 = (let n = a.one_worker in omega arith) in
+      let y = h.future (ready e f) free in let z = h.output free in let bare = is_empty z.0 (subst (λ v. Lies IsOutput v z.0) gone z.2) in record {
+        move = chain (takes 1 Empty) (takes 0 y.0);
+        valid = (z.1 ∙ ap (λ u. some (some u)) bare, lists.set_else s.homes 1 0 none (λ z. omega arith) ∙ y.1);
         housed = record {
           future = λ g n. absurd (omega arith);
           output = λ n. absurd (omega arith);
           awaiter = λ n. same_awaiter b m p o q s.homes (set (set s.homes 1 none) 0 none) a h g w (set_both_else s.homes 1 0 2 none none (λ z. omega arith) (λ z. omega arith)) n;
         };
         still = λ z. absurd (never (sym f ∙ z ∙ e));
-        carried = carried_as p o.next l (future_first y.0 z.0 l) false true (owns_awaiter p) (owns_awaiter p) e f refl g (is (future_first y.0 z.0 l) (y.0, z.0, y.2 there, refl));
+        carried = carried_as p o.next l (future_first y.0 l) false true (owns_awaiter p) (owns_awaiter p) e f refl g (is (future_first y.0 l) (y.0, subst (λ v. Lies IsFuture v y.0) there y.2, refl));
       }
-  places b m p o s l q a h ready three (takes_output e f g w there is) = let busy = busy_work m p o q a e f in let free : how_many has_work m.parties ≡ 0 = (let n = a.one_worker in omega arith) in
-      let y = h.future (ready e f) free in let z = h.output free in record {
-        move = chain (takes 0 y.0) (takes 1 z.0);
-        valid = (y.1, lists.set_else s.homes 0 1 none (λ z. omega arith) ∙ z.1);
+  places b m p o s l q a h ready three (takes_output e f g w gone there is) = let busy = busy_work m p o q a e f in let free : how_many has_work m.parties ≡ 0 = (let n = a.one_worker in omega arith) in
+      let y = h.future (ready e f) free in let z = h.output free in let bare = is_empty y.0 (subst (λ v. Lies IsFuture v y.0) gone y.2) in record {
+        move = chain (takes 0 Empty) (takes 1 z.0);
+        valid = (y.1 ∙ ap (λ u. some (some u)) bare, lists.set_else s.homes 0 1 none (λ z. omega arith) ∙ z.1);
         housed = record {
           future = λ g n. absurd (omega arith);
           output = λ n. absurd (omega arith);
           awaiter = λ n. same_awaiter b m p o q s.homes (set (set s.homes 0 none) 1 none) a h g w (set_both_else s.homes 0 1 2 none none (λ z. omega arith) (λ z. omega arith)) n;
         };
         still = λ z. absurd (never (sym f ∙ z ∙ e));
-        carried = carried_as p o.next l (output_first y.0 z.0 l) false true (owns_awaiter p) (owns_awaiter p) e f refl g (is (output_first y.0 z.0 l) (y.0, z.0, z.2 there, refl));
+        carried = carried_as p o.next l (output_first z.0 l) false true (owns_awaiter p) (owns_awaiter p) e f refl g (is (output_first z.0 l) (z.0, subst (λ v. Lies IsOutput v z.0) there z.2, refl));
       }
   places b m p o s l q a h ready three (gives_work y z e f g w has future output) = let home = gives_both s y z l three has in record {
     move = chain gives gives;
     valid = (tt, tt);
     housed = record {
-      future = λ f n. (y, home.0, λ b. future (ap (λ x. x.future) (sym a.slots_is) ∙ b));
-      output = λ n. (z, home.1, λ b. output (ap (λ x. x.output) (sym a.slots_is) ∙ b));
+      future = λ f n. (y, home.0, subst (λ v. Lies IsFuture v y) (ap (λ x. x.future) (sym a.slots_is)) future);
+      output = λ n. (z, home.1, subst (λ v. Lies IsOutput v z) (ap (λ x. x.output) (sym a.slots_is)) output);
       awaiter = λ n. same_awaiter b m p o q s.homes (homes_after s.homes l (chain gives gives)) a h g w home.2 n;
     };
     still = λ z. absurd (never (sym e ∙ sym z ∙ f));
     carried = carried_as p o.next l (rest (rest l)) true false (owns_awaiter p) (owns_awaiter p) e f refl g refl;
   }
-  places b m p o s l q a h ready three (takes_awaiter e f g w left is) = let busy = busy_awaiter m p o q a e f in let y = h.awaiter (let n = a.one_owner in omega arith) left in
+  places b m p o s l q a h ready three (takes_awaiter e f g w is) = let busy = busy_awaiter m p o q a e f in let y = h.awaiter (let n = a.one_owner in omega arith) in
       let same : SameHomes s.homes (set s.homes 2 none) = (lists.set_else s.homes 2 0 none (λ z. omega arith), lists.set_else s.homes 2 1 none (λ z. omega arith)) in record {
         move = takes 2 y.0;
         valid = y.1;
@@ -254,7 +267,7 @@ module _ (F T A : Type 0) (limit : ℕ) where
         housed = record {
           future = λ f n. (same_work b m p o q s.homes (homes_after s.homes l gives) a h g w same n).0 f;
           output = λ n. (same_work b m p o q s.homes (homes_after s.homes l gives) a h g w same n).1;
-          awaiter = λ n left. (y, put_at s l 2 y has (omega arith), subst (λ x. Waits x y) (ap (λ x. x.awaiter) (sym a.slots_is)) (waits (let x = a.emptied in omega arith)));
+          awaiter = λ n. (y, put_at s l 2 y has (omega arith), subst (λ x. Waits x y) (ap (λ x. x.awaiter) (sym a.slots_is)) waits);
         };
         still = λ _. put_else s l 2 0 y has (λ z. omega arith);
         carried = carried_as p o.next l (rest l) (has_work p) (has_work p) true false refl g e f (carries_back (has_work p) o.next l);

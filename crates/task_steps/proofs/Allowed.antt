@@ -77,7 +77,6 @@ module _ (F T A : Type 0) (limit : ℕ) where
         here = many_at has_work m.parties k.number p k.stands;
         here_too = many_at owns_awaiter m.parties k.number p k.stands;
         slots_is = f.slots_is;
-        emptied = f.emptied;
         one_worker = one_work q i;
         one_owner = (laws_of q i).awaiter;
       } in

@@ -1,15 +1,14 @@
 -- What the steps of a notifier owe, and the ends of a call.
-use Rattle.std.proofs.Common.{◌≡◌, ℕ, ◌+◌, ◌≤◌, Bool, true, false, not, ◌&&◌, ◌||◌, Option, Some, None, List, [], ◌∷◌, refl, sym, ap, ◌∙◌, subst, ◌⊎◌, inl, inr, ⊎_elim, arith}
+use Rattle.std.proofs.Common.{◌≡◌, ℕ, ◌≤◌, Bool, true, false, not, ◌&&◌, ◌||◌, Option, Some, None, List, [], ◌∷◌, refl, sym, ap, ◌∙◌, subst, ◌⊎◌, inl, inr, ⊎_elim, arith}
 use Rattle.std.specs.Prelude.{bit_and, bit_or, if◌then◌else◌}
-use Rattle.std.proofs.lemmas.Bool.Decides.{nat_tests}
 use Rattle.atomic_table.specs.Table.{rest}
-use Rattle.task_steps.proofs.Vocabulary.{State, state_of, number_of, Event, CallEnds, CloneEnded, Woken, Answer, Rest, NotifyingCall, OfRun, OfDrop, OfCancel, OfPoll, OfClaim, At, CallEnding, Notifier, Releaser}
-use Rattle.task_steps.proofs.Vocabulary.{AwaiterInHand, MissNotify, BeginNotify, TakeAwaiter, Slots, leaves_slots, changes_slots, after_taking, after_waking, may_drop, scene, how_often, owns_awaiter, Census}
-use Rattle.task_steps.proofs.Vocabulary.{census, weigh, plus, Awaiting, await, awaiting, Holds, state_of_number_of, fetch_or-notifying, fetch_and-awaiter_notifying, Slot, Deed, Member}
+use Rattle.task_steps.proofs.Vocabulary.{State, state_of, number_of, CallEnds, CloneEnded, Woken, Answer, Rest, NotifyingCall, OfRun, OfDrop, OfCancel, OfPoll, OfClaim, At, CallEnding, Notifier, Releaser}
+use Rattle.task_steps.proofs.Vocabulary.{AwaiterInHand, MissNotify, BeginNotify, TakeAwaiter, Slots, leaves_slots, changes_slots, after_taking, after_waking, may_drop, scene, owns_awaiter}
+use Rattle.task_steps.proofs.Vocabulary.{Awaiting, await, awaiting, state_of_number_of, fetch_or-notifying, fetch_and-awaiter_notifying, Slot, Deed, Member}
 use Rattle.task_steps.specs.Rule.{has_work, IsEmpty, Waits}
 use Rattle.task_steps.specs.Scripts.{ending, taking_awaiter, releasing_awaiter, waking, dropping}
 use Rattle.task_steps.proofs.Bools.{never}
-use Rattle.task_steps.proofs.Facts.{counted, counted_awaiting}
+use Rattle.task_steps.proofs.Facts.{counted_awaiting}
 use Rattle.task_steps.proofs.Acts.{leads_first}
 use Rattle.task_steps.proofs.Advance.{stays, takes_awaiter, gives_awaiter, Steps, keeps_places}
 use Rattle.task_steps.proofs.Allowed.{Owes}
@@ -37,17 +36,6 @@ pub same_way : (hand : Option ℕ) (way : NotifyingCall) → has_work (Releaser 
 same_way hand OfRun = refl
 same_way hand way = refl
 
--- a notifier has a reference or is the Task, so the slots were not emptied
-has_share : (way : NotifyingCall) → 1 ≤ (weigh (Notifier way)).finishing + (weigh (Notifier way)).tasks
-has_share OfRun = omega arith
-has_share way = omega arith
-
-share_sum : (a b : Census) → (plus a b).finishing + (plus a b).tasks ≡ (a.finishing + a.tasks) + (b.finishing + b.tasks)
-share_sum a b = omega arith
-
-pub not_emptied : (limit : ℕ) (w : State) (slots : Slots) (t : List Event) (c : Census) → Holds limit w slots t c → 1 ≤ c.finishing + c.tasks → how_often Event.Empties t ≡ 0
-not_emptied limit w slots t c h e = grind (arith, nat_tests)
-
 -- a releaser has emptied the awaiter slot
 releases : (i : ℕ) (hand : Option ℕ) (way : NotifyingCall) → 1 ≤ (await i (Releaser hand way)).releasers
 releases i hand OfRun = omega arith
@@ -70,7 +58,7 @@ module _ (F T A : Type 0) (limit : ℕ) where
     leads_to = refl;
     writes = e;
     idle = (refl, refl);
-    placing = stays (off_work i way) (off_free way) (inr (refl, refl)) (inr (refl, refl));
+    placing = stays (off_work i way) (off_free way) (inr (refl, refl)) (inr refl);
   }
 
   pub drops : (i : ℕ) (way : NotifyingCall) (ds : List Deed) (us : List Member) (l : List (ℕ × Slot F T A)) → may_drop way ≡ true → Owes F T A limit dropping (λ n. n) (AwaiterInHand i way) ds us l
@@ -84,7 +72,7 @@ module _ (F T A : Type 0) (limit : ℕ) where
     leads_to = refl;
     writes = e;
     idle = (refl, refl);
-    placing = stays refl refl (inl refl) (inr (refl, refl));
+    placing = stays refl refl (inl refl) (inr refl);
   }
 
   pub takes : (way : NotifyingCall) (ds : List Deed) (us : List Member) (l : List (ℕ × Slot F T A)) → Owes F T A limit taking_awaiter (λ n. bit_or n 128) (Notifier way) ds us l
@@ -99,19 +87,15 @@ module _ (F T A : Type 0) (limit : ℕ) where
         leads_to = leads_first (scene m) MissNotify [] (Notifier way) _ h refl;
         writes = sets;
         idle = (refl, refl);
-        placing = stays (on_work None way) (on_free None way) (inr (refl, refl)) (inr (refl, refl));
+        placing = stays (on_work None way) (on_free None way) (inr (refl, refl)) (inr refl);
       }
       by false h = record {
         outcome = changes_slots (scene m) (record (m.word) { notifying = true }) (record (m.slots) { awaiter = None }) (Releaser m.slots.awaiter way) [];
         leads_to = leads_first (scene m) BeginNotify (TakeAwaiter ∷ []) (Notifier way) _ (neither m.word.notifying m.word.registering h) refl;
         writes = sets;
         idle = (refl, refl);
-        placing = takes_awaiter refl refl (same_way m.slots.awaiter way) (inr (refl, refl)) left (λ y w. w);
+        placing = takes_awaiter refl refl (same_way m.slots.awaiter way) (inr (refl, refl)) (λ y w. w);
       }
-        where
-          left : how_often Event.Empties m.trace ≡ 0
-          left = let here : 1 ≤ (census m.parties).finishing + (census m.parties).tasks = omega (arith, has_share way, counted (λ c. c.finishing + c.tasks) share_sum m.parties f.number (Notifier way) f.stands) in
-              not_emptied m.limit m.word m.slots m.trace (census m.parties) f.invariant.holds here
 
   pub releases_awaiter : (hand : Option ℕ) (way : NotifyingCall) (ds : List Deed) (us : List Member) (y : Slot F T A) (l : List (ℕ × Slot F T A)) → l ≡ (2, y) ∷ rest l → IsEmpty y
       → Owes F T A limit releasing_awaiter (λ n. bit_and n 18446744073709551455) (Releaser hand way) ds us l
@@ -120,7 +104,7 @@ module _ (F T A : Type 0) (limit : ℕ) where
     leads_to = refl;
     writes = fetch_and-awaiter_notifying x lt ∙ ap (λ (w : State). number_of (record w { awaiter = false; notifying = false })) (ap state_of e ∙ state_of_number_of m.word);
     idle = (refl, refl);
-    placing = gives_awaiter y refl (on_free hand way) (on_work hand way ∙ sym (same_way hand way)) (inr (refl, refl)) has (λ _. subst (λ x. Waits x y) (sym none) empty);
+    placing = gives_awaiter y refl (on_free hand way) (on_work hand way ∙ sym (same_way hand way)) (inr (refl, refl)) has (subst (λ x. Waits x y) (sym none) empty);
   }
     where
       none : m.slots.awaiter ≡ None

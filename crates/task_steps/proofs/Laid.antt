@@ -38,7 +38,7 @@ module _ (F T A : Type 0) (limit : ℕ) where
       told = laid_told limit;
       wide = refl;
       word_is = refl;
-      housed = record { future = λ e. absurd (cc); output = λ n. (Empty, refl, λ e. absurd (cc)); awaiter = λ n e. (Empty, refl, tt) };
+      housed = record { future = λ e. absurd (cc); output = λ n. (Empty, refl, tt); awaiter = λ n. (Empty, refl, tt) };
       unfilled = λ e. record { stage = Laid; first = refl; place = inl (refl, (Empty, refl, tt)) };
       staged = λ seat v apart f. absurd (apart refl (just (laid_view limit) seat v f).0);
     };

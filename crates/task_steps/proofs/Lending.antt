@@ -29,7 +29,7 @@ module _ (F T A : Type 0) (limit : ℕ) where
   still_housed b m homes lent h = let works = many_next has_work m.parties lender (At Lent) (At Lent) (At Lent ∷ []) lent in let owners = many_next owns_awaiter m.parties lender (At Lent) (At Lent) (At Lent ∷ []) lent in record {
     future = λ f n. h.future f (omega arith);
     output = λ n. h.output (omega arith);
-    awaiter = λ n e. h.awaiter (omega arith) (omega arith);
+    awaiter = λ n. h.awaiter (omega arith);
   }
 
   -- whoever reads the word may have a lent waker

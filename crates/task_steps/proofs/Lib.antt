@@ -12,6 +12,7 @@ pub mod Owed
 pub mod Seats
 pub mod Lending
 pub mod Laid
+pub mod Left
 pub mod AwaiterOwed
 pub mod RunOwed
 pub mod Known

@@ -1,16 +1,15 @@
 -- What each step owes: the machine allows its acts, and writes its number.
-use Rattle.std.proofs.Common.{◌≡◌, ℕ, ◌+◌, ◌≤◌, Bool, true, false, not, List, [], ◌∷◌, refl, sym, ap, ◌∙◌, inl, inr, arith}
+use Rattle.std.proofs.Common.{◌≡◌, ℕ, ◌+◌, ◌≤◌, Bool, true, false, not, List, [], ◌∷◌, refl, ap, ◌∙◌, inl, inr, arith}
 use Rattle.std.specs.Prelude.{bit_and}
 use Rattle.atomic_table.specs.Table.{rest}
 use Rattle.task_steps.proofs.Vocabulary.{State, state_of, number_of, is_open, Event, CallEnds, FutureDropped, RunEnded, Finished, Position, At, FutureInHand, Task, ClosedRun, DroppedRunnable, WithoutPoll, OfRun, OfDrop, Slots, leaves_slots, notifies, scene, Census, census, plus, closers}
-use Rattle.task_steps.proofs.Vocabulary.{owns_awaiter, Holds, state_of_number_of, fetch_and-scheduled, Slot, Deed, Member}
-use Rattle.task_steps.specs.Rule.{has_work}
+use Rattle.task_steps.proofs.Vocabulary.{owns_awaiter, Holds, state_of_number_of, fetch_and-scheduled, Slot, Empty, Deed, Member}
+use Rattle.task_steps.specs.Rule.{has_work, IsOutput}
 use Rattle.task_steps.specs.Steps.{future_first}
 use Rattle.task_steps.specs.TaskScripts.{looking_finished}
 use Rattle.task_steps.specs.RunScripts.{unscheduling}
-use Rattle.task_steps.proofs.Bools.{never}
 use Rattle.task_steps.proofs.Facts.{counted}
-use Rattle.task_steps.proofs.Advance.{gives_work, keeps_places}
+use Rattle.task_steps.proofs.Advance.{gives_work, lies_nowhere, keeps_places}
 use Rattle.task_steps.proofs.Allowed.{Owes}
 
 -- the rest of a run or a drop has no place of the table
@@ -39,18 +38,18 @@ module _ (F T A : Type 0) (limit : ℕ) where
   no_output : (limit : ℕ) (w : State) (slots : Slots) (t : List Event) (c : Census) → Holds limit w slots t c → 1 ≤ closers c → slots.output ≡ false
   no_output limit w slots t c h e = grind arith
 
-  pub unschedules : (closer : WithoutPoll) (ds : List Deed) (us : List Member) (y z : Slot F T A) (l : List (ℕ × Slot F T A)) → l ≡ future_first y z (rest (rest l)) → Owes F T A limit unscheduling (λ n. bit_and n 18446744073709551614) (FutureInHand closer) ds us l
-  unschedules ClosedRun ds us y z l has m f x e lt = let i = idle_run m.word.awaiter in let none = no_output m.limit m.word m.slots m.trace (census m.parties) f.invariant.holds (counted closers (λ a b. closers_sum a b) m.parties f.number (FutureInHand ClosedRun) f.stands) in record {
+  pub unschedules : (closer : WithoutPoll) (ds : List Deed) (us : List Member) (l : List (ℕ × Slot F T A)) → l ≡ future_first Empty (rest (rest l)) → Owes F T A limit unscheduling (λ n. bit_and n 18446744073709551614) (FutureInHand closer) ds us l
+  unschedules ClosedRun ds us l has m f x e lt = let i = idle_run m.word.awaiter in let none = no_output m.limit m.word m.slots m.trace (census m.parties) f.invariant.holds (counted closers (λ a b. closers_sum a b) m.parties f.number (FutureInHand ClosedRun) f.stands) in record {
     outcome = record { word = record (m.word) { scheduled = false }; slots = record (m.slots) { future = false }; next = notifies m.word.awaiter OfRun; born = []; told = RunEnded ∷ FutureDropped ∷ [] };
     leads_to = refl;
     writes = fetch_and-scheduled x lt ∙ ap (λ (w : State). number_of (record w { scheduled = false })) (ap state_of e ∙ state_of_number_of m.word);
     idle = (refl, refl);
-    placing = gives_work y z refl i.0 i.1 (inr (refl, refl)) (inl has) (λ e. never e) (λ e. never (sym none ∙ e));
+    placing = gives_work Empty Empty refl i.0 i.1 (inr refl) (inl has) tt (lies_nowhere IsOutput m.slots.output none);
   }
-  unschedules DroppedRunnable ds us y z l has m f x e lt = let i = idle_drop m.word.awaiter in let none = no_output m.limit m.word m.slots m.trace (census m.parties) f.invariant.holds (counted closers (λ a b. closers_sum a b) m.parties f.number (FutureInHand DroppedRunnable) f.stands) in record {
+  unschedules DroppedRunnable ds us l has m f x e lt = let i = idle_drop m.word.awaiter in let none = no_output m.limit m.word m.slots m.trace (census m.parties) f.invariant.holds (counted closers (λ a b. closers_sum a b) m.parties f.number (FutureInHand DroppedRunnable) f.stands) in record {
     outcome = record { word = record (m.word) { scheduled = false }; slots = record (m.slots) { future = false }; next = notifies m.word.awaiter OfDrop; born = []; told = RunEnded ∷ FutureDropped ∷ [] };
     leads_to = refl;
     writes = fetch_and-scheduled x lt ∙ ap (λ (w : State). number_of (record w { scheduled = false })) (ap state_of e ∙ state_of_number_of m.word);
     idle = (refl, refl);
-    placing = gives_work y z refl i.0 i.1 (inr (refl, refl)) (inl has) (λ e. never e) (λ e. never (sym none ∙ e));
+    placing = gives_work Empty Empty refl i.0 i.1 (inr refl) (inl has) tt (lies_nowhere IsOutput m.slots.output none);
   }

@@ -4,17 +4,16 @@ use Rattle.std.specs.Prelude.{if◌then◌else◌, bit_and}
 use Rattle.atomic_table.specs.Table.{rest}
 use Rattle.task_steps.proofs.Vocabulary.{State, state_of, number_of, found, written, row, Event, TaskPollBegins, TaskPollEnds, Closes, OutputTaken, Cloned, Woken, CloneEnded, PollAnswer, IsPending, HasOutput, IsRefused, Position, OfPoll, OfClaim, At, Notifier, Looking, SawOutput, TookOutput}
 use Rattle.task_steps.proofs.Vocabulary.{Answering, Registrar, HasClone, UnusedClone, Storing, Registered, OldAwaiterInHand, TookBack, CloneInHand, Task, Act, Look, ClaimOutput, CloneAwaiter, StoreAwaiter, BeginRegister, EndRegister, EndRegisterNotified, EndCall, Slots, leaves_slots, changes_slots}
-use Rattle.task_steps.proofs.Vocabulary.{when, where_found, notifies, first_look, second_look, after_storing, Machine, scene, how_often, count, is_task_poll, owns_awaiter, Census, census, Awaiting, awaiting, HandshakeHolds, Holds, state_of_number_of}
-use Rattle.task_steps.proofs.Vocabulary.{fetch_and-awaiter_registering_notifying, Slot, Awaiter, Deed, Member}
-use Rattle.task_steps.specs.Rule.{has_work, IsEmpty, IsAwaiter, Waits}
+use Rattle.task_steps.proofs.Vocabulary.{when, where_found, notifies, first_look, second_look, after_storing, Machine, scene, count, is_task_poll, owns_awaiter, Census, census, Awaiting, awaiting, HandshakeHolds, Holds, state_of_number_of}
+use Rattle.task_steps.proofs.Vocabulary.{fetch_and-awaiter_registering_notifying, Invariant, Slot, Empty, Awaiter, Deed, Member}
+use Rattle.task_steps.specs.Rule.{has_work, IsFuture, IsEmpty, IsAwaiter, Waits}
 use Rattle.task_steps.specs.Steps.{and_then, spot, output_first, TakesOutput, Works, Awaits}
 use Rattle.task_steps.specs.Scripts.{ending, waking, dropping}
 use Rattle.task_steps.specs.PollScripts.{has_output, has_ended, has_to_wait, looking, looking_again, handing_out, refusing, finding_notifier, taking_back, ending_notified}
 use Rattle.task_steps.proofs.Bools.{never}
 use Rattle.task_steps.proofs.Acts.{leads}
 use Rattle.task_steps.proofs.Facts.{counted, counted_awaiting}
-use Rattle.task_steps.proofs.AwaiterOwed.{not_emptied}
-use Rattle.task_steps.proofs.Advance.{Finds, stays, takes_output, gives_work, takes_awaiter, gives_awaiter, Steps, keeps_places}
+use Rattle.task_steps.proofs.Advance.{Finds, stays, takes_output, gives_work, lies_nowhere, takes_awaiter, gives_awaiter, Steps, keeps_places}
 use Rattle.task_steps.proofs.Allowed.{Owes, OwesEnd}
 
 -- a position that has no place of the table
@@ -86,6 +85,10 @@ same_first l r s k x y e f = ap (value_or x) (sym e ∙ f)
 pub output_there : (limit : ℕ) (w : State) (slots : Slots) (t : List Event) (c : Census) → Holds limit w slots t c → has_output w ≡ true → slots.output ≡ true
 output_there limit w slots t c h e = grind arith
 
+-- .. and the future is not
+pub future_left : (limit : ℕ) (w : State) (slots : Slots) (t : List Event) (c : Census) → Holds limit w slots t c → has_output w ≡ true → slots.future ≡ false
+future_left limit w slots t c h e = grind arith
+
 -- whoever has the output finds the future gone
 pub future_gone : (limit : ℕ) (w : State) (slots : Slots) (t : List Event) (c : Census) → Holds limit w slots t c → 1 ≤ c.claims → slots.future ≡ false
 future_gone limit w slots t c h e = grind arith
@@ -96,6 +99,10 @@ was_taken_back i w slots t b h e = ⊎_elim (λ (z : b.takers_back ≡ 0). absur
 clone_stored : (i : ℕ) (w : State) (slots : Slots) (t : List Event) (b : Awaiting) → HandshakeHolds i w slots t b → 1 ≤ b.registered → slots.awaiter ≡ Some (count is_task_poll t)
 clone_stored i w slots t b h e = ⊎_elim (λ (z : b.registered ≡ 0). absurd (omega arith)) (λ z. z) h.own
 
+-- a word that has the output
+pub output_lies : (m : Machine) → Invariant m → has_output m.word ≡ true → (m.slots.future ≡ false) × (m.slots.output ≡ true)
+output_lies m i e = (future_left m.limit m.word m.slots m.trace (census m.parties) i.holds e, output_there m.limit m.word m.slots m.trace (census m.parties) i.holds e)
+
 module _ (F T A : Type 0) (limit : ℕ) where
   pub looks : (n : ℕ) (ds : List Deed) (us : List Member) (l : List (ℕ × Slot F T A)) → OwesEnd F T A limit (λ w. not (has_output w)) looking (At (Task n)) ds us l
   looks n ds us l m f number x lt e = let f = first_free m.word (n + 1) in record {
@@ -103,7 +110,7 @@ module _ (F T A : Type 0) (limit : ℕ) where
     leads_to = ap (λ (b : Bool). and_then (where_found true (when b (leaves_slots (scene m) m.word (first_look m.word (n + 1)) [] (TaskPollBegins (n + 1) ∷ [])))) (λ o. leads (spot m.limit o.word o.slots) [] o.next)) e;
     writes = x;
     idle = (refl, refl);
-    placing = stays f.0 f.1 (inr (refl, refl)) (inr (refl, refl));
+    placing = stays f.0 f.1 (inr (refl, refl)) (inr refl);
   }
 
   looks_again_by : (m : Machine) (i number : ℕ) (l : List (ℕ × Slot F T A)) (b : Bool) → has_to_wait m.word ≡ b → number ≡ number_of m.word → Steps m (Looking i) (if b then Look ∷ EndCall ∷ [] else Look ∷ []) number l
@@ -114,7 +121,7 @@ module _ (F T A : Type 0) (limit : ℕ) where
     leads_to = refl;
     writes = x;
     idle = (refl, refl);
-    placing = stays f.0 f.1 (inr (refl, refl)) (inr (refl, refl));
+    placing = stays f.0 f.1 (inr (refl, refl)) (inr refl);
   }
 
   pub looks_again : (i : ℕ) (ds : List Deed) (us : List Member) (l : List (ℕ × Slot F T A)) → OwesEnd F T A limit (λ w. not (has_output w)) looking_again (Looking i) ds us l
@@ -128,28 +135,28 @@ module _ (F T A : Type 0) (limit : ℕ) where
   refuses i ds us l m f number x lt = keeps_places (leaves_slots (scene m) m.word (At (Task i)) [] (TaskPollEnds i IsRefused ∷ []))
       refl x refl
 
-  claims_by : (m : Machine) (p : Position) (acts : List Act) (i : ℕ) (told : List Event) (new : ℕ) (l : List (ℕ × Slot F T A)) → Free p → how_often Event.Empties told ≡ 0 → Fits ClaimOutput m.word new
+  claims_by : (m : Machine) (p : Position) (acts : List Act) (i : ℕ) (told : List Event) (new : ℕ) (l : List (ℕ × Slot F T A)) → Free p → Fits ClaimOutput m.word new
       → leads (scene m) acts p ≡ and_then (when (found 0 ClaimOutput m.word) (leaves_slots (scene m) (written ClaimOutput m.word) (notifies m.word.awaiter (OfClaim i)) [] told)) (λ o. leads (spot m.limit o.word o.slots) [] o.next)
-      → m.slots.output ≡ true → Steps m p acts new l
-  claims_by m p acts i told new l free told_none fit is there = let f = claim_works m.word.awaiter i in record {
+      → (m.slots.future ≡ false) × (m.slots.output ≡ true) → Steps m p acts new l
+  claims_by m p acts i told new l free fit is there = let f = claim_works m.word.awaiter i in record {
     outcome = leaves_slots (scene m) (written ClaimOutput m.word) (notifies m.word.awaiter (OfClaim i)) [] told;
     leads_to = is ∙ ap (λ (b : Bool). and_then (when b (leaves_slots (scene m) (written ClaimOutput m.word) (notifies m.word.awaiter (OfClaim i)) [] told)) (λ o. leads (spot m.limit o.word o.slots) [] o.next)) fit.finds;
     writes = fit.writes;
     idle = (refl, refl);
-    placing = takes_output free.0 f.0 (f.1 ∙ sym free.1) (inr (refl, told_none)) there (works m.word.awaiter);
+    placing = takes_output free.0 f.0 (f.1 ∙ sym free.1) (inr refl) there.0 there.1 (works m.word.awaiter);
   }
     where
       works : (b : Bool) (l' : List (ℕ × Slot F T A)) → TakesOutput l l' → Works (notifies b (OfClaim i)) l l'
       works true l' h = h
       works false l' h = h
 
-  pub hands_out : (i : ℕ) (ds : List Deed) (us : List Member) (y z : Slot F T A) (l : List (ℕ × Slot F T A)) → l ≡ output_first y z (rest (rest l)) → Owes F T A limit handing_out (λ n. n) (TookOutput i) ds us l
-  hands_out i ds us y z l has m f number x lt = let none = future_gone m.limit m.word m.slots m.trace (census m.parties) f.invariant.holds (counted (λ c. c.claims) (λ a b. refl) m.parties f.number (TookOutput i) f.stands) in record {
+  pub hands_out : (i : ℕ) (ds : List Deed) (us : List Member) (l : List (ℕ × Slot F T A)) → l ≡ output_first Empty (rest (rest l)) → Owes F T A limit handing_out (λ n. n) (TookOutput i) ds us l
+  hands_out i ds us l has m f number x lt = let none = future_gone m.limit m.word m.slots m.trace (census m.parties) f.invariant.holds (counted (λ c. c.claims) (λ a b. refl) m.parties f.number (TookOutput i) f.stands) in record {
     outcome = record { word = m.word; slots = record (m.slots) { output = false }; next = At (Task i); born = []; told = TaskPollEnds i HasOutput ∷ OutputTaken ∷ [] };
     leads_to = refl;
     writes = x;
     idle = (refl, refl);
-    placing = gives_work y z refl refl refl (inr (refl, refl)) (inr has) (λ e. never (sym none ∙ e)) (λ e. never e);
+    placing = gives_work Empty Empty refl refl refl (inr refl) (inr has) (lies_nowhere IsFuture m.slots.future none) tt;
   }
 
   pub finds_notifier : (i : ℕ) (ds : List Deed) (us : List Member) (l : List (ℕ × Slot F T A)) → OwesEnd F T A limit (λ w. w.notifying) finding_notifier (Registrar i) ds us l
@@ -190,13 +197,13 @@ module _ (F T A : Type 0) (limit : ℕ) where
   pub begins_register : (i : ℕ) (ds : List Deed) (us : List Member) (l : List (ℕ × Slot F T A)) (m : Machine) (new : ℕ) → Finds limit (Registrar i) ds us m → Fits BeginRegister m.word new
       → Steps m (Registrar i) (CloneAwaiter ∷ BeginRegister ∷ StoreAwaiter ∷ []) new l
   begins_register i ds us l m new f fit = let s = stored_free i m.slots.awaiter in
-      let none = not_emptied m.limit m.word m.slots m.trace (census m.parties) f.invariant.holds (omega (arith, counted (λ c. c.tasks) (λ a b. refl) m.parties f.number (Registrar i) f.stands)) in record {
+      record {
         outcome = record { word = written BeginRegister m.word; slots = record (m.slots) { awaiter = Some i }; next = after_storing i m.slots.awaiter; born = []; told = Cloned i ∷ [] };
         leads_to = ap (λ (b : Bool). and_then (Some (leaves_slots (scene m) m.word (HasClone i) [] (Cloned i ∷ [])))
             (λ o. and_then (when b (leaves_slots (spot m.limit o.word o.slots) (written BeginRegister o.word) (Storing i) [] [])) (λ o. leads (spot m.limit o.word o.slots) (StoreAwaiter ∷ []) o.next))) fit.finds;
         writes = fit.writes;
         idle = (refl, refl);
-        placing = takes_awaiter refl s.1 s.0 (inr (refl, refl)) none (stored_awaits i m.slots.awaiter);
+        placing = takes_awaiter refl s.1 s.0 (inr (refl, refl)) (stored_awaits i m.slots.awaiter);
       }
 
   pub ends_register : (i : ℕ) (ds : List Deed) (us : List Member) (y : Slot F T A) (l : List (ℕ × Slot F T A)) (m : Machine) (new : ℕ) → Finds limit (Registered i) ds us m → l ≡ (2, y) ∷ rest l → IsAwaiter y → Fits EndRegister m.word new
@@ -206,7 +213,7 @@ module _ (F T A : Type 0) (limit : ℕ) where
     leads_to = ap (λ (b : Bool). and_then (when b (leaves_slots (scene m) (written EndRegister m.word) (Looking i) [] [])) (λ o. leads (spot m.limit o.word o.slots) [] o.next)) fit.finds;
     writes = fit.writes;
     idle = (refl, refl);
-    placing = gives_awaiter y refl refl refl (inr (refl, refl)) has (λ _. subst (λ (hand : Option ℕ). Waits hand y) (sym stored) is);
+    placing = gives_awaiter y refl refl refl (inr (refl, refl)) has (subst (λ (hand : Option ℕ). Waits hand y) (sym stored) is);
   }
 
   -- the clone is taken back while its place is still the poll's
@@ -225,18 +232,18 @@ module _ (F T A : Type 0) (limit : ℕ) where
     leads_to = ap (λ (b : Bool). and_then (when b (leaves_slots (scene m) (written EndRegisterNotified m.word) (CloneInHand i) [] [])) (λ o. leads (spot m.limit o.word o.slots) [] o.next)) t.0;
     writes = fetch_and-awaiter_registering_notifying n lt ∙ ap (λ (w : State). number_of (record w { awaiter = false; registering = false; notifying = false })) (ap state_of e ∙ state_of_number_of m.word);
     idle = (refl, refl);
-    placing = gives_awaiter y refl refl refl (inr (refl, refl)) has (λ _. subst (λ (hand : Option ℕ). Waits hand y) (sym t.1) is);
+    placing = gives_awaiter y refl refl refl (inr (refl, refl)) has (subst (λ (hand : Option ℕ). Waits hand y) (sym t.1) is);
   }
 
   -- the output is taken at once, or by a poll that has registered
   pub claims : (n : ℕ) (ds : List Deed) (us : List Member) (l : List (ℕ × Slot F T A)) (m : Machine) (new : ℕ) → Finds limit (At (Task n)) ds us m → Fits ClaimOutput m.word new → Steps m (At (Task n)) (ClaimOutput ∷ []) new l
-  claims n ds us l m new f fit = claims_by m (At (Task n)) (ClaimOutput ∷ []) (n + 1) (Closes ∷ TaskPollBegins (n + 1) ∷ []) new l (refl, refl) refl fit refl (output_there m.limit m.word m.slots m.trace (census m.parties) f.invariant.holds fit.finds)
+  claims n ds us l m new f fit = claims_by m (At (Task n)) (ClaimOutput ∷ []) (n + 1) (Closes ∷ TaskPollBegins (n + 1) ∷ []) new l (refl, refl) fit refl (output_lies m f.invariant fit.finds)
 
   pub claims_again : (i : ℕ) (ds : List Deed) (us : List Member) (l : List (ℕ × Slot F T A)) (m : Machine) (new : ℕ) → Finds limit (Looking i) ds us m → Fits ClaimOutput m.word new → Steps m (Looking i) (Look ∷ ClaimOutput ∷ []) new l
-  claims_again i ds us l m new f fit = claims_by m (Looking i) (Look ∷ ClaimOutput ∷ []) i (Closes ∷ []) new l (refl, refl) refl fit
+  claims_again i ds us l m new f fit = claims_by m (Looking i) (Look ∷ ClaimOutput ∷ []) i (Closes ∷ []) new l (refl, refl) fit
       (ap (λ (p : Position). and_then (Some (leaves_slots (scene m) m.word p [] [])) (λ o. leads (spot m.limit o.word o.slots) (ClaimOutput ∷ []) o.next)) (sees_output m.word i fit.finds)
       ∙ again (found 0 ClaimOutput m.word))
-      (output_there m.limit m.word m.slots m.trace (census m.parties) f.invariant.holds fit.finds)
+      (output_lies m f.invariant fit.finds)
     where
       again : (b : Bool) → and_then (Some (leaves_slots (scene m) m.word (SawOutput i) [] [])) (λ o. and_then (when b (leaves_slots (spot m.limit o.word o.slots) (written ClaimOutput o.word) (notifies o.word.awaiter (OfClaim i)) [] (Closes ∷ []))) (λ o. leads (spot m.limit o.word o.slots) [] o.next))
           ≡ and_then (when b (leaves_slots (scene m) (written ClaimOutput m.word) (notifies m.word.awaiter (OfClaim i)) [] (Closes ∷ []))) (λ o. leads (spot m.limit o.word o.slots) [] o.next)

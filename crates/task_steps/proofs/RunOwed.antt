@@ -7,17 +7,16 @@ use Rattle.atomic_table.specs.Table.{rest}
 use Rattle.task_steps.proofs.Vocabulary.{State, state_of, number_of, Event, ByWake, ByClosing, Empties, Closes, TakenUp, FutureReady, FuturePending, FutureDropped, Completes, RunEnded, OutputDropped, Made, CallEnds, Answer, Ran, Runnable, Ended, OfRun, ThenEnds}
 use Rattle.task_steps.proofs.Vocabulary.{DroppedRunnable, At, CallEnding, Deliverer, GivingUp, Emptier, FutureInHand, Polling, Pending, Ready, ReadyFutureDropped, OutputStored, PendingFutureDropped, OutputInHand, GiveUpReference, GiveUpLastReference, DiscardOpen, DiscardClosed}
 use Rattle.task_steps.proofs.Vocabulary.{DropFuture, StoreOutput, Complete, CompleteDetached, AnswerPending, Reschedule, EndIdle, EndOrphaned, EndClosed, EndCall, written, Slots, leaves_slots, changes_slots, notifies, after_giving_up, ended_clone, closing, Machine, scene}
-use Rattle.task_steps.proofs.Vocabulary.{how_often, owns_awaiter, Census, census, Holds, state_of_number_of, fetch_or-closed, fetch_sub-reference, fetch_and-scheduled_running, Slot, Empty, Deed, Member}
+use Rattle.task_steps.proofs.Vocabulary.{owns_awaiter, Census, census, Holds, state_of_number_of, fetch_or-closed, fetch_sub-reference, fetch_and-scheduled_running, Slot, Empty, Deed, Member}
 use Rattle.task_steps.specs.Rule.{has_work, IsFuture, IsOutput}
 use Rattle.task_steps.specs.Steps.{then_leaves, spot, future_first, output_first}
 use Rattle.task_steps.specs.Scripts.{dropping_output}
 use Rattle.task_steps.specs.RunScripts.{giving_up, emptying, discarding, answering_ready, completing, answering_pending, ending_pending, finding_closed, ending_closed, completed_word, after_pending}
 use Rattle.task_steps.proofs.Bools.{never}
 use Rattle.task_steps.proofs.Numbers.{same_word}
-use Rattle.task_steps.proofs.Facts.{queued, counted}
+use Rattle.task_steps.proofs.Facts.{Queued, queued, counted}
 use Rattle.task_steps.proofs.Acts.{leads_first}
-use Rattle.task_steps.proofs.AwaiterOwed.{not_emptied}
-use Rattle.task_steps.proofs.Advance.{Finds, Placing, stays, takes_future, gives_work, takes_awaiter, gives_awaiter, Steps}
+use Rattle.task_steps.proofs.Advance.{Finds, Placing, stays, takes_future, gives_work, lies_nowhere, lies_there, takes_awaiter, gives_awaiter, Steps}
 use Rattle.task_steps.proofs.Allowed.{Owes, OwesEnd}
 
 -- after a reference was given up, no place is held
@@ -49,8 +48,8 @@ pub closed_already : (w : State) → w.closed ≡ true → record w { closed = t
 closed_already w e = λ i. record w { closed = sym e i }
 
 -- a run has the only thing that is left of the work
-pending_facts : (limit : ℕ) (w : State) (slots : Slots) (t : List Event) (c : Census) → Holds limit w slots t c → 1 ≤ c.pending → (1 ≤ w.references) × (slots.output ≡ false)
-pending_facts limit w slots t c h e = (grind arith, grind arith)
+pending_facts : (limit : ℕ) (w : State) (slots : Slots) (t : List Event) (c : Census) → Holds limit w slots t c → 1 ≤ c.pending → (1 ≤ w.references) × (slots.output ≡ false) × (slots.future ≡ true)
+pending_facts limit w slots t c h e = (grind arith, grind arith, grind arith)
 
 cleared_facts : (limit : ℕ) (w : State) (slots : Slots) (t : List Event) (c : Census) → Holds limit w slots t c → 1 ≤ c.cleared → (slots.future ≡ false) × (slots.output ≡ false) × (w.closed ≡ true)
 cleared_facts limit w slots t c h e = (grind arith, grind arith, grind arith)
@@ -99,14 +98,14 @@ module _ (F T A : Type 0) (limit : ℕ) where
         leads_to = leads_first (scene m) GiveUpReference [] (GivingUp hand answer) _ h refl;
         writes = fewer;
         idle = (refl, refl);
-        placing = stays (given_work hand answer) (given_free hand answer) (inr (refl, refl)) (inr (refl, refl));
+        placing = stays (given_work hand answer) (given_free hand answer) (inr (refl, refl)) (inr refl);
       }
       by false h = record {
         outcome = leaves_slots (scene m) (record (m.word) { references = m.word.references - 1 }) (Emptier hand answer) [] [];
         leads_to = leads_first (scene m) GiveUpLastReference [] (GivingUp hand answer) _ (is_last m.word.references m.word.task some h) refl;
         writes = fewer;
         idle = (refl, refl);
-        placing = takes_awaiter refl refl refl (inr (refl, refl)) (not_emptied m.limit m.word m.slots m.trace (census m.parties) f.invariant.holds (let h = here in omega arith)) (λ y w. (m.slots.awaiter, w));
+        placing = takes_awaiter refl refl refl (inr (refl, refl)) (λ y w. (m.slots.awaiter, w));
       }
 
   pub empties : (hand : Option ℕ) (answer : Answer) (ds : List Deed) (us : List Member) (l : List (ℕ × Slot F T A)) → l ≡ (2, Empty) ∷ rest l → Owes F T A limit emptying (λ n. n) (Emptier hand answer) ds us l
@@ -115,14 +114,14 @@ module _ (F T A : Type 0) (limit : ℕ) where
     leads_to = refl;
     writes = e;
     idle = (refl, refl);
-    placing = gives_awaiter Empty refl (given_free hand answer) (given_work hand answer) (inr (refl, refl)) has (λ _. tt);
+    placing = gives_awaiter Empty refl (given_free hand answer) (given_work hand answer) (inr (refl, refl)) has tt;
   }
 
   pub discards : (ds : List Deed) (us : List Member) (l : List (ℕ × Slot F T A)) → Owes F T A limit discarding (λ n. bit_or n 8) (At Runnable) ds us l
   discards ds us l m f x e lt = by m.word.closed refl
     where
-      there : m.slots.future ≡ true
-      there = (queued m f.number f.invariant f.stands).future
+      there : Queued m
+      there = queued m f.number f.invariant f.stands
 
       sets : bit_or x 8 ≡ number_of (record (m.word) { closed = true })
       sets = fetch_or-closed x ∙ ap (λ (w : State). number_of (record w { closed = true })) (ap state_of e ∙ state_of_number_of m.word)
@@ -133,14 +132,14 @@ module _ (F T A : Type 0) (limit : ℕ) where
         leads_to = leads_first (scene m) DiscardClosed [] (At Runnable) _ h refl;
         writes = sets ∙ ap number_of (closed_already m.word h);
         idle = (refl, refl);
-        placing = takes_future refl refl refl (inr (refl, refl)) there (λ _ h. h);
+        placing = takes_future refl refl refl (inr refl) there.future there.output (λ _ h. h);
       }
       by false h = record {
         outcome = leaves_slots (scene m) (record (m.word) { closed = true }) (FutureInHand DroppedRunnable) [] (Closes ∷ TakenUp ∷ []);
         leads_to = leads_first (scene m) DiscardOpen [] (At Runnable) _ (ap not h) refl;
         writes = sets;
         idle = (refl, refl);
-        placing = takes_future refl refl refl (inr (refl, refl)) there (λ _ h. h);
+        placing = takes_future refl refl refl (inr refl) there.future there.output (λ _ h. h);
       }
 
   pub answers_ready : (ds : List Deed) (us : List Member) (l : List (ℕ × Slot F T A)) → Owes F T A limit answering_ready (λ n. n) Polling ds us l
@@ -149,7 +148,7 @@ module _ (F T A : Type 0) (limit : ℕ) where
     leads_to = refl;
     writes = e;
     idle = (refl, refl);
-    placing = stays refl refl (inl refl) (inr (refl, refl));
+    placing = stays refl refl (inl refl) (inr refl);
   }
 
   pub answers_pending : (ds : List Deed) (us : List Member) (l : List (ℕ × Slot F T A)) → Owes F T A limit answering_pending (λ n. n) Polling ds us l
@@ -164,14 +163,14 @@ module _ (F T A : Type 0) (limit : ℕ) where
             (ap (λ b. if b then Some (changes_slots (scene m) m.word (record (m.slots) { future = false }) PendingFutureDropped (FutureDropped ∷ [])) else None) h));
         writes = e;
         idle = (refl, refl);
-        placing = stays refl refl (inl refl) (inr (refl, refl));
+        placing = stays refl refl (inl refl) (inr refl);
       }
       by false h = record {
         outcome = leaves_slots (scene m) m.word Pending [] (FuturePending ∷ []);
         leads_to = refl;
         writes = e;
         idle = (refl, refl);
-        placing = stays refl refl (inl refl) (inr (refl, refl));
+        placing = stays refl refl (inl refl) (inr refl);
       }
 
   -- the task was closed meanwhile, and its future is dropped next
@@ -182,38 +181,38 @@ module _ (F T A : Type 0) (limit : ℕ) where
         (ap (λ b. if b then Some (changes_slots (scene m) m.word (record (m.slots) { future = false }) PendingFutureDropped (FutureDropped ∷ [])) else None) h);
     writes = e;
     idle = (refl, refl);
-    placing = stays refl refl (inl refl) (inr (refl, refl));
+    placing = stays refl refl (inl refl) (inr refl);
   }
 
-  pub ends_closed : (ds : List Deed) (us : List Member) (y z : Slot F T A) (l : List (ℕ × Slot F T A)) → l ≡ future_first y z (rest (rest l)) → Owes F T A limit ending_closed (λ n. bit_and n 18446744073709551612) PendingFutureDropped ds us l
-  ends_closed ds us y z l has m f x e lt = record {
+  pub ends_closed : (ds : List Deed) (us : List Member) (l : List (ℕ × Slot F T A)) → l ≡ future_first Empty (rest (rest l)) → Owes F T A limit ending_closed (λ n. bit_and n 18446744073709551612) PendingFutureDropped ds us l
+  ends_closed ds us l has m f x e lt = record {
     outcome =
         leaves_slots (scene m) (record (m.word) { running = false; scheduled = false }) (notifies m.word.awaiter OfRun) [] (RunEnded ∷ []);
     leads_to = leads_first (scene m) EndClosed [] PendingFutureDropped _ gone.2 refl;
     writes = fetch_and-scheduled_running x lt ∙ ap (λ (w : State). number_of (record w { scheduled = false; running = false })) (ap state_of e ∙ state_of_number_of m.word);
     idle = (refl, refl);
-    placing = gives_work y z refl (due_work m.word.awaiter) (due_free m.word.awaiter) (inr (refl, refl)) (inl has) (λ e. never (sym gone.0 ∙ e)) (λ e. never (sym gone.1 ∙ e));
+    placing = gives_work Empty Empty refl (due_work m.word.awaiter) (due_free m.word.awaiter) (inr refl) (inl has) (lies_nowhere IsFuture m.slots.future gone.0) (lies_nowhere IsOutput m.slots.output gone.1);
   }
     where
       gone : (m.slots.future ≡ false) × (m.slots.output ≡ false) × (m.word.closed ≡ true)
       gone = cleared_facts m.limit m.word m.slots m.trace (census m.parties) f.invariant.holds (counted (λ c. c.cleared) (λ a b. refl) m.parties f.number PendingFutureDropped f.stands)
 
-  pub drops_output : (due : Bool) (ds : List Deed) (us : List Member) (y z : Slot F T A) (l : List (ℕ × Slot F T A)) → l ≡ output_first y z (rest (rest l)) → Owes F T A limit dropping_output (λ n. n) (OutputInHand due) ds us l
-  drops_output due ds us y z l has m f x e lt = record {
+  pub drops_output : (due : Bool) (ds : List Deed) (us : List Member) (l : List (ℕ × Slot F T A)) → l ≡ output_first Empty (rest (rest l)) → Owes F T A limit dropping_output (λ n. n) (OutputInHand due) ds us l
+  drops_output due ds us l has m f x e lt = record {
     outcome = changes_slots (scene m) m.word (record (m.slots) { output = false }) (notifies due OfRun) (OutputDropped ∷ []);
     leads_to = refl;
     writes = e;
     idle = (refl, refl);
-    placing = gives_work y z refl (due_work due) (due_free due) (inr (refl, refl)) (inr has) (λ e. never (sym gone ∙ e)) (λ e. never e);
+    placing = gives_work Empty Empty refl (due_work due) (due_free due) (inr refl) (inr has) (lies_nowhere IsFuture m.slots.future gone) tt;
   }
     where
       gone : m.slots.future ≡ false
       gone = output_facts m.limit m.word m.slots m.trace (census m.parties) f.invariant.holds (counted (λ c. c.outputs) (λ a b. refl) m.parties f.number (OutputInHand due) f.stands)
 
   -- the run of a Ready future
-  pub completes : (w : State) (ds : List Deed) (us : List Member) (y z : Slot F T A) (l : List (ℕ × Slot F T A)) → l ≡ output_first y z (rest (rest l)) → IsOutput z
+  pub completes : (w : State) (ds : List Deed) (us : List Member) (z : Slot F T A) (l : List (ℕ × Slot F T A)) → l ≡ output_first z (rest (rest l)) → IsOutput z
       → (m : Machine) → Finds limit Ready ds us m → number_of w ≡ number_of m.word → Steps m Ready (completing m.word) (number_of (completed_word w)) l
-  completes w ds us y z l has is m f e = by m.word.task refl
+  completes w ds us z l has is m f e = by m.word.task refl
     where
       gone : Slots
       gone = record (m.slots) { future = false }
@@ -221,13 +220,9 @@ module _ (F T A : Type 0) (limit : ℕ) where
       stored : Slots
       stored = record gone { output = true }
 
-      placed : (b a : Bool) (v : State) (told : List Event) → how_often Event.Empties told ≡ 0 → Placing m Ready (record { word = v; slots = stored; next = if b then OutputInHand a else notifies a OfRun; born = []; told = told }) l
-      placed true a v told none = stays refl refl (inl refl) (inr (refl, none))
-      placed false a v told none = gives_work y z refl (due_work a) (due_free a) (inr (refl, none)) (inr has) (λ e. never e) (λ e. is)
-
-      told_closing : (b : Bool) → how_often Event.Empties (((if b then Completes ∷ RunEnded ∷ [] else Closes ∷ Completes ∷ RunEnded ∷ []) ++ []) ++ FutureDropped ∷ []) ≡ 0
-      told_closing true = refl
-      told_closing false = refl
+      placed : (b a : Bool) (v : State) (told : List Event) → Placing m Ready (record { word = v; slots = stored; next = if b then OutputInHand a else notifies a OfRun; born = []; told = told }) l
+      placed true a v told = stays refl refl (inl refl) (inr refl)
+      placed false a v told = gives_work Empty z refl (due_work a) (due_free a) (inr refl) (inr has) tt is
 
       by : (b : Bool) → m.word.task ≡ b → Steps m Ready (if b then DropFuture ∷ StoreOutput ∷ Complete ∷ [] else DropFuture ∷ StoreOutput ∷ CompleteDetached ∷ []) (number_of (completed_word w)) l
       by true h = record {
@@ -236,7 +231,7 @@ module _ (F T A : Type 0) (limit : ℕ) where
             (leads_first (spot m.limit m.word stored) Complete [] OutputStored (leaves_slots (spot m.limit m.word stored) (written Complete m.word) (if m.word.closed then OutputInHand m.word.awaiter else notifies m.word.awaiter OfRun) [] (Completes ∷ RunEnded ∷ [])) h refl);
         writes = ap number_of (ap completed_word (same_word w m.word _ e refl) ∙ ap (λ b. if b then written Complete m.word else written CompleteDetached m.word) h);
         idle = (refl, refl);
-        placing = placed m.word.closed m.word.awaiter (written Complete m.word) (Completes ∷ RunEnded ∷ FutureDropped ∷ []) refl;
+        placing = placed m.word.closed m.word.awaiter (written Complete m.word) (Completes ∷ RunEnded ∷ FutureDropped ∷ []);
       }
       by false h = record {
         outcome = record { word = written CompleteDetached m.word; slots = stored; next = OutputInHand m.word.awaiter; born = []; told = (closing m.word (Completes ∷ RunEnded ∷ []) ++ []) ++ FutureDropped ∷ [] };
@@ -244,15 +239,15 @@ module _ (F T A : Type 0) (limit : ℕ) where
             (leads_first (spot m.limit m.word stored) CompleteDetached [] OutputStored (leaves_slots (spot m.limit m.word stored) (written CompleteDetached m.word) (OutputInHand m.word.awaiter) [] (closing m.word (Completes ∷ RunEnded ∷ []))) (ap not h) refl);
         writes = ap number_of (ap completed_word (same_word w m.word _ e refl) ∙ ap (λ b. if b then written Complete m.word else written CompleteDetached m.word) h);
         idle = (refl, refl);
-        placing = stays refl refl (inl refl) (inr (refl, told_closing m.word.closed));
+        placing = stays refl refl (inl refl) (inr refl);
       }
 
   -- the run of a Pending future, on an open task
-  pub ends_pending : (w : State) (ds : List Deed) (us : List Member) (y z : Slot F T A) (l : List (ℕ × Slot F T A)) → l ≡ future_first y z (rest (rest l)) → IsFuture y → w.closed ≡ false
+  pub ends_pending : (w : State) (ds : List Deed) (us : List Member) (y : Slot F T A) (l : List (ℕ × Slot F T A)) → l ≡ future_first y (rest (rest l)) → IsFuture y → w.closed ≡ false
       → (m : Machine) → Finds limit Pending ds us m → number_of w ≡ number_of m.word → Steps m Pending (ending_pending m.word) (number_of (after_pending w)) l
-  ends_pending w ds us y z l has is unclosed m f e = by m.word.scheduled (nat_lt 1 m.word.references || m.word.task) refl refl
+  ends_pending w ds us y l has is unclosed m f e = by m.word.scheduled (nat_lt 1 m.word.references || m.word.task) refl refl
     where
-      facts : (1 ≤ m.word.references) × (m.slots.output ≡ false)
+      facts : (1 ≤ m.word.references) × (m.slots.output ≡ false) × (m.slots.future ≡ true)
       facts = pending_facts m.limit m.word m.slots m.trace (census m.parties) f.invariant.holds (counted (λ c. c.pending) (λ a b. refl) m.parties f.number Pending f.stands)
 
       same : w ≡ m.word
@@ -274,19 +269,19 @@ module _ (F T A : Type 0) (limit : ℕ) where
         leads_to = leads_first (scene m) Reschedule [] Pending _ (both (ap not not_closed) h) refl;
         writes = ap number_of (wrote ∙ ap (λ b. if b then written Reschedule m.word else (if shared then written EndIdle m.word else written EndOrphaned m.word)) h);
         idle = (refl, refl);
-        placing = gives_work y z refl refl refl (inr (refl, refl)) (inl has) (λ e. is) (λ e. never (sym facts.1 ∙ e));
+        placing = gives_work y Empty refl refl refl (inr refl) (inl has) (lies_there IsFuture m.slots.future y facts.2 is) (lies_nowhere IsOutput m.slots.output facts.1);
       }
       by false true h k = record {
         outcome = leaves_slots (scene m) (written EndIdle m.word) (At Ended) [] (CallEnds (Ran false) ∷ RunEnded ∷ []);
         leads_to = leads_first (scene m) EndIdle (EndCall ∷ []) Pending (leaves_slots (scene m) (written EndIdle m.word) (CallEnding (Ran false) Ended) [] (RunEnded ∷ [])) (three m.word.closed m.word.scheduled shared not_closed h k) refl;
         writes = ap number_of (wrote ∙ (ap (λ b. if b then written Reschedule m.word else (if shared then written EndIdle m.word else written EndOrphaned m.word)) h ∙ ap (λ b. if b then written EndIdle m.word else written EndOrphaned m.word) k));
         idle = (refl, refl);
-        placing = gives_work y z refl refl refl (inr (refl, refl)) (inl has) (λ e. is) (λ e. never (sym facts.1 ∙ e));
+        placing = gives_work y Empty refl refl refl (inr refl) (inl has) (lies_there IsFuture m.slots.future y facts.2 is) (lies_nowhere IsOutput m.slots.output facts.1);
       }
       by false false h k = record {
         outcome = leaves_slots (scene m) (written EndOrphaned m.word) (Deliverer false (ThenEnds (Ran false))) [] (Made ByClosing ∷ Closes ∷ RunEnded ∷ []);
         leads_to = leads_first (scene m) EndOrphaned [] Pending _ (four m.word.closed m.word.scheduled (nat_eq m.word.references 1) m.word.task not_closed h (is_last m.word.references m.word.task facts.0 k)) refl;
         writes = ap number_of (wrote ∙ (ap (λ b. if b then written Reschedule m.word else (if shared then written EndIdle m.word else written EndOrphaned m.word)) h ∙ ap (λ b. if b then written EndIdle m.word else written EndOrphaned m.word) k));
         idle = (refl, refl);
-        placing = gives_work y z refl refl refl (inr (refl, refl)) (inl has) (λ e. is) (λ e. never (sym facts.1 ∙ e));
+        placing = gives_work y Empty refl refl refl (inr refl) (inl has) (lies_there IsFuture m.slots.future y facts.2 is) (lies_nowhere IsOutput m.slots.output facts.1);
       }

@@ -5,7 +5,7 @@ use native.Mathlib.Decide.{ℕ_discrete}
 use lib.ListN.{get_elem?}
 use Rattle.atomic_table.specs.Table.{State as Board, Splits}
 use Rattle.atomic_table.proofs.Lists.{at_set, set_here, set_else, set_again, at_longer}
-use Rattle.task_steps.proofs.Vocabulary.{number_of, Event, HandedOver, how_often, Position, OnceDelivered, At, Deliverer, CallEnding, Runnable, Ended, HandOver, ThenEnds, ThenTask, ThenNotifies, Nothing, Outcome, leaves_slots, after_handing_over, Machine, scene, owns_awaiter, laws_of, Slot, Deed, Member}
+use Rattle.task_steps.proofs.Vocabulary.{number_of, Event, HandedOver, Position, OnceDelivered, At, Deliverer, CallEnding, Runnable, Ended, HandOver, ThenEnds, ThenTask, ThenNotifies, Nothing, Outcome, leaves_slots, after_handing_over, Machine, scene, owns_awaiter, laws_of, Slot, Deed, Member}
 use Rattle.task_steps.proofs.Vocabulary.{Spawned, View}
 use Rattle.task_steps.specs.Rule.{deed, member, view, fresh, opening_at, Entry, Explains, has_work, HomesAgree, Running, RuleHolds}
 use Rattle.task_steps.specs.Standing.{hands_over, handed_over}
@@ -116,9 +116,9 @@ module _ (F T A : Type 0) (limit : ℕ) where
   -- a party hands a Runnable over
   hands_over_at : (id : ℕ) (v : View) (l : ℕ) (ds : List Deed) (p q : Position) (told : List Event) → v ≡ view l (member p ds ∷ [])
       → ((m : Machine) → leads (scene m) (HandOver ∷ []) p ≡ Some (leaves_slots (scene m) m.word q (At Runnable ∷ []) told)) → handed_over p ≡ q
-      → has_work p ≡ false → has_work q ≡ false → owns_awaiter p ≡ false → owns_awaiter q ≡ false → how_often Event.Empties told ≡ 0
+      → has_work p ≡ false → has_work q ≡ false → owns_awaiter p ≡ false → owns_awaiter q ≡ false
       → Splits Rule id v (handing_over v) (runnable_of v)
-  hands_over_at id v l ds p q told is allows there w0 w1 a0 a1 quiet s r at =
+  hands_over_at id v l ds p q told is allows there w0 w1 a0 a1 s r at =
       let run = r.running in let m : Machine = run.machine in let lt = inside s.views id v at in
       let t0 = subst (λ vs. Explains limit vs run.log m) (sym (ap (λ z. set s.views id z) (sym is) ∙ set_again s.views id v at)) run.told in
       let o : Outcome = leaves_slots (scene m) m.word q (At Runnable ∷ []) told in
@@ -131,7 +131,6 @@ module _ (F T A : Type 0) (limit : ℕ) where
         here = many_at has_work m.parties k.number p k.stands;
         here_too = many_at owns_awaiter m.parties k.number p k.stands;
         slots_is = f.slots_is;
-        emptied = f.emptied;
         one_worker = one_work f.machine i;
         one_owner = (laws_of f.machine i).awaiter;
       } in
@@ -140,7 +139,7 @@ module _ (F T A : Type 0) (limit : ℕ) where
       let housed : HomesAgree run.filled f.machine s.homes = record {
         future = λ b z. (same_work F T A limit run.filled m p o f.machine s.homes s.homes a run.housed (w1 ∙ sym w0) (inr (refl, refl)) (refl, refl) z).0 b;
         output = λ z. (same_work F T A limit run.filled m p o f.machine s.homes s.homes a run.housed (w1 ∙ sym w0) (inr (refl, refl)) (refl, refl) z).1;
-        awaiter = λ z. same_awaiter F T A limit run.filled m p o f.machine s.homes s.homes a run.housed (a1 ∙ sym a0) (inr (refl, quiet)) refl z;
+        awaiter = λ z. same_awaiter F T A limit run.filled m p o f.machine s.homes s.homes a run.housed (a1 ∙ sym a0) (inr refl) refl z;
       } in
       let views : set s.views id (view l (u ∷ [])) ++ view l (n ∷ []) ∷ [] ≡ set s.views id (handing_over v) ++ runnable_of v ∷ [] =
       (λ j. set s.views id ((ap (λ z. view l (member z (deed HandOver None ∷ ds) ∷ [])) (sym there) ∙ ap handing_over (sym is)) j) ++ (ap runnable_of (sym is)) j ∷ []) in
@@ -152,6 +151,6 @@ module _ (F T A : Type 0) (limit : ℕ) where
       only u n (suc j) x e = absurd (some-ne-none x (sym e))
 
   pub splits : (id : ℕ) (v : View) (l : ℕ) (ds : List Deed) (p : Position) → hands_over p ≡ true → v ≡ view l (member p ds ∷ []) → Splits Rule id v (handing_over v) (runnable_of v)
-  splits id v l ds (Deliverer woken next) e is = hands_over_at id v l ds (Deliverer woken next) (after_handing_over next) (HandedOver woken ∷ []) is (λ m. refl) refl refl (no_work_after next) refl (no_awaiter_after next) refl
-  splits id v l ds (At Runnable) e is = hands_over_at id v l ds (At Runnable) (CallEnding Nothing Ended) (HandedOver false ∷ []) is (λ m. refl) refl refl refl refl refl refl
+  splits id v l ds (Deliverer woken next) e is = hands_over_at id v l ds (Deliverer woken next) (after_handing_over next) (HandedOver woken ∷ []) is (λ m. refl) refl refl (no_work_after next) refl (no_awaiter_after next)
+  splits id v l ds (At Runnable) e is = hands_over_at id v l ds (At Runnable) (CallEnding Nothing Ended) (HandedOver false ∷ []) is (λ m. refl) refl refl refl refl refl
   splits id v l ds _ e is = absurd (cc)

@@ -1,22 +1,20 @@
 -- What each step of a Task owes beside its polls.
-use Rattle.std.proofs.Common.{◌≡◌, ℕ, ◌+◌, ◌≤◌, Bool, true, false, not, ◌&&◌, ◌||◌, Option, Some, None, List, [], ◌∷◌, refl, sym, ap, ◌∙◌, subst, inr, arith}
+use Rattle.std.proofs.Common.{◌≡◌, ℕ, ◌+◌, Bool, true, false, not, ◌&&◌, ◌||◌, Option, Some, None, List, [], ◌∷◌, refl, sym, ap, ◌∙◌, subst, inr, arith}
 use Rattle.std.specs.Prelude.{bit_and, nat_lt, nat_eq, if◌then◌else◌}
 use Rattle.std.proofs.lemmas.Bool.Decides.{nat_tests}
 use Rattle.atomic_table.specs.Table.{rest}
 use Rattle.task_steps.proofs.Vocabulary.{State, state_of, number_of, is_open, orphan_word, CallEnds, Closes, Made, ByClosing, TaskGivenUp, OutputDropped, Nothing, Position, At, Deliverer, Emptier, OutputCloser, Detacher, Task, Ended, ThenEnds, OfCancel, Act, CancelOver}
 use Rattle.task_steps.proofs.Vocabulary.{CancelBusy, CancelIdle, GiveUpOutput, DetachOrphan, DetachLast, Detach, EndCall, found, written, Outcome, leaves_slots, changes_slots, goes, where_found, notifies, after_cancelling, Machine, scene, owns_awaiter}
-use Rattle.task_steps.proofs.Vocabulary.{census, weigh, state_of_number_of, fetch_and-task, Slot, Deed, Member}
-use Rattle.task_steps.specs.Rule.{has_work}
+use Rattle.task_steps.proofs.Vocabulary.{census, state_of_number_of, fetch_and-task, Slot, Empty, Deed, Member}
+use Rattle.task_steps.specs.Rule.{has_work, IsFuture}
 use Rattle.task_steps.specs.Steps.{saw_closed, output_first, and_then, spot}
 use Rattle.task_steps.specs.Scripts.{dropping_output}
 use Rattle.task_steps.specs.WakerScripts.{is_over}
 use Rattle.task_steps.specs.TaskScripts.{finding_cancelled, cancelling, cancelled, detaching, detached, giving_task_up}
-use Rattle.task_steps.proofs.Bools.{never}
 use Rattle.task_steps.proofs.Acts.{leads, both}
 use Rattle.task_steps.proofs.Facts.{counted}
-use Rattle.task_steps.proofs.AwaiterOwed.{not_emptied}
-use Rattle.task_steps.proofs.PollOwed.{output_there, future_gone}
-use Rattle.task_steps.proofs.Advance.{Finds, stays, gives_work, takes_output, takes_awaiter, Steps, keeps_places}
+use Rattle.task_steps.proofs.PollOwed.{output_lies, future_gone}
+use Rattle.task_steps.proofs.Advance.{Finds, stays, gives_work, lies_nowhere, takes_output, takes_awaiter, Steps, keeps_places}
 use Rattle.task_steps.proofs.Allowed.{Owes, OwesEnd}
 
 -- acts in a row, by whether the first finds its word
@@ -68,7 +66,7 @@ module _ (F T A : Type 0) (limit : ℕ) where
         leads_to = finds_it m (At (Task n)) CancelBusy [] (both (is_open m.word) (m.word.scheduled || m.word.running) now is);
         writes = refl;
         idle = (refl, refl);
-        placing = stays i.0 i.1 (inr (refl, refl)) (inr (refl, refl));
+        placing = stays i.0 i.1 (inr (refl, refl)) (inr refl);
       }
       closes false is = keeps_places (leaves_slots (scene m) (record (m.word) { scheduled = true; closed = true; references = m.word.references + 1 }) (Deliverer false (after_cancelling m.word.awaiter n)) [] (Made ByClosing ∷ Closes ∷ []))
           (finds_it m (At (Task n)) CancelIdle [] (neither (is_open m.word) m.word.scheduled m.word.running now is)) refl refl
@@ -82,18 +80,18 @@ module _ (F T A : Type 0) (limit : ℕ) where
     leads_to = finds_it m p Detach (EndCall ∷ []) (both (nat_lt 0 m.word.references) (not (m.word.completed && not m.word.closed)) counted (over (m.word.completed && not m.word.closed) claimed)) ∙ goes;
     writes = e;
     idle = (refl, refl);
-    placing = stays (sym free) (sym bare) (inr (refl, refl)) (inr (refl, refl));
+    placing = stays (sym free) (sym bare) (inr (refl, refl)) (inr refl);
   }
 
-  gives_last : (p : Position) (ds : List Deed) (us : List Member) (m : Machine) → Finds limit p ds us m → (x : ℕ) (l : List (ℕ × Slot F T A)) → has_work p ≡ false → owns_awaiter p ≡ false → 1 ≤ (weigh p).tasks
+  gives_last : (p : Position) (m : Machine) (x : ℕ) (l : List (ℕ × Slot F T A)) → has_work p ≡ false → owns_awaiter p ≡ false
       → leads_if m p DetachLast [] true ≡ Some (leaves_slots (scene m) (record (m.word) { task = false }) (Emptier None Nothing) [] (TaskGivenUp ∷ []))
       → x ≡ number_of (record (m.word) { task = false }) → nat_lt 0 m.word.references ≡ false → m.word.closed ≡ true → Steps m p (DetachLast ∷ []) x l
-  gives_last p ds us m f x l free bare one goes e none closed = let left = not_emptied m.limit m.word m.slots m.trace (census m.parties) f.invariant.holds (let h = counted (λ c. c.tasks) (λ a b. refl) m.parties f.number p f.stands in omega arith) in record {
+  gives_last p m x l free bare goes e none closed = record {
     outcome = leaves_slots (scene m) (record (m.word) { task = false }) (Emptier None Nothing) [] (TaskGivenUp ∷ []);
     leads_to = finds_it m p DetachLast [] (both (nat_eq m.word.references 0) m.word.closed (none_left m.word.references none) closed) ∙ goes;
     writes = e;
     idle = (refl, refl);
-    placing = takes_awaiter bare refl (sym free) (inr (refl, refl)) left (λ y h. (m.slots.awaiter, h));
+    placing = takes_awaiter bare refl (sym free) (inr (refl, refl)) (λ y h. (m.slots.awaiter, h));
   }
 
   pub detaches : (n : ℕ) (ds : List Deed) (us : List Member) (l : List (ℕ × Slot F T A)) (w : State) (old new : ℕ) → old ≡ number_of w → new ≡ number_of (detached w)
@@ -111,20 +109,20 @@ module _ (F T A : Type 0) (limit : ℕ) where
         leads_to = finds_it m (At (Task n)) GiveUpOutput [] claimed;
         writes = refl;
         idle = (refl, refl);
-        placing = takes_output refl refl refl (inr (refl, refl)) (output_there m.limit m.word m.slots m.trace (census m.parties) f.invariant.holds claimed) (λ _ h. h);
+        placing = takes_output refl refl refl (inr refl) (output_lies m f.invariant claimed).0 (output_lies m f.invariant claimed).1 (λ _ h. h);
       }
       gives false true c claimed counted closed = gives_reference (At (Task n)) m (number_of (record (m.word) { task = false })) l refl refl refl refl counted claimed
-      gives false false true claimed counted closed = gives_last (At (Task n)) ds us m f (number_of (record (m.word) { task = false })) l refl refl (omega arith) refl refl counted closed
+      gives false false true claimed counted closed = gives_last (At (Task n)) m (number_of (record (m.word) { task = false })) l refl refl refl refl counted closed
       gives false false false claimed counted closed = keeps_places (leaves_slots (scene m) orphan_word (Deliverer false (ThenEnds Nothing)) [] (Made ByClosing ∷ Closes ∷ TaskGivenUp ∷ []))
           (finds_it m (At (Task n)) DetachOrphan [] (last_orphan m.word.references m.word.completed m.word.closed counted claimed closed)) refl refl
 
-  pub drops_output : (ds : List Deed) (us : List Member) (y z : Slot F T A) (l : List (ℕ × Slot F T A)) → l ≡ output_first y z (rest (rest l)) → Owes F T A limit dropping_output (λ n. n) OutputCloser ds us l
-  drops_output ds us y z l has m f x e lt = let none = future_gone m.limit m.word m.slots m.trace (census m.parties) f.invariant.holds (counted (λ c. c.claims) (λ a b. refl) m.parties f.number OutputCloser f.stands) in record {
+  pub drops_output : (ds : List Deed) (us : List Member) (l : List (ℕ × Slot F T A)) → l ≡ output_first Empty (rest (rest l)) → Owes F T A limit dropping_output (λ n. n) OutputCloser ds us l
+  drops_output ds us l has m f x e lt = let none = future_gone m.limit m.word m.slots m.trace (census m.parties) f.invariant.holds (counted (λ c. c.claims) (λ a b. refl) m.parties f.number OutputCloser f.stands) in record {
     outcome = changes_slots (scene m) m.word (record (m.slots) { output = false }) Detacher (OutputDropped ∷ []);
     leads_to = refl;
     writes = e;
     idle = (refl, refl);
-    placing = gives_work y z refl refl refl (inr (refl, refl)) (inr has) (λ e. never (sym none ∙ e)) (λ e. never e);
+    placing = gives_work Empty Empty refl refl refl (inr refl) (inr has) (lies_nowhere IsFuture m.slots.future none) tt;
   }
 
   pub gives_task_up : (ds : List Deed) (us : List Member) (l : List (ℕ × Slot F T A)) → saw_closed ds ≡ true → Owes F T A limit giving_task_up (λ n. bit_and n 18446744073709551599) Detacher ds us l
@@ -135,4 +133,4 @@ module _ (F T A : Type 0) (limit : ℕ) where
 
       gives : (b : Bool) → nat_lt 0 m.word.references ≡ b → Steps m Detacher (if b then Detach ∷ EndCall ∷ [] else DetachLast ∷ []) (bit_and x 18446744073709551599) l
       gives true counted = gives_reference Detacher m (bit_and x 18446744073709551599) l refl refl refl wrote counted (closed_claimed m.word.completed m.word.closed (f.closed saw))
-      gives false counted = gives_last Detacher ds us m f (bit_and x 18446744073709551599) l refl refl (omega arith) refl wrote counted (f.closed saw)
+      gives false counted = gives_last Detacher m (bit_and x 18446744073709551599) l refl refl refl wrote counted (f.closed saw)

@@ -4,7 +4,7 @@ use Rattle.std.specs.Prelude.{nat_lt, nat_le, nat_eq, if◌then◌else◌}
 use Rattle.std.proofs.lemmas.Bool.Decides.{nat_tests}
 use Rattle.task_steps.proofs.Vocabulary.{State, state_of, number_of, is_open, orphan_word, Event, WakerGained, WakerGivenUp, WakeStep, Made, ByWake, ByClosing, Closes, CallBegins, CallEnds, Nothing, Gained, Rest, Runnable, Waker, Lent}
 use Rattle.task_steps.proofs.Vocabulary.{Ended, ThenEnds, At, CallEnding, Deliverer, Emptier, OrphanHolder, GainReference, FindLimit, RefuseGain, DropWaker, DropLastWaker, OrphanTask, WakeOver, WakeScheduled, WakeRunning, WakeIdle}
-use Rattle.task_steps.proofs.Vocabulary.{EndCall, written, row, Slots, Outcome, when, is_held, may_ask, leaves_slots, may_gain, may_wake, Machine, scene, how_often, Census, census, Holds, state_of_number_of, fetch_sub-reference, Slot}
+use Rattle.task_steps.proofs.Vocabulary.{EndCall, written, row, Slots, Outcome, when, is_held, may_ask, leaves_slots, may_gain, may_wake, Machine, scene, Census, census, Holds, state_of_number_of, fetch_sub-reference, Slot}
 use Rattle.task_steps.proofs.Vocabulary.{Deed, Member}
 use Rattle.task_steps.specs.Beside.{may_call, may_change}
 use Rattle.task_steps.specs.WakerScripts.{at_limit, finding_limit, gaining, refusing_gain, is_over, finding_over, waking_task, woken_word, dropping_waker, closing_orphan}
@@ -37,12 +37,9 @@ fourth o s r e f g = grind arith
 is_last : (n : ℕ) (t o : Bool) → 1 ≤ n → (nat_lt 1 n || t) ≡ false → o ≡ true → (nat_eq n 1 && not t && o) ≡ true
 is_last n t o h e f = grind (arith, nat_tests)
 
--- who drops a waker holds a reference, and the slots were not emptied
+-- who drops a waker holds a reference
 holds_one : (limit : ℕ) (w : State) (slots : Slots) (t : List Event) (c : Census) → Holds limit w slots t c → 1 ≤ c.wakers → 1 ≤ w.references
 holds_one limit w slots t c h e = grind arith
-
-not_emptied : (limit : ℕ) (w : State) (slots : Slots) (t : List Event) (c : Census) → Holds limit w slots t c → 1 ≤ c.wakers → how_often Event.Empties t ≡ 0
-not_emptied limit w slots t c h e = grind (arith, nat_tests)
 
 -- a wake that finds the task over
 finds_it_over : (r : Rest) (m : Machine) → may_call r ≡ true → is_open m.word ≡ false → may_wake (scene m) r ≡ true
@@ -144,7 +141,7 @@ module _ (F T A : Type 0) (limit : ℕ) where
         leads_to = leads_first (scene m) DropLastWaker [] (At Waker) _ (is_last m.word.references m.word.task (not (is_open m.word)) some shared (over (is_open m.word) now)) refl;
         writes = fewer;
         idle = (refl, refl);
-        placing = takes_awaiter refl refl refl (inr (refl, refl)) (not_emptied m.limit m.word m.slots m.trace (census m.parties) f.invariant.holds here) (λ y w. (m.slots.awaiter, w));
+        placing = takes_awaiter refl refl refl (inr (refl, refl)) (λ y w. (m.slots.awaiter, w));
       }
 
   -- the last waker closes the task

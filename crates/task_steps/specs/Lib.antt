@@ -1,4 +1,5 @@
 pub mod Rule
+pub mod Left
 pub mod Steps
 pub mod Deeds
 pub mod Standing

@@ -18,8 +18,6 @@ use Rattle.task_core.specs.declared.acts.Act.TheVariants.{StartPoll, AnswerPendi
 use Rattle.task_core.specs.declared.acts.Act.TheVariants.{HandOutOutput, CloneAwaiter, RefuseClone, StoreAwaiter, TakeAwaiter, WakeAwaiter}
 use Rattle.task_core.specs.declared.acts.Act.TheVariants.{DropAwaiter, HandOver, EmptySlots, RefuseGain, EndCall}
 use Rattle.task_laws.specs.Machine.{Machine, Step, opening, step, how_many}
-use Rattle.task_laws.specs.Event.{Event}
-use Rattle.task_laws.specs.Laws.{how_often}
 use Rattle.task_laws.specs.Holders.{owns_awaiter}
 use Rattle.task_steps.specs.declared.table.Slot.{Slot}
 use Rattle.task_steps.specs.declared.table.Slot.TheVariants.{Empty, Future, Output, Awaiter}
@@ -202,6 +200,11 @@ module _ {F T A : Type 0} where
   IsAwaiter (Future f) = ⊥
   IsAwaiter (Output x) = ⊥
 
+  -- such a value lies there where the machine says so, and else nothing
+  abbrev pub Lies : (Slot F T A → Type 0) → Bool → Slot F T A → Type 0
+  Lies Is true y = Is y
+  Lies Is false y = IsEmpty y
+
   -- the awaiter slot holds what the machine says
   abbrev pub Waits : Option ℕ → Slot F T A → Type 0
   Waits None y = IsEmpty y
@@ -214,9 +217,9 @@ module _ {F T A : Type 0} where
   -- a place that no party has is at home, with what the machine says: 0 is the future's, once it was put in, 1 the output's, 2 the
   -- awaiter's
   pub record HomesAgree (filled : Bool) (m : Machine) (homes : List (maybe.Option (Slot F T A))) : Type 0 where
-    pub future : filled ≡ true → how_many has_work m.parties ≡ 0 → AtHome homes 0 (λ y. m.slots.future ≡ true → IsFuture y)
-    pub output : how_many has_work m.parties ≡ 0 → AtHome homes 1 (λ z. m.slots.output ≡ true → IsOutput z)
-    pub awaiter : how_many owns_awaiter m.parties ≡ 0 → how_often Event.Empties m.trace ≡ 0 → AtHome homes 2 (Waits m.slots.awaiter)
+    pub future : filled ≡ true → how_many has_work m.parties ≡ 0 → AtHome homes 0 (Lies IsFuture m.slots.future)
+    pub output : how_many has_work m.parties ≡ 0 → AtHome homes 1 (Lies IsOutput m.slots.output)
+    pub awaiter : how_many owns_awaiter m.parties ≡ 0 → AtHome homes 2 (Waits m.slots.awaiter)
 
   -- until the future was put in, its place is empty, or with the opening seat
   pub record Unfilled (limit : ℕ) (s : Board (Slot F T A) View) : Type 0 where

@@ -12,6 +12,7 @@ use Rattle.task_core.specs.Rows.{found, written}
 use Rattle.task_laws.specs.Table.{Slots, Scene, Outcome, leaves_slots, goes}
 use Rattle.task_laws.specs.Holders.{owns_awaiter}
 use Rattle.task_steps.specs.declared.table.Slot.{Slot}
+use Rattle.task_steps.specs.declared.table.Slot.TheVariants.{Empty}
 use Rattle.task_steps.specs.declared.table.Deed.{Deed}
 use Rattle.task_steps.specs.declared.table.Member.{Member}
 use Rattle.task_steps.specs.declared.table.View.{View}
@@ -79,21 +80,21 @@ acted w slots acts v =
     view v.limit (member (next_of o) (noted w acts u.deeds) ∷ (tail_of v.members ++ map fresh (born_of o)))
 
 module _ {F T A : Type 0} where
-  -- the places of future and output, that of the future in front, before others
-  abbrev pub future_first : Slot F T A → Slot F T A → List (ℕ × Slot F T A) → List (ℕ × Slot F T A)
-  future_first y z l = (0, y) ∷ (1, z) ∷ l
+  -- the places of future and output, that of the future in front, before others; in the output's is nothing
+  abbrev pub future_first : Slot F T A → List (ℕ × Slot F T A) → List (ℕ × Slot F T A)
+  future_first y l = (0, y) ∷ (1, Empty) ∷ l
 
-  -- .. that of the output in front
-  abbrev pub output_first : Slot F T A → Slot F T A → List (ℕ × Slot F T A) → List (ℕ × Slot F T A)
-  output_first y z l = (1, z) ∷ (0, y) ∷ l
+  -- .. that of the output in front; in the future's is nothing
+  abbrev pub output_first : Slot F T A → List (ℕ × Slot F T A) → List (ℕ × Slot F T A)
+  output_first z l = (1, z) ∷ (0, Empty) ∷ l
 
   -- both places are taken for the future
   abbrev pub TakesFuture : List (ℕ × Slot F T A) → List (ℕ × Slot F T A) → Type 0
-  TakesFuture l l' = (y : Slot F T A) × (z : Slot F T A) × IsFuture y × (l' ≡ future_first y z l)
+  TakesFuture l l' = (y : Slot F T A) × IsFuture y × (l' ≡ future_first y l)
 
   -- .. for the output
   abbrev pub TakesOutput : List (ℕ × Slot F T A) → List (ℕ × Slot F T A) → Type 0
-  TakesOutput l l' = (y : Slot F T A) × (z : Slot F T A) × IsOutput z × (l' ≡ output_first y z l)
+  TakesOutput l l' = (z : Slot F T A) × IsOutput z × (l' ≡ output_first z l)
 
   -- for which of the two a party takes them
   abbrev pub Works : Position → List (ℕ × Slot F T A) → List (ℕ × Slot F T A) → Type 0

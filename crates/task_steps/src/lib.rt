@@ -1,5 +1,5 @@
 //! The table of a cell, what its seats know, and the steps on it by name. Each step keeps the rule of the table.
-//! It stands on the machine of `task_laws`, and on the kit's `atomic_table` and `counted_slot`.
+//! It stands on the machine of `task_laws`, on the kit's `atomic_table`, and on `inline_table`.
 //! A user calls nothing of it; `task_cell` builds its calls of these steps.
 //! All that is public is so for `task_cell` and its claims.
 //! The pages are docs/ARCHITECTURE.md and docs/PROOFS.md.
@@ -9,7 +9,6 @@ pub mod attempt;
 pub mod common;
 pub mod places;
 pub mod poll;
-pub mod resting;
 pub mod run;
 pub mod script;
 pub mod spawn;
@@ -19,4 +18,11 @@ pub mod task;
 pub mod waker;
 pub mod words;
 
+ghost use Rattle.task_steps.specs.Left.{EmptyAtEnd};
+
 pub use script::Knowing;
+
+/// Wherever the rule of a cell's table holds, and no handle and no call is left, nothing lies in its places: neither future, nor output, nor awaiter.
+pub fn laws<F, T, A>()
+    ensures empty { EmptyAtEnd F T A }
+{}

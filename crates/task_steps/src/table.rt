@@ -1,11 +1,11 @@
 //! The table of a cell: its one word, its slots, and what a seat knows.
-ghost use Rattle.std.specs.Prelude.{◌≡◌, ◌<◌, ◌^◌, [], IfOk, true};
+ghost use Rattle.std.specs.Prelude.{◌≡◌, ◌<◌, ◌^◌, [], true};
 ghost use Rattle.task_core.specs.Poll.{IfReady};
 ghost use Rattle.task_steps.specs.Rule.{laid_view, IsFuture};
 ghost use Rattle.task_steps.specs.Seats.{is_spent};
 
-use atomic_table::{Refused, Seat, Table, TableRule};
-use std::alloc::{AllocError, Allocator};
+use atomic_table::TableRule;
+use inline_table::{InlineTable, Seat};
 use std::collections::LinkedList;
 use task_core::acts::Act;
 use task_core::word::{REFERENCE, SCHEDULED, TASK, Word};
@@ -91,27 +91,17 @@ impl<F, T, A> TableRule<Slot<F, T, A>, View, u64> for Law {
 }
 
 /// The table of a cell: one word, and a place each for the future, the output and the awaiter.
-pub type Board<F, T, A, B> = Table<Slot<F, T, A>, View, u64, Law, B>;
+pub type Board<F, T, A> = InlineTable<Slot<F, T, A>, View, u64, Law>;
 
 /// The word of a task that was just spawned: scheduled, with its Task, and one reference.
 const OPENING: u64 = SCHEDULED | TASK | REFERENCE;
 
-/// A table with the opening word and three empty places, and its first seat. `alloc` is where the memory comes from, and `limit` the limit of references. An `Err` says that memory was refused, and nothing stays allocated then.
-pub fn lay<F: Drop, T: Drop, A: Drop, B: Allocator + Copy>(
-    alloc: B,
-    limit: u64,
-) -> Result<(Board<F, T, A, B>, Seat<Slot<F, T, A>, View>), AllocError>
+/// A table with the opening word and three empty places, and its first seat. It takes no memory. `limit` is the limit of references.
+pub fn lay<F, T, A>(limit: u64) -> (Board<F, T, A>, Seat<Slot<F, T, A>, View>)
     requires { limit < 2 ^ 55 }
-    ensures { IfOk result (λ t. (t.0.shared.table_id.words ≡ 1) × (t.0.shared.table_id.slots ≡ 3) × (t.0.shared.key ≡ limit) × (t.1.table_id ≡ t.0.shared.table_id) × (t.1.me ≡ (laid_view limit, []))) }
+    ensures { (result.0.key ≡ limit) × (result.1.table_id ≡ result.0.table_id) × (result.1.me ≡ (laid_view limit, [])) }
 {
-    let mut slots = Vec::with_capacity(alloc, 3)?;
-    slots.push_reserved(Slot::Empty);
-    slots.push_reserved(Slot::Empty);
-    slots.push_reserved(Slot::Empty);
-    match Table::new(alloc, &[OPENING], slots, &limit) {
-        Ok(laid) => Ok(laid),
-        Err(Refused { slots: _ }) => Err(AllocError),
-    }
+    InlineTable::new(OPENING, Slot::Empty, Slot::Empty, Slot::Empty, &limit)
 }
 
 /// Polls the future once, where it lies, in a slot that has one. `waker` is what the poll is lent.

@@ -1,4 +1,4 @@
-//! Spawns of a group that are refused memory, each of their requests in turn.
+//! Spawns of a group that are refused memory.
 ghost use Rattle.std.specs.Prelude.{⊤};
 
 use super::number::Number;
@@ -12,11 +12,10 @@ use std::process::Abort;
 use std::sync::Wait;
 use task_group::{GroupSpawnError, TaskGroup};
 
-// A schedule value takes so many numbers that the shared cell, in which it stands, needs a larger block than all that a
-// spawn asks for before it. So there are heaps in which only the last request is refused.
+// A schedule value has so many numbers, by which it shows that it is whole.
 const WIDTH: usize = 64;
 
-// The largest heap that is tried, which has room for a task and more, in blocks of 16 bytes.
+// A heap that has room for a task and more, in blocks of 16 bytes.
 const BLOCKS: u16 = 256;
 
 // A schedule value that drops each Runnable, which cancels its task.
@@ -136,27 +135,11 @@ fn spawn_in<R: Wait + Abort + Drop + Copy>(
     (requests, spawned, are_unused)
 }
 
-// Spawns over heaps each of which has one block more than the one before, until one does not hand everything back: which
-// requests were refused before, and what was seen of that one. Stops where all hand everything back.
-fn spawn_in_turn<R: Wait + Abort + Drop + Copy>(
-    rt: R,
-    alloc: Global,
-) -> ([bool; 5], (u64, Spawned, bool)) {
-    let mut refused = [false; 5];
-    for blocks in 1..BLOCKS {
-        let (requests, spawned, are_unused) = spawn_in(rt, alloc, blocks);
-        match refused.get_mut(requests as usize) {
-            Some(request) if spawned == Err(true) && are_unused => *request = true,
-            _ => return (refused, (requests, spawned, are_unused)),
-        }
-    }
-    panic!(rt; "no heap has room")
-}
-
-// In turn each of the four requests is refused. The group has its own memory before.
+// The one request of a spawn is refused where there is no room. The group has its own memory before.
 #[test]
 fn a_group_hands_back_what_a_spawn_was_refused(rt: HostRuntime) {
-    let (refused, last) = spawn_in_turn(rt, rt.alloc());
-    assert!(rt; refused == [false, true, true, true, true]);
-    assert!(rt; last == (4, Ok(Some((0, true))), true));
+    let refused = spawn_in(rt, rt.alloc(), 1);
+    let spawned = spawn_in(rt, rt.alloc(), BLOCKS);
+    assert!(rt; refused == (1, Err(true), true));
+    assert!(rt; spawned == (1, Ok(Some((0, true))), true));
 }

@@ -29,12 +29,11 @@ impl<R: Wait + Drop, F: Yields, Q: Drop, M: Drop, A: Drop, B: Allocator> Cell<R,
         ensures changed { IfOk result (λ w. HasChanged self.now.limit P.writes P.acts w party.old.seat.me party.new.seat.me) }
         ensures ended { IfErr result (λ w. HasEnded self.now.limit P.ends P.told w party.old.seat.me party.new.seat.me) }
     {
-        let shared = &self.table.shared;
+        let shared = &self.table;
         for _ in self.rt.forever() {
             if let Some(next) = P::next(word, self.limit) {
                 let found = shared.compare_exchange::<Attempting<P>>(
                     &mut party.seat,
-                    0,
                     word.bits(),
                     next.bits(),
                 );
@@ -43,7 +42,7 @@ impl<R: Wait + Drop, F: Yields, Q: Drop, M: Drop, A: Drop, B: Allocator> Cell<R,
                 }
                 word = Word::from_bits(found);
             } else {
-                word = Word::from_bits(shared.load::<Observing<P>>(&mut party.seat, 0));
+                word = Word::from_bits(shared.load::<Observing<P>>(&mut party.seat));
                 if P::is_end(word, self.limit) {
                     return Err(word);
                 }
@@ -62,7 +61,7 @@ impl<R: Wait + Drop, F: Yields, Q: Drop, M: Drop, A: Drop, B: Allocator> Cell<R,
         ensures changed { IfOk result (λ w. HasChanged self.now.limit P.writes P.acts w party.old.seat.me party.new.seat.me) }
         ensures ended { IfErr result (λ w. HasEnded self.now.limit P.ends P.told w party.old.seat.me party.new.seat.me) }
     {
-        let word = Word::from_bits(self.table.shared.load::<Observing<P>>(&mut party.seat, 0));
+        let word = Word::from_bits(self.table.load::<Observing<P>>(&mut party.seat));
         if P::is_end(word, self.limit) {
             return Err(word);
         }

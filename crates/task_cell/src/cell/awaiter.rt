@@ -31,7 +31,7 @@ impl<R: Drop, F: Yields, Q: Drop, M: Drop, A: Drop, B: Allocator> Cell<R, F, Q, 
         if found.notifying() || found.registering() {
             return None;
         }
-        let awaiter = take_out(&self.table.shared, &mut party.seat, 2).into_awaiter();
+        let awaiter = take_out(&self.table, &mut party.seat, 2).into_awaiter();
         self.fetch_and::<ReleasingAwaiter>(party, !(NOTIFYING | AWAITER));
         awaiter
     }

@@ -22,7 +22,7 @@ impl<R: Wait + Drop, F: Yields, Q: Drop, M: Drop, A: Drop, B: Allocator> Cell<R,
         ensures room { result.0.references < 72057594037927935 }
         ensures party { result.1.seat.me ≡ (view self.now.limit (fresh as_lent ∷ []), []) }
     {
-        let (found, seat) = self.table.shared.load_new_seat::<Borrowing>(0);
+        let (found, seat) = self.table.load_new_seat::<Borrowing>();
         (Word::from_bits(found), Party { seat })
     }
 

@@ -28,10 +28,10 @@ impl<R: Drop, F: Yields, Q: Drop, M: Drop, A: Drop, B: Allocator> Cell<R, F, Q, 
     // Hands the output out, and ends the poll. One load.
     fn hand_out(&self, party: &mut Party<F, Kept<F>, A>) -> Held<Kept<F>>
         requires cell { IsOf self.now party.old }
-        requires party { (i : ℕ) × (y : Slot F _ A) × (z : Slot F _ A) × StandsWith (TookOutput i) (output_first y z []) party.old × IsOutput z }
+        requires party { (i : ℕ) × (z : Slot F _ A) × StandsWith (TookOutput i) (output_first z []) party.old × IsOutput z }
         ensures { Goes (act HandOutOutput ∷ act EndCall ∷ []) (as_task (poll_number (position party.old))) party.old party.new }
     {
-        let output = take_out(&self.table.shared, &mut party.seat, 1).into_output();
+        let output = take_out(&self.table, &mut party.seat, 1).into_output();
         self.load::<HandingOut>(party);
         output
     }
@@ -74,7 +74,7 @@ impl<R: Wait + Drop, F: Yields, Q: Drop, M: Drop, A: Wake, B: Allocator> Cell<R,
         found: Word,
     ) -> Held<Kept<F>>
         requires cell { IsOf self.now party.old }
-        requires party { (i : ℕ) × (y : Slot F _ A) × (z : Slot F _ A) × StandsWith (notifies found.awaiter (OfClaim i)) (output_first y z []) party.old × IsOutput z }
+        requires party { (i : ℕ) × (z : Slot F _ A) × StandsWith (notifies found.awaiter (OfClaim i)) (output_first z []) party.old × IsOutput z }
         ensures { (taken : List Deed) × TakePathIf A.woken A.compared awaiter.now found.awaiter taken × Goes (taken ++ (act HandOutOutput ∷ act EndCall ∷ [])) (as_task (poll_number (position party.old))) party.old party.new }
     {
         self.take_awaiter_of(party, awaiter, found);

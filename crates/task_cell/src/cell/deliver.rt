@@ -20,20 +20,20 @@ use task_steps::common::HandingOver;
 use task_steps::table::Kept;
 
 impl<R: Drop, F: Yields, Q: Drop, M: Drop, A: Drop, B: Allocator> Cell<R, F, Q, M, A, B> {
-    // The Runnable of a party that hands one over. One load.
+    // The Runnable of a party that hands one over. It makes no step.
     fn hand_over(&self, party: &mut Party<F, Kept<F>, A>) -> Party<F, Kept<F>, A>
         requires cell { IsOf self.now party.old }
         requires party { (at : Position) × (hands_over at ≡ true) × Stands at party.old }
         ensures path { Goes (act HandOver ∷ []) (handed_over (position party.old)) party.old party.new }
         ensures runnable { IsNew as_runnable party.old result }
     {
-        let seat = self.table.shared.split_seat::<HandingOver>(&mut party.seat);
+        let seat = self.table.split_seat::<HandingOver>(&mut party.seat);
         Party { seat }
     }
 }
 
 impl<R: Wait + Drop, F: Yields, Q: Drop, M: Drop, A: Wake, B: Allocator> Cell<R, F, Q, M, A, B> {
-    // Hands a Runnable to the schedule value: that of a deliverer, or the Runnable itself once more. It makes no step on the word but loads, and the act stands in the list before the schedule value is called.
+    // Hands a Runnable to the schedule value: that of a deliverer, or the Runnable itself once more. It makes no step on the word, and the act stands in the list before the schedule value is called.
     pub(crate) fn deliver<X: Copy>(
         this: &Arc<Self, B>,
         party: &mut Party<F, Kept<F>, A>,
@@ -72,7 +72,7 @@ impl<R: Wait + Drop, F: Yields, Q: Drop, M: Drop, A: Wake, B: Allocator> Cell<R,
         this.end(party);
     }
 
-    /// Hands a Runnable to the schedule value again, with `woken_while_running` false. It makes no step on the word but loads.
+    /// Hands a Runnable to the schedule value again, with `woken_while_running` false. It makes no step on the word but a load.
     pub fn schedule<X: Copy>(this: &Arc<Self, B>, party: &mut Party<F, Kept<F>, A>, around: X)
     where
         Q: Schedule<Runnable<R, F, Q, M, A, X, B>>,

@@ -5,7 +5,7 @@ ghost use Rattle.task_laws.specs.declared.positions.Position.TheVariants.{Output
 ghost use Rattle.task_core.specs.declared.acts.Act.TheVariants.{DropOutput};
 ghost use Rattle.task_steps.specs.declared.table.Deed.{Deed};
 ghost use Rattle.task_steps.specs.declared.table.Slot.{Slot};
-ghost use Rattle.task_steps.specs.Rule.{IsEmpty};
+ghost use Rattle.task_steps.specs.declared.table.Slot.TheVariants.{Empty};
 ghost use Rattle.task_steps.specs.Steps.{saw_closed, output_first};
 ghost use Rattle.task_cell.specs.Belongs.{IsOf};
 ghost use Rattle.task_cell.specs.TaskPaths.{Detaches, GivesTaskUp, DetachPath};
@@ -28,7 +28,7 @@ impl<R: Drop, F: Yields, Q: Drop, M: Drop, A: Drop, B: Allocator> Cell<R, F, Q, 
     // Writes down that the output in hand was dropped, and gives the places back. One load.
     fn note_output_dropped(&self, party: &mut Party<F, Kept<F>, A>)
         requires cell { IsOf self.now party.old }
-        requires party { (y : Slot F _ A) × (z : Slot F _ A) × StandsWith OutputCloser (output_first y z []) party.old × IsEmpty z }
+        requires party { StandsWith OutputCloser (output_first Empty []) party.old }
         ensures { Goes (act DropOutput ∷ []) Detacher party.old party.new }
     {
         self.load::<DroppingOutput>(party);
@@ -37,7 +37,7 @@ impl<R: Drop, F: Yields, Q: Drop, M: Drop, A: Drop, B: Allocator> Cell<R, F, Q, 
     // The output that nobody claimed is dropped, and then the Task given up, by a single fetch. Whether the slots are to be emptied.
     fn drop_unclaimed(&self, party: &mut Party<F, Kept<F>, A>) -> bool
         requires cell { IsOf self.now party.old }
-        requires party { (y : Slot F _ A) × (z : Slot F _ A) × StandsWith OutputCloser (output_first y z []) party.old × (saw_closed (deeds party.old) ≡ true) }
+        requires party { (z : Slot F _ A) × StandsWith OutputCloser (output_first z []) party.old × (saw_closed (deeds party.old) ≡ true) }
         ensures { GivesTaskUp party.old party.new result }
     {
         self.clear(party, 1);

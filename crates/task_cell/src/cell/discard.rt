@@ -24,7 +24,7 @@ impl<R: Drop, F: Yields, Q: Drop, M: Drop, A: Drop, B: Allocator> Cell<R, F, Q, 
     pub(crate) fn discard_start(&self, party: &mut Party<F, Kept<F>, A>)
         requires cell { IsOf self.now party.old }
         requires party { Stands as_runnable party.old }
-        ensures { (d : Deed) × (y : Slot F _ A) × (z : Slot F _ A) × DiscardStart d × GoesWith (d ∷ []) (FutureInHand DroppedRunnable) (future_first y z []) party.old party.new × IsFuture y }
+        ensures { (d : Deed) × (y : Slot F _ A) × DiscardStart d × GoesWith (d ∷ []) (FutureInHand DroppedRunnable) (future_first y []) party.old party.new × IsFuture y }
     {
         self.fetch_or::<Discarding>(party, CLOSED);
     }

@@ -42,8 +42,7 @@ impl<R: Drop, F: Yields, Q: Drop, M: Drop, A: Drop, B: Allocator> Cell<R, F, Q, 
         ensures { (v : State) × Goes (row CloseOrphan v ∷ []) as_deliverer party.old party.new }
     {
         self.table
-            .shared
-            .swap::<Knowing<ClosingOrphan>>(&mut party.seat, 0, ORPHAN);
+            .swap::<Knowing<ClosingOrphan>>(&mut party.seat, ORPHAN);
     }
 }
 

@@ -7,10 +7,11 @@ ghost use Rattle.task_laws.specs.declared.positions.NotifyingCall.TheVariants.{O
 ghost use Rattle.task_core.specs.declared.acts.Act.TheVariants.{AnswerReady, DropOutput, EndCall, EndClosed};
 ghost use Rattle.task_laws.specs.Table.{notifies};
 ghost use Rattle.task_steps.specs.declared.table.Slot.{Slot};
+ghost use Rattle.task_steps.specs.declared.table.Slot.TheVariants.{Empty};
 ghost use Rattle.task_cell.specs.Belongs.{IsOf};
 ghost use Rattle.task_cell.specs.Calls.{Stands, StandsWith, Goes, GoesWith, position};
 ghost use Rattle.task_steps.specs.Deeds.{row, act};
-ghost use Rattle.task_steps.specs.Rule.{IsEmpty, IsFuture};
+ghost use Rattle.task_steps.specs.Rule.{IsFuture};
 ghost use Rattle.task_steps.specs.Standing.{rest_of};
 ghost use Rattle.task_steps.specs.Steps.{future_first, output_first};
 ghost use Rattle.task_cell.specs.RunCalls.{Completes, AnswersPending, EndsPending};
@@ -58,19 +59,20 @@ impl<R: Drop, F: Yields, Q: Drop, M: Drop, A: Drop, B: Allocator> Cell<R, F, Q, 
     // The output that nobody will claim is dropped. One load.
     pub(crate) fn drop_output(&self, party: &mut Party<F, Kept<F>, A>)
         requires cell { IsOf self.now party.old }
-        requires party { (due : Bool) × (y : Slot F _ A) × (z : Slot F _ A) × StandsWith (OutputInHand due) (output_first y z []) party.old }
-        ensures { (due : Bool) (y z : Slot F _ A) → StandsWith (OutputInHand due) (output_first y z []) party.old → Goes (act DropOutput ∷ []) (notifies due OfRun) party.old party.new }
+        requires party { (due : Bool) × (z : Slot F _ A) × StandsWith (OutputInHand due) (output_first z []) party.old }
+        ensures { (due : Bool) (z : Slot F _ A) → StandsWith (OutputInHand due) (output_first z []) party.old → Goes (act DropOutput ∷ []) (notifies due OfRun) party.old party.new }
     {
         self.clear(party, 1);
         self.load::<DroppingOutput>(party);
     }
 
-    // The end step of a run of a closed task, after its future was dropped: a single fetch, never tried again.
+    // The future of a closed task is dropped, and then its run ends: a single fetch, never tried again.
     pub(crate) fn end_closed(&self, party: &mut Party<F, Kept<F>, A>) -> Word
         requires cell { IsOf self.now party.old }
-        requires party { (y : Slot F _ A) × (z : Slot F _ A) × StandsWith PendingFutureDropped (future_first y z []) party.old }
-        ensures { (y z : Slot F _ A) → StandsWith PendingFutureDropped (future_first y z []) party.old → (result.closed ≡ true) × Goes (row EndClosed result ∷ []) (notifies result.awaiter OfRun) party.old party.new }
+        requires party { (y : Slot F _ A) × StandsWith PendingFutureDropped (future_first y []) party.old }
+        ensures { (result.closed ≡ true) × Goes (row EndClosed result ∷ []) (notifies result.awaiter OfRun) party.old party.new }
     {
+        self.clear(party, 0);
         self.fetch_and::<EndingClosed>(party, !(SCHEDULED | RUNNING))
     }
 }
@@ -79,10 +81,10 @@ impl<R: Wait + Drop, F: Yields, Q: Drop, M: Drop, A: Drop, B: Allocator> Cell<R,
     // The end step of a run with its output, after its future was dropped. The seat turns, since only the place in front can be written.
     pub(crate) fn complete(&self, party: &mut Party<F, Kept<F>, A>, output: Held<Kept<F>>) -> Word
         requires cell { IsOf self.now party.old }
-        requires party { (y : Slot F _ A) × (z : Slot F _ A) × StandsWith Ready (future_first y z []) party.old × IsEmpty y }
-        ensures { (y z : Slot F _ A) → StandsWith Ready (future_first y z []) party.old → Completes party.old party.new result }
+        requires party { StandsWith Ready (future_first Empty []) party.old }
+        ensures { Completes party.old party.new result }
     {
-        let shared = &self.table.shared;
+        let shared = &self.table;
         party.seat.turn();
         put_output(shared, &mut party.seat, output).discard();
         match self.attempt::<Completing>(party) {
@@ -95,8 +97,8 @@ impl<R: Wait + Drop, F: Yields, Q: Drop, M: Drop, A: Drop, B: Allocator> Cell<R,
     pub(crate) fn end_pending(&self, party: &mut Party<F, Kept<F>, A>, word: Word) -> PendingEnd
         requires cell { IsOf self.now party.old }
         requires room { word.references < 72057594037927935 }
-        requires party { (y : Slot F _ A) × (z : Slot F _ A) × StandsWith Pending (future_first y z []) party.old × IsFuture y }
-        ensures { (y z : Slot F _ A) → StandsWith Pending (future_first y z []) party.old → EndsPending (future_first y z []) party.old party.new result }
+        requires party { (y : Slot F _ A) × StandsWith Pending (future_first y []) party.old × IsFuture y }
+        ensures { (y : Slot F _ A) → StandsWith Pending (future_first y []) party.old → EndsPending (future_first y []) party.old party.new result }
     {
         match self.attempt_from::<EndingPending>(party, word) {
             Ok(found) => pending_end(found),

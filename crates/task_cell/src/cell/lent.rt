@@ -38,9 +38,9 @@ impl<R: Wait + Drop, F: Yields, Q: Drop, M: Drop, A: Wake, B: Allocator> Cell<R,
         Q: Schedule<Runnable<R, F, Q, M, A, X, B>>,
         requires cell { IsOf (arc_value share.cell) party }
         requires limit { limit_of party ≡ (arc_value share.cell).limit }
-        requires party { (y : Slot F _ A) × (z : Slot F _ A) × StandsWith Polling (future_first y z []) party × IsFuture y }
+        requires party { (y : Slot F _ A) × StandsWith Polling (future_first y []) party × IsFuture y }
         ensures share { result.0 ≡ share }
-        ensures once { (f : F) × (g : F) × (z : Slot F _ A) × StandsWith Polling (future_first (Lies f) z []) party × NotesAnswer (future_first (Lies g) z []) party result.1 result.3 result.2 × LentTo F.polled (arc_value share.cell) around f result.2 g }
+        ensures once { (f : F) × (g : F) × StandsWith Polling (future_first (Lies f) []) party × NotesAnswer (future_first (Lies g) []) party result.1 result.3 result.2 × LentTo F.polled (arc_value share.cell) around f result.2 g }
         ensures meets { IfReady result.2 F.Yields.meets }
     {
         let Party { mut seat } = party;
@@ -48,10 +48,7 @@ impl<R: Wait + Drop, F: Yields, Q: Drop, M: Drop, A: Wake, B: Allocator> Cell<R,
             inner: WakerSeat::lent(share),
             around,
         };
-        let answer = polled(
-            seat.slot_mut(&waker.inner.share.cell().table.shared, 0),
-            &waker,
-        );
+        let answer = polled(seat.first_mut(&waker.inner.share.cell().table), &waker);
         let (inner, _) = waker.into_parts();
         let share = inner.into_share();
         let (party, found) = share.cell().note_answer(Party { seat }, &answer);

@@ -1,5 +1,5 @@
 //! The reference of a run or of a Runnable that is dropped: it is given up at the end.
-ghost use Rattle.std.specs.Prelude.{◌≡◌, ℕ, ◌∷◌, [], List, Option};
+ghost use Rattle.std.specs.Prelude.{◌≡◌, ◌<◌, ℕ, ◌∷◌, [], List, Option};
 ghost use Rattle.task_laws.specs.declared.positions.Position.{Position};
 ghost use Rattle.task_laws.specs.declared.positions.Position.TheVariants.{GivingUp, Emptier};
 ghost use Rattle.task_core.specs.declared.acts.Act.TheVariants.{EmptySlots};
@@ -23,11 +23,12 @@ use task_steps::table::Kept;
 impl<R: Drop, F: Yields, Q: Drop, M: Drop, A: Drop, B: Allocator> Cell<R, F, Q, M, A, B> {
     // Drops what is in the place of the table that the party has in front, and leaves nothing there.
     pub(crate) fn clear(&self, party: &mut Party<F, Kept<F>, A>, place: usize)
+        requires place { place < 3 }
         requires cell { IsOf self.now party.old }
         requires party { (at : Position) × (y : Slot F _ A) × (held : List (ℕ × Slot F _ A)) × StandsWith at ((place, y) ∷ held) party.old }
         ensures { (at : Position) (y : Slot F _ A) (held : List (ℕ × Slot F _ A)) → StandsWith at ((place, y) ∷ held) party.old → GoesWith [] at ((place, Empty) ∷ held) party.old party.new }
     {
-        let shared = &self.table.shared;
+        let shared = &self.table;
         take_out(shared, &mut party.seat, place).discard();
     }
 

@@ -58,7 +58,7 @@ impl<R: Drop, F: Yields, Q: Drop, M: Drop, A: Drop, B: Allocator> Cell<R, F, Q, 
         requires party { (i : ℕ) × (hand : Option ℕ) × (y : Slot F _ A) × StandsWith (after_storing i hand) ((2, y) ∷ []) party.old × Waits hand y }
         ensures { (stood : Bool) × GoesWith (dropped_if stood) (Registered (poll_number (position party.old))) ((2, Awaiter clone.value) ∷ []) party.old party.new }
     {
-        let old = put_awaiter(&self.table.shared, &mut party.seat, clone).into_awaiter();
+        let old = put_awaiter(&self.table, &mut party.seat, clone).into_awaiter();
         if let Some(old) = old {
             old.discard();
             self.load::<Dropping>(party);
@@ -72,7 +72,7 @@ impl<R: Drop, F: Yields, Q: Drop, M: Drop, A: Drop, B: Allocator> Cell<R, F, Q, 
         ensures same { holds party.old ≡ (2, Awaiter result.value) ∷ [] }
         ensures path { (v : State) × (v.notifying ≡ true) × Goes (row EndRegisterNotified v ∷ []) (CloneInHand (poll_number (position party.old))) party.old party.new }
     {
-        let Some(clone) = take_out(&self.table.shared, &mut party.seat, 2).into_awaiter() else {
+        let Some(clone) = take_out(&self.table, &mut party.seat, 2).into_awaiter() else {
             unreachable!()
         };
         self.fetch_and::<EndingNotified>(party, !(AWAITER | REGISTERING | NOTIFYING));

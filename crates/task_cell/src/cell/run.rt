@@ -7,12 +7,13 @@ ghost use Rattle.task_laws.specs.declared.positions.Position.TheVariants.{Future
 ghost use Rattle.task_core.specs.declared.acts.Act.TheVariants.{AnswerReady, DropFuture, Unschedule};
 ghost use Rattle.task_laws.specs.Table.{notifies};
 ghost use Rattle.task_steps.specs.declared.table.Slot.{Slot};
+ghost use Rattle.task_steps.specs.declared.table.Slot.TheVariants.{Empty};
 ghost use Rattle.task_cell.specs.Belongs.{IsOf};
 ghost use Rattle.task_cell.specs.Handed.{HandedOver};
 ghost use Rattle.task_cell.specs.Calls.{StandsWith, Goes, GoesWith, position, limit_of};
 ghost use Rattle.task_steps.specs.Deeds.{row, act};
 ghost use Rattle.task_steps.specs.Standing.{closing_way};
-ghost use Rattle.task_steps.specs.Rule.{IsEmpty, IsFuture};
+ghost use Rattle.task_steps.specs.Rule.{IsFuture};
 ghost use Rattle.task_steps.specs.Steps.{future_first};
 ghost use Rattle.task_cell.specs.RunCalls.{Stores, AnswersPending, ClosesPending, Closes, EndsReady, EndsUnready};
 
@@ -30,7 +31,7 @@ impl<R: Drop, F: Yields, Q: Drop, M: Drop, A: Drop, B: Allocator> Cell<R, F, Q, 
     // SCHEDULED is cleared, after the future was dropped: a single fetch, never tried again.
     pub(crate) fn unschedule(&self, party: &mut Party<F, Kept<F>, A>) -> Word
         requires cell { IsOf self.now party.old }
-        requires party { (closer : WithoutPoll) × (y : Slot F _ A) × (z : Slot F _ A) × StandsWith (FutureInHand closer) (future_first y z []) party.old × IsEmpty y }
+        requires party { (closer : WithoutPoll) × StandsWith (FutureInHand closer) (future_first Empty []) party.old }
         ensures { Goes (act DropFuture ∷ row Unschedule result ∷ []) (notifies result.awaiter (closing_way (position party.old))) party.old party.new }
     {
         self.fetch_and::<Unscheduling>(party, !SCHEDULED)
@@ -45,8 +46,8 @@ impl<R: Wait + Drop, F: Yields, Q: Drop, M: Drop, A: Drop, B: Allocator> Cell<R,
         output: Held<Kept<F>>,
     ) -> Word
         requires cell { IsOf self.now party.old }
-        requires party { (y : Slot F _ A) × (z : Slot F _ A) × StandsWith Ready (future_first y z []) party.old × IsEmpty y }
-        ensures { (y z : Slot F _ A) → StandsWith Ready (future_first y z []) party.old → Stores result party.old party.new }
+        requires party { StandsWith Ready (future_first Empty []) party.old }
+        ensures { Stores result party.old party.new }
     {
         let found = self.complete(party, output);
         if keeps_output(found) {
@@ -61,7 +62,7 @@ impl<R: Drop, F: Yields, Q: Drop, M: Drop, A: Wake, B: Allocator> Cell<R, F, Q, 
     // A run of a task that was closed before, from where it has taken the future over.
     pub(crate) fn close_run(&self, party: &mut Party<F, Kept<F>, A>)
         requires cell { IsOf self.now party.old }
-        requires party { (y : Slot F _ A) × (z : Slot F _ A) × StandsWith (FutureInHand ClosedRun) (future_first y z []) party.old }
+        requires party { (y : Slot F _ A) × StandsWith (FutureInHand ClosedRun) (future_first y []) party.old }
         ensures { Closes ((a : A) × A.woken a) party.old party.new }
     {
         self.clear(party, 0);
@@ -72,10 +73,9 @@ impl<R: Drop, F: Yields, Q: Drop, M: Drop, A: Wake, B: Allocator> Cell<R, F, Q, 
     // A run of a task that was closed meanwhile, from where its poll answered Pending.
     pub(crate) fn finish_cleared(&self, party: &mut Party<F, Kept<F>, A>)
         requires cell { IsOf self.now party.old }
-        requires party { (y : Slot F _ A) × (z : Slot F _ A) × StandsWith PendingFutureDropped (future_first y z []) party.old }
+        requires party { (y : Slot F _ A) × StandsWith PendingFutureDropped (future_first y []) party.old }
         ensures { ClosesPending ((a : A) × A.woken a) party.old party.new }
     {
-        self.clear(party, 0);
         let found = self.end_closed(party);
         self.finish(party, found.awaiter());
     }
@@ -85,8 +85,8 @@ impl<R: Wait + Drop, F: Yields, Q: Drop, M: Drop, A: Wake, B: Allocator> Cell<R,
     // A run, from where its poll has answered Ready, as the party that polled.
     pub(crate) fn finish_ready(&self, party: &mut Party<F, Kept<F>, A>, output: Held<Kept<F>>)
         requires cell { IsOf self.now party.old }
-        requires party { (y : Slot F _ A) × (z : Slot F _ A) × StandsWith Ready (future_first y z []) party.old }
-        ensures { (p : _) (y z : Slot F _ A) → GoesWith (act AnswerReady ∷ []) Ready (future_first y z []) p party.old → EndsReady ((a : A) × A.woken a) p party.new }
+        requires party { (y : Slot F _ A) × StandsWith Ready (future_first y []) party.old }
+        ensures { (p : _) (y : Slot F _ A) → GoesWith (act AnswerReady ∷ []) Ready (future_first y []) p party.old → EndsReady ((a : A) × A.woken a) p party.new }
     {
         self.clear(party, 0);
         let found = self.store_output(party, output);
@@ -104,8 +104,8 @@ impl<R: Wait + Drop, F: Yields, Q: Drop, M: Drop, A: Wake, B: Allocator> Cell<R,
         Q: Schedule<Runnable<R, F, Q, M, A, X, B>>,
         requires cell { IsOf (arc_value this.now) party.old × (limit_of party.old ≡ (arc_value this.now).limit) }
         requires room { found.references < 72057594037927935 }
-        requires party { (p : _) × (y : Slot F _ A) × (z : Slot F _ A) × AnswersPending (future_first y z []) p party.old found.closed × IsFuture y }
-        ensures { (p : _) (y z : Slot F _ A) → AnswersPending (future_first y z []) p party.old found.closed → EndsUnready ((a : A) × A.woken a) (HandedOver Q.scheduled (arc_value this.now) around) result p party.new }
+        requires party { (p : _) × (y : Slot F _ A) × AnswersPending (future_first y []) p party.old found.closed × IsFuture y }
+        ensures { (p : _) (y : Slot F _ A) → AnswersPending (future_first y []) p party.old found.closed → EndsUnready ((a : A) × A.woken a) (HandedOver Q.scheduled (arc_value this.now) around) result p party.new }
     {
         if found.closed() {
             this.finish_cleared(party);

@@ -10,8 +10,9 @@ ghost use Rattle.task_laws.specs.declared.positions.Position.{Position};
 ghost use Rattle.task_cell.specs.LastWord.{IsLastWord};
 
 use super::{Cell, Party, Share};
-use atomic_table::Seat;
+use inline_table::Seat;
 use std::alloc::Allocator;
+use std::marker::PhantomData;
 use std::sync::{Arc, Wait};
 use task_core::{Wake, Yields};
 use task_steps::places::{Held, put_future};
@@ -30,6 +31,7 @@ impl<R: Drop, F: Yields, Q: Drop, M: Drop, A: Drop, B: Allocator> Cell<R, F, Q, 
             metadata,
             limit: _,
             rt,
+            memory: _,
         } = self;
         drop(table);
         drop(rt);
@@ -49,17 +51,17 @@ impl<R: Drop, F: Yields, Q: Drop, M: Drop, A: Drop, B: Allocator> Cell<R, F, Q, 
         mut seat: Seat<Slot<F, Kept<F>, A>, View>,
         future: F,
     ) -> (Party<F, Kept<F>, A>, Party<F, Kept<F>, A>)
-        requires cell { seat.table_id ≡ self.now.table.shared.table_id }
+        requires cell { seat.table_id ≡ self.now.table.table_id }
         requires seat { seat.me ≡ (laid_view self.now.limit, []) }
         ensures cell { IsOf self.now result.0 × IsOf self.now result.1 }
         ensures limit { (limit_of result.0 ≡ self.now.limit) × (limit_of result.1 ≡ self.now.limit) }
         ensures runnable { Stands as_runnable result.0 × (deeds result.0 ≡ []) }
         ensures task { Stands (as_task 0) result.1 × (deeds result.1 ≡ []) }
     {
-        let shared = &self.table.shared;
-        shared.load::<Filling>(&mut seat, 0);
+        let shared = &self.table;
+        shared.load::<Filling>(&mut seat);
         put_future(shared, &mut seat, Held::new(future)).discard();
-        shared.load::<Spawning>(&mut seat, 0);
+        shared.load::<Spawning>(&mut seat);
         let task = shared.split_seat::<Opening>(&mut seat);
         (Party { seat }, Party { seat: task })
     }
@@ -76,14 +78,13 @@ impl<R: Drop, F: Yields, Q: Drop, M: Drop, A: Drop, B: Allocator> Cell<R, F, Q, 
             metadata: _,
             limit: _,
             rt: _,
+            memory: _,
         } = self;
         let Party { seat } = party;
-        let mut closed = table.close_with(seat);
-        let word = closed.word(0);
-        drop(closed.take(0));
-        drop(closed.take(1));
-        drop(closed.take(2));
-        closed.free();
+        let (word, first, second, third) = table.close(seat);
+        drop(first);
+        drop(second);
+        drop(third);
         word
     }
 }
@@ -114,18 +115,17 @@ impl<R: Wait + Drop, F: Yields, Q: Drop, M: Drop, A: Wake, B: Allocator + Copy> 
         requires { limit < 2 ^ 55 }
         ensures shares { IfOk result (λ made. arc_value made.1.cell ≡ arc_value made.0.cell) }
         ensures given { IfOk result (λ made. ((arc_value made.0.cell).metadata ≡ metadata) × ((arc_value made.0.cell).schedule ≡ schedule) × ((arc_value made.0.cell).limit ≡ limit)) }
-        ensures seat { IfOk result (λ made. (made.2.table_id ≡ (arc_value made.0.cell).table.shared.table_id) × (made.2.me ≡ (laid_view limit, []))) }
+        ensures seat { IfOk result (λ made. (made.2.table_id ≡ (arc_value made.0.cell).table.table_id) × (made.2.me ≡ (laid_view limit, []))) }
         ensures refused { IfErr result (λ back. (back.0 ≡ schedule) × (back.1 ≡ metadata)) }
     {
-        let Ok((table, seat)) = lay(alloc, limit) else {
-            return Err((schedule, metadata));
-        };
+        let (table, seat) = lay(limit);
         let cell = Cell {
             table,
             schedule,
             metadata,
             limit,
             rt,
+            memory: PhantomData,
         };
         match Arc::new(alloc, cell) {
             Ok(first) => {

@@ -22,7 +22,7 @@ impl<R: Drop, F: Yields, Q: Drop, M: Drop, A: Drop, B: Allocator> Cell<R, F, Q, 
         ensures made { Makes (S.acts result) result party.old.seat.me party.new.seat.me }
         ensures knows { Knows (deeds party.old) result }
     {
-        Word::from_bits(self.table.shared.load::<Knowing<S>>(&mut party.seat, 0))
+        Word::from_bits(self.table.load::<Knowing<S>>(&mut party.seat))
     }
 
     // Makes a step by a fetch that keeps these bits alone: the word that it found.
@@ -33,8 +33,8 @@ impl<R: Drop, F: Yields, Q: Drop, M: Drop, A: Drop, B: Allocator> Cell<R, F, Q, 
         ensures made { Makes (S.acts result) result party.old.seat.me party.new.seat.me }
         ensures knows { Knows (deeds party.old) result }
     {
-        let shared = &self.table.shared;
-        Word::from_bits(shared.fetch_and::<Knowing<S>>(&mut party.seat, 0, bits))
+        let shared = &self.table;
+        Word::from_bits(shared.fetch_and::<Knowing<S>>(&mut party.seat, bits))
     }
 
     // Makes a step by a fetch that sets these bits: the word that it found.
@@ -45,8 +45,8 @@ impl<R: Drop, F: Yields, Q: Drop, M: Drop, A: Drop, B: Allocator> Cell<R, F, Q, 
         ensures made { Makes (S.acts result) result party.old.seat.me party.new.seat.me }
         ensures knows { Knows (deeds party.old) result }
     {
-        let shared = &self.table.shared;
-        Word::from_bits(shared.fetch_or::<Knowing<S>>(&mut party.seat, 0, bits))
+        let shared = &self.table;
+        Word::from_bits(shared.fetch_or::<Knowing<S>>(&mut party.seat, bits))
     }
 
     // Makes a step by a fetch that takes one reference off: the word that it found.
@@ -57,7 +57,7 @@ impl<R: Drop, F: Yields, Q: Drop, M: Drop, A: Drop, B: Allocator> Cell<R, F, Q, 
         ensures made { Makes (S.acts result) result party.old.seat.me party.new.seat.me }
         ensures knows { Knows (deeds party.old) result }
     {
-        let shared = &self.table.shared;
-        Word::from_bits(shared.fetch_sub::<Knowing<S>>(&mut party.seat, 0, REFERENCE))
+        let shared = &self.table;
+        Word::from_bits(shared.fetch_sub::<Knowing<S>>(&mut party.seat, REFERENCE))
     }
 }

@@ -28,6 +28,6 @@ impl<R: Drop, F: Yields, Q: Drop, M: Drop, A: Drop, B: Allocator> Cell<R, F, Q, 
 
     /// The word as one load finds it. No party notes it, and the next moment it may be another; only a task that is over stays so. It waits for nobody.
     pub fn word(&self) -> Word {
-        Word::from_bits(self.table.shared.peek(0))
+        Word::from_bits(self.table.peek())
     }
 }

@@ -33,7 +33,7 @@ impl<R: Wait + Drop, F: Yields, Q: Drop, M: Drop, A: Drop, B: Allocator> Cell<R,
                 if !was_idle(found) {
                     return None;
                 }
-                let seat = self.table.shared.split_seat::<Parting>(&mut party.seat);
+                let seat = self.table.split_seat::<Parting>(&mut party.seat);
                 Some(Party { seat })
             }
             Err(_) => None,

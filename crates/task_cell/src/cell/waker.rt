@@ -5,19 +5,18 @@ ghost use Rattle.task_steps.specs.Rule.{view, fresh};
 ghost use Rattle.task_cell.specs.Belongs.{IsOf};
 ghost use Rattle.task_cell.specs.Calls.{Stands, limit_of};
 ghost use Rattle.task_steps.specs.Standing.{as_waker, as_deliverer};
-ghost use Rattle.task_cell.specs.Wakers.{table_of, view_of, waker_view};
+ghost use Rattle.task_cell.specs.Wakers.{table_of, me_of, waker_me};
 
 use super::{Cell, Party, Runnable, Share};
 use std::alloc::{Allocator, Global};
 use std::sync::Wait;
 use task_core::{Schedule, Wake, Yields};
-use task_steps::resting::RestingSeat;
 use task_steps::table::Kept;
 
 /// What a waker holds.
 pub(crate) enum Hold<F, T, A> {
-    /// A reference, which it gives up when it is dropped, by this seat.
-    Owned(RestingSeat<F, T, A>),
+    /// A reference, which it gives up when it is dropped, by this party. Nobody steps with it before.
+    Owned(Party<F, T, A>),
     /// Nothing: it was lent to a poll.
     Lent,
 }
@@ -26,8 +25,8 @@ pub(crate) enum Hold<F, T, A> {
 pub(crate) struct WakerSeat<R, F: Yields, Q, M, A, B: Allocator> {
     pub(crate) share: Share<R, F, Q, M, A, B>,
     pub(crate) hold: Hold<F, Kept<F>, A>,
-    ghost seated: { table_of hold (arc_value share.cell).table.shared.table_id ≡ (arc_value share.cell).table.shared.table_id },
-    ghost placed: { view_of hold (waker_view (arc_value share.cell).limit) ≡ waker_view (arc_value share.cell).limit },
+    ghost seated: { table_of hold (arc_value share.cell).table.table_id ≡ (arc_value share.cell).table.table_id },
+    ghost placed: { me_of hold (waker_me (arc_value share.cell).limit) ≡ waker_me (arc_value share.cell).limit },
 }
 
 impl<R, F: Yields, Q, M, A, B: Allocator> WakerSeat<R, F, Q, M, A, B> {
@@ -42,7 +41,7 @@ impl<R, F: Yields, Q, M, A, B: Allocator> WakerSeat<R, F, Q, M, A, B> {
     {
         WakerSeat {
             share,
-            hold: Hold::Owned(party.into_resting()),
+            hold: Hold::Owned(party),
         }
     }
 
@@ -65,8 +64,8 @@ impl<R, F: Yields, Q, M, A, B: Allocator> WakerSeat<R, F, Q, M, A, B> {
         let WakerSeat { share, hold } = self;
         match hold {
             Hold::Lent => share,
-            Hold::Owned(resting) => {
-                drop(resting.into_seat());
+            Hold::Owned(party) => {
+                let Party { seat: _ } = party;
                 unreachable!()
             }
         }
@@ -87,10 +86,7 @@ impl<R, F: Yields, Q, M, A, B: Allocator> WakerSeat<R, F, Q, M, A, B> {
                 share,
                 hold: Hold::Lent,
             }),
-            Hold::Owned(resting) => {
-                let seat = resting.into_seat();
-                Ok((share, Party { seat }))
-            }
+            Hold::Owned(party) => Ok((share, party)),
         }
     }
 }

@@ -76,7 +76,7 @@ impl<R: Wait + Drop, F: Yields, Q: Drop, M: Drop, A: Wake, B: Allocator> Cell<R,
 
     fn end_closed_run(&self, mut party: Party<F, Kept<F>, A>) -> Party<F, Kept<F>, A>
         requires cell { IsOf self.now party }
-        requires party { (y : Slot F _ A) × (z : Slot F _ A) × StandsWith (FutureInHand ClosedRun) (future_first y z []) party }
+        requires party { (y : Slot F _ A) × StandsWith (FutureInHand ClosedRun) (future_first y []) party }
         ensures { Closes ((a : A) × A.woken a) party result }
     {
         self.close_run(&mut party);
@@ -89,8 +89,8 @@ impl<R: Wait + Drop, F: Yields, Q: Drop, M: Drop, A: Wake, B: Allocator> Cell<R,
         output: Held<Kept<F>>,
     ) -> Party<F, Kept<F>, A>
         requires cell { IsOf self.now party }
-        requires party { (y : Slot F _ A) × (z : Slot F _ A) × StandsWith Ready (future_first y z []) party }
-        ensures { (p : _) (y z : Slot F _ A) → GoesWith (act AnswerReady ∷ []) Ready (future_first y z []) p party → EndsReady ((a : A) × A.woken a) p result }
+        requires party { (y : Slot F _ A) × StandsWith Ready (future_first y []) party }
+        ensures { (p : _) (y : Slot F _ A) → GoesWith (act AnswerReady ∷ []) Ready (future_first y []) p party → EndsReady ((a : A) × A.woken a) p result }
     {
         self.finish_ready(&mut party, output);
         party
@@ -106,8 +106,8 @@ impl<R: Wait + Drop, F: Yields, Q: Drop, M: Drop, A: Wake, B: Allocator> Cell<R,
         Q: Schedule<Runnable<R, F, Q, M, A, X, B>>,
         requires cell { IsOf (arc_value this.now) party × (limit_of party ≡ (arc_value this.now).limit) }
         requires room { found.references < 72057594037927935 }
-        requires party { (p : _) × (y : Slot F _ A) × (z : Slot F _ A) × AnswersPending (future_first y z []) p party found.closed × IsFuture y }
-        ensures { (p : _) (y z : Slot F _ A) → AnswersPending (future_first y z []) p party found.closed → EndsUnready ((a : A) × A.woken a) (HandedOver Q.scheduled (arc_value this.now) around) result.1 p result.0 }
+        requires party { (p : _) × (y : Slot F _ A) × AnswersPending (future_first y []) p party found.closed × IsFuture y }
+        ensures { (p : _) (y : Slot F _ A) → AnswersPending (future_first y []) p party found.closed → EndsUnready ((a : A) × A.woken a) (HandedOver Q.scheduled (arc_value this.now) around) result.1 p result.0 }
     {
         let woken = Cell::finish_pending(this, &mut party, found, around);
         (party, woken)

@@ -1,4 +1,4 @@
-use Rattle.task_cell.proofs.Vocabulary.{rules, sym, refl, ◌∙◌, subst, ◌<◌, State}
+use Rattle.task_cell.proofs.Vocabulary.{sym, refl, ◌∙◌, subst, ◌<◌, State}
 use Rattle.task_cell.proofs.Attempts.{seeing_first, may_exchange, may_load, seeing_next, seeing_missed, ends_at, changed, ended}
 use Rattle.task_cell.proofs.cell.Cell.attempt_from.Goals as goal
 
@@ -8,8 +8,7 @@ loop-init g c = let s = c.requires.seen in record { cell = refl; seat = refl; ro
 pub compare_exchange-found-requires : goal.compare_exchange-found-requires
 compare_exchange-found-requires g c = let i = c.loop.invariant in let self = c.args.self.now in (
   i.cell ∙ c.requires.cell,
-  search rules,
-  may_exchange self.limit _ _ _ _ _ _ g.P.Change.writes g.P.Change.ends g.P.Change.acts g.P.Change.told c.loop.word c.in-Some-next.next _ _ self.limited.0 self.sized.1 i.seat i.seeing c.requires.allowed (sym c.in-Some-next.is ∙ c.next-in-loop.ensures) c.bits.ensures c.bits-in-Some-next.ensures,
+  may_exchange self.limit _ _ _ _ _ _ g.P.Change.writes g.P.Change.ends g.P.Change.acts g.P.Change.told c.loop.word c.in-Some-next.next _ _ self.limited.0 refl i.seat i.seeing c.requires.allowed (sym c.in-Some-next.is ∙ c.next-in-loop.ensures) c.bits.ensures c.bits-in-Some-next.ensures,
 )
 
 pub returns-then-found-bits-clause-changed : goal.returns-then-found-bits-clause-changed
@@ -26,7 +25,7 @@ loop-preserved-in-Some-next g c = let i = c.loop.invariant in let e = c.compare_
 
 pub load-requires : goal.load-requires
 load-requires g c = let i = c.loop.invariant in let self = c.args.self.now in
-    (i.cell ∙ c.requires.cell, search rules, may_load self.limit _ _ _ _ _ _ g.P.Change.writes g.P.Change.ends g.P.Change.acts g.P.Change.told c.loop.word self.limited.0 self.sized.1 i.seat i.seeing c.requires.allowed)
+    (i.cell ∙ c.requires.cell, may_load self.limit _ _ _ _ _ _ g.P.Change.writes g.P.Change.ends g.P.Change.acts g.P.Change.told c.loop.word self.limited.0 refl i.seat i.seeing c.requires.allowed)
 
 pub returns-then-is_end-clause-ended : goal.returns-then-is_end-clause-ended
 returns-then-is_end-clause-ended g c = let e = c.load.ensures in let over = sym c.is_end.ensures ∙ c.if-is_end.true in

@@ -4,7 +4,7 @@ use Rattle.task_cell.proofs.TaskCalls.{closed_busy, closed_idle, cancels_over, c
 use Rattle.task_cell.proofs.cell.Cell.cancel.Goals as goal
 
 pub leave_closed-requires-clause-cell : goal.leave_closed-requires-clause-cell
-leave_closed-requires-clause-cell g c = let x = closed_busy _ _ _ c.requires.party c.in-Busy.ensures in x.1.cell ∙ (c.requires.cell.0 ∙ sym (ap (λ v. v.table.shared.table_id) c.deref-in-Busy.ensures))
+leave_closed-requires-clause-cell g c = let x = closed_busy _ _ _ c.requires.party c.in-Busy.ensures in x.1.cell ∙ (c.requires.cell.0 ∙ sym (ap (λ v. v.table.table_id) c.deref-in-Busy.ensures))
 
 pub leave_closed-requires-clause-party : goal.leave_closed-requires-clause-party
 leave_closed-requires-clause-party g c = let s = c.requires.party in (s.0, stands _ _ _ _ _ (closed_busy _ _ _ s c.in-Busy.ensures).1)
@@ -17,7 +17,7 @@ deliver-requires-clause-party g c = let s = c.requires.party in (_, refl, stands
 
 pub leave_closed-requires-in-Idle-clause-cell : goal.leave_closed-requires-in-Idle-clause-cell
 leave_closed-requires-in-Idle-clause-cell g c = let x = closed_idle _ _ _ _ c.requires.party c.in-Idle.ensures c.deliver.ensures.path in
-    x.1.cell ∙ (c.requires.cell.0 ∙ sym (ap (λ v. v.table.shared.table_id) c.deref-in-Idle.ensures))
+    x.1.cell ∙ (c.requires.cell.0 ∙ sym (ap (λ v. v.table.table_id) c.deref-in-Idle.ensures))
 
 pub leave_closed-requires-in-Idle-clause-party : goal.leave_closed-requires-in-Idle-clause-party
 leave_closed-requires-in-Idle-clause-party g c = let s = c.requires.party in (s.0, stands _ _ _ _ _ (closed_idle _ _ _ _ s c.in-Idle.ensures c.deliver.ensures.path).1)

@@ -5,7 +5,7 @@ use Rattle.task_cell.proofs.cell.Cell.detach.Goals as goal
 
 pub end-requires-clause-cell : goal.end-requires-clause-cell
 end-requires-clause-cell g c = let x = unclaimed_last c.args.party.now c.give_task_up.new.party c.drop_unclaimed.new.party c.empty.new.party c.drop_unclaimed.result c.if-drop_unclaimed.true c.in-Unclaimed.ensures c.drop_unclaimed.ensures c.empty.ensures in
-    x.4.cell ∙ (c.requires.cell.0 ∙ sym (ap (λ v. v.table.shared.table_id) c.deref-then-drop_unclaimed-2.ensures))
+    x.4.cell ∙ (c.requires.cell.0 ∙ sym (ap (λ v. v.table.table_id) c.deref-then-drop_unclaimed-2.ensures))
 
 pub end-requires-clause-party : goal.end-requires-clause-party
 end-requires-clause-party g c = let x = unclaimed_last c.args.party.now c.give_task_up.new.party c.drop_unclaimed.new.party c.empty.new.party c.drop_unclaimed.result c.if-drop_unclaimed.true c.in-Unclaimed.ensures c.drop_unclaimed.ensures c.empty.ensures in
@@ -13,7 +13,7 @@ end-requires-clause-party g c = let x = unclaimed_last c.args.party.now c.give_t
 
 pub end-requires-in-Last-clause-cell : goal.end-requires-in-Last-clause-cell
 end-requires-in-Last-clause-cell g c = let x = last_emptied c.args.party.now c.give_task_up.new.party c.empty-in-Last.new.party c.in-Last.ensures c.empty-in-Last.ensures in
-    x.cell ∙ (c.requires.cell.0 ∙ sym (ap (λ v. v.table.shared.table_id) c.deref-in-Last-2.ensures))
+    x.cell ∙ (c.requires.cell.0 ∙ sym (ap (λ v. v.table.table_id) c.deref-in-Last-2.ensures))
 
 pub end-requires-in-Last-clause-party : goal.end-requires-in-Last-clause-party
 end-requires-in-Last-clause-party g c = let x = last_emptied c.args.party.now c.give_task_up.new.party c.empty-in-Last.new.party c.in-Last.ensures c.empty-in-Last.ensures in

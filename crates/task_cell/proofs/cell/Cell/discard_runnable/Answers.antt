@@ -4,13 +4,13 @@ use Rattle.task_cell.proofs.RunRest.{drop_clears, drop_closes, drop_notifies, dr
 use Rattle.task_cell.proofs.cell.Cell.discard_runnable.Goals as goal
 
 pub clear-requires-clause-party : goal.clear-requires-clause-party
-clear-requires-clause-party g c = let f = c.discard_start.ensures in (_, f.1, (1, f.2) ∷ [], stands _ _ _ _ _ f.4)
+clear-requires-clause-party g c = let f = c.discard_start.ensures in (_, f.1, (1, Empty) ∷ [], stands _ _ _ _ _ f.3)
 
 pub unschedule-found-requires-clause-cell : goal.unschedule-found-requires-clause-cell
-unschedule-found-requires-clause-cell g c = (drop_clears _ _ _ c.discard_start.ensures c.clear.ensures).cell ∙ (c.discard_start.ensures.4.cell ∙ c.requires.cell)
+unschedule-found-requires-clause-cell g c = (drop_clears _ _ _ c.discard_start.ensures c.clear.ensures).cell ∙ (c.discard_start.ensures.3.cell ∙ c.requires.cell)
 
 pub unschedule-found-requires-clause-party : goal.unschedule-found-requires-clause-party
-unschedule-found-requires-clause-party g c = (DroppedRunnable, Empty, c.discard_start.ensures.2, stands _ _ _ _ _ (drop_clears _ _ _ c.discard_start.ensures c.clear.ensures), tt)
+unschedule-found-requires-clause-party g c = (DroppedRunnable, stands _ _ _ _ _ (drop_clears _ _ _ c.discard_start.ensures c.clear.ensures))
 
 pub take_due-awaiter-requires-clause-cell : goal.take_due-awaiter-requires-clause-cell
 take_due-awaiter-requires-clause-cell g c = (drop_closes _ _ _ c.discard_start.ensures c.clear.ensures _ _ c.unschedule-found.ensures _ c.awaiter.ensures).cell ∙ c.requires.cell

@@ -5,7 +5,7 @@ use Rattle.task_cell.proofs.cell.Cell.drop_waker.Goals as goal
 
 pub end-requires-clause-cell : goal.end-requires-clause-cell
 end-requires-clause-cell g c = let x = last_emptied c.args.party.now c.drop_reference.new.party c.empty.new.party c.in-Last.ensures c.empty.ensures in
-    x.cell ∙ (c.requires.cell.0 ∙ sym (ap (λ v. v.table.shared.table_id) c.deref-in-Last-2.ensures))
+    x.cell ∙ (c.requires.cell.0 ∙ sym (ap (λ v. v.table.table_id) c.deref-in-Last-2.ensures))
 
 pub end-requires-clause-party : goal.end-requires-clause-party
 end-requires-clause-party g c = let x = last_emptied c.args.party.now c.drop_reference.new.party c.empty.new.party c.in-Last.ensures c.empty.ensures in

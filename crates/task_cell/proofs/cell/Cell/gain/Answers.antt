@@ -1,4 +1,4 @@
-use Rattle.task_cell.proofs.Vocabulary.{rules, ◌∙◌, ap, [], parts_newest}
+use Rattle.task_cell.proofs.Vocabulary.{◌∙◌, ap, [], parts_newest}
 use Rattle.task_cell.proofs.WakerMoves.{may_gain, beside_waker, gains_waker, gains_nothing}
 use Rattle.task_cell.proofs.cell.Cell.gain.Goals as goal
 
@@ -7,7 +7,7 @@ attempt_from-requires-clause-allowed g c = may_gain _ _ _ _ c.args.party.now c.r
 
 pub split_seat-seat-requires : goal.split_seat-seat-requires
 split_seat-seat-requires g c = let e = c.in-Ok.ensures in
-    (e.cell ∙ c.requires.cell.0, search rules, parts_newest _ _ _ _ _ _ _ _ _ [] (ap (λ m. m.0) (beside_waker _ _ c.args.party.now c.attempt_from.new.party c.requires.party e.changed)))
+    (e.cell ∙ c.requires.cell.0, parts_newest _ _ _ _ _ _ _ _ _ [] (ap (λ m. m.0) (beside_waker _ _ c.args.party.now c.attempt_from.new.party c.requires.party e.changed)))
 
 pub returns-in-Ok : goal.returns-in-Ok
 returns-in-Ok g c = record {

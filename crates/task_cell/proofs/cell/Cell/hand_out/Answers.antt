@@ -7,5 +7,5 @@ use Rattle.task_cell.proofs.cell.Cell.hand_out.Goals as goal
 
 pub load-requires-clause-allowed : goal.load-requires-clause-allowed
 load-requires-clause-allowed g c = let s = c.requires.party in let e = c.take_out.ensures in
-    let x = exchanges c.args.party.now c.args.party.now (record { seat = c.take_out.new.seat }) [] (TookOutput s.0) 1 s.2 c.take_out.result.slot Empty ((0, s.1) ∷ []) (at_rest (TookOutput s.0) (output_first s.1 s.2 []) c.args.party.now c.args.party.now s.3 refl refl) e.0 e.2 e.3 in
-    may_make _ (record { seat = c.take_out.new.seat }) (TookOutput s.0) (output_first s.1 Empty []) _ _ (stands c.args.party.now (record { seat = c.take_out.new.seat }) [] (TookOutput s.0) (output_first s.1 Empty []) x.1) (hands_out _ _ _ _ s.0 _ _ s.1 Empty _ refl)
+    let x = exchanges c.args.party.now c.args.party.now (record { seat = c.take_out.new.seat }) [] (TookOutput s.0) 1 s.1 c.take_out.result.slot Empty ((0, Empty) ∷ []) (at_rest (TookOutput s.0) (output_first s.1 []) c.args.party.now c.args.party.now s.2 refl refl) e.0 e.2 e.3 in
+    may_make _ (record { seat = c.take_out.new.seat }) (TookOutput s.0) (output_first Empty []) _ _ (stands c.args.party.now (record { seat = c.take_out.new.seat }) [] (TookOutput s.0) (output_first Empty []) x.1) (hands_out _ _ _ _ s.0 _ _ _ refl)

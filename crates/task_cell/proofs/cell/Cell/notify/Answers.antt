@@ -1,3 +1,4 @@
+use Rattle.std.proofs.Common.{lit<}
 use Rattle.task_cell.proofs.Vocabulary.{refl, ap, sym, ◌∷◌, ◌∙◌, ◌≡◌, true, ◌||◌, Empty, Notifier, Releaser, takes, releases_awaiter, held, awaiter_in, true_left, true_right}
 use Rattle.task_cell.proofs.Steps.{may_make}
 use Rattle.task_cell.proofs.Notified.{taken_free, missed, notified}
@@ -19,7 +20,7 @@ returns-then-notifying g c = let s = c.requires.party in let w = c.fetch_or-foun
 pub take_out-requires : goal.take_out-requires
 take_out-requires g c = let s = c.requires.party in let w = c.fetch_or-found.result in let f = c.fetch_or-found.ensures in
     let t = taken_free c.args.party.now c.fetch_or-found.new.party w _ _ s f.cell f.made c.notifying.ensures c.registering.ensures c.if-notifying.false c.if-registering.false in
-    (f.cell ∙ c.requires.cell, (t.value, first_held c.fetch_or-found.new.party _ 2 t.value _ (stands _ _ _ _ _ t.goes)))
+    (lit< tt, f.cell ∙ c.requires.cell, (t.value, first_held c.fetch_or-found.new.party _ 2 t.value _ (stands _ _ _ _ _ t.goes)))
 
 pub fetch_and-requires-clause-allowed : goal.fetch_and-requires-clause-allowed
 fetch_and-requires-clause-allowed g c = let s = c.requires.party in let w = c.fetch_or-found.result in let f = c.fetch_or-found.ensures in

@@ -4,12 +4,11 @@ use Rattle.task_cell.proofs.cell.Cell.poll_future.Goals as goal
 
 pub returns-clause-once : goal.returns-clause-once
 returns-clause-once g c = let s = c.requires.party in let p = c.polled-answer.ensures.once in
-    let there = same_first _ _ _ 0 s.0 c.slot_mut.result.now (ap (λ m. m.1) s.2) c.slot_mut.ensures.value ∙ p.2 in
-    let polled = ap (λ m. (m.0, (0, c.polled-answer.new.slot) ∷ rest m.1)) s.2 ∙ ap (λ y. (view (limit_of c.args.party) (member Polling (deeds c.args.party) ∷ []), future_first y s.1 [])) p.3 in (
+    let there = same_first _ _ _ 0 s.0 c.first_mut.result.now (ap (λ m. m.1) s.1) c.first_mut.ensures.value ∙ p.2 in
+    let polled = ap (λ m. (m.0, (0, c.polled-answer.new.slot) ∷ rest m.1)) s.1 ∙ ap (λ y. (view (limit_of c.args.party) (member Polling (deeds c.args.party) ∷ []), future_first y [])) p.3 in (
       p.0,
       p.1,
-      s.1,
-      subst (λ y. StandsWith Polling (future_first y s.1 []) c.args.party) there s.2,
-      notes_on (future_first (Future p.1) s.1 []) c.args.party _ _ _ _ (record { cell = refl; is = polled }) (c.note_answer-party.ensures (future_first (Future p.1) s.1 []) polled),
+      subst (λ y. StandsWith Polling (future_first y []) c.args.party) there s.1,
+      notes_on (future_first (Future p.1) []) c.args.party _ _ _ _ (record { cell = refl; is = polled }) (c.note_answer-party.ensures (future_first (Future p.1) []) polled),
       (_, ap (λ z. arc_value z.cell) c.lent.ensures.share, refl, p.4),
     )

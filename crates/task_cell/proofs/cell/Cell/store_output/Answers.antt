@@ -3,13 +3,13 @@ use Rattle.task_cell.proofs.RunEnds.{completes_cell, output_left, stores_kept, s
 use Rattle.task_cell.proofs.cell.Cell.store_output.Goals as goal
 
 pub returns-then-keeps_output : goal.returns-then-keeps_output
-returns-then-keeps_output g c = λ y z s. stores_kept c.args.party.now c.complete-found.new.party c.complete-found.result (c.complete-found.ensures y z s) (sym c.keeps_output.ensures ∙ c.if-keeps_output.true)
+returns-then-keeps_output g c = stores_kept c.args.party.now c.complete-found.new.party c.complete-found.result c.complete-found.ensures (sym c.keeps_output.ensures ∙ c.if-keeps_output.true)
 
 pub drop_output-requires-clause-cell : goal.drop_output-requires-clause-cell
-drop_output-requires-clause-cell g c = let s = c.requires.party in completes_cell c.args.party.now c.complete-found.new.party c.complete-found.result (c.complete-found.ensures s.0 s.1 s.2) ∙ c.requires.cell
+drop_output-requires-clause-cell g c = completes_cell c.args.party.now c.complete-found.new.party c.complete-found.result c.complete-found.ensures ∙ c.requires.cell
 
 pub drop_output-requires-clause-party : goal.drop_output-requires-clause-party
-drop_output-requires-clause-party g c = let s = c.requires.party in let x = output_left c.args.party.now c.complete-found.new.party c.complete-found.result (c.complete-found.ensures s.0 s.1 s.2) (sym c.keeps_output.ensures ∙ c.if-keeps_output.false) in (c.complete-found.result.awaiter, x.0, x.1, x.2)
+drop_output-requires-clause-party g c = let x = output_left c.args.party.now c.complete-found.new.party c.complete-found.result c.complete-found.ensures (sym c.keeps_output.ensures ∙ c.if-keeps_output.false) in (c.complete-found.result.awaiter, x.0, x.1)
 
 pub returns : goal.returns
-returns g c = λ y z s. stores_dropped c.args.party.now c.complete-found.new.party c.drop_output.new.party c.complete-found.result (c.complete-found.ensures y z s) (sym c.keeps_output.ensures ∙ c.if-keeps_output.false) c.drop_output.ensures
+returns g c = stores_dropped c.args.party.now c.complete-found.new.party c.drop_output.new.party c.complete-found.result c.complete-found.ensures (sym c.keeps_output.ensures ∙ c.if-keeps_output.false) c.drop_output.ensures

@@ -1,3 +1,4 @@
+use Rattle.std.proofs.Common.{lit<}
 use Rattle.task_cell.proofs.Vocabulary.{◌∷◌, [], refl, TookBack, Awaiter, Empty, ends_notified}
 use Rattle.task_cell.proofs.Steps.{may_make}
 use Rattle.task_cell.proofs.RunGoes.{at_rest}
@@ -7,7 +8,7 @@ use Rattle.task_cell.proofs.PollMoved.{given_back}
 use Rattle.task_cell.proofs.cell.Cell.take_back.Goals as goal
 
 pub take_out-requires : goal.take_out-requires
-take_out-requires g c = let s = c.requires.party in (c.requires.cell, (Awaiter s.1, first_held c.args.party.now _ 2 (Awaiter s.1) _ s.2))
+take_out-requires g c = let s = c.requires.party in (lit< tt, c.requires.cell, (Awaiter s.1, first_held c.args.party.now _ 2 (Awaiter s.1) _ s.2))
 
 pub fetch_and-requires-clause-allowed : goal.fetch_and-requires-clause-allowed
 fetch_and-requires-clause-allowed g c = let s = c.requires.party in let p = c.args.party.now in let e = c.take_out.ensures in

@@ -1,4 +1,4 @@
-use Rattle.task_cell.proofs.Vocabulary.{rules, sym, ◌∙◌, ap, [], parts_newest}
+use Rattle.task_cell.proofs.Vocabulary.{sym, ◌∙◌, ap, [], parts_newest}
 use Rattle.task_cell.proofs.WakerMoves.{may_wake, beside_deliverer, wakes_idle, wakes_busy, wakes_over}
 use Rattle.task_cell.proofs.cell.Cell.wake_by_ref.Goals as goal
 
@@ -10,7 +10,7 @@ returns-then-not-was_idle g c = record { path = let e = c.in-Ok.ensures in wakes
 
 pub split_seat-seat-requires : goal.split_seat-seat-requires
 split_seat-seat-requires g c = let e = c.in-Ok.ensures in
-    (e.cell ∙ c.requires.cell, search rules, parts_newest _ _ _ _ _ _ _ _ _ [] (ap (λ m. m.0) (beside_deliverer _ _ c.args.party.now c.attempt_from.new.party c.requires.party e.changed (sym c.was_idle.ensures ∙ c.if-not-was_idle.false))))
+    (e.cell ∙ c.requires.cell, parts_newest _ _ _ _ _ _ _ _ _ [] (ap (λ m. m.0) (beside_deliverer _ _ c.args.party.now c.attempt_from.new.party c.requires.party e.changed (sym c.was_idle.ensures ∙ c.if-not-was_idle.false))))
 
 pub returns-else-not-was_idle : goal.returns-else-not-was_idle
 returns-else-not-was_idle g c = record {
