@@ -108,17 +108,37 @@ pub enum Contention {
     WakeStorm,
     /// It clones the waker and drops the clone.
     CloneDrop,
+    /// As the first, where all threads wake by one waker.
+    OneWaker,
 }
 
 impl Contention {
-    /// Both of them, in the order in which they are printed.
-    pub const ALL: [Contention; 2] = [Contention::WakeStorm, Contention::CloneDrop];
+    /// All of them, in the order in which they are printed.
+    pub const ALL: [Contention; 3] = [
+        Contention::WakeStorm,
+        Contention::CloneDrop,
+        Contention::OneWaker,
+    ];
 
     /// The name that is printed before the number of threads.
     pub fn name(self) -> &'static str {
         match self {
             Contention::WakeStorm => "f_wake_storm",
             Contention::CloneDrop => "g_clone_drop",
+            Contention::OneWaker => "h_one_waker",
+        }
+    }
+
+    /// Whether one more thread runs the task.
+    pub fn runs(self) -> bool {
+        matches!(self, Contention::WakeStorm | Contention::OneWaker)
+    }
+
+    /// How many wakers that many threads have.
+    pub fn wakers(self, threads: u32) -> u32 {
+        match self {
+            Contention::WakeStorm | Contention::CloneDrop => threads,
+            Contention::OneWaker => 1,
         }
     }
 }

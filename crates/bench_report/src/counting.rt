@@ -2,17 +2,19 @@
 ghost use Rattle.std.specs.Prelude.{◌≡◌};
 
 use std::alloc::{AllocError, Allocator};
-use std::cell::Cell;
+use std::sync::atomic::{AtomicU64, Ordering};
 
-/// An allocator that counts each call of `allocate`, and hands each call on to the allocator below it.
+/// An allocator that counts each call, and hands it on to the allocator below it.
 ///
-/// A call that is refused counts too. A block that grows or shrinks is a new one, and counts once more. What is given back is not counted.
-/// It stays on one thread. A `&` to it is an allocator that can be copied.
+/// A call of `allocate` that is refused counts too. A block that grows or shrinks is a new one, and the old one is given back.
+/// A `&` to it is an allocator that can be copied.
 #[derive(Drop)]
 pub struct Counting<B: Allocator> {
     below: B,
-    allocations: Cell<u64>,
-    bytes: Cell<u64>,
+    allocations: AtomicU64,
+    bytes: AtomicU64,
+    returns: AtomicU64,
+    returned_bytes: AtomicU64,
 }
 
 impl<B: Allocator> Counting<B> {
@@ -22,36 +24,48 @@ impl<B: Allocator> Counting<B> {
     {
         Counting {
             below,
-            allocations: Cell::new(0),
-            bytes: Cell::new(0),
+            allocations: AtomicU64::new(0),
+            bytes: AtomicU64::new(0),
+            returns: AtomicU64::new(0),
+            returned_bytes: AtomicU64::new(0),
         }
     }
 
     /// How often `allocate` was called.
     pub fn allocations(&self) -> u64 {
-        self.allocations.get()
+        self.allocations.load(Ordering::SeqCst)
     }
 
     /// How many bytes these calls asked for.
     pub fn bytes(&self) -> u64 {
-        self.bytes.get()
+        self.bytes.load(Ordering::SeqCst)
     }
 
-    // The allocator below.
-    fn below(&self) -> &B
-        ensures { result.now ≡ self.now.below }
-    {
-        &self.below
+    /// How often `deallocate` was called.
+    pub fn returns(&self) -> u64 {
+        self.returns.load(Ordering::SeqCst)
+    }
+
+    /// How many bytes these calls gave back.
+    pub fn returned_bytes(&self) -> u64 {
+        self.returned_bytes.load(Ordering::SeqCst)
     }
 
     // The allocator below, once a request for so many bytes is counted.
     fn below_counted(&self, size: usize) -> &B
         ensures { result.now ≡ self.now.below }
     {
-        let allocations = self.allocations.get();
-        self.allocations.set(allocations.saturating_add(1));
-        let bytes = self.bytes.get();
-        self.bytes.set(bytes.saturating_add(size as u64));
+        self.allocations.fetch_add(1, Ordering::SeqCst);
+        self.bytes.fetch_add(size as u64, Ordering::SeqCst);
+        &self.below
+    }
+
+    // The allocator below, once a block of so many bytes is counted that is given back.
+    fn below_returned(&self, size: usize) -> &B
+        ensures { result.now ≡ self.now.below }
+    {
+        self.returns.fetch_add(1, Ordering::SeqCst);
+        self.returned_bytes.fetch_add(size as u64, Ordering::SeqCst);
         &self.below
     }
 }
@@ -65,6 +79,6 @@ unsafe impl<B: Allocator> Allocator for Counting<B> {
     }
 
     unsafe fn deallocate(&self, place: *mut u8, size: usize, align: usize) {
-        self.below().deallocate(place, size, align);
+        self.below_returned(size).deallocate(place, size, align);
     }
 }

@@ -49,7 +49,7 @@ pub fn measure<R: Clock + Threads + Wait + Drop + Copy + Send + Sync>(
     medians_of(alloc, threads, counted.as_slice())
 }
 
-// One measurement, of a task that is scheduled, whose Runnable makes the waker of each thread.
+// One measurement, of a task that is scheduled, whose Runnable makes the wakers.
 fn measure_once<R: Clock + Threads + Wait + Drop + Copy + Send + Sync>(
     contention: Contention,
     rt: R,
@@ -58,21 +58,21 @@ fn measure_once<R: Clock + Threads + Wait + Drop + Copy + Send + Sync>(
 ) -> Result<Counted, Failure> {
     let queue = Queue::new(rt, alloc);
     let (runnable, task) = queue.spawn(Pending)?;
-    let wakers = wakers_of(alloc, &runnable, threads)?;
+    let wakers = wakers_of(alloc, &runnable, contention.wakers(threads))?;
     runnable.schedule();
-    let counted = count(contention, rt, &queue, wakers);
+    let counted = count(contention, rt, &queue, wakers.as_slice(), threads);
     drop(task);
     counted
 }
 
-// A waker of the task for each thread.
+// So many wakers of the task.
 fn wakers_of<'x, R: Wait + Drop + Copy>(
     alloc: Global,
     runnable: &QueueRunnable<'x, R, Pending>,
-    threads: u32,
+    number: u32,
 ) -> Result<Vec<QueueWaker<'x, R, Pending>>, AllocError> {
     let mut wakers = Vec::new(alloc);
-    for _ in 0..threads {
+    for _ in 0..number {
         let Some(waker) = runnable.waker() else {
             return Err(AllocError);
         };
@@ -81,19 +81,34 @@ fn wakers_of<'x, R: Wait + Drop + Copy>(
     Ok(wakers)
 }
 
-// A thread is started for each waker, works for a time, and ends. The task is run by this thread.
+// The waker of the thread of that number. Threads that have none of their own share the last one.
+fn waker_of<'w, 'x, R: Wait + Drop + Copy>(
+    wakers: &'w [QueueWaker<'x, R, Pending>],
+    number: u32,
+) -> Option<&'w QueueWaker<'x, R, Pending>> {
+    match wakers.get(number as usize) {
+        Some(own) => Some(own),
+        None => wakers.last(),
+    }
+}
+
+// So many threads are started, which work for a time, and end. The task is run by this thread.
 fn count<R: Clock + Threads + Wait + Drop + Copy + Send + Sync>(
     contention: Contention,
     rt: R,
     queue: &Queue<R, Pending>,
-    wakers: Vec<QueueWaker<'_, R, Pending>>,
+    wakers: &[QueueWaker<'_, R, Pending>],
+    threads: u32,
 ) -> Result<Counted, Failure> {
     let phases = Phases::new();
     let shared = &phases;
     let start = thread::scope(thread::scope_env(), &rt, |scope| {
-        for waker in wakers {
+        for number in 0..threads {
+            let Some(waker) = waker_of(wakers, number) else {
+                return shared.give_up();
+            };
             if scope
-                .spawn(move || shared.work(rt, &waker, contention))
+                .spawn(move || shared.work(rt, waker, contention))
                 .is_err()
             {
                 return shared.give_up();
@@ -104,7 +119,7 @@ fn count<R: Clock + Threads + Wait + Drop + Copy + Send + Sync>(
         }
         let start = Instant::now(&rt).ok();
         shared.start();
-        if let Contention::WakeStorm = contention {
+        if contention.runs() {
             shared.run(rt, queue);
         }
         start

@@ -88,7 +88,7 @@ impl Phases {
                 break;
             }
             match contention {
-                Contention::WakeStorm => wake_often(waker),
+                Contention::WakeStorm | Contention::OneWaker => wake_often(waker),
                 Contention::CloneDrop => clone_often(waker),
             }
             done = done.wrapping_add(BATCH);

@@ -1,4 +1,4 @@
--- The allocator below takes the block back.
+-- The block is counted, and then the allocator below takes it back.
 use Rattle.std.proofs.Common.{◌≡◌, List, [], ◌∷◌, refl, ap, w64, Bor}
 use Rattle.std.proofs.alloc.Calls.{Gives}
 use Rattle.std.proofs.raw_atomic.Walks.{proved}
@@ -13,12 +13,12 @@ use denote.Builtin.{usize, unit}
 use denote.Exit.{yes}
 use denote.Memory.{hidden_shr}
 use denote.Param.{param}
-use denote.Plain.{uint_vals, uint_Tells}
+use denote.Plain.{uint_vals, uint_Tells, uint_Makes}
 use denote.RattleType.{RattleType, owns}
 use denote.RawPtr.{RawPtr, rawptr_vals, rawptr_Tells, rawptr_Lawful}
 use denote.Ref.{shr_vals}
 use denote.Signature.{plain, types_at, type_at}
-use denote.Steps.{nothing, heard, only}
+use denote.Steps.{nothing, heard, owned, only}
 use denote.Triple.Call.{calls_at}
 use denote.Triple.Clauses.{Lasts, lasts}
 use denote.Triple.Entry.{alive}
@@ -33,10 +33,10 @@ use types.ByLocal.{alloc_all, pass_all, free_all, look_at, get, sets, lands_as}
 use types.Kit.{Item, ‵, raw, ◌⊛◌, some, later, ◌$◌, ◌∵◌, !, qed, done, move, drop, use0, use1, split, join, pick, rewrite, fsplit, fjoin, feq_l, feq_i, suffices, group, await}
 use types.Run.{of_opd, unit_lit, no_more, and_then, returns, enter}
 use Rattle.bench_report.proofs.Passing.{given, itself}
-use Rattle.bench_report.proofs.counting.Counting.below.Met as lent
+use Rattle.bench_report.proofs.counting.Counting.below_returned.Met as counted
 use Rattle.bench_report.proofs.counting.CountingAllocator.deallocate.Code as code
 use Rattle.bench_report.proofs.counting.CountingAllocator.deallocate.Statement.{statement}
-use Rattle.bench_report.specs.contracts.counting.Counting.below as lends
+use Rattle.bench_report.specs.contracts.counting.Counting.below_returned as counts
 use Rattle.bench_report.specs.contracts.counting.CountingAllocator.deallocate as here
 
 abbrev stayed : (B : RattleType) (ghosts : Ghosts B.Denot) (calls destruct : Dict) → Stays (here.ended B ghosts calls destruct).signature.params (here.ended B ghosts calls destruct).kept
@@ -54,18 +54,18 @@ deallocate_spec 𝓤 𝓛 𝓜 𝓡 wired B laws ghosts calls destruct met drops
     let y : W.Ghost = ((κs, qs, bounds, a, (shr_vals self, (rawptr_vals place, (uint_vals w64 bytes, (uint_vals w64 alignment, tt))))), τ) in
     let Lives = fact 𝓤 (κs.1.0 ⊑ B.lives) in let Asked = fact 𝓤 ((capped (size τ) ≡ bytes) × (capped (align τ) ≡ alignment)) in
     let Alive : Item 𝓤 = raw (alive 𝓛 T.signature κs qs) in
-    let Lend = triple_of 𝓛 (lends.signature B) (lends.spec B ghosts calls destruct 𝓛 𝓜.mem 𝓡.returns) in
-    let z : Lend.Ghost = ((κs, qs, bounds, (self, tt), (shr_vals self, tt)), tt) in
+    let Count = triple_of 𝓛 (counts.signature B) (counts.spec B ghosts calls destruct 𝓛 𝓜.mem 𝓡.returns) in
+    let z : Count.Ghost = ((κs, qs, bounds, (self, (bytes, tt)), (shr_vals self, (uint_vals w64 bytes, tt))), tt) in
     let Give = Gives (record { row = B; laws = laws; g = ghosts; d = calls; drops = destruct }) 𝓛 𝓜.mem 𝓡.returns in
     qed 𝓛 ((Alive ⊛ ‵ (owns (types_at T.signature.params κs) a y.0.4)) ∷ (raw Lives ⊛ raw Asked ⊛ ‵ (owned_block (ghosts.dealloc_token self.now.below) τ place)) ∷ []) ∵
     move ! (1 ∷ []) $ split ! $ heard ! _ (λ lives. move ! (1 ∷ []) $ split ! $ move ! (1 ∷ []) $ fsplit ! $
     -- [`self`; the other parameters; the tokens; what is asked, with the block]
-    nothing ! $ move ! (1 ∷ 0 ∷ []) $ fjoin ! $ move ! (2 ∷ 0 ∷ []) $ join ! $
-    nothing ! $ use0 𝓛 (raw Lives) (fact_i 𝓤 (κs.1.0 ⊑ B.lives) (emp 𝓤) lives) $ join ! $ move ! (1 ∷ 0 ∷ []) $ join ! $ use1 𝓛 (raw (Lend.pre z)) (id⊢ 𝓤 _) $
+    nothing ! $ owned ! usize _ (uint_Makes 𝓛 w64) bytes _ (refl, are.1.1.0.1) $ fjoin ! $ move ! (1 ∷ 0 ∷ []) $ fjoin ! $ move ! (2 ∷ 0 ∷ []) $ join ! $
+    nothing ! $ use0 𝓛 (raw Lives) (fact_i 𝓤 (κs.1.0 ⊑ B.lives) (emp 𝓤) lives) $ join ! $ move ! (1 ∷ 0 ∷ []) $ join ! $ use1 𝓛 (raw (Count.pre z)) (id⊢ 𝓤 _) $
     enter ! _ _ _ _ _ $ alloc_all ! (λ l. pass_all ! refl ((tt, tt), (((rawptr_Lawful 𝓛).typed place _ refl).0, ((tt, record { fits = are.1.1.0.1 }), ((tt, record { fits = are.1.1.1.0.1 }), tt)))) $
-    calls_at ! (framed 𝓤 𝓛.H 𝓜 (tables 𝓤 𝓛.H 𝓜 𝓡 𝓡.env)) Lend (lent.met 𝓤 𝓛 𝓜 𝓡 (code.calls-bench_report::counting::Counting::below 𝓡.env wired) B laws ghosts calls destruct met drops) z (and_then ! (get ! refl) (no_more !)) (λ v.
-    use1 𝓛 (later (some (λ (x : Bor B.Denot). (Alive ⊛ ‵ ((type_at (lends.signature B).result κs).own_val x (v ∷ []))) ⊛
-    some (λ (ws : Lasts (lends.ended B ghosts calls destruct) κs z.0.3). ‵ (lasts (lends.ended B ghosts calls destruct) κs z.0.3 ws) ⊛ raw (fact 𝓤 (x.now ≡ self.now.below)))))) (id⊢ 𝓤 _) $
+    calls_at ! (framed 𝓤 𝓛.H 𝓜 (tables 𝓤 𝓛.H 𝓜 𝓡 𝓡.env)) Count (counted.met 𝓤 𝓛 𝓜 𝓡 (code.calls-bench_report::counting::Counting::below_returned 𝓡.env wired) B laws ghosts calls destruct met drops) z (and_then ! (get ! refl) (and_then ! (get ! refl) (no_more !))) (λ v.
+    use1 𝓛 (later (some (λ (x : Bor B.Denot). (Alive ⊛ ‵ ((type_at (counts.signature B).result κs).own_val x (v ∷ []))) ⊛
+    some (λ (ws : Lasts (counts.ended B ghosts calls destruct) κs z.0.3). ‵ (lasts (counts.ended B ghosts calls destruct) κs z.0.3 ws) ⊛ raw (fact 𝓤 (x.now ≡ self.now.below)))))) (id⊢ 𝓤 _) $
     await ! tt $ pick ! (λ x. split ! $ split ! $ move ! (2 ∷ []) $ pick ! (λ ws. split ! $ drop ! $ heard ! (x.now ≡ self.now.below) (λ same.
     move ! (1 ∷ []) $ fsplit ! $ feq_l ! (λ at. lands_as ! (ap only at) refl (tt, tt) $
     rewrite ! 0 (λ (h : B.Denot). ‵ (hidden_shr (param 0 B) κs.0 h x.ref_ptr.0 x.ref_ptr.1)) same refl $
