@@ -11,6 +11,8 @@ mod calls;
 #[cfg(test)]
 mod cell_tests;
 #[cfg(test)]
+mod ending_tests;
+#[cfg(test)]
 mod granted;
 #[cfg(test)]
 mod idle_tests;
