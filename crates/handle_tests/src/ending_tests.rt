@@ -4,9 +4,8 @@
 ghost use Rattle.std.specs.Prelude.{⊤};
 
 use crate::granted::granted;
-use async_task::{
-    Builder, Future, Poll, Runnable, Schedule, ScheduleInfo, Task, TaskWaker, Wake, Yields,
-};
+use Event::{Freed, Future, Handed, Held, Kept, Output, Unwoken, Woken};
+use async_task::{Builder, Poll, Runnable, Schedule, ScheduleInfo, Task, TaskWaker, Wake, Yields};
 use bench_report::counting::Counting;
 use counted_values::counters::Counter;
 use std::alloc::Global;
@@ -416,7 +415,7 @@ impl Yields for EndFuture {
     type Output = EndOutput;
 }
 
-impl<'x, 'm, R: Wait + Drop> Future<EndWaker<'x, 'm, R>> for EndFuture {
+impl<'x, 'm, R: Wait + Drop> async_task::Future<EndWaker<'x, 'm, R>> for EndFuture {
     ghost polled = { λ _ _ _ _. ⊤ };
 
     fn poll(&mut self, waker: &EndWaker<'x, 'm, R>) -> Poll<EndOutput> {
@@ -699,107 +698,49 @@ where
 // A poll that is ready hands the output out, and the poller drops it. The Task is the last handle.
 #[test]
 fn the_task_of_a_claimed_output_is_the_last(rt: HostRuntime) {
-    let events = [
-        Event::Held,
-        Event::Future,
-        Event::Held,
-        Event::Held,
-        Event::Output,
-        Event::Held,
-        Event::Kept,
-        Event::Kept,
-        Event::Freed,
-    ];
+    let events = [Held, Future, Held, Held, Output, Held, Kept, Kept, Freed];
     lives_so(rt, rt.alloc(), Way::Claimed, &events);
 }
 
 // The run drops an output that nobody can claim, after the future, and is the last handle.
 #[test]
 fn the_run_of_a_detached_task_is_the_last(rt: HostRuntime) {
-    let events = [
-        Event::Held,
-        Event::Held,
-        Event::Future,
-        Event::Output,
-        Event::Kept,
-        Event::Kept,
-        Event::Freed,
-    ];
+    let events = [Held, Held, Future, Output, Kept, Kept, Freed];
     lives_so(rt, rt.alloc(), Way::Detached, &events);
 }
 
 // The drop of the Task drops the output. The block stays until the last of two wakers is dropped.
 #[test]
 fn wakers_keep_the_block_of_a_completed_task(rt: HostRuntime) {
-    let events = [
-        Event::Held,
-        Event::Future,
-        Event::Held,
-        Event::Output,
-        Event::Held,
-        Event::Held,
-        Event::Kept,
-        Event::Kept,
-        Event::Freed,
-    ];
+    let events = [Held, Future, Held, Output, Held, Held, Kept, Kept, Freed];
     lives_so(rt, rt.alloc(), Way::WakersLeft, &events);
 }
 
 // The drop of the Task closes the task, and its Runnable, which is run, drops the future. The waker is the last handle.
 #[test]
 fn a_waker_keeps_the_block_of_a_cancelled_task(rt: HostRuntime) {
-    let events = [
-        Event::Held,
-        Event::Held,
-        Event::Future,
-        Event::Held,
-        Event::Kept,
-        Event::Kept,
-        Event::Freed,
-    ];
+    let events = [Held, Held, Future, Held, Kept, Kept, Freed];
     lives_so(rt, rt.alloc(), Way::CancelledScheduled, &events);
 }
 
 // The drop of the Task hands a Runnable over, which drops the future and is the last handle.
 #[test]
 fn the_cancel_of_an_idle_task_hands_its_end_over(rt: HostRuntime) {
-    let events = [
-        Event::Held,
-        Event::Held,
-        Event::Handed,
-        Event::Held,
-        Event::Future,
-        Event::Kept,
-        Event::Kept,
-        Event::Freed,
-    ];
+    let events = [Held, Held, Handed, Held, Future, Kept, Kept, Freed];
     lives_so(rt, rt.alloc(), Way::CancelledIdle, &events);
 }
 
 // The run drops the future after its poll, and is the last handle. It hands nothing over, though the task was woken.
 #[test]
 fn a_run_that_is_cancelled_is_the_last(rt: HostRuntime) {
-    let events = [
-        Event::Held,
-        Event::Future,
-        Event::Kept,
-        Event::Kept,
-        Event::Freed,
-    ];
+    let events = [Held, Future, Kept, Kept, Freed];
     lives_so(rt, rt.alloc(), Way::CancelledRunning, &events);
 }
 
 // The drop of the Runnable drops the future. The Task is the last handle.
 #[test]
 fn the_task_of_a_dropped_runnable_is_the_last(rt: HostRuntime) {
-    let events = [
-        Event::Held,
-        Event::Future,
-        Event::Held,
-        Event::Kept,
-        Event::Kept,
-        Event::Freed,
-    ];
+    let events = [Held, Future, Held, Kept, Kept, Freed];
     lives_so(rt, rt.alloc(), Way::RunnableDropped, &events);
 }
 
@@ -807,18 +748,7 @@ fn the_task_of_a_dropped_runnable_is_the_last(rt: HostRuntime) {
 #[test]
 fn the_last_waker_of_an_orphan_hands_its_end_over(rt: HostRuntime) {
     let events = [
-        Event::Held,
-        Event::Held,
-        Event::Held,
-        Event::Held,
-        Event::Held,
-        Event::Handed,
-        Event::Held,
-        Event::Future,
-        Event::Unwoken,
-        Event::Kept,
-        Event::Kept,
-        Event::Freed,
+        Held, Held, Held, Held, Held, Handed, Held, Future, Unwoken, Kept, Kept, Freed,
     ];
     lives_so(rt, rt.alloc(), Way::Orphaned, &events);
 }
@@ -827,17 +757,7 @@ fn the_last_waker_of_an_orphan_hands_its_end_over(rt: HostRuntime) {
 #[test]
 fn the_task_that_is_awaited_wakes_before_its_end(rt: HostRuntime) {
     let events = [
-        Event::Held,
-        Event::Held,
-        Event::Held,
-        Event::Held,
-        Event::Handed,
-        Event::Woken,
-        Event::Held,
-        Event::Future,
-        Event::Kept,
-        Event::Kept,
-        Event::Freed,
+        Held, Held, Held, Held, Handed, Woken, Held, Future, Kept, Kept, Freed,
     ];
     lives_so(rt, rt.alloc(), Way::Awaited, &events);
 }

@@ -1,8 +1,8 @@
-//! Tests of the metadata: it goes with the last handle, and no sooner.
+//! A test of the metadata that a parked handle shows.
 ghost use Rattle.std.specs.Prelude.{⊤};
 
 use crate::granted::granted;
-use async_task::{Builder, Runnable, Schedule, ScheduleInfo, Task, TaskWaker};
+use async_task::{Builder, Runnable, Schedule, ScheduleInfo, Task};
 use counted_values::behaviour::Behaviour;
 use counted_values::counters::{Counter, Counters};
 use counted_values::flag::Flag;
@@ -31,8 +31,6 @@ struct Dropper;
 type TagRunnable<R> = Runnable<R, RowFuture, Dropper, Tag, Flag, ()>;
 
 type TagTask<R> = Task<R, RowFuture, Dropper, Tag, Flag, ()>;
-
-type TagWaker<R> = TaskWaker<R, RowFuture, Dropper, Tag, Flag, ()>;
 
 impl<R: Wait + Drop> Schedule<TagRunnable<R>> for Dropper {
     ghost scheduled = { λ _ _ _. ⊤ };
@@ -65,56 +63,6 @@ fn drop_runnable<R: Wait + Drop>(runnable: TagRunnable<R>) {
 
 fn drop_task<R: Wait + Drop>(task: TagTask<R>) {
     drop(task);
-}
-
-fn drop_waker<R: Wait + Drop>(waker: Option<TagWaker<R>>) {
-    drop(waker);
-}
-
-// Drops the Runnable and then the Task: the drops of the metadata before, between and after.
-fn drops_until_task<R: Wait + Abort + Drop + Copy>(
-    rt: R,
-    alloc: Global,
-    drops: &Arc<Counter>,
-) -> [u64; 3] {
-    let (runnable, task) = spawn_tagged(rt, alloc, drops);
-    let spawned = drops.get();
-    drop_runnable(runnable);
-    let kept = drops.get();
-    drop_task(task);
-    [spawned, kept, drops.get()]
-}
-
-// The Task is the last handle: the metadata is there after the drop of the Runnable, and is dropped once, with the Task.
-#[test]
-fn the_metadata_goes_with_the_task(rt: HostRuntime) {
-    let drops = granted(&rt, Arc::new(rt.alloc(), Counter::new()));
-    let seen = drops_until_task(rt, rt.alloc(), &drops);
-    assert!(rt; seen == [0, 0, 1]);
-}
-
-// Drops the Task, the Runnable and then a waker: the drops of the metadata after each.
-fn drops_until_waker<R: Wait + Abort + Drop + Copy>(
-    rt: R,
-    alloc: Global,
-    drops: &Arc<Counter>,
-) -> [u64; 3] {
-    let (runnable, task) = spawn_tagged(rt, alloc, drops);
-    let waker = runnable.waker();
-    drop_task(task);
-    let cancelled = drops.get();
-    drop_runnable(runnable);
-    let kept = drops.get();
-    drop_waker(waker);
-    [cancelled, kept, drops.get()]
-}
-
-// A waker is the last handle of a task that is closed and whose future is gone: the metadata goes with it.
-#[test]
-fn the_metadata_goes_with_the_last_waker(rt: HostRuntime) {
-    let drops = granted(&rt, Arc::new(rt.alloc(), Counter::new()));
-    let seen = drops_until_waker(rt, rt.alloc(), &drops);
-    assert!(rt; seen == [0, 0, 1]);
 }
 
 // Parks the Runnable and the Task of a task whose counter was set to 1, and drops them unparked: the counter that the metadata of each shows, and the
