@@ -1,0 +1,16 @@
+//! Tests of `counted_block` from above, in safe code: a pointer that several owners share, and the calls that it does not make.
+#![tactic(auto)]
+
+#[cfg(test)]
+mod ending_tests;
+mod keeper;
+mod law;
+mod pointer;
+#[cfg(test)]
+mod pointer_tests;
+#[cfg(test)]
+mod slot_tests;
+
+pub use keeper::Keeper;
+pub use law::{Law, View};
+pub use pointer::Pointer;

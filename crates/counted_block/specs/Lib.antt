@@ -1,0 +1,5 @@
+pub mod Layout
+pub mod Blocks
+pub mod Counts
+pub mod Held
+pub mod Lent

@@ -1,0 +1,84 @@
+// The last share ends the block, or leaves that to the last hold.
+ghost use Rattle.std.specs.Prelude.{◌≡◌, ◌==◌, [], ◌∷◌, IfSome};
+ghost use mathlib.Core.Bool.{not};
+ghost use mathlib.Core.Option.{some};
+ghost use Rattle.atomic_table.specs.Table.{Final, Seen};
+ghost use Rattle.counted_block.specs.Counts.{Last};
+
+use crate::bare::Bare;
+use crate::inner::Inner;
+use crate::remains::Remains;
+use crate::rule::BlockRule;
+use crate::seat::Seat;
+use crate::share::{MaybeShare, Share};
+use std::alloc::Allocator;
+use std::marker::{Brand, PhantomData};
+use std::sync::atomic::Ordering::SeqCst;
+use std::sync::atomic::raw;
+
+// What the closer adds to the holds when it leaves.
+const LEFT: u64 = 1 << 63;
+
+impl<S, V, K, P: BlockRule<S, V, K>, T, A: Allocator> Share<S, V, K, P, T, A> {
+    // Looks whether there is a hold. If there is none, the block has ended: only a share makes holds, and this one is the last.
+    fn look(
+        self,
+        seat: &mut Seat<S, V>,
+    ) -> (u64, MaybeShare<S, V, K, P, T, A>, Remains<S, V, K, P, T, A>)
+        requires { (seat.old.block ≡ self.id) × Last (P.holds self.key) P.out seat.old.id seat.old.me.0 }
+        ensures seat { (seat.new.block ≡ seat.old.block) × (seat.new.id ≡ seat.old.id) × (seat.new.me ≡ seat.old.me) }
+        ensures share { (result.1.id ≡ self.id) × (result.1.key ≡ self.key) × (result.1.value ≡ self.value) × (result.1.heap ≡ self.heap) × (result.1.there ≡ not (result.0 == 0)) }
+        ensures remains { (result.2.key ≡ self.key) × (result.2.value ≡ self.value) × (result.2.heap ≡ self.heap) × (result.2.there ≡ result.0 == 0) × (result.2.seat ≡ some (seat.old.id, seat.old.me.0)) }
+    {
+        let Share { at, marker: _ } = self;
+        let found = unsafe { raw::load::<Brand>(&raw const (*at).holds, SeqCst) };
+        let share = MaybeShare {
+            at,
+            marker: PhantomData,
+        };
+        let remains = Remains {
+            at,
+            marker: PhantomData,
+        };
+        (found, share, remains)
+    }
+
+    // Ends the share, and the block too if the last hold was released meanwhile.
+    fn leave(self, seat: &mut Seat<S, V>) -> (u64, Remains<S, V, K, P, T, A>)
+        requires { (seat.old.block ≡ self.id) × Last (P.holds self.key) P.out seat.old.id seat.old.me.0 }
+        ensures seat { (seat.new.block ≡ seat.old.block) × (seat.new.id ≡ seat.old.id) × (seat.new.me ≡ seat.old.me) }
+        ensures remains { (result.1.key ≡ self.key) × (result.1.value ≡ self.value) × (result.1.heap ≡ self.heap) × (result.1.there ≡ result.0 == 0) × (result.1.seat ≡ some (seat.old.id, seat.old.me.0)) }
+    {
+        let Share { at, marker: _ } = self;
+        let found = unsafe { raw::fetch_add::<Brand>(&raw const (*at).holds, LEFT, SeqCst) };
+        let remains = Remains {
+            at,
+            marker: PhantomData,
+        };
+        (found, remains)
+    }
+
+    /// Ends the last share, and gives the block back, in a state that keeps the rule and has the seat's view; each slot that was at home there has its value.
+    ///
+    /// `seat` is one whose view says that no other share is out. None if there is a hold: then the last one gets the block, from `release`.
+    /// It costs one load where nobody holds, and an addition more where somebody does.
+    pub fn close(self, seat: &mut Seat<S, V>) -> Option<Bare<Inner<S, T>, A>>
+        requires { (seat.old.block ≡ self.id) × Last (P.holds self.key) P.out seat.old.id seat.old.me.0 }
+        ensures seat { (seat.new.block ≡ seat.old.block) × (seat.new.id ≡ seat.old.id) × (seat.new.me ≡ seat.old.me) }
+        ensures block { IfSome result (λ b. (b.value.value ≡ self.value) × (b.heap ≡ self.heap) × Final (Seen (P.holds self.key) seat.old.id seat.old.me.0) (b.value.word ∷ []) (b.value.first ∷ b.value.second ∷ b.value.third ∷ [])) }
+    {
+        let (held, share, remains) = self.look(seat);
+        if held == 0 {
+            share.none();
+            return Some(remains.bare());
+        }
+        remains.none();
+        let (held, remains) = share.share().leave(seat);
+        if held == 0 {
+            Some(remains.bare())
+        } else {
+            remains.none();
+            None
+        }
+    }
+}
