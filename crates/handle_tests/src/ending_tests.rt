@@ -1,6 +1,4 @@
 //! Tests of the ways in which a task ends: in which order its parts are dropped, and that its block is given back with the last handle.
-//!
-//! Each life is lived twice, the second time with its last handle on a second thread.
 ghost use Rattle.std.specs.Prelude.{⊤};
 
 use crate::granted::granted;
@@ -9,11 +7,10 @@ use async_task::{Builder, Poll, Runnable, Schedule, ScheduleInfo, Task, TaskWake
 use bench_report::counting::Counting;
 use counted_values::counters::Counter;
 use std::alloc::Global;
+use std::mem;
 use std::process::Abort;
 use std::sync::atomic::{AtomicU64, Ordering};
 use std::sync::{Arc, Mutex, Wait};
-use std::thread::Threads;
-use std::{mem, thread};
 
 // What is noted of a task, in the order in which it comes.
 #[derive(Clone, Copy)]
@@ -57,7 +54,7 @@ fn with_event(events: u64, event: Event) -> u64 {
     events.wrapping_mul(16).wrapping_add(event.digit())
 }
 
-// What the parts of a task note. They come one at a time, since a second thread is joined before the next call.
+// What the parts of a task note.
 #[derive(Drop)]
 struct Journal {
     events: AtomicU64,
@@ -475,28 +472,10 @@ fn run<R: Wait + Abort + Drop + Copy>(ground: &Ground<R>, runnable: EndRunnable<
     ground.mark();
 }
 
-// Runs here, or on a second thread. Stops where there is none.
-fn run_last<R>(ground: &Ground<R>, runnable: EndRunnable<'_, '_, R>, beside: bool)
-where
-    R: Wait + Threads + Abort + Drop + Copy + Send + Sync,
-{
-    if !beside {
-        return run(ground, runnable);
-    }
-    thread::scope(thread::scope_env(), &ground.rt, |scope| {
-        if scope.spawn(move || run(ground, runnable)).is_err() {
-            panic!(ground.rt; "no thread");
-        }
-    })
-}
-
-// Runs what was handed over, here or on a second thread. Stops where nothing was.
-fn run_handed<R>(ground: &Ground<R>, desk: &Desk<'_, R>, beside: bool)
-where
-    R: Wait + Threads + Abort + Drop + Copy + Send + Sync,
-{
+// Runs what was handed over. Stops where nothing was.
+fn run_handed<R: Wait + Abort + Drop + Copy>(ground: &Ground<R>, desk: &Desk<'_, R>) {
     match desk.receive() {
-        Some(handed) => run_last(ground, handed, beside),
+        Some(handed) => run(ground, handed),
         None => panic!(ground.rt; "nothing was handed over"),
     }
 }
@@ -505,21 +484,6 @@ where
 fn let_go<R: Abort + Drop + Copy, H: Drop>(ground: &Ground<R>, handle: H) {
     drop(handle);
     ground.mark();
-}
-
-// Drops a handle here, or on a second thread. Stops where there is none.
-fn let_go_last<R, H: Drop + Send>(ground: &Ground<R>, handle: H, beside: bool)
-where
-    R: Wait + Threads + Abort + Drop + Copy + Send + Sync,
-{
-    if !beside {
-        return let_go(ground, handle);
-    }
-    thread::scope(thread::scope_env(), &ground.rt, |scope| {
-        if scope.spawn(move || let_go(ground, handle)).is_err() {
-            panic!(ground.rt; "no thread");
-        }
-    })
 }
 
 // Detaches a Task.
@@ -552,33 +516,24 @@ enum Way {
 }
 
 // A task completes, and its Task claims the output.
-fn claim<R>(ground: &Ground<R>, beside: bool)
-where
-    R: Wait + Threads + Abort + Drop + Copy + Send + Sync,
-{
+fn claim<R: Wait + Abort + Drop + Copy>(ground: &Ground<R>) {
     let desk = Desk::new(ground.rt);
     let (runnable, mut task) = spawn_in(ground, &desk, Act::Complete);
     run(ground, runnable);
     poll(ground, &mut task);
-    let_go_last(ground, task, beside);
+    let_go(ground, task);
 }
 
 // A detached task completes.
-fn complete_detached<R>(ground: &Ground<R>, beside: bool)
-where
-    R: Wait + Threads + Abort + Drop + Copy + Send + Sync,
-{
+fn complete_detached<R: Wait + Abort + Drop + Copy>(ground: &Ground<R>) {
     let desk = Desk::new(ground.rt);
     let (runnable, task) = spawn_in(ground, &desk, Act::Complete);
     detach(ground, task);
-    run_last(ground, runnable, beside);
+    run(ground, runnable);
 }
 
 // A task with two wakers completes, and its Task is dropped before them with the output.
-fn leave_wakers<R>(ground: &Ground<R>, beside: bool)
-where
-    R: Wait + Threads + Abort + Drop + Copy + Send + Sync,
-{
+fn leave_wakers<R: Wait + Abort + Drop + Copy>(ground: &Ground<R>) {
     let desk = Desk::new(ground.rt);
     let (runnable, task) = spawn_in(ground, &desk, Act::Complete);
     let first = waker_of(ground, &runnable);
@@ -586,113 +541,87 @@ where
     run(ground, runnable);
     let_go(ground, task);
     let_go(ground, first);
-    let_go_last(ground, second, beside);
+    let_go(ground, second);
 }
 
 // A scheduled task with a waker loses its Task, and is run.
-fn cancel_scheduled<R>(ground: &Ground<R>, beside: bool)
-where
-    R: Wait + Threads + Abort + Drop + Copy + Send + Sync,
-{
+fn cancel_scheduled<R: Wait + Abort + Drop + Copy>(ground: &Ground<R>) {
     let desk = Desk::new(ground.rt);
     let (runnable, task) = spawn_in(ground, &desk, Act::Complete);
     let waker = waker_of(ground, &runnable);
     let_go(ground, task);
     run(ground, runnable);
-    let_go_last(ground, waker, beside);
+    let_go(ground, waker);
 }
 
 // An idle task loses its Task.
-fn cancel_idle<R>(ground: &Ground<R>, beside: bool)
-where
-    R: Wait + Threads + Abort + Drop + Copy + Send + Sync,
-{
+fn cancel_idle<R: Wait + Abort + Drop + Copy>(ground: &Ground<R>) {
     let desk = Desk::new(ground.rt);
     let (runnable, task) = spawn_in(ground, &desk, Act::Wait);
     run(ground, runnable);
     let_go(ground, task);
-    run_handed(ground, &desk, beside);
+    run_handed(ground, &desk);
 }
 
 // A task loses its Task in its poll, in which it was woken before.
-fn cancel_running<R>(ground: &Ground<R>, beside: bool)
-where
-    R: Wait + Threads + Abort + Drop + Copy + Send + Sync,
-{
+fn cancel_running<R: Wait + Abort + Drop + Copy>(ground: &Ground<R>) {
     let desk = Desk::new(ground.rt);
     let (runnable, task) = spawn_in(ground, &desk, Act::Cancel);
     desk.keep_task(task);
-    run_last(ground, runnable, beside);
+    run(ground, runnable);
 }
 
 // The Runnable of a task is dropped.
-fn drop_runnable<R>(ground: &Ground<R>, beside: bool)
-where
-    R: Wait + Threads + Abort + Drop + Copy + Send + Sync,
-{
+fn drop_runnable<R: Wait + Abort + Drop + Copy>(ground: &Ground<R>) {
     let desk = Desk::new(ground.rt);
     let (runnable, task) = spawn_in(ground, &desk, Act::Complete);
     let_go(ground, runnable);
-    let_go_last(ground, task, beside);
+    let_go(ground, task);
 }
 
 // A pending task that was awaited is detached and loses its last waker, and is run.
-fn orphan<R>(ground: &Ground<R>, beside: bool)
-where
-    R: Wait + Threads + Abort + Drop + Copy + Send + Sync,
-{
+fn orphan<R: Wait + Abort + Drop + Copy>(ground: &Ground<R>) {
     let desk = Desk::new(ground.rt);
     let (runnable, mut task) = spawn_in(ground, &desk, Act::Wait);
     let waker = waker_of(ground, &runnable);
     poll(ground, &mut task);
     detach(ground, task);
     run(ground, runnable);
-    let_go_last(ground, waker, beside);
-    run_handed(ground, &desk, beside);
+    let_go(ground, waker);
+    run_handed(ground, &desk);
 }
 
 // An idle task loses its Task, which has registered an awaiter.
-fn cancel_awaited<R>(ground: &Ground<R>, beside: bool)
-where
-    R: Wait + Threads + Abort + Drop + Copy + Send + Sync,
-{
+fn cancel_awaited<R: Wait + Abort + Drop + Copy>(ground: &Ground<R>) {
     let desk = Desk::new(ground.rt);
     let (runnable, mut task) = spawn_in(ground, &desk, Act::Wait);
     run(ground, runnable);
     poll(ground, &mut task);
     let_go(ground, task);
-    run_handed(ground, &desk, beside);
+    run_handed(ground, &desk);
 }
 
 // What is seen of a task that ends in that way.
-fn live<R>(rt: R, alloc: Global, way: Way, beside: bool) -> Life
-where
-    R: Wait + Threads + Abort + Drop + Copy + Send + Sync,
-{
+fn live<R: Wait + Abort + Drop + Copy>(rt: R, alloc: Global, way: Way) -> Life {
     let ground = Ground::new(rt, alloc);
     match way {
-        Way::Claimed => claim(&ground, beside),
-        Way::Detached => complete_detached(&ground, beside),
-        Way::WakersLeft => leave_wakers(&ground, beside),
-        Way::CancelledScheduled => cancel_scheduled(&ground, beside),
-        Way::CancelledIdle => cancel_idle(&ground, beside),
-        Way::CancelledRunning => cancel_running(&ground, beside),
-        Way::RunnableDropped => drop_runnable(&ground, beside),
-        Way::Orphaned => orphan(&ground, beside),
-        Way::Awaited => cancel_awaited(&ground, beside),
+        Way::Claimed => claim(&ground),
+        Way::Detached => complete_detached(&ground),
+        Way::WakersLeft => leave_wakers(&ground),
+        Way::CancelledScheduled => cancel_scheduled(&ground),
+        Way::CancelledIdle => cancel_idle(&ground),
+        Way::CancelledRunning => cancel_running(&ground),
+        Way::RunnableDropped => drop_runnable(&ground),
+        Way::Orphaned => orphan(&ground),
+        Way::Awaited => cancel_awaited(&ground),
     }
     ground.life()
 }
 
 // Stops where a task that ends in that way does not live so: with those events, in one block, of which nothing is left.
-fn lives_so<R>(rt: R, alloc: Global, way: Way, events: &[Event])
-where
-    R: Wait + Threads + Abort + Drop + Copy + Send + Sync,
-{
-    let expected = Life::of(events);
-    let here = live(rt, alloc, way, false);
-    let beside = live(rt, alloc, way, true);
-    assert!(rt; [here, beside] == [expected; 2], "{way:?}");
+fn lives_so<R: Wait + Abort + Drop + Copy>(rt: R, alloc: Global, way: Way, events: &[Event]) {
+    let lived = live(rt, alloc, way);
+    assert!(rt; lived == Life::of(events), "{way:?}");
 }
 
 // A poll that is ready hands the output out, and the poller drops it. The Task is the last handle.
