@@ -1,6 +1,6 @@
 //! One heap block: a word of the user's, a word of holds, three slots and a value. Its memory goes by the words: how many shares of it are out is a function of the first, under a rule of the user's, and the second counts the holds.
 //!
-//! All `unsafe` of this library stands here. A crate above it writes safe code, and proves facts about plain data.
+//! A crate above it writes safe code, and proves facts about plain data.
 #![tactic(auto)]
 
 mod bare;
