@@ -77,6 +77,11 @@ impl<S, V, K, P: BlockRule<S, V, K>, T, A: Allocator> Share<S, V, K, P, T, A> {
         unsafe { &(*self.at).value }
     }
 
+    /// Gives the share up without a step. Its block is never freed.
+    pub fn leak(self) {
+        let Share { at: _, marker: _ } = self;
+    }
+
     /// Makes a ledger, by which its seats go on once the share is given up. It costs nothing.
     pub fn ledger(&self) -> Ledger<S, V, K, P, T, A>
         ensures { (result.id ≡ self.now.id) × (result.key ≡ self.now.key) × (result.value ≡ self.now.value) × (result.heap ≡ self.now.heap) }

@@ -95,6 +95,20 @@ leads_fit s (a ∷ more) p o e = let j = joined (rule s a p) (λ o. leads (spot 
     both (found s.limit a s.word) (all_fit s.limit (written a s.word) more) (found_is (found s.limit a s.word) (goes s (written a s.word) a p) j.first j.one).0
     (subst (λ (w : State). all_fit s.limit w more ≡ true) (rule_word s a p j.first j.one) (leads_fit (spot s.limit j.first.word j.first.slots) more j.first.next j.second j.two))
 
+-- the word that acts in a row leave
+abbrev pub word_after : State → List Act → State
+word_after w [] = w
+word_after w (a ∷ more) = word_after (written a w) more
+
+abbrev word_of_outcome : State → Option Outcome → State
+word_of_outcome w None = w
+word_of_outcome w (Some o) = o.word
+
+pub leads_word : (s : Scene) (acts : List Act) (p : Position) (o : Outcome) → leads s acts p ≡ Some o → o.word ≡ word_after s.word acts
+leads_word s [] p o e = ap (word_of_outcome s.word) (sym e)
+leads_word s (a ∷ more) p o e = let j = joined (rule s a p) (λ o. leads (spot s.limit o.word o.slots) more o.next) o e in
+    ap (word_of_outcome s.word) (sym j.is) ∙ leads_word (spot s.limit j.first.word j.first.slots) more j.first.next j.second j.two ∙ ap (λ (w : State). word_after w more) (rule_word s a p j.first j.one)
+
 fresh_append : (s t : List Position) → map fresh (s ++ t) ≡ map fresh s ++ map fresh t
 fresh_append [] t = refl
 fresh_append (p ∷ s) t = ap (λ l. fresh p ∷ l) (fresh_append s t)

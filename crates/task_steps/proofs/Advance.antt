@@ -20,13 +20,13 @@ abbrev pub SameAwaiter : Machine → Outcome → Type 0
 SameAwaiter m o = o.slots.awaiter ≡ m.slots.awaiter
 
 -- the step takes no place of the table, and gives none back
-abbrev PlacesSeen : Type 0
+abbrev pub PlacesSeen : Type 0
 PlacesSeen = Bool × Bool × Slots × ℕ × ℕ
 
-abbrev places_before : Machine → Position → PlacesSeen
+abbrev pub places_before : Machine → Position → PlacesSeen
 places_before m p = (has_work p, owns_awaiter p, m.slots, 0, 0)
 
-abbrev places_after : Outcome → PlacesSeen
+abbrev pub places_after : Outcome → PlacesSeen
 places_after o = (has_work o.next, owns_awaiter o.next, o.slots, how_many has_work o.born, how_many owns_awaiter o.born)
 
 module _ {F T A : Type 0} where
@@ -64,7 +64,7 @@ module _ {F T A : Type 0} where
     pub idle : (how_many has_work outcome.born ≡ 0) × (how_many owns_awaiter outcome.born ≡ 0)
     pub placing : Placing m p outcome l
 
-  pub keeps_places : {m : Machine} {p : Position} {acts : List Act} {new : ℕ} {l : List (ℕ × Slot F T A)} (o : Outcome) → leads (scene m) acts p ≡ Some o → new ≡ number_of o.word → places_after o ≡ places_before m p → Steps m p acts new l
+  unfoldable pub keeps_places : {m : Machine} {p : Position} {acts : List Act} {new : ℕ} {l : List (ℕ × Slot F T A)} (o : Outcome) → leads (scene m) acts p ≡ Some o → new ≡ number_of o.word → places_after o ≡ places_before m p → Steps m p acts new l
   keeps_places o leads_to writes same = record {
     outcome = o;
     leads_to = leads_to;
@@ -272,3 +272,9 @@ module _ (F T A : Type 0) (limit : ℕ) where
         still = λ _. put_else s l 2 0 y has (λ z. omega arith);
         carried = carried_as p o.next l (rest l) (has_work p) (has_work p) true false refl g e f (carries_back (has_work p) o.next l);
       }
+
+  -- a step that takes and gives back no place keeps all
+  pub stays_put : (b : Bool) (m : Machine) (p : Position) (o : Outcome) (s : B) (l : List (ℕ × Slot F T A)) (q : Machine) (a : After m p o q) (h : HomesAgree b m s.homes) (ready : has_work p ≡ false → has_work o.next ≡ true → b ≡ true) (three : length s.homes ≡ 3)
+      (e : has_work o.next ≡ has_work p) (f : owns_awaiter o.next ≡ owns_awaiter p) (w : (has_work p ≡ true) ⊎ SameWork m o) (z : (owns_awaiter p ≡ true) ⊎ SameAwaiter m o) → (places b m p o s l q a h ready three (stays e f w z)).move ≡ keeps
+  unfolding places
+  stays_put b m p o s l q a h ready three e f w z = refl

@@ -1,18 +1,18 @@
 -- The steps of the table that a party may make: what each owes is one obligation on the machine that it finds.
-use Rattle.std.proofs.Common.{◌≡◌, ℕ, suc, ◌<◌, ◌≢◌, Bool, true, false, Some, List, ◌∷◌, ◌++◌, length, map, get_or, set, sym, ap, ◌∙◌, subst, inl, inr, refl, ⊎_elim, arith, length-set, get_or-set_same}
+use Rattle.std.proofs.Common.{◌≡◌, ℕ, suc, ◌<◌, ◌≢◌, Bool, true, false, Option, Some, None, List, ◌∷◌, ◌++◌, length, map, get_or, set, sym, ap, ◌∙◌, subst, inl, inr, refl, ⊎_elim, arith, length-set, get_or-set_same}
 use mathlib.Core.Option.{some, some-injective}
 use mathlib.Core.Option as maybe
 use lib.ListN.{get_elem?}
-use Rattle.atomic_table.specs.Table.{State as Board, Me, homes_after, carried_after, Allows}
+use Rattle.atomic_table.specs.Table.{State as Board, Me, Act as Move, keeps, stepped, homes_after, carried_after, Allows}
 use Rattle.atomic_table.proofs.Lists as lists
-use Rattle.task_steps.proofs.Vocabulary.{State, state_of, number_of, Position, At, Runnable, Act, Outcome, Machine, scene, how_many, owns_awaiter, state_of_number_of, laws_of, Slot, Deed, Member, Stage, Laid, Filling, Spawned, View}
-use Rattle.task_steps.specs.Rule.{member, view, fresh, opening_at, Entry, Explains, has_work, AtHome, IsEmpty, Unfilled, Running, RuleHolds}
+use Rattle.task_steps.proofs.Vocabulary.{State, state_of, number_of, Position, At, Runnable, Act, Outcome, Machine, scene, how_many, owns_awaiter, state_of_number_of, laws_of, Slot, Deed, Tries, Member, Stage, Laid, Filling, Spawned, View}
+use Rattle.task_steps.specs.Rule.{member, trying, view, fresh, opening_at, Entry, Explains, has_work, AtHome, IsEmpty, Unfilled, Running, RuleHolds}
 use Rattle.task_steps.specs.Steps.{head_of, leaves_by, all_fit, noted, acted, next_of, born_of, Carried, Makes}
 use Rattle.task_steps.proofs.Explains.{inside}
 use Rattle.task_steps.proofs.Facts.{law, is_clear, many_at, queued, one_work}
-use Rattle.task_steps.proofs.Acts.{leads_leave, leads_fit, follows}
+use Rattle.task_steps.proofs.Acts.{leads, leads_leave, leads_fit, follows}
 use Rattle.task_steps.proofs.Seen.{over_stays, closed_stays, ended_stays}
-use Rattle.task_steps.proofs.Advance.{Steps, Finds, Result, After, places}
+use Rattle.task_steps.proofs.Advance.{Steps, keeps_places, places_before, places_after, Finds, Result, After, places, stays_put}
 
 module _ (F T A : Type 0) (limit : ℕ) where
   abbrev M : Type 0
@@ -49,9 +49,9 @@ module _ (F T A : Type 0) (limit : ℕ) where
   pub no_work : (views : List View) (log : List Entry) (m : Machine) (stage : Stage) → Explains limit views log m → get_elem? views 0 ≡ some (opening_at stage limit) → how_many has_work m.parties ≡ 0
   no_work views log m stage t first = let k = t.each 0 0 (opening_at stage limit) (fresh (At Runnable)) first refl in (queued m k.0 (law limit log m t.reaches) k.1.at).home
 
-  -- what the first party of a seat finds
-  pub finds : (s : B) (c : limit < 36028797018963968) (r : Running limit s) (id : ℕ) (v : View) (l : ℕ) (p : Position) (ds : List Deed) (us : List Member) → get_elem? s.views id ≡ some v → v ≡ view l (member p ds ∷ us) → Finds limit p ds us r.machine
-  finds s c r id v l p ds us at is = let k = r.told.each id 0 v (member p ds) at (ap (λ (w : View). get_elem? w.members 0) is) in record {
+  -- what the first party of a seat finds, whatever it has seen since its last act
+  pub finds_trying : (s : B) (c : limit < 36028797018963968) (r : Running limit s) (id : ℕ) (v : View) (l : ℕ) (p : Position) (ds : List Deed) (t : Option Tries) (us : List Member) → get_elem? s.views id ≡ some v → v ≡ view l (trying p ds t ∷ us) → Finds limit p ds us r.machine
+  finds_trying s c r id v l p ds t us at is = let k = r.told.each id 0 v (trying p ds t) at (ap (λ (w : View). get_elem? w.members 0) is) in record {
     invariant = law limit r.log r.machine r.told.reaches;
     limited = r.limited;
     capped = c;
@@ -62,6 +62,9 @@ module _ (F T A : Type 0) (limit : ℕ) where
     ended = λ e. ended_stays limit k.0 r.log r.machine ds r.told.reaches k.1.did e;
     beside = λ j u e. let x = r.told.each id (suc j) v u at (ap (λ (w : View). get_elem? w.members (suc j)) is ∙ e) in (x.0, x.1.at);
   }
+
+  pub finds : (s : B) (c : limit < 36028797018963968) (r : Running limit s) (id : ℕ) (v : View) (l : ℕ) (p : Position) (ds : List Deed) (us : List Member) → get_elem? s.views id ≡ some v → v ≡ view l (member p ds ∷ us) → Finds limit p ds us r.machine
+  finds s c r id v l p ds us at is = finds_trying s c r id v l p ds None us at is
 
   advance : (s : B) (c : limit < 36028797018963968) (r : Running limit s) (id : ℕ) (me : M) (l : ℕ) (p : Position) (ds : List Deed) (us : List Member) (acts : List Act) (new : ℕ)
       → get_elem? s.views id ≡ some me.0 → me.0 ≡ view l (member p ds ∷ us) → length s.homes ≡ 3 → Steps r.machine p acts new me.1
@@ -118,6 +121,14 @@ module _ (F T A : Type 0) (limit : ℕ) where
       ready : (b w : Bool) → (b ≡ false → w ≡ false) → has_work p ≡ false → w ≡ true → b ≡ true
       ready true w clear e f = refl
       ready false w clear e f = absurd (let g = clear refl in cc)
+
+  -- private acts that keep the word and the places change the view alone
+  pub noted_only : (s : B) (c : limit < 36028797018963968) (r : Running limit s) (id : ℕ) (me : M) (l : ℕ) (p : Position) (ds : List Deed) (us : List Member) (acts : List Act) → get_elem? s.views id ≡ some me.0 → me.0 ≡ view l (member p ds ∷ us) → length s.homes ≡ 3
+      → (o : Outcome) → leads (scene r.machine) acts p ≡ Some o → o.word ≡ r.machine.word → places_after o ≡ places_before r.machine p → (w : View) × Rule (stepped s 0 (now s) id me.1 w keeps) × Makes acts r.machine.word me (w, me.1)
+  unfolding advance keeps_places
+  noted_only s c r id me l p ds us acts at is three o e kept same = let a = advance s c r id me l p ds us acts (now s) at is three (keeps_places o e (r.word_is ∙ ap number_of (sym kept)) same) in
+      let put : a.1 ≡ keeps = stays_put F T A limit _ _ _ _ _ _ _ _ _ _ _ _ _ _ _ in
+      (a.0, subst (λ (move : Move (Slot F T A)). Rule (stepped s 0 (now s) id me.1 a.0 move)) put a.3, subst (λ (move : Move (Slot F T A)). Makes acts r.machine.word me (a.0, carried_after me.1 move)) put a.4)
 
   -- what the party at p owes that makes these acts by the word that it finds, and writes this number
   abbrev pub Owes : (State → List Act) → (ℕ → ℕ) → Position → List Deed → List Member → List (ℕ × Slot F T A) → Type 0

@@ -17,7 +17,9 @@ pub mod AwaiterOwed
 pub mod RunOwed
 pub mod Known
 pub mod Attempts
+pub mod Shares
 pub mod TaskOwed
+pub mod Handles
 pub mod PollOwed
 pub mod WakerOwed
 pub mod WakerSeats

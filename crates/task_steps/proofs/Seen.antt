@@ -1,14 +1,15 @@
 -- What a party has seen of the task's end is so from then on.
-use Rattle.std.proofs.Common.{◌≡◌, ℕ, zero, suc, ◌≤◌, eqb, Bool, true, false, not, ◌&&◌, ◌||◌, Option, Some, None, List, [], ◌∷◌, ◌++◌, sym, refl, ap, ◌∙◌, ⊎_elim, ◌⊎◌, inl, inr, cond, arith}
+use Rattle.std.proofs.Common.{◌≡◌, ℕ, zero, suc, ◌+◌, ◌≤◌, eqb, Bool, true, false, not, ◌&&◌, ◌||◌, Option, Some, None, List, [], ◌∷◌, ◌++◌, sym, refl, ap, ◌∙◌, ⊎_elim, ◌⊎◌, inl, inr, cond, arith}
 use Rattle.std.specs.Prelude.{slice_get}
 use Rattle.std.proofs.lemmas.Bool.Decides.{nat_tests}
 use mathlib.Core.Option.{some}
 use lib.ListN.{get_elem?}
-use Rattle.task_steps.proofs.Vocabulary.{State, is_open, Position, OrphanHolder, Act, DiscardOpen, CloseOrphan, found, written, Slots, Scene, Outcome, goes, rule, Event, Machine, Step, scene, moves, after, step}
+use Rattle.task_steps.proofs.Vocabulary.{State, is_open, Position, At, Runnable, Waker, Lent, OrphanHolder, Act, GainReference, DiscardOpen, CloseOrphan, is_held, when, found, written, Slots, Scene, Outcome, goes, rule, Event, Machine, Step, scene, moves, after, step}
 use Rattle.task_steps.proofs.Vocabulary.{Census, census, Holds, Invariant, rule_word, Deed}
 use Rattle.task_steps.specs.PollScripts.{has_ended}
 use Rattle.task_steps.specs.Rule.{Entry, Reaches, is_private, noted_if, deeds_of, DidLast}
 use Rattle.task_steps.specs.Steps.{leaves_such, saw, saw_over, saw_closed, saw_ended}
+use Rattle.task_steps.specs.Shares.{without_handles, saw_without_handles}
 use Rattle.task_steps.proofs.Written.{found_is}
 use Rattle.task_steps.proofs.Facts.{law, counted}
 use Rattle.task_steps.proofs.Explains.{next_machine}
@@ -71,6 +72,38 @@ stays_ended : (l : ℕ) (a : Act) (w : State) → found l a w ≡ true → (a �
 stays_ended l CloseOrphan w f o e = let opened = o refl in grind (arith, nat_tests)
 stays_ended l a w f o e = grind (arith, nat_tests)
 
+-- who gains a reference has a handle, or finds one
+gainer : (s : Scene) (v : State) (p : Position) (o : Outcome) → goes s v GainReference p ≡ Some o → (p ≡ At Runnable) ⊎ (p ≡ At Waker) ⊎ (is_held s.word ≡ true)
+gainer s v (At Runnable) o e = inl refl
+gainer s v (At Waker) o e = inr (inl refl)
+gainer s v (At Lent) o e = inr (inr (held (is_held s.word) _ e))
+  where
+    held : (b : Bool) (x : Outcome) → when b x ≡ Some o → b ≡ true
+    held true x e = refl
+    held false x e = absurd (cc)
+gainer s v _ o e = absurd (cc)
+
+has_reference : (limit : ℕ) (w : State) (slots : Slots) (t : List Event) (c : Census) → Holds limit w slots t c → 1 ≤ c.queued + c.wakers → 1 ≤ w.references
+has_reference limit w slots t c h e = grind arith
+
+not_held : (w : State) → without_handles w ≡ true → (w.references ≡ 0) × (is_held w ≡ false)
+not_held w e = (grind (arith, nat_tests), grind (arith, nat_tests))
+
+-- so nobody gains one of a task that is over and has no handle
+gains_none : (n m : Machine) (s : Step) → Invariant n → Stepped n m s → without_handles n.word ≡ true → s.act ≡ GainReference → ⊥
+gains_none n m s i x e is = let none = not_held n.word e in ⊎_elim
+    (λ (at : x.at ≡ At Runnable). let held = has_reference n.limit n.word n.slots n.trace (census n.parties) i.holds (let q = counted (λ c. c.queued) (λ a b. refl) n.parties s.party (At Runnable) (at_index n.parties s.party (At Runnable) (x.here ∙ ap (λ p. Some p) at)) in omega arith) in let zero = none.0 in omega arith)
+    (λ rest. ⊎_elim
+    (λ (at : x.at ≡ At Waker). let held = has_reference n.limit n.word n.slots n.trace (census n.parties) i.holds (let q = counted (λ c. c.wakers) (λ a b. refl) n.parties s.party (At Waker) (at_index n.parties s.party (At Waker) (x.here ∙ ap (λ p. Some p) at)) in omega arith) in let zero = none.0 in omega arith)
+    (λ (held : is_held n.word ≡ true). let no = none.1 in cc) rest)
+    (gainer (scene n) (written GainReference n.word) x.at x.outcome (ap (λ a. goes (scene n) (written a n.word) a x.at) (sym is) ∙ x.table))
+
+-- a task that is over, and has no handle, gets none any more
+stays_without : (l : ℕ) (a : Act) (w : State) → found l a w ≡ true → (a ≡ GainReference → ⊥) → (a ≡ CloseOrphan → is_open w ≡ true) → without_handles w ≡ true → without_handles (written a w) ≡ true
+stays_without l GainReference w f g o e = absurd (g refl)
+stays_without l CloseOrphan w f g o e = let opened = o refl in grind (arith, nat_tests)
+stays_without l a w f g o e = grind (arith, nat_tests)
+
 either_true : (a b : Bool) → (a || b) ≡ true → (a ≡ true) ⊎ (b ≡ true)
 either_true true b e = inl refl
 either_true false b e = inr e
@@ -132,3 +165,9 @@ closed_stays limit k log m ds r d e = stays_seen (λ w. w.closed) closed_by_step
 
 pub ended_stays : (limit k : ℕ) (log : List Entry) (m : Machine) (ds : List Deed) → Reaches limit log m → DidLast k log ds → saw_ended ds ≡ true → has_ended m.word ≡ true
 ended_stays limit k log m ds r d e = stays_seen has_ended ended_by_step limit k log m ds r d e
+
+without_by_step : (n m : Machine) (s : Step) → Invariant n → Stepped n m s → without_handles n.word ≡ true → without_handles m.word ≡ true
+without_by_step n m s i x e = ap without_handles x.word ∙ stays_without n.limit s.act n.word x.fits (gains_none n m s i x e) (closes_open n m s i x) e
+
+pub without_stays : (limit k : ℕ) (log : List Entry) (m : Machine) (ds : List Deed) → Reaches limit log m → DidLast k log ds → saw_without_handles ds ≡ true → without_handles m.word ≡ true
+without_stays limit k log m ds r d e = stays_seen without_handles without_by_step limit k log m ds r d e

@@ -1,11 +1,11 @@
 -- What each step of a Task owes beside its polls.
-use Rattle.std.proofs.Common.{◌≡◌, ℕ, ◌+◌, Bool, true, false, not, ◌&&◌, ◌||◌, Option, Some, None, List, [], ◌∷◌, refl, sym, ap, ◌∙◌, subst, inr, arith}
-use Rattle.std.specs.Prelude.{bit_and, nat_lt, nat_eq, if◌then◌else◌}
+use Rattle.std.proofs.Common.{◌≡◌, ℕ, ◌+◌, ◌-◌, ◌%◌, ◌^◌, ◌<◌, ◌≤◌, Bool, true, false, not, ◌&&◌, ◌||◌, Option, Some, None, List, [], ◌∷◌, refl, sym, ap, ◌∙◌, subst, inr, arith}
+use Rattle.std.specs.Prelude.{nat_lt, nat_eq, if◌then◌else◌}
 use Rattle.std.proofs.lemmas.Bool.Decides.{nat_tests}
 use Rattle.atomic_table.specs.Table.{rest}
-use Rattle.task_steps.proofs.Vocabulary.{State, state_of, number_of, is_open, orphan_word, CallEnds, Closes, Made, ByClosing, TaskGivenUp, OutputDropped, Nothing, Position, At, Deliverer, Emptier, OutputCloser, Detacher, Task, Ended, ThenEnds, OfCancel, Act, CancelOver}
-use Rattle.task_steps.proofs.Vocabulary.{CancelBusy, CancelIdle, GiveUpOutput, DetachOrphan, DetachLast, Detach, EndCall, found, written, Outcome, leaves_slots, changes_slots, goes, where_found, notifies, after_cancelling, Machine, scene, owns_awaiter}
-use Rattle.task_steps.proofs.Vocabulary.{census, state_of_number_of, fetch_and-task, Slot, Empty, Deed, Member}
+use Rattle.task_steps.proofs.Vocabulary.{State, bit, state_of, number_of, is_open, orphan_word, Event, CallEnds, Closes, Made, ByClosing, TaskGivenUp, OutputDropped, Nothing, Position, At, Deliverer, Emptier, OutputCloser, Detacher, Task, Ended, ThenEnds, OfCancel, Act, CancelOver}
+use Rattle.task_steps.proofs.Vocabulary.{CancelBusy, CancelIdle, GiveUpOutput, DetachOrphan, DetachLast, Detach, EndCall, found, written, Slots, Outcome, leaves_slots, changes_slots, goes, where_found, notifies, after_cancelling, Machine, scene, owns_awaiter}
+use Rattle.task_steps.proofs.Vocabulary.{Census, census, Holds, state_of_number_of, Slot, Empty, Deed, Member}
 use Rattle.task_steps.specs.Rule.{has_work, IsFuture}
 use Rattle.task_steps.specs.Steps.{saw_closed, output_first, and_then, spot}
 use Rattle.task_steps.specs.Scripts.{dropping_output}
@@ -38,6 +38,14 @@ last_orphan n completed closed e f g = grind (arith, nat_tests)
 
 pub closed_claimed : (completed closed : Bool) → closed ≡ true → (completed && not closed) ≡ false
 closed_claimed completed closed e = grind arith
+
+-- the Task exists while a party is it
+pub has_task : (limit : ℕ) (w : State) (slots : Slots) (t : List Event) (c : Census) → Holds limit w slots t c → 1 ≤ c.tasks → w.task ≡ true
+has_task limit w slots t c h e = grind arith
+
+task_taken : (w : State) (n : ℕ) → n ≡ number_of w → n < 2 ^ 64 → w.task ≡ true → (n + (2 ^ 64 - 16)) % 2 ^ 64 ≡ number_of (record w { task = false })
+task_taken w n e lt is = let b : bit w.task ≡ 1 = ap bit is in
+    let less : (n + (2 ^ 64 - 16)) % 2 ^ 64 ≡ n - 16 = omega arith in less ∙ omega arith
 
 -- the Task on its way in a cancel has no place of the table
 pub idle_cancel : (b : Bool) (n : ℕ) → (has_work (notifies b (OfCancel n)) ≡ false) × (owns_awaiter (notifies b (OfCancel n)) ≡ false)
@@ -125,12 +133,12 @@ module _ (F T A : Type 0) (limit : ℕ) where
     placing = gives_work Empty Empty refl refl refl (inr refl) (inr has) (lies_nowhere IsFuture m.slots.future none) tt;
   }
 
-  pub gives_task_up : (ds : List Deed) (us : List Member) (l : List (ℕ × Slot F T A)) → saw_closed ds ≡ true → Owes F T A limit giving_task_up (λ n. bit_and n 18446744073709551599) Detacher ds us l
+  pub gives_task_up : (ds : List Deed) (us : List Member) (l : List (ℕ × Slot F T A)) → saw_closed ds ≡ true → Owes F T A limit giving_task_up (λ n. (n + (2 ^ 64 - 16)) % 2 ^ 64) Detacher ds us l
   gives_task_up ds us l saw m f x e lt = gives (nat_lt 0 m.word.references) refl
     where
-      wrote : bit_and x 18446744073709551599 ≡ number_of (record (m.word) { task = false })
-      wrote = fetch_and-task x lt ∙ ap (λ (w : State). number_of (record w { task = false })) (ap state_of e ∙ state_of_number_of m.word)
+      wrote : (x + (2 ^ 64 - 16)) % 2 ^ 64 ≡ number_of (record (m.word) { task = false })
+      wrote = task_taken m.word x e lt (has_task m.limit m.word m.slots m.trace (census m.parties) f.invariant.holds (counted (λ c. c.tasks) (λ a b. refl) m.parties f.number Detacher f.stands))
 
-      gives : (b : Bool) → nat_lt 0 m.word.references ≡ b → Steps m Detacher (if b then Detach ∷ EndCall ∷ [] else DetachLast ∷ []) (bit_and x 18446744073709551599) l
-      gives true counted = gives_reference Detacher m (bit_and x 18446744073709551599) l refl refl refl wrote counted (closed_claimed m.word.completed m.word.closed (f.closed saw))
-      gives false counted = gives_last Detacher m (bit_and x 18446744073709551599) l refl refl refl wrote counted (f.closed saw)
+      gives : (b : Bool) → nat_lt 0 m.word.references ≡ b → Steps m Detacher (if b then Detach ∷ EndCall ∷ [] else DetachLast ∷ []) ((x + (2 ^ 64 - 16)) % 2 ^ 64) l
+      gives true counted = gives_reference Detacher m ((x + (2 ^ 64 - 16)) % 2 ^ 64) l refl refl refl wrote counted (closed_claimed m.word.completed m.word.closed (f.closed saw))
+      gives false counted = gives_last Detacher m ((x + (2 ^ 64 - 16)) % 2 ^ 64) l refl refl refl wrote counted (f.closed saw)

@@ -3,11 +3,11 @@ use Rattle.std.proofs.Common.{◌≡◌, ℕ, ◌+◌, ◌-◌, ◌%◌, ◌^◌
 use Rattle.std.specs.Prelude.{nat_lt, nat_le, nat_eq, if◌then◌else◌}
 use Rattle.std.proofs.lemmas.Bool.Decides.{nat_tests}
 use Rattle.task_steps.proofs.Vocabulary.{State, state_of, number_of, is_open, orphan_word, Event, WakerGained, WakerGivenUp, WakeStep, Made, ByWake, ByClosing, Closes, CallBegins, CallEnds, Nothing, Gained, Rest, Runnable, Waker, Lent}
-use Rattle.task_steps.proofs.Vocabulary.{Ended, ThenEnds, At, CallEnding, Deliverer, Emptier, OrphanHolder, GainReference, FindLimit, RefuseGain, DropWaker, DropLastWaker, OrphanTask, WakeOver, WakeScheduled, WakeRunning, WakeIdle}
+use Rattle.task_steps.proofs.Vocabulary.{Ended, ThenEnds, At, CallEnding, Deliverer, Emptier, OrphanHolder, GainReference, FindLimit, DropWaker, DropLastWaker, OrphanTask, WakeOver, WakeScheduled, WakeRunning, WakeIdle}
 use Rattle.task_steps.proofs.Vocabulary.{EndCall, written, row, Slots, Outcome, when, is_held, may_ask, leaves_slots, may_gain, may_wake, Machine, scene, Census, census, Holds, state_of_number_of, fetch_sub-reference, Slot}
 use Rattle.task_steps.proofs.Vocabulary.{Deed, Member}
 use Rattle.task_steps.specs.Beside.{may_call, may_change}
-use Rattle.task_steps.specs.WakerScripts.{at_limit, finding_limit, gaining, refusing_gain, is_over, finding_over, waking_task, woken_word, dropping_waker, closing_orphan}
+use Rattle.task_steps.specs.WakerScripts.{at_limit, finding_limit, gaining, is_over, finding_over, waking_task, woken_word, dropping_waker, closing_orphan}
 use Rattle.task_steps.proofs.Bools.{never}
 use Rattle.task_steps.proofs.Acts.{row_found, both, leads_first}
 use Rattle.task_steps.proofs.Seen.{true_right}
@@ -60,12 +60,6 @@ gains_it Lent m ask held = held
 gains_it r m ask held = never ask
 
 module _ (F T A : Type 0) (limit : ℕ) where
-  -- the memory was refused
-  pub refuses_gain : (r : Rest) (ds : List Deed) (us : List Member) (l : List (ℕ × Slot F T A)) → may_ask r ≡ true → Owes F T A limit refusing_gain (λ n. n) (At r) ds us l
-  refuses_gain r ds us l may m f x e lt = let o : Outcome = leaves_slots (scene m) m.word (CallEnding (Gained false) r) [] [] in
-      keeps_places (leaves_slots (scene m) m.word (At r) [] (CallEnds (Gained false) ∷ []))
-      (leads_first (scene m) RefuseGain (EndCall ∷ []) (At r) o refl (passes (may_ask r) o may)) e refl
-
   -- the count is at the limit
   pub finds_limit : (r : Rest) (ds : List Deed) (us : List Member) (l : List (ℕ × Slot F T A)) → may_ask r ≡ true → OwesEnd F T A limit (at_limit limit) finding_limit (At r) ds us l
   finds_limit r ds us l may m f x e lt full = let o : Outcome = leaves_slots (scene m) m.word (CallEnding (Gained false) r) [] [] in

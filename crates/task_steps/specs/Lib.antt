@@ -11,6 +11,7 @@ pub mod RunScripts
 pub mod TaskScripts
 pub mod Knows
 pub mod Attempts
+pub mod Shares
 pub mod PollScripts
 pub mod WakerScripts
 pub mod Beside

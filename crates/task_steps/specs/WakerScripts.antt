@@ -4,7 +4,7 @@ use Rattle.task_core.specs.Word.{State, is_open}
 use Rattle.task_core.specs.Rows.{written, row}
 use Rattle.task_laws.specs.Table.{is_held}
 use Rattle.task_core.specs.declared.acts.Act.{Act}
-use Rattle.task_core.specs.declared.acts.Act.TheVariants.{GainReference, FindLimit, RefuseGain, DropWaker, DropLastWaker, OrphanTask}
+use Rattle.task_core.specs.declared.acts.Act.TheVariants.{GainReference, FindLimit, DropWaker, DropLastWaker, OrphanTask}
 use Rattle.task_core.specs.declared.acts.Act.TheVariants.{CloseOrphan, WakeOver, WakeScheduled, WakeRunning, WakeIdle, EndCall}
 
 -- a reference is gained for a new waker
@@ -21,10 +21,6 @@ at_limit limit w = not (nat_lt w.references limit)
 
 abbrev pub finding_limit : State → List Act
 finding_limit w = FindLimit ∷ EndCall ∷ []
-
--- the memory for a new waker was refused
-abbrev pub refusing_gain : State → List Act
-refusing_gain w = RefuseGain ∷ EndCall ∷ []
 
 -- the task is over, and a wake of it ends
 abbrev pub is_over : ℕ → State → Bool

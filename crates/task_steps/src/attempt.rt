@@ -3,9 +3,11 @@ ghost use Rattle.std.specs.Prelude.{ℕ, ◌≡◌, ◌<◌, Bool, List, Option}
 ghost use Rattle.task_core.specs.Word.{State};
 ghost use Rattle.task_core.specs.declared.acts.Act.{Act};
 ghost use Rattle.task_steps.specs.Attempts.{observed, attempted};
+ghost use Rattle.task_steps.specs.Shares.{counted};
 
 use crate::table::{Slot, View};
 use atomic_table::Play;
+use counted_block::CountPlay;
 use task_core::word::Word;
 
 /// A change of the word: what it writes, which words end it, and the acts of both.
@@ -18,6 +20,9 @@ pub trait Change {
     ghost acts: { State → List Act };
 
     ghost told: { State → List Act };
+
+    // whether the change makes or ends a share of the block, by the word that it was made on
+    ghost counts: { State → Bool };
 
     /// The word to write on this one, or `None` where the change can't be made on it. `limit` is the limit of references.
     fn next(word: Word, limit: u64) -> Option<Word>
@@ -45,4 +50,8 @@ pub struct Attempting<P: Change> {
 
 impl<F, T, A, P: Change> Play<Slot<F, T, A>, View> for Attempting<P> {
     ghost then = { attempted P.acts };
+}
+
+impl<F, T, A, P: Change> CountPlay<Slot<F, T, A>, View> for Attempting<P> {
+    ghost counts = { counted P.counts };
 }

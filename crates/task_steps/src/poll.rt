@@ -3,6 +3,7 @@ ghost use Rattle.std.specs.Prelude.{not};
 ghost use Rattle.task_core.specs.Rows.{row};
 ghost use Rattle.task_core.specs.declared.acts.Act.TheVariants.{BeginRegister, EndRegister, ClaimOutput};
 ghost use Rattle.task_steps.specs.PollScripts.{has_output, looking, looking_again, claiming, claiming_again, handing_out, refusing, finding_notifier, beginning_register, ending_register, taking_back, ending_notified};
+ghost use Rattle.task_steps.specs.Shares.{never};
 
 use crate::attempt::Change;
 use crate::script::Script;
@@ -20,6 +21,8 @@ impl Change for Looking {
     ghost acts = { claiming };
 
     ghost told = { looking };
+
+    ghost counts = { never };
 
     fn next(word: Word, limit: u64) -> Option<Word> {
         let _ = limit;
@@ -43,6 +46,8 @@ impl Change for LookingAgain {
     ghost acts = { claiming_again };
 
     ghost told = { looking_again };
+
+    ghost counts = { never };
 
     fn next(word: Word, limit: u64) -> Option<Word> {
         let _ = limit;
@@ -81,6 +86,8 @@ impl Change for BeginningRegister {
 
     ghost told = { finding_notifier };
 
+    ghost counts = { never };
+
     fn next(word: Word, limit: u64) -> Option<Word> {
         let _ = limit;
         word.begin_register()
@@ -103,6 +110,8 @@ impl Change for EndingRegister {
     ghost acts = { ending_register };
 
     ghost told = { taking_back };
+
+    ghost counts = { never };
 
     fn next(word: Word, limit: u64) -> Option<Word> {
         let _ = limit;

@@ -1,9 +1,11 @@
 //! Steps of a run and of a Runnable's drop.
 ghost use Rattle.std.specs.Prelude.{Some, None, false, [], if◌then◌else◌};
+ghost use Rattle.task_steps.specs.WakerScripts.{others_left};
 ghost use Rattle.task_steps.specs.RunScripts.{unscheduling, giving_up, emptying, discarding, answering_ready, completing, answering_pending, ending_pending, finding_closed, ending_closed, completed_word, after_pending};
+ghost use Rattle.task_steps.specs.Shares.{ends_run, never};
 
 use crate::attempt::Change;
-use crate::script::Script;
+use crate::script::{Giving, Script};
 use crate::words::{completed, ended};
 use task_core::word::Word;
 
@@ -19,6 +21,10 @@ pub struct GivingReferenceUp;
 
 impl Script for GivingReferenceUp {
     ghost acts = { giving_up };
+}
+
+impl Giving for GivingReferenceUp {
+    ghost gives = { others_left };
 }
 
 /// The last party has emptied the place of the awaiter.
@@ -54,6 +60,8 @@ impl Change for Completing {
 
     ghost told = { λ _. [] };
 
+    ghost counts = { never };
+
     fn next(word: Word, limit: u64) -> Option<Word> {
         let _ = limit;
         Some(completed(word))
@@ -83,6 +91,8 @@ impl Change for EndingPending {
     ghost acts = { ending_pending };
 
     ghost told = { finding_closed };
+
+    ghost counts = { ends_run };
 
     fn next(word: Word, limit: u64) -> Option<Word> {
         let _ = limit;

@@ -2,6 +2,7 @@
 ghost use Rattle.task_core.specs.Rows.{row};
 ghost use Rattle.task_core.specs.declared.acts.Act.TheVariants.{StartRun};
 ghost use Rattle.task_steps.specs.StartScripts.{taking_up_closed, starting_run};
+ghost use Rattle.task_steps.specs.Shares.{never};
 
 use crate::attempt::Change;
 use task_core::word::Word;
@@ -17,6 +18,8 @@ impl Change for StartingRun {
     ghost acts = { starting_run };
 
     ghost told = { taking_up_closed };
+
+    ghost counts = { never };
 
     fn next(word: Word, limit: u64) -> Option<Word> {
         let _ = limit;

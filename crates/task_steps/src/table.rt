@@ -1,11 +1,12 @@
 //! The table of a cell: its one word, its slots, and what a seat knows.
-ghost use Rattle.std.specs.Prelude.{◌≡◌, ◌<◌, ◌^◌, [], true};
+ghost use Rattle.std.specs.Prelude.{◌≡◌, ◌<◌, ◌^◌, [], true, IfOk, IfErr};
 ghost use Rattle.task_core.specs.Poll.{IfReady};
 ghost use Rattle.task_steps.specs.Rule.{laid_view, IsFuture};
 ghost use Rattle.task_steps.specs.Seats.{is_spent};
 
 use atomic_table::TableRule;
-use inline_table::{InlineTable, Seat};
+use counted_block::{Bare, BlockRule, Inner, Seat, Share};
+use std::alloc::{AllocFailed, Allocator};
 use std::collections::LinkedList;
 use task_core::acts::Act;
 use task_core::word::{REFERENCE, SCHEDULED, TASK, Word};
@@ -90,18 +91,50 @@ impl<F, T, A> TableRule<Slot<F, T, A>, View, u64> for Law {
     ghost first = { laid_view };
 }
 
-/// The table of a cell: one word, and a place each for the future, the output and the awaiter.
-pub type Board<F, T, A> = InlineTable<Slot<F, T, A>, View, u64, Law>;
+impl<F, T, A> BlockRule<Slot<F, T, A>, View, u64> for Law {
+    ghost use Rattle.task_steps.specs.Shares.{shares_out};
+
+    ghost out = { shares_out };
+}
+
+/// A share of a task's block: one word, a place each for the future, the output and the awaiter, and what all handles see.
+pub type Block<F, T, A, V, B> = Share<Slot<F, T, A>, View, u64, Law, V, B>;
+
+/// The seat of a task's block.
+pub type TaskSeat<F, T, A> = Seat<Slot<F, T, A>, View>;
 
 /// The word of a task that was just spawned: scheduled, with its Task, and one reference.
 const OPENING: u64 = SCHEDULED | TASK | REFERENCE;
 
-/// A table with the opening word and three empty places, and its first seat. It takes no memory. `limit` is the limit of references.
-pub fn lay<F, T, A>(limit: u64) -> (Board<F, T, A>, Seat<Slot<F, T, A>, View>)
+/// A block with the opening word and three empty places: the shares of the Runnable and of the Task, and its first seat. It is one allocation.
+/// `alloc` is the allocator, `value` what all handles see, and `limit` the limit of references. Where memory is refused, the value is given back.
+pub fn lay<F, T, A, V: Drop, B: Allocator>(
+    alloc: B,
+    value: V,
+    limit: u64,
+) -> Result<(Block<F, T, A, V, B>, Block<F, T, A, V, B>, TaskSeat<F, T, A>), V>
+where
+    F: Drop,
+    T: Drop,
+    A: Drop,
     requires { limit < 2 ^ 55 }
-    ensures { (result.0.key ≡ limit) × (result.1.table_id ≡ result.0.table_id) × (result.1.me ≡ (laid_view limit, [])) }
+    ensures share { IfOk result (λ made. (made.0.key ≡ limit) × (made.0.value ≡ value) × (made.0.heap ≡ alloc)) }
+    ensures other { IfOk result (λ made. (made.1.id ≡ made.0.id) × (made.1.key ≡ limit) × (made.1.value ≡ value) × (made.1.heap ≡ alloc)) }
+    ensures seat { IfOk result (λ made. (made.2.block ≡ made.0.id) × (made.2.me ≡ (laid_view limit, []))) }
+    ensures refused { IfErr result (λ back. back ≡ value) }
 {
-    InlineTable::new(OPENING, Slot::Empty, Slot::Empty, Slot::Empty, &limit)
+    let inner = Inner {
+        word: OPENING,
+        holds: 0,
+        first: Slot::Empty,
+        second: Slot::Empty,
+        third: Slot::Empty,
+        value,
+    };
+    match Box::new(alloc, inner) {
+        Ok(whole) => Ok(Share::new_pair(Bare::of(whole), &limit)),
+        Err(AllocFailed { value: inner }) => Err(inner.value),
+    }
 }
 
 /// Polls the future once, where it lies, in a slot that has one. `waker` is what the poll is lent.

@@ -2,9 +2,10 @@
 ghost use Rattle.std.specs.Prelude.{Some, false, []};
 ghost use Rattle.task_steps.specs.WakerScripts.{is_over};
 ghost use Rattle.task_steps.specs.TaskScripts.{looking_finished, finding_cancelled, cancelling, cancelled_word, detaching, detached, giving_task_up};
+ghost use Rattle.task_steps.specs.Shares.{brings_runnable, ends_task, has_references};
 
 use crate::attempt::Change;
-use crate::script::Script;
+use crate::script::{Giving, Script};
 use crate::words::{closing, giving_up};
 use task_core::word::Word;
 
@@ -26,6 +27,8 @@ impl Change for Cancelling {
     ghost acts = { cancelling };
 
     ghost told = { finding_cancelled };
+
+    ghost counts = { brings_runnable };
 
     fn next(word: Word, limit: u64) -> Option<Word> {
         let _ = limit;
@@ -50,6 +53,8 @@ impl Change for Detaching {
 
     ghost told = { λ _. [] };
 
+    ghost counts = { ends_task };
+
     fn next(word: Word, limit: u64) -> Option<Word> {
         let _ = limit;
         Some(giving_up(word))
@@ -66,4 +71,8 @@ pub struct GivingTaskUp;
 
 impl Script for GivingTaskUp {
     ghost acts = { giving_task_up };
+}
+
+impl Giving for GivingTaskUp {
+    ghost gives = { has_references };
 }

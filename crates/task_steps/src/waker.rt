@@ -1,9 +1,10 @@
 //! Steps by which a waker is gained, wakes and is dropped.
-ghost use Rattle.task_steps.specs.WakerScripts.{gaining, gained_word, at_limit, finding_limit, refusing_gain, is_over, finding_over, waking_task, woken_if_held, dropping_waker, closing_orphan};
+ghost use Rattle.task_steps.specs.WakerScripts.{gaining, gained_word, at_limit, finding_limit, is_over, finding_over, waking_task, woken_if_held, others_left, dropping_waker, closing_orphan};
 ghost use Rattle.task_steps.specs.Beside.{borrowing, without_newest, newest};
+ghost use Rattle.task_steps.specs.Shares.{always, brings_runnable};
 
 use crate::attempt::Change;
-use crate::script::Script;
+use crate::script::{Giving, Script};
 use crate::table::{Slot, View};
 use crate::words::{is_held, woken};
 use atomic_table::{Play, Split};
@@ -28,6 +29,8 @@ impl Change for Gaining {
 
     ghost told = { finding_limit };
 
+    ghost counts = { always };
+
     fn next(word: Word, limit: u64) -> Option<Word> {
         if !is_held(word) {
             return None;
@@ -38,13 +41,6 @@ impl Change for Gaining {
     fn is_end(word: Word, limit: u64) -> bool {
         !(word.references() < limit)
     }
-}
-
-/// The memory for a new waker was refused.
-pub struct RefusingGain;
-
-impl Script for RefusingGain {
-    ghost acts = { refusing_gain };
 }
 
 /// A wake of the task, unless it is over.
@@ -58,6 +54,8 @@ impl Change for WakingTask {
     ghost acts = { waking_task };
 
     ghost told = { finding_over };
+
+    ghost counts = { brings_runnable };
 
     fn next(word: Word, limit: u64) -> Option<Word> {
         let _ = limit;
@@ -75,6 +73,10 @@ pub struct DroppingWaker;
 
 impl Script for DroppingWaker {
     ghost acts = { dropping_waker };
+}
+
+impl Giving for DroppingWaker {
+    ghost gives = { others_left };
 }
 
 /// The last waker closes the task that nobody has.

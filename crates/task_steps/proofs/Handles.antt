@@ -1,0 +1,203 @@
+-- What the acts of each step do to the handles that the word counts.
+use Rattle.std.proofs.Common.{◌≡◌, ℕ, zero, suc, ◌+◌, ◌-◌, ◌<◌, ◌≤◌, Bool, true, false, not, ◌&&◌, ◌||◌, cond, Option, Some, None, List, [], ◌∷◌, ◌⊎◌, inl, inr, refl, sym, ap, ◌∙◌, subst, arith}
+use Rattle.std.specs.Prelude.{nat_lt, nat_eq, if◌then◌else◌}
+use Rattle.std.proofs.lemmas.Bool.Decides.{nat_tests}
+use Rattle.task_steps.specs.WakerScripts.{woken_word}
+use Rattle.task_steps.proofs.Vocabulary.{WakeScheduled, WakeRunning, WakeIdle, CancelBusy, CancelIdle, Reschedule, EndIdle, EndOrphaned, EndCall, GiveUpOutput, Detach, DetachLast, DetachOrphan, DropWaker, OrphanTask, DropLastWaker, GiveUpReference, GiveUpLastReference}
+use Rattle.task_steps.proofs.Vocabulary.{State, bit, is_open, orphan_word, Event, Answer, Rest, Runnable, Waker, Lent, Task, Position, At, GivingUp, Detacher, OrphanHolder, Pending, Slots, is_held, may_ask, row, written, GainReference, Machine, census, Census, Holds, Deed, Member}
+use Rattle.task_steps.specs.Beside.{may_call, may_change}
+use Rattle.task_steps.specs.WakerScripts.{gaining, gained_word, waking_task, woken_if_held, others_left, dropping_waker, closing_orphan}
+use Rattle.task_steps.specs.TaskScripts.{cancelling, cancelled_word, detaching, giving_task_up}
+use Rattle.task_steps.specs.RunScripts.{giving_up, ending_pending}
+use Rattle.task_steps.specs.Shares.{handles, at_least_one, brings_runnable, ends_run, ends_task, has_references, always}
+use Rattle.task_steps.proofs.Acts.{word_after}
+use Rattle.task_steps.proofs.Facts.{counted}
+use Rattle.task_steps.proofs.Advance.{Finds}
+use Rattle.task_steps.proofs.Shares.{shares_of, Brings, Gives, Moves}
+use Rattle.task_steps.proofs.TaskOwed.{has_task}
+
+one_if : (b : Bool) → b ≡ true → bit b ≡ 1
+one_if b e = ap bit e
+
+none_if : (b : Bool) → b ≡ false → bit b ≡ 0
+none_if b e = ap bit e
+
+-- a handle more, and one less
+one_more : (n : ℕ) → 1 ≤ n → at_least_one (n + 1) ≡ at_least_one n + 1
+one_more zero h = absurd (omega arith)
+one_more (suc n) h = ap at_least_one (plus_one (suc n)) ∙ sym (plus_one (suc n))
+  where
+    plus_one : (k : ℕ) → k + 1 ≡ suc k
+    plus_one k = omega arith
+
+at_least : (n : ℕ) → 1 ≤ n → at_least_one n ≡ n
+at_least zero h = absurd (omega arith)
+at_least (suc n) h = refl
+
+at_most_one : (n : ℕ) → n ≤ 1 → at_least_one n ≡ 1
+at_most_one zero h = refl
+at_most_one (suc zero) h = refl
+at_most_one (suc (suc n)) h = absurd (omega arith)
+
+less_one : (n k : ℕ) → k + 1 ≡ n → 1 ≤ k → at_least_one k + 1 ≡ at_least_one n
+less_one n k e h = ap (λ z. z + 1) (at_least k h) ∙ (e ∙ sym (at_least n (omega arith)))
+
+-- neither of two numbers of handles is more than one
+last_one : (n k : ℕ) → n ≤ 1 → k ≤ 1 → at_least_one k ≡ at_least_one n
+last_one n k h g = at_most_one k g ∙ sym (at_most_one n h)
+
+held_one : (w : State) → is_held w ≡ true → 1 ≤ w.references + bit w.task
+held_one w e = grind (arith, nat_tests)
+
+others_one : (w : State) → others_left w ≡ true → 1 ≤ w.references → 2 ≤ w.references + bit w.task
+others_one w e h = grind (arith, nat_tests)
+
+others_none : (w : State) → others_left w ≡ false → w.references + bit w.task ≤ 1
+others_none w e = grind (arith, nat_tests)
+
+some_references : (w : State) → nat_lt 0 w.references ≡ true → 1 ≤ w.references
+some_references w e = grind (arith, nat_tests)
+
+no_references : (w : State) → nat_lt 0 w.references ≡ false → w.references ≡ 0
+no_references w e = grind (arith, nat_tests)
+
+bit_low : (b : Bool) → bit b ≤ 1
+bit_low b = grind arith
+
+waker_held : (limit : ℕ) (w : State) (slots : Slots) (t : List Event) (c : Census) → Holds limit w slots t c → 1 ≤ c.wakers → 1 ≤ w.references
+waker_held limit w slots t c h e = grind arith
+
+runnable_held : (limit : ℕ) (w : State) (slots : Slots) (t : List Event) (c : Census) → Holds limit w slots t c → 1 ≤ c.queued → 1 ≤ w.references
+runnable_held limit w slots t c h e = grind arith
+
+finishing_held : (limit : ℕ) (w : State) (slots : Slots) (t : List Event) (c : Census) → Holds limit w slots t c → 1 ≤ c.finishing → 1 ≤ w.references
+finishing_held limit w slots t c h e = grind arith
+
+pending_held : (limit : ℕ) (w : State) (slots : Slots) (t : List Event) (c : Census) → Holds limit w slots t c → 1 ≤ c.pending → 1 ≤ w.references
+pending_held limit w slots t c h e = grind arith
+
+orphan_free : (limit : ℕ) (w : State) (slots : Slots) (t : List Event) (c : Census) → Holds limit w slots t c → 1 ≤ c.orphans → (w.references ≡ 0) × (w.task ≡ false)
+orphan_free limit w slots t c h e = (grind arith, grind arith)
+
+module _ (limit : ℕ) where
+  finds_task : (n : ℕ) (ds : List Deed) (us : List Member) (m : Machine) → Finds limit (At (Task n)) ds us m → bit m.word.task ≡ 1
+  finds_task n ds us m f = one_if m.word.task (has_task m.limit m.word m.slots m.trace (census m.parties) f.invariant.holds (counted (λ c. c.tasks) (λ a b. refl) m.parties f.number (At (Task n)) f.stands))
+
+  finds_detacher : (ds : List Deed) (us : List Member) (m : Machine) → Finds limit Detacher ds us m → bit m.word.task ≡ 1
+  finds_detacher ds us m f = one_if m.word.task (has_task m.limit m.word m.slots m.trace (census m.parties) f.invariant.holds (counted (λ c. c.tasks) (λ a b. refl) m.parties f.number Detacher f.stands))
+
+  finds_waker : (ds : List Deed) (us : List Member) (m : Machine) → Finds limit (At Waker) ds us m → 1 ≤ m.word.references
+  finds_waker ds us m f = waker_held m.limit m.word m.slots m.trace (census m.parties) f.invariant.holds (counted (λ c. c.wakers) (λ a b. refl) m.parties f.number (At Waker) f.stands)
+
+  finds_rest : (hand : Option ℕ) (answer : Answer) (ds : List Deed) (us : List Member) (m : Machine) → Finds limit (GivingUp hand answer) ds us m → 1 ≤ m.word.references
+  finds_rest hand answer ds us m f = finishing_held m.limit m.word m.slots m.trace (census m.parties) f.invariant.holds (counted (λ c. c.finishing) (λ a b. refl) m.parties f.number (GivingUp hand answer) f.stands)
+
+  finds_run : (ds : List Deed) (us : List Member) (m : Machine) → Finds limit Pending ds us m → 1 ≤ m.word.references
+  finds_run ds us m f = pending_held m.limit m.word m.slots m.trace (census m.parties) f.invariant.holds (counted (λ c. c.pending) (λ a b. refl) m.parties f.number Pending f.stands)
+
+  finds_orphan : (ds : List Deed) (us : List Member) (m : Machine) → Finds limit OrphanHolder ds us m → (m.word.references ≡ 0) × (m.word.task ≡ false)
+  finds_orphan ds us m f = orphan_free m.limit m.word m.slots m.trace (census m.parties) f.invariant.holds (counted (λ c. c.orphans) (λ a b. refl) m.parties f.number OrphanHolder f.stands)
+
+  -- a reference more for a new waker, where the task has a handle
+  gained_held : (w v : State) → gained_word limit w ≡ Some v → 1 ≤ handles w
+  gained_held w v e = by (is_held w) refl
+    where
+      by : (b : Bool) → is_held w ≡ b → 1 ≤ handles w
+      by true h = held_one w h
+      by false h = absurd (let z : None ≡ Some v = sym (ap (λ (b : Bool). if b then row limit GainReference w else None) h) ∙ e in cc)
+
+  pub gains_handle : (r : Rest) (ds : List Deed) (us : List Member) (F T A : Type 0) → Moves F T A limit Brings gained_word gaining always (At r) ds us
+  gains_handle r ds us F T A w v e m f is = inr (refl, (let h = gained_held w v e in let k : handles m.word ≡ handles w = ap handles is in let sum : handles (word_after m.word (gaining m.word)) ≡ handles m.word + 1 = omega arith in ap at_least_one sum ∙ one_more (handles m.word) (omega arith)))
+
+  woken_held : (w v : State) → woken_if_held limit w ≡ Some v → 1 ≤ handles w
+  woken_held w v e = by (is_held w) refl
+    where
+      by : (b : Bool) → is_held w ≡ b → 1 ≤ handles w
+      by true h = held_one w h
+      by false h = absurd (let z : None ≡ Some v = sym (ap (λ (b : Bool). if b then (if is_open w then Some (woken_word w) else None) else None) h) ∙ e in cc)
+
+  -- a wake of an idle task makes a Runnable
+  pub wakes_task : (r : Rest) (ds : List Deed) (us : List Member) (F T A : Type 0) → Moves F T A limit Brings woken_if_held waking_task brings_runnable (At r) ds us
+  wakes_task r ds us F T A w v e m f is = by m.word.scheduled m.word.running
+    where
+      held : 1 ≤ handles m.word
+      held = subst (λ (z : State). 1 ≤ handles z) (sym is) (woken_held w v e)
+
+      by : (s b : Bool) → Brings (not (s || b)) (shares_of m.word) (shares_of (word_after m.word (if s then WakeScheduled ∷ EndCall ∷ [] else (if b then WakeRunning ∷ EndCall ∷ [] else WakeIdle ∷ EndCall ∷ []))))
+      by true b = inl (refl, refl)
+      by false true = inl (refl, refl)
+      by false false = inr (refl, (let sum : m.word.references + 1 + bit m.word.task ≡ handles m.word + 1 = omega arith in ap at_least_one sum ∙ one_more (handles m.word) held))
+
+  -- .. and so does a cancel of one
+  pub cancels_task : (n : ℕ) (ds : List Deed) (us : List Member) (F T A : Type 0) → Moves F T A limit Brings cancelled_word cancelling brings_runnable (At (Task n)) ds us
+  cancels_task n ds us F T A w v e m f is = by (m.word.scheduled || m.word.running)
+    where
+      held : 1 ≤ handles m.word
+      held = let t = finds_task n ds us m f in omega arith
+
+      by : (b : Bool) → Brings (not b) (shares_of m.word) (shares_of (word_after m.word (if b then CancelBusy ∷ [] else CancelIdle ∷ [])))
+      by true = inl (refl, refl)
+      by false = inr (refl, (let sum : m.word.references + 1 + bit m.word.task ≡ handles m.word + 1 = omega arith in ap at_least_one sum ∙ one_more (handles m.word) held))
+
+  -- a run of an open task that ends
+  pub ends_open : (writes : ℕ → State → Option State) (ds : List Deed) (us : List Member) (F T A : Type 0) → Moves F T A limit Gives writes ending_pending ends_run Pending ds us
+  ends_open writes ds us F T A w v e m f is = by m.word.scheduled (others_left m.word) refl refl
+    where
+      some : 1 ≤ m.word.references
+      some = finds_run ds us m f
+
+      by : (s d : Bool) → m.word.scheduled ≡ s → others_left m.word ≡ d → Gives (not s && d) (shares_of m.word) (shares_of (word_after m.word (if s then Reschedule ∷ [] else (if d then EndIdle ∷ EndCall ∷ [] else EndOrphaned ∷ []))))
+      by true d h k = inl (refl, refl)
+      by false true h k = inr (refl, (let two = others_one m.word k some in less_one (handles m.word) (m.word.references - 1 + bit m.word.task) (omega arith) (omega arith)))
+      by false false h k = inl (refl, (let one = others_none m.word k in last_one (handles m.word) 1 one (omega arith)))
+
+  -- a Task that is given up
+  pub detaches_task : (n : ℕ) (writes : ℕ → State → Option State) (ds : List Deed) (us : List Member) (F T A : Type 0) → Moves F T A limit Gives writes detaching ends_task (At (Task n)) ds us
+  detaches_task n writes ds us F T A w v e m f is = by (m.word.completed && not m.word.closed) (nat_lt 0 m.word.references) m.word.closed refl
+    where
+      task : bit m.word.task ≡ 1
+      task = finds_task n ds us m f
+
+      by : (a b c : Bool) → nat_lt 0 m.word.references ≡ b → Gives (not a && b) (shares_of m.word) (shares_of (word_after m.word (if a then GiveUpOutput ∷ [] else (if b then Detach ∷ EndCall ∷ [] else (if c then DetachLast ∷ [] else DetachOrphan ∷ [])))))
+      by true b c h = inl (refl, refl)
+      by false true c h = inr (refl, (let t = task in let some = some_references m.word h in less_one (handles m.word) (m.word.references + 0) (omega arith) (omega arith)))
+      by false false true h = inl (refl, (let t = task in let none = no_references m.word h in last_one (handles m.word) (m.word.references + 0) (omega arith) (omega arith)))
+      by false false false h = inl (refl, (let t = task in let none = no_references m.word h in last_one (handles m.word) 1 (omega arith) (omega arith)))
+
+  -- a fetch that takes a reference off
+  fewer_references : (w : State) → 1 ≤ w.references → Gives (others_left w) (shares_of w) (at_least_one (w.references - 1 + bit w.task))
+  fewer_references w some = by (others_left w) refl
+    where
+      by : (b : Bool) → others_left w ≡ b → Gives b (shares_of w) (at_least_one (w.references - 1 + bit w.task))
+      by true h = inr (refl, (let two = others_one w h some in less_one (handles w) (w.references - 1 + bit w.task) (omega arith) (omega arith)))
+      by false h = inl (refl, (let one = others_none w h in last_one (handles w) (w.references - 1 + bit w.task) one (omega arith)))
+
+  pub drops_handle : (ds : List Deed) (us : List Member) (m : Machine) → Finds limit (At Waker) ds us m → Gives (others_left m.word) (shares_of m.word) (shares_of (word_after m.word (dropping_waker m.word)))
+  drops_handle ds us m f = by (others_left m.word) (is_open m.word) (fewer_references m.word (finds_waker ds us m f))
+    where
+      by : (b o : Bool) → Gives (others_left m.word) (shares_of m.word) (at_least_one (m.word.references - 1 + bit m.word.task)) → Gives (others_left m.word) (shares_of m.word) (shares_of (word_after m.word (if b then DropWaker ∷ EndCall ∷ [] else (if o then OrphanTask ∷ [] else DropLastWaker ∷ []))))
+      by true o x = x
+      by false true x = x
+      by false false x = x
+
+  pub gives_reference : (hand : Option ℕ) (answer : Answer) (ds : List Deed) (us : List Member) (m : Machine) → Finds limit (GivingUp hand answer) ds us m → Gives (others_left m.word) (shares_of m.word) (shares_of (word_after m.word (giving_up m.word)))
+  gives_reference hand answer ds us m f = by (others_left m.word) (fewer_references m.word (finds_rest hand answer ds us m f))
+    where
+      by : (b : Bool) → Gives (others_left m.word) (shares_of m.word) (at_least_one (m.word.references - 1 + bit m.word.task)) → Gives (others_left m.word) (shares_of m.word) (shares_of (word_after m.word (if b then GiveUpReference ∷ [] else GiveUpLastReference ∷ [])))
+      by true x = x
+      by false x = x
+
+  -- .. and one that takes the Task off
+  pub gives_task : (ds : List Deed) (us : List Member) (m : Machine) → Finds limit Detacher ds us m → Gives (has_references m.word) (shares_of m.word) (shares_of (word_after m.word (giving_task_up m.word)))
+  gives_task ds us m f = by (nat_lt 0 m.word.references) refl
+    where
+      task : bit m.word.task ≡ 1
+      task = finds_detacher ds us m f
+
+      by : (b : Bool) → nat_lt 0 m.word.references ≡ b → Gives b (shares_of m.word) (shares_of (word_after m.word (if b then Detach ∷ EndCall ∷ [] else DetachLast ∷ [])))
+      by true h = inr (refl, (let t = task in let some = some_references m.word h in less_one (handles m.word) (m.word.references + 0) (omega arith) (omega arith)))
+      by false h = inl (refl, (let t = task in let none = no_references m.word h in last_one (handles m.word) (m.word.references + 0) (omega arith) (omega arith)))
+
+  -- the holder of an orphan has the one share, as its Runnable has it then
+  pub keeps_orphan : (ds : List Deed) (us : List Member) (m : Machine) → Finds limit OrphanHolder ds us m → shares_of (word_after m.word (closing_orphan m.word)) ≡ shares_of m.word
+  keeps_orphan ds us m f = let free = finds_orphan ds us m f in let none = none_if m.word.task free.1 in last_one (handles m.word) 1 (omega arith) (omega arith)

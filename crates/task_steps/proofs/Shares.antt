@@ -1,0 +1,132 @@
+-- What a step of a party does to the number of shares that are out, by the words before and after its acts.
+use Rattle.std.proofs.Common.{◌≡◌, ◌≢◌, ℕ, zero, suc, ◌+◌, ◌<◌, Bool, true, false, ◌&&◌, Option, Some, None, List, ◌∷◌, ◌⊎◌, inl, inr, ⊎_elim, sym, refl, ap, ◌∙◌, subst, arith, eqb, eq-eqb, ne_eqb}
+use Rattle.std.proofs.lemmas.Bool.Decides.{nat_tests}
+use mathlib.Core.Option.{some}
+use native.Mathlib.Decide.{ℕ_discrete}
+use mathlib.Core.Logic.{dite}
+use prog.Atomic.{either}
+use lib.ListN.{get_elem?}
+use Rattle.atomic_table.specs.Table.{State as Board, Me}
+use Rattle.counted_block.specs.Blocks.{word_of}
+use Rattle.counted_block.specs.Counts.{Same, More, Less, Last}
+use Rattle.task_steps.proofs.Vocabulary.{State, bit, state_of, number_of, state_of_number_of, Position, Act, Machine, scene, Slot, Deed, Tries, Member, View}
+use Rattle.task_steps.specs.Rule.{view, trying, member, Running, RuleHolds}
+use Rattle.task_steps.specs.Attempts.{having_seen}
+use Rattle.task_steps.specs.Shares.{handles, at_least_one, shares_out, without_handles, saw_without_handles, MayBring, MayGive}
+use Rattle.task_steps.proofs.Facts.{low, law, bit_le}
+use Rattle.task_steps.proofs.Seen.{without_stays}
+use Rattle.task_steps.proofs.Acts.{word_after, leads_word}
+use Rattle.task_steps.proofs.Advance.{Finds, Steps}
+use Rattle.task_steps.proofs.Allowed.{Owes, finds_trying}
+
+-- so many shares belong to a word
+abbrev pub shares_of : State → ℕ
+shares_of w = at_least_one (handles w)
+
+one_at_least : (n : ℕ) → 0 < at_least_one n
+one_at_least zero = omega arith
+one_at_least (suc n) = omega arith
+
+one_more_at_most : (n k : ℕ) → n < k → 0 < k → at_least_one n < k + 1
+one_more_at_most zero k lt one = omega arith
+one_more_at_most (suc n) k lt one = omega arith
+
+-- a step brings a share, or gives one up, where it says so
+abbrev pub Brings : Bool → ℕ → ℕ → Type 0
+Brings b before after = (b ≡ false) × (after ≡ before) ⊎ (b ≡ true) × (after ≡ before + 1)
+
+abbrev pub Gives : Bool → ℕ → ℕ → Type 0
+Gives b before after = (b ≡ false) × (after ≡ before) ⊎ (b ≡ true) × (after + 1 ≡ before)
+
+below : (w : State) → w.references < 72057594037927935 → number_of w < 18446744073709551616
+below w h = let h1 = bit_le w.scheduled in let h2 = bit_le w.running in let h3 = bit_le w.completed in let h4 = bit_le w.closed in let h5 = bit_le w.task in let h6 = bit_le w.awaiter in let h7 = bit_le w.registering in let h8 = bit_le w.notifying in omega arith
+
+-- an exchange that was made counts by its change, and one that missed changes nothing
+abbrev ExchangeBrings : ℕ → ℕ → Bool → Bool → Type 0
+ExchangeBrings n new c b = (b && c ≡ false) × (shares_out (either b new n) ≡ shares_out n) ⊎ (b && c ≡ true) × (shares_out (either b new n) ≡ shares_out n + 1) × (shares_out n + 1 < 4611686018427387904)
+
+abbrev ExchangeGives : ℕ → ℕ → Bool → Bool → Type 0
+ExchangeGives n new c b = (b && c ≡ false) × (shares_out (either b new n) ≡ shares_out n) ⊎ (b && c ≡ true) × (shares_out (either b new n) + 1 ≡ shares_out n) × (0 < shares_out (either b new n))
+
+module _ (F T A : Type 0) (limit : ℕ) where
+  abbrev B : Type 0
+  B = Board (Slot F T A) View
+
+  abbrev Rule : B → Type 0
+  Rule = RuleHolds {F = F} {T = T} {A = A} limit
+
+  shares_after : (m : Machine) (p : Position) (acts : List Act) (new : ℕ) (l : List (ℕ × Slot F T A)) → Steps m p acts new l → shares_out new ≡ shares_of (word_after m.word acts)
+  shares_after m p acts new l x = ap shares_out x.writes ∙ ap shares_of (state_of_number_of x.outcome.word ∙ leads_word (scene m) acts p x.outcome x.leads_to)
+
+  shares_now : (s : B) (r : Running {F = F} {T = T} {A = A} limit s) → shares_out (word_of s) ≡ shares_of r.machine.word
+  shares_now s r = ap shares_out r.word_is ∙ ap shares_of (state_of_number_of r.machine.word)
+
+  few : (s : B) (c : Rule s) → c.running.machine.word.references < 36028797018963969
+  few s c = let r = c.running in let h = low r.machine (law limit r.log r.machine r.told.reaches) in let e = r.limited in let k = c.capped in omega arith
+
+  fits : (s : B) (c : Rule s) → word_of s < 18446744073709551616
+  fits s c = let w = c.running.machine.word in let b = below w (let h = few s c in omega arith) in let e = c.running.word_is in omega arith
+
+  room : (s : B) (c : Rule s) → shares_out (word_of s) + 1 < 4611686018427387904
+  room s c = let w = c.running.machine.word in let h = few s c in let e = shares_now s c.running in let b = bit_le w.task in
+      let n : handles w < 36028797018963971 = omega arith in omega (arith, one_more_at_most (handles w) 36028797018963971 n (omega arith))
+
+  -- a step that keeps its acts' words, whatever they are, keeps the number
+  pub keeps_shares : (id : ℕ) (v : View) (l : ℕ) (p : Position) (ds : List Deed) (us : List Member) (held : List (ℕ × Slot F T A)) (acts : State → List Act) (write : ℕ → ℕ) → v ≡ view l (member p ds ∷ us) → Owes F T A limit acts write p ds us held
+      → ((m : Machine) → Finds limit p ds us m → shares_of (word_after m.word (acts m.word)) ≡ shares_of m.word) → Same Rule shares_out id v write
+  keeps_shares id v l p ds us held acts write is owes same s c at = let run = c.running in let m : Machine = run.machine in let f = finds_trying F T A limit s c.capped run id v l p ds None us at is in
+      shares_after m p (acts m.word) (write (word_of s)) held (owes m f (word_of s) run.word_is (fits s c)) ∙ (same m f ∙ sym (shares_now s run))
+
+  -- .. and one that may give a share up
+  pub parts_shares : (id : ℕ) (v : View) (l : ℕ) (p : Position) (ds : List Deed) (us : List Member) (held : List (ℕ × Slot F T A)) (acts : State → List Act) (write : ℕ → ℕ) (gives : State → Bool) → v ≡ view l (member p ds ∷ us) → Owes F T A limit acts write p ds us held
+      → ((m : Machine) → Finds limit p ds us m → Gives (gives m.word) (shares_of m.word) (shares_of (word_after m.word (acts m.word)))) → Less Rule shares_out id v write (λ n. gives (state_of n))
+  parts_shares id v l p ds us held acts write gives is owes moves s c at = let run = c.running in let m : Machine = run.machine in let f = finds_trying F T A limit s c.capped run id v l p ds None us at is in
+      let before = shares_now s run in let after = shares_after m p (acts m.word) (write (word_of s)) held (owes m f (word_of s) run.word_is (fits s c)) in
+      let word : m.word ≡ state_of (word_of s) = sym (ap state_of run.word_is ∙ state_of_number_of m.word) in
+      ⊎_elim (λ (z : (gives m.word ≡ false) × (shares_of (word_after m.word (acts m.word)) ≡ shares_of m.word)). inl (ap gives (sym word) ∙ z.0, after ∙ (z.1 ∙ sym before)))
+      (λ (z : (gives m.word ≡ true) × (shares_of (word_after m.word (acts m.word)) + 1 ≡ shares_of m.word)). inr (ap gives (sym word) ∙ z.0, ap (λ n. n + 1) after ∙ (z.1 ∙ sym before), one_at_least (handles (state_of (write (word_of s))))))
+      (moves m f)
+
+  -- what a change of an attempt owes of the number: by the word that it is made on
+  abbrev pub Changes : (ℕ → State → Option State) → (State → List Act) → Position → List Deed → List Member → List (ℕ × Slot F T A) → Type 0
+  Changes writes acts p ds us held = (w v : State) → writes limit w ≡ Some v → (m : Machine) → Finds limit p ds us m → number_of w ≡ number_of m.word → Steps m p (acts m.word) (number_of v) held
+
+  abbrev pub Moves : (Bool → ℕ → ℕ → Type 0) → (ℕ → State → Option State) → (State → List Act) → (State → Bool) → Position → List Deed → List Member → Type 0
+  Moves By writes acts counts p ds us = (w v : State) → writes limit w ≡ Some v → (m : Machine) → Finds limit p ds us m → m.word ≡ w → By (counts m.word) (shares_of m.word) (shares_of (word_after m.word (acts m.word)))
+
+  same_word : (w v : State) → number_of w ≡ number_of v → w ≡ v
+  same_word w v e = sym (state_of_number_of w) ∙ (ap state_of e ∙ state_of_number_of v)
+
+  -- an exchange, by whether it was made
+  exchange : (P : Bool → Type 0) (n old : ℕ) → (n ≡ old → P true) → P false → P (eqb n old)
+  exchange P n old hit miss = dite (ℕ_discrete n old) (λ e. subst P (sym (eq-eqb n old e)) (hit e)) (λ ne. subst P (sym (ne_eqb n old ne)) miss)
+
+  pub may_bring : (id l : ℕ) (p : Position) (ds : List Deed) (us : List Member) (held : List (ℕ × Slot F T A)) (writes : ℕ → State → Option State) (acts : State → List Act) (counts : State → Bool) → Changes writes acts p ds us held → Moves Brings writes acts counts p ds us
+      → MayBring limit id (view l (member p ds ∷ us), held) writes counts
+  may_bring id l p ds us held writes acts counts changes moves t w v writing names s c at = let run = c.running in let m : Machine = run.machine in let f = finds_trying F T A limit s c.capped run id (view l (trying p ds t ∷ us)) l p ds t us at refl in
+      exchange (ExchangeBrings (word_of s) (number_of v) (counts (state_of (word_of s)))) (word_of s) (number_of w)
+      (λ hit. let here : number_of w ≡ number_of m.word = sym hit ∙ run.word_is in let word : m.word ≡ state_of (word_of s) = sym (ap state_of run.word_is ∙ state_of_number_of m.word) in
+      let after = shares_after m p (acts m.word) (number_of v) held (changes w v writing m f here) in let before = shares_now s run in
+      ⊎_elim (λ (z : (counts m.word ≡ false) × (shares_of (word_after m.word (acts m.word)) ≡ shares_of m.word)). inl (ap counts (sym word) ∙ z.0, after ∙ (z.1 ∙ sym before)))
+      (λ (z : (counts m.word ≡ true) × (shares_of (word_after m.word (acts m.word)) ≡ shares_of m.word + 1)). inr (ap counts (sym word) ∙ z.0, after ∙ (z.1 ∙ ap (λ k. k + 1) (sym before)), room s c))
+      (moves w v writing m f (sym (same_word w m.word here))))
+      (inl (refl, refl))
+
+  pub may_give : (id l : ℕ) (p : Position) (ds : List Deed) (us : List Member) (held : List (ℕ × Slot F T A)) (writes : ℕ → State → Option State) (acts : State → List Act) (counts : State → Bool) → Changes writes acts p ds us held → Moves Gives writes acts counts p ds us
+      → MayGive limit id (view l (member p ds ∷ us), held) writes counts
+  may_give id l p ds us held writes acts counts changes moves t w v writing names s c at = let run = c.running in let m : Machine = run.machine in let f = finds_trying F T A limit s c.capped run id (view l (trying p ds t ∷ us)) l p ds t us at refl in
+      exchange (ExchangeGives (word_of s) (number_of v) (counts (state_of (word_of s)))) (word_of s) (number_of w)
+      (λ hit. let here : number_of w ≡ number_of m.word = sym hit ∙ run.word_is in let word : m.word ≡ state_of (word_of s) = sym (ap state_of run.word_is ∙ state_of_number_of m.word) in
+      let after = shares_after m p (acts m.word) (number_of v) held (changes w v writing m f here) in let before = shares_now s run in
+      ⊎_elim (λ (z : (counts m.word ≡ false) × (shares_of (word_after m.word (acts m.word)) ≡ shares_of m.word)). inl (ap counts (sym word) ∙ z.0, after ∙ (z.1 ∙ sym before)))
+      (λ (z : (counts m.word ≡ true) × (shares_of (word_after m.word (acts m.word)) + 1 ≡ shares_of m.word)). inr (ap counts (sym word) ∙ z.0, ap (λ k. k + 1) after ∙ (z.1 ∙ sym before), one_at_least (handles (state_of (number_of v)))))
+      (moves w v writing m f (sym (same_word w m.word here))))
+      (inl (refl, refl))
+
+  none_left : (w : State) → without_handles w ≡ true → handles w ≡ 0
+  none_left w e = grind (arith, nat_tests)
+
+  -- who has seen the task over and without a handle has the last share
+  pub has_last : (id : ℕ) (v : View) (l : ℕ) (p : Position) (ds : List Deed) (us : List Member) → v ≡ view l (member p ds ∷ us) → saw_without_handles ds ≡ true → Last Rule shares_out id v
+  has_last id v l p ds us is saw s c at = let run = c.running in let k = run.told.each id 0 v (member p ds) at (ap (λ (w : View). get_elem? w.members 0) is) in
+      shares_now s run ∙ ap at_least_one (none_left run.machine.word (without_stays limit k.0 run.log run.machine ds run.told.reaches k.1.did saw))
