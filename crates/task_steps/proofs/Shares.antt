@@ -12,9 +12,9 @@ use Rattle.counted_block.specs.Counts.{Same, More, Less, Last}
 use Rattle.task_steps.proofs.Vocabulary.{State, bit, state_of, number_of, state_of_number_of, Position, Act, Machine, scene, Slot, Deed, Tries, Member, View}
 use Rattle.task_steps.specs.Rule.{view, trying, member, Running, RuleHolds}
 use Rattle.task_steps.specs.Attempts.{having_seen}
-use Rattle.task_steps.specs.Shares.{handles, at_least_one, shares_out, without_handles, saw_without_handles, MayBring, MayGive}
+use Rattle.task_steps.specs.Shares.{handles, at_least_one, shares_out, has_emptied, MayBring, MayGive}
 use Rattle.task_steps.proofs.Facts.{low, law, bit_le}
-use Rattle.task_steps.proofs.Seen.{without_stays}
+use Rattle.task_steps.proofs.Seen.{without_handles, emptied_stays}
 use Rattle.task_steps.proofs.Acts.{word_after, leads_word}
 use Rattle.task_steps.proofs.Advance.{Finds, Steps}
 use Rattle.task_steps.proofs.Allowed.{Owes, finds_trying}
@@ -126,7 +126,7 @@ module _ (F T A : Type 0) (limit : ℕ) where
   none_left : (w : State) → without_handles w ≡ true → handles w ≡ 0
   none_left w e = grind (arith, nat_tests)
 
-  -- who has seen the task over and without a handle has the last share
-  pub has_last : (id : ℕ) (v : View) (l : ℕ) (p : Position) (ds : List Deed) (us : List Member) → v ≡ view l (member p ds ∷ us) → saw_without_handles ds ≡ true → Last Rule shares_out id v
+  -- who has emptied the places has the last share
+  pub has_last : (id : ℕ) (v : View) (l : ℕ) (p : Position) (ds : List Deed) (us : List Member) → v ≡ view l (member p ds ∷ us) → has_emptied ds ≡ true → Last Rule shares_out id v
   has_last id v l p ds us is saw s c at = let run = c.running in let k = run.told.each id 0 v (member p ds) at (ap (λ (w : View). get_elem? w.members 0) is) in
-      shares_now s run ∙ ap at_least_one (none_left run.machine.word (without_stays limit k.0 run.log run.machine ds run.told.reaches k.1.did saw))
+      shares_now s run ∙ ap at_least_one (none_left run.machine.word (emptied_stays limit k.0 run.log run.machine ds run.told.reaches k.1.did saw))

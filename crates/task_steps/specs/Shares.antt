@@ -1,15 +1,16 @@
 -- How many shares of a task's block are out, by its word, and which steps change that.
-use Rattle.std.specs.Prelude.{◌≡◌, ℕ, zero, suc, ◌+◌, ◌-◌, ◌%◌, ◌^◌, ◌==◌, Bool, true, false, not, ◌&&◌, ◌||◌, nat_lt, nat_eq, Option, Some, List}
+use Rattle.std.specs.Prelude.{◌≡◌, ℕ, zero, suc, ◌+◌, ◌-◌, ◌%◌, ◌^◌, ◌==◌, Bool, true, false, not, ◌&&◌, ◌||◌, nat_lt, Option, Some, List, [], ◌∷◌}
 use prog.Atomic.{either}
 use Rattle.atomic_table.specs.Table.{Me, Step}
 use Rattle.counted_block.specs.Counts.{More, Less}
-use Rattle.task_core.specs.Word.{State, bit, is_open, state_of, number_of}
+use Rattle.task_core.specs.Word.{State, bit, state_of, number_of}
+use Rattle.task_core.specs.declared.acts.Act.{Act}
+use Rattle.task_core.specs.declared.acts.Act.TheVariants.{EmptySlots}
 use Rattle.task_steps.specs.declared.table.Slot.{Slot}
 use Rattle.task_steps.specs.declared.table.Tries.{Tries}
 use Rattle.task_steps.specs.declared.table.View.{View}
 use Rattle.task_steps.specs.declared.table.Deed.{Deed}
 use Rattle.task_steps.specs.Rule.{RuleHolds}
-use Rattle.task_steps.specs.Steps.{saw}
 use Rattle.task_steps.specs.Attempts.{Names, having_seen}
 use Rattle.task_steps.specs.WakerScripts.{others_left}
 
@@ -25,12 +26,14 @@ at_least_one (suc n) = suc n
 abbrev pub shares_out : ℕ → ℕ
 shares_out n = at_least_one (handles (state_of n))
 
--- the task is over, and has no handle
-abbrev pub without_handles : State → Bool
-without_handles w = nat_eq w.references 0 && not w.task && not (is_open w)
+-- the party has emptied the places: it had the last handle
+abbrev pub is_emptying : Act → Bool
+is_emptying EmptySlots = true
+is_emptying _ = false
 
-abbrev pub saw_without_handles : List Deed → Bool
-saw_without_handles ds = saw without_handles ds
+abbrev pub has_emptied : List Deed → Bool
+has_emptied [] = false
+has_emptied (d ∷ earlier) = is_emptying d.act || has_emptied earlier
 
 -- a change that makes a Runnable of an idle task brings a share
 abbrev pub brings_runnable : State → Bool
