@@ -2,6 +2,10 @@
 use Rattle.task_cell.proofs.Vocabulary.{◌≡◌, ℕ, Bool, true, false, Option, Some, None, is_some, List, [], sym, refl, ap, ◌∙◌, subst, ◌==◌, none, Me, step, Allows, State, state_of, number_of, Act, Slot, View}
 use Rattle.task_cell.proofs.Vocabulary.{RuleHolds, head_of, Makes, Machine, Position, Party, deeds, limit_of, StandsWith, Finds, Steps, OwesEnd, may_try, looked, missed, Names, having_seen, observed}
 use Rattle.task_cell.proofs.Vocabulary.{attempted, MayTry, HasChanged, HasEnded, if◌then◌else◌}
+use Rattle.std.proofs.Common.{eq-eqb, ne_eqb, ◌&&◌, ◌≢◌}
+use Rattle.counted_block.specs.Counts.{More, Less}
+use Rattle.task_steps.specs.Shares.{shares_out, counted, MayBring, MayGive}
+use Rattle.task_steps.proofs.Shares.{Brings, Gives, Changes, Moves, may_bring, may_give}
 use prog.Atomic.{either}
 use Rattle.task_core.proofs.Bits.{state_of_number_of}
 use Rattle.task_steps.specs.declared.table.Tries.{Tries}
@@ -41,11 +45,30 @@ module _ {F T A : Type 0} where
       (λ (z : ℕ × ℕ × ℕ × Me (Slot F T A) View × ℕ × ℕ). Allows (RuleHolds {F = F} {T = T} {A = A} z.0) z.1 z.2 z.3 0 (λ n. either (n == z.4) z.5 n) (attempted acts (step z.1 0 z.4 z.5 none) z.3))
       (λ i. (sym a i, sym b i, sym c i, sym s.is i, sym from i, sym to i)) (may.exchanges s.tries w v (sym writing) s.names)
 
+  -- .. and what it does to the shares
+  pub may_more : (limit key id other : ℕ) (me now : Me (Slot F T A) View) (writes : ℕ → State → Option State) (counts : State → Bool) (w v : State) (old new : ℕ) → key ≡ limit → other ≡ id → Seeing w me now
+      → MayBring limit id me writes counts → Some v ≡ writes limit w → old ≡ number_of w → new ≡ number_of v
+      → More (RuleHolds {F = F} {T = T} {A = A} key) shares_out other now.0 (λ n. either (n == old) new n) (counted {S = Slot F T A} counts (step 3 0 old new none))
+  may_more limit key id other me now writes counts w v old new a b s may writing from to = subst
+      (λ (z : ℕ × ℕ × Me (Slot F T A) View × ℕ × ℕ). More (RuleHolds {F = F} {T = T} {A = A} z.0) shares_out z.1 z.2.0 (λ n. either (n == z.3) z.4 n) (counted {S = Slot F T A} counts (step 3 0 z.3 z.4 none)))
+      (λ i. (sym a i, sym b i, sym s.is i, sym from i, sym to i)) (may s.tries w v (sym writing) s.names)
+
+  pub may_less : (limit key id other : ℕ) (me now : Me (Slot F T A) View) (writes : ℕ → State → Option State) (counts : State → Bool) (w v : State) (old new : ℕ) → key ≡ limit → other ≡ id → Seeing w me now
+      → MayGive limit id me writes counts → Some v ≡ writes limit w → old ≡ number_of w → new ≡ number_of v
+      → Less (RuleHolds {F = F} {T = T} {A = A} key) shares_out other now.0 (λ n. either (n == old) new n) (counted {S = Slot F T A} counts (step 3 0 old new none))
+  may_less limit key id other me now writes counts w v old new a b s may writing from to = subst
+      (λ (z : ℕ × ℕ × Me (Slot F T A) View × ℕ × ℕ). Less (RuleHolds {F = F} {T = T} {A = A} z.0) shares_out z.1 z.2.0 (λ n. either (n == z.3) z.4 n) (counted {S = Slot F T A} counts (step 3 0 z.3 z.4 none)))
+      (λ i. (sym a i, sym b i, sym s.is i, sym from i, sym to i)) (may s.tries w v (sym writing) s.names)
+
   pub may_load : (limit key slots id other : ℕ) (me now : Me (Slot F T A) View) (writes : ℕ → State → Option State) (ends : ℕ → State → Bool) (acts told : State → List Act) (w : State) → key ≡ limit → slots ≡ 3 → other ≡ id → Seeing w me now
       → MayTry limit 3 id me writes ends acts told → Allows (RuleHolds {F = F} {T = T} {A = A} key) slots other now 0 (λ n. n) (observed ends told (step slots 0 0 0 none) now)
   may_load limit key slots id other me now writes ends acts told w a b c s may = subst
       (λ (z : ℕ × ℕ × ℕ × Me (Slot F T A) View). Allows (RuleHolds {F = F} {T = T} {A = A} z.0) z.1 z.2 z.3 0 (λ n. n) (observed ends told (step z.1 0 0 0 none) z.3))
       (λ i. (sym a i, sym b i, sym c i, sym s.is i)) (may.loads s.tries)
+
+  pub start_load : (limit id : ℕ) (me : Me (Slot F T A) View) (writes : ℕ → State → Option State) (ends : ℕ → State → Bool) (acts told : State → List Act) → me.0 ≡ having_seen None me.0
+      → MayTry limit 3 id me writes ends acts told → Allows (RuleHolds {F = F} {T = T} {A = A} limit) 3 id me 0 (λ n. n) (observed ends told (step 3 0 0 0 none) me)
+  start_load limit id me writes ends acts told quiet may = subst (λ (m : Me (Slot F T A) View). Allows (RuleHolds {F = F} {T = T} {A = A} limit) 3 id m 0 (λ n. n) (observed ends told (step 3 0 0 0 none) m)) (λ i. (sym quiet i, me.1)) (may.loads None)
 
   -- the next round: after a load, and after a miss
   pub seeing_next : (n : ℕ) (v w : State) (me now after : Me (Slot F T A) View) → Seeing v me now → w ≡ state_of n → after ≡ (having_seen (looked (state_of n) (head_of now.0.members).tries) now.0, now.1) → Seeing w me after
@@ -101,3 +124,38 @@ module _ {F T A : Type 0} where
       → ((w v : State) → writes limit w ≡ Some v → (m : Machine) → Finds limit at (deeds p) [] m → number_of w ≡ number_of m.word → Steps m at (acts m.word) (number_of v) held)
       → OwesEnd F T A limit (ends limit) told at (deeds p) [] held → MayTry limit 3 p.seat.id p.seat.me writes ends acts told
   may_at limit p at held s writes ends acts told same changes over = subst (λ (m : Me (Slot F T A) View). MayTry limit 3 p.seat.id m writes ends acts told) (sym s) (may_try F T A limit 3 p.seat.id (limit_of p) at (deeds p) [] held writes ends acts told refl changes same over)
+
+  -- a change that was made from what the party has seen since was made by the party before
+  pub changed_from : (limit : ℕ) (writes : ℕ → State → Option State) (acts : State → List Act) (w v : State) (me now after : Me (Slot F T A) View) → Seeing v me now → HasChanged limit writes acts w now after → HasChanged limit writes acts w me after
+  changed_from limit writes acts w v me now after s c = let d = subst (λ (m : Me (Slot F T A) View). HasChanged limit writes acts w m after) s.is c in
+      record { written = d.written; made = record { slots = d.made.slots; fits = d.made.fits; viewed = d.made.viewed; carried = d.made.carried }; knows = d.knows }
+
+  pub bring_still : (limit id other : ℕ) (me now : Me (Slot F T A) View) (writes : ℕ → State → Option State) (counts : State → Bool) (w : State) → other ≡ id → Seeing w me now → MayBring limit id me writes counts → MayBring limit other now writes counts
+  bring_still limit id other me now writes counts w e s may = subst (λ (z : ℕ × Me (Slot F T A) View). MayBring limit z.0 z.1 writes counts) (λ i. (sym e i, sym s.is i)) (λ t v x writing names. may t v x writing names)
+
+  pub give_still : (limit id other : ℕ) (me now : Me (Slot F T A) View) (writes : ℕ → State → Option State) (counts : State → Bool) (w : State) → other ≡ id → Seeing w me now → MayGive limit id me writes counts → MayGive limit other now writes counts
+  give_still limit id other me now writes counts w e s may = subst (λ (z : ℕ × Me (Slot F T A) View). MayGive limit z.0 z.1 writes counts) (λ i. (sym e i, sym s.is i)) (λ t v x writing names. may t v x writing names)
+
+  -- what the rule allows a party that stands here, with what its change does to the shares
+  pub may_bring_at : (limit : ℕ) (p : Party F T A) (at : Position) (held : List (ℕ × Slot F T A)) → StandsWith at held p → (writes : ℕ → State → Option State) (ends : ℕ → State → Bool) (acts told : State → List Act) (counts : State → Bool) → ((w : State) → ends (limit_of p) w ≡ ends limit w)
+      → Changes F T A limit writes acts at (deeds p) [] held → Moves F T A limit Brings writes acts counts at (deeds p) [] → OwesEnd F T A limit (ends limit) told at (deeds p) [] held
+      → MayTry limit 3 p.seat.id p.seat.me writes ends acts told × MayBring limit p.seat.id p.seat.me writes counts
+  may_bring_at limit p at held s writes ends acts told counts same changes moves over = (
+    may_at limit p at held s writes ends acts told same changes over,
+    subst (λ (m : Me (Slot F T A) View). MayBring limit p.seat.id m writes counts) (sym s) (may_bring F T A limit p.seat.id (limit_of p) at (deeds p) [] held writes acts counts changes moves),
+  )
+
+  pub may_give_at : (limit : ℕ) (p : Party F T A) (at : Position) (held : List (ℕ × Slot F T A)) → StandsWith at held p → (writes : ℕ → State → Option State) (ends : ℕ → State → Bool) (acts told : State → List Act) (counts : State → Bool) → ((w : State) → ends (limit_of p) w ≡ ends limit w)
+      → Changes F T A limit writes acts at (deeds p) [] held → Moves F T A limit Gives writes acts counts at (deeds p) [] → OwesEnd F T A limit (ends limit) told at (deeds p) [] held
+      → MayTry limit 3 p.seat.id p.seat.me writes ends acts told × MayGive limit p.seat.id p.seat.me writes counts
+  may_give_at limit p at held s writes ends acts told counts same changes moves over = (
+    may_at limit p at held s writes ends acts told same changes over,
+    subst (λ (m : Me (Slot F T A) View). MayGive limit p.seat.id m writes counts) (sym s) (may_give F T A limit p.seat.id (limit_of p) at (deeds p) [] held writes acts counts changes moves),
+  )
+
+-- whether an exchange counts, by the word that it found
+pub counts_made : (found old : ℕ) (w : State) (counts : State → Bool) → found ≡ old → old ≡ number_of w → ((found == old) && counts (state_of found)) ≡ counts w
+counts_made found old w counts hit from = ap (λ b. b && counts (state_of found)) (eq-eqb found old hit) ∙ ap counts (ap state_of (hit ∙ from) ∙ state_of_number_of w)
+
+pub counts_missed : (found old : ℕ) (counts : State → Bool) → found ≢ old → ((found == old) && counts (state_of found)) ≡ false
+counts_missed found old counts miss = ap (λ b. b && counts (state_of found)) (ne_eqb found old miss)

@@ -44,7 +44,7 @@ module _ {F T A : Type 0} where
 
   -- another value is put into the place in front
   pub exchanges : (p q r : Party F T A) (path : List Deed) (at : Position) (k : ℕ) (y x new : Slot F T A) (held : List (ℕ × Slot F T A)) → GoesWith path at ((k, y) ∷ held) p q
-      → r.seat.table_id ≡ q.seat.table_id → q.seat.me.1 ≡ (k, x) ∷ rest q.seat.me.1 → r.seat.me ≡ (q.seat.me.0, (k, new) ∷ rest q.seat.me.1) → (y ≡ x) × GoesWith path at ((k, new) ∷ held) p r
+      → r.seat.block ≡ q.seat.block → q.seat.me.1 ≡ (k, x) ∷ rest q.seat.me.1 → r.seat.me ≡ (q.seat.me.0, (k, new) ∷ rest q.seat.me.1) → (y ≡ x) × GoesWith path at ((k, new) ∷ held) p r
   exchanges p q r path at k y x new held g cell found left =
       let had : q.seat.me.1 ≡ (k, y) ∷ held = ap (λ (m : Me (Slot F T A) View). m.1) g.is in
       let same = same_value k y x held (rest q.seat.me.1) (sym had ∙ found) in (

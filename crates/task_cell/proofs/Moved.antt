@@ -22,7 +22,7 @@ module _ {F T A : Type 0} where
   }
 
   -- .. where it ends there, with these places
-  pub goes : (p q : Party F T A) (path : List Deed) (at : Position) (held : List (ℕ × Slot F T A)) → q.seat.table_id ≡ p.seat.table_id → q.seat.me.0 ≡ view (limit_of p) (member at (after path (deeds p)) ∷ []) → q.seat.me.1 ≡ held → GoesWith path at held p q
+  pub goes : (p q : Party F T A) (path : List Deed) (at : Position) (held : List (ℕ × Slot F T A)) → q.seat.block ≡ p.seat.block → q.seat.me.0 ≡ view (limit_of p) (member at (after path (deeds p)) ∷ []) → q.seat.me.1 ≡ held → GoesWith path at held p q
   goes p q path at held cell viewed has = record { cell = cell; is = λ i. (viewed i, has i) }
 
   -- one path, and then another

@@ -22,7 +22,7 @@ module _ {F T A : Type 0} where
   as_said p q path hand way held s g = subst (λ (z : NotifyingCall × List (ℕ × Slot F T A)). GoesWith path (after_taking hand z.0) z.1 p q)
       (λ i. (sym (ap way_of (moved.position_is p (Notifier way) held s)) i, sym (moved.held_is p (Notifier way) held s) i)) g
 
-  pub missed : (way : NotifyingCall) (held : List (ℕ × Slot F T A)) (p q : Party F T A) (w : State) → StandsWith (Notifier way) held p → q.seat.table_id ≡ p.seat.table_id
+  pub missed : (way : NotifyingCall) (held : List (ℕ × Slot F T A)) (p q : Party F T A) (w : State) → StandsWith (Notifier way) held p → q.seat.block ≡ p.seat.block
       → Makes (taking_awaiter w) w p.seat.me q.seat.me → (w.notifying || w.registering) ≡ true → Notifies p q None
   missed way held p q w s cell made is =
       let m = moved.moved (MissNotify ∷ []) w (Notifier way) held p q s (subst (λ b. Makes (if b then MissNotify ∷ [] else BeginNotify ∷ TakeAwaiter ∷ []) w p.seat.me q.seat.me) is made) in
@@ -37,7 +37,7 @@ module _ {F T A : Type 0} where
     pub fits : Fits BeginNotify w
     pub goes : GoesWith (row BeginNotify w ∷ act TakeAwaiter ∷ []) (Releaser hand way) ((2, value) ∷ held) p q
 
-  pub taken : (way : NotifyingCall) (held : List (ℕ × Slot F T A)) (p q : Party F T A) (w : State) → StandsWith (Notifier way) held p → q.seat.table_id ≡ p.seat.table_id
+  pub taken : (way : NotifyingCall) (held : List (ℕ × Slot F T A)) (p q : Party F T A) (w : State) → StandsWith (Notifier way) held p → q.seat.block ≡ p.seat.block
       → Makes (taking_awaiter w) w p.seat.me q.seat.me → (w.notifying || w.registering) ≡ false → Taken way held w p q
   taken way held p q w s cell made is =
       let m = moved.moved (BeginNotify ∷ TakeAwaiter ∷ []) w (Notifier way) held p q s (subst (λ b. Makes (if b then MissNotify ∷ [] else BeginNotify ∷ TakeAwaiter ∷ []) w p.seat.me q.seat.me) is made) in
@@ -46,11 +46,11 @@ module _ {F T A : Type 0} where
       record { hand = hand; value = y.0; waits = y.1; fits = free w.notifying w.registering is; goes = moved.goes p q (row BeginNotify w ∷ act TakeAwaiter ∷ []) (Releaser hand way) ((2, y.0) ∷ held) cell m.viewed y.2 }
 
   -- .. as nobody else was found at it
-  pub taken_free : (p q : Party F T A) (w : State) (n r : Bool) (s : (way : NotifyingCall) × (held : List (ℕ × Slot F T A)) × StandsWith (Notifier way) held p) → q.seat.table_id ≡ p.seat.table_id → Makes (taking_awaiter w) w p.seat.me q.seat.me
+  pub taken_free : (p q : Party F T A) (w : State) (n r : Bool) (s : (way : NotifyingCall) × (held : List (ℕ × Slot F T A)) × StandsWith (Notifier way) held p) → q.seat.block ≡ p.seat.block → Makes (taking_awaiter w) w p.seat.me q.seat.me
       → n ≡ w.notifying → r ≡ w.registering → n ≡ false → r ≡ false → Taken s.0 s.1 w p q
   taken_free p q w n r s cell made e f g h = taken s.0 s.1 p q w s.2 cell made (neither w.notifying w.registering (sym e ∙ g) (sym f ∙ h))
 
-  pub released : (hand : Option ℕ) (way : NotifyingCall) (y : Slot F T A) (held : List (ℕ × Slot F T A)) (p q : Party F T A) (w : State) → StandsWith (Releaser hand way) ((2, y) ∷ held) p → q.seat.table_id ≡ p.seat.table_id
+  pub released : (hand : Option ℕ) (way : NotifyingCall) (y : Slot F T A) (held : List (ℕ × Slot F T A)) (p q : Party F T A) (w : State) → StandsWith (Releaser hand way) ((2, y) ∷ held) p → q.seat.block ≡ p.seat.block
       → Makes (releasing_awaiter w) w p.seat.me q.seat.me → GoesWith (row EndNotify w ∷ []) (after_taking hand way) held p q
   released hand way y held p q w s cell made =
       let m = moved.moved (EndNotify ∷ []) w (Releaser hand way) ((2, y) ∷ held) p q s made in
@@ -62,7 +62,7 @@ module _ {F T A : Type 0} where
   found_there w v hand y p q b h g = absurd h
 
   pub notified : (way : NotifyingCall) (held : List (ℕ × Slot F T A)) (w v : State) (hand : Option ℕ) (y : Slot F T A) (p q r : Party F T A) (found : Option A) → StandsWith (Notifier way) held p → Fits BeginNotify w → Waits hand y
-      → GoesWith (row BeginNotify w ∷ act TakeAwaiter ∷ []) (Releaser hand way) ((2, Empty) ∷ held) p q → r.seat.table_id ≡ q.seat.table_id → Makes (releasing_awaiter v) v q.seat.me r.seat.me → found ≡ awaiter_in y → Notifies p r found
+      → GoesWith (row BeginNotify w ∷ act TakeAwaiter ∷ []) (Releaser hand way) ((2, Empty) ∷ held) p q → r.seat.block ≡ q.seat.block → Makes (releasing_awaiter v) v q.seat.me r.seat.me → found ≡ awaiter_in y → Notifies p r found
   notified way held w v hand y p q r found s fits waits g cell made is =
       let h = released hand way Empty held q r v (moved.stands p q (row BeginNotify w ∷ act TakeAwaiter ∷ []) (Releaser hand way) ((2, Empty) ∷ held) g) cell made in
       subst (λ (x : Option A). Notifies p r x) (sym is)

@@ -1,4 +1,5 @@
 -- What the looks of a poll and the steps of a registering come to for the party that made them.
+use Rattle.std.proofs.Common.{inl}
 use Rattle.task_cell.proofs.Vocabulary.{◌≡◌, ℕ, ◌+◌, Bool, true, false, not, ◌&&◌, ◌||◌, Option, Some, None, List, [], ◌∷◌, refl, sym, ap, ◌∙◌, subst, map, is_some, if◌then◌else◌, Result, Ok, Err}
 use Rattle.task_cell.proofs.Vocabulary.{IfOk, IfErr, Me, State, number_of, written, Position, TaskPollBegins, IsPending, OfPoll, OfClaim, Looking, SawOutput, Answering, Notifier, Registrar}
 use Rattle.task_cell.proofs.Vocabulary.{UnusedClone, Registered, TookBack, CloneInHand, Act, Look, CloneAwaiter, StoreAwaiter, FindNotify, BeginRegister, EndRegister, EndRegisterNotified, TakeAwaiter}
@@ -11,7 +12,8 @@ use Rattle.task_cell.proofs.Vocabulary.{MayTry, HasChanged, HasEnded, first_free
 use Rattle.task_cell.proofs.Vocabulary.{finds_notifier, fits, not_true, left_true}
 use Rattle.task_core.specs.Rows.{row as row_of}
 use Rattle.task_cell.proofs.Moved.{position_is, held_is, stands, goes_on}
-use Rattle.task_cell.proofs.Attempts.{written_if, may_at}
+use Rattle.task_steps.specs.Shares.{MayBring, never}
+use Rattle.task_cell.proofs.Attempts.{written_if, may_bring_at}
 use Rattle.task_cell.proofs.PollSeen.{not_both}
 
 -- a row that was made finds no notifier
@@ -28,7 +30,7 @@ finds_end i false busy false e f = absurd (cc)
 
 module _ {F T A : Type 0} where
   -- the seat after acts that lead to this position, and add no party
-  went : (acts : List Act) (w : State) (at at' : Position) (held : List (ℕ × Slot F T A)) (path : List Deed) (p q : Party F T A) → StandsWith at held p → q.seat.table_id ≡ p.seat.table_id → (m : Makes acts w p.seat.me q.seat.me)
+  went : (acts : List Act) (w : State) (at at' : Position) (held : List (ℕ × Slot F T A)) (path : List Deed) (p q : Party F T A) → StandsWith at held p → q.seat.block ≡ p.seat.block → (m : Makes acts w p.seat.me q.seat.me)
       → next_of (leaves_by (limit_of p) w m.slots acts at) ≡ at' → born_of (leaves_by (limit_of p) w m.slots acts at) ≡ [] → noted w acts (deeds p) ≡ after path (deeds p)
       → Carried at at' held q.seat.me.1 × GoesWith path at' q.seat.me.1 p q
   went acts w at at' held path p q s cell m to none is = let viewed = m.viewed ∙ ap (λ x. acted w m.slots acts x.0) s in (
@@ -40,7 +42,7 @@ module _ {F T A : Type 0} where
     },
   )
 
-  pub found_one : (limit i : ℕ) (w : State) (p q : Party F T A) → Stands (Registrar i) p → q.seat.table_id ≡ p.seat.table_id → HasEnded limit (λ _ w. w.notifying) finding_notifier w p.seat.me q.seat.me → BeginsRegister p q false
+  pub found_one : (limit i : ℕ) (w : State) (p q : Party F T A) → Stands (Registrar i) p → q.seat.block ≡ p.seat.block → HasEnded limit (λ _ w. w.notifying) finding_notifier w p.seat.me q.seat.me → BeginsRegister p q false
   found_one limit i w p q s cell e =
       let path : List Deed = act CloneAwaiter ∷ row FindNotify w ∷ [] in
       let g = went (CloneAwaiter ∷ FindNotify ∷ []) w (Registrar i) (UnusedClone i) [] path p q s cell e.made refl refl refl in
@@ -51,7 +53,7 @@ module _ {F T A : Type 0} where
   carried_slot i None l' c = c
   carried_slot i (Some old) l' c = c
 
-  pub begun : (limit i : ℕ) (w : State) (p q : Party F T A) → Stands (Registrar i) p → q.seat.table_id ≡ p.seat.table_id → HasChanged limit (λ _ w. row_of 0 BeginRegister w) beginning_register w p.seat.me q.seat.me → BeginsRegister p q true
+  pub begun : (limit i : ℕ) (w : State) (p q : Party F T A) → Stands (Registrar i) p → q.seat.block ≡ p.seat.block → HasChanged limit (λ _ w. row_of 0 BeginRegister w) beginning_register w p.seat.me q.seat.me → BeginsRegister p q true
   begun limit i w p q s cell c = let m = c.made in
       let path : List Deed = act CloneAwaiter ∷ row BeginRegister w ∷ act StoreAwaiter ∷ [] in let hand : Option ℕ = m.slots.awaiter in
       let g = went (CloneAwaiter ∷ BeginRegister ∷ StoreAwaiter ∷ []) w (Registrar i) (after_storing i hand) [] path p q s cell m refl refl refl in
@@ -59,14 +61,14 @@ module _ {F T A : Type 0} where
       begins w hand y.0 (not_notifying w.notifying (written BeginRegister w) c.written) y.1 (subst (λ at. GoesWith path (after_storing (poll_number at) hand) ((2, y.0) ∷ []) p q) (sym (position_is p (Registrar i) [] s)) (subst (λ l. GoesWith path (after_storing i hand) l p q) y.2 g.1))
 
   -- the slot is given back
-  pub ended : (limit i : ℕ) (w : State) (y : Slot F T A) (p q : Party F T A) → StandsWith (Registered i) ((2, y) ∷ []) p → q.seat.table_id ≡ p.seat.table_id → HasChanged limit (λ _ w. row_of 0 EndRegister w) ending_register w p.seat.me q.seat.me → EndsRegister p q true
+  pub ended : (limit i : ℕ) (w : State) (y : Slot F T A) (p q : Party F T A) → StandsWith (Registered i) ((2, y) ∷ []) p → q.seat.block ≡ p.seat.block → HasChanged limit (λ _ w. row_of 0 EndRegister w) ending_register w p.seat.me q.seat.me → EndsRegister p q true
   ended limit i w y p q s cell c = let m = c.made in
       let path : List Deed = row EndRegister w ∷ [] in
       let g = went (EndRegister ∷ []) w (Registered i) (Looking i) ((2, y) ∷ []) path p q s cell m refl refl refl in
       ends w (not_notifying w.notifying (written EndRegister w) c.written) (subst (λ at. Goes path (Looking (poll_number at)) p q) (sym (position_is p (Registered i) ((2, y) ∷ []) s)) (subst (λ l. GoesWith path (Looking i) l p q) g.0 g.1))
 
   -- the slot is given back without the clone, which was taken out of it
-  pub given_back : (i : ℕ) (w : State) (y : Slot F T A) (p q r : Party F T A) → StandsWith (TookBack i) ((2, y) ∷ []) p → GoesWith [] (TookBack i) ((2, Empty) ∷ []) p q → r.seat.table_id ≡ q.seat.table_id → Makes (EndRegisterNotified ∷ []) w q.seat.me r.seat.me
+  pub given_back : (i : ℕ) (w : State) (y : Slot F T A) (p q r : Party F T A) → StandsWith (TookBack i) ((2, y) ∷ []) p → GoesWith [] (TookBack i) ((2, Empty) ∷ []) p q → r.seat.block ≡ q.seat.block → Makes (EndRegisterNotified ∷ []) w q.seat.me r.seat.me
       → (v : State) × (v.notifying ≡ true) × Goes (row EndRegisterNotified v ∷ []) (CloneInHand (poll_number (position p))) p r
   given_back i w y p q r s took cell m = let path : List Deed = row EndRegisterNotified w ∷ [] in let held : List (ℕ × Slot F T A) = (2, Empty) ∷ [] in
       let g = went (EndRegisterNotified ∷ []) w (TookBack i) (CloneInHand i) held path q r (stands p q [] (TookBack i) held took) cell m refl refl refl in (
@@ -76,7 +78,7 @@ module _ {F T A : Type 0} where
       )
 
   -- a notifier came meanwhile, and the clone is taken back
-  pub notified : (limit i : ℕ) (w : State) (y : Slot F T A) (p q : Party F T A) → StandsWith (Registered i) ((2, y) ∷ []) p → q.seat.table_id ≡ p.seat.table_id → HasEnded limit (λ _ w. w.notifying) taking_back w p.seat.me q.seat.me → EndsRegister p q false
+  pub notified : (limit i : ℕ) (w : State) (y : Slot F T A) (p q : Party F T A) → StandsWith (Registered i) ((2, y) ∷ []) p → q.seat.block ≡ p.seat.block → HasEnded limit (λ _ w. w.notifying) taking_back w p.seat.me q.seat.me → EndsRegister p q false
   notified limit i w y p q s cell e = let m = e.made in let path : List Deed = act TakeAwaiter ∷ [] in let held : List (ℕ × Slot F T A) = (2, y) ∷ [] in
       let to : (f : Option Outcome → Position) → f (leaves_by (limit_of p) w m.slots (TakeAwaiter ∷ []) (Registered i)) ≡ f (Some (changes_slots (spot (limit_of p) (held_word (Registered i) w) m.slots) w (record (m.slots) { awaiter = None }) (TookBack i) [])) = λ f.
       ap (λ (b : Bool). f (and_then (when b (changes_slots (spot (limit_of p) (held_word (Registered i) w) m.slots) w (record (m.slots) { awaiter = None }) (TookBack i) [])) (λ o. leaves_by (limit_of p) o.word o.slots [] o.next))) e.at_end in
@@ -89,7 +91,7 @@ module _ {F T A : Type 0} where
   carried_output true i l c = c
   carried_output false i l c = c
 
-  claimed : (w : State) (at : Position) (acts : List Act) (path : List Deed) (p q : Party F T A) → Stands at p → q.seat.table_id ≡ p.seat.table_id → (m : Makes acts w p.seat.me q.seat.me) → has_output w ≡ true
+  claimed : (w : State) (at : Position) (acts : List Act) (path : List Deed) (p q : Party F T A) → Stands at p → q.seat.block ≡ p.seat.block → (m : Makes acts w p.seat.me q.seat.me) → has_output w ≡ true
       → next_of (leaves_by (limit_of p) w m.slots acts at) ≡ notifies w.awaiter (OfClaim (poll_number at)) → born_of (leaves_by (limit_of p) w m.slots acts at) ≡ [] → noted w acts (deeds p) ≡ after path (deeds p)
       → (Carried at (notifies w.awaiter (OfClaim (poll_number at))) [] q.seat.me.1 → TakesOutput [] q.seat.me.1) → ClaimsOutput w path p q
   claimed w at acts path p q s cell m there to none is takes = let g = went acts w at (notifies w.awaiter (OfClaim (poll_number at))) [] path p q s cell m to none is in let c = takes g.0 in record {
@@ -103,7 +105,7 @@ module _ {F T A : Type 0} where
   first_holds w n l c = let f = first_free w (n + 1) in subst (λ (z : Bool × Bool). Carries false z.0 false z.1 (first_look w (n + 1)) [] l) (λ j. (f.0 j, f.1 j)) c
 
   -- the first look of a poll
-  pub looks_so : (limit n : ℕ) (x : Result State State) (p q : Party F T A) → Stands (as_task n) p → q.seat.table_id ≡ p.seat.table_id → IfOk x (λ w. HasChanged limit (λ _ w. row_of 0 ClaimOutput w) claiming w p.seat.me q.seat.me)
+  pub looks_so : (limit n : ℕ) (x : Result State State) (p q : Party F T A) → Stands (as_task n) p → q.seat.block ≡ p.seat.block → IfOk x (λ w. HasChanged limit (λ _ w. row_of 0 ClaimOutput w) claiming w p.seat.me q.seat.me)
       → IfErr x (λ w. HasEnded limit (λ _ w. not (has_output w)) looking w p.seat.me q.seat.me) → Looks p q x
   looks_so limit n (Ok w) p q s cell c e = claims_output w (claimed w (as_task n) (ClaimOutput ∷ []) (row ClaimOutput w ∷ []) p q s cell c.made (written_if (has_output w) (written ClaimOutput w) c.written) refl refl refl (carried_output w.awaiter (n + 1) q.seat.me.1))
   looks_so limit n (Err w) p q s cell c e = let m = e.made in let l : ℕ = limit_of p in let path : List Deed = row Look w ∷ [] in
@@ -118,7 +120,7 @@ module _ {F T A : Type 0} where
   finds_it_ended limit (Err w) p q c e saw = (w, refl, e.knows.ended saw)
 
   -- .. and the look of one that has registered
-  looked_again_in_vain : (limit i : ℕ) (w : State) (p q : Party F T A) → Stands (Looking i) p → q.seat.table_id ≡ p.seat.table_id → HasEnded limit (λ _ w. not (has_output w)) looking_again w p.seat.me q.seat.me → LooksAgain p q (Err w)
+  looked_again_in_vain : (limit i : ℕ) (w : State) (p q : Party F T A) → Stands (Looking i) p → q.seat.block ≡ p.seat.block → HasEnded limit (λ _ w. not (has_output w)) looking_again w p.seat.me q.seat.me → LooksAgain p q (Err w)
   looked_again_in_vain limit i w p q s cell e = by (has_to_wait w) refl
     where
       l : ℕ
@@ -135,7 +137,7 @@ module _ {F T A : Type 0} where
           let is = finds_end i w.closed (w.scheduled || w.running) w.completed f (not_true (has_output w) e.at_end) in let g = went (Look ∷ []) w (Looking i) (Notifier (OfPoll i)) [] path p q s cell m (ap (λ at. next_of (left m.slots [] at)) is.0) (ap (λ at. born_of (left m.slots [] at)) is.0) refl in
           sees_end w f is.1 (subst (λ at. Goes path (Notifier (OfPoll (poll_number at))) p q) (sym (position_is p (Looking i) [] s)) (subst (λ l. GoesWith path (Notifier (OfPoll i)) l p q) g.0 g.1))
 
-  pub looks_again_so : (limit i : ℕ) (x : Result State State) (p q : Party F T A) → Stands (Looking i) p → q.seat.table_id ≡ p.seat.table_id → IfOk x (λ w. HasChanged limit (λ _ w. row_of 0 ClaimOutput w) claiming_again w p.seat.me q.seat.me)
+  pub looks_again_so : (limit i : ℕ) (x : Result State State) (p q : Party F T A) → Stands (Looking i) p → q.seat.block ≡ p.seat.block → IfOk x (λ w. HasChanged limit (λ _ w. row_of 0 ClaimOutput w) claiming_again w p.seat.me q.seat.me)
       → IfErr x (λ w. HasEnded limit (λ _ w. not (has_output w)) looking_again w p.seat.me q.seat.me) → LooksAgain p q x
   looks_again_so limit i (Ok w) p q s cell c e = let m = c.made in let l : ℕ = limit_of p in let there = written_if (has_output w) (written ClaimOutput w) c.written in
       let left : Position → Option Outcome = (λ at. and_then (Some (leaves_slots (spot l (held_word (Looking i) w) m.slots) w at [] [])) (λ o. leaves_by l o.word o.slots (ClaimOutput ∷ []) o.next)) in
@@ -144,19 +146,19 @@ module _ {F T A : Type 0} where
 
 module _ (F T A : Type 0) (limit : ℕ) where
   -- the rule allows a poll to look, to take the awaiter slot, and to give it back
-  pub may_register : (p : Party F T A) (i : ℕ) → Stands (Registrar i) p → MayTry limit 3 p.seat.id p.seat.me (λ _ w. row_of 0 BeginRegister w) (λ _ w. w.notifying) beginning_register finding_notifier
-  may_register p i s = may_at limit p (Registrar i) [] s (λ _ w. row_of 0 BeginRegister w) (λ _ w. w.notifying) beginning_register finding_notifier (λ w. refl)
-      (λ w v e m f here. begins_register F T A limit i (deeds p) [] [] m (number_of v) f (fits BeginRegister w v (number_of w) (number_of v) m.word e refl refl here)) (finds_notifier F T A limit i (deeds p) [] [])
+  pub may_register : (p : Party F T A) (i : ℕ) → Stands (Registrar i) p → MayTry limit 3 p.seat.id p.seat.me (λ _ w. row_of 0 BeginRegister w) (λ _ w. w.notifying) beginning_register finding_notifier × MayBring limit p.seat.id p.seat.me (λ _ w. row_of 0 BeginRegister w) never
+  may_register p i s = may_bring_at limit p (Registrar i) [] s (λ _ w. row_of 0 BeginRegister w) (λ _ w. w.notifying) beginning_register finding_notifier never (λ w. refl)
+      (λ w v e m f here. begins_register F T A limit i (deeds p) [] [] m (number_of v) f (fits BeginRegister w v (number_of w) (number_of v) m.word e refl refl here)) (λ w v e m f is. inl (refl, refl)) (finds_notifier F T A limit i (deeds p) [] [])
 
-  pub may_give_back : (p : Party F T A) (i : ℕ) (a : A) → StandsWith (Registered i) ((2, Awaiter a) ∷ []) p → MayTry limit 3 p.seat.id p.seat.me (λ _ w. row_of 0 EndRegister w) (λ _ w. w.notifying) ending_register taking_back
-  may_give_back p i a s = may_at limit p (Registered i) ((2, Awaiter a) ∷ []) s (λ _ w. row_of 0 EndRegister w) (λ _ w. w.notifying) ending_register taking_back (λ w. refl)
-      (λ w v e m f here. ends_register F T A limit i (deeds p) [] (Awaiter a) ((2, Awaiter a) ∷ []) m (number_of v) f refl tt (fits EndRegister w v (number_of w) (number_of v) m.word e refl refl here))
+  pub may_give_back : (p : Party F T A) (i : ℕ) (a : A) → StandsWith (Registered i) ((2, Awaiter a) ∷ []) p → MayTry limit 3 p.seat.id p.seat.me (λ _ w. row_of 0 EndRegister w) (λ _ w. w.notifying) ending_register taking_back × MayBring limit p.seat.id p.seat.me (λ _ w. row_of 0 EndRegister w) never
+  may_give_back p i a s = may_bring_at limit p (Registered i) ((2, Awaiter a) ∷ []) s (λ _ w. row_of 0 EndRegister w) (λ _ w. w.notifying) ending_register taking_back never (λ w. refl)
+      (λ w v e m f here. ends_register F T A limit i (deeds p) [] (Awaiter a) ((2, Awaiter a) ∷ []) m (number_of v) f refl tt (fits EndRegister w v (number_of w) (number_of v) m.word e refl refl here)) (λ w v e m f is. inl (refl, refl))
       (takes_back F T A limit i (deeds p) [] ((2, Awaiter a) ∷ []))
 
-  pub may_look : (p : Party F T A) (n : ℕ) → Stands (as_task n) p → MayTry limit 3 p.seat.id p.seat.me (λ _ w. row_of 0 ClaimOutput w) (λ _ w. not (has_output w)) claiming looking
-  may_look p n s = may_at limit p (as_task n) [] s (λ _ w. row_of 0 ClaimOutput w) (λ _ w. not (has_output w)) claiming looking (λ w. refl)
-      (λ w v e m f here. claims F T A limit n (deeds p) [] [] m (number_of v) f (fits ClaimOutput w v (number_of w) (number_of v) m.word e refl refl here)) (looks F T A limit n (deeds p) [] [])
+  pub may_look : (p : Party F T A) (n : ℕ) → Stands (as_task n) p → MayTry limit 3 p.seat.id p.seat.me (λ _ w. row_of 0 ClaimOutput w) (λ _ w. not (has_output w)) claiming looking × MayBring limit p.seat.id p.seat.me (λ _ w. row_of 0 ClaimOutput w) never
+  may_look p n s = may_bring_at limit p (as_task n) [] s (λ _ w. row_of 0 ClaimOutput w) (λ _ w. not (has_output w)) claiming looking never (λ w. refl)
+      (λ w v e m f here. claims F T A limit n (deeds p) [] [] m (number_of v) f (fits ClaimOutput w v (number_of w) (number_of v) m.word e refl refl here)) (λ w v e m f is. inl (refl, refl)) (looks F T A limit n (deeds p) [] [])
 
-  pub may_look_again : (p : Party F T A) (i : ℕ) → Stands (Looking i) p → MayTry limit 3 p.seat.id p.seat.me (λ _ w. row_of 0 ClaimOutput w) (λ _ w. not (has_output w)) claiming_again looking_again
-  may_look_again p i s = may_at limit p (Looking i) [] s (λ _ w. row_of 0 ClaimOutput w) (λ _ w. not (has_output w)) claiming_again looking_again (λ w. refl)
-      (λ w v e m f here. claims_again F T A limit i (deeds p) [] [] m (number_of v) f (fits ClaimOutput w v (number_of w) (number_of v) m.word e refl refl here)) (looks_again F T A limit i (deeds p) [] [])
+  pub may_look_again : (p : Party F T A) (i : ℕ) → Stands (Looking i) p → MayTry limit 3 p.seat.id p.seat.me (λ _ w. row_of 0 ClaimOutput w) (λ _ w. not (has_output w)) claiming_again looking_again × MayBring limit p.seat.id p.seat.me (λ _ w. row_of 0 ClaimOutput w) never
+  may_look_again p i s = may_bring_at limit p (Looking i) [] s (λ _ w. row_of 0 ClaimOutput w) (λ _ w. not (has_output w)) claiming_again looking_again never (λ w. refl)
+      (λ w v e m f here. claims_again F T A limit i (deeds p) [] [] m (number_of v) f (fits ClaimOutput w v (number_of w) (number_of v) m.word e refl refl here)) (λ w v e m f is. inl (refl, refl)) (looks_again F T A limit i (deeds p) [] [])

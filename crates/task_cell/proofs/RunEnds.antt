@@ -15,7 +15,7 @@ unkept w h k = ap (λ b. b && not w.closed) h ∙ ap not k
 
 module _ {F T A : Type 0} where
   -- the output
-  pub completes_cell : (p q : Party F T A) (w : State) → Completes p q w → q.seat.table_id ≡ p.seat.table_id
+  pub completes_cell : (p q : Party F T A) (w : State) → Completes p q w → q.seat.block ≡ p.seat.block
   completes_cell p q w (keeps h k g) = g.cell
   completes_cell p q w (finds_closed z h k g) = g.cell
   completes_cell p q w (finds_detached z h g) = g.cell

@@ -1,4 +1,5 @@
 -- What the steps of a run and of a Runnable's drop come to.
+use Rattle.std.proofs.Common.{inl}
 use Rattle.task_cell.proofs.Vocabulary.{◌≡◌, ℕ, Bool, true, false, not, ◌||◌, List, [], ◌∷◌, Option, Some, None, refl, sym, ap, ◌∙◌, subst, if◌then◌else◌, nat_lt, turned, State, number_of, Answer}
 use Rattle.task_cell.proofs.Vocabulary.{Ran, Runnable, Ended, OfRun, ThenEnds, DroppedRunnable, Position, At, Deliverer, GivingUp, Emptier, FutureInHand, Polling, Pending, Ready, PendingFutureDropped}
 use Rattle.task_cell.proofs.Vocabulary.{OutputInHand, Act, GiveUpReference, GiveUpLastReference, EmptySlots, DiscardOpen, DiscardClosed, AnswerReady, AnswerPending, DropFuture, StoreOutput, Complete}
@@ -15,7 +16,10 @@ use Rattle.task_cell.specs.RunCalls.{finds_closed}
 use Rattle.task_steps.proofs.RunOwed.{finds_closed as finds_closed_task}
 use Rattle.task_cell.proofs.Moved as moved
 use Rattle.task_cell.proofs.Carried.{keeps_places, took_awaiter, gave_awaiter, took_work, gave_work}
-use Rattle.task_cell.proofs.Attempts.{may_at}
+use Rattle.task_steps.specs.Shares.{MayBring, MayGive, never, ends_run}
+use Rattle.task_steps.proofs.Handles.{ends_open}
+use Rattle.task_steps.proofs.Shares.{keeps_either}
+use Rattle.task_cell.proofs.Attempts.{may_bring_at, may_give_at}
 
 some_if : (b : Bool) (x : State) → is_some (if b then Some x else None) ≡ b
 some_if b x = grind arith
@@ -36,7 +40,7 @@ pub was_unclosed : (w : State) → is_some (if w.closed then None else Some (aft
 was_unclosed w e = grind arith
 
 module _ {F T A : Type 0} where
-  pub discarded : (p q : Party F T A) (w : State) → Stands (At Runnable) p → q.seat.table_id ≡ p.seat.table_id → Makes (discarding w) w p.seat.me q.seat.me
+  pub discarded : (p q : Party F T A) (w : State) → Stands (At Runnable) p → q.seat.block ≡ p.seat.block → Makes (discarding w) w p.seat.me q.seat.me
       → (d : Deed) × (y : Slot F T A) × DiscardStart d × GoesWith (d ∷ []) (FutureInHand DroppedRunnable) (future_first y []) p q × IsFuture y
   discarded p q w s cell made = by w.closed refl made
     where
@@ -47,7 +51,7 @@ module _ {F T A : Type 0} where
       by false h made = let m = moved.moved (DiscardOpen ∷ []) w (At Runnable) [] p q s made in let y = took_work (At Runnable) (FutureInHand DroppedRunnable) [] q.seat.me.1 refl refl m.carried in
           (row DiscardOpen w, y.0, found_open w h, moved.goes p q (row DiscardOpen w ∷ []) (FutureInHand DroppedRunnable) (future_first y.0 []) cell m.viewed y.2, y.1)
 
-  pub gave_up : (hand : Option ℕ) (answer : Answer) (p q : Party F T A) (w : State) → Stands (GivingUp hand answer) p → q.seat.table_id ≡ p.seat.table_id → Makes (giving_up w) w p.seat.me q.seat.me
+  pub gave_up : (hand : Option ℕ) (answer : Answer) (p q : Party F T A) (w : State) → Stands (GivingUp hand answer) p → q.seat.block ≡ p.seat.block → Makes (giving_up w) w p.seat.me q.seat.me
       → GivesUp hand answer p q (not (nat_lt 1 w.references || w.task))
   gave_up hand answer p q w s cell made = by (nat_lt 1 w.references || w.task) refl made
     where
@@ -57,7 +61,7 @@ module _ {F T A : Type 0} where
       by false is made = let m = moved.moved (GiveUpLastReference ∷ []) w (GivingUp hand answer) [] p q s made in let y = took_awaiter (GivingUp hand answer) (Emptier hand answer) [] q.seat.me.1 refl refl refl m.carried in
           last w y.0 (alone_fits GiveUpLastReference (limit_of p) w made.fits) (moved.goes p q (row GiveUpLastReference w ∷ []) (Emptier hand answer) ((2, y.0) ∷ []) cell m.viewed y.2)
 
-  pub gives_cell : (hand : Option ℕ) (answer : Answer) (p q : Party F T A) (b : Bool) → GivesUp hand answer p q b → q.seat.table_id ≡ p.seat.table_id
+  pub gives_cell : (hand : Option ℕ) (answer : Answer) (p q : Party F T A) (b : Bool) → GivesUp hand answer p q b → q.seat.block ≡ p.seat.block
   gives_cell hand answer p q true (last w y f g) = g.cell
   gives_cell hand answer p q false (not_last w f g) = g.cell
 
@@ -65,7 +69,7 @@ module _ {F T A : Type 0} where
   last_stands hand answer p q true (last w y f g) e = (y, moved.stands p q (row GiveUpLastReference w ∷ []) (Emptier hand answer) ((2, y) ∷ []) g)
   last_stands hand answer p q false (not_last w f g) e = absurd (cc)
 
-  pub emptied : (hand : Option ℕ) (answer : Answer) (y : Slot F T A) (p q : Party F T A) (w : State) → StandsWith (Emptier hand answer) ((2, y) ∷ []) p → q.seat.table_id ≡ p.seat.table_id → Makes (emptying w) w p.seat.me q.seat.me
+  pub emptied : (hand : Option ℕ) (answer : Answer) (y : Slot F T A) (p q : Party F T A) (w : State) → StandsWith (Emptier hand answer) ((2, y) ∷ []) p → q.seat.block ≡ p.seat.block → Makes (emptying w) w p.seat.me q.seat.me
       → Goes (act EmptySlots ∷ []) (after_giving_up hand answer) p q
   emptied hand answer y p q w s cell made = let m = moved.moved (EmptySlots ∷ []) w (Emptier hand answer) ((2, y) ∷ []) p q s made in
       moved.goes p q (act EmptySlots ∷ []) (after_giving_up hand answer) [] cell m.viewed (gave_awaiter (Emptier hand answer) (after_giving_up hand answer) ((2, y) ∷ []) q.seat.me.1 (given_work hand answer) refl (given_free hand answer) m.carried)
@@ -83,14 +87,14 @@ module _ {F T A : Type 0} where
   releases_other hand answer p q false (not_last w f g) e = (row GiveUpReference w ∷ [], leaves_others w f, g)
   releases_other hand answer p q true (last w y f g) e = absurd (cc)
 
-  pub answered_ready : (held : List (ℕ × Slot F T A)) (p q : Party F T A) (w : State) → StandsWith Polling held p → q.seat.table_id ≡ p.seat.table_id → Makes (answering_ready w) w p.seat.me q.seat.me → GoesWith (act AnswerReady ∷ []) Ready held p q
+  pub answered_ready : (held : List (ℕ × Slot F T A)) (p q : Party F T A) (w : State) → StandsWith Polling held p → q.seat.block ≡ p.seat.block → Makes (answering_ready w) w p.seat.me q.seat.me → GoesWith (act AnswerReady ∷ []) Ready held p q
   answered_ready held p q w s cell made = let m = moved.moved (AnswerReady ∷ []) w Polling held p q s made in moved.goes p q (act AnswerReady ∷ []) Ready held cell m.viewed (keeps_places Polling Ready held q.seat.me.1 refl refl m.carried)
 
   -- what is found closed is closed
   at_closed : (acts : List Act) (w : State) (p q : Party F T A) → w.closed ≡ true → Makes acts w p.seat.me q.seat.me → Makes acts (record w { closed = true }) p.seat.me q.seat.me
   at_closed acts w p q e made = subst (λ (v : State). Makes acts v p.seat.me q.seat.me) (sym (closed_already w e)) made
 
-  pub answered_pending : (held : List (ℕ × Slot F T A)) (p q : Party F T A) (w : State) → StandsWith Polling held p → q.seat.table_id ≡ p.seat.table_id → Makes (answering_pending w) w p.seat.me q.seat.me → AnswersPending held p q w.closed
+  pub answered_pending : (held : List (ℕ × Slot F T A)) (p q : Party F T A) (w : State) → StandsWith Polling held p → q.seat.block ≡ p.seat.block → Makes (answering_pending w) w p.seat.me q.seat.me → AnswersPending held p q w.closed
   answered_pending held p q w s cell made = by w.closed refl made
     where
       by : (b : Bool) → w.closed ≡ b → Makes (if b then AnswerPending ∷ DropFuture ∷ [] else AnswerPending ∷ []) w p.seat.me q.seat.me → AnswersPending held p q b
@@ -99,19 +103,19 @@ module _ {F T A : Type 0} where
       by false h made = let m = moved.moved (AnswerPending ∷ []) w Polling held p q s made in
           stays_pending (moved.goes p q (act AnswerPending ∷ []) Pending held cell m.viewed (keeps_places Polling Pending held q.seat.me.1 refl refl m.carried))
 
-  pub found_closed_meanwhile : (limit : ℕ) (held : List (ℕ × Slot F T A)) (p q : Party F T A) (w : State) → StandsWith Pending held p → q.seat.table_id ≡ p.seat.table_id → HasEnded limit (λ _ w. w.closed) finding_closed w p.seat.me q.seat.me → GoesWith (act DropFuture ∷ []) PendingFutureDropped held p q
+  pub found_closed_meanwhile : (limit : ℕ) (held : List (ℕ × Slot F T A)) (p q : Party F T A) (w : State) → StandsWith Pending held p → q.seat.block ≡ p.seat.block → HasEnded limit (λ _ w. w.closed) finding_closed w p.seat.me q.seat.me → GoesWith (act DropFuture ∷ []) PendingFutureDropped held p q
   found_closed_meanwhile limit held p q w s cell e = let v : State = record w { closed = true } in let m = moved.moved (DropFuture ∷ []) v Pending held p q s (at_closed (DropFuture ∷ []) w p q e.at_end e.made) in
       moved.goes p q (act DropFuture ∷ []) PendingFutureDropped held cell m.viewed (keeps_places Pending PendingFutureDropped held q.seat.me.1 refl refl m.carried)
 
-  pub ended_closed : (p q : Party F T A) (w : State) → StandsWith PendingFutureDropped (future_first Empty []) p → q.seat.table_id ≡ p.seat.table_id → Makes (ending_closed w) w p.seat.me q.seat.me → (w.closed ≡ true) × Goes (row EndClosed w ∷ []) (notifies w.awaiter OfRun) p q
+  pub ended_closed : (p q : Party F T A) (w : State) → StandsWith PendingFutureDropped (future_first Empty []) p → q.seat.block ≡ p.seat.block → Makes (ending_closed w) w p.seat.me q.seat.me → (w.closed ≡ true) × Goes (row EndClosed w ∷ []) (notifies w.awaiter OfRun) p q
   ended_closed p q w s cell made = let m = moved.moved (EndClosed ∷ []) w PendingFutureDropped (future_first Empty []) p q s made in
       (alone_fits EndClosed (limit_of p) w made.fits, moved.goes p q (row EndClosed w ∷ []) (notifies w.awaiter OfRun) [] cell m.viewed (gave_work PendingFutureDropped (notifies w.awaiter OfRun) (future_first Empty []) q.seat.me.1 refl (due_work w.awaiter) m.carried))
 
-  pub dropped_output : (due : Bool) (p q : Party F T A) (w : State) → StandsWith (OutputInHand due) (output_first Empty []) p → q.seat.table_id ≡ p.seat.table_id → Makes (dropping_output w) w p.seat.me q.seat.me → Goes (act DropOutput ∷ []) (notifies due OfRun) p q
+  pub dropped_output : (due : Bool) (p q : Party F T A) (w : State) → StandsWith (OutputInHand due) (output_first Empty []) p → q.seat.block ≡ p.seat.block → Makes (dropping_output w) w p.seat.me q.seat.me → Goes (act DropOutput ∷ []) (notifies due OfRun) p q
   dropped_output due p q w s cell made = let m = moved.moved (DropOutput ∷ []) w (OutputInHand due) (output_first Empty []) p q s made in
       moved.goes p q (act DropOutput ∷ []) (notifies due OfRun) [] cell m.viewed (gave_work (OutputInHand due) (notifies due OfRun) (output_first Empty []) q.seat.me.1 refl (due_work due) m.carried)
 
-  pub completed : (z : Slot F T A) (p q : Party F T A) (w : State) → StandsWith Ready (output_first z []) p → q.seat.table_id ≡ p.seat.table_id → Makes (completing w) w p.seat.me q.seat.me → Completes p q w
+  pub completed : (z : Slot F T A) (p q : Party F T A) (w : State) → StandsWith Ready (output_first z []) p → q.seat.block ≡ p.seat.block → Makes (completing w) w p.seat.me q.seat.me → Completes p q w
   completed z p q w s cell made = by w.task w.closed refl refl made
     where
       by : (b c : Bool) → w.task ≡ b → w.closed ≡ c → Makes (if b then DropFuture ∷ StoreOutput ∷ Complete ∷ [] else DropFuture ∷ StoreOutput ∷ CompleteDetached ∷ []) w p.seat.me q.seat.me → Completes p q w
@@ -126,7 +130,7 @@ module _ {F T A : Type 0} where
       by false c h k made = let m = moved.moved (DropFuture ∷ StoreOutput ∷ CompleteDetached ∷ []) w Ready (output_first z []) p q s made in
           finds_detached z h (moved.goes p q (act DropFuture ∷ act StoreOutput ∷ row CompleteDetached w ∷ []) (OutputInHand w.awaiter) (output_first z []) cell m.viewed (keeps_places Ready (OutputInHand w.awaiter) (output_first z []) q.seat.me.1 refl refl m.carried))
 
-  pub ended_pending : (y : Slot F T A) (p q : Party F T A) (w : State) → w.closed ≡ false → StandsWith Pending (future_first y []) p → q.seat.table_id ≡ p.seat.table_id → Makes (ending_pending w) w p.seat.me q.seat.me → EndsPending (future_first y []) p q (ending_of w)
+  pub ended_pending : (y : Slot F T A) (p q : Party F T A) (w : State) → w.closed ≡ false → StandsWith Pending (future_first y []) p → q.seat.block ≡ p.seat.block → Makes (ending_pending w) w p.seat.me q.seat.me → EndsPending (future_first y []) p q (ending_of w)
   ended_pending y p q w unclosed s cell made = by w.scheduled (nat_lt 1 w.references || w.task) refl refl made
     where
       by : (b d : Bool) → w.scheduled ≡ b → (nat_lt 1 w.references || w.task) ≡ d → Makes (if b then Reschedule ∷ [] else (if d then EndIdle ∷ EndCall ∷ [] else EndOrphaned ∷ [])) w p.seat.me q.seat.me
@@ -139,11 +143,11 @@ module _ {F T A : Type 0} where
           is_orphaned w unclosed h k (moved.goes p q (row EndOrphaned w ∷ []) (Deliverer false (ThenEnds (Ran false))) [] cell m.viewed (gave_work Pending (Deliverer false (ThenEnds (Ran false))) (future_first y []) q.seat.me.1 refl refl m.carried))
 
   -- nothing was done yet
-  pub at_rest : (at : Position) (held : List (ℕ × Slot F T A)) (p q : Party F T A) → StandsWith at held p → q.seat.table_id ≡ p.seat.table_id → q.seat.me ≡ p.seat.me → GoesWith [] at held p q
+  pub at_rest : (at : Position) (held : List (ℕ × Slot F T A)) (p q : Party F T A) → StandsWith at held p → q.seat.block ≡ p.seat.block → q.seat.me ≡ p.seat.me → GoesWith [] at held p q
   at_rest at held p q s cell same = record { cell = cell; is = same ∙ s }
 
   -- the place of the output comes before that of the future
-  pub turns : (at : Position) (p q : Party F T A) → StandsWith at (future_first Empty []) p → q.seat.table_id ≡ p.seat.table_id → q.seat.me ≡ (p.seat.me.0, turned p.seat.me.1) → GoesWith [] at (output_first Empty []) p q
+  pub turns : (at : Position) (p q : Party F T A) → StandsWith at (future_first Empty []) p → q.seat.block ≡ p.seat.block → q.seat.me ≡ (p.seat.me.0, turned p.seat.me.1) → GoesWith [] at (output_first Empty []) p q
   turns at p q s cell turn = record { cell = cell; is = turn ∙ ap (λ m. (m.0, turned m.1)) s }
 
   pub completes_then : (at : Position) (held : List (ℕ × Slot F T A)) (p q r : Party F T A) (w : State) → GoesWith [] at held p q → Completes q r w → Completes p r w
@@ -153,14 +157,14 @@ module _ {F T A : Type 0} where
 
 module _ (F T A : Type 0) (limit : ℕ) where
   -- the rule allows a run to end: with its output, and without one
-  pub may_complete : (p : Party F T A) (z : Slot F T A) → StandsWith Ready (output_first z []) p → IsOutput z → MayTry limit 3 p.seat.id p.seat.me (λ _ w. Some (completed_word w)) (λ _ _. false) completing (λ _. [])
-  may_complete p z s is = may_at limit p Ready (output_first z []) s (λ _ w. Some (completed_word w)) (λ _ _. false) completing (λ _. []) (λ w. refl)
-      (λ w v e m f here. let same : completed_word w ≡ v = cc in subst (λ (u : State). Steps m Ready (completing m.word) (number_of u) (output_first z [])) same (completes F T A limit w (deeds p) [] z (output_first z []) refl is m f here))
+  pub may_complete : (p : Party F T A) (z : Slot F T A) → StandsWith Ready (output_first z []) p → IsOutput z → MayTry limit 3 p.seat.id p.seat.me (λ _ w. Some (completed_word w)) (λ _ _. false) completing (λ _. []) × MayBring limit p.seat.id p.seat.me (λ _ w. Some (completed_word w)) never
+  may_complete p z s is = may_bring_at limit p Ready (output_first z []) s (λ _ w. Some (completed_word w)) (λ _ _. false) completing (λ _. []) never (λ w. refl)
+      (λ w v e m f here. let same : completed_word w ≡ v = cc in subst (λ (u : State). Steps m Ready (completing m.word) (number_of u) (output_first z [])) same (completes F T A limit w (deeds p) [] z (output_first z []) refl is m f here)) (λ w v e m f is. inl (refl, keeps_either m.word.task (DropFuture ∷ StoreOutput ∷ Complete ∷ []) (DropFuture ∷ StoreOutput ∷ CompleteDetached ∷ []) m.word refl refl))
       (never_ends F T A limit Ready (deeds p) [] (output_first z []))
 
-  pub may_end : (p : Party F T A) (y : Slot F T A) → StandsWith Pending (future_first y []) p → IsFuture y → MayTry limit 3 p.seat.id p.seat.me (λ _ w. if w.closed then None else Some (after_pending w)) (λ _ w. w.closed) ending_pending finding_closed
-  may_end p y s is = may_at limit p Pending (future_first y []) s (λ _ w. if w.closed then None else Some (after_pending w)) (λ _ w. w.closed) ending_pending finding_closed (λ w. refl)
-      (λ w v e m f here. let x = unclosed w.closed (after_pending w) v e in subst (λ (u : State). Steps m Pending (ending_pending m.word) (number_of u) (future_first y [])) x.1 (ends_pending F T A limit w (deeds p) [] y (future_first y []) refl is x.0 m f here))
+  pub may_end : (p : Party F T A) (y : Slot F T A) → StandsWith Pending (future_first y []) p → IsFuture y → MayTry limit 3 p.seat.id p.seat.me (λ _ w. if w.closed then None else Some (after_pending w)) (λ _ w. w.closed) ending_pending finding_closed × MayGive limit p.seat.id p.seat.me (λ _ w. if w.closed then None else Some (after_pending w)) ends_run
+  may_end p y s is = may_give_at limit p Pending (future_first y []) s (λ _ w. if w.closed then None else Some (after_pending w)) (λ _ w. w.closed) ending_pending finding_closed ends_run (λ w. refl)
+      (λ w v e m f here. let x = unclosed w.closed (after_pending w) v e in subst (λ (u : State). Steps m Pending (ending_pending m.word) (number_of u) (future_first y [])) x.1 (ends_pending F T A limit w (deeds p) [] y (future_first y []) refl is x.0 m f here)) (ends_open limit (λ _ w. if w.closed then None else Some (after_pending w)) (deeds p) [] F T A)
       (finds_closed_task F T A limit (deeds p) [] (future_first y []))
     where
       unclosed : (b : Bool) (u v : State) → (if b then None else Some u) ≡ Some v → (b ≡ false) × (u ≡ v)

@@ -25,7 +25,7 @@ module _ {F T A : Type 0} where
   due_path way due p q r (takes_none path n g) = (None, path, n, g)
   due_path way due p q r (takes_one i a path n g) = (Some i, path, n, g)
 
-  pub due_cell : (way : NotifyingCall) (due : Bool) (p q : Party F T A) (r : Option A) → TakesDue way due p q r → q.seat.table_id ≡ p.seat.table_id
+  pub due_cell : (way : NotifyingCall) (due : Bool) (p q : Party F T A) (r : Option A) → TakesDue way due p q r → q.seat.block ≡ p.seat.block
   due_cell way due p q r d = (due_path way due p q r d).3.cell
 
   -- an awaiter in hand was woken, by what the party has
@@ -116,7 +116,7 @@ module _ {F T A : Type 0} where
         pub drop_takes : TakesDue OfDrop w.awaiter o q r
         drop_takes = subst (λ h. TakesDue OfDrop h o q r) is (take OfDrop drop_notifies)
 
-        pub drop_takes_cell : q.seat.table_id ≡ p.seat.table_id
+        pub drop_takes_cell : q.seat.block ≡ p.seat.block
         drop_takes_cell = due_cell OfDrop w.awaiter o q r drop_takes ∙ drop_closes.cell
 
         pub drop_has : HasTaken OfDrop q r

@@ -39,7 +39,7 @@ module _ {F T A : Type 0} where
   notes_on held p q r w v g (notes_pending room (stays_pending h)) = notes_pending room (stays_pending (moved.goes_on p q r _ _ _ _ _ _ g h))
   notes_on held p q r w v g (notes_pending room (clears h)) = notes_pending room (clears (moved.goes_on p q r _ _ _ _ _ _ g h))
 
-  pub noted_cell : {O : Type 0} (held : List (ℕ × Slot F T A)) (p q : Party F T A) (w : State) (v : Poll O) → NotesAnswer held p q w v → q.seat.table_id ≡ p.seat.table_id
+  pub noted_cell : {O : Type 0} (held : List (ℕ × Slot F T A)) (p q : Party F T A) (w : State) (v : Poll O) → NotesAnswer held p q w v → q.seat.block ≡ p.seat.block
   noted_cell held p q w v (notes_ready x g) = g.cell
   noted_cell held p q w v (notes_pending room (stays_pending g)) = g.cell
   noted_cell held p q w v (notes_pending room (clears g)) = g.cell

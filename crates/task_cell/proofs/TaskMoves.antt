@@ -1,4 +1,5 @@
 -- What the steps of a cancel and of a detach come to for the party that made them.
+use Rattle.std.proofs.Common.{inl}
 use Rattle.task_cell.proofs.Vocabulary.{◌≡◌, ℕ, Bool, true, false, not, ◌&&◌, ◌||◌, List, [], ◌∷◌, ◌++◌, Option, Some, None, refl, sym, ap, subst, arith, nat_lt, nat_eq, if◌then◌else◌, State, is_open}
 use Rattle.task_cell.proofs.Vocabulary.{number_of, Answer, Nothing, Position, At, Deliverer, Emptier, OutputCloser, Detacher, CallEnding, Rest, Task, Ended, ThenEnds, OfCancel, CancelOver, CancelBusy}
 use Rattle.task_cell.proofs.Vocabulary.{CancelIdle, GiveUpOutput, DropOutput, DetachOrphan, DetachLast, Detach, EndCall, notifies, after_cancelling, owns_awaiter, Slot, Deed, Party, Over, Busy}
@@ -12,7 +13,9 @@ use Rattle.task_cell.specs.RunPaths.{not_due as none_due, missed as miss}
 use Rattle.task_steps.specs.TaskScripts.{cancelling, detaching, giving_task_up, finding_cancelled, cancelled, cancelled_word, detached}
 use Rattle.task_cell.specs.TaskPaths.{missed}
 use Rattle.task_cell.proofs.Moved.{moved, goes, goes_on, stands, position_is}
-use Rattle.task_cell.proofs.Attempts.{written_if, may_at}
+use Rattle.task_steps.specs.Shares.{MayBring, MayGive, brings_runnable, ends_task}
+use Rattle.task_steps.proofs.Handles.{cancels_task, detaches_task}
+use Rattle.task_cell.proofs.Attempts.{written_if, may_bring_at, may_give_at}
 use Rattle.task_cell.proofs.RunRest.{due_path}
 
 -- a word that is written only where the test holds
@@ -32,12 +35,12 @@ module _ {F T A : Type 0} where
   bare a b q l e f c = subst (λ (z : Bool × Bool). Carries {F = F} {T = T} {A = A} false z.0 false z.1 q [] l) (λ i. (e i, f i)) c
 
   -- a cancel of a task that is over
-  pub looks_over : (limit : ℕ) (p q : Party F T A) (n : ℕ) (w : State) → Stands (as_task n) p → q.seat.table_id ≡ p.seat.table_id → HasEnded limit is_over finding_cancelled w p.seat.me q.seat.me → Cancels n p q Over
+  pub looks_over : (limit : ℕ) (p q : Party F T A) (n : ℕ) (w : State) → Stands (as_task n) p → q.seat.block ≡ p.seat.block → HasEnded limit is_over finding_cancelled w p.seat.me q.seat.me → Cancels n p q Over
   looks_over limit p q n w s cell e = let x = moved (CancelOver ∷ EndCall ∷ []) w (At (Task n)) [] p q s e.made in
       (w, e.at_end, goes p q (row CancelOver w ∷ act EndCall ∷ []) (At (Task n)) [] cell x.viewed x.carried)
 
   -- .. and the row of one that closes it
-  pub closes : (limit : ℕ) (p q : Party F T A) (n : ℕ) (w : State) → Stands (as_task n) p → q.seat.table_id ≡ p.seat.table_id → HasChanged limit cancelled_word cancelling w p.seat.me q.seat.me → Cancels n p q (closed_by w)
+  pub closes : (limit : ℕ) (p q : Party F T A) (n : ℕ) (w : State) → Stands (as_task n) p → q.seat.block ≡ p.seat.block → HasChanged limit cancelled_word cancelling w p.seat.me q.seat.me → Cancels n p q (closed_by w)
   closes limit p q n w s cell c = made (w.scheduled || w.running) refl c.made
     where
       now : is_open w ≡ true
@@ -50,7 +53,7 @@ module _ {F T A : Type 0} where
           (w, refl, neither (is_open w) w.scheduled w.running now is, goes p q (row CancelIdle w ∷ []) (Deliverer false (after_cancelling w.awaiter n)) [] cell x.viewed x.carried)
 
   -- the row of a detach
-  pub gives_up : (limit : ℕ) (p q : Party F T A) (n : ℕ) (w : State) → Stands (as_task n) p → q.seat.table_id ≡ p.seat.table_id → HasChanged limit (λ _ w. Some (detached w)) detaching w p.seat.me q.seat.me → Detaches p q (given_up_by w)
+  pub gives_up : (limit : ℕ) (p q : Party F T A) (n : ℕ) (w : State) → Stands (as_task n) p → q.seat.block ≡ p.seat.block → HasChanged limit (λ _ w. Some (detached w)) detaching w p.seat.me q.seat.me → Detaches p q (given_up_by w)
   gives_up limit p q n w s cell c = made (w.completed && not w.closed) (nat_lt 0 w.references) w.closed refl refl refl c.made
     where
       made : (a b c : Bool) → (w.completed && not w.closed) ≡ a → nat_lt 0 w.references ≡ b → w.closed ≡ c
@@ -66,7 +69,7 @@ module _ {F T A : Type 0} where
           (w, last_orphan w.references w.completed w.closed counted claimed closed, goes p q (row DetachOrphan w ∷ []) (Deliverer false (ThenEnds Nothing)) [] cell x.viewed x.carried)
 
   -- the Task is given up whose output was dropped
-  pub gives_rest : (p q r : Party F T A) (w : State) → Goes (act DropOutput ∷ []) Detacher p q → r.seat.table_id ≡ q.seat.table_id → w.closed ≡ true → Makes (giving_task_up w) w q.seat.me r.seat.me → GivesTaskUp p r (nat_eq w.references 0)
+  pub gives_rest : (p q r : Party F T A) (w : State) → Goes (act DropOutput ∷ []) Detacher p q → r.seat.block ≡ q.seat.block → w.closed ≡ true → Makes (giving_task_up w) w q.seat.me r.seat.me → GivesTaskUp p r (nat_eq w.references 0)
   gives_rest p q r w g cell closed m = subst (λ b. GivesTaskUp p r b) (tests w.references) (made (nat_lt 0 w.references) refl m)
     where
       tests : (k : ℕ) → not (nat_lt 0 k) ≡ nat_eq k 0
@@ -105,10 +108,10 @@ module _ {F T A : Type 0} where
 
 module _ (F T A : Type 0) (limit : ℕ) where
   -- the rule allows a Task to cancel, and to be detached
-  pub may_cancel : (p : Party F T A) (n : ℕ) → Stands (as_task n) p → MayTry limit 3 p.seat.id p.seat.me cancelled_word is_over cancelling finding_cancelled
-  may_cancel p n s = may_at limit p (At (Task n)) [] s cancelled_word is_over cancelling finding_cancelled (λ w. refl)
-      (λ w v e m f here. let x = opened (is_open w) v (cancelled w) (sym e) in cancels F T A limit n (deeds p) [] [] w (number_of w) (number_of v) refl (ap number_of x.1) x.0 m f here) (finds_over F T A limit n (deeds p) [] [])
+  pub may_cancel : (p : Party F T A) (n : ℕ) → Stands (as_task n) p → MayTry limit 3 p.seat.id p.seat.me cancelled_word is_over cancelling finding_cancelled × MayBring limit p.seat.id p.seat.me cancelled_word brings_runnable
+  may_cancel p n s = may_bring_at limit p (At (Task n)) [] s cancelled_word is_over cancelling finding_cancelled brings_runnable (λ w. refl)
+      (λ w v e m f here. let x = opened (is_open w) v (cancelled w) (sym e) in cancels F T A limit n (deeds p) [] [] w (number_of w) (number_of v) refl (ap number_of x.1) x.0 m f here) (cancels_task limit n (deeds p) [] F T A) (finds_over F T A limit n (deeds p) [] [])
 
-  pub may_detach : (p : Party F T A) (n : ℕ) → Stands (as_task n) p → MayTry limit 3 p.seat.id p.seat.me (λ _ w. Some (detached w)) (λ _ _. false) detaching (λ _. [])
-  may_detach p n s = may_at limit p (At (Task n)) [] s (λ _ w. Some (detached w)) (λ _ _. false) detaching (λ _. []) (λ w. refl)
-      (λ w v e m f here. let is : detached w ≡ v = cc in detaches F T A limit n (deeds p) [] [] w (number_of w) (number_of v) refl (ap number_of (sym is)) m f here) (never_ends F T A limit (At (Task n)) (deeds p) [] [])
+  pub may_detach : (p : Party F T A) (n : ℕ) → Stands (as_task n) p → MayTry limit 3 p.seat.id p.seat.me (λ _ w. Some (detached w)) (λ _ _. false) detaching (λ _. []) × MayGive limit p.seat.id p.seat.me (λ _ w. Some (detached w)) ends_task
+  may_detach p n s = may_give_at limit p (At (Task n)) [] s (λ _ w. Some (detached w)) (λ _ _. false) detaching (λ _. []) ends_task (λ w. refl)
+      (λ w v e m f here. let is : detached w ≡ v = cc in detaches F T A limit n (deeds p) [] [] w (number_of w) (number_of v) refl (ap number_of (sym is)) m f here) (detaches_task limit n _ (deeds p) [] F T A) (never_ends F T A limit (At (Task n)) (deeds p) [] [])

@@ -2,12 +2,11 @@
 pub use Rattle.atomic_table.specs.Table.{Allows, Final, Me, Seen, Splits, Valid, carried_after, gives, rest, step, stepped, turned}
 pub use Rattle.std.proofs.Common.{Bool, IfSome, List, None, Option, Some, [], ap, arith, false, get_or, get_or-set_same, inl, inr, is_some, length, length-set}
 pub use Rattle.std.proofs.Common.{map, not, refl, rules, set, subst, suc, sym, true, zero, ℕ, ⊎_elim, ◌&&◌, ◌++◌, ◌+◌, ◌<◌, ◌==◌, ◌||◌, ◌∙◌, ◌∷◌, ◌≡◌, ◌≢◌, ◌⊎◌}
-pub use Rattle.std.specs.Arc.{arc_value}
 pub use Rattle.std.specs.Prelude.{Err, IfErr, IfOk, Ok, Result, if◌then◌else◌, nat_eq, nat_lt}
-pub use Rattle.task_cell.specs.Calls.{Fits, Goes, GoesWith, IsNew, MayMake, Notifies, Stands, StandsWith, deeds, finds_none, holds, limit_of, misses, position}
+pub use Rattle.task_cell.specs.Calls.{Fits, Goes, GoesWith, IsNew, MayGiveUp, MayMake, MayNote, Notifies, Stands, StandsWith, deeds, finds_none, holds, limit_of, misses, position}
 pub use Rattle.task_cell.specs.Calls.{takes_awaiter}
 pub use Rattle.task_cell.specs.Handed.{HandedOver, PolledOnce}
-pub use Rattle.task_cell.specs.LastWord.{IsLastWord}
+pub use Rattle.task_cell.specs.LastWord.{IsLastWord, LastWordIf}
 pub use Rattle.task_cell.specs.PollPaths.{AnswerPath, BeginsRegister, ClaimsOutput, EndsRegister, Looks, LooksAgain, PollPath, RegisterPath, Registers}
 pub use Rattle.task_cell.specs.PollPaths.{TakePath, TakePathIf, begins, claims_output, claims_output_now, clone_refused, dropped_if, ends, finds_ended}
 pub use Rattle.task_cell.specs.PollPaths.{finds_notified, finds_one, finds_output, has_ended_since, has_output_since, has_to_wait_on, is_registered, sees_end}
@@ -20,9 +19,8 @@ pub use Rattle.task_cell.specs.RunPaths.{nobody, none_there, not_claimed, orphan
 pub use Rattle.task_cell.specs.Starts.{TakesUp, finds_closed, starts}
 pub use Rattle.task_cell.specs.TaskPaths.{CancelPath, Cancels, DetachPath, Detaches, GivesTaskUp, Notice, drops_output_last, found_none, is_busy, is_last}
 pub use Rattle.task_cell.specs.TaskPaths.{is_shared, not_due, woke}
-pub use Rattle.task_cell.specs.WakerPaths.{DropsWaker, Gains, GainsShare, WakerDropPath, WakesTask, finds_limit, gains_none, gains_one, goes_on_to, is_gained}
-pub use Rattle.task_cell.specs.WakerPaths.{is_refused, is_running, is_scheduled, leaves_none, leaves_orphan, leaves_others, makes_none, makes_one}
-pub use Rattle.task_cell.specs.declared.cell.Cell.{Cell}
+pub use Rattle.task_cell.specs.WakerPaths.{DropsWaker, Gains, WakerDropPath, WakesTask, finds_limit, gains_none, gains_one, is_gained}
+pub use Rattle.task_cell.specs.WakerPaths.{is_running, is_scheduled, leaves_none, leaves_orphan, leaves_others, makes_none, makes_one}
 pub use Rattle.task_cell.specs.declared.cell.Party.{Party}
 pub use Rattle.task_core.specs.Rows.{found, written}
 pub use Rattle.task_core.specs.Word.{State, is_open, number_of, state_of}
@@ -32,7 +30,7 @@ pub use Rattle.task_core.specs.declared.acts.Act.TheVariants.{ClaimOutput, Clone
 pub use Rattle.task_core.specs.declared.acts.Act.TheVariants.{DetachOrphan, DiscardClosed, DiscardOpen, DropAwaiter, DropFuture, DropLastWaker, DropOutput}
 pub use Rattle.task_core.specs.declared.acts.Act.TheVariants.{DropWaker, EmptySlots, EndCall, EndClosed, EndIdle, EndNotify, EndOrphaned, EndRegister}
 pub use Rattle.task_core.specs.declared.acts.Act.TheVariants.{EndRegisterNotified, FindLimit, FindNotify, GainReference, GiveUpLastReference, GiveUpOutput}
-pub use Rattle.task_core.specs.declared.acts.Act.TheVariants.{GiveUpReference, HandOutOutput, HandOver, Look, MissNotify, OrphanTask, RefuseClone, RefuseGain}
+pub use Rattle.task_core.specs.declared.acts.Act.TheVariants.{GiveUpReference, HandOutOutput, HandOver, Look, MissNotify, OrphanTask, RefuseClone}
 pub use Rattle.task_core.specs.declared.acts.Act.TheVariants.{Reschedule, StartPoll, StartRun, StoreAwaiter, StoreOutput, TakeAwaiter, TakeUpClosed, Unschedule}
 pub use Rattle.task_core.specs.declared.acts.Act.TheVariants.{WakeAwaiter, WakeIdle, WakeOver, WakeRunning, WakeScheduled}
 pub use Rattle.task_core.specs.declared.traits.TaskPoll.{TaskPoll}
@@ -73,7 +71,7 @@ pub use Rattle.task_steps.proofs.Seats.{first_more, leaves, retold, splits, stag
 pub use Rattle.task_steps.proofs.Seen.{left_true, not_true, true_left, true_right}
 pub use Rattle.task_steps.proofs.TaskOwed.{cancels, closed_claimed, detaches, drops_output, finds_over, gives_task_up, idle_cancel, last_orphan, neither}
 pub use Rattle.task_steps.proofs.TaskOwed.{none_left, over}
-pub use Rattle.task_steps.proofs.WakerOwed.{closes_orphan, drops_waker, fourth, gains, refuses_gain, third}
+pub use Rattle.task_steps.proofs.WakerOwed.{closes_orphan, drops_waker, fourth, gains, third}
 pub use Rattle.task_steps.proofs.WakerSeats.{parts_newest}
 pub use Rattle.task_steps.specs.Attempts.{HasChanged, HasEnded, MayTry, Names, attempted, having_seen, looked, missed, observed}
 pub use Rattle.task_steps.specs.Deeds.{act, after, row}
@@ -88,14 +86,14 @@ pub use Rattle.task_steps.specs.Standing.{as_deliverer, as_ended, as_runnable, a
 pub use Rattle.task_steps.specs.Steps.{Awaits, Carried, Carries, Makes, TakesOutput, Works, acted, all_fit, and_then, born_of, future_first, head_of, held_word}
 pub use Rattle.task_steps.specs.Steps.{leaves_by, leaves_such, next_of, noted, output_first, saw, saw_closed, saw_ended, spot}
 pub use Rattle.task_steps.specs.WakerScripts.{at_limit, closing_orphan, dropping_waker, finding_limit, finding_over, gained_word, gaining, is_over, others_left}
-pub use Rattle.task_steps.specs.WakerScripts.{refusing_gain, waking_task, woken_if_held, woken_word}
+pub use Rattle.task_steps.specs.WakerScripts.{waking_task, woken_if_held, woken_word}
 pub use Rattle.task_steps.specs.declared.table.Deed.{Deed}
 pub use Rattle.task_steps.specs.declared.table.Member.{Member}
 pub use Rattle.task_steps.specs.declared.table.Slot.{Slot}
 pub use Rattle.task_steps.specs.declared.table.Slot.TheVariants.{Awaiter, Empty, Future, Output}
 pub use Rattle.task_steps.specs.declared.table.View.{View}
-pub use Rattle.task_steps.specs.declared.words.Cancelled.TheVariants.{Busy, Over}
+pub use Rattle.task_steps.specs.declared.words.Cancelled.TheVariants.{Busy}
 pub use Rattle.task_steps.specs.declared.words.Detached.TheVariants.{Unclaimed}
 pub use Rattle.task_steps.specs.declared.words.Dropped.TheVariants.{Last, Shared}
-pub use Rattle.task_steps.specs.declared.words.PendingEnd.TheVariants.{Closed, Idle, Orphaned, Rescheduled}
+pub use Rattle.task_steps.specs.declared.words.PendingEnd.TheVariants.{Idle, Orphaned, Rescheduled}
 pub use mathlib.Core.Option.{none, some, some-injective, some-ne-none}

@@ -1,4 +1,5 @@
 -- What the steps of a lent waker, and of a waker's drop, come to for the party that made them.
+use Rattle.std.proofs.Common.{inl}
 use Rattle.task_cell.proofs.Vocabulary.{◌≡◌, ℕ, Bool, true, false, not, ◌&&◌, List, [], ◌∷◌, Option, Some, None, IfSome, is_some, refl, sym, ap, ◌∙◌, subst, nat_lt, if◌then◌else◌, Me, State, is_open}
 use Rattle.task_cell.proofs.Vocabulary.{number_of, written, Slots, is_held, Nothing, Waker, Lent, Ended, ThenEnds, Position, At, Deliverer, Emptier, OrphanHolder, Act, GainReference, FindLimit}
 use Rattle.task_cell.proofs.Vocabulary.{RefuseGain, DropWaker, DropLastWaker, OrphanTask, CloseOrphan, WakeOver, WakeScheduled, WakeRunning, WakeIdle, EndCall, Slot, Deed, Member, View, Party, Shared}
@@ -13,7 +14,9 @@ use Rattle.task_cell.specs.WakerPaths.{is_idle, GainPath, TaskWakePath}
 use Rattle.task_steps.specs.Seats.{is_spent}
 use Rattle.inline_table.specs.Owned.{TableId}
 use Rattle.task_cell.specs.WakerPaths as paths
-use Rattle.task_cell.proofs.Attempts.{if_some, written_if, if_is, may_at}
+use Rattle.task_steps.specs.Shares.{MayBring, always, brings_runnable}
+use Rattle.task_steps.proofs.Handles.{gains_handle, wakes_task}
+use Rattle.task_cell.proofs.Attempts.{if_some, written_if, if_is, may_bring_at}
 use Rattle.task_steps.proofs.WakerOwed as owed
 use Rattle.task_cell.proofs.Carried.{keeps_places}
 use Rattle.task_cell.proofs.Moved.{moved, goes, stands}
@@ -72,8 +75,8 @@ module _ {F T A : Type 0} where
   spent_by_gain limit p q _ (goes_on_to b path w g) = spent_by_count limit b path p q w g
 
   -- what a wake by reference makes
-  pub wake_gives : (limit : ℕ) (table : TableId) (p q : Party F T A) (made : Option (Party F T A)) → p.seat.table_id ≡ table → limit_of p ≡ limit → WakesTask p q made
-      → IfSome made (λ d. (d.seat.table_id ≡ table) × (d.seat.me ≡ (view limit (fresh as_deliverer ∷ []), [])))
+  pub wake_gives : (limit : ℕ) (table : TableId) (p q : Party F T A) (made : Option (Party F T A)) → p.seat.block ≡ table → limit_of p ≡ limit → WakesTask p q made
+      → IfSome made (λ d. (d.seat.block ≡ table) × (d.seat.me ≡ (view limit (fresh as_deliverer ∷ []), [])))
   wake_gives limit table p q None cell is (makes_none path w g) = tt
   wake_gives limit table p q (Some d) cell is (makes_one path x w g n) = (n.cell ∙ cell, n.is ∙ ap (λ l. (view l (fresh as_deliverer ∷ []), [])) is)
 
@@ -89,35 +92,35 @@ module _ {F T A : Type 0} where
   gain_new limit p q x (gains_one path y w g n) = n
 
   -- the memory was refused
-  pub refuses : (w : State) (p q : Party F T A) → Stands (At Lent) p → q.seat.table_id ≡ p.seat.table_id → Makes (refusing_gain w) w p.seat.me q.seat.me → Goes (act RefuseGain ∷ act EndCall ∷ []) (At Lent) p q
+  pub refuses : (w : State) (p q : Party F T A) → Stands (At Lent) p → q.seat.block ≡ p.seat.block → Makes (refusing_gain w) w p.seat.me q.seat.me → Goes (act RefuseGain ∷ act EndCall ∷ []) (At Lent) p q
   refuses w p q s cell m = record { cell = cell; is = back w (refusing_gain w) (act RefuseGain ∷ act EndCall ∷ []) [] p q s (λ slots l ds. refl) m }
 
   -- the seat after the row of a gain, and what it comes to when the waker has left it
   pub beside_waker : (limit : ℕ) (w : State) (p q : Party F T A) → Stands (At Lent) p → HasChanged limit gained_word gaining w p.seat.me q.seat.me → Beside (row GainReference w ∷ act EndCall ∷ []) (fresh (At Waker) ∷ []) p q
   beside_waker limit w p q s x = back w (gaining w) (row GainReference w ∷ act EndCall ∷ []) (fresh (At Waker) ∷ []) p q s (λ slots l ds. refl) x.made
 
-  leaves_newest : (path : List Deed) (n : Member) (p q t : Party F T A) → Beside path (n ∷ []) p q → q.seat.table_id ≡ p.seat.table_id → t.seat.table_id ≡ q.seat.table_id → t.seat.me ≡ (without_newest q.seat.me.0, q.seat.me.1) → Goes path (At Lent) p t
+  leaves_newest : (path : List Deed) (n : Member) (p q t : Party F T A) → Beside path (n ∷ []) p q → q.seat.block ≡ p.seat.block → t.seat.block ≡ q.seat.block → t.seat.me ≡ (without_newest q.seat.me.0, q.seat.me.1) → Goes path (At Lent) p t
   leaves_newest path n p q t b cell there is = record { cell = there ∙ cell; is = is ∙ ap (λ (x : Me (Slot F T A) View). (without_newest x.0, x.1)) b }
 
-  is_newest : (path : List Deed) (at : Position) (p q x : Party F T A) → Beside path (fresh at ∷ []) p q → q.seat.table_id ≡ p.seat.table_id → x.seat.table_id ≡ q.seat.table_id → x.seat.me ≡ (newest q.seat.me.0, []) → IsNew at p x
+  is_newest : (path : List Deed) (at : Position) (p q x : Party F T A) → Beside path (fresh at ∷ []) p q → q.seat.block ≡ p.seat.block → x.seat.block ≡ q.seat.block → x.seat.me ≡ (newest q.seat.me.0, []) → IsNew at p x
   is_newest path at p q x b cell there is = record { cell = there ∙ cell; is = is ∙ ap (λ (y : Me (Slot F T A) View). (newest y.0, [])) b }
 
-  pub gains_waker : (limit : ℕ) (w : State) (p q t x : Party F T A) → Stands (At Lent) p → q.seat.table_id ≡ p.seat.table_id → HasChanged limit gained_word gaining w p.seat.me q.seat.me → t.seat.table_id ≡ q.seat.table_id → t.seat.me ≡ (without_newest q.seat.me.0, q.seat.me.1)
-      → x.seat.table_id ≡ q.seat.table_id → x.seat.me ≡ (newest q.seat.me.0, []) → Gains limit p t (Some x)
+  pub gains_waker : (limit : ℕ) (w : State) (p q t x : Party F T A) → Stands (At Lent) p → q.seat.block ≡ p.seat.block → HasChanged limit gained_word gaining w p.seat.me q.seat.me → t.seat.block ≡ q.seat.block → t.seat.me ≡ (without_newest q.seat.me.0, q.seat.me.1)
+      → x.seat.block ≡ q.seat.block → x.seat.me ≡ (newest q.seat.me.0, []) → Gains limit p t (Some x)
   gains_waker limit w p q t x s cell c there is there' is' = let path : List Deed = row GainReference w ∷ act EndCall ∷ [] in let b = beside_waker limit w p q s c in
       gains_one path x (is_gained w (has_room limit w c.written)) (leaves_newest path (fresh (At Waker)) p q t b cell there is) (is_newest path (At Waker) p q x b cell there' is')
 
-  pub gains_nothing : (limit : ℕ) (w : State) (p q : Party F T A) → Stands (At Lent) p → q.seat.table_id ≡ p.seat.table_id → HasEnded limit at_limit finding_limit w p.seat.me q.seat.me → Gains limit p q None
+  pub gains_nothing : (limit : ℕ) (w : State) (p q : Party F T A) → Stands (At Lent) p → q.seat.block ≡ p.seat.block → HasEnded limit at_limit finding_limit w p.seat.me q.seat.me → Gains limit p q None
   gains_nothing limit w p q s cell x = let path : List Deed = row FindLimit w ∷ act EndCall ∷ [] in
       gains_none path (finds_limit w (not_true (nat_lt w.references limit) x.at_end)) (record { cell = cell; is = back w (finding_limit w) path [] p q s (λ slots l ds. refl) x.made })
 
   -- a wake of a task that is over
-  pub wakes_over : (limit : ℕ) (w : State) (p q : Party F T A) → Stands (At Lent) p → q.seat.table_id ≡ p.seat.table_id → HasEnded limit is_over finding_over w p.seat.me q.seat.me → WakesTask p q None
+  pub wakes_over : (limit : ℕ) (w : State) (p q : Party F T A) → Stands (At Lent) p → q.seat.block ≡ p.seat.block → HasEnded limit is_over finding_over w p.seat.me q.seat.me → WakesTask p q None
   wakes_over limit w p q s cell x = let path : List Deed = row WakeOver w ∷ act EndCall ∷ [] in
       makes_none path (paths.is_over w x.at_end) (record { cell = cell; is = back w (finding_over w) path [] p q s (λ slots l ds. refl) x.made })
 
   -- .. of one that is scheduled, or runs
-  pub wakes_busy : (limit : ℕ) (w : State) (p q : Party F T A) → Stands (At Lent) p → q.seat.table_id ≡ p.seat.table_id → HasChanged limit woken_if_held waking_task w p.seat.me q.seat.me → (not w.scheduled && not w.running) ≡ false → WakesTask p q None
+  pub wakes_busy : (limit : ℕ) (w : State) (p q : Party F T A) → Stands (At Lent) p → q.seat.block ≡ p.seat.block → HasChanged limit woken_if_held waking_task w p.seat.me q.seat.me → (not w.scheduled && not w.running) ≡ false → WakesTask p q None
   wakes_busy limit w p q s cell x busy = by w.scheduled w.running refl refl busy x.made
     where
       by : (a b : Bool) → w.scheduled ≡ a → w.running ≡ b → (not a && not b) ≡ false → Makes (if a then WakeScheduled ∷ EndCall ∷ [] else (if b then WakeRunning ∷ EndCall ∷ [] else WakeIdle ∷ EndCall ∷ [])) w p.seat.me q.seat.me → WakesTask p q None
@@ -132,13 +135,13 @@ module _ {F T A : Type 0} where
   beside_deliverer limit w p q s x idle = let i = both_idle w.scheduled w.running idle in back w (WakeIdle ∷ EndCall ∷ []) (row WakeIdle w ∷ act EndCall ∷ []) (fresh as_deliverer ∷ []) p q s (λ slots l ds. refl)
       (subst (λ (z : Bool × Bool). Makes (if z.0 then WakeScheduled ∷ EndCall ∷ [] else (if z.1 then WakeRunning ∷ EndCall ∷ [] else WakeIdle ∷ EndCall ∷ [])) w p.seat.me q.seat.me) (λ j. (i.0 j, i.1 j)) x.made)
 
-  pub wakes_idle : (limit : ℕ) (w : State) (p q t d : Party F T A) → Stands (At Lent) p → q.seat.table_id ≡ p.seat.table_id → HasChanged limit woken_if_held waking_task w p.seat.me q.seat.me → (not w.scheduled && not w.running) ≡ true
-      → t.seat.table_id ≡ q.seat.table_id → t.seat.me ≡ (without_newest q.seat.me.0, q.seat.me.1) → d.seat.table_id ≡ q.seat.table_id → d.seat.me ≡ (newest q.seat.me.0, []) → WakesTask p t (Some d)
+  pub wakes_idle : (limit : ℕ) (w : State) (p q t d : Party F T A) → Stands (At Lent) p → q.seat.block ≡ p.seat.block → HasChanged limit woken_if_held waking_task w p.seat.me q.seat.me → (not w.scheduled && not w.running) ≡ true
+      → t.seat.block ≡ q.seat.block → t.seat.me ≡ (without_newest q.seat.me.0, q.seat.me.1) → d.seat.block ≡ q.seat.block → d.seat.me ≡ (newest q.seat.me.0, []) → WakesTask p t (Some d)
   wakes_idle limit w p q t d s cell x idle there is there' is' = let path : List Deed = row WakeIdle w ∷ act EndCall ∷ [] in let b = beside_deliverer limit w p q s x idle in let i = both_idle w.scheduled w.running idle in
       makes_one path d (is_idle w (fourth (is_open w) w.scheduled w.running (was_open limit w x.written) i.0 i.1)) (leaves_newest path (fresh as_deliverer) p q t b cell there is) (is_newest path as_deliverer p q d b cell there' is')
 
   -- the row of a waker's drop
-  pub drops : (w : State) (p q : Party F T A) → Stands as_waker p → q.seat.table_id ≡ p.seat.table_id → Makes (dropping_waker w) w p.seat.me q.seat.me → DropsWaker p q (dropped_by w)
+  pub drops : (w : State) (p q : Party F T A) → Stands as_waker p → q.seat.block ≡ p.seat.block → Makes (dropping_waker w) w p.seat.me q.seat.me → DropsWaker p q (dropped_by w)
   drops w p q s cell m = made (others_left w) (is_open w) refl refl m
     where
       made : (b o : Bool) → others_left w ≡ b → is_open w ≡ o → Makes (if b then DropWaker ∷ EndCall ∷ [] else (if o then OrphanTask ∷ [] else DropLastWaker ∷ [])) w p.seat.me q.seat.me
@@ -151,18 +154,18 @@ module _ {F T A : Type 0} where
           (w, y.0, shared, now, goes p q (row DropLastWaker w ∷ []) (Emptier None Nothing) ((2, y.0) ∷ []) cell x.viewed y.2)
 
   -- the last waker has closed the task
-  pub closes_orphan : (w : State) (p q : Party F T A) → Stands OrphanHolder p → q.seat.table_id ≡ p.seat.table_id → Makes (closing_orphan w) w p.seat.me q.seat.me → (v : State) × Goes (row CloseOrphan v ∷ []) (Deliverer false (ThenEnds Nothing)) p q
+  pub closes_orphan : (w : State) (p q : Party F T A) → Stands OrphanHolder p → q.seat.block ≡ p.seat.block → Makes (closing_orphan w) w p.seat.me q.seat.me → (v : State) × Goes (row CloseOrphan v ∷ []) (Deliverer false (ThenEnds Nothing)) p q
   closes_orphan w p q s cell m = let x = moved (CloseOrphan ∷ []) w OrphanHolder [] p q s m in (w, goes p q (row CloseOrphan w ∷ []) (Deliverer false (ThenEnds Nothing)) [] cell x.viewed x.carried)
 
 module _ (F T A : Type 0) (limit : ℕ) where
   -- the rule allows a lent waker to gain a reference, and to wake
-  pub may_gain : (p : Party F T A) → Stands (At Lent) p → limit_of p ≡ limit → MayTry limit 3 p.seat.id p.seat.me gained_word at_limit gaining finding_limit
-  may_gain p s is = may_at limit p (At Lent) [] s gained_word at_limit gaining finding_limit (λ w. ap (λ l. at_limit l w) is)
-      (λ w v e m f here. let x = if_is (is_held w) (row_of limit GainReference w) v e in gains F T A limit Lent (deeds p) [] [] w v (number_of w) (number_of v) refl x.0 (sym x.1) refl refl m f here)
+  pub may_gain : (p : Party F T A) → Stands (At Lent) p → limit_of p ≡ limit → MayTry limit 3 p.seat.id p.seat.me gained_word at_limit gaining finding_limit × MayBring limit p.seat.id p.seat.me gained_word always
+  may_gain p s is = may_bring_at limit p (At Lent) [] s gained_word at_limit gaining finding_limit always (λ w. ap (λ l. at_limit l w) is)
+      (λ w v e m f here. let x = if_is (is_held w) (row_of limit GainReference w) v e in gains F T A limit Lent (deeds p) [] [] w v (number_of w) (number_of v) refl x.0 (sym x.1) refl refl m f here) (gains_handle limit Lent (deeds p) [] F T A)
       (owed.finds_limit F T A limit Lent (deeds p) [] [] refl)
 
-  pub may_wake : (p : Party F T A) → Stands (At Lent) p → MayTry limit 3 p.seat.id p.seat.me woken_if_held is_over waking_task finding_over
-  may_wake p s = may_at limit p (At Lent) [] s woken_if_held is_over waking_task finding_over (λ w. refl)
+  pub may_wake : (p : Party F T A) → Stands (At Lent) p → MayTry limit 3 p.seat.id p.seat.me woken_if_held is_over waking_task finding_over × MayBring limit p.seat.id p.seat.me woken_if_held brings_runnable
+  may_wake p s = may_bring_at limit p (At Lent) [] s woken_if_held is_over waking_task finding_over brings_runnable (λ w. refl)
       (λ w v e m f here. let x = if_is (is_held w) (if is_open w then Some (woken_word w) else None) v e in let y = if_is (is_open w) (Some (woken_word w)) v x.1 in let same = y.1 in let is : v ≡ woken_word w = cc in
-      owed.wakes F T A limit Lent (deeds p) [] [] w (number_of w) (number_of v) refl x.0 y.0 refl (ap number_of is) m f here)
+      owed.wakes F T A limit Lent (deeds p) [] [] w (number_of w) (number_of v) refl x.0 y.0 refl (ap number_of is) m f here) (wakes_task limit Lent (deeds p) [] F T A)
       (owed.finds_over F T A limit Lent (deeds p) [] [] refl)

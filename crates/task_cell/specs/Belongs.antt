@@ -1,10 +1,32 @@
--- Whose party a party is.
-use Rattle.std.specs.Prelude.{◌≡◌}
+-- Which cell a share, a party and a ledger belong to.
+use Rattle.std.specs.Prelude.{◌≡◌, ℕ, Bool}
 use Rattle.task_core.specs.declared.traits.Yields.{Ghosts}
+use Rattle.counted_block.specs.Blocks.{BlockId}
 use Rattle.task_cell.specs.declared.cell.Cell.{Cell}
 use Rattle.task_cell.specs.declared.cell.Party.{Party}
+use Rattle.task_cell.specs.declared.cell.block.Share.{Share}
+use Rattle.task_cell.specs.declared.cell.block.MaybeShare.{MaybeShare}
+use Rattle.task_cell.specs.declared.cell.ledger.Ledger.{Ledger}
+
+module _ {R F Q M A B O : Type 0} {G : Ghosts F O} where
+  -- which cell it is, and what lies there beside the word and the places
+  abbrev pub cell_of : Share R F Q M A B O G → BlockId × Cell R Q M B
+  cell_of share = (share.block.id, share.block.value)
+
+  abbrev pub limit_in : Share R F Q M A B O G → ℕ
+  limit_in share = share.block.key
 
 module _ {R F Q M A B O T : Type 0} {G : Ghosts F O} where
-  -- the party is one of this cell: its seat is of the cell's table
-  abbrev pub IsOf : Cell R F Q M A B O G → Party F T A → Type 0
-  IsOf cell party = party.seat.table_id ≡ cell.table.table_id
+  -- the party is one of this cell
+  abbrev pub IsOf : Share R F Q M A B O G → Party F T A → Type 0
+  IsOf share party = party.seat.block ≡ share.block.id
+
+  abbrev pub IsBeside : Ledger R F Q M A B O G → Party F T A → Type 0
+  IsBeside ledger party = party.seat.block ≡ ledger.ledger.id
+
+module _ {R F Q M A B O : Type 0} {G : Ghosts F O} where
+  -- a step of this share's holder has made or left a share of the same cell where this is true
+  pub record Leaves (share : Share R F Q M A B O G) (maybe : MaybeShare R F Q M A B O G) (there : Bool) : Type 0 where
+    pub cell : (maybe.maybe.id ≡ share.block.id) × (maybe.maybe.value ≡ share.block.value)
+    pub limit : maybe.maybe.key ≡ share.block.key
+    pub is_there : maybe.maybe.there ≡ there

@@ -1,6 +1,7 @@
 -- What a call of the cell asks of its party, and says of it.
 use Rattle.std.specs.Prelude.{◌≡◌, ℕ, List, [], ◌∷◌, Bool, true, false, Option, Some, None}
 use Rattle.atomic_table.specs.Table.{Allows}
+use Rattle.counted_block.specs.Counts.{Same, Less, Notes}
 use Rattle.task_core.specs.Word.{State, state_of}
 use Rattle.task_core.specs.Rows.{found}
 use Rattle.task_core.specs.declared.acts.Act.{Act}
@@ -15,6 +16,7 @@ use Rattle.task_steps.specs.Deeds.{row, act, after}
 use Rattle.task_steps.specs.Standing.{way_of}
 use Rattle.task_steps.specs.Steps.{head_of, Makes}
 use Rattle.task_steps.specs.Knows.{Knows}
+use Rattle.task_steps.specs.Shares.{shares_out}
 
 -- the table has the row for this word; no limit is asked for
 abbrev pub Fits : Act → State → Type 0
@@ -42,14 +44,26 @@ module _ {F T A : Type 0} where
   abbrev pub Stands : Position → Party F T A → Type 0
   Stands at p = StandsWith at [] p
 
-  -- the rule allows the party these acts by the word that is found, of which it knows what it has seen before, and this number in its place
+  -- the rule allows the party these acts by the word that is found, of which it knows what it has seen before, and this number in its place, which leaves as many shares out
   abbrev pub MayMake : ℕ → (State → List Act) → (ℕ → ℕ) → Party F T A → Type 0
   MayMake limit acts write p = Allows (RuleHolds {F = F} {T = T} {A = A} limit) 3 p.seat.id p.seat.me 0 write
+      (λ n me. Makes (acts (state_of n)) (state_of n) p.seat.me me × Knows (deeds p) (state_of n))
+      × Same (RuleHolds {F = F} {T = T} {A = A} limit) shares_out p.seat.id p.seat.me.0 write
+
+  -- .. where the party gives a handle up, and its share with it where it says so
+  abbrev pub MayGiveUp : ℕ → (State → List Act) → (State → Bool) → (ℕ → ℕ) → Party F T A → Type 0
+  MayGiveUp limit acts gives write p = Allows (RuleHolds {F = F} {T = T} {A = A} limit) 3 p.seat.id p.seat.me 0 write
+      (λ n me. Makes (acts (state_of n)) (state_of n) p.seat.me me × Knows (deeds p) (state_of n))
+      × Less (RuleHolds {F = F} {T = T} {A = A} limit) shares_out p.seat.id p.seat.me.0 write (λ n. gives (state_of n))
+
+  -- .. and private acts, without a step
+  abbrev pub MayNote : ℕ → (State → List Act) → Party F T A → Type 0
+  MayNote limit acts p = Notes (RuleHolds {F = F} {T = T} {A = A} limit) p.seat.id p.seat.me
       (λ n me. Makes (acts (state_of n)) (state_of n) p.seat.me me × Knows (deeds p) (state_of n))
 
   -- q is the party p after this path: it stands here now, and has these places
   pub record GoesWith (path : List Deed) (at : Position) (held : List (ℕ × Slot F T A)) (p q : Party F T A) : Type 0 where
-    pub cell : q.seat.table_id ≡ p.seat.table_id
+    pub cell : q.seat.block ≡ p.seat.block
     pub is : q.seat.me ≡ (view (limit_of p) (member at (after path (deeds p)) ∷ []), held)
 
   abbrev pub Goes : List Deed → Position → Party F T A → Party F T A → Type 0
@@ -58,7 +72,7 @@ module _ {F T A : Type 0} where
 module _ {F T A : Type 0} where
   -- a party of the same cell, of its own, of which no deed is known
   pub record IsNew (at : Position) (p q : Party F T A) : Type 0 where
-    pub cell : q.seat.table_id ≡ p.seat.table_id
+    pub cell : q.seat.block ≡ p.seat.block
     pub is : q.seat.me ≡ (view (limit_of p) (fresh at ∷ []), [])
 
   -- a notifier: it finds another party at the awaiter, or takes it out
@@ -71,6 +85,15 @@ module _ {F T A : Type 0} where
     takes_awaiter : (w v : State) (i : ℕ) (a : A) → Fits BeginNotify w
         → GoesWith (row BeginNotify w ∷ act TakeAwaiter ∷ row EndNotify v ∷ []) (after_taking (Some i) (way_of (position p))) (holds p) p q
         → Notifies p q (Some a)
+
+-- the parts of an answer, where there is one
+abbrev pub first : {X Y : Type 0} → Option (X × Y) → Option X
+first None = None
+first (Some x) = Some x.0
+
+abbrev pub second : {X Y : Type 0} → Option (X × Y) → Option Y
+second None = None
+second (Some x) = Some x.1
 
 abbrev pub is_empty : {X : Type 0} → List X → Bool
 is_empty [] = true

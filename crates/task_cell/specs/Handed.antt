@@ -1,25 +1,26 @@
 -- What foreign code was given: a Runnable, and a waker, of this cell and with these surroundings.
 use Rattle.std.specs.Prelude.{◌≡◌, Bool}
-use Rattle.std.specs.Arc.{arc_value}
 use Rattle.task_core.specs.declared.traits.Poll.{Poll}
 use Rattle.task_core.specs.declared.traits.Yields.{Ghosts}
 use Rattle.task_core.specs.declared.traits.ScheduleInfo.{ScheduleInfo}
+use Rattle.counted_block.specs.Blocks.{BlockId}
 use Rattle.task_cell.specs.declared.cell.Cell.{Cell}
+use Rattle.task_cell.specs.Belongs.{cell_of}
 use Rattle.task_cell.specs.declared.cell.Runnable.{Runnable}
 use Rattle.task_cell.specs.declared.cell.waker.TaskWaker.{TaskWaker}
 
 module _ {R F Q M A X B O : Type 0} {G : Ghosts F O} where
   -- a Runnable of this cell was handed to its schedule value, which was told whether the task was woken while it ran
-  abbrev pub HandedOver : (Q → Runnable R F Q M A X B O G → ScheduleInfo → Type 0) → Cell R F Q M A B O G → X → Bool → Type 0
+  abbrev pub HandedOver : (Q → Runnable R F Q M A X B O G → ScheduleInfo → Type 0) → BlockId × Cell R Q M B → X → Bool → Type 0
   HandedOver scheduled cell around woken =
-      (n : Runnable R F Q M A X B O G) × (arc_value n.inner.share.cell ≡ cell) × (n.around ≡ around)
-      × scheduled cell.schedule n (record { woken_while_running = woken })
+      (n : Runnable R F Q M A X B O G) × (cell_of n.inner.share ≡ cell) × (n.around ≡ around)
+      × scheduled cell.1.schedule n (record { woken_while_running = woken })
 
   -- the future was polled, from f to g, with a waker of this cell
-  abbrev pub LentTo : (F → TaskWaker R F Q M A X B O G → Poll O → F → Type 0) → Cell R F Q M A B O G → X → F → Poll O → F → Type 0
+  abbrev pub LentTo : (F → TaskWaker R F Q M A X B O G → Poll O → F → Type 0) → BlockId × Cell R Q M B → X → F → Poll O → F → Type 0
   LentTo polled cell around f answer g =
-      (w : TaskWaker R F Q M A X B O G) × (arc_value w.inner.share.cell ≡ cell) × (w.around ≡ around) × polled f w answer g
+      (w : TaskWaker R F Q M A X B O G) × (cell_of w.inner.share ≡ cell) × (w.around ≡ around) × polled f w answer g
 
   -- .. as a run does
-  abbrev pub PolledOnce : (F → TaskWaker R F Q M A X B O G → Poll O → F → Type 0) → Cell R F Q M A B O G → X → Poll O → Type 0
+  abbrev pub PolledOnce : (F → TaskWaker R F Q M A X B O G → Poll O → F → Type 0) → BlockId × Cell R Q M B → X → Poll O → Type 0
   PolledOnce polled cell around answer = (f : F) × (g : F) × LentTo polled cell around f answer g

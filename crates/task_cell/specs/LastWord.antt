@@ -1,5 +1,5 @@
 -- What the last word of a cell is.
-use Rattle.std.specs.Prelude.{◌≡◌, ℕ, List, Some}
+use Rattle.std.specs.Prelude.{◌≡◌, ℕ, List, Option, Some, None}
 use mathlib.Core.Option.{some}
 use lib.ListN.{get_elem?}
 use Rattle.task_core.specs.Word.{number_of}
@@ -21,3 +21,8 @@ pub record IsLastWord {F T A : Type 0} (limit word : ℕ) (p : Party F T A) : Ty
   pub number : ℕ
   pub did : DidLast number log (deeds p)
   pub stands : get_elem? machine.parties number ≡ some (position p)
+
+-- .. of a word that is answered, if it is
+abbrev pub LastWordIf : {F T A : Type 0} → ℕ → Option ℕ → Party F T A → Type 0
+LastWordIf limit None p = Unit {0}
+LastWordIf limit (Some word) p = IsLastWord limit word p

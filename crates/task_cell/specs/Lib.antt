@@ -1,3 +1,4 @@
+pub mod Fitting
 pub mod Belongs
 pub mod Calls
 pub mod LastWord

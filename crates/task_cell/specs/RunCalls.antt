@@ -1,5 +1,5 @@
 -- What the steps of a run and of a Runnable's drop come to.
-use Rattle.std.specs.Prelude.{◌≡◌, ◌<◌, ℕ, ◌||◌, nat_lt, Bool, true, false, List, [], ◌∷◌, Option, Some, None, is_some}
+use Rattle.std.specs.Prelude.{◌≡◌, ◌<◌, ℕ, ◌||◌, nat_lt, Bool, true, false, List, [], ◌∷◌, Option, Some, None, Result, Ok, Err, is_some}
 use Rattle.task_core.specs.Word.{State}
 use Rattle.task_laws.specs.declared.positions.Answer.{Answer}
 use Rattle.task_laws.specs.declared.positions.Position.TheVariants.{At, AwaiterInHand, Deliverer, Emptier, Pending, PendingFutureDropped}
@@ -19,12 +19,22 @@ use Rattle.task_steps.specs.declared.table.Slot.{Slot}
 use Rattle.task_steps.specs.declared.table.Deed.{Deed}
 use Rattle.task_cell.specs.declared.cell.Party.{Party}
 use Rattle.task_steps.specs.declared.words.PendingEnd.{PendingEnd}
-use Rattle.task_steps.specs.declared.words.PendingEnd.TheVariants.{Closed, Rescheduled, Idle, Orphaned}
+use Rattle.task_steps.specs.declared.words.PendingEnd.TheVariants.{Rescheduled, Idle, Orphaned}
 use Rattle.task_steps.specs.Steps.{output_first}
 use Rattle.task_cell.specs.Calls.{Fits, Stands, Goes, GoesWith}
 use Rattle.task_steps.specs.Deeds.{row, act}
 use Rattle.task_cell.specs.RunPaths.{ReleasePath, NotifyPath, WakePath, RestPath, StorePath, ClosedRunPath, ReadyPath, PendingPath}
 use Rattle.task_cell.specs.RunPaths.{DiscardPath}
+
+-- how a run has ended, if it has
+abbrev pub end_of : {X Y Z : Type 0} → Result (X × Y) Z → Option X
+end_of (Ok x) = Some x.0
+end_of (Err z) = None
+
+-- whether the run's share is left after its end
+abbrev pub keeps_share : PendingEnd → Bool
+keeps_share Idle = false
+keeps_share _ = true
 
 module _ {F T A : Type 0} where
   -- a reference was given up, and whether it was the last handle
@@ -60,14 +70,14 @@ module _ {F T A : Type 0} where
     notes_pending : w.references < 72057594037927935 → AnswersPending held p q w.closed → NotesAnswer held p q w Unready
 
   -- a run has ended without an output, or has found the task closed
-  pub data EndsPending (held : List (ℕ × Slot F T A)) (p q : Party F T A) : PendingEnd → Type 0 where
-    is_closed : GoesWith (act DropFuture ∷ []) PendingFutureDropped held p q → EndsPending held p q Closed
+  pub data EndsPending (held : List (ℕ × Slot F T A)) (p q : Party F T A) : Option PendingEnd → Type 0 where
+    is_closed : GoesWith (act DropFuture ∷ []) PendingFutureDropped held p q → EndsPending held p q None
     is_rescheduled : (w : State) → w.closed ≡ false → w.scheduled ≡ true
-        → Goes (row Reschedule w ∷ []) (Deliverer true (ThenEnds (Ran true))) p q → EndsPending held p q Rescheduled
+        → Goes (row Reschedule w ∷ []) (Deliverer true (ThenEnds (Ran true))) p q → EndsPending held p q (Some Rescheduled)
     is_idle : (w : State) → w.closed ≡ false → w.scheduled ≡ false → (nat_lt 1 w.references || w.task) ≡ true
-        → Goes (row EndIdle w ∷ act EndCall ∷ []) (At Ended) p q → EndsPending held p q Idle
+        → Goes (row EndIdle w ∷ act EndCall ∷ []) (At Ended) p q → EndsPending held p q (Some Idle)
     is_orphaned : (w : State) → w.closed ≡ false → w.scheduled ≡ false → (nat_lt 1 w.references || w.task) ≡ false
-        → Goes (row EndOrphaned w ∷ []) (Deliverer false (ThenEnds (Ran false))) p q → EndsPending held p q Orphaned
+        → Goes (row EndOrphaned w ∷ []) (Deliverer false (ThenEnds (Ran false))) p q → EndsPending held p q (Some Orphaned)
 
   -- the awaiter was taken that was due
   pub data TakesDue (way : NotifyingCall) (due : Bool) (p q : Party F T A) : Option A → Type 0 where

@@ -1,5 +1,5 @@
 -- The paths of a cancel and of a detach, each with the words that its rows found and with what the foreign calls on it did.
-use Rattle.std.specs.Prelude.{◌≡◌, ℕ, Bool, true, false, List, [], ◌∷◌, ◌++◌, None}
+use Rattle.std.specs.Prelude.{◌≡◌, ℕ, Bool, true, false, List, [], ◌∷◌, ◌++◌, Option, Some, None}
 use Rattle.task_core.specs.Word.{State}
 use Rattle.task_laws.specs.Table.{after_cancelling, notifies}
 use Rattle.task_laws.specs.declared.positions.Answer.TheVariants.{Nothing}
@@ -13,7 +13,7 @@ use Rattle.task_steps.specs.declared.table.Slot.{Slot}
 use Rattle.task_steps.specs.declared.table.Deed.{Deed}
 use Rattle.task_cell.specs.declared.cell.Party.{Party}
 use Rattle.task_steps.specs.declared.words.Cancelled.{Cancelled}
-use Rattle.task_steps.specs.declared.words.Cancelled.TheVariants.{Over, Busy, Idle}
+use Rattle.task_steps.specs.declared.words.Cancelled.TheVariants.{Busy, Idle}
 use Rattle.task_steps.specs.declared.words.Detached.{Detached}
 use Rattle.task_steps.specs.declared.words.Detached.TheVariants.{Unclaimed, Shared, Last, Orphaned}
 use Rattle.task_steps.specs.Rule.{IsOutput}
@@ -39,6 +39,22 @@ pub data CancelPath (Scheduled Woken : Type 0) : List Deed → Type 0 where
   is_idle : (w : State) (notice : List Deed) → Fits CancelIdle w → Scheduled → Notice Woken w.awaiter notice
       → CancelPath Scheduled Woken (row CancelIdle w ∷ act HandOver ∷ (notice ++ act EndCall ∷ []))
 
+-- whether a cancel brings the share of a Runnable
+abbrev pub brings_share : Cancelled → Bool
+brings_share (Busy due) = false
+brings_share (Idle due) = true
+
+-- whether the Task's share is left after its row
+abbrev pub keeps_task : Detached → Bool
+keeps_task Shared = false
+keeps_task _ = true
+
+-- the rest of a detach that drops an output
+pub data UnclaimedPath : List Deed → Type 0 where
+  leaves_others : (v : State) → Fits Detach v → UnclaimedPath (act DropOutput ∷ row Detach v ∷ act EndCall ∷ [])
+  leaves_none : (v : State) → Fits DetachLast v
+      → UnclaimedPath (act DropOutput ∷ row DetachLast v ∷ act EmptySlots ∷ act EndCall ∷ [])
+
 -- a detach: an output that nobody has claimed is dropped before; the last handle of a closed task empties the slots, and that of an open
 -- one hands a Runnable over
 pub data DetachPath (Scheduled : Type 0) : List Deed → Type 0 where
@@ -52,11 +68,11 @@ pub data DetachPath (Scheduled : Type 0) : List Deed → Type 0 where
 
 module _ {F T A : Type 0} where
   -- the row of a cancel, by a Task that has begun n polls
-  abbrev pub Cancels : ℕ → Party F T A → Party F T A → Cancelled → Type 0
-  Cancels n p q Over = (w : State) × Fits CancelOver w × Goes (row CancelOver w ∷ act EndCall ∷ []) (as_task n) p q
-  Cancels n p q (Busy due) =
+  abbrev pub Cancels : ℕ → Party F T A → Party F T A → Option Cancelled → Type 0
+  Cancels n p q None = (w : State) × Fits CancelOver w × Goes (row CancelOver w ∷ act EndCall ∷ []) (as_task n) p q
+  Cancels n p q (Some (Busy due)) =
       (w : State) × (w.awaiter ≡ due) × Fits CancelBusy w × Goes (row CancelBusy w ∷ []) (notifies due (OfCancel n)) p q
-  Cancels n p q (Idle due) =
+  Cancels n p q (Some (Idle due)) =
       (w : State) × (w.awaiter ≡ due) × Fits CancelIdle w × Goes (row CancelIdle w ∷ []) (Deliverer false (after_cancelling due n)) p q
 
   -- the row by which a Task is given up

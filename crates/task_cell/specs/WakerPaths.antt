@@ -4,7 +4,7 @@ use Rattle.std.specs.Prelude.{◌≡◌, ℕ, nat_lt, Bool, true, false, List, [
 use Rattle.task_core.specs.Word.{State, is_open}
 use Rattle.task_laws.specs.declared.positions.Answer.TheVariants.{Nothing}
 use Rattle.task_laws.specs.declared.positions.Position.TheVariants.{Emptier, OrphanHolder}
-use Rattle.task_core.specs.declared.acts.Act.TheVariants.{GainReference, FindLimit, RefuseGain, DropWaker, DropLastWaker, OrphanTask}
+use Rattle.task_core.specs.declared.acts.Act.TheVariants.{GainReference, FindLimit, DropWaker, DropLastWaker, OrphanTask}
 use Rattle.task_core.specs.declared.acts.Act.TheVariants.{CloseOrphan, WakeOver, WakeScheduled, WakeRunning, WakeIdle, EmptySlots, HandOver}
 use Rattle.task_core.specs.declared.acts.Act.TheVariants.{EndCall}
 use Rattle.task_steps.specs.declared.table.Slot.{Slot}
@@ -37,17 +37,17 @@ pub data WakerDropPath (Scheduled : Type 0) : List Deed → Type 0 where
   leaves_orphan : (w v : State) → others_left w ≡ false → is_open w ≡ true → Scheduled
       → WakerDropPath Scheduled (row OrphanTask w ∷ row CloseOrphan v ∷ act HandOver ∷ act EndCall ∷ [])
 
+-- whether a waker's share is left after its row
+abbrev pub keeps_waker : Dropped → Bool
+keeps_waker Shared = false
+keeps_waker _ = true
+
 module _ {F T A : Type 0} where
   -- a gain, and the new waker
   pub data Gains (limit : ℕ) (p q : Party F T A) : Option (Party F T A) → Type 0 where
     gains_none : (path : List Deed) → GainPath limit false path → Goes path as_lent p q → Gains limit p q None
     gains_one : (path : List Deed) (waker : Party F T A) → GainPath limit true path → Goes path as_lent p q → IsNew as_waker p waker
         → Gains limit p q (Some waker)
-
-  -- a gain with a share of the cell: where the share was refused, no row was made
-  pub data GainsShare (limit : ℕ) (p q : Party F T A) : Bool → Type 0 where
-    is_refused : Goes (act RefuseGain ∷ act EndCall ∷ []) as_lent p q → GainsShare limit p q false
-    goes_on_to : (gained : Bool) (path : List Deed) → GainPath limit gained path → Goes path as_lent p q → GainsShare limit p q gained
 
   -- a wake, and the deliverer that is to hand the Runnable over
   pub data WakesTask (p q : Party F T A) : Option (Party F T A) → Type 0 where

@@ -1,7 +1,7 @@
 -- What the party of a waker knows.
 use Rattle.std.specs.Prelude.{ℕ, [], ◌∷◌}
 use Rattle.atomic_table.specs.Table.{Me}
-use Rattle.inline_table.specs.Owned.{TableId}
+use Rattle.counted_block.specs.Blocks.{BlockId}
 use Rattle.task_laws.specs.declared.positions.Rest.TheVariants.{Waker}
 use Rattle.task_laws.specs.declared.positions.Position.TheVariants.{At}
 use Rattle.task_steps.specs.declared.table.Slot.{Slot}
@@ -11,10 +11,10 @@ use Rattle.task_cell.specs.declared.cell.waker.Hold.{Hold}
 use Rattle.task_cell.specs.declared.cell.waker.Hold.TheVariants.{Owned, Lent as Borrowed}
 
 module _ {F T A : Type 0} where
-  -- the table of an owned waker's seat, and what the seat has; for a lent waker, which has none, what is given
-  abbrev pub table_of : Hold F T A → TableId → TableId
-  table_of (Owned party) table = party.seat.table_id
-  table_of Borrowed table = table
+  -- the block of an owned waker's seat, and what the seat has; for a lent waker, which has none, what is given
+  abbrev pub block_of : Hold F T A → BlockId → BlockId
+  block_of (Owned party) block = party.seat.block
+  block_of Borrowed block = block
 
   abbrev pub me_of : Hold F T A → Me (Slot F T A) View → Me (Slot F T A) View
   me_of (Owned party) m = party.seat.me

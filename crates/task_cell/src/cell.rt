@@ -1,33 +1,28 @@
 //! The cell, a party of it, which must be spent, and the handles that the cell hands out.
 ghost use Rattle.std.specs.Prelude.{◌≡◌, ℕ, ◌<◌, [], ◌∷◌, true};
-ghost use Rattle.std.specs.Arc.{arc_value};
 ghost use Rattle.task_steps.specs.Rule.{view, fresh};
 ghost use Rattle.task_steps.specs.Seats.{is_spent};
 ghost use Rattle.task_cell.specs.Calls.{limit_of, deeds, Stands};
 ghost use Rattle.task_steps.specs.Standing.{as_runnable, as_ended, as_lent};
 
-use inline_table::Seat;
 use std::alloc::{Allocator, Global};
-use std::marker::PhantomData;
 use std::sync::Wait;
 use task_core::{Wake, Yields};
-use task_steps::table::{Board, Kept, Slot, View, discard};
+use task_steps::table::{Kept, TaskSeat, discard};
 
-/// What the handles of one task share: the word and the places, the schedule value and the metadata.
+/// What all handles of a task see: the schedule value, the metadata, the limit of references and the allocator. It lies in one block with the word and the places.
 #[derive(Drop)]
-pub struct Cell<R, F: Yields, Q, M, A, B = Global> {
-    pub(crate) table: Board<F, Kept<F>, A>,
+pub struct Cell<R, Q, M, B = Global> {
     pub(crate) schedule: Q,
-    metadata: M,
+    pub(crate) metadata: M,
     pub(crate) limit: u64,
     pub(crate) rt: R,
-    memory: PhantomData<B>,
-    ghost limited: { (table.key ≡ limit) × (limit < 36028797018963968) },
+    pub(crate) alloc: B,
 }
 
 /// One party of a task at one position. It must be spent: only calls of the cell move it, and it may be let go only once it has ended, or was lent for a call and has made it.
 pub struct Party<F, T, A> {
-    pub(crate) seat: Seat<Slot<F, T, A>, View>,
+    pub(crate) seat: TaskSeat<F, T, A>,
 }
 
 impl<F, T, A> Party<F, T, A> {
@@ -49,14 +44,14 @@ impl<F, T, A> Party<F, T, A> {
 }
 
 /// A share of a cell, and the party of its Runnable, which has done nothing: nobody steps with it before the handle is taken apart.
-pub(crate) struct RunnableSeat<R, F: Yields, Q, M, A, B: Allocator> {
+pub(crate) struct RunnableSeat<R, F: Yields, Q, M, A, B: Allocator + Copy> {
     pub(crate) share: Share<R, F, Q, M, A, B>,
     pub(crate) party: Party<F, Kept<F>, A>,
-    ghost seated: { party.seat.table_id ≡ (arc_value share.cell).table.table_id },
-    ghost placed: { party.seat.me ≡ (view (arc_value share.cell).limit (fresh as_runnable ∷ []), []) },
+    ghost seated: { party.seat.block ≡ share.block.id },
+    ghost placed: { party.seat.me ≡ (view share.block.key (fresh as_runnable ∷ []), []) },
 }
 
-impl<R: Wait + Drop, F: Yields, Q: Drop, M: Drop, A: Wake, B: Allocator> RunnableSeat<
+impl<R: Wait + Drop + Copy, F: Yields, Q: Drop, M: Drop, A: Wake, B: Allocator + Copy> RunnableSeat<
     R,
     F,
     Q,
@@ -69,8 +64,8 @@ impl<R: Wait + Drop, F: Yields, Q: Drop, M: Drop, A: Wake, B: Allocator> Runnabl
         share: Share<R, F, Q, M, A, B>,
         party: Party<F, Kept<F>, A>,
     ) -> RunnableSeat<R, F, Q, M, A, B>
-        requires cell { party.seat.table_id ≡ (arc_value share.cell).table.table_id }
-        requires party { party.seat.me ≡ (view (arc_value share.cell).limit (fresh as_runnable ∷ []), []) }
+        requires cell { party.seat.block ≡ share.block.id }
+        requires party { party.seat.me ≡ (view share.block.key (fresh as_runnable ∷ []), []) }
         ensures { result.share ≡ share }
     {
         RunnableSeat { share, party }
@@ -79,7 +74,7 @@ impl<R: Wait + Drop, F: Yields, Q: Drop, M: Drop, A: Wake, B: Allocator> Runnabl
     // The share of the cell, and the party, which will step.
     pub(crate) fn into_party(self) -> (Share<R, F, Q, M, A, B>, Party<F, Kept<F>, A>)
         ensures share { result.0 ≡ self.share }
-        ensures cell { (result.1.seat.table_id ≡ (arc_value result.0.cell).table.table_id) × (limit_of result.1 ≡ (arc_value result.0.cell).limit) }
+        ensures cell { (result.1.seat.block ≡ result.0.block.id) × (limit_of result.1 ≡ result.0.block.key) }
         ensures party { Stands as_runnable result.1 × (deeds result.1 ≡ []) }
     {
         let RunnableSeat { share, party } = self;
@@ -89,30 +84,29 @@ impl<R: Wait + Drop, F: Yields, Q: Drop, M: Drop, A: Wake, B: Allocator> Runnabl
 
 /// A task that is due: whoever has it runs it, schedules it, or drops it, which cancels the task.
 pub struct Runnable<
-    R: Wait + Drop,
+    R: Wait + Drop + Copy,
     F: Yields,
     Q: Drop,
     M: Drop,
     A: Wake,
     X: Copy,
-    B: Allocator = Global,
+    B: Allocator + Copy = Global,
 > {
     pub(crate) inner: RunnableSeat<R, F, Q, M, A, B>,
     pub(crate) around: X,
 }
 
-impl<R: Wait + Drop, F: Yields, Q: Drop, M: Drop, A: Wake, X: Copy, B: Allocator> Drop
+impl<R: Wait + Drop + Copy, F: Yields, Q: Drop, M: Drop, A: Wake, X: Copy, B: Allocator + Copy> Drop
     for Runnable<R, F, Q, M, A, X, B> {
     fn drop(self) {
         let (inner, _) = self.into_parts();
         let (share, mut party) = inner.into_party();
-        share.cell().discard_runnable(&mut party);
+        share.discard_runnable(&mut party);
         party.let_go();
-        share.give_up();
     }
 }
 
-impl<R: Wait + Drop, F: Yields, Q: Drop, M: Drop, A: Wake, X: Copy, B: Allocator> Runnable<
+impl<R: Wait + Drop + Copy, F: Yields, Q: Drop, M: Drop, A: Wake, X: Copy, B: Allocator + Copy> Runnable<
     R,
     F,
     Q,
@@ -127,8 +121,8 @@ impl<R: Wait + Drop, F: Yields, Q: Drop, M: Drop, A: Wake, X: Copy, B: Allocator
         party: Party<F, Kept<F>, A>,
         around: X,
     ) -> Runnable<R, F, Q, M, A, X, B>
-        requires cell { party.seat.table_id ≡ (arc_value share.cell).table.table_id }
-        requires party { party.seat.me ≡ (view (arc_value share.cell).limit (fresh as_runnable ∷ []), []) }
+        requires cell { party.seat.block ≡ share.block.id }
+        requires party { party.seat.me ≡ (view share.block.key (fresh as_runnable ∷ []), []) }
         ensures cell { result.inner.share ≡ share }
         ensures around { result.around ≡ around }
     {
@@ -146,11 +140,12 @@ impl<R: Wait + Drop, F: Yields, Q: Drop, M: Drop, A: Wake, X: Copy, B: Allocator
     }
 }
 
-pub use share::Share;
+pub use block::{MaybeShare, Share};
 pub use waker::TaskWaker;
 
 mod attempt;
 mod awaiter;
+pub(crate) mod block;
 mod borrowed;
 mod cancel;
 mod claim;
@@ -160,12 +155,14 @@ mod discard;
 mod dropping;
 mod ends;
 mod gain;
+mod hold;
+mod ledger;
 mod lent;
 mod poll;
 mod reference;
 mod register;
 mod run;
-pub(crate) mod share;
+mod share;
 mod spawn;
 mod start;
 mod step;

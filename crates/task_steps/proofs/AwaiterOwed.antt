@@ -3,15 +3,16 @@ use Rattle.std.proofs.Common.{◌≡◌, ℕ, ◌≤◌, Bool, true, false, not,
 use Rattle.std.specs.Prelude.{bit_and, bit_or, if◌then◌else◌}
 use Rattle.atomic_table.specs.Table.{rest}
 use Rattle.task_steps.proofs.Vocabulary.{State, state_of, number_of, CallEnds, CloneEnded, Woken, Answer, Rest, NotifyingCall, OfRun, OfDrop, OfCancel, OfPoll, OfClaim, At, CallEnding, Notifier, Releaser}
-use Rattle.task_steps.proofs.Vocabulary.{AwaiterInHand, MissNotify, BeginNotify, TakeAwaiter, Slots, leaves_slots, changes_slots, after_taking, after_waking, may_drop, scene, owns_awaiter}
+use Rattle.task_steps.proofs.Vocabulary.{AwaiterInHand, EndCall, WakeAwaiter, DropAwaiter, MissNotify, BeginNotify, TakeAwaiter, Slots, leaves_slots, changes_slots, after_taking, after_waking, may_drop, scene, owns_awaiter}
 use Rattle.task_steps.proofs.Vocabulary.{Awaiting, await, awaiting, state_of_number_of, fetch_or-notifying, fetch_and-awaiter_notifying, Slot, Deed, Member}
 use Rattle.task_steps.specs.Rule.{has_work, IsEmpty, Waits}
-use Rattle.task_steps.specs.Scripts.{ending, taking_awaiter, releasing_awaiter, waking, dropping}
+use Rattle.task_steps.specs.Scripts.{taking_awaiter, releasing_awaiter}
 use Rattle.task_steps.proofs.Bools.{never}
 use Rattle.task_steps.proofs.Facts.{counted_awaiting}
 use Rattle.task_steps.proofs.Acts.{leads_first}
-use Rattle.task_steps.proofs.Advance.{stays, takes_awaiter, gives_awaiter, Steps, keeps_places}
+use Rattle.task_steps.proofs.Advance.{stays, takes_awaiter, gives_awaiter, Steps}
 use Rattle.task_steps.proofs.Allowed.{Owes}
+use Rattle.task_steps.proofs.Known.{OwesNote}
 
 -- what a way leaves of the places
 off_work : (i : ℕ) (way : NotifyingCall) → has_work (after_waking way) ≡ has_work (AwaiterInHand i way)
@@ -47,34 +48,19 @@ is_emptied slots b s e = ⊎_elim (λ (z : b.releasers ≡ 0). absurd (omega ari
 neither : (a b : Bool) → (a || b) ≡ false → (not a && not b) ≡ true
 neither a b e = grind arith
 
+module _ (limit : ℕ) where
+  pub ends : (answer : Answer) (r : Rest) (ds : List Deed) (us : List Member) → OwesNote limit (EndCall ∷ []) (CallEnding answer r) ds us
+  ends answer r ds us m f = (leaves_slots (scene m) m.word (At r) [] (CallEnds answer ∷ []), refl, refl, refl)
+
+  pub wakes : (i : ℕ) (way : NotifyingCall) (ds : List Deed) (us : List Member) → OwesNote limit (WakeAwaiter ∷ []) (AwaiterInHand i way) ds us
+  wakes i way ds us m f = (leaves_slots (scene m) m.word (after_waking way) [] (CloneEnded i ∷ Woken i ∷ []), refl, refl, (λ j. (off_work i way j, off_free way j, m.slots, 0, 0)))
+
+  pub drops : (i : ℕ) (way : NotifyingCall) (ds : List Deed) (us : List Member) → may_drop way ≡ true → OwesNote limit (DropAwaiter ∷ []) (AwaiterInHand i way) ds us
+  drops i (OfPoll n) ds us may m f = (leaves_slots (scene m) m.word (after_waking (OfPoll n)) [] (CloneEnded i ∷ []), refl, refl, refl)
+  drops i (OfClaim n) ds us may m f = (leaves_slots (scene m) m.word (after_waking (OfClaim n)) [] (CloneEnded i ∷ []), refl, refl, refl)
+  drops i _ ds us may m f = never may
+
 module _ (F T A : Type 0) (limit : ℕ) where
-  pub ends : (answer : Answer) (r : Rest) (ds : List Deed) (us : List Member) (l : List (ℕ × Slot F T A)) → Owes F T A limit ending (λ n. n) (CallEnding answer r) ds us l
-  ends answer r ds us l m f x e lt = keeps_places (leaves_slots (scene m) m.word (At r) [] (CallEnds answer ∷ []))
-      refl e refl
-
-  pub wakes : (i : ℕ) (way : NotifyingCall) (ds : List Deed) (us : List Member) (l : List (ℕ × Slot F T A)) → Owes F T A limit waking (λ n. n) (AwaiterInHand i way) ds us l
-  wakes i way ds us l m f x e lt = record {
-    outcome = leaves_slots (scene m) m.word (after_waking way) [] (CloneEnded i ∷ Woken i ∷ []);
-    leads_to = refl;
-    writes = e;
-    idle = (refl, refl);
-    placing = stays (off_work i way) (off_free way) (inr (refl, refl)) (inr refl);
-  }
-
-  pub drops : (i : ℕ) (way : NotifyingCall) (ds : List Deed) (us : List Member) (l : List (ℕ × Slot F T A)) → may_drop way ≡ true → Owes F T A limit dropping (λ n. n) (AwaiterInHand i way) ds us l
-  drops i OfRun ds us l may m f x e lt = never may
-  drops i OfDrop ds us l may m f x e lt = never may
-  drops i (OfCancel n) ds us l may m f x e lt = never may
-  drops i (OfPoll n) ds us l may m f x e lt = keeps_places (leaves_slots (scene m) m.word (after_waking (OfPoll n)) [] (CloneEnded i ∷ []))
-      refl e refl
-  drops i (OfClaim n) ds us l may m f x e lt = record {
-    outcome = leaves_slots (scene m) m.word (after_waking (OfClaim n)) [] (CloneEnded i ∷ []);
-    leads_to = refl;
-    writes = e;
-    idle = (refl, refl);
-    placing = stays refl refl (inl refl) (inr refl);
-  }
-
   pub takes : (way : NotifyingCall) (ds : List Deed) (us : List Member) (l : List (ℕ × Slot F T A)) → Owes F T A limit taking_awaiter (λ n. bit_or n 128) (Notifier way) ds us l
   takes way ds us l m f x e lt = by (m.word.notifying || m.word.registering) refl
     where

@@ -14,6 +14,10 @@ use Rattle.task_steps.proofs.Acts.{leads}
 use Rattle.task_steps.proofs.Advance.{Finds, places_before, places_after}
 use Rattle.task_steps.proofs.Allowed.{Owes, finds, noted_only, steps_always}
 
+-- what a party owes that makes these private acts, whatever it finds: they keep the word and the places
+abbrev pub OwesNote : ℕ → List Act → Position → List Deed → List Member → Type 0
+OwesNote limit acts p ds us = (m : Machine) → Finds limit p ds us m → (o : Outcome) × (leads (scene m) acts p ≡ Some o) × (o.word ≡ m.word) × (places_after o ≡ places_before m p)
+
 module _ (F T A : Type 0) (limit : ℕ) where
   abbrev M : Type 0
   M = Me (Slot F T A) View
@@ -44,12 +48,8 @@ module _ (F T A : Type 0) (limit : ℕ) where
   steps_knowing slots id me l p ds us acts write three is owes s r deep at fits = let o = steps_always F T A limit slots id me l p ds us acts write three is owes s r deep at fits in
       (o.0, o.1, o.2, o.3, (o.4, knows_now s id me l p ds None us is r at))
 
-  -- what a party owes that makes these private acts, whatever it finds
-  abbrev pub OwesNote : List Act → Position → List Deed → List Member → Type 0
-  OwesNote acts p ds us = (m : Machine) → Finds limit p ds us m → (o : Outcome) × (leads (scene m) acts p ≡ Some o) × (o.word ≡ m.word) × (places_after o ≡ places_before m p)
-
-  -- .. and so it may note them without a step
-  pub may_note : (id : ℕ) (me : M) (l : ℕ) (p : Position) (ds : List Deed) (us : List Member) (acts : List Act) → me.0 ≡ view l (member p ds ∷ us) → OwesNote acts p ds us
+  -- a party may note its private acts without a step
+  pub may_note : (id : ℕ) (me : M) (l : ℕ) (p : Position) (ds : List Deed) (us : List Member) (acts : List Act) → me.0 ≡ view l (member p ds ∷ us) → OwesNote limit acts p ds us
       → Notes (RuleHolds {F = F} {T = T} {A = A} limit) id me (λ n m. Makes acts (state_of n) me m × Knows (head_of me.0.members).deeds (state_of n))
   may_note id me l p ds us acts is owes s r three at fits = let run = r.running in let f = finds F T A limit s r.capped run id me.0 l p ds us at is in let n = owes run.machine f in
       let a = noted_only F T A limit s r.capped run id me l p ds us acts at is three n.0 n.1 n.2 n.3 in

@@ -3,18 +3,18 @@ use Rattle.std.proofs.Common.{◌≡◌, ℕ, ◌+◌, ◌≤◌, Bool, true, fa
 use Rattle.std.specs.Prelude.{if◌then◌else◌, bit_and}
 use Rattle.atomic_table.specs.Table.{rest}
 use Rattle.task_steps.proofs.Vocabulary.{State, state_of, number_of, found, written, row, Event, TaskPollBegins, TaskPollEnds, Closes, OutputTaken, Cloned, Woken, CloneEnded, PollAnswer, IsPending, HasOutput, IsRefused, Position, OfPoll, OfClaim, At, Notifier, Looking, SawOutput, TookOutput}
-use Rattle.task_steps.proofs.Vocabulary.{Answering, Registrar, HasClone, UnusedClone, Storing, Registered, OldAwaiterInHand, TookBack, CloneInHand, Task, Act, Look, ClaimOutput, CloneAwaiter, StoreAwaiter, BeginRegister, EndRegister, EndRegisterNotified, EndCall, Slots, leaves_slots, changes_slots}
+use Rattle.task_steps.proofs.Vocabulary.{RefuseClone, Answering, Registrar, HasClone, UnusedClone, Storing, Registered, OldAwaiterInHand, TookBack, CloneInHand, Task, Act, Look, ClaimOutput, CloneAwaiter, StoreAwaiter, BeginRegister, EndRegister, EndRegisterNotified, EndCall, Slots, leaves_slots, changes_slots}
 use Rattle.task_steps.proofs.Vocabulary.{when, where_found, notifies, first_look, second_look, after_storing, Machine, scene, count, is_task_poll, owns_awaiter, Census, census, Awaiting, awaiting, HandshakeHolds, Holds, state_of_number_of}
-use Rattle.task_steps.proofs.Vocabulary.{fetch_and-awaiter_registering_notifying, Invariant, Slot, Empty, Awaiter, Deed, Member}
+use Rattle.task_steps.proofs.Vocabulary.{DropAwaiter, WakeAwaiter, fetch_and-awaiter_registering_notifying, Invariant, Slot, Empty, Awaiter, Deed, Member}
 use Rattle.task_steps.specs.Rule.{has_work, IsFuture, IsEmpty, IsAwaiter, Waits}
 use Rattle.task_steps.specs.Steps.{and_then, spot, output_first, TakesOutput, Works, Awaits}
-use Rattle.task_steps.specs.Scripts.{ending, waking, dropping}
-use Rattle.task_steps.specs.PollScripts.{has_output, has_ended, has_to_wait, looking, looking_again, handing_out, refusing, finding_notifier, taking_back, ending_notified}
+use Rattle.task_steps.specs.PollScripts.{has_output, has_ended, has_to_wait, looking, looking_again, handing_out, finding_notifier, taking_back, ending_notified}
 use Rattle.task_steps.proofs.Bools.{never}
 use Rattle.task_steps.proofs.Acts.{leads}
 use Rattle.task_steps.proofs.Facts.{counted, counted_awaiting}
 use Rattle.task_steps.proofs.Advance.{Finds, stays, takes_output, gives_work, lies_nowhere, takes_awaiter, gives_awaiter, Steps, keeps_places}
 use Rattle.task_steps.proofs.Allowed.{Owes, OwesEnd}
+use Rattle.task_steps.proofs.Known.{OwesNote}
 
 -- a position that has no place of the table
 abbrev pub Free : Position → Type 0
@@ -103,6 +103,24 @@ clone_stored i w slots t b h e = ⊎_elim (λ (z : b.registered ≡ 0). absurd (
 pub output_lies : (m : Machine) → Invariant m → has_output m.word ≡ true → (m.slots.future ≡ false) × (m.slots.output ≡ true)
 output_lies m i e = (future_left m.limit m.word m.slots m.trace (census m.parties) i.holds e, output_there m.limit m.word m.slots m.trace (census m.parties) i.holds e)
 
+module _ (limit : ℕ) where
+  pub ends_poll : (i : ℕ) (answer : PollAnswer) (ds : List Deed) (us : List Member) → OwesNote limit (EndCall ∷ []) (Answering i answer) ds us
+  ends_poll i answer ds us m f = (leaves_slots (scene m) m.word (At (Task i)) [] (TaskPollEnds i answer ∷ []), refl, refl, refl)
+
+  pub refuses : (i : ℕ) (ds : List Deed) (us : List Member) → OwesNote limit (RefuseClone ∷ EndCall ∷ []) (Registrar i) ds us
+  refuses i ds us m f = (leaves_slots (scene m) m.word (At (Task i)) [] (TaskPollEnds i IsRefused ∷ []), refl, refl, refl)
+
+  pub drops_clone : (i : ℕ) (ds : List Deed) (us : List Member) → OwesNote limit (DropAwaiter ∷ []) (UnusedClone i) ds us
+  drops_clone i ds us m f = (leaves_slots (scene m) m.word (Looking i) [] (CloneEnded i ∷ []), refl, refl, refl)
+
+  -- .. where the slot's awaiter tells that there was one
+  pub drops_stored : {F T A : Type 0} (i : ℕ) (hand : Option ℕ) (y : Slot F T A) (a : A) → Waits hand y → y ≡ Awaiter a → (ds : List Deed) (us : List Member) → OwesNote limit (DropAwaiter ∷ []) (after_storing i hand) ds us
+  drops_stored {F = F} {T = T} {A = A} i None y a h e ds us m f = absurd (subst (λ (x : Slot F T A). IsEmpty x) e h)
+  drops_stored i (Some old) y a h e ds us m f = (leaves_slots (scene m) m.word (Registered i) [] (CloneEnded old ∷ []), refl, refl, refl)
+
+  pub wakes_clone : (i : ℕ) (ds : List Deed) (us : List Member) → OwesNote limit (WakeAwaiter ∷ []) (CloneInHand i) ds us
+  wakes_clone i ds us m f = (leaves_slots (scene m) m.word (Looking i) [] (CloneEnded i ∷ Woken i ∷ []), refl, refl, refl)
+
 module _ (F T A : Type 0) (limit : ℕ) where
   pub looks : (n : ℕ) (ds : List Deed) (us : List Member) (l : List (ℕ × Slot F T A)) → OwesEnd F T A limit (λ w. not (has_output w)) looking (At (Task n)) ds us l
   looks n ds us l m f number x lt e = let f = first_free m.word (n + 1) in record {
@@ -126,14 +144,6 @@ module _ (F T A : Type 0) (limit : ℕ) where
 
   pub looks_again : (i : ℕ) (ds : List Deed) (us : List Member) (l : List (ℕ × Slot F T A)) → OwesEnd F T A limit (λ w. not (has_output w)) looking_again (Looking i) ds us l
   looks_again i ds us l m f number x lt e = looks_again_by m i number l (has_to_wait m.word) refl x
-
-  pub ends_poll : (i : ℕ) (answer : PollAnswer) (ds : List Deed) (us : List Member) (l : List (ℕ × Slot F T A)) → Owes F T A limit ending (λ n. n) (Answering i answer) ds us l
-  ends_poll i answer ds us l m f number x lt = keeps_places (leaves_slots (scene m) m.word (At (Task i)) [] (TaskPollEnds i answer ∷ []))
-      refl x refl
-
-  pub refuses : (i : ℕ) (ds : List Deed) (us : List Member) (l : List (ℕ × Slot F T A)) → Owes F T A limit refusing (λ n. n) (Registrar i) ds us l
-  refuses i ds us l m f number x lt = keeps_places (leaves_slots (scene m) m.word (At (Task i)) [] (TaskPollEnds i IsRefused ∷ []))
-      refl x refl
 
   claims_by : (m : Machine) (p : Position) (acts : List Act) (i : ℕ) (told : List Event) (new : ℕ) (l : List (ℕ × Slot F T A)) → Free p → Fits ClaimOutput m.word new
       → leads (scene m) acts p ≡ and_then (when (found 0 ClaimOutput m.word) (leaves_slots (scene m) (written ClaimOutput m.word) (notifies m.word.awaiter (OfClaim i)) [] told)) (λ o. leads (spot m.limit o.word o.slots) [] o.next)
@@ -162,28 +172,6 @@ module _ (F T A : Type 0) (limit : ℕ) where
   pub finds_notifier : (i : ℕ) (ds : List Deed) (us : List Member) (l : List (ℕ × Slot F T A)) → OwesEnd F T A limit (λ w. w.notifying) finding_notifier (Registrar i) ds us l
   finds_notifier i ds us l m f number x lt e = keeps_places (leaves_slots (scene m) m.word (UnusedClone i) [] (Woken i ∷ Cloned i ∷ []))
       (ap (λ (b : Bool). and_then (Some (leaves_slots (scene m) m.word (HasClone i) [] (Cloned i ∷ []))) (λ o. and_then (when b (leaves_slots (spot m.limit o.word o.slots) o.word (UnusedClone i) [] (Woken i ∷ []))) (λ o. leads (spot m.limit o.word o.slots) [] o.next))) e) x refl
-
-  pub drops_clone : (i : ℕ) (ds : List Deed) (us : List Member) (l : List (ℕ × Slot F T A)) → Owes F T A limit dropping (λ n. n) (UnusedClone i) ds us l
-  drops_clone i ds us l m f number x lt = keeps_places (leaves_slots (scene m) m.word (Looking i) [] (CloneEnded i ∷ []))
-      refl x refl
-
-  drops_old : (i old : ℕ) (ds : List Deed) (us : List Member) (l : List (ℕ × Slot F T A)) → Owes F T A limit dropping (λ n. n) (OldAwaiterInHand i old) ds us l
-  drops_old i old ds us l m f number x lt = record {
-    outcome = leaves_slots (scene m) m.word (Registered i) [] (CloneEnded old ∷ []);
-    leads_to = refl;
-    writes = x;
-    idle = (refl, refl);
-    placing = stays refl refl (inr (refl, refl)) (inl refl);
-  }
-
-  -- .. where the slot's awaiter tells that there was one
-  pub drops_stored : (i : ℕ) (hand : Option ℕ) (y : Slot F T A) (a : A) → Waits hand y → y ≡ Awaiter a → (ds : List Deed) (us : List Member) (l : List (ℕ × Slot F T A)) → Owes F T A limit dropping (λ n. n) (after_storing i hand) ds us l
-  drops_stored i None y a h e ds us l = absurd (subst (λ (x : Slot F T A). IsEmpty x) e h)
-  drops_stored i (Some old) y a h e ds us l = drops_old i old ds us l
-
-  pub wakes_clone : (i : ℕ) (ds : List Deed) (us : List Member) (l : List (ℕ × Slot F T A)) → Owes F T A limit waking (λ n. n) (CloneInHand i) ds us l
-  wakes_clone i ds us l m f number x lt = keeps_places (leaves_slots (scene m) m.word (Looking i) [] (CloneEnded i ∷ Woken i ∷ []))
-      refl x refl
 
   -- where the clone was put in, by what stood there
   stored_free : (i : ℕ) (hand : Option ℕ) → (has_work (after_storing i hand) ≡ false) × (owns_awaiter (after_storing i hand) ≡ true)

@@ -1,6 +1,7 @@
 -- What a step of a party does to the number of shares that are out, by the words before and after its acts.
 use Rattle.std.proofs.Common.{◌≡◌, ◌≢◌, ℕ, zero, suc, ◌+◌, ◌<◌, Bool, true, false, ◌&&◌, Option, Some, None, List, ◌∷◌, ◌⊎◌, inl, inr, ⊎_elim, sym, refl, ap, ◌∙◌, subst, arith, eqb, eq-eqb, ne_eqb}
 use Rattle.std.proofs.lemmas.Bool.Decides.{nat_tests}
+use Rattle.std.specs.Prelude.{if◌then◌else◌}
 use mathlib.Core.Option.{some}
 use native.Mathlib.Decide.{ℕ_discrete}
 use mathlib.Core.Logic.{dite}
@@ -22,6 +23,11 @@ use Rattle.task_steps.proofs.Allowed.{Owes, finds_trying}
 -- so many shares belong to a word
 abbrev pub shares_of : State → ℕ
 shares_of w = at_least_one (handles w)
+
+-- acts that keep the number, whichever of two they are
+pub keeps_either : (b : Bool) (x y : List Act) (w : State) → shares_of (word_after w x) ≡ shares_of w → shares_of (word_after w y) ≡ shares_of w → shares_of (word_after w (if b then x else y)) ≡ shares_of w
+keeps_either true x y w e f = e
+keeps_either false x y w e f = f
 
 one_at_least : (n : ℕ) → 0 < at_least_one n
 one_at_least zero = omega arith

@@ -5,7 +5,7 @@ ghost use Rattle.task_steps.specs.Rule.{laid_view, IsFuture};
 ghost use Rattle.task_steps.specs.Seats.{is_spent};
 
 use atomic_table::TableRule;
-use counted_block::{Bare, BlockRule, Inner, Seat, Share};
+use counted_block::{Bare, BlockRule, Hold, Inner, Ledger, MaybeShare, Seat, Share};
 use std::alloc::{AllocFailed, Allocator};
 use std::collections::LinkedList;
 use task_core::acts::Act;
@@ -99,6 +99,15 @@ impl<F, T, A> BlockRule<Slot<F, T, A>, View, u64> for Law {
 
 /// A share of a task's block: one word, a place each for the future, the output and the awaiter, and what all handles see.
 pub type Block<F, T, A, V, B> = Share<Slot<F, T, A>, View, u64, Law, V, B>;
+
+/// A share that a step may have made or left.
+pub type MaybeBlock<F, T, A, V, B> = MaybeShare<Slot<F, T, A>, View, u64, Law, V, B>;
+
+/// A hold of a task's block.
+pub type BlockHold<F, T, A, V, B> = Hold<Slot<F, T, A>, View, u64, Law, V, B>;
+
+/// What is left of a share for its seats.
+pub type BlockLedger<F, T, A, V, B> = Ledger<Slot<F, T, A>, View, u64, Law, V, B>;
 
 /// The seat of a task's block.
 pub type TaskSeat<F, T, A> = Seat<Slot<F, T, A>, View>;

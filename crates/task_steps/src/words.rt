@@ -10,10 +10,8 @@ ghost use Rattle.task_steps.specs.Found.{closed_by, given_up_by, ending_of, drop
 
 use task_core::word::Word;
 
-/// What a cancel found; where it closed the task, whether an awaiter is to be taken.
+/// What a cancel found that closed the task, and whether an awaiter is to be taken.
 pub enum Cancelled {
-    /// The task was over.
-    Over,
     /// The task was scheduled or running.
     Busy(bool),
     /// The task waited for a wake, and a Runnable is to be handed over.
@@ -32,10 +30,8 @@ pub enum Detached {
     Orphaned,
 }
 
-/// How a run ends whose poll answered Pending.
+/// How a run of an open task ends whose poll answered Pending.
 pub enum PendingEnd {
-    /// The task is closed: its future is dropped, and the end step is still to be made.
-    Closed,
     /// The task was woken meanwhile: the run's Runnable is to be handed over.
     Rescheduled,
     /// The task waits for a wake, and the call has ended.

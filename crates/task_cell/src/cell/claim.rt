@@ -9,13 +9,13 @@ ghost use Rattle.task_steps.specs.declared.table.Slot.{Slot};
 ghost use Rattle.task_steps.specs.declared.table.Deed.{Deed};
 ghost use Rattle.task_steps.specs.Rule.{IsOutput};
 ghost use Rattle.task_steps.specs.Steps.{output_first};
-ghost use Rattle.task_cell.specs.Belongs.{IsOf};
 ghost use Rattle.task_cell.specs.PollPaths.{TakePath, TakePathIf};
 ghost use Rattle.task_steps.specs.Standing.{poll_number, way_of, as_task};
 ghost use Rattle.task_cell.specs.Calls.{StandsWith, Goes, GoesWith, position, holds};
 ghost use Rattle.task_steps.specs.Deeds.{act};
+ghost use Rattle.task_cell.specs.Belongs.{IsOf};
 
-use super::{Cell, Party};
+use super::{Party, Share};
 use std::alloc::Allocator;
 use std::sync::Wait;
 use task_core::word::Word;
@@ -24,20 +24,20 @@ use task_steps::places::{Held, take_out};
 use task_steps::poll::HandingOut;
 use task_steps::table::Kept;
 
-impl<R: Drop, F: Yields, Q: Drop, M: Drop, A: Drop, B: Allocator> Cell<R, F, Q, M, A, B> {
+impl<R: Wait + Drop + Copy, F: Yields, Q: Drop, M: Drop, A: Drop, B: Allocator + Copy> Share<R, F, Q, M, A, B> {
     // Hands the output out, and ends the poll. One load.
     fn hand_out(&self, party: &mut Party<F, Kept<F>, A>) -> Held<Kept<F>>
         requires cell { IsOf self.now party.old }
         requires party { (i : ℕ) × (z : Slot F _ A) × StandsWith (TookOutput i) (output_first z []) party.old × IsOutput z }
         ensures { Goes (act HandOutOutput ∷ act EndCall ∷ []) (as_task (poll_number (position party.old))) party.old party.new }
     {
-        let output = take_out(&self.table, &mut party.seat, 1).into_output();
+        let output = take_out(&self.block, &mut party.seat, 1).into_output();
         self.load::<HandingOut>(party);
         output
     }
 }
 
-impl<R: Wait + Drop, F: Yields, Q: Drop, M: Drop, A: Wake, B: Allocator> Cell<R, F, Q, M, A, B> {
+impl<R: Wait + Drop + Copy, F: Yields, Q: Drop, M: Drop, A: Wake, B: Allocator + Copy> Share<R, F, Q, M, A, B> {
     // Takes the stored awaiter, and wakes it, unless its wake wakes the caller.
     pub(crate) fn take_awaiter(&self, party: &mut Party<F, Kept<F>, A>, awaiter: &A)
         requires cell { IsOf self.now party.old }
@@ -47,10 +47,10 @@ impl<R: Wait + Drop, F: Yields, Q: Drop, M: Drop, A: Wake, B: Allocator> Cell<R,
         if let Some(taken) = self.notify(party) {
             if taken.will_wake(awaiter) {
                 taken.discard();
-                self.note_dropped(party);
+                self.ledger().note_dropped(party);
             } else {
                 taken.wake();
-                self.note_woken(party);
+                self.ledger().note_woken(party);
             }
         }
     }

@@ -1,42 +1,30 @@
-//! The end of a call, and the ends of a run whose poll has answered.
-ghost use Rattle.std.specs.Prelude.{◌≡◌, ◌<◌, ℕ, ◌∷◌, [], List, Bool, true, false};
-ghost use Rattle.task_laws.specs.declared.positions.Position.TheVariants.{Polling, Ready, Pending, PendingFutureDropped, OutputInHand, CallEnding};
-ghost use Rattle.task_laws.specs.declared.positions.Answer.{Answer};
-ghost use Rattle.task_laws.specs.declared.positions.Rest.{Rest};
+//! The ends of a run whose poll has answered.
+ghost use Rattle.std.specs.Prelude.{◌≡◌, ◌<◌, ℕ, ◌∷◌, [], List, Bool, true, IfOk, IfErr};
+ghost use Rattle.task_laws.specs.declared.positions.Position.TheVariants.{Polling, Ready, Pending, PendingFutureDropped, OutputInHand};
 ghost use Rattle.task_laws.specs.declared.positions.NotifyingCall.TheVariants.{OfRun};
-ghost use Rattle.task_core.specs.declared.acts.Act.TheVariants.{AnswerReady, DropOutput, EndCall, EndClosed};
+ghost use Rattle.task_core.specs.declared.acts.Act.TheVariants.{AnswerReady, DropOutput, EndClosed};
 ghost use Rattle.task_laws.specs.Table.{notifies};
 ghost use Rattle.task_steps.specs.declared.table.Slot.{Slot};
 ghost use Rattle.task_steps.specs.declared.table.Slot.TheVariants.{Empty};
-ghost use Rattle.task_cell.specs.Belongs.{IsOf};
-ghost use Rattle.task_cell.specs.Calls.{Stands, StandsWith, Goes, GoesWith, position};
+ghost use Rattle.task_cell.specs.Calls.{StandsWith, Goes, GoesWith, limit_of};
 ghost use Rattle.task_steps.specs.Deeds.{row, act};
 ghost use Rattle.task_steps.specs.Rule.{IsFuture};
-ghost use Rattle.task_steps.specs.Standing.{rest_of};
 ghost use Rattle.task_steps.specs.Steps.{future_first, output_first};
-ghost use Rattle.task_cell.specs.RunCalls.{Completes, AnswersPending, EndsPending};
+ghost use Rattle.task_cell.specs.RunCalls.{Completes, AnswersPending, EndsPending, end_of, keeps_share};
+ghost use Rattle.task_cell.specs.Belongs.{IsOf, Leaves, cell_of, limit_in};
 
-use super::{Cell, Party};
+use super::{MaybeShare, Party, Share};
 use std::alloc::Allocator;
 use std::sync::Wait;
 use task_core::Yields;
 use task_core::word::{RUNNING, SCHEDULED, Word};
-use task_steps::common::{DroppingOutput, Ending};
+use task_steps::common::DroppingOutput;
 use task_steps::places::{Held, put_output};
 use task_steps::run::{AnsweringPending, AnsweringReady, Completing, EndingClosed, EndingPending};
 use task_steps::table::Kept;
 use task_steps::words::{PendingEnd, pending_end};
 
-impl<R: Drop, F: Yields, Q: Drop, M: Drop, A: Drop, B: Allocator> Cell<R, F, Q, M, A, B> {
-    // Writes down that the call has ended. One load.
-    pub(crate) fn end(&self, party: &mut Party<F, Kept<F>, A>)
-        requires cell { IsOf self.now party.old }
-        requires party { (answer : Answer) × (r : Rest) × Stands (CallEnding answer r) party.old }
-        ensures { Goes (act EndCall ∷ []) (rest_of (position party.old)) party.old party.new }
-    {
-        self.load::<Ending>(party);
-    }
-
+impl<R: Wait + Drop + Copy, F: Yields, Q: Drop, M: Drop, A: Drop, B: Allocator + Copy> Share<R, F, Q, M, A, B> {
     // The poll has answered Ready: the word that was found. One load.
     pub(crate) fn answer_ready(&self, party: &mut Party<F, Kept<F>, A>) -> Word
         requires cell { IsOf self.now party.old }
@@ -77,32 +65,37 @@ impl<R: Drop, F: Yields, Q: Drop, M: Drop, A: Drop, B: Allocator> Cell<R, F, Q, 
     }
 }
 
-impl<R: Wait + Drop, F: Yields, Q: Drop, M: Drop, A: Drop, B: Allocator> Cell<R, F, Q, M, A, B> {
+impl<R: Wait + Drop + Copy, F: Yields, Q: Drop, M: Drop, A: Drop, B: Allocator + Copy> Share<R, F, Q, M, A, B> {
     // The end step of a run with its output, after its future was dropped. The seat turns, since only the place in front can be written.
     pub(crate) fn complete(&self, party: &mut Party<F, Kept<F>, A>, output: Held<Kept<F>>) -> Word
         requires cell { IsOf self.now party.old }
         requires party { StandsWith Ready (future_first Empty []) party.old }
         ensures { Completes party.old party.new result }
     {
-        let shared = &self.table;
         party.seat.turn();
-        put_output(shared, &mut party.seat, output).discard();
-        match self.attempt::<Completing>(party) {
+        put_output(&self.block, &mut party.seat, output).discard();
+        match self.change::<Completing>(party) {
             Ok(found) => found,
             Err(_) => unreachable!(),
         }
     }
 
-    // The end step of a run without an output, from the word on that its poll left. A task that was closed meanwhile is left to the end step of a closed one.
-    pub(crate) fn end_pending(&self, party: &mut Party<F, Kept<F>, A>, word: Word) -> PendingEnd
-        requires cell { IsOf self.now party.old }
+    // The end step of a run without an output, from the word on that its poll left, and the run's share, if it is left. A task that was closed meanwhile is left to the end step of a closed one.
+    pub(crate) fn end_pending(
+        self,
+        party: &mut Party<F, Kept<F>, A>,
+        word: Word,
+    ) -> Result<(PendingEnd, MaybeShare<R, F, Q, M, A, B>), Self>
+        requires cell { IsOf self party.old × (limit_of party.old ≡ limit_in self) }
         requires room { word.references < 72057594037927935 }
         requires party { (y : Slot F _ A) × StandsWith Pending (future_first y []) party.old × IsFuture y }
-        ensures { (y : Slot F _ A) → StandsWith Pending (future_first y []) party.old → EndsPending (future_first y []) party.old party.new result }
+        ensures path { (y : Slot F _ A) → StandsWith Pending (future_first y []) party.old → EndsPending (future_first y []) party.old party.new (end_of result) }
+        ensures share { IfOk result (λ r. Leaves self r.1 (keeps_share r.0)) }
+        ensures kept { IfErr result (λ share. cell_of share ≡ cell_of self) }
     {
-        match self.attempt_from::<EndingPending>(party, word) {
-            Ok(found) => pending_end(found),
-            Err(_) => PendingEnd::Closed,
+        match self.give_from::<EndingPending>(party, word) {
+            Ok((found, maybe)) => Ok((pending_end(found), maybe)),
+            Err((_, share)) => Err(share),
         }
     }
 }

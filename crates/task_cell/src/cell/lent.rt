@@ -1,34 +1,33 @@
 //! The poll of the future, and the waker that it is lent.
 ghost use Rattle.std.specs.Prelude.{◌≡◌, ℕ, ◌∷◌, [], List};
-ghost use Rattle.std.specs.Arc.{arc_value};
 ghost use Rattle.task_laws.specs.declared.positions.Position.TheVariants.{Polling};
 ghost use Rattle.task_core.specs.Poll.{IfReady};
 ghost use Rattle.task_steps.specs.declared.table.Slot.{Slot};
 ghost use Rattle.task_steps.specs.declared.table.Slot.TheVariants.{Future as Lies};
 ghost use Rattle.task_steps.specs.Rule.{IsFuture};
 ghost use Rattle.task_steps.specs.Steps.{future_first};
-ghost use Rattle.task_cell.specs.Belongs.{IsOf};
 ghost use Rattle.task_cell.specs.Calls.{StandsWith, limit_of};
 ghost use Rattle.task_cell.specs.Handed.{LentTo};
 ghost use Rattle.task_cell.specs.RunCalls.{NotesAnswer};
+ghost use Rattle.task_cell.specs.Belongs.{IsOf, cell_of, limit_in};
 
 use super::waker::WakerSeat;
-use super::{Cell, Party, Runnable, Share, TaskWaker};
+use super::{Party, Runnable, Share, TaskWaker};
 use std::alloc::Allocator;
-use std::sync::{Arc, Wait};
+use std::sync::Wait;
 use task_core::word::Word;
 use task_core::{Future, Poll, Schedule, Wake, Yields};
 use task_steps::table::{Kept, polled};
 
-impl<R: Wait + Drop, F: Yields, Q: Drop, M: Drop, A: Wake, B: Allocator> Cell<R, F, Q, M, A, B> {
+impl<R: Wait + Drop + Copy, F: Yields, Q: Drop, M: Drop, A: Wake, B: Allocator + Copy> Share<R, F, Q, M, A, B> {
     // One poll of a run that has started, with a waker that it is lent; what it answers is written down, on the word that is told last. No lock is held,
     // and the future stays in its place.
     pub(crate) fn poll_future<X: Copy>(
-        share: Share<R, F, Q, M, A, B>,
+        self,
         party: Party<F, Kept<F>, A>,
         around: X,
     ) -> (
-        Share<R, F, Q, M, A, B>,
+        Self,
         Party<F, Kept<F>, A>,
         Poll<F::Output>,
         Word,
@@ -36,27 +35,27 @@ impl<R: Wait + Drop, F: Yields, Q: Drop, M: Drop, A: Wake, B: Allocator> Cell<R,
     where
         F: Future<TaskWaker<R, F, Q, M, A, X, B>>,
         Q: Schedule<Runnable<R, F, Q, M, A, X, B>>,
-        requires cell { IsOf (arc_value share.cell) party }
-        requires limit { limit_of party ≡ (arc_value share.cell).limit }
+        requires cell { IsOf self party }
+        requires limit { limit_of party ≡ limit_in self }
         requires party { (y : Slot F _ A) × StandsWith Polling (future_first y []) party × IsFuture y }
-        ensures share { result.0 ≡ share }
-        ensures once { (f : F) × (g : F) × StandsWith Polling (future_first (Lies f) []) party × NotesAnswer (future_first (Lies g) []) party result.1 result.3 result.2 × LentTo F.polled (arc_value share.cell) around f result.2 g }
+        ensures share { result.0 ≡ self }
+        ensures once { (f : F) × (g : F) × StandsWith Polling (future_first (Lies f) []) party × NotesAnswer (future_first (Lies g) []) party result.1 result.3 result.2 × LentTo F.polled (cell_of self) around f result.2 g }
         ensures meets { IfReady result.2 F.Yields.meets }
     {
         let Party { mut seat } = party;
         let waker = TaskWaker {
-            inner: WakerSeat::lent(share),
+            inner: WakerSeat::lent(self),
             around,
         };
-        let answer = polled(seat.first_mut(&waker.inner.share.cell().table), &waker);
+        let answer = polled(seat.first_mut(&waker.inner.share.block), &waker);
         let (inner, _) = waker.into_parts();
         let share = inner.into_share();
-        let (party, found) = share.cell().note_answer(Party { seat }, &answer);
+        let (party, found) = share.note_answer(Party { seat }, &answer);
         (share, party, answer, found)
     }
 }
 
-impl<R: Wait + Drop, F: Yields, Q: Drop, M: Drop, A: Wake, B: Allocator> Cell<R, F, Q, M, A, B> {
+impl<R: Wait + Drop + Copy, F: Yields, Q: Drop, M: Drop, A: Wake, B: Allocator + Copy> Share<R, F, Q, M, A, B> {
     // Writes down what the poll has answered, so that the party no longer stands where it may poll: the word that was found.
     fn note_answer(
         &self,

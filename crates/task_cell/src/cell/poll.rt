@@ -6,15 +6,15 @@ ghost use Rattle.task_laws.specs.declared.positions.Position.TheVariants.{Answer
 ghost use Rattle.task_laws.specs.declared.positions.NotifyingCall.TheVariants.{OfPoll};
 ghost use Rattle.task_core.specs.declared.acts.Act.TheVariants.{EndCall};
 ghost use Rattle.task_steps.specs.declared.table.Deed.{Deed};
-ghost use Rattle.task_cell.specs.Belongs.{IsOf};
 ghost use Rattle.task_cell.specs.PollPaths.{PollPath, AnswerPath, TakePath, Looks, LooksAgain};
 ghost use Rattle.task_steps.specs.Standing.{poll_number, as_task};
 ghost use Rattle.task_steps.specs.PollScripts.{has_ended as has_ended_word};
 ghost use Rattle.task_steps.specs.Steps.{saw_ended};
 ghost use Rattle.task_cell.specs.Calls.{Stands, Goes, position, deeds};
 ghost use Rattle.task_steps.specs.Deeds.{act};
+ghost use Rattle.task_cell.specs.Belongs.{IsOf};
 
-use super::{Cell, Party};
+use super::{Party, Share};
 use std::alloc::Allocator;
 use std::sync::Wait;
 use task_core::word::Word;
@@ -24,18 +24,18 @@ use task_steps::poll::{Looking, LookingAgain};
 use task_steps::table::Kept;
 use task_steps::words::{has_ended, has_to_wait};
 
-impl<R: Drop, F: Yields, Q: Drop, M: Drop, A: Drop, B: Allocator> Cell<R, F, Q, M, A, B> {
-    // Writes down that the poll has ended. One load.
+impl<R: Wait + Drop + Copy, F: Yields, Q: Drop, M: Drop, A: Drop, B: Allocator + Copy> Share<R, F, Q, M, A, B> {
+    // Writes down that the poll has ended.
     fn end_poll(&self, party: &mut Party<F, Kept<F>, A>)
         requires cell { IsOf self.now party.old }
         requires party { (i : ℕ) × (answer : PollAnswer) × Stands (Answering i answer) party.old }
         ensures { Goes (act EndCall ∷ []) (as_task (poll_number (position party.old))) party.old party.new }
     {
-        self.load::<Ending>(party);
+        self.ledger().note::<Ending>(party);
     }
 }
 
-impl<R: Wait + Drop, F: Yields, Q: Drop, M: Drop, A: Drop, B: Allocator> Cell<R, F, Q, M, A, B> {
+impl<R: Wait + Drop + Copy, F: Yields, Q: Drop, M: Drop, A: Drop, B: Allocator + Copy> Share<R, F, Q, M, A, B> {
     // The first look of a poll, which takes the output where it is there. It answers with the word that it was taken on; the error is a word without an output.
     fn look(&self, party: &mut Party<F, Kept<F>, A>) -> Result<Word, Word>
         requires cell { IsOf self.now party.old }
@@ -43,7 +43,7 @@ impl<R: Wait + Drop, F: Yields, Q: Drop, M: Drop, A: Drop, B: Allocator> Cell<R,
         ensures path { Looks party.old party.new result }
         ensures ended { saw_ended (deeds party.old) ≡ true → (w : State) × (result ≡ Err w) × (has_ended_word w ≡ true) }
     {
-        self.attempt::<Looking>(party)
+        self.change::<Looking>(party)
     }
 
     // The look of a poll that has registered, which takes the output where it is there, and ends the poll where it has to wait.
@@ -52,11 +52,11 @@ impl<R: Wait + Drop, F: Yields, Q: Drop, M: Drop, A: Drop, B: Allocator> Cell<R,
         requires party { (i : ℕ) × Stands (LookingAt i) party.old }
         ensures { LooksAgain party.old party.new result }
     {
-        self.attempt::<LookingAgain>(party)
+        self.change::<LookingAgain>(party)
     }
 }
 
-impl<R: Wait + Drop, F: Yields, Q: Drop, M: Drop, A: Wake, B: Allocator> Cell<R, F, Q, M, A, B> {
+impl<R: Wait + Drop + Copy, F: Yields, Q: Drop, M: Drop, A: Wake, B: Allocator + Copy> Share<R, F, Q, M, A, B> {
     // Answers ready without output: takes the stored awaiter, and ends the poll.
     fn answer_closed(&self, party: &mut Party<F, Kept<F>, A>, awaiter: &A)
         requires cell { IsOf self.now party.old }

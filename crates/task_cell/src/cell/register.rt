@@ -8,13 +8,13 @@ ghost use Rattle.task_steps.specs.declared.table.Slot.{Slot};
 ghost use Rattle.task_steps.specs.declared.table.Slot.TheVariants.{Awaiter};
 ghost use Rattle.task_steps.specs.declared.table.Deed.{Deed};
 ghost use Rattle.task_steps.specs.Rule.{Waits};
-ghost use Rattle.task_cell.specs.Belongs.{IsOf};
 ghost use Rattle.task_cell.specs.PollPaths.{RegisterPath, Registers, BeginsRegister, EndsRegister, dropped_if};
 ghost use Rattle.task_steps.specs.Standing.{poll_number, as_task};
 ghost use Rattle.task_cell.specs.Calls.{Stands, StandsWith, Goes, GoesWith, position, holds};
 ghost use Rattle.task_steps.specs.Deeds.{row, act};
+ghost use Rattle.task_cell.specs.Belongs.{IsOf};
 
-use super::{Cell, Party};
+use super::{Party, Share};
 use std::alloc::Allocator;
 use std::sync::Wait;
 use task_core::word::{AWAITER, NOTIFYING, REGISTERING};
@@ -24,32 +24,32 @@ use task_steps::places::{Held, put_awaiter, take_out};
 use task_steps::poll::{BeginningRegister, EndingNotified, EndingRegister, Refusing};
 use task_steps::table::Kept;
 
-impl<R: Drop, F: Yields, Q: Drop, M: Drop, A: Drop, B: Allocator> Cell<R, F, Q, M, A, B> {
-    // Writes down that the clone was refused, and that the poll ends so. One load.
+impl<R: Wait + Drop + Copy, F: Yields, Q: Drop, M: Drop, A: Drop, B: Allocator + Copy> Share<R, F, Q, M, A, B> {
+    // Writes down that the clone was refused, and that the poll ends so.
     fn note_refused(&self, party: &mut Party<F, Kept<F>, A>)
         requires cell { IsOf self.now party.old }
         requires party { (i : ℕ) × Stands (Registrar i) party.old }
         ensures { Goes (act RefuseClone ∷ act EndCall ∷ []) (as_task (poll_number (position party.old))) party.old party.new }
     {
-        self.load::<Refusing>(party);
+        self.ledger().note::<Refusing>(party);
     }
 
-    // Writes down that the clone which a notifier made useless was dropped. One load.
+    // Writes down that the clone which a notifier made useless was dropped.
     fn note_clone_dropped(&self, party: &mut Party<F, Kept<F>, A>)
         requires cell { IsOf self.now party.old }
         requires party { (i : ℕ) × Stands (UnusedClone i) party.old }
         ensures { Goes (act DropAwaiter ∷ []) (Looking (poll_number (position party.old))) party.old party.new }
     {
-        self.load::<Dropping>(party);
+        self.ledger().note::<Dropping>(party);
     }
 
-    // Writes down that the clone which was taken out again was woken. One load.
+    // Writes down that the clone which was taken out again was woken.
     fn note_clone_woken(&self, party: &mut Party<F, Kept<F>, A>)
         requires cell { IsOf self.now party.old }
         requires party { (i : ℕ) × Stands (CloneInHand i) party.old }
         ensures { Goes (act WakeAwaiter ∷ []) (Looking (poll_number (position party.old))) party.old party.new }
     {
-        self.load::<Waking>(party);
+        self.ledger().note::<Waking>(party);
     }
 
     // Puts the clone into the awaiter slot, and drops what stood there.
@@ -58,10 +58,10 @@ impl<R: Drop, F: Yields, Q: Drop, M: Drop, A: Drop, B: Allocator> Cell<R, F, Q, 
         requires party { (i : ℕ) × (hand : Option ℕ) × (y : Slot F _ A) × StandsWith (after_storing i hand) ((2, y) ∷ []) party.old × Waits hand y }
         ensures { (stood : Bool) × GoesWith (dropped_if stood) (Registered (poll_number (position party.old))) ((2, Awaiter clone.value) ∷ []) party.old party.new }
     {
-        let old = put_awaiter(&self.table, &mut party.seat, clone).into_awaiter();
+        let old = put_awaiter(&self.block, &mut party.seat, clone).into_awaiter();
         if let Some(old) = old {
             old.discard();
-            self.load::<Dropping>(party);
+            self.ledger().note::<Dropping>(party);
         }
     }
 
@@ -72,7 +72,7 @@ impl<R: Drop, F: Yields, Q: Drop, M: Drop, A: Drop, B: Allocator> Cell<R, F, Q, 
         ensures same { holds party.old ≡ (2, Awaiter result.value) ∷ [] }
         ensures path { (v : State) × (v.notifying ≡ true) × Goes (row EndRegisterNotified v ∷ []) (CloneInHand (poll_number (position party.old))) party.old party.new }
     {
-        let Some(clone) = take_out(&self.table, &mut party.seat, 2).into_awaiter() else {
+        let Some(clone) = take_out(&self.block, &mut party.seat, 2).into_awaiter() else {
             unreachable!()
         };
         self.fetch_and::<EndingNotified>(party, !(AWAITER | REGISTERING | NOTIFYING));
@@ -80,14 +80,14 @@ impl<R: Drop, F: Yields, Q: Drop, M: Drop, A: Drop, B: Allocator> Cell<R, F, Q, 
     }
 }
 
-impl<R: Wait + Drop, F: Yields, Q: Drop, M: Drop, A: Wake, B: Allocator> Cell<R, F, Q, M, A, B> {
+impl<R: Wait + Drop + Copy, F: Yields, Q: Drop, M: Drop, A: Wake, B: Allocator + Copy> Share<R, F, Q, M, A, B> {
     // Takes the awaiter slot, and answers whether it did: it does not where there is a notifier.
     fn begin_register(&self, party: &mut Party<F, Kept<F>, A>) -> bool
         requires cell { IsOf self.now party.old }
         requires party { (i : ℕ) × Stands (Registrar i) party.old }
         ensures { BeginsRegister party.old party.new result }
     {
-        match self.attempt::<BeginningRegister>(party) {
+        match self.change::<BeginningRegister>(party) {
             Ok(_) => true,
             Err(_) => false,
         }
@@ -99,7 +99,7 @@ impl<R: Wait + Drop, F: Yields, Q: Drop, M: Drop, A: Wake, B: Allocator> Cell<R,
         requires party { (i : ℕ) × (clone : A) × StandsWith (Registered i) ((2, Awaiter clone) ∷ []) party.old }
         ensures { EndsRegister party.old party.new result }
     {
-        match self.attempt::<EndingRegister>(party) {
+        match self.change::<EndingRegister>(party) {
             Ok(_) => true,
             Err(_) => false,
         }

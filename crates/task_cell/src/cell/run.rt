@@ -1,6 +1,5 @@
 //! The steps of a run and of a Runnable's drop.
 ghost use Rattle.std.specs.Prelude.{◌≡◌, ◌<◌, ℕ, ◌∷◌, []};
-ghost use Rattle.std.specs.Arc.{arc_value};
 ghost use Rattle.task_laws.specs.declared.positions.WithoutPoll.TheVariants.{ClosedRun};
 ghost use Rattle.task_laws.specs.declared.positions.WithoutPoll.{WithoutPoll};
 ghost use Rattle.task_laws.specs.declared.positions.Position.TheVariants.{FutureInHand, Ready, PendingFutureDropped};
@@ -8,7 +7,6 @@ ghost use Rattle.task_core.specs.declared.acts.Act.TheVariants.{AnswerReady, Dro
 ghost use Rattle.task_laws.specs.Table.{notifies};
 ghost use Rattle.task_steps.specs.declared.table.Slot.{Slot};
 ghost use Rattle.task_steps.specs.declared.table.Slot.TheVariants.{Empty};
-ghost use Rattle.task_cell.specs.Belongs.{IsOf};
 ghost use Rattle.task_cell.specs.Handed.{HandedOver};
 ghost use Rattle.task_cell.specs.Calls.{StandsWith, Goes, GoesWith, position, limit_of};
 ghost use Rattle.task_steps.specs.Deeds.{row, act};
@@ -16,10 +14,11 @@ ghost use Rattle.task_steps.specs.Standing.{closing_way};
 ghost use Rattle.task_steps.specs.Rule.{IsFuture};
 ghost use Rattle.task_steps.specs.Steps.{future_first};
 ghost use Rattle.task_cell.specs.RunCalls.{Stores, AnswersPending, ClosesPending, Closes, EndsReady, EndsUnready};
+ghost use Rattle.task_cell.specs.Belongs.{IsOf, cell_of, limit_in};
 
-use super::{Cell, Party, Runnable};
+use super::{Party, Share, Runnable};
 use std::alloc::Allocator;
-use std::sync::{Arc, Wait};
+use std::sync::Wait;
 use task_core::word::{SCHEDULED, Word};
 use task_core::{Schedule, Wake, Yields};
 use task_steps::places::Held;
@@ -27,7 +26,7 @@ use task_steps::run::Unscheduling;
 use task_steps::table::Kept;
 use task_steps::words::{PendingEnd, keeps_output};
 
-impl<R: Drop, F: Yields, Q: Drop, M: Drop, A: Drop, B: Allocator> Cell<R, F, Q, M, A, B> {
+impl<R: Wait + Drop + Copy, F: Yields, Q: Drop, M: Drop, A: Drop, B: Allocator + Copy> Share<R, F, Q, M, A, B> {
     // SCHEDULED is cleared, after the future was dropped: a single fetch, never tried again.
     pub(crate) fn unschedule(&self, party: &mut Party<F, Kept<F>, A>) -> Word
         requires cell { IsOf self.now party.old }
@@ -38,7 +37,7 @@ impl<R: Drop, F: Yields, Q: Drop, M: Drop, A: Drop, B: Allocator> Cell<R, F, Q, 
     }
 }
 
-impl<R: Wait + Drop, F: Yields, Q: Drop, M: Drop, A: Drop, B: Allocator> Cell<R, F, Q, M, A, B> {
+impl<R: Wait + Drop + Copy, F: Yields, Q: Drop, M: Drop, A: Drop, B: Allocator + Copy> Share<R, F, Q, M, A, B> {
     // The end step of a run with its output, which is dropped where nobody will claim it.
     pub(crate) fn store_output(
         &self,
@@ -58,10 +57,10 @@ impl<R: Wait + Drop, F: Yields, Q: Drop, M: Drop, A: Drop, B: Allocator> Cell<R,
     }
 }
 
-impl<R: Drop, F: Yields, Q: Drop, M: Drop, A: Wake, B: Allocator> Cell<R, F, Q, M, A, B> {
+impl<R: Wait + Drop + Copy, F: Yields, Q: Drop, M: Drop, A: Wake, B: Allocator + Copy> Share<R, F, Q, M, A, B> {
     // A run of a task that was closed before, from where it has taken the future over.
-    pub(crate) fn close_run(&self, party: &mut Party<F, Kept<F>, A>)
-        requires cell { IsOf self.now party.old }
+    pub(crate) fn close_run(self, party: &mut Party<F, Kept<F>, A>)
+        requires cell { IsOf self party.old }
         requires party { (y : Slot F _ A) × StandsWith (FutureInHand ClosedRun) (future_first y []) party.old }
         ensures { Closes ((a : A) × A.woken a) party.old party.new }
     {
@@ -71,8 +70,8 @@ impl<R: Drop, F: Yields, Q: Drop, M: Drop, A: Wake, B: Allocator> Cell<R, F, Q, 
     }
 
     // A run of a task that was closed meanwhile, from where its poll answered Pending.
-    pub(crate) fn finish_cleared(&self, party: &mut Party<F, Kept<F>, A>)
-        requires cell { IsOf self.now party.old }
+    pub(crate) fn finish_cleared(self, party: &mut Party<F, Kept<F>, A>)
+        requires cell { IsOf self party.old }
         requires party { (y : Slot F _ A) × StandsWith PendingFutureDropped (future_first y []) party.old }
         ensures { ClosesPending ((a : A) × A.woken a) party.old party.new }
     {
@@ -81,10 +80,10 @@ impl<R: Drop, F: Yields, Q: Drop, M: Drop, A: Wake, B: Allocator> Cell<R, F, Q, 
     }
 }
 
-impl<R: Wait + Drop, F: Yields, Q: Drop, M: Drop, A: Wake, B: Allocator> Cell<R, F, Q, M, A, B> {
+impl<R: Wait + Drop + Copy, F: Yields, Q: Drop, M: Drop, A: Wake, B: Allocator + Copy> Share<R, F, Q, M, A, B> {
     // A run, from where its poll has answered Ready, as the party that polled.
-    pub(crate) fn finish_ready(&self, party: &mut Party<F, Kept<F>, A>, output: Held<Kept<F>>)
-        requires cell { IsOf self.now party.old }
+    pub(crate) fn finish_ready(self, party: &mut Party<F, Kept<F>, A>, output: Held<Kept<F>>)
+        requires cell { IsOf self party.old }
         requires party { (y : Slot F _ A) × StandsWith Ready (future_first y []) party.old }
         ensures { (p : _) (y : Slot F _ A) → GoesWith (act AnswerReady ∷ []) Ready (future_first y []) p party.old → EndsReady ((a : A) × A.woken a) p party.new }
     {
@@ -95,34 +94,37 @@ impl<R: Wait + Drop, F: Yields, Q: Drop, M: Drop, A: Wake, B: Allocator> Cell<R,
 
     // A run, from where its poll has answered Pending on the word `found`. Whether the task was woken meanwhile.
     pub(crate) fn finish_pending<X: Copy>(
-        this: &Arc<Self, B>,
+        self,
         party: &mut Party<F, Kept<F>, A>,
         found: Word,
         around: X,
     ) -> bool
     where
         Q: Schedule<Runnable<R, F, Q, M, A, X, B>>,
-        requires cell { IsOf (arc_value this.now) party.old × (limit_of party.old ≡ (arc_value this.now).limit) }
+        requires cell { IsOf self party.old × (limit_of party.old ≡ limit_in self) }
         requires room { found.references < 72057594037927935 }
         requires party { (p : _) × (y : Slot F _ A) × AnswersPending (future_first y []) p party.old found.closed × IsFuture y }
-        ensures { (p : _) (y : Slot F _ A) → AnswersPending (future_first y []) p party.old found.closed → EndsUnready ((a : A) × A.woken a) (HandedOver Q.scheduled (arc_value this.now) around) result p party.new }
+        ensures { (p : _) (y : Slot F _ A) → AnswersPending (future_first y []) p party.old found.closed → EndsUnready ((a : A) × A.woken a) (HandedOver Q.scheduled (cell_of self) around) result p party.new }
     {
         if found.closed() {
-            this.finish_cleared(party);
+            self.finish_cleared(party);
             return false;
         }
-        match this.end_pending(party, found) {
-            PendingEnd::Closed => {
-                this.finish_cleared(party);
+        match self.end_pending(party, found) {
+            Err(share) => {
+                share.finish_cleared(party);
                 false
             }
-            PendingEnd::Rescheduled => {
-                Cell::hand_on(this, party, around, true);
+            Ok((PendingEnd::Rescheduled, maybe)) => {
+                maybe.share().hand_on(party, around, true);
                 true
             }
-            PendingEnd::Idle => false,
-            PendingEnd::Orphaned => {
-                Cell::hand_on(this, party, around, false);
+            Ok((PendingEnd::Idle, maybe)) => {
+                maybe.none();
+                false
+            }
+            Ok((PendingEnd::Orphaned, maybe)) => {
+                maybe.share().hand_on(party, around, false);
                 false
             }
         }

@@ -1,95 +1,88 @@
-//! Shares of a cell.
-ghost use Rattle.std.specs.Prelude.{◌≡◌, IfOk, IfErr};
-ghost use Rattle.std.specs.Arc.{arc_value};
+//! What a share of a cell shows, and how the last one ends.
+ghost use Rattle.std.specs.Prelude.{◌≡◌, [], true, false};
+ghost use Rattle.task_cell.specs.Belongs.{IsOf, limit_in};
+ghost use Rattle.task_cell.specs.LastWord.{LastWordIf};
+ghost use Rattle.task_cell.specs.Calls.{StandsWith, deeds};
+ghost use Rattle.task_laws.specs.declared.positions.Position.{Position};
+ghost use Rattle.task_steps.specs.Shares.{has_emptied};
 
-use super::Cell;
-use std::alloc::{AllocError, Allocator, Global};
-use std::sync::{Arc, Wait};
-use task_core::{Wake, Yields};
+use super::ledger::Ledger;
+use super::{Cell, MaybeShare, Party, Share};
+use std::alloc::Allocator;
+use std::sync::Wait;
+use task_core::Yields;
+use task_steps::table::Kept;
 
-/// A share of a cell. It must be spent: it goes on with the handle that it is for, or is given up.
-pub struct Share<R, F: Yields, Q, M, A, B: Allocator = Global> {
-    cell: Arc<Cell<R, F, Q, M, A, B>, B>,
-}
-
-impl<R, F: Yields, Q, M, A, B: Allocator> Share<R, F, Q, M, A, B> {
-    // The share of a cell that was just made, or one that was found beside another.
-    pub(crate) fn of(cell: Arc<Cell<R, F, Q, M, A, B>, B>) -> Share<R, F, Q, M, A, B>
-        ensures { result.cell ≡ cell }
+impl<R, F: Yields, Q, M, A, B: Allocator + Copy> Share<R, F, Q, M, A, B> {
+    /// What all handles of the task see.
+    pub fn cell(&self) -> &Cell<R, Q, M, B>
+        ensures { result.now ≡ self.now.block.value }
     {
-        Share { cell }
+        self.block.value()
     }
 
-    /// The cell.
-    pub fn cell(&self) -> &Arc<Cell<R, F, Q, M, A, B>, B>
-        ensures { result.now ≡ self.now.cell }
+    /// What the builder was given as metadata. It waits for nobody.
+    pub fn metadata(&self) -> &M
+        ensures { result.now ≡ self.now.block.value.metadata }
     {
-        &self.cell
-    }
-}
-
-impl<R: Drop, F: Yields, Q: Drop, M: Drop, A: Drop, B: Allocator> Share<R, F, Q, M, A, B> {
-    /// Gives the share up.
-    pub fn give_up(self) {
-        let Share { cell } = self;
-        drop(cell);
+        &self.cell().metadata
     }
 
-    /// The cell, by its last share; or the share as it was, where another one is left.
-    pub fn try_unwrap(self) -> Result<Cell<R, F, Q, M, A, B>, Self>
-        ensures last { IfOk result (λ cell. cell ≡ arc_value self.cell) }
-        ensures shared { IfErr result (λ share. share ≡ self) }
+    // What notes the private acts of a call, also once the share is given up.
+    pub(crate) fn ledger(&self) -> Ledger<R, F, Q, M, A, B>
+        ensures { result.ledger.id ≡ self.now.block.id }
     {
-        let Share { cell } = self;
-        match Arc::try_unwrap(cell) {
-            Ok(cell) => Ok(cell),
-            Err(cell) => Err(Share { cell }),
+        Ledger {
+            ledger: self.block.ledger(),
         }
     }
 
-    /// Gives up a share that may be the last. The last one is taken apart after a load, and makes no atomic step.
-    pub fn leave(self) {
-        match self.try_unwrap() {
-            Ok(cell) => drop(cell),
-            Err(share) => share.give_up(),
-        }
+    // Gives the share of a lent waker up, which nobody takes back: the cell stays for ever.
+    pub(crate) fn leak(self) {
+        let Share { block } = self;
+        block.leak();
     }
 }
 
-/// That a share was refused. It must be spent: it ends the gain that asked for the share.
-pub(crate) struct RefusedShare {
-    error: AllocError,
-}
-
-impl RefusedShare {
-    // Spends it.
-    pub(crate) fn end(self) {
-        let RefusedShare { error: _ } = self;
-    }
-}
-
-impl<R, F: Yields, Q, M, A, B: Allocator> Cell<R, F, Q, M, A, B> {
-    // One more share of the cell, or that it was refused.
-    pub(crate) fn try_share(this: &Arc<Self, B>) -> Result<Share<R, F, Q, M, A, B>, RefusedShare>
-        ensures { IfOk result (λ share. arc_value share.cell ≡ arc_value this.now) }
+impl<R: Wait + Drop + Copy, F: Yields, Q: Drop, M: Drop, A: Drop, B: Allocator + Copy> Share<R, F, Q, M, A, B> {
+    // Ends the last share, of a party that has emptied the places. The cell ends too, unless a schedule call holds it. The last word, and what it means.
+    pub(crate) fn close(self, party: &mut Party<F, Kept<F>, A>) -> Option<u64>
+        requires cell { IsOf self party.old }
+        requires party { (at : Position) × StandsWith at [] party.old }
+        requires last { has_emptied (deeds party.old) ≡ true }
+        ensures party { (party.new.seat.block ≡ party.old.seat.block) × (party.new.seat.me ≡ party.old.seat.me) }
+        ensures word { LastWordIf (limit_in self) result party.old }
     {
-        match Arc::try_clone(this) {
-            Ok(cell) => Ok(Share { cell }),
-            Err(error) => Err(RefusedShare { error }),
-        }
+        let alloc = self.cell().alloc;
+        let Share { block } = self;
+        let whole = block.close(&mut party.seat)?.into_box(alloc);
+        let inner = Box::into_inner(whole);
+        let word = inner.word;
+        drop(inner);
+        Some(word)
     }
 }
 
-impl<R: Wait + Drop, F: Yields, Q: Drop, M: Drop, A: Wake, B: Allocator> Cell<R, F, Q, M, A, B> {
-    // One more share of the cell. It asks for no memory; where it is refused all the same, it is tried again.
-    pub(crate) fn share(this: &Arc<Self, B>) -> Share<R, F, Q, M, A, B>
-        ensures { arc_value result.cell ≡ arc_value this.now }
+impl<R, F: Yields, Q, M, A, B: Allocator + Copy> MaybeShare<R, F, Q, M, A, B> {
+    // The share, where the step made or left one.
+    pub(crate) fn share(self) -> Share<R, F, Q, M, A, B>
+        requires { self.maybe.there ≡ true }
+        ensures { (result.block.id ≡ self.maybe.id) × (result.block.key ≡ self.maybe.key) × (result.block.value ≡ self.maybe.value) }
     {
-        for _ in this.rt.forever() {
-            if let Ok(cell) = Arc::try_clone(this) {
-                return Share { cell };
-            }
+        let MaybeShare { maybe } = self;
+        Share {
+            block: maybe.share(),
         }
-        unreachable!()
+    }
+
+    // There is none: the party may note what it does next, and no more.
+    pub(crate) fn none(self) -> Ledger<R, F, Q, M, A, B>
+        requires { self.maybe.there ≡ false }
+        ensures { result.ledger.id ≡ self.maybe.id }
+    {
+        let MaybeShare { maybe } = self;
+        Ledger {
+            ledger: maybe.none(),
+        }
     }
 }

@@ -3,19 +3,20 @@ ghost use Rattle.std.specs.Prelude.{◌≡◌, ℕ, ◌∷◌, [], not, true};
 ghost use Rattle.task_core.specs.Word.{State, is_open};
 ghost use Rattle.task_core.specs.declared.acts.Act.TheVariants.{LookFinished, EndCall};
 ghost use Rattle.task_steps.specs.Steps.{saw_over};
-ghost use Rattle.task_cell.specs.Belongs.{IsOf};
 ghost use Rattle.task_cell.specs.Calls.{Stands, Goes, position, deeds};
 ghost use Rattle.task_steps.specs.Deeds.{row, act};
 ghost use Rattle.task_steps.specs.Standing.{as_task};
+ghost use Rattle.task_cell.specs.Belongs.{IsOf};
 
-use super::{Cell, Party};
+use super::{Party, Share};
 use std::alloc::Allocator;
+use std::sync::Wait;
 use task_core::Yields;
 use task_core::word::Word;
 use task_steps::table::Kept;
 use task_steps::task::LookingFinished;
 
-impl<R: Drop, F: Yields, Q: Drop, M: Drop, A: Drop, B: Allocator> Cell<R, F, Q, M, A, B> {
+impl<R: Wait + Drop + Copy, F: Yields, Q: Drop, M: Drop, A: Drop, B: Allocator + Copy> Share<R, F, Q, M, A, B> {
     /// Whether the task is completed or closed. It is one load, and waits for nobody.
     pub fn is_finished(&self, party: &mut Party<F, Kept<F>, A>) -> bool
         requires cell { IsOf self.now party.old }
@@ -28,6 +29,6 @@ impl<R: Drop, F: Yields, Q: Drop, M: Drop, A: Drop, B: Allocator> Cell<R, F, Q, 
 
     /// The word as one load finds it. No party notes it, and the next moment it may be another; only a task that is over stays so. It waits for nobody.
     pub fn word(&self) -> Word {
-        Word::from_bits(self.table.peek())
+        Word::from_bits(self.block.peek())
     }
 }

@@ -1,13 +1,12 @@
 //! Wakers, as the cell hands them out.
 ghost use Rattle.std.specs.Prelude.{◌≡◌, ℕ, [], ◌∷◌, IfSome, IfOk, IfErr};
-ghost use Rattle.std.specs.Arc.{arc_value};
 ghost use Rattle.task_steps.specs.Rule.{view, fresh};
-ghost use Rattle.task_cell.specs.Belongs.{IsOf};
 ghost use Rattle.task_cell.specs.Calls.{Stands, limit_of};
 ghost use Rattle.task_steps.specs.Standing.{as_waker, as_deliverer};
-ghost use Rattle.task_cell.specs.Wakers.{table_of, me_of, waker_me};
+ghost use Rattle.task_cell.specs.Wakers.{block_of, me_of, waker_me};
+ghost use Rattle.task_cell.specs.Belongs.{IsOf, cell_of, limit_in};
 
-use super::{Cell, Party, Runnable, Share};
+use super::{Party, Runnable, Share};
 use std::alloc::{Allocator, Global};
 use std::sync::Wait;
 use task_core::{Schedule, Wake, Yields};
@@ -22,21 +21,21 @@ pub(crate) enum Hold<F, T, A> {
 }
 
 /// A share of a cell, and what a waker holds.
-pub(crate) struct WakerSeat<R, F: Yields, Q, M, A, B: Allocator> {
+pub(crate) struct WakerSeat<R, F: Yields, Q, M, A, B: Allocator + Copy> {
     pub(crate) share: Share<R, F, Q, M, A, B>,
     pub(crate) hold: Hold<F, Kept<F>, A>,
-    ghost seated: { table_of hold (arc_value share.cell).table.table_id ≡ (arc_value share.cell).table.table_id },
-    ghost placed: { me_of hold (waker_me (arc_value share.cell).limit) ≡ waker_me (arc_value share.cell).limit },
+    ghost seated: { block_of hold share.block.id ≡ share.block.id },
+    ghost placed: { me_of hold (waker_me share.block.key) ≡ waker_me share.block.key },
 }
 
-impl<R, F: Yields, Q, M, A, B: Allocator> WakerSeat<R, F, Q, M, A, B> {
+impl<R, F: Yields, Q, M, A, B: Allocator + Copy> WakerSeat<R, F, Q, M, A, B> {
     // A waker that was gained.
     pub(crate) fn owned(
         share: Share<R, F, Q, M, A, B>,
         party: Party<F, Kept<F>, A>,
     ) -> WakerSeat<R, F, Q, M, A, B>
-        requires cell { IsOf (arc_value share.cell) party }
-        requires party { party.seat.me ≡ (view (arc_value share.cell).limit (fresh as_waker ∷ []), []) }
+        requires cell { IsOf share party }
+        requires party { party.seat.me ≡ (view (limit_in share) (fresh as_waker ∷ []), []) }
         ensures { result.share ≡ share }
     {
         WakerSeat {
@@ -76,7 +75,7 @@ impl<R, F: Yields, Q, M, A, B: Allocator> WakerSeat<R, F, Q, M, A, B> {
         self,
     ) -> Result<(Share<R, F, Q, M, A, B>, Party<F, Kept<F>, A>), WakerSeat<R, F, Q, M, A, B>>
         ensures share { IfOk result (λ owned. owned.0 ≡ self.share) }
-        ensures cell { IfOk result (λ owned. IsOf (arc_value owned.0.cell) owned.1 × (limit_of owned.1 ≡ (arc_value owned.0.cell).limit)) }
+        ensures cell { IfOk result (λ owned. IsOf owned.0 owned.1 × (limit_of owned.1 ≡ limit_in owned.0)) }
         ensures party { IfOk result (λ owned. Stands as_waker owned.1) }
         ensures lent { IfErr result (λ lent. (lent.share ≡ self.share) × (lent.hold ≡ Hold.Lent)) }
     {
@@ -91,7 +90,7 @@ impl<R, F: Yields, Q, M, A, B: Allocator> WakerSeat<R, F, Q, M, A, B> {
     }
 }
 
-impl<R: Wait + Drop, F: Yields, Q: Drop, M: Drop, A: Wake, B: Allocator> WakerSeat<
+impl<R: Wait + Drop + Copy, F: Yields, Q: Drop, M: Drop, A: Wake, B: Allocator + Copy> WakerSeat<
     R,
     F,
     Q,
@@ -101,18 +100,19 @@ impl<R: Wait + Drop, F: Yields, Q: Drop, M: Drop, A: Wake, B: Allocator> WakerSe
 > {
     // One more waker, which is owned.
     pub(crate) fn gain(&self) -> Option<WakerSeat<R, F, Q, M, A, B>>
-        ensures { IfSome result (λ gained. arc_value gained.share.cell ≡ arc_value self.now.share.cell) }
+        ensures { IfSome result (λ gained. cell_of gained.share ≡ cell_of self.now.share) }
     {
-        let (share, party) = Cell::gain_by_reference(self.share.cell())?;
+        let (share, party) = self.share.gain_by_reference()?;
         Some(WakerSeat::owned(share, party))
     }
 
-    // Wakes the task: the deliverer, where it was idle.
-    pub(crate) fn wake(&self) -> Option<Party<F, Kept<F>, A>>
-        ensures cell { IfSome result (λ d. IsOf (arc_value self.now.share.cell) d × (limit_of d ≡ (arc_value self.now.share.cell).limit)) }
-        ensures deliverer { IfSome result (λ d. Stands as_deliverer d) }
+    // Wakes the task: a share for its Runnable, and the deliverer, where it was idle.
+    pub(crate) fn wake(&self) -> Option<(Share<R, F, Q, M, A, B>, Party<F, Kept<F>, A>)>
+        ensures share { IfSome result (λ woken. cell_of woken.0 ≡ cell_of self.now.share) }
+        ensures cell { IfSome result (λ woken. IsOf self.now.share woken.1 × (limit_of woken.1 ≡ limit_in self.now.share)) }
+        ensures deliverer { IfSome result (λ woken. Stands as_deliverer woken.1) }
     {
-        self.share.cell().wake_by_reference()
+        self.share.wake_by_reference()
     }
 }
 
@@ -120,13 +120,13 @@ impl<R: Wait + Drop, F: Yields, Q: Drop, M: Drop, A: Wake, B: Allocator> WakerSe
 ///
 /// The waker that a poll is lent holds none, and is taken back when the poll has answered. No call on a waker waits for another thread.
 pub struct TaskWaker<
-    R: Wait + Drop,
+    R: Wait + Drop + Copy,
     F: Yields,
     Q: Drop,
     M: Drop,
     A: Wake,
     X: Copy,
-    B: Allocator = Global,
+    B: Allocator + Copy = Global,
 >
 where
     Q: Schedule<Runnable<R, F, Q, M, A, X, B>>,
@@ -135,7 +135,7 @@ where
     pub(crate) around: X,
 }
 
-impl<R: Wait + Drop, F: Yields, Q: Drop, M: Drop, A: Wake, X: Copy, B: Allocator> Drop
+impl<R: Wait + Drop + Copy, F: Yields, Q: Drop, M: Drop, A: Wake, X: Copy, B: Allocator + Copy> Drop
     for TaskWaker<R, F, Q, M, A, X, B>
 where
     Q: Schedule<Runnable<R, F, Q, M, A, X, B>>,
@@ -144,16 +144,16 @@ where
         let (inner, around) = self.into_parts();
         match inner.into_owned() {
             Ok((share, mut party)) => {
-                Cell::drop_waker(share.cell(), &mut party, around);
+                share.drop_waker(&mut party, around);
                 party.let_go();
-                share.give_up();
             }
-            Err(lent) => lent.into_share().give_up(),
+            // A lent waker is taken apart when its poll has answered, and never dropped.
+            Err(lent) => lent.into_share().leak(),
         }
     }
 }
 
-impl<R: Wait + Drop, F: Yields, Q: Drop, M: Drop, A: Wake, X: Copy, B: Allocator> TaskWaker<
+impl<R: Wait + Drop + Copy, F: Yields, Q: Drop, M: Drop, A: Wake, X: Copy, B: Allocator + Copy> TaskWaker<
     R,
     F,
     Q,

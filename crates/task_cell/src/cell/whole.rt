@@ -1,13 +1,11 @@
 //! A whole run.
 ghost use Rattle.std.specs.Prelude.{◌≡◌, ◌<◌, ℕ, ◌∷◌, [], List};
-ghost use Rattle.std.specs.Arc.{arc_value};
 ghost use Rattle.task_laws.specs.declared.positions.Position.TheVariants.{FutureInHand, Ready};
 ghost use Rattle.task_laws.specs.declared.positions.WithoutPoll.TheVariants.{ClosedRun};
 ghost use Rattle.task_steps.specs.declared.table.Deed.{Deed};
 ghost use Rattle.task_steps.specs.declared.table.Slot.{Slot};
 ghost use Rattle.task_steps.specs.Rule.{IsFuture};
 ghost use Rattle.task_steps.specs.Steps.{future_first};
-ghost use Rattle.task_cell.specs.Belongs.{IsOf};
 ghost use Rattle.task_cell.specs.Handed.{HandedOver, PolledOnce};
 ghost use Rattle.task_cell.specs.Calls.{Stands, StandsWith, Goes, GoesWith, limit_of};
 ghost use Rattle.task_core.specs.declared.acts.Act.TheVariants.{AnswerReady};
@@ -16,55 +14,49 @@ ghost use Rattle.task_steps.specs.Standing.{as_runnable, as_ended};
 ghost use Rattle.task_cell.specs.Starts.{TakesUp};
 ghost use Rattle.task_cell.specs.RunPaths.{RunPath};
 ghost use Rattle.task_cell.specs.RunCalls.{AnswersPending, Closes, EndsReady, EndsUnready};
+ghost use Rattle.task_cell.specs.Belongs.{IsOf, cell_of, limit_in};
 
-use super::{Cell, Party, Runnable, Share, TaskWaker};
+use super::{Party, Runnable, Share, TaskWaker};
 use std::alloc::Allocator;
-use std::sync::{Arc, Wait};
+use std::sync::Wait;
 use task_core::word::Word;
 use task_core::{Future, Poll, Schedule, Wake, Yields};
 use task_steps::places::Held;
 use task_steps::table::Kept;
 
-impl<R: Wait + Drop, F: Yields, Q: Drop, M: Drop, A: Wake, B: Allocator> Cell<R, F, Q, M, A, B> {
-    /// Runs the task once. A task that was closed is not polled: its future is dropped. Otherwise the future is polled once, and the run ends by what it answered.
-    ///
-    /// True where the task was woken meanwhile, and its Runnable was handed to the schedule value.
-    pub fn run<X: Copy>(
-        share: Share<R, F, Q, M, A, B>,
+impl<R: Wait + Drop + Copy, F: Yields, Q: Drop, M: Drop, A: Wake, B: Allocator + Copy> Share<R, F, Q, M, A, B> {
+    // Runs the task once. A task that was closed is not polled: its future is dropped. Otherwise the future is polled once, and the run ends by what it answered. The share goes with the run, or on with the Runnable that the run hands over.
+    //
+    // True where the task was woken meanwhile, and its Runnable was handed to the schedule value.
+    pub(crate) fn run<X: Copy>(
+        self,
         party: Party<F, Kept<F>, A>,
         around: X,
-    ) -> (Share<R, F, Q, M, A, B>, Party<F, Kept<F>, A>, bool)
+    ) -> (Party<F, Kept<F>, A>, bool)
     where
         F: Future<TaskWaker<R, F, Q, M, A, X, B>>,
         Q: Schedule<Runnable<R, F, Q, M, A, X, B>>,
-        requires cell { IsOf (arc_value share.cell) party × (limit_of party ≡ (arc_value share.cell).limit) }
+        requires cell { IsOf self party × (limit_of party ≡ limit_in self) }
         requires party { Stands as_runnable party }
-        ensures share { result.0 ≡ share }
-        ensures path { (path : List Deed) × RunPath (PolledOnce F.polled (arc_value share.cell) around) ((a : A) × A.woken a) (HandedOver Q.scheduled (arc_value share.cell) around) result.2 path × Goes path as_ended party result.1 }
+        ensures path { (path : List Deed) × RunPath (PolledOnce F.polled (cell_of self) around) ((a : A) × A.woken a) (HandedOver Q.scheduled (cell_of self) around) result.1 path × Goes path as_ended party result.0 }
     {
-        let (party, started) = share.cell().begin_run(party);
+        let (party, started) = self.begin_run(party);
         if !started {
-            let ended = share.cell().end_closed_run(party);
-            return (share, ended, false);
+            return (self.end_closed_run(party), false);
         }
-        let (share, party, answer, found) = Cell::poll_future(share, party, around);
+        let (share, party, answer, found) = self.poll_future(party, around);
         match answer {
             Poll::Ready(output) => {
-                let ended = share
-                    .cell()
-                    .end_ready_run(party, Held::new(Kept { output }));
-                (share, ended, false)
+                let ended = share.end_ready_run(party, Held::new(Kept { output }));
+                (ended, false)
             }
-            Poll::Pending => {
-                let (ended, woken) = Cell::end_pending_run(share.cell(), party, found, around);
-                (share, ended, woken)
-            }
+            Poll::Pending => share.end_pending_run(party, found, around),
         }
     }
 }
 
 // The parts of a run, each of a party by value.
-impl<R: Wait + Drop, F: Yields, Q: Drop, M: Drop, A: Wake, B: Allocator> Cell<R, F, Q, M, A, B> {
+impl<R: Wait + Drop + Copy, F: Yields, Q: Drop, M: Drop, A: Wake, B: Allocator + Copy> Share<R, F, Q, M, A, B> {
     fn begin_run(&self, mut party: Party<F, Kept<F>, A>) -> (Party<F, Kept<F>, A>, bool)
         requires cell { IsOf self.now party }
         requires party { Stands as_runnable party }
@@ -74,8 +66,8 @@ impl<R: Wait + Drop, F: Yields, Q: Drop, M: Drop, A: Wake, B: Allocator> Cell<R,
         (party, started)
     }
 
-    fn end_closed_run(&self, mut party: Party<F, Kept<F>, A>) -> Party<F, Kept<F>, A>
-        requires cell { IsOf self.now party }
+    fn end_closed_run(self, mut party: Party<F, Kept<F>, A>) -> Party<F, Kept<F>, A>
+        requires cell { IsOf self party }
         requires party { (y : Slot F _ A) × StandsWith (FutureInHand ClosedRun) (future_first y []) party }
         ensures { Closes ((a : A) × A.woken a) party result }
     {
@@ -84,11 +76,11 @@ impl<R: Wait + Drop, F: Yields, Q: Drop, M: Drop, A: Wake, B: Allocator> Cell<R,
     }
 
     fn end_ready_run(
-        &self,
+        self,
         mut party: Party<F, Kept<F>, A>,
         output: Held<Kept<F>>,
     ) -> Party<F, Kept<F>, A>
-        requires cell { IsOf self.now party }
+        requires cell { IsOf self party }
         requires party { (y : Slot F _ A) × StandsWith Ready (future_first y []) party }
         ensures { (p : _) (y : Slot F _ A) → GoesWith (act AnswerReady ∷ []) Ready (future_first y []) p party → EndsReady ((a : A) × A.woken a) p result }
     {
@@ -97,19 +89,19 @@ impl<R: Wait + Drop, F: Yields, Q: Drop, M: Drop, A: Wake, B: Allocator> Cell<R,
     }
 
     fn end_pending_run<X: Copy>(
-        this: &Arc<Self, B>,
+        self,
         mut party: Party<F, Kept<F>, A>,
         found: Word,
         around: X,
     ) -> (Party<F, Kept<F>, A>, bool)
     where
         Q: Schedule<Runnable<R, F, Q, M, A, X, B>>,
-        requires cell { IsOf (arc_value this.now) party × (limit_of party ≡ (arc_value this.now).limit) }
+        requires cell { IsOf self party × (limit_of party ≡ limit_in self) }
         requires room { found.references < 72057594037927935 }
         requires party { (p : _) × (y : Slot F _ A) × AnswersPending (future_first y []) p party found.closed × IsFuture y }
-        ensures { (p : _) (y : Slot F _ A) → AnswersPending (future_first y []) p party found.closed → EndsUnready ((a : A) × A.woken a) (HandedOver Q.scheduled (arc_value this.now) around) result.1 p result.0 }
+        ensures { (p : _) (y : Slot F _ A) → AnswersPending (future_first y []) p party found.closed → EndsUnready ((a : A) × A.woken a) (HandedOver Q.scheduled (cell_of self) around) result.1 p result.0 }
     {
-        let woken = Cell::finish_pending(this, &mut party, found, around);
+        let woken = self.finish_pending(&mut party, found, around);
         (party, woken)
     }
 }

@@ -1,5 +1,5 @@
 //! How a task is shown, and a Runnable.
-use crate::cell::{Cell, Runnable};
+use crate::cell::{Runnable, Share};
 use std::alloc::Allocator;
 use std::fmt;
 use std::sync::Wait;
@@ -28,14 +28,14 @@ impl<'a, M: fmt::Debug> fmt::Debug for Header<'a, M> {
     }
 }
 
-impl<R: Drop, F: Yields, Q: Drop, M: Drop + fmt::Debug, A: Drop, B: Allocator> Cell<
-    R,
-    F,
-    Q,
-    M,
-    A,
-    B,
-> {
+impl<
+    R: Wait + Drop + Copy,
+    F: Yields,
+    Q: Drop,
+    M: Drop + fmt::Debug,
+    A: Drop,
+    B: Allocator + Copy,
+> Share<R, F, Q, M, A, B> {
     /// Shows a handle of this name: the word as one load finds it, and the metadata. No party notes that load.
     pub fn show<W: fmt::Write>(&self, f: &mut fmt::Formatter<W>, name: &str) -> fmt::Result {
         let header = Header {
@@ -48,15 +48,15 @@ impl<R: Drop, F: Yields, Q: Drop, M: Drop + fmt::Debug, A: Drop, B: Allocator> C
 
 /// Shows the word as one load finds it, and the metadata. No party notes that load.
 impl<
-    R: Wait + Drop,
+    R: Wait + Drop + Copy,
     F: Yields,
     Q: Drop,
     M: Drop + fmt::Debug,
     A: Wake,
     X: Copy,
-    B: Allocator,
+    B: Allocator + Copy,
 > fmt::Debug for Runnable<R, F, Q, M, A, X, B> {
     fn fmt<W: fmt::Write>(&self, f: &mut fmt::Formatter<W>) -> fmt::Result {
-        self.inner.share.cell().show(f, "Runnable")
+        self.inner.share.show(f, "Runnable")
     }
 }

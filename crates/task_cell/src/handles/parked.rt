@@ -2,7 +2,7 @@
 //! They must be unparked again; nothing is dropped of one that is forgotten.
 
 ghost use Rattle.std.specs.Prelude.{◌≡◌};
-ghost use Rattle.std.specs.Arc.{arc_value};
+ghost use Rattle.task_cell.specs.Belongs.{cell_of};
 
 use crate::cell::waker::WakerSeat;
 use crate::cell::{Runnable, RunnableSeat, TaskWaker};
@@ -11,11 +11,11 @@ use std::sync::Wait;
 use task_core::{Schedule, Wake, Yields};
 
 /// A Runnable without the surroundings. It counts as the Runnable, and can't be dropped: it is unparked.
-pub struct ParkedRunnable<R, F: Yields, Q, M, A, B: Allocator = Global> {
+pub struct ParkedRunnable<R, F: Yields, Q, M, A, B: Allocator + Copy = Global> {
     pub(crate) inner: RunnableSeat<R, F, Q, M, A, B>,
 }
 
-impl<R: Wait + Drop, F: Yields, Q: Drop, M: Drop, A: Wake, B: Allocator> ParkedRunnable<
+impl<R: Wait + Drop + Copy, F: Yields, Q: Drop, M: Drop, A: Wake, B: Allocator + Copy> ParkedRunnable<
     R,
     F,
     Q,
@@ -25,9 +25,9 @@ impl<R: Wait + Drop, F: Yields, Q: Drop, M: Drop, A: Wake, B: Allocator> ParkedR
 > {
     /// The metadata that the builder was given.
     pub fn metadata(&self) -> &M
-        ensures { result.now ≡ (arc_value self.now.inner.share.cell).metadata }
+        ensures { result.now ≡ self.now.inner.share.block.value.metadata }
     {
-        self.inner.share.cell().metadata()
+        self.inner.share.metadata()
     }
 
     /// The Runnable again, with these surroundings. It makes no step.
@@ -41,11 +41,11 @@ impl<R: Wait + Drop, F: Yields, Q: Drop, M: Drop, A: Wake, B: Allocator> ParkedR
 }
 
 /// A waker without the surroundings. It counts as the waker, and can't be dropped: it is unparked.
-pub struct ParkedWaker<R, F: Yields, Q, M, A, B: Allocator = Global> {
+pub struct ParkedWaker<R, F: Yields, Q, M, A, B: Allocator + Copy = Global> {
     pub(crate) inner: WakerSeat<R, F, Q, M, A, B>,
 }
 
-impl<R: Wait + Drop, F: Yields, Q: Drop, M: Drop, A: Wake, B: Allocator> ParkedWaker<
+impl<R: Wait + Drop + Copy, F: Yields, Q: Drop, M: Drop, A: Wake, B: Allocator + Copy> ParkedWaker<
     R,
     F,
     Q,

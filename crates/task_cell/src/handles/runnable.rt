@@ -1,18 +1,18 @@
 //! The calls of a Runnable.
 ghost use Rattle.std.specs.Prelude.{◌≡◌, IfSome, List, false};
-ghost use Rattle.std.specs.Arc.{arc_value};
 ghost use Rattle.task_steps.specs.declared.table.Deed.{Deed};
 ghost use Rattle.task_cell.specs.Handed.{HandedOver, PolledOnce};
 ghost use Rattle.task_cell.specs.RunPaths.{RunPath};
+ghost use Rattle.task_cell.specs.Belongs.{cell_of};
 
 use super::parked::ParkedRunnable;
 use crate::cell::waker::WakerSeat;
-use crate::cell::{Cell, Runnable, TaskWaker};
+use crate::cell::{Runnable, TaskWaker};
 use std::alloc::Allocator;
 use std::sync::Wait;
 use task_core::{Future, Schedule, Wake, Yields};
 
-impl<R: Wait + Drop, F: Yields, Q: Drop, M: Drop, A: Wake, X: Copy, B: Allocator> Runnable<
+impl<R: Wait + Drop + Copy, F: Yields, Q: Drop, M: Drop, A: Wake, X: Copy, B: Allocator + Copy> Runnable<
     R,
     F,
     Q,
@@ -23,9 +23,9 @@ impl<R: Wait + Drop, F: Yields, Q: Drop, M: Drop, A: Wake, X: Copy, B: Allocator
 > {
     /// The metadata that the builder was given.
     pub fn metadata(&self) -> &M
-        ensures { result.now ≡ (arc_value self.now.inner.share.cell).metadata }
+        ensures { result.now ≡ self.now.inner.share.block.value.metadata }
     {
-        self.inner.share.cell().metadata()
+        self.inner.share.metadata()
     }
 
     /// The surroundings that the handle carries.
@@ -35,14 +35,14 @@ impl<R: Wait + Drop, F: Yields, Q: Drop, M: Drop, A: Wake, X: Copy, B: Allocator
         self.around
     }
 
-    /// A waker of the task, which holds a reference. `None` where the count of references is at the limit, or where a share of the cell was refused; nothing has changed then.
+    /// A waker of the task, which holds a reference. `None` where the count of references is at the limit; nothing has changed then.
     pub fn waker(&self) -> Option<TaskWaker<R, F, Q, M, A, X, B>>
     where
         Q: Schedule<Runnable<R, F, Q, M, A, X, B>>,
-        ensures cell { IfSome result (λ waker. arc_value waker.inner.share.cell ≡ arc_value self.now.inner.share.cell) }
+        ensures cell { IfSome result (λ waker. cell_of waker.inner.share ≡ cell_of self.now.inner.share) }
         ensures around { IfSome result (λ waker. waker.around ≡ self.now.around) }
     {
-        let (share, party) = Cell::gain_by_reference(self.inner.share.cell())?;
+        let (share, party) = self.inner.share.gain_by_reference()?;
         Some(TaskWaker {
             inner: WakerSeat::owned(share, party),
             around: self.around,
@@ -75,13 +75,12 @@ impl<R: Wait + Drop, F: Yields, Q: Drop, M: Drop, A: Wake, X: Copy, B: Allocator
     pub fn schedule(self)
     where
         Q: Schedule<Runnable<R, F, Q, M, A, X, B>>,
-        ensures fact { HandedOver Q.scheduled (arc_value self.inner.share.cell) self.around false }
+        ensures fact { HandedOver Q.scheduled (cell_of self.inner.share) self.around false }
     {
         let (inner, around) = self.into_parts();
         let (share, mut party) = inner.into_party();
-        Cell::schedule(share.cell(), &mut party, around);
+        share.schedule(&mut party, around);
         party.let_go();
-        share.give_up();
     }
 
     /// Runs the task once: polls its future, unless the task was closed. True where the task was woken meanwhile and its Runnable was handed to the schedule value.
@@ -89,18 +88,12 @@ impl<R: Wait + Drop, F: Yields, Q: Drop, M: Drop, A: Wake, X: Copy, B: Allocator
     where
         F: Future<TaskWaker<R, F, Q, M, A, X, B>>,
         Q: Schedule<Runnable<R, F, Q, M, A, X, B>>,
-        ensures path { (path : List Deed) × RunPath (PolledOnce F.polled (arc_value self.inner.share.cell) self.around) ((a : A) × A.woken a) (HandedOver Q.scheduled (arc_value self.inner.share.cell) self.around) result path }
+        ensures path { (path : List Deed) × RunPath (PolledOnce F.polled (cell_of self.inner.share) self.around) ((a : A) × A.woken a) (HandedOver Q.scheduled (cell_of self.inner.share) self.around) result path }
     {
         let (inner, around) = self.into_parts();
         let (share, party) = inner.into_party();
-        let (share, ended, woken) = Cell::run(share, party, around);
+        let (ended, woken) = share.run(party, around);
         ended.let_go();
-        // A run that was woken has handed a Runnable over, which has a share of its own.
-        if woken {
-            share.give_up();
-        } else {
-            share.leave();
-        }
         woken
     }
 }

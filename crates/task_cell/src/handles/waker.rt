@@ -1,14 +1,14 @@
 //! The calls of a waker.
 ghost use Rattle.std.specs.Prelude.{◌≡◌, ⊤, false, IfSome};
-ghost use Rattle.std.specs.Arc.{arc_value};
+ghost use Rattle.task_cell.specs.Belongs.{cell_of};
 
 use super::parked::ParkedWaker;
-use crate::cell::{Cell, Runnable, TaskWaker};
+use crate::cell::{Runnable, TaskWaker};
 use std::alloc::Allocator;
 use std::sync::Wait;
 use task_core::{Schedule, Wake, Yields};
 
-impl<R: Wait + Drop, F: Yields, Q: Drop, M: Drop, A: Wake, X: Copy, B: Allocator> TaskWaker<
+impl<R: Wait + Drop + Copy, F: Yields, Q: Drop, M: Drop, A: Wake, X: Copy, B: Allocator + Copy> TaskWaker<
     R,
     F,
     Q,
@@ -28,14 +28,14 @@ where
 
     /// Wakes the task. A task that is over stays as it is; one that is scheduled will be polled after this call; one that runs is scheduled once more by its run; and of one that is idle, a Runnable is handed to the schedule value, with `woken_while_running` false and the surroundings of this waker. Where these are `()`, and the schedule value drops such Runnables, the task is cancelled.
     pub fn wake_by_ref(&self) {
-        if let Some(deliverer) = self.inner.wake() {
-            Cell::finish_wake(self.inner.share.cell(), deliverer, self.around);
+        if let Some((share, deliverer)) = self.inner.wake() {
+            self.inner.share.finish_wake(share, deliverer, self.around);
         }
     }
 
-    /// One more waker of the same task, which holds a reference. `None` where the count of references is at the limit, or where a share of the cell was refused; nothing has changed then.
+    /// One more waker of the same task, which holds a reference. `None` where the count of references is at the limit; nothing has changed then.
     pub fn try_clone(&self) -> Option<Self>
-        ensures cell { IfSome result (λ waker. arc_value waker.inner.share.cell ≡ arc_value self.now.inner.share.cell) }
+        ensures cell { IfSome result (λ waker. cell_of waker.inner.share ≡ cell_of self.now.inner.share) }
         ensures around { IfSome result (λ waker. waker.around ≡ self.now.around) }
     {
         let inner = self.inner.gain()?;
@@ -89,7 +89,7 @@ where
 }
 
 /// A waker is an awaiter too, of a Task that other code keeps and polls. What `wake` and `wake_by_ref` say of surroundings `()` holds here too.
-impl<R: Wait + Drop, F: Yields, Q: Drop, M: Drop, A: Wake, X: Copy, B: Allocator> Wake
+impl<R: Wait + Drop + Copy, F: Yields, Q: Drop, M: Drop, A: Wake, X: Copy, B: Allocator + Copy> Wake
     for TaskWaker<R, F, Q, M, A, X, B>
 where
     Q: Schedule<Runnable<R, F, Q, M, A, X, B>>,
@@ -98,7 +98,7 @@ where
 
     ghost woken_by_ref = { λ _. ⊤ };
 
-    ghost cloned = { λ waker clone. IfSome clone (λ c. (arc_value c.inner.share.cell ≡ arc_value waker.inner.share.cell) × (c.around ≡ waker.around)) };
+    ghost cloned = { λ waker clone. IfSome clone (λ c. (cell_of c.inner.share ≡ cell_of waker.inner.share) × (c.around ≡ waker.around)) };
 
     ghost compared = { λ _ _ answer. answer ≡ false };
 

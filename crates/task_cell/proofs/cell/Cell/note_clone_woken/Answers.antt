@@ -1,6 +1,0 @@
-use Rattle.task_cell.proofs.Vocabulary.{[], CloneInHand, wakes_clone}
-use Rattle.task_cell.proofs.Steps.{may_make}
-use Rattle.task_cell.proofs.cell.Cell.note_clone_woken.Goals as goal
-
-pub load-requires-clause-allowed : goal.load-requires-clause-allowed
-load-requires-clause-allowed g c = let s = c.requires.party in may_make _ c.args.party.now (CloneInHand s.0) [] _ _ s.1 (wakes_clone _ _ _ _ s.0 _ _ _)

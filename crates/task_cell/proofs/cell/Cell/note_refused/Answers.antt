@@ -1,6 +1,0 @@
-use Rattle.task_cell.proofs.Vocabulary.{[], Registrar, refuses}
-use Rattle.task_cell.proofs.Steps.{may_make}
-use Rattle.task_cell.proofs.cell.Cell.note_refused.Goals as goal
-
-pub load-requires-clause-allowed : goal.load-requires-clause-allowed
-load-requires-clause-allowed g c = let s = c.requires.party in may_make _ c.args.party.now (Registrar s.0) [] _ _ s.1 (refuses _ _ _ _ s.0 _ _ _)

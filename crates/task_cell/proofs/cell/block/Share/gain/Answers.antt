@@ -1,0 +1,19 @@
+use Rattle.task_cell.proofs.Vocabulary.{◌∙◌, ap, [], parts_newest}
+use Rattle.task_cell.proofs.WakerMoves.{may_gain, beside_waker, gains_waker, gains_nothing}
+use Rattle.task_cell.proofs.cell.block.Share.gain.Goals as goal
+
+pub attempt_from-requires-clause-allowed : goal.attempt_from-requires-clause-allowed
+attempt_from-requires-clause-allowed g c = may_gain _ _ _ _ c.args.party.now c.requires.party c.requires.cell.1
+
+pub split_seat-seat-requires : goal.split_seat-seat-requires
+split_seat-seat-requires g c = let e = c.in-Ok.ensures in
+    (e.cell ∙ c.requires.cell.0, parts_newest _ _ _ _ _ _ _ _ _ [] (ap (λ m. m.0) (beside_waker _ _ c.args.party.now c.attempt_from.new.party c.requires.party e.changed)))
+
+pub returns-in-Ok : goal.returns-in-Ok
+returns-in-Ok g c = record {
+  path = let e = c.in-Ok.ensures in let s = c.split_seat-seat.ensures in
+      gains_waker _ _ c.args.party.now c.attempt_from.new.party (record { seat = c.split_seat-seat.new.seat }) (record { seat = c.split_seat-seat.result }) c.requires.party e.cell e.changed s.0 s.2 s.3 s.4;
+}
+
+pub returns-in-Err : goal.returns-in-Err
+returns-in-Err g c = record { path = gains_nothing _ _ c.args.party.now c.attempt_from.new.party c.requires.party c.in-Err.ensures.cell c.in-Err.ensures.ended }
