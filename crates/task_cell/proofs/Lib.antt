@@ -1,5 +1,6 @@
 pub mod Vocabulary
 pub mod Moved
+pub mod Sharing
 pub mod Attempts
 pub mod Carried
 pub mod Notified

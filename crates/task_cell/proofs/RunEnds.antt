@@ -1,10 +1,11 @@
 -- What the calls that end a run come to, step after step.
 use Rattle.task_cell.proofs.Vocabulary.{◌≡◌, ℕ, Bool, true, false, not, ◌&&◌, List, [], ◌∷◌, ◌++◌, ap, ◌∙◌, nat_lt, State, Ended, OfRun, ThenEnds, Position, At, Deliverer, Pending, Ready}
 use Rattle.task_cell.proofs.Vocabulary.{PendingFutureDropped, OutputInHand, AnswerReady, AnswerPending, DropFuture, StoreOutput, Complete, CompleteDetached, DropOutput, EndClosed, Reschedule, EndIdle}
-use Rattle.task_cell.proofs.Vocabulary.{EndOrphaned, HandOver, EndCall, Ran, notifies, Slot, Deed, Party, Closed, Rescheduled, Idle, Orphaned, future_first, output_first, StandsWith}
+use Rattle.task_cell.proofs.Vocabulary.{EndOrphaned, HandOver, EndCall, Ran, notifies, Slot, Deed, Party, Rescheduled, Idle, Orphaned, future_first, output_first, StandsWith}
 use Rattle.task_cell.proofs.Vocabulary.{GoesWith, Goes, row, act, kept, not_claimed, ready, closed_meanwhile, woken_meanwhile, idle, orphaned, Rests, Completes, keeps, finds_detached, Stores}
 use Rattle.task_cell.proofs.Vocabulary.{ClosesPending, EndsReady, EndsUnready, AnswersPending, stays_pending, clears, EndsPending, is_closed, is_rescheduled, is_idle, is_orphaned, subst}
 use Rattle.std.specs.Prelude.{◌||◌}
+use Rattle.std.proofs.Common.{Option, Some, None}
 use Rattle.task_steps.specs.declared.words.PendingEnd.{PendingEnd}
 use Rattle.task_cell.specs.RunPaths.{StorePath, detached}
 use Rattle.task_cell.specs.RunCalls.{finds_closed}
@@ -64,7 +65,7 @@ module _ {F T A : Type 0} where
   IsOrphaned p q = (w : State) × (w.closed ≡ false) × (w.scheduled ≡ false) × ((nat_lt 1 w.references || w.task) ≡ false) × Goes (act AnswerPending ∷ row EndOrphaned w ∷ []) (Deliverer false (ThenEnds (Ran false))) p q
 
   -- what the step tells that follows a poll which answered Pending
-  abbrev pub Ends : Party F T A → Party F T A → PendingEnd → Type 0
+  abbrev pub Ends : Party F T A → Party F T A → Option PendingEnd → Type 0
   Ends q r e = (y : Slot F T A) → StandsWith Pending (future_first y []) q → EndsPending (future_first y []) q r e
 
   -- the task was found closed, or not
@@ -81,30 +82,30 @@ module _ {F T A : Type 0} where
       by (stays_pending g) = g
 
   -- .. and then how the run ended
-  module _ (p q r : Party F T A) (b : Bool) (e : PendingEnd) (y : Slot F T A) (f : AnswersPending (future_first y []) p q b) (h : b ≡ false) (g : Ends q r e) where
+  module _ (p q r : Party F T A) (b : Bool) (e : Option PendingEnd) (y : Slot F T A) (f : AnswersPending (future_first y []) p q b) (h : b ≡ false) (g : Ends q r e) where
     first : GoesWith (act AnswerPending ∷ []) Pending (future_first y []) p q
     first = left_pending (future_first y []) p q b f h
 
-    ended : (x : PendingEnd) → e ≡ x → EndsPending (future_first y []) q r x
+    ended : (x : Option PendingEnd) → e ≡ x → EndsPending (future_first y []) q r x
     ended x is = subst (λ x. EndsPending (future_first y []) q r x) is (g y (moved.stands p q (act AnswerPending ∷ []) Pending (future_first y []) first))
 
     both : (path : List Deed) (at : Position) (held : List (ℕ × Slot F T A)) → GoesWith path at held q r → GoesWith (act AnswerPending ∷ path) at held p r
     both path at held x = moved.goes_on p q r (act AnswerPending ∷ []) path Pending at (future_first y []) held first x
 
     -- what each end comes to
-    abbrev pub After : PendingEnd → Type 0
-    After Closed = GoesWith (act AnswerPending ∷ act DropFuture ∷ []) PendingFutureDropped (future_first y []) p r
-    After Rescheduled = IsRescheduled p r
-    After Idle = IsIdle p r
-    After Orphaned = IsOrphaned p r
+    abbrev pub After : Option PendingEnd → Type 0
+    After None = GoesWith (act AnswerPending ∷ act DropFuture ∷ []) PendingFutureDropped (future_first y []) p r
+    After (Some Rescheduled) = IsRescheduled p r
+    After (Some Idle) = IsIdle p r
+    After (Some Orphaned) = IsOrphaned p r
 
-    at_end : (x : PendingEnd) → EndsPending (future_first y []) q r x → After x
-    at_end Closed (is_closed k) = both (act DropFuture ∷ []) PendingFutureDropped (future_first y []) k
-    at_end Rescheduled (is_rescheduled w a c k) = (w, a, c, both (row Reschedule w ∷ []) (Deliverer true (ThenEnds (Ran true))) [] k)
-    at_end Idle (is_idle w a c d k) = (w, a, c, d, both (row EndIdle w ∷ act EndCall ∷ []) (At Ended) [] k)
-    at_end Orphaned (is_orphaned w a c d k) = (w, a, c, d, both (row EndOrphaned w ∷ []) (Deliverer false (ThenEnds (Ran false))) [] k)
+    at_end : (x : Option PendingEnd) → EndsPending (future_first y []) q r x → After x
+    at_end None (is_closed k) = both (act DropFuture ∷ []) PendingFutureDropped (future_first y []) k
+    at_end (Some Rescheduled) (is_rescheduled w a c k) = (w, a, c, both (row Reschedule w ∷ []) (Deliverer true (ThenEnds (Ran true))) [] k)
+    at_end (Some Idle) (is_idle w a c d k) = (w, a, c, d, both (row EndIdle w ∷ act EndCall ∷ []) (At Ended) [] k)
+    at_end (Some Orphaned) (is_orphaned w a c d k) = (w, a, c, d, both (row EndOrphaned w ∷ []) (Deliverer false (ThenEnds (Ran false))) [] k)
 
-    pub by_end : (x : PendingEnd) → e ≡ x → After x
+    pub by_end : (x : Option PendingEnd) → e ≡ x → After x
     by_end x is = at_end x (ended x is)
 
   module _ (Woken : Type 0) (Scheduled : Bool → Type 0) where

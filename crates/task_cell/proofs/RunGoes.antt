@@ -130,11 +130,11 @@ module _ {F T A : Type 0} where
       by false c h k made = let m = moved.moved (DropFuture ∷ StoreOutput ∷ CompleteDetached ∷ []) w Ready (output_first z []) p q s made in
           finds_detached z h (moved.goes p q (act DropFuture ∷ act StoreOutput ∷ row CompleteDetached w ∷ []) (OutputInHand w.awaiter) (output_first z []) cell m.viewed (keeps_places Ready (OutputInHand w.awaiter) (output_first z []) q.seat.me.1 refl refl m.carried))
 
-  pub ended_pending : (y : Slot F T A) (p q : Party F T A) (w : State) → w.closed ≡ false → StandsWith Pending (future_first y []) p → q.seat.block ≡ p.seat.block → Makes (ending_pending w) w p.seat.me q.seat.me → EndsPending (future_first y []) p q (ending_of w)
+  pub ended_pending : (y : Slot F T A) (p q : Party F T A) (w : State) → w.closed ≡ false → StandsWith Pending (future_first y []) p → q.seat.block ≡ p.seat.block → Makes (ending_pending w) w p.seat.me q.seat.me → EndsPending (future_first y []) p q (Some (ending_of w))
   ended_pending y p q w unclosed s cell made = by w.scheduled (nat_lt 1 w.references || w.task) refl refl made
     where
       by : (b d : Bool) → w.scheduled ≡ b → (nat_lt 1 w.references || w.task) ≡ d → Makes (if b then Reschedule ∷ [] else (if d then EndIdle ∷ EndCall ∷ [] else EndOrphaned ∷ [])) w p.seat.me q.seat.me
-          → EndsPending (future_first y []) p q (if b then Rescheduled else (if d then Idle else Orphaned))
+          → EndsPending (future_first y []) p q (Some (if b then Rescheduled else (if d then Idle else Orphaned)))
       by true d h k made = let m = moved.moved (Reschedule ∷ []) w Pending (future_first y []) p q s made in
           is_rescheduled w unclosed h (moved.goes p q (row Reschedule w ∷ []) (Deliverer true (ThenEnds (Ran true))) [] cell m.viewed (gave_work Pending (Deliverer true (ThenEnds (Ran true))) (future_first y []) q.seat.me.1 refl refl m.carried))
       by false true h k made = let m = moved.moved (EndIdle ∷ EndCall ∷ []) w Pending (future_first y []) p q s made in

@@ -1,7 +1,7 @@
 -- A cancel and a detach, put together from their steps.
-use Rattle.task_cell.proofs.Vocabulary.{◌≡◌, ℕ, Bool, true, false, List, [], ◌∷◌, ◌++◌, Option, None, refl, sym, subst, State, Answer, Nothing, Deliverer, Emptier, OutputCloser, CallEnding, Ended}
+use Rattle.task_cell.proofs.Vocabulary.{◌≡◌, ℕ, Bool, true, false, List, [], ◌∷◌, ◌++◌, Option, Some, None, refl, sym, subst, State, Answer, Nothing, Deliverer, Emptier, OutputCloser, CallEnding, Ended}
 use Rattle.task_cell.proofs.Vocabulary.{OfCancel, ThenEnds, CancelOver, CancelBusy, CancelIdle, GiveUpOutput, DropOutput, DetachOrphan, DetachLast, Detach, EmptySlots, EndCall, HandOver, notifies}
-use Rattle.task_cell.proofs.Vocabulary.{after_cancelling, after_handing_over, after_giving_up, Slot, Deed, Party, Over, Busy, Unclaimed, output_first, Fits, position, StandsWith, Stands, GoesWith}
+use Rattle.task_cell.proofs.Vocabulary.{after_cancelling, after_handing_over, after_giving_up, Slot, Deed, Party, Busy, Unclaimed, output_first, Fits, position, StandsWith, Stands, GoesWith}
 use Rattle.task_cell.proofs.Vocabulary.{Goes, row, act, as_task, as_ended, handed_over, rest_of, Notice, CancelPath, is_busy, DetachPath, drops_output_last, is_shared, is_last, Cancels, Detaches}
 use Rattle.task_cell.proofs.Vocabulary.{GivesTaskUp}
 use Rattle.task_laws.specs.declared.positions.OnceDelivered.{OnceDelivered}
@@ -35,23 +35,23 @@ module _ {F T A : Type 0} where
   Closes p q found = (n : ℕ) → Stands (as_task n) p → Cancels n p q found
 
   -- a cancel that has closed a busy task; an idle one, whose Runnable was handed over
-  pub closed_busy : (p q : Party F T A) (due : Bool) (s : (n : ℕ) × Stands (as_task n) p) → Closes p q (Busy due) → (path : List Deed) × Goes path (notifies due (OfCancel s.0)) p q
+  pub closed_busy : (p q : Party F T A) (due : Bool) (s : (n : ℕ) × Stands (as_task n) p) → Closes p q (Some (Busy due)) → (path : List Deed) × Goes path (notifies due (OfCancel s.0)) p q
   closed_busy p q due s f = let x = f s.0 s.1 in (row CancelBusy x.0 ∷ [], x.3)
 
-  pub closed_idle : (p q r : Party F T A) (due : Bool) (s : (n : ℕ) × Stands (as_task n) p) → Closes p q (Idle due) → Goes (act HandOver ∷ []) (handed_over (position q)) q r → (path : List Deed) × Goes path (notifies due (OfCancel s.0)) p r
+  pub closed_idle : (p q r : Party F T A) (due : Bool) (s : (n : ℕ) × Stands (as_task n) p) → Closes p q (Some (Idle due)) → Goes (act HandOver ∷ []) (handed_over (position q)) q r → (path : List Deed) × Goes path (notifies due (OfCancel s.0)) p r
   closed_idle p q r due s f h = let x = f s.0 s.1 in (row CancelIdle x.0 ∷ act HandOver ∷ [], delivered p q r s.0 due (row CancelIdle x.0 ∷ []) x.3 h)
 
   as_was : (p q : Party F T A) (n : ℕ) (path : List Deed) → Stands (as_task n) p → Goes path (as_task n) p q → Goes path (position p) p q
   as_was p q n path s g = subst (λ at. Goes path at p q) (sym (position_is p (as_task n) [] s)) g
 
-  pub cancels_over : (Scheduled Woken : Type 0) (p q : Party F T A) (n : ℕ) → Stands (as_task n) p → Cancels n p q Over → Cancelling Scheduled Woken p q
+  pub cancels_over : (Scheduled Woken : Type 0) (p q : Party F T A) (n : ℕ) → Stands (as_task n) p → Cancels n p q None → Cancelling Scheduled Woken p q
   cancels_over Scheduled Woken p q n s x = let path : List Deed = row CancelOver x.0 ∷ act EndCall ∷ [] in (path, is_over x.0 x.1, as_was p q n path s x.2)
 
-  pub cancels_busy : (Scheduled Woken : Type 0) (p q r : Party F T A) (n : ℕ) (due : Bool) → Stands (as_task n) p → Cancels n p q (Busy due) → Ends Woken due n q r → Cancelling Scheduled Woken p r
+  pub cancels_busy : (Scheduled Woken : Type 0) (p q r : Party F T A) (n : ℕ) (due : Bool) → Stands (as_task n) p → Cancels n p q (Some (Busy due)) → Ends Woken due n q r → Cancelling Scheduled Woken p r
   cancels_busy Scheduled Woken p q r n due s x y = let path : List Deed = row CancelBusy x.0 ∷ [] in let more : List Deed = y.0 ++ act EndCall ∷ [] in
       (path ++ more, is_busy x.0 y.0 x.2 (subst (λ b. Notice Woken b y.0) (sym x.1) y.1), as_was p r n (path ++ more) s (goes_on p q r path more (notifies due (OfCancel n)) (as_task n) [] [] x.3 y.2))
 
-  pub cancels_idle : (Scheduled Woken : Type 0) (p q r t : Party F T A) (n : ℕ) (due : Bool) → Stands (as_task n) p → Cancels n p q (Idle due) → Scheduled → Goes (act HandOver ∷ []) (handed_over (position q)) q r → Ends Woken due n r t
+  pub cancels_idle : (Scheduled Woken : Type 0) (p q r t : Party F T A) (n : ℕ) (due : Bool) → Stands (as_task n) p → Cancels n p q (Some (Idle due)) → Scheduled → Goes (act HandOver ∷ []) (handed_over (position q)) q r → Ends Woken due n r t
       → Cancelling Scheduled Woken p t
   cancels_idle Scheduled Woken p q r t n due s x fact h y = let path : List Deed = row CancelIdle x.0 ∷ act HandOver ∷ [] in let more : List Deed = y.0 ++ act EndCall ∷ [] in (
     path ++ more,

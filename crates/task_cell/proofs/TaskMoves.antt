@@ -2,7 +2,7 @@
 use Rattle.std.proofs.Common.{inl}
 use Rattle.task_cell.proofs.Vocabulary.{◌≡◌, ℕ, Bool, true, false, not, ◌&&◌, ◌||◌, List, [], ◌∷◌, ◌++◌, Option, Some, None, refl, sym, ap, subst, arith, nat_lt, nat_eq, if◌then◌else◌, State, is_open}
 use Rattle.task_cell.proofs.Vocabulary.{number_of, Answer, Nothing, Position, At, Deliverer, Emptier, OutputCloser, Detacher, CallEnding, Rest, Task, Ended, ThenEnds, OfCancel, CancelOver, CancelBusy}
-use Rattle.task_cell.proofs.Vocabulary.{CancelIdle, GiveUpOutput, DropOutput, DetachOrphan, DetachLast, Detach, EndCall, notifies, after_cancelling, owns_awaiter, Slot, Deed, Party, Over, Busy}
+use Rattle.task_cell.proofs.Vocabulary.{CancelIdle, GiveUpOutput, DropOutput, DetachOrphan, DetachLast, Detach, EndCall, notifies, after_cancelling, owns_awaiter, Slot, Deed, Party, Busy}
 use Rattle.task_cell.proofs.Vocabulary.{Unclaimed, has_work, output_first, Carries, Makes, position, Stands, Goes, deeds, row, act, rest_of, as_task, NotifyPath, none_there, taken, WakePath, nobody}
 use Rattle.task_cell.proofs.Vocabulary.{woken, TakesDue, Wakes, Notice, not_due, found_none, woke, Cancels, Detaches, GivesTaskUp, closed_by, given_up_by, both, over, neither, none_left, last_orphan}
 use Rattle.task_cell.proofs.Vocabulary.{closed_claimed, idle_cancel, finds_over, cancels, detaches, is_over, MayTry, HasChanged, HasEnded, never_ends, is_some, after_taking}
@@ -35,18 +35,18 @@ module _ {F T A : Type 0} where
   bare a b q l e f c = subst (λ (z : Bool × Bool). Carries {F = F} {T = T} {A = A} false z.0 false z.1 q [] l) (λ i. (e i, f i)) c
 
   -- a cancel of a task that is over
-  pub looks_over : (limit : ℕ) (p q : Party F T A) (n : ℕ) (w : State) → Stands (as_task n) p → q.seat.block ≡ p.seat.block → HasEnded limit is_over finding_cancelled w p.seat.me q.seat.me → Cancels n p q Over
+  pub looks_over : (limit : ℕ) (p q : Party F T A) (n : ℕ) (w : State) → Stands (as_task n) p → q.seat.block ≡ p.seat.block → HasEnded limit is_over finding_cancelled w p.seat.me q.seat.me → Cancels n p q None
   looks_over limit p q n w s cell e = let x = moved (CancelOver ∷ EndCall ∷ []) w (At (Task n)) [] p q s e.made in
       (w, e.at_end, goes p q (row CancelOver w ∷ act EndCall ∷ []) (At (Task n)) [] cell x.viewed x.carried)
 
   -- .. and the row of one that closes it
-  pub closes : (limit : ℕ) (p q : Party F T A) (n : ℕ) (w : State) → Stands (as_task n) p → q.seat.block ≡ p.seat.block → HasChanged limit cancelled_word cancelling w p.seat.me q.seat.me → Cancels n p q (closed_by w)
+  pub closes : (limit : ℕ) (p q : Party F T A) (n : ℕ) (w : State) → Stands (as_task n) p → q.seat.block ≡ p.seat.block → HasChanged limit cancelled_word cancelling w p.seat.me q.seat.me → Cancels n p q (Some (closed_by w))
   closes limit p q n w s cell c = made (w.scheduled || w.running) refl c.made
     where
       now : is_open w ≡ true
       now = written_if (is_open w) (cancelled w) c.written
 
-      made : (b : Bool) → (w.scheduled || w.running) ≡ b → Makes (if b then CancelBusy ∷ [] else CancelIdle ∷ []) w p.seat.me q.seat.me → Cancels n p q (if b then Busy w.awaiter else Idle w.awaiter)
+      made : (b : Bool) → (w.scheduled || w.running) ≡ b → Makes (if b then CancelBusy ∷ [] else CancelIdle ∷ []) w p.seat.me q.seat.me → Cancels n p q (Some (if b then Busy w.awaiter else Idle w.awaiter))
       made true is m = let x = moved (CancelBusy ∷ []) w (At (Task n)) [] p q s m in let at : Position = notifies w.awaiter (OfCancel n) in let i = idle_cancel w.awaiter n in
           (w, refl, both (is_open w) (w.scheduled || w.running) now is, goes p q (row CancelBusy w ∷ []) at [] cell x.viewed (bare (has_work at) (owns_awaiter at) at q.seat.me.1 i.0 i.1 x.carried))
       made false is m = let x = moved (CancelIdle ∷ []) w (At (Task n)) [] p q s m in
@@ -114,4 +114,4 @@ module _ (F T A : Type 0) (limit : ℕ) where
 
   pub may_detach : (p : Party F T A) (n : ℕ) → Stands (as_task n) p → MayTry limit 3 p.seat.id p.seat.me (λ _ w. Some (detached w)) (λ _ _. false) detaching (λ _. []) × MayGive limit p.seat.id p.seat.me (λ _ w. Some (detached w)) ends_task
   may_detach p n s = may_give_at limit p (At (Task n)) [] s (λ _ w. Some (detached w)) (λ _ _. false) detaching (λ _. []) ends_task (λ w. refl)
-      (λ w v e m f here. let is : detached w ≡ v = cc in detaches F T A limit n (deeds p) [] [] w (number_of w) (number_of v) refl (ap number_of (sym is)) m f here) (detaches_task limit n _ (deeds p) [] F T A) (never_ends F T A limit (At (Task n)) (deeds p) [] [])
+      (λ w v e m f here. let is : detached w ≡ v = cc in detaches F T A limit n (deeds p) [] [] w (number_of w) (number_of v) refl (ap number_of (sym is)) m f here) (detaches_task limit n (λ _ w. Some (detached w)) (deeds p) [] F T A) (never_ends F T A limit (At (Task n)) (deeds p) [] [])

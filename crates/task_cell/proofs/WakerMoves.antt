@@ -2,17 +2,19 @@
 use Rattle.std.proofs.Common.{inl}
 use Rattle.task_cell.proofs.Vocabulary.{◌≡◌, ℕ, Bool, true, false, not, ◌&&◌, List, [], ◌∷◌, Option, Some, None, IfSome, is_some, refl, sym, ap, ◌∙◌, subst, nat_lt, if◌then◌else◌, Me, State, is_open}
 use Rattle.task_cell.proofs.Vocabulary.{number_of, written, Slots, is_held, Nothing, Waker, Lent, Ended, ThenEnds, Position, At, Deliverer, Emptier, OrphanHolder, Act, GainReference, FindLimit}
-use Rattle.task_cell.proofs.Vocabulary.{RefuseGain, DropWaker, DropLastWaker, OrphanTask, CloseOrphan, WakeOver, WakeScheduled, WakeRunning, WakeIdle, EndCall, Slot, Deed, Member, View, Party, Shared}
+use Rattle.task_cell.proofs.Vocabulary.{DropWaker, DropLastWaker, OrphanTask, CloseOrphan, WakeOver, WakeScheduled, WakeRunning, WakeIdle, EndCall, Slot, Deed, Member, View, Party, Shared}
 use Rattle.task_cell.proofs.Vocabulary.{Last, member, view, fresh, head_of, acted, Carried, Makes, deeds, limit_of, IsNew, Stands, Goes, row, act, after, as_waker, as_deliverer, MayTry, HasChanged}
-use Rattle.task_cell.proofs.Vocabulary.{HasEnded, others_left, gaining, gained_word, at_limit, finding_limit, refusing_gain, is_over, finding_over, waking_task, woken_word, woken_if_held}
-use Rattle.task_cell.proofs.Vocabulary.{dropping_waker, closing_orphan, GainsShare, is_refused, goes_on_to, is_gained, finds_limit, is_scheduled, is_running, Gains, gains_none, gains_one, WakesTask}
+use Rattle.task_cell.proofs.Vocabulary.{HasEnded, others_left, gaining, gained_word, at_limit, finding_limit, is_over, finding_over, waking_task, woken_word, woken_if_held}
+use Rattle.task_cell.proofs.Vocabulary.{dropping_waker, closing_orphan, is_gained, finds_limit, is_scheduled, is_running, Gains, gains_none, gains_one, WakesTask}
 use Rattle.task_cell.proofs.Vocabulary.{makes_none, makes_one, DropsWaker, dropped_by, both, gains, third, fourth, not_true}
 use Rattle.task_core.specs.Rows.{row as row_of}
 use Rattle.task_steps.specs.declared.words.Dropped.TheVariants.{Orphaned}
 use Rattle.task_steps.specs.Beside.{without_newest, newest}
 use Rattle.task_cell.specs.WakerPaths.{is_idle, GainPath, TaskWakePath}
 use Rattle.task_steps.specs.Seats.{is_spent}
-use Rattle.inline_table.specs.Owned.{TableId}
+use Rattle.counted_block.specs.Blocks.{BlockId}
+use Rattle.task_cell.specs.Calls.{second}
+use Rattle.task_steps.specs.Standing.{as_waker}
 use Rattle.task_cell.specs.WakerPaths as paths
 use Rattle.task_steps.specs.Shares.{MayBring, always, brings_runnable}
 use Rattle.task_steps.proofs.Handles.{gains_handle, wakes_task}
@@ -70,30 +72,20 @@ module _ {F T A : Type 0} where
   spent_by_count limit _ _ p q (is_gained w room) g = is_spent_after (row GainReference w) (act EndCall) p q g
   spent_by_count limit _ _ p q (finds_limit w room) g = is_spent_after (row FindLimit w) (act EndCall) p q g
 
-  pub spent_by_gain : (limit : ℕ) (p q : Party F T A) (b : Bool) → GainsShare limit p q b → MayGo q
-  spent_by_gain limit p q false (is_refused g) = is_spent_after (act RefuseGain) (act EndCall) p q g
-  spent_by_gain limit p q _ (goes_on_to b path w g) = spent_by_count limit b path p q w g
+  pub spent_by_gain : (limit : ℕ) (p q : Party F T A) (made : Option (Party F T A)) → Gains limit p q made → MayGo q
+  spent_by_gain limit p q None (gains_none path w g) = spent_by_count limit false path p q w g
+  spent_by_gain limit p q (Some d) (gains_one path y w g n) = spent_by_count limit true path p q w g
 
   -- what a wake by reference makes
-  pub wake_gives : (limit : ℕ) (table : TableId) (p q : Party F T A) (made : Option (Party F T A)) → p.seat.block ≡ table → limit_of p ≡ limit → WakesTask p q made
-      → IfSome made (λ d. (d.seat.block ≡ table) × (d.seat.me ≡ (view limit (fresh as_deliverer ∷ []), [])))
-  wake_gives limit table p q None cell is (makes_none path w g) = tt
-  wake_gives limit table p q (Some d) cell is (makes_one path x w g n) = (n.cell ∙ cell, n.is ∙ ap (λ l. (view l (fresh as_deliverer ∷ []), [])) is)
+  pub wake_gives : {X : Type 0} (limit : ℕ) (block : BlockId) (p q : Party F T A) (made : Option (X × Party F T A)) → p.seat.block ≡ block → limit_of p ≡ limit → WakesTask p q (second made)
+      → IfSome made (λ d. (d.1.seat.block ≡ block) × (d.1.seat.me ≡ (view limit (fresh as_deliverer ∷ []), [])))
+  wake_gives limit block p q None cell is (makes_none path w g) = tt
+  wake_gives limit block p q (Some d) cell is (makes_one path x w g n) = (n.cell ∙ cell, n.is ∙ ap (λ l. (view l (fresh as_deliverer ∷ []), [])) is)
 
-  -- .. and a gain
-  shares_by : (limit : ℕ) (p q : Party F T A) (made : Option (Party F T A)) → Gains limit p q made → GainsShare limit p q (is_some made)
-  shares_by limit p q None (gains_none path w g) = goes_on_to false path w g
-  shares_by limit p q (Some d) (gains_one path y w g n) = goes_on_to true path w g
-
-  pub shares : (limit known : ℕ) (p q : Party F T A) (made made' : Option (Party F T A)) → limit ≡ known → made ≡ made' → Gains limit p q made → GainsShare known p q (is_some made')
-  shares limit known p q made made' e f g = subst (λ (z : ℕ × Option (Party F T A)). GainsShare z.0 p q (is_some z.1)) (λ i. (e i, f i)) (shares_by limit p q made g)
-
-  pub gain_new : (limit : ℕ) (p q x : Party F T A) → Gains limit p q (Some x) → IsNew as_waker p x
-  gain_new limit p q x (gains_one path y w g n) = n
-
-  -- the memory was refused
-  pub refuses : (w : State) (p q : Party F T A) → Stands (At Lent) p → q.seat.block ≡ p.seat.block → Makes (refusing_gain w) w p.seat.me q.seat.me → Goes (act RefuseGain ∷ act EndCall ∷ []) (At Lent) p q
-  refuses w p q s cell m = record { cell = cell; is = back w (refusing_gain w) (act RefuseGain ∷ act EndCall ∷ []) [] p q s (λ slots l ds. refl) m }
+  pub gain_gives : {X : Type 0} (limit : ℕ) (block : BlockId) (p q : Party F T A) (made : Option (X × Party F T A)) → p.seat.block ≡ block → limit_of p ≡ limit → Gains limit p q (second made)
+      → IfSome made (λ d. (d.1.seat.block ≡ block) × (d.1.seat.me ≡ (view limit (fresh as_waker ∷ []), [])))
+  gain_gives limit block p q None cell is (gains_none path w g) = tt
+  gain_gives limit block p q (Some d) cell is (gains_one path x w g n) = (n.cell ∙ cell, n.is ∙ ap (λ l. (view l (fresh as_waker ∷ []), [])) is)
 
   -- the seat after the row of a gain, and what it comes to when the waker has left it
   pub beside_waker : (limit : ℕ) (w : State) (p q : Party F T A) → Stands (At Lent) p → HasChanged limit gained_word gaining w p.seat.me q.seat.me → Beside (row GainReference w ∷ act EndCall ∷ []) (fresh (At Waker) ∷ []) p q

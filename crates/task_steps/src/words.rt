@@ -2,7 +2,7 @@
 ghost use Rattle.std.specs.Prelude.{◌≡◌, ◌<◌, not, ◌&&◌, Some, None, if◌then◌else◌};
 ghost use Rattle.task_core.specs.Word.{is_open};
 ghost use Rattle.task_laws.specs.Table.{is_held as has_handle};
-ghost use Rattle.task_steps.specs.WakerScripts.{woken_word};
+ghost use Rattle.task_steps.specs.WakerScripts.{others_left, woken_word};
 ghost use Rattle.task_steps.specs.TaskScripts.{cancelled, detached};
 ghost use Rattle.task_steps.specs.RunScripts.{completed_word, after_pending};
 ghost use Rattle.task_steps.specs.PollScripts.{has_output, has_ended, has_to_wait};
@@ -164,6 +164,13 @@ pub fn dropped_as(word: Word) -> Dropped
     } else {
         Dropped::Last
     }
+}
+
+/// Whether the party that took its reference off this word had the last handle.
+pub fn is_last(word: Word) -> bool
+    ensures { result ≡ not (others_left word) }
+{
+    !(word.references() > 1 || word.task())
 }
 
 /// Whether somebody may claim the output of a run that finds this word.

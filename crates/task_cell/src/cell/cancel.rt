@@ -54,7 +54,7 @@ impl<R: Wait + Drop + Copy, F: Yields, Q: Drop, M: Drop, A: Wake, B: Allocator +
         ensures share { IfSome result (λ closed. Leaves self.now closed.1 (brings_share closed.0)) }
     {
         match self.attempt::<Cancelling>(party) {
-            Ok((found, maybe)) => Some((closed_as(found), maybe)),
+            Ok(made) => Some((closed_as(made.0), made.1)),
             Err(_) => None,
         }
     }

@@ -94,7 +94,7 @@ impl<R: Wait + Drop + Copy, F: Yields, Q: Drop, M: Drop, A: Drop, B: Allocator +
         ensures kept { IfErr result (λ share. cell_of share ≡ cell_of self) }
     {
         match self.give_from::<EndingPending>(party, word) {
-            Ok((found, maybe)) => Ok((pending_end(found), maybe)),
+            Ok(made) => Ok((pending_end(made.0), made.1)),
             Err((_, share)) => Err(share),
         }
     }

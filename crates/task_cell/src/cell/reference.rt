@@ -24,6 +24,7 @@ use task_core::{Wake, Yields};
 use task_steps::places::take_out;
 use task_steps::run::{Emptying, GivingReferenceUp};
 use task_steps::table::Kept;
+use task_steps::words::is_last;
 
 impl<R: Wait + Drop + Copy, F: Yields, Q: Drop, M: Drop, A: Drop, B: Allocator + Copy> Share<R, F, Q, M, A, B> {
     // Drops what is in the place of the table that the party has in front, and leaves nothing there.
@@ -47,7 +48,7 @@ impl<R: Wait + Drop + Copy, F: Yields, Q: Drop, M: Drop, A: Drop, B: Allocator +
         ensures share { Leaves self result.1 result.0 }
     {
         let (found, maybe) = self.give::<GivingReferenceUp>(party, REFERENCE);
-        (!(found.references() > 1 || found.task()), maybe)
+        (is_last(found), maybe)
     }
 
     // The last party empties the place of the awaiter, and gives it back by a load. Then its share ends, and the cell with it. The party goes on in its call: to the awaiter in hand, or to the end.

@@ -29,14 +29,16 @@ impl<R: Wait + Drop + Copy, F: Yields, Q: Drop, M: Drop, A: Drop, B: Allocator +
         ensures path { WakesTask party.old party.new (second result) }
         ensures share { IfSome result (λ woken. cell_of woken.0 ≡ cell_of self.now) }
     {
-        let Ok((found, maybe)) = self.attempt_from::<WakingTask>(party, word) else {
-            return None;
-        };
-        if !was_idle(found) {
-            maybe.none();
-            return None;
+        match self.attempt_from::<WakingTask>(party, word) {
+            Ok(made) => {
+                if !was_idle(made.0) {
+                    made.1.none();
+                    return None;
+                }
+                let seat = self.block.split_seat::<Parting>(&mut party.seat);
+                Some((made.1.share(), Party { seat }))
+            }
+            Err(_) => None,
         }
-        let seat = self.block.split_seat::<Parting>(&mut party.seat);
-        Some((maybe.share(), Party { seat }))
     }
 }

@@ -3,17 +3,18 @@ use Rattle.task_cell.proofs.WakerMoves.{may_gain, beside_waker, gains_waker, gai
 use Rattle.task_cell.proofs.cell.block.Share.gain.Goals as goal
 
 pub attempt_from-requires-clause-allowed : goal.attempt_from-requires-clause-allowed
-attempt_from-requires-clause-allowed g c = may_gain _ _ _ _ c.args.party.now c.requires.party c.requires.cell.1
+attempt_from-requires-clause-allowed g c = (may_gain _ _ _ _ c.args.party.now c.requires.party c.requires.cell.1).0
+
+pub attempt_from-requires-clause-shares : goal.attempt_from-requires-clause-shares
+attempt_from-requires-clause-shares g c = (may_gain _ _ _ _ c.args.party.now c.requires.party c.requires.cell.1).1
 
 pub split_seat-seat-requires : goal.split_seat-seat-requires
 split_seat-seat-requires g c = let e = c.in-Ok.ensures in
     (e.cell ∙ c.requires.cell.0, parts_newest _ _ _ _ _ _ _ _ _ [] (ap (λ m. m.0) (beside_waker _ _ c.args.party.now c.attempt_from.new.party c.requires.party e.changed)))
 
-pub returns-in-Ok : goal.returns-in-Ok
-returns-in-Ok g c = record {
-  path = let e = c.in-Ok.ensures in let s = c.split_seat-seat.ensures in
-      gains_waker _ _ c.args.party.now c.attempt_from.new.party (record { seat = c.split_seat-seat.new.seat }) (record { seat = c.split_seat-seat.result }) c.requires.party e.cell e.changed s.0 s.2 s.3 s.4;
-}
+pub returns-in-Ok-clause-path : goal.returns-in-Ok-clause-path
+returns-in-Ok-clause-path g c = let e = c.in-Ok.ensures in let s = c.split_seat-seat.ensures in
+    gains_waker _ _ c.args.party.now c.attempt_from.new.party (record { seat = c.split_seat-seat.new.seat }) (record { seat = c.split_seat-seat.result }) c.requires.party e.cell e.changed s.0 s.2 s.3 s.4
 
-pub returns-in-Err : goal.returns-in-Err
-returns-in-Err g c = record { path = gains_nothing _ _ c.args.party.now c.attempt_from.new.party c.requires.party c.in-Err.ensures.cell c.in-Err.ensures.ended }
+pub returns-in-Err-clause-path : goal.returns-in-Err-clause-path
+returns-in-Err-clause-path g c = gains_nothing _ _ c.args.party.now c.attempt_from.new.party c.requires.party c.in-Err.ensures.cell c.in-Err.ensures.ended

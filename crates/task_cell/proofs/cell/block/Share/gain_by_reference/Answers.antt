@@ -1,9 +1,12 @@
-use Rattle.task_cell.proofs.Vocabulary.{rules}
-use Rattle.task_cell.proofs.WakerMoves.{fresh_stands, spent_by_gain}
+use Rattle.task_cell.proofs.Vocabulary.{rules, ap}
+use Rattle.task_cell.proofs.WakerMoves.{fresh_stands, spent_by_gain, gain_gives}
 use Rattle.task_cell.proofs.cell.block.Share.gain_by_reference.Goals as goal
 
-pub gain_with_share-gained-requires-clause-party : goal.gain_with_share-gained-requires-clause-party
-gain_with_share-gained-requires-clause-party g c = fresh_stands _ c.borrow-word.result.1 c.borrow-word.ensures.party
+pub gain-gained-requires-clause-party : goal.gain-gained-requires-clause-party
+gain-gained-requires-clause-party g c = fresh_stands _ c.borrow-word.result.1 c.borrow-word.ensures.party
 
 pub give_back-requires : goal.give_back-requires
 give_back-requires g c = search (spent_by_gain, rules)
+
+pub returns-clause-waker : goal.returns-clause-waker
+returns-clause-waker g c = gain_gives c.args.self.now.block.key _ c.borrow-word.result.1 c.gain-gained.new.party c.gain-gained.result c.borrow-word.ensures.cell (ap (λ m. m.0.limit) c.borrow-word.ensures.party) c.gain-gained.ensures.path
