@@ -8,9 +8,9 @@ use Rattle.task_laws.specs.declared.positions.OnceDelivered.{OnceDelivered}
 use Rattle.task_steps.specs.declared.words.Cancelled.{Cancelled}
 use Rattle.task_steps.specs.declared.words.Cancelled.TheVariants.{Idle}
 use Rattle.task_steps.specs.declared.words.Detached.TheVariants.{Shared, Last, Orphaned}
-use Rattle.task_cell.specs.TaskPaths.{is_over, is_idle, drops_output, is_orphaned}
+use Rattle.task_cell.specs.TaskPaths.{UnclaimedPath, leaves_others, leaves_none, is_over, is_idle, drops_output, is_orphaned}
 use Rattle.task_cell.proofs.Moved.{goes_on, stands, position_is}
-use Rattle.task_cell.proofs.TaskMoves.{Ends, ends}
+use Rattle.task_cell.proofs.TaskMoves.{Ends}
 
 -- a cancel goes on where its Runnable was handed over
 cancel_goes_on : (due : Bool) (n : ℕ) → after_handing_over (after_cancelling due n) ≡ notifies due (OfCancel n)
@@ -63,43 +63,48 @@ module _ {F T A : Type 0} where
   abbrev pub Detaching : Type 0 → Party F T A → Party F T A → Type 0
   Detaching Scheduled p q = (path : List Deed) × DetachPath Scheduled path × Goes path as_ended p q
 
-  -- the emptier of the slots
+  -- the emptier of the slots, and the end of its call
   abbrev pub Empties : Party F T A → Party F T A → Type 0
-  Empties p q = (hand : Option ℕ) (answer : Answer) (y : Slot F T A) → StandsWith (Emptier hand answer) ((2, y) ∷ []) p → Goes (act EmptySlots ∷ []) (after_giving_up hand answer) p q
+  Empties p q = Goes (act EmptySlots ∷ act EndCall ∷ []) as_ended p q
 
-  pub empties : (p q r : Party F T A) (path : List Deed) (y : Slot F T A) → GoesWith path (Emptier None Nothing) ((2, y) ∷ []) p q → Empties q r → Goes (path ++ act EmptySlots ∷ []) (CallEnding Nothing Ended) p r
-  empties p q r path y g e = goes_on p q r path (act EmptySlots ∷ []) (Emptier None Nothing) (CallEnding Nothing Ended) ((2, y) ∷ []) [] g
-      (e None Nothing y (stands p q path (Emptier None Nothing) ((2, y) ∷ []) g))
+  pub empties : (p q r : Party F T A) (path : List Deed) (y : Slot F T A) → GoesWith path (Emptier None Nothing) ((2, y) ∷ []) p q → Empties q r → Goes (path ++ act EmptySlots ∷ act EndCall ∷ []) as_ended p r
+  empties p q r path y g e = goes_on p q r path (act EmptySlots ∷ act EndCall ∷ []) (Emptier None Nothing) as_ended ((2, y) ∷ []) [] g e
 
-  -- the Task of a completed task was the last handle
-  pub unclaimed_last : (p q r t : Party F T A) (b : Bool) → b ≡ true → Detaches p q Unclaimed → GivesTaskUp q r b → Empties r t
-      → (w v : State) × Fits GiveUpOutput w × Fits DetachLast v × Goes (row GiveUpOutput w ∷ act DropOutput ∷ row DetachLast v ∷ act EmptySlots ∷ []) (CallEnding Nothing Ended) p t
-  unclaimed_last p q r t false is x y e = absurd (cc)
-  unclaimed_last p q r t true is x y e = let path : List Deed = row GiveUpOutput x.0 ∷ [] in let more : List Deed = act DropOutput ∷ row DetachLast y.0 ∷ [] in
-      (x.0, y.0, x.2, y.2, empties p r t (path ++ more) y.1 (goes_on p q r path more OutputCloser (Emptier None Nothing) (output_first x.1 []) ((2, y.1) ∷ []) x.4 y.3) e)
+  -- the rest of a detach that has dropped the output: the Task was the last handle, or was not
+  abbrev pub LeavesUnclaimed : Party F T A → Party F T A → Type 0
+  LeavesUnclaimed p q = (path : List Deed) × UnclaimedPath path × Goes path as_ended p q
 
-  pub detaches_unclaimed_last : (Scheduled : Type 0) (p q r t u : Party F T A) (b : Bool) → b ≡ true → Detaches p q Unclaimed → GivesTaskUp q r b → Empties r t → Goes (act EndCall ∷ []) (rest_of (position t)) t u → Detaching Scheduled p u
-  detaches_unclaimed_last Scheduled p q r t u b is x y e end = let z = unclaimed_last p q r t b is x y e in let path : List Deed = row GiveUpOutput z.0 ∷ act DropOutput ∷ row DetachLast z.1 ∷ act EmptySlots ∷ [] in
-      (path ++ act EndCall ∷ [], drops_output_last z.0 z.1 z.2 z.3, ends p t u path Nothing Ended z.4 end)
+  pub unclaimed_empties : (p q : Party F T A) (b : Bool) → b ≡ true → GivesTaskUp p q b → (y : Slot F T A) × StandsWith (Emptier None Nothing) ((2, y) ∷ []) q
+  unclaimed_empties p q false is x = absurd (cc)
+  unclaimed_empties p q true is x = (x.1, stands p q _ _ _ x.3)
 
-  -- .. and was not
-  pub detaches_unclaimed : (Scheduled : Type 0) (p q r : Party F T A) (b : Bool) → b ≡ false → Detaches p q Unclaimed → GivesTaskUp q r b → Detaching Scheduled p r
-  detaches_unclaimed Scheduled p q r true is x y = absurd (cc)
-  detaches_unclaimed Scheduled p q r false is x y = let path : List Deed = row GiveUpOutput x.0 ∷ [] in let more : List Deed = act DropOutput ∷ row Detach y.0 ∷ act EndCall ∷ [] in
-      (path ++ more, drops_output x.0 y.0 x.2 y.1, goes_on p q r path more OutputCloser as_ended (output_first x.1 []) [] x.4 y.2)
+  pub unclaimed_cell : (p q : Party F T A) (b : Bool) → GivesTaskUp p q b → q.seat.block ≡ p.seat.block
+  unclaimed_cell p q false x = x.2.cell
+  unclaimed_cell p q true x = x.3.cell
+
+  pub unclaimed_last : (p q r : Party F T A) (b : Bool) → b ≡ true → GivesTaskUp p q b → Empties q r → LeavesUnclaimed p r
+  unclaimed_last p q r false is x e = absurd (cc)
+  unclaimed_last p q r true is x e = let path : List Deed = act DropOutput ∷ row DetachLast x.0 ∷ [] in
+      (path ++ act EmptySlots ∷ act EndCall ∷ [], leaves_none x.0 x.2, empties p q r path x.1 x.3 e)
+
+  pub unclaimed_shared : (p q : Party F T A) (b : Bool) → b ≡ false → GivesTaskUp p q b → LeavesUnclaimed p q
+  unclaimed_shared p q true is x = absurd (cc)
+  unclaimed_shared p q false is x = (act DropOutput ∷ row Detach x.0 ∷ act EndCall ∷ [], leaves_others x.0 x.1, x.2)
+
+  unclaimed_path : (Scheduled : Type 0) (w : State) (path : List Deed) → Fits GiveUpOutput w → UnclaimedPath path → DetachPath Scheduled (row GiveUpOutput w ∷ path)
+  unclaimed_path Scheduled w _ f (leaves_others v g) = drops_output w v f g
+  unclaimed_path Scheduled w _ f (leaves_none v g) = drops_output_last w v f g
+
+  pub detaches_unclaimed : (Scheduled : Type 0) (p q r : Party F T A) → Detaches p q Unclaimed → LeavesUnclaimed q r → Detaching Scheduled p r
+  detaches_unclaimed Scheduled p q r x y = (row GiveUpOutput x.0 ∷ y.0, unclaimed_path Scheduled x.0 y.0 x.2 y.1, goes_on p q r (row GiveUpOutput x.0 ∷ []) y.0 OutputCloser as_ended (output_first x.1 []) [] x.4 y.2)
 
   pub detaches_shared : (Scheduled : Type 0) (p q : Party F T A) → Detaches p q Shared → Detaching Scheduled p q
   detaches_shared Scheduled p q x = (row Detach x.0 ∷ act EndCall ∷ [], is_shared x.0 x.1, x.2)
 
   -- a closed task has no other handle
-  pub last_emptied : (p q r : Party F T A) (x : Detaches p q Last) → Empties q r → Goes (row DetachLast x.0 ∷ act EmptySlots ∷ []) (CallEnding Nothing Ended) p r
-  last_emptied p q r x e = empties p q r (row DetachLast x.0 ∷ []) x.1 x.3 e
-
-  pub detaches_last : (Scheduled : Type 0) (p q r t : Party F T A) → Detaches p q Last → Empties q r → Goes (act EndCall ∷ []) (rest_of (position r)) r t → Detaching Scheduled p t
-  detaches_last Scheduled p q r t x e end = let path : List Deed = row DetachLast x.0 ∷ act EmptySlots ∷ [] in
-      (path ++ act EndCall ∷ [], is_last x.0 x.2, ends p r t path Nothing Ended (last_emptied p q r x e) end)
+  pub detaches_last : (Scheduled : Type 0) (p q r : Party F T A) → Detaches p q Last → Empties q r → Detaching Scheduled p r
+  detaches_last Scheduled p q r x e = (row DetachLast x.0 ∷ act EmptySlots ∷ act EndCall ∷ [], is_last x.0 x.2, empties p q r (row DetachLast x.0 ∷ []) x.1 x.3 e)
 
   -- an open task has no other handle
-  pub detaches_orphaned : (Scheduled : Type 0) (p q r t : Party F T A) → Detaches p q Orphaned → Scheduled → Goes (act HandOver ∷ []) (handed_over (position q)) q r → Goes (act EndCall ∷ []) (rest_of (position r)) r t → Detaching Scheduled p t
-  detaches_orphaned Scheduled p q r t x fact h end = let path : List Deed = row DetachOrphan x.0 ∷ act HandOver ∷ [] in
-      (path ++ act EndCall ∷ [], is_orphaned x.0 x.1 fact, ends p r t path Nothing Ended (hands_over p q r (row DetachOrphan x.0 ∷ []) (ThenEnds Nothing) x.2 h) end)
+  pub detaches_orphaned : (Scheduled : Type 0) (p q r : Party F T A) → Detaches p q Orphaned → Scheduled → Goes (act HandOver ∷ act EndCall ∷ []) as_ended q r → Detaching Scheduled p r
+  detaches_orphaned Scheduled p q r x fact h = (row DetachOrphan x.0 ∷ act HandOver ∷ act EndCall ∷ [], is_orphaned x.0 x.1 fact, goes_on p q r (row DetachOrphan x.0 ∷ []) (act HandOver ∷ act EndCall ∷ []) (Deliverer false (ThenEnds Nothing)) as_ended [] [] x.2 h)

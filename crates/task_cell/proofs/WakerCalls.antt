@@ -15,12 +15,8 @@ module _ {F T A : Type 0} where
   drops_shared Scheduled p q x = (row DropWaker x.0 ∷ act EndCall ∷ [], leaves_others x.0 x.1, x.2)
 
   -- the last handle of a task that is over
-  pub last_emptied : (p q r : Party F T A) (x : DropsWaker p q Last) → Empties q r → Goes (row DropLastWaker x.0 ∷ act EmptySlots ∷ []) (CallEnding Nothing Ended) p r
-  last_emptied p q r x e = empties p q r (row DropLastWaker x.0 ∷ []) x.1 x.4 e
-
-  pub drops_last : (Scheduled : Type 0) (p q r t : Party F T A) → DropsWaker p q Last → Empties q r → Goes (act EndCall ∷ []) (rest_of (position r)) r t → DroppingWaker Scheduled p t
-  drops_last Scheduled p q r t x e end = let path : List Deed = row DropLastWaker x.0 ∷ act EmptySlots ∷ [] in
-      (path ++ act EndCall ∷ [], leaves_none x.0 x.2 x.3, ends p r t path Nothing Ended (last_emptied p q r x e) end)
+  pub drops_last : (Scheduled : Type 0) (p q r : Party F T A) → DropsWaker p q Last → Empties q r → DroppingWaker Scheduled p r
+  drops_last Scheduled p q r x e = (row DropLastWaker x.0 ∷ act EmptySlots ∷ act EndCall ∷ [], leaves_none x.0 x.2 x.3, empties p q r (row DropLastWaker x.0 ∷ []) x.1 x.4 e)
 
   -- the last handle of an open task
   pub orphan_closed : (p q r : Party F T A) (x : DropsWaker p q Orphaned) (y : (v : State) × Goes (row CloseOrphan v ∷ []) (Deliverer false (ThenEnds Nothing)) q r) → Goes (row OrphanTask x.0 ∷ row CloseOrphan y.0 ∷ []) (Deliverer false (ThenEnds Nothing)) p r

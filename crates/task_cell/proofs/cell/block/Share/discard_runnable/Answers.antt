@@ -1,4 +1,4 @@
-use Rattle.task_cell.proofs.Vocabulary.{◌∙◌, [], ◌∷◌, None, OfDrop, Nothing, Ended, DroppedRunnable, Empty}
+use Rattle.task_cell.proofs.Vocabulary.{sym, ◌∙◌, [], ◌∷◌, None, OfDrop, Nothing, Ended, DroppedRunnable, Empty}
 use Rattle.task_cell.proofs.Moved.{stands}
 use Rattle.task_cell.proofs.RunRest.{drop_clears, drop_closes, drop_notifies, drop_takes_cell, drop_has, drop_wakes, drop_gives_up, drop_releases, drop_leaves, drop_ends}
 use Rattle.task_cell.proofs.cell.block.Share.discard_runnable.Goals as goal
@@ -19,25 +19,20 @@ pub take_due-awaiter-requires-clause-party : goal.take_due-awaiter-requires-clau
 take_due-awaiter-requires-clause-party g c = (OfDrop, drop_notifies _ _ _ c.discard_start.ensures c.clear.ensures _ _ c.unschedule-found.ensures _ c.awaiter.ensures)
 
 pub wake_taken-requires-clause-cell : goal.wake_taken-requires-clause-cell
-wake_taken-requires-clause-cell g c = drop_takes_cell _ _ _ c.discard_start.ensures c.clear.ensures _ _ c.unschedule-found.ensures _ c.awaiter.ensures _ _ c.take_due-awaiter.ensures ∙ c.requires.cell
+wake_taken-requires-clause-cell g c = drop_takes_cell _ _ _ c.discard_start.ensures c.clear.ensures _ _ c.unschedule-found.ensures _ c.awaiter.ensures _ _ c.take_due-awaiter.ensures ∙ (c.requires.cell ∙ sym c.ledger.ensures)
 
 pub wake_taken-requires-clause-party : goal.wake_taken-requires-clause-party
 wake_taken-requires-clause-party g c = (OfDrop, drop_has _ _ _ c.discard_start.ensures c.clear.ensures _ _ c.unschedule-found.ensures _ c.awaiter.ensures _ _ c.take_due-awaiter.ensures)
 
-pub release-requires-clause-cell : goal.release-requires-clause-cell
-release-requires-clause-cell g c = let k = drop_wakes _ _ _ c.discard_start.ensures c.clear.ensures _ _ c.unschedule-found.ensures _ c.awaiter.ensures _ _ c.take_due-awaiter.ensures _ _ c.wake_taken.ensures in
+pub release-ledger-requires-clause-cell : goal.release-ledger-requires-clause-cell
+release-ledger-requires-clause-cell g c = let k = drop_wakes _ _ _ c.discard_start.ensures c.clear.ensures _ _ c.unschedule-found.ensures _ c.awaiter.ensures _ _ c.take_due-awaiter.ensures _ _ c.wake_taken.ensures in
     k.2.cell ∙ (drop_takes_cell _ _ _ c.discard_start.ensures c.clear.ensures _ _ c.unschedule-found.ensures _ c.awaiter.ensures _ _ c.take_due-awaiter.ensures ∙ c.requires.cell)
 
-pub release-requires-clause-party : goal.release-requires-clause-party
-release-requires-clause-party g c = (None, Nothing, drop_gives_up _ _ _ c.discard_start.ensures c.clear.ensures _ _ c.unschedule-found.ensures _ c.awaiter.ensures _ _ c.take_due-awaiter.ensures _ _ c.wake_taken.ensures)
-
-pub end-requires-clause-cell : goal.end-requires-clause-cell
-end-requires-clause-cell g c = let k = drop_wakes _ _ _ c.discard_start.ensures c.clear.ensures _ _ c.unschedule-found.ensures _ c.awaiter.ensures _ _ c.take_due-awaiter.ensures _ _ c.wake_taken.ensures in
-    let r = drop_releases _ _ _ c.discard_start.ensures c.clear.ensures _ _ c.unschedule-found.ensures _ c.awaiter.ensures _ _ c.take_due-awaiter.ensures _ _ c.wake_taken.ensures _ c.release.ensures in
-    r.2.cell ∙ (k.2.cell ∙ (drop_takes_cell _ _ _ c.discard_start.ensures c.clear.ensures _ _ c.unschedule-found.ensures _ c.awaiter.ensures _ _ c.take_due-awaiter.ensures ∙ c.requires.cell))
+pub release-ledger-requires-clause-party : goal.release-ledger-requires-clause-party
+release-ledger-requires-clause-party g c = (None, Nothing, drop_gives_up _ _ _ c.discard_start.ensures c.clear.ensures _ _ c.unschedule-found.ensures _ c.awaiter.ensures _ _ c.take_due-awaiter.ensures _ _ c.wake_taken.ensures)
 
 pub end-requires-clause-party : goal.end-requires-clause-party
-end-requires-clause-party g c = (Nothing, Ended, drop_leaves _ _ _ c.discard_start.ensures c.clear.ensures _ _ c.unschedule-found.ensures _ c.awaiter.ensures _ _ c.take_due-awaiter.ensures _ _ c.wake_taken.ensures _ c.release.ensures)
+end-requires-clause-party g c = (Nothing, Ended, drop_leaves _ _ _ c.discard_start.ensures c.clear.ensures _ _ c.unschedule-found.ensures _ c.awaiter.ensures _ _ c.take_due-awaiter.ensures _ _ c.wake_taken.ensures _ c.release-ledger.ensures.path)
 
 pub returns : goal.returns
-returns g c = drop_ends _ _ _ c.discard_start.ensures c.clear.ensures _ _ c.unschedule-found.ensures _ c.awaiter.ensures _ _ c.take_due-awaiter.ensures _ _ c.wake_taken.ensures _ c.release.ensures _ c.end.ensures
+returns g c = drop_ends _ _ _ c.discard_start.ensures c.clear.ensures _ _ c.unschedule-found.ensures _ c.awaiter.ensures _ _ c.take_due-awaiter.ensures _ _ c.wake_taken.ensures _ c.release-ledger.ensures.path _ c.end.ensures

@@ -1,4 +1,5 @@
-use Rattle.task_cell.proofs.Vocabulary.{ap, ◌∙◌, subst, refl, ◌∷◌, [], arc_value, rest, Polling, Future, future_first, view, member, StandsWith, deeds, limit_of, same_first}
+use Rattle.task_cell.proofs.Vocabulary.{ap, ◌∙◌, subst, refl, ◌∷◌, [], rest, Polling, Future, future_first, view, member, StandsWith, deeds, limit_of, same_first}
+use Rattle.task_cell.specs.Belongs.{cell_of}
 use Rattle.task_cell.proofs.Running.{notes_on}
 use Rattle.task_cell.proofs.cell.block.Share.poll_future.Goals as goal
 
@@ -10,5 +11,5 @@ returns-clause-once g c = let s = c.requires.party in let p = c.polled-answer.en
       p.1,
       subst (λ y. StandsWith Polling (future_first y []) c.args.party) there s.1,
       notes_on (future_first (Future p.1) []) c.args.party _ _ _ _ (record { cell = refl; is = polled }) (c.note_answer-party.ensures (future_first (Future p.1) []) polled),
-      (_, ap (λ z. arc_value z.cell) c.lent.ensures.share, refl, p.4),
+      (_, ap cell_of c.lent.ensures.share, refl, p.4),
     )

@@ -1,0 +1,12 @@
+use Rattle.task_cell.proofs.Vocabulary.{ℕ, ap, sym, ◌∙◌, subst, refl, [], ◌∷◌, IsLastWord}
+use Rattle.task_steps.proofs.Shares.{has_last}
+use Rattle.task_cell.proofs.Spawned.{last_word}
+use Rattle.task_cell.proofs.cell.block.Share.close.Goals as goal
+
+pub close-requires : goal.close-requires
+close-requires g c = let s = c.requires.party in (c.requires.cell, has_last _ _ _ _ _ _ _ s.0 _ [] (ap (λ m. m.0) s.1) c.requires.last)
+
+pub returns-clause-word : goal.returns-clause-word
+returns-clause-word g c = let s = c.requires.party in let b = c.in_ok-close.field-0.value in
+    subst (λ (n : ℕ). IsLastWord c.args.self.block.key n c.args.party.now) (ap (λ z. z.word) (sym (c.into_inner-inner.ensures ∙ c.into_box-whole.ensures)))
+    (last_word _ _ _ _ c.args.party.now s.0 [] (b.word ∷ []) (b.first ∷ b.second ∷ b.third ∷ []) b.word s.1 c.in_ok-close.ensures.block.2 refl)
