@@ -1,5 +1,10 @@
 -- Whose share is left, or was brought, by what a step found.
 use Rattle.task_cell.proofs.Vocabulary.{◌≡◌, ℕ, Bool, true, false, not, ◌&&◌, ◌||◌, refl, arith, nat_lt, nat_eq, if◌then◌else◌, State, is_open, closed_by, dropped_by, ending_of, given_up_by, others_left, Busy, Unclaimed, Rescheduled, Idle, Orphaned}
+use Rattle.task_cell.proofs.Vocabulary.{◌∙◌}
+use Rattle.task_core.specs.declared.traits.Yields.{Ghosts}
+use Rattle.task_cell.specs.declared.cell.block.Share.{Share}
+use Rattle.task_cell.specs.declared.cell.block.MaybeShare.{MaybeShare}
+use Rattle.task_cell.specs.Belongs.{Leaves, cell_of, limit_in}
 use Rattle.std.proofs.lemmas.Bool.Decides.{nat_tests}
 use Rattle.task_steps.specs.declared.words.Cancelled.TheVariants.{Idle as FoundIdle}
 use Rattle.task_steps.specs.declared.words.Detached.TheVariants as detached
@@ -49,3 +54,17 @@ idle_brings w e = grind arith
 
 pub busy_brings_none : (w : State) → (not w.scheduled && not w.running) ≡ false → brings_runnable w ≡ false
 busy_brings_none w e = grind arith
+
+module _ {R F Q M A B O : Type 0} {G : Ghosts F O} where
+  -- the share that a step left or made is of the same cell
+  abbrev pub Taken : MaybeShare R F Q M A B O G → Share R F Q M A B O G → Type 0
+  Taken maybe share = (share.block.id ≡ maybe.maybe.id) × (share.block.key ≡ maybe.maybe.key) × (share.block.value ≡ maybe.maybe.value)
+
+  pub same_cell : (self share : Share R F Q M A B O G) (maybe : MaybeShare R F Q M A B O G) (b : Bool) → Leaves self maybe b → Taken maybe share → cell_of share ≡ cell_of self
+  same_cell self share maybe b l e = λ i. ((e.0 ∙ l.cell.0) i, (e.2 ∙ l.cell.1) i)
+
+  pub same_block : (self share : Share R F Q M A B O G) (maybe : MaybeShare R F Q M A B O G) (b : Bool) → Leaves self maybe b → Taken maybe share → share.block.id ≡ self.block.id
+  same_block self share maybe b l e = e.0 ∙ l.cell.0
+
+  pub same_limit : (self share : Share R F Q M A B O G) (maybe : MaybeShare R F Q M A B O G) (b : Bool) → Leaves self maybe b → Taken maybe share → limit_in share ≡ limit_in self
+  same_limit self share maybe b l e = e.1 ∙ l.limit

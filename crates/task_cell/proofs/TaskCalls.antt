@@ -17,6 +17,10 @@ cancel_goes_on : (due : Bool) (n : ℕ) → after_handing_over (after_cancelling
 cancel_goes_on true n = refl
 cancel_goes_on false n = refl
 
+unclaimed_path : (Scheduled : Type 0) (w : State) (path : List Deed) → Fits GiveUpOutput w → UnclaimedPath path → DetachPath Scheduled (row GiveUpOutput w ∷ path)
+unclaimed_path Scheduled w _ f (leaves_others v g) = drops_output w v f g
+unclaimed_path Scheduled w _ f (leaves_none v g) = drops_output_last w v f g
+
 module _ {F T A : Type 0} where
   -- the Runnable of a deliverer is handed over
   pub hands_over : (p q r : Party F T A) (path : List Deed) (next : OnceDelivered) → Goes path (Deliverer false next) p q → Goes (act HandOver ∷ []) (handed_over (position q)) q r → Goes (path ++ act HandOver ∷ []) (after_handing_over next) p r
@@ -31,7 +35,7 @@ module _ {F T A : Type 0} where
   Cancelling Scheduled Woken p q = (path : List Deed) × CancelPath Scheduled Woken path × Goes path (position p) p q
 
   -- the row of a cancel, by what it found
-  abbrev pub Closes : Party F T A → Party F T A → Cancelled → Type 0
+  abbrev pub Closes : Party F T A → Party F T A → Option Cancelled → Type 0
   Closes p q found = (n : ℕ) → Stands (as_task n) p → Cancels n p q found
 
   -- a cancel that has closed a busy task; an idle one, whose Runnable was handed over
@@ -90,10 +94,6 @@ module _ {F T A : Type 0} where
   pub unclaimed_shared : (p q : Party F T A) (b : Bool) → b ≡ false → GivesTaskUp p q b → LeavesUnclaimed p q
   unclaimed_shared p q true is x = absurd (cc)
   unclaimed_shared p q false is x = (act DropOutput ∷ row Detach x.0 ∷ act EndCall ∷ [], leaves_others x.0 x.1, x.2)
-
-  unclaimed_path : (Scheduled : Type 0) (w : State) (path : List Deed) → Fits GiveUpOutput w → UnclaimedPath path → DetachPath Scheduled (row GiveUpOutput w ∷ path)
-  unclaimed_path Scheduled w _ f (leaves_others v g) = drops_output w v f g
-  unclaimed_path Scheduled w _ f (leaves_none v g) = drops_output_last w v f g
 
   pub detaches_unclaimed : (Scheduled : Type 0) (p q r : Party F T A) → Detaches p q Unclaimed → LeavesUnclaimed q r → Detaching Scheduled p r
   detaches_unclaimed Scheduled p q r x y = (row GiveUpOutput x.0 ∷ y.0, unclaimed_path Scheduled x.0 y.0 x.2 y.1, goes_on p q r (row GiveUpOutput x.0 ∷ []) y.0 OutputCloser as_ended (output_first x.1 []) [] x.4 y.2)

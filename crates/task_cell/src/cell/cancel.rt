@@ -28,16 +28,16 @@ impl<R: Wait + Drop + Copy, F: Yields, Q: Drop, M: Drop, A: Wake, B: Allocator +
         requires party { (n : ℕ) × Stands (as_task n) party.old }
         ensures path { (path : List Deed) × CancelPath (HandedOver Q.scheduled (cell_of self.now) around false) ((a : A) × A.woken a) path × Goes path (position party.old) party.old party.new }
     {
-        let Some((found, maybe)) = self.close_task(party) else {
+        let Some(closed) = self.close_task(party) else {
             return;
         };
-        match found {
+        match closed.0 {
             Cancelled::Busy(due) => {
-                maybe.none();
+                closed.1.none();
                 self.leave_closed(party, due);
             }
             Cancelled::Idle(due) => {
-                self.deliver_by(maybe.share(), party, around);
+                self.deliver_by(closed.1.share(), party, around);
                 self.leave_closed(party, due);
             }
         }

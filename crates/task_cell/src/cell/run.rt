@@ -115,18 +115,20 @@ impl<R: Wait + Drop + Copy, F: Yields, Q: Drop, M: Drop, A: Wake, B: Allocator +
                 share.finish_cleared(party);
                 false
             }
-            Ok((PendingEnd::Rescheduled, maybe)) => {
-                maybe.share().hand_on(party, around, true);
-                true
-            }
-            Ok((PendingEnd::Idle, maybe)) => {
-                maybe.none();
-                false
-            }
-            Ok((PendingEnd::Orphaned, maybe)) => {
-                maybe.share().hand_on(party, around, false);
-                false
-            }
+            Ok(ended) => match ended.0 {
+                PendingEnd::Rescheduled => {
+                    ended.1.share().hand_on(party, around, true);
+                    true
+                }
+                PendingEnd::Idle => {
+                    ended.1.none();
+                    false
+                }
+                PendingEnd::Orphaned => {
+                    ended.1.share().hand_on(party, around, false);
+                    false
+                }
+            },
         }
     }
 }

@@ -1,0 +1,58 @@
+use Rattle.task_cell.proofs.Vocabulary.{◌∙◌, sym, ap, subst, EndsUnready, HandedOver, Future}
+use Rattle.task_cell.specs.Belongs.{cell_of}
+use Rattle.task_cell.proofs.Moved.{stands, limit_is}
+use Rattle.task_cell.proofs.Running.{shut, started, noted_cell, noted_limit, noted_ready, noted_pending, run_closed, run_ready, run_pending}
+use Rattle.task_cell.proofs.cell.block.Share.run.Goals as goal
+
+pub end_closed_run-requires-clause-cell : goal.end_closed_run-requires-clause-cell
+end_closed_run-requires-clause-cell g c = let s = shut c.args.party c.begin_run-party.result.0 c.begin_run-party.result.1 c.begin_run-party.ensures c.if-not-started.true in s.goes.cell ∙ c.requires.cell.0
+
+pub end_closed_run-requires-clause-party : goal.end_closed_run-requires-clause-party
+end_closed_run-requires-clause-party g c = let s = shut c.args.party c.begin_run-party.result.0 c.begin_run-party.result.1 c.begin_run-party.ensures c.if-not-started.true in
+    (s.place, stands c.args.party c.begin_run-party.result.0 _ _ _ s.goes)
+
+pub returns-then-not-started : goal.returns-then-not-started
+returns-then-not-started g c = let s = shut c.args.party c.begin_run-party.result.0 c.begin_run-party.result.1 c.begin_run-party.ensures c.if-not-started.true in
+    record { path = run_closed _ _ _ c.args.party c.begin_run-party.result.0 c.end_closed_run.result s c.end_closed_run.ensures }
+
+pub poll_future-share-requires-clause-cell : goal.poll_future-share-requires-clause-cell
+poll_future-share-requires-clause-cell g c = let s = started c.args.party c.begin_run-party.result.0 c.begin_run-party.result.1 c.begin_run-party.ensures c.if-not-started.false in
+    s.goes.cell ∙ c.requires.cell.0
+
+pub poll_future-share-requires-clause-limit : goal.poll_future-share-requires-clause-limit
+poll_future-share-requires-clause-limit g c = let s = started c.args.party c.begin_run-party.result.0 c.begin_run-party.result.1 c.begin_run-party.ensures c.if-not-started.false in
+    limit_is _ _ _ _ _ s.goes ∙ c.requires.cell.1
+
+pub poll_future-share-requires-clause-party : goal.poll_future-share-requires-clause-party
+poll_future-share-requires-clause-party g c = let s = started c.args.party c.begin_run-party.result.0 c.begin_run-party.result.1 c.begin_run-party.ensures c.if-not-started.false in
+    (s.place, stands c.args.party c.begin_run-party.result.0 _ _ _ s.goes, s.future)
+
+pub end_ready_run-ended-requires-clause-cell : goal.end_ready_run-ended-requires-clause-cell
+end_ready_run-ended-requires-clause-cell g c = let s = started c.args.party c.begin_run-party.result.0 c.begin_run-party.result.1 c.begin_run-party.ensures c.if-not-started.false in let p = c.poll_future-share.ensures in
+    noted_cell _ _ _ _ _ p.once.3 ∙ (s.goes.cell ∙ (c.requires.cell.0 ∙ ap (λ z. z.block.id) (sym p.share)))
+
+pub end_ready_run-ended-requires-clause-party : goal.end_ready_run-ended-requires-clause-party
+end_ready_run-ended-requires-clause-party g c = let p = c.poll_future-share.ensures in
+    (Future p.once.1, stands _ _ _ _ _ (noted_ready _ _ _ _ _ _ p.once.3 c.in-Ready.is))
+
+pub returns-in-Ready : goal.returns-in-Ready
+returns-in-Ready g c = let s = started c.args.party c.begin_run-party.result.0 c.begin_run-party.result.1 c.begin_run-party.ensures c.if-not-started.false in let p = c.poll_future-share.ensures in
+    record { path = run_ready _ _ _ c.args.party c.begin_run-party.result.0 c.end_ready_run-ended.result s c.poll_future-share.result.2 c.in-Ready.output c.in-Ready.is (p.once.0, p.once.1, p.once.4)
+        (c.end_ready_run-ended.ensures c.begin_run-party.result.0 (Future p.once.1) (noted_ready _ _ _ _ _ _ p.once.3 c.in-Ready.is)) }
+
+pub end_pending_run-requires-clause-cell : goal.end_pending_run-requires-clause-cell
+end_pending_run-requires-clause-cell g c = let s = started c.args.party c.begin_run-party.result.0 c.begin_run-party.result.1 c.begin_run-party.ensures c.if-not-started.false in let p = c.poll_future-share.ensures in
+    (noted_cell _ _ _ _ _ p.once.3 ∙ (s.goes.cell ∙ (c.requires.cell.0 ∙ ap (λ z. z.block.id) (sym p.share))), noted_limit _ _ _ _ _ p.once.3 ∙ (limit_is _ _ _ _ _ s.goes ∙ (c.requires.cell.1 ∙ ap (λ z. z.block.key) (sym p.share))))
+
+pub end_pending_run-requires-clause-room : goal.end_pending_run-requires-clause-room
+end_pending_run-requires-clause-room g c = (noted_pending _ _ _ _ _ c.poll_future-share.ensures.once.3 c.in-Pending.is).0
+
+pub end_pending_run-requires-clause-party : goal.end_pending_run-requires-clause-party
+end_pending_run-requires-clause-party g c = let p = c.poll_future-share.ensures in
+    (c.begin_run-party.result.0, Future p.once.1, (noted_pending _ _ _ _ _ p.once.3 c.in-Pending.is).1, tt)
+
+pub returns-in-Pending : goal.returns-in-Pending
+returns-in-Pending g c = let s = started c.args.party c.begin_run-party.result.0 c.begin_run-party.result.1 c.begin_run-party.ensures c.if-not-started.false in let p = c.poll_future-share.ensures in
+    record { path = run_pending _ _ _ c.args.party c.begin_run-party.result.0 c.end_pending_run.result.0 s c.poll_future-share.result.2 c.in-Pending.is c.end_pending_run.result.1 (p.once.0, p.once.1, p.once.4)
+        (subst (λ z. EndsUnready ((a : g.row.A.Denot) × g.A.Wake.woken a) (HandedOver g.Q.Schedule.scheduled z c.args.around) c.end_pending_run.result.1 c.begin_run-party.result.0 c.end_pending_run.result.0) (ap cell_of p.share)
+        (c.end_pending_run.ensures c.begin_run-party.result.0 (Future p.once.1) (noted_pending _ _ _ _ _ p.once.3 c.in-Pending.is).1)) }
