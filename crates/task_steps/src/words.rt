@@ -1,6 +1,9 @@
 //! The words that calls write, and what a call has found, by the word that it wrote on.
-ghost use Rattle.std.specs.Prelude.{◌≡◌, ◌<◌, not, ◌&&◌, Some, None, if◌then◌else◌};
+ghost use Rattle.std.specs.Prelude.{◌≡◌, ◌<◌, not, ◌&&◌, Some, None, if◌then◌else◌, unwrap_or};
+ghost use Rattle.std.specs.Option.{option_or};
 ghost use Rattle.task_core.specs.Word.{is_open};
+ghost use Rattle.task_core.specs.Rows.{row};
+ghost use Rattle.task_core.specs.declared.acts.Act.TheVariants.{GiveUpOutput, DetachOrphan, EndOrphaned};
 ghost use Rattle.task_laws.specs.Table.{is_held as has_handle};
 ghost use Rattle.task_steps.specs.WakerScripts.{others_left, woken_word};
 ghost use Rattle.task_steps.specs.TaskScripts.{cancelled, detached};
@@ -62,8 +65,16 @@ pub fn woken(word: Word) -> Option<Word>
     requires room { word.references < 72057594037927935 }
     ensures { result ≡ (if is_open word then Some (woken_word word) else None) }
 {
-    let busy = word.wake_scheduled().or(word.wake_running());
-    busy.or(word.wake_idle())
+    if word.is_over() {
+        return None;
+    }
+    if word.scheduled() {
+        return Some(word);
+    }
+    if word.running() {
+        return word.wake_running();
+    }
+    word.wake_idle()
 }
 
 /// Whether the task of this word was idle, if it was open.
@@ -78,7 +89,11 @@ pub fn closing(word: Word) -> Option<Word>
     requires room { word.references < 72057594037927935 }
     ensures { result ≡ (if is_open word then Some (cancelled word) else None) }
 {
-    word.cancel_busy().or(word.cancel_idle())
+    if was_idle(word) {
+        word.cancel_idle()
+    } else {
+        word.cancel_busy()
+    }
 }
 
 /// What the cancel found that wrote on this word.
@@ -96,9 +111,22 @@ pub fn closed_as(word: Word) -> Cancelled
 pub fn giving_up(word: Word) -> Word
     ensures { result ≡ detached word }
 {
-    let shared = word.give_up_output().or(word.detach());
-    shared
-        .or(word.detach_last())
+    if let Some(next) = word.detach() {
+        return next;
+    }
+    if let Some(next) = word.detach_last() {
+        return next;
+    }
+    giving_up_unclosed(word)
+}
+
+// The rest of a detach, which is rare: the output is unclaimed, or no other handle of an open task is left.
+#[cold]
+#[inline(never)]
+fn giving_up_unclosed(word: Word) -> Word
+    ensures { result ≡ unwrap_or (option_or (row 0 GiveUpOutput word) (row 0 DetachOrphan word)) word }
+{
+    word.give_up_output()
         .or(word.detach_orphan())
         .unwrap_or(word)
 }
@@ -134,10 +162,22 @@ pub fn completed(word: Word) -> Word
 pub fn ended(word: Word) -> Word
     ensures { result ≡ after_pending word }
 {
-    word.reschedule()
-        .or(word.end_idle())
-        .or(word.end_orphaned())
-        .unwrap_or(word)
+    if word.scheduled() {
+        return word.reschedule().unwrap_or(word);
+    }
+    if let Some(next) = word.end_idle() {
+        return next;
+    }
+    ended_last(word)
+}
+
+// The end of a run whose reference is the last, which is rare.
+#[cold]
+#[inline(never)]
+fn ended_last(word: Word) -> Word
+    ensures { result ≡ unwrap_or (row 0 EndOrphaned word) word }
+{
+    word.end_orphaned().unwrap_or(word)
 }
 
 /// How a run ends that finds this word, of an open task.
