@@ -1,9 +1,9 @@
 //! The board of a pool: a queue for each worker and one for all, and which workers sleep.
-ghost use Rattle.std.specs.Prelude.{◌≡◌, ◌≢◌, ℕ, ◌+◌, ◌<◌, ◌≤◌, ◌++◌, [], ◌∷◌, true, false, IfOk, IfErr, IfSome, OnOk, MatchOption, List, length, slice_index, min, max, ◌-◌, ◌/◌, option_to_list, IsSome, ◌↔◌, is_ok, if◌then◌else◌};
+ghost use Rattle.std.specs.Prelude.{◌≡◌, ◌≢◌, ℕ, ◌+◌, ◌*◌, ◌<◌, ◌≤◌, ◌++◌, [], ◌∷◌, true, false, IfOk, IfErr, IfSome, OnOk, MatchOption, List, length, slice_index, min, max, ◌-◌, ◌/◌, ◌%◌, option_to_list, IsSome, ◌↔◌, is_ok, if◌then◌else◌};
 ghost use Rattle.std.specs.VecDeque.{deque_len, deque_capacity};
 ghost use mathlib.Core.Option.{some};
 ghost use lib.ListN.{get_elem?};
-ghost use Rattle.work_queues.specs.Board.{HasQueue, Changes};
+ghost use Rattle.work_queues.specs.Board.{HasQueue, Changes, padding};
 
 use crate::moving::shift;
 use crate::rule::{Enter, Lock, LookAtWorker, Order, Rouse, Unlock};
@@ -17,6 +17,9 @@ use std::thread::yield_now;
 
 /// The most workers of a board.
 pub const MOST_WORKERS: usize = 1024;
+
+// How far apart the words of queues and workers are, in words, and the queues, in slots. Between them is padding, which nobody writes: so no cache line has the words or the queues of two workers. It is 128 bytes or more, since some processors fetch lines of 64 bytes in pairs.
+pub(crate) const PADDING: usize = 16;
 
 pub(crate) const EMPTY: u64 = 0;
 
@@ -43,7 +46,7 @@ pub struct Board<T, A: Allocator = Global> {
     pub(crate) workers: usize,
     // The worker that searches, or `NOBODY`.
     pub(crate) searcher: AtomicUsize,
-    ghost sized: { (table.shared.table_id.words ≡ workers + 1 + workers) × (table.shared.table_id.slots ≡ workers + 1) × (table.shared.key ≡ workers) × (0 < workers) × (workers ≤ 1024) },
+    ghost sized: { (table.shared.table_id.words ≡ padding * (workers + 1 + workers)) × (table.shared.table_id.slots ≡ padding * (workers + 1)) × (table.shared.key ≡ workers) × (0 < workers) × (workers ≤ 1024) },
 }
 
 // What the word of a queue shows of it.
@@ -70,17 +73,25 @@ fn words(alloc: Global, count: usize) -> Result<Vec<u64>, AllocError>
     Ok(words)
 }
 
-// So many empty queues, each with room for `room` items.
+// For how many items a slot has room at first: that of a queue for `room`, and padding for none, so that it takes no memory.
+fn room_in(slot: usize, room: usize) -> usize
+    ensures { (slot % padding ≡ 0 → result ≡ room) × (slot % padding ≢ 0 → result ≡ 0) }
+{
+    if slot % PADDING == 0 { room } else { 0 }
+}
+
+// What lies in so many slots: empty queues with room for `room` items each, and padding.
 fn queues<T: Drop, A: Allocator + Copy>(
     alloc: Global,
     items: A,
     count: usize,
     room: usize,
 ) -> Result<Vec<VecDeque<T, A>>, AllocError>
-    ensures { IfOk result (λ queues. (length queues.items ≡ count) × ((i : ℕ) (queue : _) → get_elem? queues.items i ≡ some queue → (queue.items ≡ []) × (room ≤ deque_capacity queue))) }
+    ensures { IfOk result (λ queues. (length queues.items ≡ count) × ((slot : ℕ) (queue : _) → get_elem? queues.items slot ≡ some queue → (queue.items ≡ []) × (slot % padding ≡ 0 → deque_capacity queue ≡ room) × (slot % padding ≢ 0 → deque_capacity queue ≡ 0))) }
 {
     let mut queues = Vec::new(alloc);
-    for _ in 0..count {
+    for slot in 0..count {
+        let room = room_in(slot, room);
         queues.push(VecDeque::with_capacity(items, room)?)?;
     }
     Ok(queues)
@@ -97,8 +108,8 @@ impl<T: Drop, A: Allocator + Copy> Board<T, A> {
         ensures { IfOk result (λ board. board.workers ≡ min (max workers 1) 1024) }
     {
         let workers = workers.max(1).min(MOST_WORKERS);
-        let words = words(alloc, workers + 1 + workers)?;
-        let queues = queues(alloc, items, workers + 1, room)?;
+        let words = words(alloc, PADDING * (workers + 1 + workers))?;
+        let queues = queues(alloc, items, PADDING * (workers + 1), room)?;
         match Table::new(alloc, &words, queues, &workers) {
             Ok((table, _seat)) => Ok(Board {
                 table,
@@ -170,12 +181,12 @@ impl<T, A: Allocator> Board<T, A> {
     }
 
     fn push_at(&self, visit: &mut Visit<T, A>, queue: usize, item: T) -> Result<(), T>
-        requires { (visit.old.seat.table_id ≡ self.now.table.shared.table_id) × HasQueue queue visit.old.seat.me }
+        requires { (visit.old.seat.table_id ≡ self.now.table.shared.table_id) × HasQueue queue visit.old.seat.me × (queue ≤ self.now.workers) }
         ensures id { visit.new.seat.table_id ≡ visit.old.seat.table_id }
         ensures queue { Changes (λ held left. left.items ≡ (if is_ok result then held.items ++ item ∷ [] else held.items)) queue visit.old.seat.me visit.new.seat.me }
         ensures refused { IfErr result (λ back. back ≡ item) }
     {
-        let held = visit.seat.slot_mut(&self.table.shared, queue);
+        let held = visit.seat.slot_mut(&self.table.shared, PADDING * queue);
         match held.push_back(item) {
             Ok(()) => Ok(()),
             Err(AllocFailed { value }) => Err(value),
@@ -183,33 +194,33 @@ impl<T, A: Allocator> Board<T, A> {
     }
 
     fn pop_at(&self, visit: &mut Visit<T, A>, queue: usize) -> Option<T>
-        requires { (visit.old.seat.table_id ≡ self.now.table.shared.table_id) × HasQueue queue visit.old.seat.me }
+        requires { (visit.old.seat.table_id ≡ self.now.table.shared.table_id) × HasQueue queue visit.old.seat.me × (queue ≤ self.now.workers) }
         ensures id { visit.new.seat.table_id ≡ visit.old.seat.table_id }
         ensures queue { Changes (λ held left. held.items ≡ option_to_list result ++ left.items) queue visit.old.seat.me visit.new.seat.me }
         ensures found { Changes (λ held left. IsSome result ↔ (0 < deque_len held)) queue visit.old.seat.me visit.new.seat.me }
     {
-        let held = visit.seat.slot_mut(&self.table.shared, queue);
+        let held = visit.seat.slot_mut(&self.table.shared, PADDING * queue);
         held.pop_front()
     }
 
     fn take_half_at(&self, visit: &mut Visit<T, A>, queue: usize, batch: &mut VecDeque<T, A>)
-        requires { (visit.old.seat.table_id ≡ self.now.table.shared.table_id) × HasQueue queue visit.old.seat.me }
+        requires { (visit.old.seat.table_id ≡ self.now.table.shared.table_id) × HasQueue queue visit.old.seat.me × (queue ≤ self.now.workers) }
         ensures id { visit.new.seat.table_id ≡ visit.old.seat.table_id }
         ensures order { Changes (λ held left. batch.new.items ++ left.items ≡ batch.old.items ++ held.items) queue visit.old.seat.me visit.new.seat.me }
         ensures half { Changes (λ held left. deque_len batch.new ≡ deque_len batch.old + min (deque_len held - deque_len held / 2) (deque_capacity batch.old - deque_len batch.old)) queue visit.old.seat.me visit.new.seat.me }
     {
-        let held = visit.seat.slot_mut(&self.table.shared, queue);
+        let held = visit.seat.slot_mut(&self.table.shared, PADDING * queue);
         let half = held.len() - held.len() / 2;
         shift(held, batch, half);
     }
 
     fn put_all_at(&self, visit: &mut Visit<T, A>, queue: usize, batch: &mut VecDeque<T, A>)
-        requires { (visit.old.seat.table_id ≡ self.now.table.shared.table_id) × HasQueue queue visit.old.seat.me }
+        requires { (visit.old.seat.table_id ≡ self.now.table.shared.table_id) × HasQueue queue visit.old.seat.me × (queue ≤ self.now.workers) }
         ensures id { visit.new.seat.table_id ≡ visit.old.seat.table_id }
         ensures order { Changes (λ held left. left.items ++ batch.new.items ≡ held.items ++ batch.old.items) queue visit.old.seat.me visit.new.seat.me }
         ensures moved { Changes (λ held left. (deque_capacity held ≤ deque_capacity left) × (deque_len left ≡ deque_len held + min (deque_len batch.old) (deque_capacity left - deque_len held))) queue visit.old.seat.me visit.new.seat.me }
     {
-        let held = visit.seat.slot_mut(&self.table.shared, queue);
+        let held = visit.seat.slot_mut(&self.table.shared, PADDING * queue);
         let _ = held.reserve(batch.len());
         let count = batch.len();
         shift(batch, held, count);
@@ -242,9 +253,9 @@ impl<T, A: Allocator> Board<T, A> {
         ensures { IfSome result (λ visit. (visit.seat.table_id ≡ self.now.table.shared.table_id) × HasQueue queue visit.seat.me) }
     {
         let shared = &self.table.shared;
-        let (seen, mut seat) = shared.load_new_seat::<Enter>(queue);
+        let (seen, mut seat) = shared.load_new_seat::<Enter>(PADDING * queue);
         if seen != LOCKED
-            && shared.compare_exchange::<Lock>(&mut seat, queue, seen, LOCKED) == seen
+            && shared.compare_exchange::<Lock>(&mut seat, PADDING * queue, seen, LOCKED) == seen
         {
             return Some(Visit { seat });
         }
@@ -272,9 +283,19 @@ impl<T, A: Allocator> Board<T, A> {
         ensures empty { result.1 ≡ false → result.0.seat.me.0 ≡ 0 }
     {
         let Visit { mut seat } = visit;
-        let shown = shown(seat.slot_mut(&self.table.shared, queue));
-        self.table.shared.store::<Unlock>(&mut seat, queue, shown);
+        let shown = shown(seat.slot_mut(&self.table.shared, PADDING * queue));
+        self.table
+            .shared
+            .store::<Unlock>(&mut seat, PADDING * queue, shown);
         (Visit { seat }, shown != EMPTY)
+    }
+
+    // Which word says whether this worker sleeps.
+    pub(crate) fn word_of(&self, worker: usize) -> usize
+        requires { worker < self.now.workers }
+        ensures { result ≡ padding * (self.now.workers + 1 + worker) }
+    {
+        PADDING * (self.workers + 1 + worker)
     }
 
     // Looks at the worker that searches, which is enough where it is awake, or else for one that sleeps, and makes it awake. It answers which.
@@ -305,7 +326,7 @@ impl<T, A: Allocator> Board<T, A> {
         ensures woken { IfSome result (λ woken. woken.worker ≡ worker) }
     {
         let shared = &self.table.shared;
-        let word = self.workers + 1 + worker;
+        let word = self.word_of(worker);
         if shared.load::<LookAtWorker>(&mut visit.seat, word) == AWAKE {
             return None;
         }

@@ -4,7 +4,7 @@ ghost use Rattle.std.specs.Prelude.{◌≤◌, IfSome};
 ghost use Rattle.work_queues.specs.Search.{IsSearch};
 
 use crate::bells::Bells;
-use crate::board::{Board, EMPTY, FILLED, NOBODY, Visit, leave};
+use crate::board::{Board, EMPTY, FILLED, NOBODY, PADDING, Visit, leave};
 use std::alloc::{Allocator, Global};
 use std::hint::spin_loop;
 use std::sync::atomic::Ordering;
@@ -62,7 +62,7 @@ impl<T, A: Allocator> Board<T, A> {
     fn filled(&self) -> usize {
         let mut filled = 0usize;
         for queue in 0..=self.workers {
-            if self.table.shared.peek(queue) == FILLED {
+            if self.table.shared.peek(PADDING * queue) == FILLED {
                 filled = filled.wrapping_add(1);
             }
         }
@@ -73,7 +73,7 @@ impl<T, A: Allocator> Board<T, A> {
     pub fn is_empty(&self, queue: usize) -> bool
         requires { queue ≤ self.now.workers }
     {
-        self.table.shared.peek(queue) == EMPTY
+        self.table.shared.peek(PADDING * queue) == EMPTY
     }
 
     /// Whether the items of a worker's queue stay there at each of some looks. Otherwise that worker is about to run what it has, and would be kept from it.

@@ -1,9 +1,10 @@
 //! The sleep of a worker: it lies down, looks at each queue, sleeps, and gets up.
-ghost use Rattle.std.specs.Prelude.{◌≡◌, ◌+◌, ◌<◌, false};
+ghost use Rattle.std.specs.Prelude.{◌≡◌, ◌+◌, ◌*◌, ◌<◌, false};
+ghost use Rattle.work_queues.specs.Board.{padding};
 ghost use Rattle.work_queues.specs.Sleep.{IsAsleep};
 
 use crate::bells::Bells;
-use crate::board::{ASLEEP, AWAKE, Board, FILLED, Visit, leave};
+use crate::board::{ASLEEP, AWAKE, Board, FILLED, PADDING, Visit, leave};
 use crate::rule::{LieDown, LookAtQueue, Rouse};
 use std::alloc::{Allocator, Global};
 use std::sync::Wait;
@@ -18,18 +19,19 @@ impl<T, A: Allocator> Board<T, A> {
     /// The worker counts as asleep from here on, and owes a look at each queue before it sleeps: `has_items`.
     pub fn lie_down(&self, worker: usize) -> Sleeper<T, A>
         requires { worker < self.now.workers }
-        ensures { IsAsleep self.now result × (result.visit.seat.me.0 ≡ self.now.workers + 1) }
+        ensures { IsAsleep self.now result × (result.visit.seat.me.0 ≡ padding * (self.now.workers + 1)) }
     {
         let mut visit = self.visit();
+        let word = self.word_of(worker);
         self.table
             .shared
-            .swap::<LieDown>(&mut visit.seat, self.workers + 1 + worker, ASLEEP);
+            .swap::<LieDown>(&mut visit.seat, word, ASLEEP);
         Sleeper { visit, worker }
     }
 
     /// Looks at each queue, until one has items.
     pub fn has_items(&self, sleeper: &mut Sleeper<T, A>) -> bool
-        requires { IsAsleep self.now sleeper.old × (sleeper.old.visit.seat.me.0 ≡ self.now.workers + 1) }
+        requires { IsAsleep self.now sleeper.old × (sleeper.old.visit.seat.me.0 ≡ padding * (self.now.workers + 1)) }
         ensures same { IsAsleep self.now sleeper.new }
         ensures none { result ≡ false → sleeper.new.visit.seat.me.0 ≡ 0 }
     {
@@ -38,7 +40,7 @@ impl<T, A: Allocator> Board<T, A> {
             if self
                 .table
                 .shared
-                .load::<LookAtQueue>(&mut sleeper.visit.seat, left - 1)
+                .load::<LookAtQueue>(&mut sleeper.visit.seat, PADDING * (left - 1))
                 == FILLED
             {
                 return true;
@@ -57,7 +59,7 @@ impl<T, A: Allocator> Board<T, A> {
         bells.rests(worker);
         // A ring after the two looks changes what the bell shows.
         let shown = bells.shows(worker);
-        let is_asleep = self.table.shared.peek(self.workers + 1 + worker) == ASLEEP;
+        let is_asleep = self.table.shared.peek(self.word_of(worker)) == ASLEEP;
         if is_asleep && bells.interruptions() == interruptions {
             bells.sleep(rt, worker, shown);
         }
@@ -69,9 +71,10 @@ impl<T, A: Allocator> Board<T, A> {
         requires { IsAsleep self.now sleeper }
     {
         let Sleeper { mut visit, worker } = sleeper;
+        let word = self.word_of(worker);
         self.table
             .shared
-            .swap::<Rouse>(&mut visit.seat, self.workers + 1 + worker, AWAKE);
+            .swap::<Rouse>(&mut visit.seat, word, AWAKE);
         leave(visit);
     }
 }
