@@ -1,11 +1,14 @@
 -- One round of an attempt: what its load and its exchange leave to the next round, or to the caller.
 use Rattle.task_cell.proofs.Vocabulary.{◌≡◌, ℕ, Bool, true, false, Option, Some, None, is_some, List, [], sym, refl, ap, ◌∙◌, subst, ◌==◌, none, Me, step, Allows, State, state_of, number_of, Act, Slot, View}
 use Rattle.task_cell.proofs.Vocabulary.{RuleHolds, head_of, Makes, Machine, Position, Party, deeds, limit_of, StandsWith, Finds, Steps, OwesEnd, may_try, looked, missed, Names, having_seen, observed}
-use Rattle.task_cell.proofs.Vocabulary.{attempted, MayTry, HasChanged, HasEnded, if◌then◌else◌}
+use Rattle.task_cell.proofs.Vocabulary.{attempted, MayTry, HasChanged, HasEnded, HasSeen, if◌then◌else◌}
 use Rattle.std.proofs.Common.{eq-eqb, ne_eqb, ◌&&◌, ◌≢◌}
 use Rattle.counted_block.specs.Counts.{More, Less}
 use Rattle.task_steps.specs.Shares.{shares_out, counted, MayBring, MayGive}
 use Rattle.task_steps.proofs.Shares.{Brings, Gives, Changes, Moves, may_bring, may_give}
+use Rattle.task_steps.specs.Attempts.{HasTried}
+use Rattle.task_steps.specs.declared.attempt.TriedOnce.{TriedOnce}
+use Rattle.task_steps.specs.declared.attempt.TriedOnce.TheVariants.{Made, Ended, Again}
 use prog.Atomic.{either}
 use Rattle.task_core.proofs.Bits.{state_of_number_of}
 use Rattle.task_steps.specs.declared.table.Tries.{Tries}
@@ -27,18 +30,17 @@ names_missed : (w : State) (t : Option Tries) → Names w (missed w t)
 names_missed w None = refl
 names_missed w (Some t) = refl
 
-module _ {F T A : Type 0} where
-  -- the seat is as it was before the attempt, but for what it has seen, which is this word
-  pub record Seeing (w : State) (me now : Me (Slot F T A) View) : Type 0 where
-    pub tries : Option Tries
-    pub names : Names w tries
-    pub is : now ≡ (having_seen tries me.0, me.1)
+-- the word that was seen last, or any, where none was
+abbrev pub seen_word : Option Tries → State
+seen_word None = state_of 0
+seen_word (Some t) = t.seen
 
-  pub seeing_first : (w : State) (me : Me (Slot F T A) View) (t : Option Tries) → Names w t → me.0 ≡ having_seen t me.0 → Seeing w me me
+module _ {F T A : Type 0} where
+  pub seeing_first : (w : State) (me : Me (Slot F T A) View) (t : Option Tries) → Names w t → me.0 ≡ having_seen t me.0 → HasSeen w me me
   seeing_first w me t names is = record { tries = t; names = names; is = λ i. (is i, me.1) }
 
   -- what the rule allows an attempt, at the seat as it is now
-  pub may_exchange : (limit key slots id other : ℕ) (me now : Me (Slot F T A) View) (writes : ℕ → State → Option State) (ends : ℕ → State → Bool) (acts told : State → List Act) (w v : State) (old new : ℕ) → key ≡ limit → slots ≡ 3 → other ≡ id → Seeing w me now
+  pub may_exchange : (limit key slots id other : ℕ) (me now : Me (Slot F T A) View) (writes : ℕ → State → Option State) (ends : ℕ → State → Bool) (acts told : State → List Act) (w v : State) (old new : ℕ) → key ≡ limit → slots ≡ 3 → other ≡ id → HasSeen w me now
       → MayTry limit 3 id me writes ends acts told → Some v ≡ writes limit w → old ≡ number_of w → new ≡ number_of v
       → Allows (RuleHolds {F = F} {T = T} {A = A} key) slots other now 0 (λ n. either (n == old) new n) (attempted acts (step slots 0 old new none) now)
   may_exchange limit key slots id other me now writes ends acts told w v old new a b c s may writing from to = subst
@@ -46,39 +48,35 @@ module _ {F T A : Type 0} where
       (λ i. (sym a i, sym b i, sym c i, sym s.is i, sym from i, sym to i)) (may.exchanges s.tries w v (sym writing) s.names)
 
   -- .. and what it does to the shares
-  pub may_more : (limit key id other : ℕ) (me now : Me (Slot F T A) View) (writes : ℕ → State → Option State) (counts : State → Bool) (w v : State) (old new : ℕ) → key ≡ limit → other ≡ id → Seeing w me now
+  pub may_more : (limit key id other : ℕ) (me now : Me (Slot F T A) View) (writes : ℕ → State → Option State) (counts : State → Bool) (w v : State) (old new : ℕ) → key ≡ limit → other ≡ id → HasSeen w me now
       → MayBring limit id me writes counts → Some v ≡ writes limit w → old ≡ number_of w → new ≡ number_of v
       → More (RuleHolds {F = F} {T = T} {A = A} key) shares_out other now.0 (λ n. either (n == old) new n) (counted {S = Slot F T A} counts (step 3 0 old new none))
   may_more limit key id other me now writes counts w v old new a b s may writing from to = subst
       (λ (z : ℕ × ℕ × Me (Slot F T A) View × ℕ × ℕ). More (RuleHolds {F = F} {T = T} {A = A} z.0) shares_out z.1 z.2.0 (λ n. either (n == z.3) z.4 n) (counted {S = Slot F T A} counts (step 3 0 z.3 z.4 none)))
       (λ i. (sym a i, sym b i, sym s.is i, sym from i, sym to i)) (may s.tries w v (sym writing) s.names)
 
-  pub may_less : (limit key id other : ℕ) (me now : Me (Slot F T A) View) (writes : ℕ → State → Option State) (counts : State → Bool) (w v : State) (old new : ℕ) → key ≡ limit → other ≡ id → Seeing w me now
+  pub may_less : (limit key id other : ℕ) (me now : Me (Slot F T A) View) (writes : ℕ → State → Option State) (counts : State → Bool) (w v : State) (old new : ℕ) → key ≡ limit → other ≡ id → HasSeen w me now
       → MayGive limit id me writes counts → Some v ≡ writes limit w → old ≡ number_of w → new ≡ number_of v
       → Less (RuleHolds {F = F} {T = T} {A = A} key) shares_out other now.0 (λ n. either (n == old) new n) (counted {S = Slot F T A} counts (step 3 0 old new none))
   may_less limit key id other me now writes counts w v old new a b s may writing from to = subst
       (λ (z : ℕ × ℕ × Me (Slot F T A) View × ℕ × ℕ). Less (RuleHolds {F = F} {T = T} {A = A} z.0) shares_out z.1 z.2.0 (λ n. either (n == z.3) z.4 n) (counted {S = Slot F T A} counts (step 3 0 z.3 z.4 none)))
       (λ i. (sym a i, sym b i, sym s.is i, sym from i, sym to i)) (may s.tries w v (sym writing) s.names)
 
-  pub may_load : (limit key slots id other : ℕ) (me now : Me (Slot F T A) View) (writes : ℕ → State → Option State) (ends : ℕ → State → Bool) (acts told : State → List Act) (w : State) → key ≡ limit → slots ≡ 3 → other ≡ id → Seeing w me now
+  pub may_load : (limit key slots id other : ℕ) (me now : Me (Slot F T A) View) (writes : ℕ → State → Option State) (ends : ℕ → State → Bool) (acts told : State → List Act) (w : State) → key ≡ limit → slots ≡ 3 → other ≡ id → HasSeen w me now
       → MayTry limit 3 id me writes ends acts told → Allows (RuleHolds {F = F} {T = T} {A = A} key) slots other now 0 (λ n. n) (observed ends told (step slots 0 0 0 none) now)
   may_load limit key slots id other me now writes ends acts told w a b c s may = subst
       (λ (z : ℕ × ℕ × ℕ × Me (Slot F T A) View). Allows (RuleHolds {F = F} {T = T} {A = A} z.0) z.1 z.2 z.3 0 (λ n. n) (observed ends told (step z.1 0 0 0 none) z.3))
       (λ i. (sym a i, sym b i, sym c i, sym s.is i)) (may.loads s.tries)
 
-  pub start_load : (limit id : ℕ) (me : Me (Slot F T A) View) (writes : ℕ → State → Option State) (ends : ℕ → State → Bool) (acts told : State → List Act) → me.0 ≡ having_seen None me.0
-      → MayTry limit 3 id me writes ends acts told → Allows (RuleHolds {F = F} {T = T} {A = A} limit) 3 id me 0 (λ n. n) (observed ends told (step 3 0 0 0 none) me)
-  start_load limit id me writes ends acts told quiet may = subst (λ (m : Me (Slot F T A) View). Allows (RuleHolds {F = F} {T = T} {A = A} limit) 3 id m 0 (λ n. n) (observed ends told (step 3 0 0 0 none) m)) (λ i. (sym quiet i, me.1)) (may.loads None)
-
   -- the next round: after a load, and after a miss
-  pub seeing_next : (n : ℕ) (v w : State) (me now after : Me (Slot F T A) View) → Seeing v me now → w ≡ state_of n → after ≡ (having_seen (looked (state_of n) (head_of now.0.members).tries) now.0, now.1) → Seeing w me after
+  pub seeing_next : (n : ℕ) (v w : State) (me now after : Me (Slot F T A) View) → HasSeen v me now → w ≡ state_of n → after ≡ (having_seen (looked (state_of n) (head_of now.0.members).tries) now.0, now.1) → HasSeen w me after
   seeing_next n v w me now after s e is = record {
     tries = looked w s.tries;
     names = refl;
     is = subst (λ (z : Me (Slot F T A) View × State). after ≡ (having_seen (looked z.1 (head_of z.0.0.members).tries) z.0.0, z.0.1)) (λ i. (s.is i, sym e i)) is;
   }
 
-  pub seeing_missed : (n : ℕ) (v w : State) (me now after : Me (Slot F T A) View) → Seeing v me now → w ≡ state_of n → after ≡ (having_seen (missed (state_of n) (head_of now.0.members).tries) now.0, now.1) → Seeing w me after
+  pub seeing_missed : (n : ℕ) (v w : State) (me now after : Me (Slot F T A) View) → HasSeen v me now → w ≡ state_of n → after ≡ (having_seen (missed (state_of n) (head_of now.0.members).tries) now.0, now.1) → HasSeen w me after
   seeing_missed n v w me now after s e is = record {
     tries = missed w s.tries;
     names = names_missed w s.tries;
@@ -86,7 +84,7 @@ module _ {F T A : Type 0} where
   }
 
   -- whether the word that a load finds ends the attempt
-  pub ends_at : (ends : ℕ → State → Bool) (limit n : ℕ) (v w : State) (me now : Me (Slot F T A) View) (b : Bool) → ((x : State) → ends me.0.limit x ≡ ends limit x) → Seeing v me now → w ≡ state_of n → ends limit w ≡ b → ends now.0.limit (state_of n) ≡ b
+  pub ends_at : (ends : ℕ → State → Bool) (limit n : ℕ) (v w : State) (me now : Me (Slot F T A) View) (b : Bool) → ((x : State) → ends me.0.limit x ≡ ends limit x) → HasSeen v me now → w ≡ state_of n → ends limit w ≡ b → ends now.0.limit (state_of n) ≡ b
   ends_at ends limit n v w me now b same s e is = ap (λ (z : ℕ × State). ends z.0 z.1) (λ i. (ap (λ (m : Me (Slot F T A) View). m.0.limit) s.is i, sym e i)) ∙ (same w ∙ is)
 
   -- what was made of the seat that has seen something was made of the seat
@@ -94,7 +92,7 @@ module _ {F T A : Type 0} where
   made_of acts w t me after x = record { slots = x.slots; fits = x.fits; viewed = x.viewed; carried = x.carried }
 
   -- the change was made
-  pub changed : (limit n : ℕ) (writes : ℕ → State → Option State) (acts : State → List Act) (w v : State) (me now after : Me (Slot F T A) View) → Seeing w me now → Some v ≡ writes limit w → n ≡ number_of w
+  pub changed : (limit n : ℕ) (writes : ℕ → State → Option State) (acts : State → List Act) (w v : State) (me now after : Me (Slot F T A) View) → HasSeen w me now → Some v ≡ writes limit w → n ≡ number_of w
       → Makes (acts (state_of n)) (state_of n) now after → Knows (head_of now.0.members).deeds (state_of n) → HasChanged limit writes acts w me after
   changed limit n writes acts w v me now after s writing is made knows = let here : state_of n ≡ w = ap state_of is ∙ state_of_number_of w in record {
     written = ap (λ x. is_some x) (sym writing);
@@ -103,7 +101,7 @@ module _ {F T A : Type 0} where
   }
 
   -- the word ended the attempt
-  pub ended : (limit n : ℕ) (ends : ℕ → State → Bool) (told : State → List Act) (v w : State) (me now after : Me (Slot F T A) View) → Seeing v me now → w ≡ state_of n → ends limit w ≡ true
+  pub ended : (limit n : ℕ) (ends : ℕ → State → Bool) (told : State → List Act) (v w : State) (me now after : Me (Slot F T A) View) → HasSeen v me now → w ≡ state_of n → ends limit w ≡ true
       → Makes (told (state_of n)) (state_of n) now after → Knows (head_of now.0.members).deeds (state_of n) → HasEnded limit ends told w me after
   ended limit n ends told v w me now after s e over made knows = record {
     at_end = over;
@@ -111,13 +109,18 @@ module _ {F T A : Type 0} where
     knows = subst (λ (z : State × Me (Slot F T A) View). Knows (head_of z.1.0.members).deeds z.0) (λ i. (sym e i, s.is i)) knows;
   }
 
-  -- an attempt that goes on from a look is one from the seat as it was
-  pub seen_on : (w : State) (me now : Me (Slot F T A) View) → Seeing w me now → (t : Option Tries) × Names w t × (now.0 ≡ having_seen t now.0)
+  -- a look asks for no word that was seen before
+  pub seeing_any : (me : Me (Slot F T A) View) (t : Option Tries) → me.0 ≡ having_seen t me.0 → HasSeen (seen_word t) me me
+  seeing_any me None is = seeing_first (state_of 0) me None tt is
+  seeing_any me (Some t) is = seeing_first t.seen me (Some t) refl is
+
+  -- a try that goes on from another one is one from the seat as it was
+  pub seen_on : (w : State) (me now : Me (Slot F T A) View) → HasSeen w me now → (t : Option Tries) × Names w t × (now.0 ≡ having_seen t now.0)
   seen_on w me now s = (s.tries, s.names, subst (λ (m : Me (Slot F T A) View). m.0 ≡ having_seen s.tries m.0) (sym s.is) refl)
 
-  pub may_still : (limit id other : ℕ) (me now : Me (Slot F T A) View) (writes : ℕ → State → Option State) (ends : ℕ → State → Bool) (acts told : State → List Act) (w : State) → other ≡ id → Seeing w me now
-      → MayTry limit 3 id me writes ends acts told → MayTry limit 3 other now writes ends acts told
-  may_still limit id other me now writes ends acts told w e s may = subst (λ (z : ℕ × Me (Slot F T A) View). MayTry limit 3 z.0 z.1 writes ends acts told) (λ i. (sym e i, sym s.is i)) (record { loads = may.loads; exchanges = may.exchanges })
+  pub may_still : (limit key id other : ℕ) (me now : Me (Slot F T A) View) (writes : ℕ → State → Option State) (ends : ℕ → State → Bool) (acts told : State → List Act) (w : State) → key ≡ limit → other ≡ id → HasSeen w me now
+      → MayTry limit 3 id me writes ends acts told → MayTry key 3 other now writes ends acts told
+  may_still limit key id other me now writes ends acts told w a e s may = subst (λ (z : ℕ × ℕ × Me (Slot F T A) View). MayTry z.0 3 z.1 z.2 writes ends acts told) (λ i. (sym a i, sym e i, sym s.is i)) (record { loads = may.loads; exchanges = may.exchanges })
 
   -- what the rule allows a party that stands here, by what its change and its end owe
   pub may_at : (limit : ℕ) (p : Party F T A) (at : Position) (held : List (ℕ × Slot F T A)) → StandsWith at held p → (writes : ℕ → State → Option State) (ends : ℕ → State → Bool) (acts told : State → List Act) → ((w : State) → ends (limit_of p) w ≡ ends limit w)
@@ -125,16 +128,38 @@ module _ {F T A : Type 0} where
       → OwesEnd F T A limit (ends limit) told at (deeds p) [] held → MayTry limit 3 p.seat.id p.seat.me writes ends acts told
   may_at limit p at held s writes ends acts told same changes over = subst (λ (m : Me (Slot F T A) View). MayTry limit 3 p.seat.id m writes ends acts told) (sym s) (may_try F T A limit 3 p.seat.id (limit_of p) at (deeds p) [] held writes ends acts told refl changes same over)
 
-  -- a change that was made from what the party has seen since was made by the party before
-  pub changed_from : (limit : ℕ) (writes : ℕ → State → Option State) (acts : State → List Act) (w v : State) (me now after : Me (Slot F T A) View) → Seeing v me now → HasChanged limit writes acts w now after → HasChanged limit writes acts w me after
-  changed_from limit writes acts w v me now after s c = let d = subst (λ (m : Me (Slot F T A) View). HasChanged limit writes acts w m after) s.is c in
-      record { written = d.written; made = record { slots = d.made.slots; fits = d.made.fits; viewed = d.made.viewed; carried = d.made.carried }; knows = d.knows }
+  pub same_limit : (ends : ℕ → State → Bool) (limit : ℕ) (w : State) (me now : Me (Slot F T A) View) → HasSeen w me now → ((x : State) → ends me.0.limit x ≡ ends limit x) → (x : State) → ends now.0.limit x ≡ ends limit x
+  same_limit ends limit w me now s same x = ap (λ (m : Me (Slot F T A) View). ends m.0.limit x) s.is ∙ same x
 
-  pub bring_still : (limit id other : ℕ) (me now : Me (Slot F T A) View) (writes : ℕ → State → Option State) (counts : State → Bool) (w : State) → other ≡ id → Seeing w me now → MayBring limit id me writes counts → MayBring limit other now writes counts
+  -- what a later try comes to is what the first one has come to
+  pub seen_after : (v w : State) (me now after : Me (Slot F T A) View) → HasSeen v me now → HasSeen w now after → HasSeen w me after
+  seen_after v w me now after s n = record { tries = n.tries; names = n.names; is = n.is ∙ ap (λ (m : Me (Slot F T A) View). (having_seen n.tries m.0, m.1)) s.is }
+
+  pub changed_after : (limit key : ℕ) (writes : ℕ → State → Option State) (acts : State → List Act) (v w : State) (me now after : Me (Slot F T A) View) → key ≡ limit → HasSeen v me now → HasChanged key writes acts w now after → HasChanged limit writes acts w me after
+  changed_after limit key writes acts v w me now after a s c = record {
+    written = ap (λ l. is_some (writes l w)) (sym a) ∙ c.written;
+    made = made_of (acts w) w s.tries me after (subst (λ (m : Me (Slot F T A) View). Makes (acts w) w m after) s.is c.made);
+    knows = subst (λ (m : Me (Slot F T A) View). Knows (head_of m.0.members).deeds w) s.is c.knows;
+  }
+
+  pub ended_after : (limit key : ℕ) (ends : ℕ → State → Bool) (told : State → List Act) (v w : State) (me now after : Me (Slot F T A) View) → key ≡ limit → HasSeen v me now → HasEnded key ends told w now after → HasEnded limit ends told w me after
+  ended_after limit key ends told v w me now after a s c = record {
+    at_end = ap (λ l. ends l w) (sym a) ∙ c.at_end;
+    made = made_of (told w) w s.tries me after (subst (λ (m : Me (Slot F T A) View). Makes (told w) w m after) s.is c.made);
+    knows = subst (λ (m : Me (Slot F T A) View). Knows (head_of m.0.members).deeds w) s.is c.knows;
+  }
+
+  pub tried_after : {M K : Type 0} (limit : ℕ) (writes : ℕ → State → Option State) (ends : ℕ → State → Bool) (acts told : State → List Act) (v : State) (tried : TriedOnce M K) (me now after : Me (Slot F T A) View) → HasSeen v me now
+      → HasTried limit writes ends acts told tried now after → HasTried limit writes ends acts told tried me after
+  tried_after limit writes ends acts told v (Made w m) me now after s c = changed_after limit limit writes acts v w me now after refl s c
+  tried_after limit writes ends acts told v (Ended w k) me now after s c = ended_after limit limit ends told v w me now after refl s c
+  tried_after limit writes ends acts told v (Again w k) me now after s c = (c.0, seen_after v w me now after s c.1)
+
+  pub bring_still : (limit id other : ℕ) (me now : Me (Slot F T A) View) (writes : ℕ → State → Option State) (counts : State → Bool) (w : State) → other ≡ id → HasSeen w me now → MayBring limit id me writes counts → MayBring limit other now writes counts
   bring_still limit id other me now writes counts w e s may = subst (λ (z : ℕ × Me (Slot F T A) View). MayBring limit z.0 z.1 writes counts) (λ i. (sym e i, sym s.is i)) (λ t v x writing names. may t v x writing names)
 
-  pub give_still : (limit id other : ℕ) (me now : Me (Slot F T A) View) (writes : ℕ → State → Option State) (counts : State → Bool) (w : State) → other ≡ id → Seeing w me now → MayGive limit id me writes counts → MayGive limit other now writes counts
-  give_still limit id other me now writes counts w e s may = subst (λ (z : ℕ × Me (Slot F T A) View). MayGive limit z.0 z.1 writes counts) (λ i. (sym e i, sym s.is i)) (λ t v x writing names. may t v x writing names)
+  pub give_still : (limit key id other : ℕ) (me now : Me (Slot F T A) View) (writes : ℕ → State → Option State) (counts : State → Bool) (w : State) → key ≡ limit → other ≡ id → HasSeen w me now → MayGive limit id me writes counts → MayGive key other now writes counts
+  give_still limit key id other me now writes counts w a e s may = subst (λ (z : ℕ × ℕ × Me (Slot F T A) View). MayGive z.0 z.1 z.2 writes counts) (λ i. (sym a i, sym e i, sym s.is i)) (λ t v x writing names. may t v x writing names)
 
   -- what the rule allows a party that stands here, with what its change does to the shares
   pub may_bring_at : (limit : ℕ) (p : Party F T A) (at : Position) (held : List (ℕ × Slot F T A)) → StandsWith at held p → (writes : ℕ → State → Option State) (ends : ℕ → State → Bool) (acts told : State → List Act) (counts : State → Bool) → ((w : State) → ends (limit_of p) w ≡ ends limit w)

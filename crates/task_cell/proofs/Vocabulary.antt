@@ -73,7 +73,7 @@ pub use Rattle.task_steps.proofs.TaskOwed.{cancels, closed_claimed, detaches, dr
 pub use Rattle.task_steps.proofs.TaskOwed.{none_left, over}
 pub use Rattle.task_steps.proofs.WakerOwed.{closes_orphan, drops_waker, fourth, gains, third}
 pub use Rattle.task_steps.proofs.WakerSeats.{parts_newest}
-pub use Rattle.task_steps.specs.Attempts.{HasChanged, HasEnded, MayTry, Names, attempted, having_seen, looked, missed, observed}
+pub use Rattle.task_steps.specs.Attempts.{HasChanged, HasEnded, HasSeen, MayTry, Names, attempted, having_seen, looked, missed, observed}
 pub use Rattle.task_steps.specs.Deeds.{act, after, row}
 pub use Rattle.task_steps.specs.Found.{closed_by, dropped_by, ending_of, given_up_by}
 pub use Rattle.task_steps.specs.Held.{awaiter_in, held}

@@ -16,6 +16,10 @@ module _ {R F Q M A B O : Type 0} {G : Ghosts F O} where
   abbrev pub limit_in : Share R F Q M A B O G → ℕ
   limit_in share = share.block.key
 
+  -- another share of the same cell
+  abbrev pub IsSame : Share R F Q M A B O G → Share R F Q M A B O G → Type 0
+  IsSame share other = (other.block.id ≡ share.block.id) × (other.block.value ≡ share.block.value) × (other.block.key ≡ share.block.key)
+
 module _ {R F Q M A B O T : Type 0} {G : Ghosts F O} where
   -- the party is one of this cell
   abbrev pub IsOf : Share R F Q M A B O G → Party F T A → Type 0

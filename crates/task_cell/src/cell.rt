@@ -106,15 +106,15 @@ impl<R: Wait + Drop + Copy, F: Yields, Q: Drop, M: Drop, A: Wake, X: Copy, B: Al
     }
 }
 
-impl<R: Wait + Drop + Copy, F: Yields, Q: Drop, M: Drop, A: Wake, X: Copy, B: Allocator + Copy> Runnable<
-    R,
-    F,
-    Q,
-    M,
-    A,
-    X,
-    B,
-> {
+impl<
+    R: Wait + Drop + Copy,
+    F: Yields,
+    Q: Drop,
+    M: Drop,
+    A: Wake,
+    X: Copy,
+    B: Allocator + Copy,
+> Runnable<R, F, Q, M, A, X, B> {
     /// The Runnable of a task that was just spawned, by a share of its cell and the party that `fill` answered with. It makes no step.
     pub fn new(
         share: Share<R, F, Q, M, A, B>,

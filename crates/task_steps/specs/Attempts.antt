@@ -1,10 +1,12 @@
 -- What a party does that tries to change the word by compare and exchange, and what it has seen meanwhile.
-use Rattle.std.specs.Prelude.{◌≡◌, ◌≢◌, ℕ, ◌+◌, ◌==◌, Bool, true, false, List, ◌∷◌, Option, Some, None, is_some}
+use Rattle.std.specs.Prelude.{◌≡◌, ◌≢◌, ◌<◌, ℕ, ◌+◌, ◌==◌, Bool, true, false, List, ◌∷◌, Option, Some, None, is_some}
 use mathlib.Core.Option.{none}
 use prog.Atomic.{either}
 use Rattle.atomic_table.specs.Table.{Me, Step, step, Allows}
 use Rattle.task_core.specs.Word.{State, state_of, number_of}
 use Rattle.task_core.specs.declared.acts.Act.{Act}
+use Rattle.task_steps.specs.declared.attempt.TriedOnce.{TriedOnce}
+use Rattle.task_steps.specs.declared.attempt.TriedOnce.TheVariants.{Made, Ended, Again}
 use Rattle.task_steps.specs.declared.table.Slot.{Slot}
 use Rattle.task_steps.specs.declared.table.Tries.{Tries}
 use Rattle.task_steps.specs.declared.table.View.{View}
@@ -72,3 +74,22 @@ module _ {F T A : Type 0} where
     pub at_end : ends limit w ≡ true
     pub made : Makes (told w) w me me'
     pub knows : Knows (head_of me.0.members).deeds w
+
+  -- or the seat is as it was, but for what it has seen, which is this word
+  pub record HasSeen (w : State) (me me' : Me (Slot F T A) View) : Type 0 where
+    pub tries : Option Tries
+    pub names : Names w tries
+    pub is : me' ≡ (having_seen tries me.0, me.1)
+
+  -- what one try of a change has come to
+  abbrev pub HasTried : {M K : Type 0} → ℕ → (ℕ → State → Option State) → (ℕ → State → Bool) → (State → List Act) → (State → List Act) → TriedOnce M K
+      → Me (Slot F T A) View → Me (Slot F T A) View → Type 0
+  HasTried limit writes ends acts told (Made w m) me me' = HasChanged limit writes acts w me me'
+  HasTried limit writes ends acts told (Ended w k) me me' = HasEnded limit ends told w me me'
+  HasTried limit writes ends acts told (Again w k) me me' = (w.references < 72057594037927935) × HasSeen w me me'
+
+-- where it was made, or was not, this holds of what is answered beside the word
+abbrev pub IfMade : {M K : Type 0} → TriedOnce M K → (State → M → Type 0) → (K → Type 0) → Type 0
+IfMade (Made w m) made kept = made w m
+IfMade (Ended w k) made kept = kept k
+IfMade (Again w k) made kept = kept k

@@ -34,6 +34,16 @@ pub trait Change {
         ensures { result ≡ Self.ends limit word };
 }
 
+/// What one try of a change has come to.
+pub enum TriedOnce<M, K> {
+    /// The change was made on this word, and brought or left this.
+    Made(Word, M),
+    /// This word ended the attempt, and what was given for it is back.
+    Ended(Word, K),
+    /// This word was seen, on which the change is to be tried again.
+    Again(Word, K),
+}
+
 /// A load of an attempt.
 pub struct Observing<P: Change> {
     change: P,

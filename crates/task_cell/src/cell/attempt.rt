@@ -1,22 +1,125 @@
-//! The loops of every change of the word that is made by compare and exchange: one for those that may bring a share, one for those that may give theirs up.
-ghost use Rattle.std.specs.Prelude.{◌≡◌, ◌<◌, not, IfOk, IfErr, Option, None, false};
+//! Every change of the word that is made by compare and exchange: one try, and the loop after a try that missed. A change may bring a share, or give the share up that it is tried with.
+//!
+//! One try cannot wait, and the loop may. After a call that may wait the compiler tests whether it has to stop, at each function in between. So a call that is to be fast begins with one try, and the loop is a function of its own, marked as rare.
+ghost use Rattle.std.specs.Prelude.{◌≡◌, ◌<◌, not, IfOk, IfErr, Option, None, false, ⊤};
 ghost use Rattle.task_core.specs.Word.{State};
 ghost use Rattle.task_steps.specs.declared.table.Tries.{Tries};
-ghost use Rattle.task_steps.specs.Attempts.{Names, having_seen, MayTry, HasChanged, HasEnded};
+ghost use Rattle.task_steps.specs.Attempts.{Names, having_seen, MayTry, HasChanged, HasEnded, HasSeen, HasTried, IfMade};
 ghost use Rattle.task_steps.specs.Shares.{MayBring, MayGive};
-ghost use Rattle.task_cell.specs.Belongs.{IsOf, Leaves, cell_of, limit_in};
+ghost use Rattle.task_cell.specs.Belongs.{IsOf, IsSame, Leaves, limit_in};
 
 use super::{MaybeShare, Party, Share};
 use std::alloc::Allocator;
 use std::sync::Wait;
 use task_core::Yields;
 use task_core::word::Word;
-use task_steps::attempt::{Attempting, Change, Observing};
+use task_steps::attempt::{Attempting, Change, Observing, TriedOnce};
 use task_steps::table::Kept;
 
-impl<R: Wait + Drop + Copy, F: Yields, Q: Drop, M: Drop, A: Drop, B: Allocator + Copy> Share<R, F, Q, M, A, B> {
-    // Tries a change from this word on, which the party has seen, until it is made: the word that it was made on, and the share that it brought, if it did. An `Err` is the word that ended the attempt. Each exchange that misses has met a write of another party.
-    pub(crate) fn attempt_from<P: Change>(
+impl<R: Drop, F: Yields, Q: Drop, M: Drop, A: Drop, B: Allocator + Copy> Share<R, F, Q, M, A, B> {
+    // Looks at the word, by a load: the change is to be tried on it, or it is the error, and has ended the attempt.
+    #[inline(always)]
+    fn observe<P: Change>(&self, party: &mut Party<F, Kept<F>, A>) -> Result<Word, Word>
+        requires cell { IsOf self.now party.old }
+        requires limit { (w : State) → P.ends party.old.seat.me.0.limit w ≡ P.ends (limit_in self.now) w }
+        requires seen { (t : Option Tries) × (party.old.seat.me.0 ≡ having_seen t party.old.seat.me.0) }
+        requires allowed { MayTry (limit_in self.now) 3 party.old.seat.id party.old.seat.me P.writes P.ends P.acts P.told }
+        ensures seat { (party.new.seat.block ≡ party.old.seat.block) × (party.new.seat.id ≡ party.old.seat.id) }
+        ensures again { IfOk result (λ w. (w.references < 72057594037927935) × HasSeen w party.old.seat.me party.new.seat.me) }
+        ensures ended { IfErr result (λ w. HasEnded (limit_in self.now) P.ends P.told w party.old.seat.me party.new.seat.me) }
+    {
+        let word = Word::from_bits(self.block.load::<Observing<P>>(&mut party.seat));
+        if P::is_end(word, self.cell().limit) {
+            Err(word)
+        } else {
+            Ok(word)
+        }
+    }
+
+    // Tries a change once on this word, which the party has seen: by an exchange, or by a look at the word where the change cannot be made on this one.
+    #[inline(always)]
+    pub(crate) fn try_once<P: Change>(
+        &self,
+        party: &mut Party<F, Kept<F>, A>,
+        word: Word,
+    ) -> TriedOnce<MaybeShare<R, F, Q, M, A, B>, ()>
+        requires cell { IsOf self.now party.old }
+        requires limit { (w : State) → P.ends party.old.seat.me.0.limit w ≡ P.ends (limit_in self.now) w }
+        requires room { word.references < 72057594037927935 }
+        requires seen { (t : Option Tries) × Names word t × (party.old.seat.me.0 ≡ having_seen t party.old.seat.me.0) }
+        requires allowed { MayTry (limit_in self.now) 3 party.old.seat.id party.old.seat.me P.writes P.ends P.acts P.told }
+        requires shares { MayBring (limit_in self.now) party.old.seat.id party.old.seat.me P.writes P.counts }
+        ensures seat { (party.new.seat.block ≡ party.old.seat.block) × (party.new.seat.id ≡ party.old.seat.id) }
+        ensures tried { HasTried (limit_in self.now) P.writes P.ends P.acts P.told result party.old.seat.me party.new.seat.me }
+        ensures share { IfMade result (λ w m. Leaves self.now m (P.counts w)) (λ k. ⊤) }
+    {
+        let Some(next) = P::next(word, self.cell().limit) else {
+            return match self.observe::<P>(party) {
+                Ok(found) => TriedOnce::Again(found, ()),
+                Err(found) => TriedOnce::Ended(found, ()),
+            };
+        };
+        let (found, maybe) = self
+            .block
+            .gain::<Attempting<P>>(&mut party.seat, word.bits(), next.bits());
+        if found == word.bits() {
+            return TriedOnce::Made(word, MaybeShare { maybe });
+        }
+        maybe.none();
+        TriedOnce::Again(Word::from_bits(found), ())
+    }
+
+    // Tries once a change that may give this share up, on this word, which the party has seen.
+    #[inline(always)]
+    pub(crate) fn try_giving<P: Change>(
+        self,
+        party: &mut Party<F, Kept<F>, A>,
+        word: Word,
+    ) -> TriedOnce<MaybeShare<R, F, Q, M, A, B>, Self>
+        requires cell { IsOf self party.old }
+        requires limit { (w : State) → P.ends party.old.seat.me.0.limit w ≡ P.ends (limit_in self) w }
+        requires room { word.references < 72057594037927935 }
+        requires seen { (t : Option Tries) × Names word t × (party.old.seat.me.0 ≡ having_seen t party.old.seat.me.0) }
+        requires allowed { MayTry (limit_in self) 3 party.old.seat.id party.old.seat.me P.writes P.ends P.acts P.told }
+        requires shares { MayGive (limit_in self) party.old.seat.id party.old.seat.me P.writes P.counts }
+        ensures seat { (party.new.seat.block ≡ party.old.seat.block) × (party.new.seat.id ≡ party.old.seat.id) }
+        ensures tried { HasTried (limit_in self) P.writes P.ends P.acts P.told result party.old.seat.me party.new.seat.me }
+        ensures share { IfMade result (λ w m. Leaves self m (not (P.counts w))) (λ k. IsSame self k) }
+    {
+        let Some(next) = P::next(word, self.cell().limit) else {
+            return match self.observe::<P>(party) {
+                Ok(found) => TriedOnce::Again(found, self),
+                Err(found) => TriedOnce::Ended(found, self),
+            };
+        };
+        let Share { block } = self;
+        let (found, maybe) = block.part_exchange::<Attempting<P>>(
+            &mut party.seat,
+            word.bits(),
+            next.bits(),
+        );
+        if found == word.bits() {
+            return TriedOnce::Made(word, MaybeShare { maybe });
+        }
+        let share = Share {
+            block: maybe.share(),
+        };
+        TriedOnce::Again(Word::from_bits(found), share)
+    }
+}
+
+impl<R: Wait + Drop + Copy, F: Yields, Q: Drop, M: Drop, A: Drop, B: Allocator + Copy> Share<
+    R,
+    F,
+    Q,
+    M,
+    A,
+    B,
+> {
+    // Tries a change from this word on, until it is made: the word that it was made on, and the share that it brought, if it did. An `Err` is the word that ended the attempt. Each exchange that misses has met a write of another party.
+    #[cold]
+    #[inline(never)]
+    pub(crate) fn attempt_again<P: Change>(
         &self,
         party: &mut Party<F, Kept<F>, A>,
         mut word: Word,
@@ -32,30 +135,43 @@ impl<R: Wait + Drop + Copy, F: Yields, Q: Drop, M: Drop, A: Drop, B: Allocator +
         ensures share { IfOk result (λ r. Leaves self.now r.1 (P.counts r.0)) }
         ensures ended { IfErr result (λ w. HasEnded (limit_in self.now) P.ends P.told w party.old.seat.me party.new.seat.me) }
     {
-        let limit = self.cell().limit;
         for _ in self.cell().rt.forever() {
-            if let Some(next) = P::next(word, limit) {
-                let (found, maybe) = self.block.gain::<Attempting<P>>(
-                    &mut party.seat,
-                    word.bits(),
-                    next.bits(),
-                );
-                if found == word.bits() {
-                    return Ok((word, MaybeShare { maybe }));
-                }
-                maybe.none();
-                word = Word::from_bits(found);
-            } else {
-                word = Word::from_bits(self.block.load::<Observing<P>>(&mut party.seat));
-                if P::is_end(word, limit) {
-                    return Err(word);
-                }
+            match self.try_once::<P>(party, word) {
+                TriedOnce::Made(found, maybe) => return Ok((found, maybe)),
+                TriedOnce::Ended(found, ()) => return Err(found),
+                TriedOnce::Again(found, ()) => word = found,
             }
         }
         unreachable!()
     }
 
+    // Tries a change as `attempt_again` does, once before the loop.
+    #[inline(always)]
+    pub(crate) fn attempt_from<P: Change>(
+        &self,
+        party: &mut Party<F, Kept<F>, A>,
+        word: Word,
+    ) -> Result<(Word, MaybeShare<R, F, Q, M, A, B>), Word>
+        requires cell { IsOf self.now party.old }
+        requires limit { (w : State) → P.ends party.old.seat.me.0.limit w ≡ P.ends (limit_in self.now) w }
+        requires room { word.references < 72057594037927935 }
+        requires seen { (t : Option Tries) × Names word t × (party.old.seat.me.0 ≡ having_seen t party.old.seat.me.0) }
+        requires allowed { MayTry (limit_in self.now) 3 party.old.seat.id party.old.seat.me P.writes P.ends P.acts P.told }
+        requires shares { MayBring (limit_in self.now) party.old.seat.id party.old.seat.me P.writes P.counts }
+        ensures cell { party.new.seat.block ≡ party.old.seat.block }
+        ensures changed { IfOk result (λ r. HasChanged (limit_in self.now) P.writes P.acts r.0 party.old.seat.me party.new.seat.me) }
+        ensures share { IfOk result (λ r. Leaves self.now r.1 (P.counts r.0)) }
+        ensures ended { IfErr result (λ w. HasEnded (limit_in self.now) P.ends P.told w party.old.seat.me party.new.seat.me) }
+    {
+        match self.try_once::<P>(party, word) {
+            TriedOnce::Made(found, maybe) => Ok((found, maybe)),
+            TriedOnce::Ended(found, ()) => Err(found),
+            TriedOnce::Again(found, ()) => self.attempt_again::<P>(party, found),
+        }
+    }
+
     // Tries a change from a look at the word on.
+    #[inline(always)]
     pub(crate) fn attempt<P: Change>(
         &self,
         party: &mut Party<F, Kept<F>, A>,
@@ -70,14 +186,14 @@ impl<R: Wait + Drop + Copy, F: Yields, Q: Drop, M: Drop, A: Drop, B: Allocator +
         ensures share { IfOk result (λ r. Leaves self.now r.1 (P.counts r.0)) }
         ensures ended { IfErr result (λ w. HasEnded (limit_in self.now) P.ends P.told w party.old.seat.me party.new.seat.me) }
     {
-        let word = Word::from_bits(self.block.load::<Observing<P>>(&mut party.seat));
-        if P::is_end(word, self.cell().limit) {
-            return Err(word);
+        match self.observe::<P>(party) {
+            Ok(word) => self.attempt_from::<P>(party, word),
+            Err(word) => Err(word),
         }
-        self.attempt_from::<P>(party, word)
     }
 
     // Tries a change that brings no share, from a look at the word on.
+    #[inline(always)]
     pub(crate) fn change<P: Change>(&self, party: &mut Party<F, Kept<F>, A>) -> Result<Word, Word>
         requires cell { IsOf self.now party.old }
         requires limit { (w : State) → P.ends party.old.seat.me.0.limit w ≡ P.ends (limit_in self.now) w }
@@ -99,7 +215,9 @@ impl<R: Wait + Drop + Copy, F: Yields, Q: Drop, M: Drop, A: Drop, B: Allocator +
     }
 
     // Tries a change that may give this share up, from this word on: the word that it was made on, and the share, if it is left. An `Err` is the word that ended the attempt, and the share.
-    pub(crate) fn give_from<P: Change>(
+    #[cold]
+    #[inline(never)]
+    pub(crate) fn give_again<P: Change>(
         self,
         party: &mut Party<F, Kept<F>, A>,
         mut word: Word,
@@ -114,35 +232,51 @@ impl<R: Wait + Drop + Copy, F: Yields, Q: Drop, M: Drop, A: Drop, B: Allocator +
         ensures changed { IfOk result (λ r. HasChanged (limit_in self) P.writes P.acts r.0 party.old.seat.me party.new.seat.me) }
         ensures share { IfOk result (λ r. Leaves self r.1 (not (P.counts r.0))) }
         ensures ended { IfErr result (λ r. HasEnded (limit_in self) P.ends P.told r.0 party.old.seat.me party.new.seat.me) }
-        ensures kept { IfErr result (λ r. cell_of r.1 ≡ cell_of self) }
+        ensures kept { IfErr result (λ r. IsSame self r.1) }
     {
-        let limit = self.cell().limit;
         let rt = self.cell().rt;
-        let Share { block } = self;
-        let mut block = block;
+        let mut share = self;
         for _ in rt.forever() {
-            if let Some(next) = P::next(word, limit) {
-                let (found, maybe) = block.part_exchange::<Attempting<P>>(
-                    &mut party.seat,
-                    word.bits(),
-                    next.bits(),
-                );
-                if found == word.bits() {
-                    return Ok((word, MaybeShare { maybe }));
-                }
-                block = maybe.share();
-                word = Word::from_bits(found);
-            } else {
-                word = Word::from_bits(block.load::<Observing<P>>(&mut party.seat));
-                if P::is_end(word, limit) {
-                    return Err((word, Share { block }));
+            match share.try_giving::<P>(party, word) {
+                TriedOnce::Made(found, maybe) => return Ok((found, maybe)),
+                TriedOnce::Ended(found, kept) => return Err((found, kept)),
+                TriedOnce::Again(found, kept) => {
+                    word = found;
+                    share = kept;
                 }
             }
         }
         unreachable!()
     }
 
+    // Tries it once before the loop.
+    #[inline(always)]
+    pub(crate) fn give_from<P: Change>(
+        self,
+        party: &mut Party<F, Kept<F>, A>,
+        word: Word,
+    ) -> Result<(Word, MaybeShare<R, F, Q, M, A, B>), (Word, Self)>
+        requires cell { IsOf self party.old }
+        requires limit { (w : State) → P.ends party.old.seat.me.0.limit w ≡ P.ends (limit_in self) w }
+        requires room { word.references < 72057594037927935 }
+        requires seen { (t : Option Tries) × Names word t × (party.old.seat.me.0 ≡ having_seen t party.old.seat.me.0) }
+        requires allowed { MayTry (limit_in self) 3 party.old.seat.id party.old.seat.me P.writes P.ends P.acts P.told }
+        requires shares { MayGive (limit_in self) party.old.seat.id party.old.seat.me P.writes P.counts }
+        ensures cell { party.new.seat.block ≡ party.old.seat.block }
+        ensures changed { IfOk result (λ r. HasChanged (limit_in self) P.writes P.acts r.0 party.old.seat.me party.new.seat.me) }
+        ensures share { IfOk result (λ r. Leaves self r.1 (not (P.counts r.0))) }
+        ensures ended { IfErr result (λ r. HasEnded (limit_in self) P.ends P.told r.0 party.old.seat.me party.new.seat.me) }
+        ensures kept { IfErr result (λ r. IsSame self r.1) }
+    {
+        match self.try_giving::<P>(party, word) {
+            TriedOnce::Made(found, maybe) => Ok((found, maybe)),
+            TriedOnce::Ended(found, kept) => Err((found, kept)),
+            TriedOnce::Again(found, kept) => kept.give_again::<P>(party, found),
+        }
+    }
+
     // Tries a change that may give this share up, and that no word ends, from a look at the word on.
+    #[inline(always)]
     pub(crate) fn give_change<P: Change>(
         self,
         party: &mut Party<F, Kept<F>, A>,
@@ -156,9 +290,11 @@ impl<R: Wait + Drop + Copy, F: Yields, Q: Drop, M: Drop, A: Drop, B: Allocator +
         ensures changed { HasChanged (limit_in self) P.writes P.acts result.0 party.old.seat.me party.new.seat.me }
         ensures share { Leaves self result.1 (not (P.counts result.0)) }
     {
-        let word = Word::from_bits(self.block.load::<Observing<P>>(&mut party.seat));
-        match self.give_from::<P>(party, word) {
-            Ok(made) => made,
+        match self.observe::<P>(party) {
+            Ok(word) => match self.give_from::<P>(party, word) {
+                Ok(made) => made,
+                Err(_) => unreachable!(),
+            },
             Err(_) => unreachable!(),
         }
     }

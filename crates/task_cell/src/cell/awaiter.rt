@@ -12,13 +12,20 @@ ghost use Rattle.task_cell.specs.Belongs.{IsOf};
 use super::{Party, Share};
 use std::alloc::Allocator;
 use std::sync::Wait;
-use task_core::word::{AWAITER, NOTIFYING};
 use task_core::Yields;
+use task_core::word::{AWAITER, NOTIFYING};
 use task_steps::common::{ReleasingAwaiter, TakingAwaiter};
 use task_steps::places::{Held, take_out};
 use task_steps::table::Kept;
 
-impl<R: Wait + Drop + Copy, F: Yields, Q: Drop, M: Drop, A: Drop, B: Allocator + Copy> Share<R, F, Q, M, A, B> {
+impl<R: Wait + Drop + Copy, F: Yields, Q: Drop, M: Drop, A: Drop, B: Allocator + Copy> Share<
+    R,
+    F,
+    Q,
+    M,
+    A,
+    B,
+> {
     // Takes the stored awaiter, unless another party is at it. Both steps are single fetches, never tried again.
     pub(crate) fn notify(&self, party: &mut Party<F, Kept<F>, A>) -> Option<Held<A>>
         requires cell { IsOf self.now party.old }

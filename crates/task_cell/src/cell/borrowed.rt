@@ -12,7 +12,14 @@ use task_core::word::Word;
 use task_steps::table::Kept;
 use task_steps::waker::Borrowing;
 
-impl<R: Wait + Drop + Copy, F: Yields, Q: Drop, M: Drop, A: Drop, B: Allocator + Copy> Share<R, F, Q, M, A, B> {
+impl<R: Wait + Drop + Copy, F: Yields, Q: Drop, M: Drop, A: Drop, B: Allocator + Copy> Share<
+    R,
+    F,
+    Q,
+    M,
+    A,
+    B,
+> {
     // The party of one call by reference, and the word that is found.
     fn borrow(&self) -> (Word, Party<F, Kept<F>, A>)
         ensures cell { IsOf self.now result.1 }

@@ -19,7 +19,14 @@ use task_steps::table::Kept;
 use task_steps::task::Cancelling;
 use task_steps::words::{Cancelled, closed_as};
 
-impl<R: Wait + Drop + Copy, F: Yields, Q: Drop, M: Drop, A: Wake, B: Allocator + Copy> Share<R, F, Q, M, A, B> {
+impl<R: Wait + Drop + Copy, F: Yields, Q: Drop, M: Drop, A: Wake, B: Allocator + Copy> Share<
+    R,
+    F,
+    Q,
+    M,
+    A,
+    B,
+> {
     /// Closes the task, if it is not over. Its future is dropped by the run or the Runnable that there is, or else by one that is handed over here.
     pub fn cancel<X: Copy>(&self, party: &mut Party<F, Kept<F>, A>, around: X)
     where

@@ -24,7 +24,14 @@ use task_steps::places::{Held, take_out};
 use task_steps::poll::HandingOut;
 use task_steps::table::Kept;
 
-impl<R: Wait + Drop + Copy, F: Yields, Q: Drop, M: Drop, A: Drop, B: Allocator + Copy> Share<R, F, Q, M, A, B> {
+impl<R: Wait + Drop + Copy, F: Yields, Q: Drop, M: Drop, A: Drop, B: Allocator + Copy> Share<
+    R,
+    F,
+    Q,
+    M,
+    A,
+    B,
+> {
     // Hands the output out, and ends the poll. One load.
     fn hand_out(&self, party: &mut Party<F, Kept<F>, A>) -> Held<Kept<F>>
         requires cell { IsOf self.now party.old }
@@ -37,7 +44,14 @@ impl<R: Wait + Drop + Copy, F: Yields, Q: Drop, M: Drop, A: Drop, B: Allocator +
     }
 }
 
-impl<R: Wait + Drop + Copy, F: Yields, Q: Drop, M: Drop, A: Wake, B: Allocator + Copy> Share<R, F, Q, M, A, B> {
+impl<R: Wait + Drop + Copy, F: Yields, Q: Drop, M: Drop, A: Wake, B: Allocator + Copy> Share<
+    R,
+    F,
+    Q,
+    M,
+    A,
+    B,
+> {
     // Takes the stored awaiter, and wakes it, unless its wake wakes the caller.
     pub(crate) fn take_awaiter(&self, party: &mut Party<F, Kept<F>, A>, awaiter: &A)
         requires cell { IsOf self.now party.old }

@@ -19,7 +19,14 @@ use task_core::{Schedule, ScheduleInfo, Wake, Yields};
 use task_steps::common::HandingOver;
 use task_steps::table::Kept;
 
-impl<R: Wait + Drop + Copy, F: Yields, Q: Drop, M: Drop, A: Drop, B: Allocator + Copy> Share<R, F, Q, M, A, B> {
+impl<R: Wait + Drop + Copy, F: Yields, Q: Drop, M: Drop, A: Drop, B: Allocator + Copy> Share<
+    R,
+    F,
+    Q,
+    M,
+    A,
+    B,
+> {
     // The Runnable of a party that hands one over. It makes no step.
     fn hand_over(&self, party: &mut Party<F, Kept<F>, A>) -> Party<F, Kept<F>, A>
         requires cell { IsOf self.now party.old }
@@ -32,7 +39,14 @@ impl<R: Wait + Drop + Copy, F: Yields, Q: Drop, M: Drop, A: Drop, B: Allocator +
     }
 }
 
-impl<R: Wait + Drop + Copy, F: Yields, Q: Drop, M: Drop, A: Wake, B: Allocator + Copy> Share<R, F, Q, M, A, B> {
+impl<R: Wait + Drop + Copy, F: Yields, Q: Drop, M: Drop, A: Wake, B: Allocator + Copy> Share<
+    R,
+    F,
+    Q,
+    M,
+    A,
+    B,
+> {
     // Hands a Runnable to the schedule value, by a share that the party's step brought. The act stands in the list before the schedule value is called.
     pub(crate) fn deliver_by<X: Copy>(
         &self,
@@ -83,12 +97,7 @@ impl<R: Wait + Drop + Copy, F: Yields, Q: Drop, M: Drop, A: Wake, B: Allocator +
     }
 
     // Hands the Runnable of a run over that has ended, which ends the call.
-    pub(crate) fn hand_on<X: Copy>(
-        self,
-        party: &mut Party<F, Kept<F>, A>,
-        around: X,
-        woken: bool,
-    )
+    pub(crate) fn hand_on<X: Copy>(self, party: &mut Party<F, Kept<F>, A>, around: X, woken: bool)
     where
         Q: Schedule<Runnable<R, F, Q, M, A, X, B>>,
         requires cell { IsOf self party.old × (limit_of party.old ≡ limit_in self) }

@@ -20,7 +20,14 @@ use task_core::{Wake, Yields};
 use task_steps::run::Discarding;
 use task_steps::table::Kept;
 
-impl<R: Wait + Drop + Copy, F: Yields, Q: Drop, M: Drop, A: Drop, B: Allocator + Copy> Share<R, F, Q, M, A, B> {
+impl<R: Wait + Drop + Copy, F: Yields, Q: Drop, M: Drop, A: Drop, B: Allocator + Copy> Share<
+    R,
+    F,
+    Q,
+    M,
+    A,
+    B,
+> {
     // The task is closed, and its future taken over: a single fetch, never tried again.
     pub(crate) fn discard_start(&self, party: &mut Party<F, Kept<F>, A>)
         requires cell { IsOf self.now party.old }
@@ -31,7 +38,14 @@ impl<R: Wait + Drop + Copy, F: Yields, Q: Drop, M: Drop, A: Drop, B: Allocator +
     }
 }
 
-impl<R: Wait + Drop + Copy, F: Yields, Q: Drop, M: Drop, A: Wake, B: Allocator + Copy> Share<R, F, Q, M, A, B> {
+impl<R: Wait + Drop + Copy, F: Yields, Q: Drop, M: Drop, A: Wake, B: Allocator + Copy> Share<
+    R,
+    F,
+    Q,
+    M,
+    A,
+    B,
+> {
     // Drops a Runnable: the task is closed, its future dropped, and an awaiter that waits is woken.
     pub(crate) fn discard_runnable(self, party: &mut Party<F, Kept<F>, A>)
         requires cell { IsOf self party.old }

@@ -24,7 +24,14 @@ use task_steps::words::{Dropped, dropped_as};
 /// The word of a task that nobody has: scheduled, closed, and with the reference of its last Runnable.
 const ORPHAN: u64 = SCHEDULED | CLOSED | REFERENCE;
 
-impl<R: Wait + Drop + Copy, F: Yields, Q: Drop, M: Drop, A: Drop, B: Allocator + Copy> Share<R, F, Q, M, A, B> {
+impl<R: Wait + Drop + Copy, F: Yields, Q: Drop, M: Drop, A: Drop, B: Allocator + Copy> Share<
+    R,
+    F,
+    Q,
+    M,
+    A,
+    B,
+> {
     // The row of a waker's drop: a single fetch, never tried again. What it found, and the waker's share, where it was the last handle.
     fn drop_reference(
         self,
@@ -50,7 +57,14 @@ impl<R: Wait + Drop + Copy, F: Yields, Q: Drop, M: Drop, A: Drop, B: Allocator +
     }
 }
 
-impl<R: Wait + Drop + Copy, F: Yields, Q: Drop, M: Drop, A: Wake, B: Allocator + Copy> Share<R, F, Q, M, A, B> {
+impl<R: Wait + Drop + Copy, F: Yields, Q: Drop, M: Drop, A: Wake, B: Allocator + Copy> Share<
+    R,
+    F,
+    Q,
+    M,
+    A,
+    B,
+> {
     // Drops a waker. The last handle of a task that is over empties the slots; the last waker of an open task that nobody else has closes it, and hands a Runnable over that ends it.
     pub(crate) fn drop_waker<X: Copy>(self, party: &mut Party<F, Kept<F>, A>, around: X)
     where

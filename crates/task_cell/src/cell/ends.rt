@@ -24,7 +24,14 @@ use task_steps::run::{AnsweringPending, AnsweringReady, Completing, EndingClosed
 use task_steps::table::Kept;
 use task_steps::words::{PendingEnd, pending_end};
 
-impl<R: Wait + Drop + Copy, F: Yields, Q: Drop, M: Drop, A: Drop, B: Allocator + Copy> Share<R, F, Q, M, A, B> {
+impl<R: Wait + Drop + Copy, F: Yields, Q: Drop, M: Drop, A: Drop, B: Allocator + Copy> Share<
+    R,
+    F,
+    Q,
+    M,
+    A,
+    B,
+> {
     // The poll has answered Ready: the word that was found. One load.
     pub(crate) fn answer_ready(&self, party: &mut Party<F, Kept<F>, A>) -> Word
         requires cell { IsOf self.now party.old }
@@ -65,7 +72,14 @@ impl<R: Wait + Drop + Copy, F: Yields, Q: Drop, M: Drop, A: Drop, B: Allocator +
     }
 }
 
-impl<R: Wait + Drop + Copy, F: Yields, Q: Drop, M: Drop, A: Drop, B: Allocator + Copy> Share<R, F, Q, M, A, B> {
+impl<R: Wait + Drop + Copy, F: Yields, Q: Drop, M: Drop, A: Drop, B: Allocator + Copy> Share<
+    R,
+    F,
+    Q,
+    M,
+    A,
+    B,
+> {
     // The end step of a run with its output, after its future was dropped. The seat turns, since only the place in front can be written.
     pub(crate) fn complete(&self, party: &mut Party<F, Kept<F>, A>, output: Held<Kept<F>>) -> Word
         requires cell { IsOf self.now party.old }

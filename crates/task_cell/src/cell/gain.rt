@@ -13,7 +13,14 @@ use task_core::word::Word;
 use task_steps::table::Kept;
 use task_steps::waker::{Gaining, Parting};
 
-impl<R: Wait + Drop + Copy, F: Yields, Q: Drop, M: Drop, A: Drop, B: Allocator + Copy> Share<R, F, Q, M, A, B> {
+impl<R: Wait + Drop + Copy, F: Yields, Q: Drop, M: Drop, A: Drop, B: Allocator + Copy> Share<
+    R,
+    F,
+    Q,
+    M,
+    A,
+    B,
+> {
     // Gains a reference for a new waker: its share and its party are the answer, or `None` where the count that is found is at the limit.
     //
     // `party` is a waker that is lent, and `word` one that was found before: it is tried first.

@@ -14,7 +14,14 @@ pub struct CellHold<R, F: Yields, Q, M, A, B: Allocator + Copy> {
     ghost fitting: { Fitting hold.key hold.value hold.heap },
 }
 
-impl<R: Wait + Drop + Copy, F: Yields, Q: Drop, M: Drop, A: Drop, B: Allocator + Copy> Share<R, F, Q, M, A, B> {
+impl<R: Wait + Drop + Copy, F: Yields, Q: Drop, M: Drop, A: Drop, B: Allocator + Copy> Share<
+    R,
+    F,
+    Q,
+    M,
+    A,
+    B,
+> {
     // A hold of the cell, by one step beside the word. It tries again only where there are 2^63 - 1 holds.
     pub(crate) fn hold(&self) -> CellHold<R, F, Q, M, A, B>
         ensures { result.hold.value ≡ self.now.block.value }
@@ -28,7 +35,14 @@ impl<R: Wait + Drop + Copy, F: Yields, Q: Drop, M: Drop, A: Drop, B: Allocator +
     }
 }
 
-impl<R: Wait + Drop + Copy, F: Yields, Q: Drop, M: Drop, A: Drop, B: Allocator + Copy> CellHold<R, F, Q, M, A, B> {
+impl<R: Wait + Drop + Copy, F: Yields, Q: Drop, M: Drop, A: Drop, B: Allocator + Copy> CellHold<
+    R,
+    F,
+    Q,
+    M,
+    A,
+    B,
+> {
     // What all handles of the task see.
     pub(crate) fn cell(&self) -> &Cell<R, Q, M, B>
         ensures { result.now ≡ self.now.hold.value }

@@ -19,19 +19,21 @@ use task_core::word::Word;
 use task_core::{Future, Poll, Schedule, Wake, Yields};
 use task_steps::table::{Kept, polled};
 
-impl<R: Wait + Drop + Copy, F: Yields, Q: Drop, M: Drop, A: Wake, B: Allocator + Copy> Share<R, F, Q, M, A, B> {
+impl<R: Wait + Drop + Copy, F: Yields, Q: Drop, M: Drop, A: Wake, B: Allocator + Copy> Share<
+    R,
+    F,
+    Q,
+    M,
+    A,
+    B,
+> {
     // One poll of a run that has started, with a waker that it is lent; what it answers is written down, on the word that is told last. No lock is held,
     // and the future stays in its place.
     pub(crate) fn poll_future<X: Copy>(
         self,
         party: Party<F, Kept<F>, A>,
         around: X,
-    ) -> (
-        Self,
-        Party<F, Kept<F>, A>,
-        Poll<F::Output>,
-        Word,
-    )
+    ) -> (Self, Party<F, Kept<F>, A>, Poll<F::Output>, Word)
     where
         F: Future<TaskWaker<R, F, Q, M, A, X, B>>,
         Q: Schedule<Runnable<R, F, Q, M, A, X, B>>,
@@ -55,7 +57,14 @@ impl<R: Wait + Drop + Copy, F: Yields, Q: Drop, M: Drop, A: Wake, B: Allocator +
     }
 }
 
-impl<R: Wait + Drop + Copy, F: Yields, Q: Drop, M: Drop, A: Wake, B: Allocator + Copy> Share<R, F, Q, M, A, B> {
+impl<R: Wait + Drop + Copy, F: Yields, Q: Drop, M: Drop, A: Wake, B: Allocator + Copy> Share<
+    R,
+    F,
+    Q,
+    M,
+    A,
+    B,
+> {
     // Writes down what the poll has answered, so that the party no longer stands where it may poll: the word that was found.
     fn note_answer(
         &self,

@@ -24,7 +24,14 @@ use task_steps::poll::{Looking, LookingAgain};
 use task_steps::table::Kept;
 use task_steps::words::{has_ended, has_to_wait};
 
-impl<R: Wait + Drop + Copy, F: Yields, Q: Drop, M: Drop, A: Drop, B: Allocator + Copy> Share<R, F, Q, M, A, B> {
+impl<R: Wait + Drop + Copy, F: Yields, Q: Drop, M: Drop, A: Drop, B: Allocator + Copy> Share<
+    R,
+    F,
+    Q,
+    M,
+    A,
+    B,
+> {
     // Writes down that the poll has ended.
     fn end_poll(&self, party: &mut Party<F, Kept<F>, A>)
         requires cell { IsOf self.now party.old }
@@ -35,7 +42,14 @@ impl<R: Wait + Drop + Copy, F: Yields, Q: Drop, M: Drop, A: Drop, B: Allocator +
     }
 }
 
-impl<R: Wait + Drop + Copy, F: Yields, Q: Drop, M: Drop, A: Drop, B: Allocator + Copy> Share<R, F, Q, M, A, B> {
+impl<R: Wait + Drop + Copy, F: Yields, Q: Drop, M: Drop, A: Drop, B: Allocator + Copy> Share<
+    R,
+    F,
+    Q,
+    M,
+    A,
+    B,
+> {
     // The first look of a poll, which takes the output where it is there. It answers with the word that it was taken on; the error is a word without an output.
     fn look(&self, party: &mut Party<F, Kept<F>, A>) -> Result<Word, Word>
         requires cell { IsOf self.now party.old }
@@ -56,7 +70,14 @@ impl<R: Wait + Drop + Copy, F: Yields, Q: Drop, M: Drop, A: Drop, B: Allocator +
     }
 }
 
-impl<R: Wait + Drop + Copy, F: Yields, Q: Drop, M: Drop, A: Wake, B: Allocator + Copy> Share<R, F, Q, M, A, B> {
+impl<R: Wait + Drop + Copy, F: Yields, Q: Drop, M: Drop, A: Wake, B: Allocator + Copy> Share<
+    R,
+    F,
+    Q,
+    M,
+    A,
+    B,
+> {
     // Answers ready without output: takes the stored awaiter, and ends the poll.
     fn answer_closed(&self, party: &mut Party<F, Kept<F>, A>, awaiter: &A)
         requires cell { IsOf self.now party.old }

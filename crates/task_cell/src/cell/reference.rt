@@ -26,7 +26,14 @@ use task_steps::run::{Emptying, GivingReferenceUp};
 use task_steps::table::Kept;
 use task_steps::words::is_last;
 
-impl<R: Wait + Drop + Copy, F: Yields, Q: Drop, M: Drop, A: Drop, B: Allocator + Copy> Share<R, F, Q, M, A, B> {
+impl<R: Wait + Drop + Copy, F: Yields, Q: Drop, M: Drop, A: Drop, B: Allocator + Copy> Share<
+    R,
+    F,
+    Q,
+    M,
+    A,
+    B,
+> {
     // Drops what is in the place of the table that the party has in front, and leaves nothing there.
     pub(crate) fn clear(&self, party: &mut Party<F, Kept<F>, A>, place: usize)
         requires place { place < 3 }
@@ -91,7 +98,14 @@ impl<R: Wait + Drop + Copy, F: Yields, Q: Drop, M: Drop, A: Drop, B: Allocator +
     }
 }
 
-impl<R: Wait + Drop + Copy, F: Yields, Q: Drop, M: Drop, A: Wake, B: Allocator + Copy> Share<R, F, Q, M, A, B> {
+impl<R: Wait + Drop + Copy, F: Yields, Q: Drop, M: Drop, A: Wake, B: Allocator + Copy> Share<
+    R,
+    F,
+    Q,
+    M,
+    A,
+    B,
+> {
     // The rest of a run, after its end step. The awaiter that was taken is woken last.
     pub(crate) fn finish(self, party: &mut Party<F, Kept<F>, A>, due: bool)
         requires cell { IsOf self party.old }

@@ -16,7 +16,7 @@ ghost use Rattle.task_steps.specs.Steps.{future_first};
 ghost use Rattle.task_cell.specs.RunCalls.{Stores, AnswersPending, ClosesPending, Closes, EndsReady, EndsUnready};
 ghost use Rattle.task_cell.specs.Belongs.{IsOf, cell_of, limit_in};
 
-use super::{Party, Share, Runnable};
+use super::{Party, Runnable, Share};
 use std::alloc::Allocator;
 use std::sync::Wait;
 use task_core::word::{SCHEDULED, Word};
@@ -26,7 +26,14 @@ use task_steps::run::Unscheduling;
 use task_steps::table::Kept;
 use task_steps::words::{PendingEnd, keeps_output};
 
-impl<R: Wait + Drop + Copy, F: Yields, Q: Drop, M: Drop, A: Drop, B: Allocator + Copy> Share<R, F, Q, M, A, B> {
+impl<R: Wait + Drop + Copy, F: Yields, Q: Drop, M: Drop, A: Drop, B: Allocator + Copy> Share<
+    R,
+    F,
+    Q,
+    M,
+    A,
+    B,
+> {
     // SCHEDULED is cleared, after the future was dropped: a single fetch, never tried again.
     pub(crate) fn unschedule(&self, party: &mut Party<F, Kept<F>, A>) -> Word
         requires cell { IsOf self.now party.old }
@@ -37,7 +44,14 @@ impl<R: Wait + Drop + Copy, F: Yields, Q: Drop, M: Drop, A: Drop, B: Allocator +
     }
 }
 
-impl<R: Wait + Drop + Copy, F: Yields, Q: Drop, M: Drop, A: Drop, B: Allocator + Copy> Share<R, F, Q, M, A, B> {
+impl<R: Wait + Drop + Copy, F: Yields, Q: Drop, M: Drop, A: Drop, B: Allocator + Copy> Share<
+    R,
+    F,
+    Q,
+    M,
+    A,
+    B,
+> {
     // The end step of a run with its output, which is dropped where nobody will claim it.
     pub(crate) fn store_output(
         &self,
@@ -57,7 +71,14 @@ impl<R: Wait + Drop + Copy, F: Yields, Q: Drop, M: Drop, A: Drop, B: Allocator +
     }
 }
 
-impl<R: Wait + Drop + Copy, F: Yields, Q: Drop, M: Drop, A: Wake, B: Allocator + Copy> Share<R, F, Q, M, A, B> {
+impl<R: Wait + Drop + Copy, F: Yields, Q: Drop, M: Drop, A: Wake, B: Allocator + Copy> Share<
+    R,
+    F,
+    Q,
+    M,
+    A,
+    B,
+> {
     // A run of a task that was closed before, from where it has taken the future over.
     pub(crate) fn close_run(self, party: &mut Party<F, Kept<F>, A>)
         requires cell { IsOf self party.old }
@@ -80,7 +101,14 @@ impl<R: Wait + Drop + Copy, F: Yields, Q: Drop, M: Drop, A: Wake, B: Allocator +
     }
 }
 
-impl<R: Wait + Drop + Copy, F: Yields, Q: Drop, M: Drop, A: Wake, B: Allocator + Copy> Share<R, F, Q, M, A, B> {
+impl<R: Wait + Drop + Copy, F: Yields, Q: Drop, M: Drop, A: Wake, B: Allocator + Copy> Share<
+    R,
+    F,
+    Q,
+    M,
+    A,
+    B,
+> {
     // A run, from where its poll has answered Ready, as the party that polled.
     pub(crate) fn finish_ready(self, party: &mut Party<F, Kept<F>, A>, output: Held<Kept<F>>)
         requires cell { IsOf self party.old }

@@ -44,7 +44,14 @@ impl<R, F: Yields, Q, M, A, B: Allocator + Copy> Share<R, F, Q, M, A, B> {
     }
 }
 
-impl<R: Wait + Drop + Copy, F: Yields, Q: Drop, M: Drop, A: Drop, B: Allocator + Copy> Share<R, F, Q, M, A, B> {
+impl<R: Wait + Drop + Copy, F: Yields, Q: Drop, M: Drop, A: Drop, B: Allocator + Copy> Share<
+    R,
+    F,
+    Q,
+    M,
+    A,
+    B,
+> {
     // Ends the last share, of a party that has emptied the places. The cell ends too, unless a schedule call holds it. The last word, and what it means.
     pub(crate) fn close(self, party: &mut Party<F, Kept<F>, A>) -> Option<u64>
         requires cell { IsOf self party.old }

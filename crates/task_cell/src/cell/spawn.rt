@@ -13,7 +13,14 @@ use task_steps::places::{Held, put_future};
 use task_steps::spawn::{Filling, Opening, Spawning};
 use task_steps::table::{Kept, TaskSeat, lay};
 
-impl<R: Wait + Drop + Copy, F: Yields, Q: Drop, M: Drop, A: Drop, B: Allocator + Copy> Share<R, F, Q, M, A, B> {
+impl<R: Wait + Drop + Copy, F: Yields, Q: Drop, M: Drop, A: Drop, B: Allocator + Copy> Share<
+    R,
+    F,
+    Q,
+    M,
+    A,
+    B,
+> {
     /// Puts the future in, by the seat of a cell whose memory was found: the Runnable and the Task.
     pub fn fill(
         &self,
@@ -59,13 +66,15 @@ impl<R: Wait + Drop + Copy, F: Yields, Q: Drop, M: Drop, A: Drop, B: Allocator +
             Ok((first, second, seat)) => {
                 Ok((Share { block: first }, Share { block: second }, seat))
             }
-            Err(Cell {
-                schedule,
-                metadata,
-                limit: _,
-                rt: _,
-                alloc: _,
-            }) => Err((schedule, metadata)),
+            Err(
+                Cell {
+                    schedule,
+                    metadata,
+                    limit: _,
+                    rt: _,
+                    alloc: _,
+                },
+            ) => Err((schedule, metadata)),
         }
     }
 }

@@ -12,7 +12,14 @@ use task_core::Yields;
 use task_steps::start::StartingRun;
 use task_steps::table::Kept;
 
-impl<R: Wait + Drop + Copy, F: Yields, Q: Drop, M: Drop, A: Drop, B: Allocator + Copy> Share<R, F, Q, M, A, B> {
+impl<R: Wait + Drop + Copy, F: Yields, Q: Drop, M: Drop, A: Drop, B: Allocator + Copy> Share<
+    R,
+    F,
+    Q,
+    M,
+    A,
+    B,
+> {
     // Takes the future for a run: true where the run has started, false where the task was closed.
     pub(crate) fn take_up(&self, party: &mut Party<F, Kept<F>, A>) -> bool
         requires cell { IsOf self.now party.old }

@@ -14,7 +14,14 @@ use task_steps::table::Kept;
 use task_steps::waker::{Parting, WakingTask};
 use task_steps::words::was_idle;
 
-impl<R: Wait + Drop + Copy, F: Yields, Q: Drop, M: Drop, A: Drop, B: Allocator + Copy> Share<R, F, Q, M, A, B> {
+impl<R: Wait + Drop + Copy, F: Yields, Q: Drop, M: Drop, A: Drop, B: Allocator + Copy> Share<
+    R,
+    F,
+    Q,
+    M,
+    A,
+    B,
+> {
     // Wakes the task, unless it is over. Where it was idle, the answer is a share for a Runnable, and a deliverer, which is to hand it over.
     //
     // `party` is a waker that is lent, and `word` one that was found before: it is tried first.

@@ -153,15 +153,15 @@ where
     }
 }
 
-impl<R: Wait + Drop + Copy, F: Yields, Q: Drop, M: Drop, A: Wake, X: Copy, B: Allocator + Copy> TaskWaker<
-    R,
-    F,
-    Q,
-    M,
-    A,
-    X,
-    B,
->
+impl<
+    R: Wait + Drop + Copy,
+    F: Yields,
+    Q: Drop,
+    M: Drop,
+    A: Wake,
+    X: Copy,
+    B: Allocator + Copy,
+> TaskWaker<R, F, Q, M, A, X, B>
 where
     Q: Schedule<Runnable<R, F, Q, M, A, X, B>>,
 {

@@ -24,7 +24,14 @@ use task_core::{Future, Poll, Schedule, Wake, Yields};
 use task_steps::places::Held;
 use task_steps::table::Kept;
 
-impl<R: Wait + Drop + Copy, F: Yields, Q: Drop, M: Drop, A: Wake, B: Allocator + Copy> Share<R, F, Q, M, A, B> {
+impl<R: Wait + Drop + Copy, F: Yields, Q: Drop, M: Drop, A: Wake, B: Allocator + Copy> Share<
+    R,
+    F,
+    Q,
+    M,
+    A,
+    B,
+> {
     // Runs the task once. A task that was closed is not polled: its future is dropped. Otherwise the future is polled once, and the run ends by what it answered. The share goes with the run, or on with the Runnable that the run hands over.
     //
     // True where the task was woken meanwhile, and its Runnable was handed to the schedule value.
@@ -56,7 +63,14 @@ impl<R: Wait + Drop + Copy, F: Yields, Q: Drop, M: Drop, A: Wake, B: Allocator +
 }
 
 // The parts of a run, each of a party by value.
-impl<R: Wait + Drop + Copy, F: Yields, Q: Drop, M: Drop, A: Wake, B: Allocator + Copy> Share<R, F, Q, M, A, B> {
+impl<R: Wait + Drop + Copy, F: Yields, Q: Drop, M: Drop, A: Wake, B: Allocator + Copy> Share<
+    R,
+    F,
+    Q,
+    M,
+    A,
+    B,
+> {
     fn begin_run(&self, mut party: Party<F, Kept<F>, A>) -> (Party<F, Kept<F>, A>, bool)
         requires cell { IsOf self.now party }
         requires party { Stands as_runnable party }

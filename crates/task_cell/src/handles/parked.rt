@@ -15,14 +15,14 @@ pub struct ParkedRunnable<R, F: Yields, Q, M, A, B: Allocator + Copy = Global> {
     pub(crate) inner: RunnableSeat<R, F, Q, M, A, B>,
 }
 
-impl<R: Wait + Drop + Copy, F: Yields, Q: Drop, M: Drop, A: Wake, B: Allocator + Copy> ParkedRunnable<
-    R,
-    F,
-    Q,
-    M,
-    A,
-    B,
-> {
+impl<
+    R: Wait + Drop + Copy,
+    F: Yields,
+    Q: Drop,
+    M: Drop,
+    A: Wake,
+    B: Allocator + Copy,
+> ParkedRunnable<R, F, Q, M, A, B> {
     /// The metadata that the builder was given.
     pub fn metadata(&self) -> &M
         ensures { result.now ≡ self.now.inner.share.block.value.metadata }

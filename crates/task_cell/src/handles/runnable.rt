@@ -12,15 +12,15 @@ use std::alloc::Allocator;
 use std::sync::Wait;
 use task_core::{Future, Schedule, Wake, Yields};
 
-impl<R: Wait + Drop + Copy, F: Yields, Q: Drop, M: Drop, A: Wake, X: Copy, B: Allocator + Copy> Runnable<
-    R,
-    F,
-    Q,
-    M,
-    A,
-    X,
-    B,
-> {
+impl<
+    R: Wait + Drop + Copy,
+    F: Yields,
+    Q: Drop,
+    M: Drop,
+    A: Wake,
+    X: Copy,
+    B: Allocator + Copy,
+> Runnable<R, F, Q, M, A, X, B> {
     /// The metadata that the builder was given.
     pub fn metadata(&self) -> &M
         ensures { result.now ≡ self.now.inner.share.block.value.metadata }

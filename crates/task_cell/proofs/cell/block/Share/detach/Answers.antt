@@ -16,5 +16,7 @@ returns-in-Last g c = record { path = detaches_last _ _ _ _ (subst (Detaches c.a
 
 pub returns-in-Orphaned : goal.returns-in-Orphaned
 returns-in-Orphaned g c = let x = (subst (Detaches c.args.party.now c.give_task_up-found.new.party) c.in-Orphaned.is c.give_task_up-found.ensures.path) in
-    record { path = detaches_orphaned _ _ _ _ x (subst (λ z. HandedOver g.Q.Schedule.scheduled z c.args.around false) (same_cell c.args.self c.share-in-Orphaned.result c.give_task_up-found.result.1 _ c.give_task_up-found.ensures.share c.share-in-Orphaned.ensures) c.hand_on.ensures.fact)
-        (c.hand_on.ensures.path Nothing (stands _ _ _ _ _ x.2)) }
+    record {
+      path = detaches_orphaned _ _ _ _ x (subst (λ z. HandedOver g.Q.Schedule.scheduled z c.args.around false) (same_cell c.args.self c.share-in-Orphaned.result c.give_task_up-found.result.1 _ c.give_task_up-found.ensures.share c.share-in-Orphaned.ensures) c.hand_on.ensures.fact)
+          (c.hand_on.ensures.path Nothing (stands _ _ _ _ _ x.2));
+    }

@@ -38,6 +38,8 @@ hand_on-requires-clause-party g c = let x = orphan_closed _ _ _ (subst (DropsWak
 
 pub returns-in-Orphaned : goal.returns-in-Orphaned
 returns-in-Orphaned g c = let d = subst (DropsWaker c.args.party.now c.drop_reference-found.new.party) c.in-Orphaned.is c.drop_reference-found.ensures.path in let x = orphan_closed _ _ _ d c.close_orphan.ensures in
-    record { path = drops_orphaned _ c.args.party.now c.drop_reference-found.new.party c.close_orphan.new.party c.hand_on.new.party d c.close_orphan.ensures
-        (subst (λ z. HandedOver g.Q.Schedule.scheduled z c.args.around false) (same_cell c.args.self c.share-share.result c.drop_reference-found.result.1 _ c.drop_reference-found.ensures.share c.share-share.ensures) c.hand_on.ensures.fact)
-        (c.hand_on.ensures.path Nothing (stands _ _ _ _ _ x)) }
+    record {
+      path = drops_orphaned _ c.args.party.now c.drop_reference-found.new.party c.close_orphan.new.party c.hand_on.new.party d c.close_orphan.ensures
+          (subst (λ z. HandedOver g.Q.Schedule.scheduled z c.args.around false) (same_cell c.args.self c.share-share.result c.drop_reference-found.result.1 _ c.drop_reference-found.ensures.share c.share-share.ensures) c.hand_on.ensures.fact)
+          (c.hand_on.ensures.path Nothing (stands _ _ _ _ _ x));
+    }
