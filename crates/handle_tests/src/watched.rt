@@ -152,7 +152,7 @@ pub type WatchedTask<R> = AwaitedTask<R, Watched>;
 pub type Polled = (bool, bool, bool);
 
 /// Polls such a Task. An output is dropped.
-pub fn poll_awaited<R: Wait + Drop, A: Wake>(
+pub fn poll_awaited<R: Wait + Drop + Copy, A: Wake>(
     task: &mut AwaitedTask<R, A>,
     awaiter: &A,
     number: u64,
