@@ -125,8 +125,8 @@ impl Wake for Watched {
     }
 }
 
-/// A future that behaves like that, and a schedule value, which count here. Stops where there is no memory.
-pub fn counted<R: Abort>(
+// A future that behaves like that, and a schedule value, which count here. Stops where there is no memory.
+fn counted<R: Abort>(
     rt: &R,
     behaviour: Behaviour,
     counters: &Arc<Counters>,
