@@ -32,15 +32,15 @@ where
     pub(crate) cancelled: bool,
 }
 
-impl<R: Wait + Drop + Copy, F: Yields, Q: Drop, M: Drop, A: Wake, X: Copy, B: Allocator + Copy> Cancel<
-    R,
-    F,
-    Q,
-    M,
-    A,
-    X,
-    B,
->
+impl<
+    R: Wait + Drop + Copy,
+    F: Yields,
+    Q: Drop,
+    M: Drop,
+    A: Wake,
+    X: Copy,
+    B: Allocator + Copy,
+> Cancel<R, F, Q, M, A, X, B>
 where
     Q: Schedule<Runnable<R, F, Q, M, A, X, B>>,
 {

@@ -28,15 +28,15 @@ where
     pub(crate) task: Task<R, F, Q, M, A, X, B>,
 }
 
-impl<R: Wait + Drop + Copy, F: Yields, Q: Drop, M: Drop, A: Wake, X: Copy, B: Allocator + Copy> FallibleTask<
-    R,
-    F,
-    Q,
-    M,
-    A,
-    X,
-    B,
->
+impl<
+    R: Wait + Drop + Copy,
+    F: Yields,
+    Q: Drop,
+    M: Drop,
+    A: Wake,
+    X: Copy,
+    B: Allocator + Copy,
+> FallibleTask<R, F, Q, M, A, X, B>
 where
     Q: Schedule<Runnable<R, F, Q, M, A, X, B>>,
 {

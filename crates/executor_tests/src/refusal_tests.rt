@@ -80,7 +80,8 @@ impl Yields for WideFuture {
     type Output = Output;
 }
 
-impl<'x, R: Wait + Drop + Copy, M: Drop, B: Allocator + Copy> Future<WideWaker<'x, R, M, B>> for WideFuture {
+impl<'x, R: Wait + Drop + Copy, M: Drop, B: Allocator + Copy> Future<WideWaker<'x, R, M, B>>
+    for WideFuture {
     ghost polled = { λ _ _ _ _. ⊤ };
 
     fn poll(&mut self, waker: &WideWaker<'x, R, M, B>) -> Poll<Output> {

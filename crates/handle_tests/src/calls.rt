@@ -107,7 +107,11 @@ pub fn is_pending<R: Wait + Drop + Copy>(task: &mut RowTask<'_, R>, awaiter: &Fl
 }
 
 /// Polls a Task: whether it is ready with that number.
-pub fn is_ready<R: Wait + Drop + Copy>(task: &mut RowTask<'_, R>, awaiter: &Flag, number: u64) -> bool {
+pub fn is_ready<R: Wait + Drop + Copy>(
+    task: &mut RowTask<'_, R>,
+    awaiter: &Flag,
+    number: u64,
+) -> bool {
     is_ready_with(&task.poll(awaiter), number)
 }
 
@@ -150,7 +154,10 @@ pub fn task_shows<R: Wait + Drop + Copy>(
 }
 
 /// Polls a Cancel: whether it is pending, and whether it is ready without an output.
-pub fn poll_cancel<R: Wait + Drop + Copy>(cancel: &mut RowCancel<'_, R>, awaiter: &Flag) -> (bool, bool) {
+pub fn poll_cancel<R: Wait + Drop + Copy>(
+    cancel: &mut RowCancel<'_, R>,
+    awaiter: &Flag,
+) -> (bool, bool) {
     let polled = cancel.poll(awaiter);
     (
         matches!(&polled, TaskPoll::Pending),

@@ -64,7 +64,10 @@ fn park_and_discard<R: Wait + Drop + Copy>(waker: RowWaker<'_, R>, surroundings:
 }
 
 // Wakes an idle task thrice, by reference and then by value: what was queued after the first wake, and after all.
-fn wake_idle<R: Wait + Drop + Copy>(waker: RowWaker<'_, R>, surroundings: &Surroundings<R>) -> [usize; 2] {
+fn wake_idle<R: Wait + Drop + Copy>(
+    waker: RowWaker<'_, R>,
+    surroundings: &Surroundings<R>,
+) -> [usize; 2] {
     calls::wake_by_ref(&waker);
     let woken = waker.around().queued();
     calls::wake_by_ref(&waker);

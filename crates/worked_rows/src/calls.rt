@@ -233,7 +233,11 @@ pub fn is_refused<R: Wait + Drop + Copy>(task: &mut RowTask<'_, R>, awaiter: &Fl
 }
 
 /// Polls a Task: whether it is ready with that number.
-pub fn is_ready<R: Wait + Drop + Copy>(task: &mut RowTask<'_, R>, awaiter: &Flag, number: u64) -> bool {
+pub fn is_ready<R: Wait + Drop + Copy>(
+    task: &mut RowTask<'_, R>,
+    awaiter: &Flag,
+    number: u64,
+) -> bool {
     is_ready_with(&task.poll(awaiter), number)
 }
 
@@ -267,22 +271,34 @@ pub fn task_shows<R: Wait + Drop + Copy>(
 }
 
 /// Polls a FallibleTask: whether it is ready without an output.
-pub fn is_fallible_empty<R: Wait + Drop + Copy>(task: &mut RowFallible<'_, R>, awaiter: &Flag) -> bool {
+pub fn is_fallible_empty<R: Wait + Drop + Copy>(
+    task: &mut RowFallible<'_, R>,
+    awaiter: &Flag,
+) -> bool {
     matches!(task.poll(awaiter), TaskPoll::Ready(None))
 }
 
 /// Polls a Cancel: whether it is pending.
-pub fn is_cancel_pending<R: Wait + Drop + Copy>(cancel: &mut RowCancel<'_, R>, awaiter: &Flag) -> bool {
+pub fn is_cancel_pending<R: Wait + Drop + Copy>(
+    cancel: &mut RowCancel<'_, R>,
+    awaiter: &Flag,
+) -> bool {
     matches!(cancel.poll(awaiter), TaskPoll::Pending)
 }
 
 /// Polls a Cancel: whether its awaiter was refused.
-pub fn is_cancel_refused<R: Wait + Drop + Copy>(cancel: &mut RowCancel<'_, R>, awaiter: &Flag) -> bool {
+pub fn is_cancel_refused<R: Wait + Drop + Copy>(
+    cancel: &mut RowCancel<'_, R>,
+    awaiter: &Flag,
+) -> bool {
     matches!(cancel.poll(awaiter), TaskPoll::Refused)
 }
 
 /// Polls a Cancel: whether it is ready without an output.
-pub fn is_cancel_empty<R: Wait + Drop + Copy>(cancel: &mut RowCancel<'_, R>, awaiter: &Flag) -> bool {
+pub fn is_cancel_empty<R: Wait + Drop + Copy>(
+    cancel: &mut RowCancel<'_, R>,
+    awaiter: &Flag,
+) -> bool {
     matches!(cancel.poll(awaiter), TaskPoll::Ready(None))
 }
 
@@ -297,7 +313,9 @@ pub fn drop_cancel<R: Wait + Drop + Copy>(cancel: RowCancel<'_, R>) {
 }
 
 /// A waker of a Runnable, unless it is refused.
-pub fn waker_of<'x, R: Wait + Drop + Copy>(runnable: &RowRunnable<'x, R>) -> Option<RowWaker<'x, R>> {
+pub fn waker_of<'x, R: Wait + Drop + Copy>(
+    runnable: &RowRunnable<'x, R>,
+) -> Option<RowWaker<'x, R>> {
     runnable.waker()
 }
 

@@ -101,7 +101,11 @@ fn run_by_priority<R: Wait + Drop + Copy>(
 }
 
 // Whether a poll of the Task answers ready with that number.
-fn answers<R: Wait + Drop + Copy>(task: &mut PriorityTask<'_, R>, flag: &Flag, number: u64) -> bool {
+fn answers<R: Wait + Drop + Copy>(
+    task: &mut PriorityTask<'_, R>,
+    flag: &Flag,
+    number: u64,
+) -> bool {
     is_ready_with(&task.poll(flag), number)
 }
 

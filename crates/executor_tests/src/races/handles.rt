@@ -32,7 +32,10 @@ pub fn poll<R: Wait + Drop + Copy>(
 }
 
 /// Polls a Task: whether it is pending.
-pub fn is_pending<R: Wait + Drop + Copy>(task: &mut RaceTask<'_, R>, awaiter: &RaceAwaiter) -> bool {
+pub fn is_pending<R: Wait + Drop + Copy>(
+    task: &mut RaceTask<'_, R>,
+    awaiter: &RaceAwaiter,
+) -> bool {
     matches!(task.poll(awaiter), TaskPoll::Pending)
 }
 
