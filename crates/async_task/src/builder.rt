@@ -1,19 +1,18 @@
 //! Spawning a task.
 ghost use Rattle.std.specs.Prelude.{◌≡◌, ◌<◌, [], min, IfOk, IfErr};
 ghost use Rattle.std.specs.Fn.{FnOnceReturnsAt};
-ghost use Rattle.std.specs.Arc.{arc_value};
 ghost use Rattle.task_steps.specs.Rule.{laid_view};
 ghost use Rattle.task_steps.specs.Standing.{as_task};
+ghost use Rattle.task_cell.specs.Belongs.{cell_of, limit_in};
 ghost use Rattle.task_cell.specs.Calls.{Stands, deeds};
 
 use crate::task::{Task, TaskParty};
-use inline_table::Seat;
 use std::alloc::Allocator;
 use std::sync::Wait;
-use task_cell::{Cell, Runnable, Share};
+use task_cell::{Runnable, Share};
 use task_core::word::LIMIT;
 use task_core::{Schedule, Wake, Yields};
-use task_steps::table::{Kept, Slot, View};
+use task_steps::table::{Kept, TaskSeat};
 
 /// What a spawn is given beside the future and the schedule value: the metadata, and the limit of references.
 #[derive(Debug, Drop)]
@@ -101,7 +100,7 @@ impl<M: Drop> Builder<M> {
         around: X,
     ) -> Result<(Runnable<R, F, Q, M, A, X, B>, Task<R, F, Q, M, A, X, B>), SpawnError<M, G, Q>>
     where
-        R: Wait + Drop,
+        R: Wait + Drop + Copy,
         F: Yields,
         A: Wake,
         X: Copy,
@@ -109,17 +108,17 @@ impl<M: Drop> Builder<M> {
         G: FnOnce(&M) -> F,
         Q: Schedule<Runnable<R, F, Q, M, A, X, B>> + Drop,
         requires { G.IsAlwaysCallable maker }
-        ensures shares { IfOk result (λ handles. arc_value handles.1.inner.share.cell ≡ arc_value handles.0.inner.share.cell) }
+        ensures shares { IfOk result (λ handles. cell_of handles.1.inner.share ≡ cell_of handles.0.inner.share) }
         ensures opening { IfOk result (λ handles. Stands (as_task 0) handles.1.inner.party × (deeds handles.1.inner.party ≡ [])) }
         ensures around { IfOk result (λ handles. (handles.0.around ≡ around) × (handles.1.around ≡ around)) }
-        ensures given { IfOk result (λ handles. let cell = arc_value handles.0.inner.share.cell in (cell.metadata ≡ self.metadata) × (cell.limit ≡ self.limit) × (cell.schedule ≡ schedule)) }
+        ensures given { IfOk result (λ handles. let block = handles.0.inner.share.block in (block.value.metadata ≡ self.metadata) × (block.key ≡ self.limit) × (block.value.schedule ≡ schedule)) }
         ensures made { IfOk result (λ _. (future : F) × FnOnceReturnsAt G.FnOnce maker self.metadata future) }
         ensures refused { IfErr result (λ e. (e.builder ≡ self) × (e.maker ≡ maker) × (e.schedule ≡ schedule)) }
     {
         let Builder { metadata, limit } = self;
-        match Cell::make(rt, alloc, schedule, metadata, limit) {
+        match Share::make(rt, alloc, schedule, metadata, limit) {
             Ok((first, second, seat)) => {
-                let future = maker(first.cell().metadata());
+                let future = maker(first.metadata());
                 Ok(handles_of(first, second, seat, future, around))
             }
             Err((schedule, metadata)) => Err(SpawnError {
@@ -135,25 +134,25 @@ impl<M: Drop> Builder<M> {
 fn handles_of<R, F, Q, M, A, X, B>(
     first: Share<R, F, Q, M, A, B>,
     second: Share<R, F, Q, M, A, B>,
-    seat: Seat<Slot<F, Kept<F>, A>, View>,
+    seat: TaskSeat<F, Kept<F>, A>,
     future: F,
     around: X,
 ) -> (Runnable<R, F, Q, M, A, X, B>, Task<R, F, Q, M, A, X, B>)
 where
-    R: Wait + Drop,
+    R: Wait + Drop + Copy,
     F: Yields,
     M: Drop,
     A: Wake,
     X: Copy,
-    B: Allocator,
+    B: Allocator + Copy,
     Q: Schedule<Runnable<R, F, Q, M, A, X, B>> + Drop,
-    requires shares { arc_value second.cell ≡ arc_value first.cell }
-    requires seat { (seat.table_id ≡ (arc_value first.cell).table.table_id) × (seat.me ≡ (laid_view (arc_value first.cell).limit, [])) }
+    requires shares { cell_of second ≡ cell_of first }
+    requires seat { (seat.block ≡ first.block.id) × (seat.me ≡ (laid_view (limit_in first), [])) }
     ensures cells { (result.0.inner.share ≡ first) × (result.1.inner.share ≡ second) }
     ensures opening { Stands (as_task 0) result.1.inner.party × (deeds result.1.inner.party ≡ []) }
     ensures around { (result.0.around ≡ around) × (result.1.around ≡ around) }
 {
-    let (runnable, task) = first.cell().fill(seat, future);
+    let (runnable, task) = first.fill(seat, future);
     let runnable = Runnable::new(first, runnable, around);
     let task = TaskParty {
         share: second,
@@ -180,19 +179,19 @@ pub fn spawn<R, F, Q, A, X, B>(
     around: X,
 ) -> Result<(Runnable<R, F, Q, (), A, X, B>, Task<R, F, Q, (), A, X, B>), SpawnError<(), F, Q>>
 where
-    R: Wait + Drop,
+    R: Wait + Drop + Copy,
     F: Yields,
     A: Wake,
     X: Copy,
     B: Allocator + Copy,
     Q: Schedule<Runnable<R, F, Q, (), A, X, B>> + Drop,
-    ensures shares { IfOk result (λ handles. arc_value handles.1.inner.share.cell ≡ arc_value handles.0.inner.share.cell) }
+    ensures shares { IfOk result (λ handles. cell_of handles.1.inner.share ≡ cell_of handles.0.inner.share) }
     ensures opening { IfOk result (λ handles. Stands (as_task 0) handles.1.inner.party × (deeds handles.1.inner.party ≡ [])) }
     ensures around { IfOk result (λ handles. (handles.0.around ≡ around) × (handles.1.around ≡ around)) }
-    ensures given { IfOk result (λ handles. let cell = arc_value handles.0.inner.share.cell in (cell.limit ≡ LIMIT) × (cell.schedule ≡ schedule)) }
+    ensures given { IfOk result (λ handles. let block = handles.0.inner.share.block in (block.key ≡ LIMIT) × (block.value.schedule ≡ schedule)) }
     ensures refused { IfErr result (λ e. (e.builder.limit ≡ LIMIT) × (e.maker ≡ future) × (e.schedule ≡ schedule)) }
 {
-    match Cell::make(rt, alloc, schedule, (), LIMIT) {
+    match Share::make(rt, alloc, schedule, (), LIMIT) {
         Ok((first, second, seat)) => Ok(handles_of(first, second, seat, future, around)),
         Err((schedule, metadata)) => Err(SpawnError {
             builder: Builder {

@@ -1,6 +1,6 @@
 //! The Task as a handle that cancels the task, and waits until its future is gone.
 ghost use Rattle.std.specs.Prelude.{◌≡◌, List, true, false, None};
-ghost use Rattle.std.specs.Arc.{arc_value};
+ghost use Rattle.task_cell.specs.Belongs.{cell_of};
 ghost use Rattle.task_steps.specs.declared.table.Deed.{Deed};
 ghost use Rattle.task_steps.specs.Steps.{saw_over, saw_ended};
 ghost use Rattle.task_cell.specs.TaskPaths.{CancelPath};
@@ -17,13 +17,13 @@ use task_core::{Schedule, TaskPoll, Wake, Yields};
 /// A Task whose first poll cancels the task. Each poll answers as that of a `FallibleTask` does. Dropped, polled or not, it cancels the task.
 #[derive(Drop)]
 pub struct Cancel<
-    R: Wait + Drop,
+    R: Wait + Drop + Copy,
     F: Yields,
     Q: Drop,
     M: Drop,
     A: Wake,
     X: Copy,
-    B: Allocator = Global,
+    B: Allocator + Copy = Global,
 >
 where
     Q: Schedule<Runnable<R, F, Q, M, A, X, B>>,
@@ -32,15 +32,15 @@ where
     pub(crate) cancelled: bool,
 }
 
-impl<R: Wait + Drop, F: Yields, Q: Drop, M: Drop, A: Wake, X: Copy, B: Allocator> Cancel<
-    R,
-    F,
-    Q,
-    M,
-    A,
-    X,
-    B,
->
+impl<
+    R: Wait + Drop + Copy,
+    F: Yields,
+    Q: Drop,
+    M: Drop,
+    A: Wake,
+    X: Copy,
+    B: Allocator + Copy,
+> Cancel<R, F, Q, M, A, X, B>
 where
     Q: Schedule<Runnable<R, F, Q, M, A, X, B>>,
 {
@@ -77,7 +77,7 @@ where
     /// The output meets what the type of the future states. After `None` each later poll answers the same.
     /// `Refused` says that the clone was refused: the task is cancelled all the same, nothing was registered, and an awaiter that an earlier poll registered is still woken.
     pub fn poll(&mut self, awaiter: &A) -> TaskPoll<Option<F::Output>>
-        ensures path { PollsClosed self.old.cancelled (CancelPath (HandedOver Q.scheduled (arc_value self.old.task.inner.share.cell) self.old.task.around false) ((a : A) × A.woken a)) A.cloned A.woken A.woken_by_ref A.compared awaiter.now self.old.task.inner.party self.new.task.inner.party result }
+        ensures path { PollsClosed self.old.cancelled (CancelPath (HandedOver Q.scheduled (cell_of self.old.task.inner.share) self.old.task.around false) ((a : A) × A.woken a)) A.cloned A.woken A.woken_by_ref A.compared awaiter.now self.old.task.inner.party self.new.task.inner.party result }
         ensures meets { IfSomeOutput result (λ output. ∥ F.Yields.meets output ∥₁) }
         ensures ended { saw_ended (deeds self.old.task.inner.party) ≡ true → result ≡ TaskPoll.Ready None }
         ensures closed { result ≡ TaskPoll.Ready None → saw_ended (deeds self.new.task.inner.party) ≡ true }
@@ -91,7 +91,7 @@ where
 
     // Cancels the task, unless an earlier poll did.
     fn cancel_once(&mut self)
-        ensures path { (path : List Deed) × ClosesUnless self.old.cancelled (CancelPath (HandedOver Q.scheduled (arc_value self.old.task.inner.share.cell) self.old.task.around false) ((a : A) × A.woken a)) path × Goes path (position self.old.task.inner.party) self.old.task.inner.party self.new.task.inner.party }
+        ensures path { (path : List Deed) × ClosesUnless self.old.cancelled (CancelPath (HandedOver Q.scheduled (cell_of self.old.task.inner.share) self.old.task.around false) ((a : A) × A.woken a)) path × Goes path (position self.old.task.inner.party) self.old.task.inner.party self.new.task.inner.party }
         ensures cancelled { self.new.cancelled ≡ true }
         ensures ended { saw_ended (deeds self.old.task.inner.party) ≡ true → saw_ended (deeds self.new.task.inner.party) ≡ true }
         ensures cell { self.new.task.inner.share ≡ self.old.task.inner.share }

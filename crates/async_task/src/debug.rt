@@ -9,36 +9,36 @@ use task_core::{Schedule, Wake, Yields};
 
 /// Shows the word as one load finds it, and the metadata. No party notes that load.
 impl<
-    R: Wait + Drop,
+    R: Wait + Drop + Copy,
     F: Yields,
     Q: Drop,
     M: Drop + fmt::Debug,
     A: Wake,
     X: Copy,
-    B: Allocator,
+    B: Allocator + Copy,
 > fmt::Debug for Task<R, F, Q, M, A, X, B>
 where
     Q: Schedule<Runnable<R, F, Q, M, A, X, B>>,
 {
     fn fmt<W: fmt::Write>(&self, f: &mut fmt::Formatter<W>) -> fmt::Result {
-        self.inner.share.cell().show(f, "Task")
+        self.inner.share.show(f, "Task")
     }
 }
 
 /// Shows the word as one load finds it, and the metadata. No party notes that load.
 impl<
-    R: Wait + Drop,
+    R: Wait + Drop + Copy,
     F: Yields,
     Q: Drop,
     M: Drop + fmt::Debug,
     A: Wake,
     X: Copy,
-    B: Allocator,
+    B: Allocator + Copy,
 > fmt::Debug for FallibleTask<R, F, Q, M, A, X, B>
 where
     Q: Schedule<Runnable<R, F, Q, M, A, X, B>>,
 {
     fn fmt<W: fmt::Write>(&self, f: &mut fmt::Formatter<W>) -> fmt::Result {
-        self.task.inner.share.cell().show(f, "FallibleTask")
+        self.task.inner.share.show(f, "FallibleTask")
     }
 }

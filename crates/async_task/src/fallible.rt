@@ -1,6 +1,5 @@
 //! The Task as a handle whose polls answer `None` for a task that is closed.
 ghost use Rattle.std.specs.Prelude.{◌≡◌, true, false, None};
-ghost use Rattle.std.specs.Arc.{arc_value};
 ghost use Rattle.task_steps.specs.Steps.{saw_over, saw_ended};
 ghost use Rattle.async_task.specs.HandlePaths.{FindsFinished, PollsOnce, IfSomeOutput};
 ghost use Rattle.task_cell.specs.Calls.{deeds};
@@ -15,13 +14,13 @@ use task_core::{Schedule, TaskPoll, Wake, Yields};
 /// A Task whose polls answer `None` where a Task's answer `TaskClosed`. Dropped, it cancels the task.
 #[derive(Drop)]
 pub struct FallibleTask<
-    R: Wait + Drop,
+    R: Wait + Drop + Copy,
     F: Yields,
     Q: Drop,
     M: Drop,
     A: Wake,
     X: Copy,
-    B: Allocator = Global,
+    B: Allocator + Copy = Global,
 >
 where
     Q: Schedule<Runnable<R, F, Q, M, A, X, B>>,
@@ -29,21 +28,21 @@ where
     pub(crate) task: Task<R, F, Q, M, A, X, B>,
 }
 
-impl<R: Wait + Drop, F: Yields, Q: Drop, M: Drop, A: Wake, X: Copy, B: Allocator> FallibleTask<
-    R,
-    F,
-    Q,
-    M,
-    A,
-    X,
-    B,
->
+impl<
+    R: Wait + Drop + Copy,
+    F: Yields,
+    Q: Drop,
+    M: Drop,
+    A: Wake,
+    X: Copy,
+    B: Allocator + Copy,
+> FallibleTask<R, F, Q, M, A, X, B>
 where
     Q: Schedule<Runnable<R, F, Q, M, A, X, B>>,
 {
     /// The metadata that the builder was given.
     pub fn metadata(&self) -> &M
-        ensures { result.now ≡ (arc_value self.now.task.inner.share.cell).metadata }
+        ensures { result.now ≡ self.now.task.inner.share.block.value.metadata }
     {
         self.task.metadata()
     }

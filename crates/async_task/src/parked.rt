@@ -2,7 +2,6 @@
 //! It must be unparked again; nothing is dropped of one that is forgotten.
 
 ghost use Rattle.std.specs.Prelude.{◌≡◌};
-ghost use Rattle.std.specs.Arc.{arc_value};
 
 use crate::task::{Task, TaskParty};
 use std::alloc::{Allocator, Global};
@@ -11,11 +10,11 @@ use task_cell::Runnable;
 use task_core::{Schedule, Wake, Yields};
 
 /// A Task without the surroundings. It counts as the Task, and can't be dropped: it is unparked.
-pub struct ParkedTask<R, F: Yields, Q, M, A, B: Allocator = Global> {
+pub struct ParkedTask<R, F: Yields, Q, M, A, B: Allocator + Copy = Global> {
     pub(crate) inner: TaskParty<R, F, Q, M, A, B>,
 }
 
-impl<R: Wait + Drop, F: Yields, Q: Drop, M: Drop, A: Wake, B: Allocator> ParkedTask<
+impl<R: Wait + Drop + Copy, F: Yields, Q: Drop, M: Drop, A: Wake, B: Allocator + Copy> ParkedTask<
     R,
     F,
     Q,
@@ -25,9 +24,9 @@ impl<R: Wait + Drop, F: Yields, Q: Drop, M: Drop, A: Wake, B: Allocator> ParkedT
 > {
     /// The metadata that the builder was given.
     pub fn metadata(&self) -> &M
-        ensures { result.now ≡ (arc_value self.now.inner.share.cell).metadata }
+        ensures { result.now ≡ self.now.inner.share.block.value.metadata }
     {
-        self.inner.share.cell().metadata()
+        self.inner.share.metadata()
     }
 
     /// The Task again, with these surroundings. It makes no step.

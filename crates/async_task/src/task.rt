@@ -1,6 +1,6 @@
 //! The Task: the handle that awaits the output.
 ghost use Rattle.std.specs.Prelude.{◌≡◌, ℕ, List, ◌∷◌, [], true, false, None};
-ghost use Rattle.std.specs.Arc.{arc_value};
+ghost use Rattle.task_cell.specs.Belongs.{cell_of};
 ghost use Rattle.task_steps.specs.declared.table.Deed.{Deed};
 ghost use Rattle.task_steps.specs.Rule.{view, member};
 ghost use Rattle.task_steps.specs.Steps.{saw_over, saw_ended};
@@ -16,7 +16,7 @@ use crate::fallible::FallibleTask;
 use crate::parked::ParkedTask;
 use std::alloc::{Allocator, Global};
 use std::sync::Wait;
-use task_cell::{Cell, Kept, Party, Runnable, Share};
+use task_cell::{Kept, Party, Runnable, Share};
 use task_core::{Schedule, TaskPoll, Wake, Yields};
 
 /// The task is closed, and no output will come.
@@ -24,17 +24,17 @@ use task_core::{Schedule, TaskPoll, Wake, Yields};
 pub struct TaskClosed;
 
 /// A share of a cell, and the party of its Task.
-pub(crate) struct TaskParty<R, F: Yields, Q, M, A, B: Allocator> {
+pub(crate) struct TaskParty<R, F: Yields, Q, M, A, B: Allocator + Copy> {
     pub(crate) share: Share<R, F, Q, M, A, B>,
     pub(crate) party: Party<F, Kept<F>, A>,
-    ghost seated: { party.seat.table_id ≡ (arc_value share.cell).table.table_id },
-    ghost limited: { limit_of party ≡ (arc_value share.cell).limit },
+    ghost seated: { party.seat.block ≡ share.block.id },
+    ghost limited: { limit_of party ≡ share.block.key },
     ghost placed: { is_task (position party) ≡ true },
     ghost alone: { party.seat.me.0 ≡ view (limit_of party) (member (position party) (deeds party) ∷ []) },
     ghost free: { is_empty (holds party) ≡ true },
 }
 
-impl<R: Wait + Drop, F: Yields, Q: Drop, M: Drop, A: Wake, B: Allocator> TaskParty<
+impl<R: Wait + Drop + Copy, F: Yields, Q: Drop, M: Drop, A: Wake, B: Allocator + Copy> TaskParty<
     R,
     F,
     Q,
@@ -49,7 +49,7 @@ impl<R: Wait + Drop, F: Yields, Q: Drop, M: Drop, A: Wake, B: Allocator> TaskPar
         ensures ended { saw_ended (deeds self.old.party) ≡ true → saw_ended (deeds self.new.party) ≡ true }
         ensures share { self.new.share ≡ self.old.share }
     {
-        self.share.cell().is_finished(&mut self.party)
+        self.share.is_finished(&mut self.party)
     }
 
     // One poll of the Task. The output that it hands out meets what the type of the future states.
@@ -60,7 +60,7 @@ impl<R: Wait + Drop, F: Yields, Q: Drop, M: Drop, A: Wake, B: Allocator> TaskPar
         ensures closed { result ≡ TaskPoll.Ready None → saw_ended (deeds self.new.party) ≡ true }
         ensures share { self.new.share ≡ self.old.share }
     {
-        match self.share.cell().poll(&mut self.party, awaiter) {
+        match self.share.poll(&mut self.party, awaiter) {
             TaskPoll::Pending => TaskPoll::Pending,
             TaskPoll::Refused => TaskPoll::Refused,
             TaskPoll::Ready(Some(kept)) => TaskPoll::Ready(Some(kept.output)),
@@ -72,22 +72,22 @@ impl<R: Wait + Drop, F: Yields, Q: Drop, M: Drop, A: Wake, B: Allocator> TaskPar
     pub(crate) fn cancel<X: Copy>(&mut self, around: X)
     where
         Q: Schedule<Runnable<R, F, Q, M, A, X, B>>,
-        ensures path { (path : List Deed) × CancelPath (HandedOver Q.scheduled (arc_value self.old.share.cell) around false) ((a : A) × A.woken a) path × Goes path (position self.old.party) self.old.party self.new.party }
+        ensures path { (path : List Deed) × CancelPath (HandedOver Q.scheduled (cell_of self.old.share) around false) ((a : A) × A.woken a) path × Goes path (position self.old.party) self.old.party self.new.party }
         ensures share { self.new.share ≡ self.old.share }
     {
-        Cell::cancel(self.share.cell(), &mut self.party, around);
+        self.share.cancel(&mut self.party, around);
     }
 }
 
 /// The handle that gets the output. Dropped, it cancels the task.
 pub struct Task<
-    R: Wait + Drop,
+    R: Wait + Drop + Copy,
     F: Yields,
     Q: Drop,
     M: Drop,
     A: Wake,
     X: Copy,
-    B: Allocator = Global,
+    B: Allocator + Copy = Global,
 >
 where
     Q: Schedule<Runnable<R, F, Q, M, A, X, B>>,
@@ -96,7 +96,7 @@ where
     pub(crate) around: X,
 }
 
-impl<R: Wait + Drop, F: Yields, Q: Drop, M: Drop, A: Wake, X: Copy, B: Allocator> Drop
+impl<R: Wait + Drop + Copy, F: Yields, Q: Drop, M: Drop, A: Wake, X: Copy, B: Allocator + Copy> Drop
     for Task<R, F, Q, M, A, X, B>
 where
     Q: Schedule<Runnable<R, F, Q, M, A, X, B>>,
@@ -104,22 +104,21 @@ where
     fn drop(self) {
         let (inner, around) = self.into_parts();
         let TaskParty { share, mut party } = inner;
-        Cell::cancel(share.cell(), &mut party, around);
-        Cell::detach(share.cell(), &mut party, around);
+        share.cancel(&mut party, around);
+        share.detach(&mut party, around);
         party.let_go();
-        share.leave();
     }
 }
 
-impl<R: Wait + Drop, F: Yields, Q: Drop, M: Drop, A: Wake, X: Copy, B: Allocator> Task<
-    R,
-    F,
-    Q,
-    M,
-    A,
-    X,
-    B,
->
+impl<
+    R: Wait + Drop + Copy,
+    F: Yields,
+    Q: Drop,
+    M: Drop,
+    A: Wake,
+    X: Copy,
+    B: Allocator + Copy,
+> Task<R, F, Q, M, A, X, B>
 where
     Q: Schedule<Runnable<R, F, Q, M, A, X, B>>,
 {
@@ -133,9 +132,9 @@ where
 
     /// The metadata that the builder was given.
     pub fn metadata(&self) -> &M
-        ensures { result.now ≡ (arc_value self.now.inner.share.cell).metadata }
+        ensures { result.now ≡ self.now.inner.share.block.value.metadata }
     {
-        self.inner.share.cell().metadata()
+        self.inner.share.metadata()
     }
 
     /// The surroundings that the handle carries.
@@ -193,9 +192,8 @@ where
     pub fn detach(self) {
         let (inner, around) = self.into_parts();
         let TaskParty { share, mut party } = inner;
-        Cell::detach(share.cell(), &mut party, around);
+        share.detach(&mut party, around);
         party.let_go();
-        share.give_up();
     }
 
     /// Whether the task is completed or closed. Once it is, each further answer is true.

@@ -30,7 +30,7 @@ where
     F: Yields,
     M: Drop,
     X: Copy,
-    B: Allocator,
+    B: Allocator + Copy,
     Q: Schedule<Runnable<R, F, Q, M, Awaiter<R>, X, B>> + Drop,
     ensures meets { IfOk result (λ output. ∥ F.Yields.meets output ∥₁) }
     ensures closed { result ≡ Err BlockOnError.Closed → saw_ended (deeds task.new.inner.party) ≡ true }

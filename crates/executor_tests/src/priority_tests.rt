@@ -52,17 +52,17 @@ fn prioritized<R: Wait + Abort + Drop + Copy>(
 }
 
 // Detaches a Task.
-fn detach<R: Wait + Drop>(task: PriorityTask<'_, R>) {
+fn detach<R: Wait + Drop + Copy>(task: PriorityTask<'_, R>) {
     task.detach();
 }
 
 // Schedules a Runnable.
-fn schedule<R: Wait + Drop>(runnable: PriorityRunnable<'_, R>) {
+fn schedule<R: Wait + Drop + Copy>(runnable: PriorityRunnable<'_, R>) {
     runnable.schedule();
 }
 
 // Drops a Runnable: its priority.
-fn discarded<R: Wait + Drop>(runnable: Prioritized<R>) -> u64 {
+fn discarded<R: Wait + Drop + Copy>(runnable: Prioritized<R>) -> u64 {
     let priority = *runnable.metadata();
     drop(runnable);
     priority
@@ -82,7 +82,7 @@ fn push<R: Wait + Abort + Drop + Copy>(
 }
 
 // Takes a Runnable out and drops it: its priority.
-fn pop<R: Wait + Drop>(heap: &mut Heap<R>) -> Option<u64> {
+fn pop<R: Wait + Drop + Copy>(heap: &mut Heap<R>) -> Option<u64> {
     match heap.pop() {
         Some(runnable) => Some(discarded(runnable)),
         None => None,
@@ -90,12 +90,12 @@ fn pop<R: Wait + Drop>(heap: &mut Heap<R>) -> Option<u64> {
 }
 
 // Takes one more Runnable out, and drops the heap and the queue: its priority.
-fn pop_last<R: Wait + Drop>(_queue: PriorityQueue<R>, mut heap: Heap<R>) -> Option<u64> {
+fn pop_last<R: Wait + Drop + Copy>(_queue: PriorityQueue<R>, mut heap: Heap<R>) -> Option<u64> {
     pop(&mut heap)
 }
 
 // Whether there is no heap with that room, and whether there is no queue.
-fn refuses<R: Wait + Drop>(rt: R, alloc: Global, room: usize) -> [bool; 2] {
+fn refuses<R: Wait + Drop + Copy>(rt: R, alloc: Global, room: usize) -> [bool; 2] {
     let made: Result<Heap<R>, AllocError> = PriorityHeap::new(alloc, room);
     [made.is_err(), PriorityQueue::new(rt, alloc, room).is_err()]
 }
@@ -136,7 +136,7 @@ fn push_all<R: Wait + Abort + Drop + Copy>(
 }
 
 // Takes as many Runnables out as there are priorities: how many had the priority at their place, from the last to the first.
-fn pop_all<R: Wait + Drop>(heap: &mut Heap<R>, priorities: &[u64]) -> u64 {
+fn pop_all<R: Wait + Drop + Copy>(heap: &mut Heap<R>, priorities: &[u64]) -> u64 {
     let mut right = 0u64;
     for priority in priorities.iter().rev() {
         if pop(heap) == Some(*priority) {

@@ -48,7 +48,7 @@ type WideTask<'x, R, M, B> = Task<R, WideFuture, WideScheduler, M, Flag, &'x Cou
 
 type WideWaker<'x, R, M, B> = TaskWaker<R, WideFuture, WideScheduler, M, Flag, &'x Counter, B>;
 
-impl<'x, R: Wait + Drop, M: Drop, B: Allocator> Schedule<WideRunnable<'x, R, M, B>>
+impl<'x, R: Wait + Drop + Copy, M: Drop, B: Allocator + Copy> Schedule<WideRunnable<'x, R, M, B>>
     for WideScheduler {
     ghost scheduled = { λ _ _ _. ⊤ };
 
@@ -80,7 +80,8 @@ impl Yields for WideFuture {
     type Output = Output;
 }
 
-impl<'x, R: Wait + Drop, M: Drop, B: Allocator> Future<WideWaker<'x, R, M, B>> for WideFuture {
+impl<'x, R: Wait + Drop + Copy, M: Drop, B: Allocator + Copy> Future<WideWaker<'x, R, M, B>>
+    for WideFuture {
     ghost polled = { λ _ _ _ _. ⊤ };
 
     fn poll(&mut self, waker: &WideWaker<'x, R, M, B>) -> Poll<Output> {
@@ -107,7 +108,7 @@ type HeapWaker<'x, 'heap, R> = WideWaker<'x, R, (), &'heap LocalHeap>;
 type HeapHandles<'x, 'heap, R> = (HeapRunnable<'x, 'heap, R>, HeapTask<'x, 'heap, R>);
 
 // Ends a task that was spawned.
-fn discard_both<R: Wait + Drop, M: Drop>(
+fn discard_both<R: Wait + Drop + Copy, M: Drop>(
     runnable: CountedRunnable<'_, '_, R, M>,
     task: CountedTask<'_, '_, R, M>,
 ) {
@@ -277,7 +278,7 @@ fn spawn_limited<'x, 'heap, R: Wait + Abort + Drop + Copy>(
 }
 
 // Whether a waker is refused a clone. One that is given is dropped.
-fn refuses_clone<R: Wait + Drop>(waker: &HeapWaker<'_, '_, R>) -> bool {
+fn refuses_clone<R: Wait + Drop + Copy>(waker: &HeapWaker<'_, '_, R>) -> bool {
     waker.try_clone().is_none()
 }
 

@@ -48,7 +48,7 @@ type StoppedRunnable<'x, R> = Runnable<R, Idle, Stops, (), Nobody, &'x Meeting>;
 
 type SharedWaker<'x, R> = TaskWaker<R, Idle, Stops, (), Nobody, &'x Meeting>;
 
-impl<'x, R: Wait + Drop> Schedule<StoppedRunnable<'x, R>> for Stops {
+impl<'x, R: Wait + Drop + Copy> Schedule<StoppedRunnable<'x, R>> for Stops {
     ghost scheduled = { λ _ _ _. ⊤ };
 
     fn schedule(&self, runnable: StoppedRunnable<'x, R>, _info: ScheduleInfo) {
@@ -72,7 +72,7 @@ fn comes(counter: &Counter) -> bool {
 }
 
 // Wakes often while a wake by the same waker stops in the schedule value: whether it stopped throughout.
-fn wake_beside<R: Wait + Drop>(waker: &SharedWaker<'_, R>, meeting: &Meeting) -> bool {
+fn wake_beside<R: Wait + Drop + Copy>(waker: &SharedWaker<'_, R>, meeting: &Meeting) -> bool {
     if !comes(&meeting.entered) {
         return false;
     }

@@ -21,7 +21,7 @@ impl Yields for Yielding {
     type Output = ();
 }
 
-impl<'x, R: Wait + Drop> Future<SlotWaker<'x, R>> for Yielding {
+impl<'x, R: Wait + Drop + Copy> Future<SlotWaker<'x, R>> for Yielding {
     ghost polled = { λ _ _ _ _. ⊤ };
 
     fn poll(&mut self, waker: &SlotWaker<'x, R>) -> Poll<()> {
@@ -44,18 +44,18 @@ type SlotWaker<'x, R> = TaskWaker<R, Yielding, WithInfo<LastFirst>, u64, Flag, &
 type SlotParked<R> = ParkedRunnable<R, Yielding, WithInfo<LastFirst>, u64, Flag>;
 
 // A parked handle cannot be dropped: it is unparked first.
-fn drop_parked<R: Wait + Drop>(parked: SlotParked<R>) {
+fn drop_parked<R: Wait + Drop + Copy>(parked: SlotParked<R>) {
     drop(parked.unpark(()));
 }
 
 // A slot of one Runnable, and the list beside it.
-struct Slots<R: Wait + Drop> {
+struct Slots<R: Wait + Drop + Copy> {
     rt: R,
     slot: Mutex<Option<SlotParked<R>>>,
     list: Mutex<VecDeque<SlotParked<R>>>,
 }
 
-impl<R: Wait + Drop> Slots<R> {
+impl<R: Wait + Drop + Copy> Slots<R> {
     fn new(rt: R, alloc: Global) -> Slots<R> {
         Slots {
             rt,
@@ -111,7 +111,7 @@ impl<R: Wait + Drop> Slots<R> {
     }
 }
 
-impl<R: Wait + Drop> Drop for Slots<R> {
+impl<R: Wait + Drop + Copy> Drop for Slots<R> {
     fn drop(self) {
         let Slots { rt, slot, list } = self;
         if let Some(parked) = slot.into_inner() {
@@ -126,7 +126,7 @@ impl<R: Wait + Drop> Drop for Slots<R> {
     }
 }
 
-impl<'x, R: Wait + Drop> Schedule<SlotRunnable<'x, R>> for LastFirst {
+impl<'x, R: Wait + Drop + Copy> Schedule<SlotRunnable<'x, R>> for LastFirst {
     ghost scheduled = { λ _ _ _. ⊤ };
 
     fn schedule(&self, runnable: SlotRunnable<'x, R>, info: ScheduleInfo) {

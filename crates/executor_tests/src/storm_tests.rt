@@ -20,7 +20,7 @@ const WAKES: u32 = 1_000;
 const TURNS: u32 = 10_000_000;
 
 // What each of the four threads does.
-fn wake_often<R: Wait + Drop>(waker: RowWaker<'_, R>, ended: &Counter) {
+fn wake_often<R: Wait + Drop + Copy>(waker: RowWaker<'_, R>, ended: &Counter) {
     for _ in 0..WAKES {
         waker.wake_by_ref();
     }

@@ -21,7 +21,7 @@ use std::process::Abort;
 use std::sync::{Arc, Mutex, Wait};
 
 /// Surroundings that hold one Runnable, parked: room that was there before any task.
-pub struct Tray<'heap, R: Wait + Drop> {
+pub struct Tray<'heap, R: Wait + Drop + Copy> {
     rt: R,
     held: Mutex<Option<TrayParked<'heap, R>>>,
 }
@@ -92,7 +92,7 @@ type TrayParked<'heap, R> = ParkedRunnable<
 
 type TrayHandles<'x, 'heap, R> = (TrayRunnable<'x, 'heap, R>, TrayTask<'x, 'heap, R>);
 
-impl<'heap, R: Wait + Drop> Tray<'heap, R> {
+impl<'heap, R: Wait + Drop + Copy> Tray<'heap, R> {
     /// An empty tray.
     pub fn new(rt: R) -> Tray<'heap, R> {
         Tray {
@@ -130,11 +130,11 @@ impl<'heap, R: Wait + Drop> Tray<'heap, R> {
 }
 
 // A parked handle cannot be dropped: it is unparked first.
-fn drop_parked<R: Wait + Drop>(parked: TrayParked<'_, R>) {
+fn drop_parked<R: Wait + Drop + Copy>(parked: TrayParked<'_, R>) {
     drop(parked.unpark(()));
 }
 
-impl<'heap, R: Wait + Drop> Drop for Tray<'heap, R> {
+impl<'heap, R: Wait + Drop + Copy> Drop for Tray<'heap, R> {
     fn drop(self) {
         let Tray { rt, held } = self;
         if let Some(parked) = held.into_inner() {
@@ -150,7 +150,7 @@ pub struct TrayScheduler {
     inner: Scheduler,
 }
 
-impl<'x, 'heap, R: Wait + Drop> Schedule<TrayRunnable<'x, 'heap, R>> for TrayScheduler {
+impl<'x, 'heap, R: Wait + Drop + Copy> Schedule<TrayRunnable<'x, 'heap, R>> for TrayScheduler {
     ghost scheduled = { λ _ _ _. ⊤ };
 
     fn schedule(&self, runnable: TrayRunnable<'x, 'heap, R>, _info: ScheduleInfo) {
@@ -169,7 +169,7 @@ impl Yields for TrayFuture {
     type Output = Output;
 }
 
-impl<'x, 'heap, R: Wait + Drop> Future<TrayWaker<'x, 'heap, R>> for TrayFuture {
+impl<'x, 'heap, R: Wait + Drop + Copy> Future<TrayWaker<'x, 'heap, R>> for TrayFuture {
     ghost polled = { λ old _ answer new. IsPolled old.inner.behaviour answer new.inner.behaviour };
 
     fn poll(&mut self, _waker: &TrayWaker<'x, 'heap, R>) -> Poll<Output> {
@@ -215,7 +215,7 @@ pub fn spawn_in<'x, 'heap, R: Wait + Abort + Drop + Copy>(
 }
 
 /// Runs: what the run answers.
-pub fn run<R: Wait + Drop>(runnable: TrayRunnable<'_, '_, R>) -> bool {
+pub fn run<R: Wait + Drop + Copy>(runnable: TrayRunnable<'_, '_, R>) -> bool {
     runnable.run()
 }
 
@@ -232,13 +232,13 @@ pub fn reschedule<'x, 'heap, R: Wait + Abort + Drop + Copy>(
 }
 
 /// Detaches a Task: what is counted then.
-pub fn detach<R: Wait + Drop>(task: TrayTask<'_, '_, R>, counters: &Counters) -> Counts {
+pub fn detach<R: Wait + Drop + Copy>(task: TrayTask<'_, '_, R>, counters: &Counters) -> Counts {
     task.detach();
     counters.counts()
 }
 
 /// Polls each of the three handles that await a task: whether all are pending.
-pub fn are_pending<R: Wait + Drop>(
+pub fn are_pending<R: Wait + Drop + Copy>(
     task: &mut TrayTask<'_, '_, R>,
     fallible: &mut TrayFallible<'_, '_, R>,
     cancel: &mut TrayCancel<'_, '_, R>,
@@ -251,7 +251,7 @@ pub fn are_pending<R: Wait + Drop>(
 }
 
 /// Polls each of the three, and drops it: whether the Task was ready with that number, and both others without an output.
-pub fn are_ready<R: Wait + Drop>(
+pub fn are_ready<R: Wait + Drop + Copy>(
     mut task: TrayTask<'_, '_, R>,
     mut fallible: TrayFallible<'_, '_, R>,
     mut cancel: TrayCancel<'_, '_, R>,
@@ -276,6 +276,6 @@ pub fn waker_of<'x, 'heap, R: Wait + Abort + Drop + Copy>(
 }
 
 /// Wakes by value.
-pub fn wake<R: Wait + Drop>(waker: TrayWaker<'_, '_, R>) {
+pub fn wake<R: Wait + Drop + Copy>(waker: TrayWaker<'_, '_, R>) {
     waker.wake();
 }

@@ -212,7 +212,7 @@ enum First {
 }
 
 // Ends a task, by that first.
-fn end_by<R: Wait + Drop>(runnable: WatchedRunnable<R>, task: WatchedTask<R>, first: First) {
+fn end_by<R: Wait + Drop + Copy>(runnable: WatchedRunnable<R>, task: WatchedTask<R>, first: First) {
     match first {
         First::Run => {
             runnable.run();

@@ -119,7 +119,7 @@ fn spawn_by_maker<'x, R: Wait + Drop + Copy>(
 }
 
 // Runs a task and polls its Task: the metadata that the handles told, what the run answered, and whether the output is the metadata 7.
-fn run_prior<R: Wait + Drop>(
+fn run_prior<R: Wait + Drop + Copy>(
     runnable: PriorityRunnable<'_, R>,
     mut task: PriorityTask<'_, R>,
     flag: &Flag,

@@ -51,7 +51,7 @@ pub fn spawn_limited<'x, R: Wait + Abort + Drop + Copy>(
 }
 
 /// Runs: what the run answers.
-pub fn run<R: Wait + Drop>(runnable: RowRunnable<'_, R>) -> bool {
+pub fn run<R: Wait + Drop + Copy>(runnable: RowRunnable<'_, R>) -> bool {
     runnable.run()
 }
 
@@ -88,7 +88,7 @@ pub fn go_idle<'x, R: Wait + Abort + Drop + Copy>(
 }
 
 /// Drops a Runnable.
-pub fn drop_runnable<R: Wait + Drop>(runnable: RowRunnable<'_, R>) {
+pub fn drop_runnable<R: Wait + Drop + Copy>(runnable: RowRunnable<'_, R>) {
     drop(runnable);
 }
 
@@ -102,37 +102,41 @@ pub fn runnable_shows<R: Wait + Drop + Copy>(
 }
 
 /// Polls a Task: whether it is pending.
-pub fn is_pending<R: Wait + Drop>(task: &mut RowTask<'_, R>, awaiter: &Flag) -> bool {
+pub fn is_pending<R: Wait + Drop + Copy>(task: &mut RowTask<'_, R>, awaiter: &Flag) -> bool {
     matches!(task.poll(awaiter), TaskPoll::Pending)
 }
 
 /// Polls a Task: whether it is ready with that number.
-pub fn is_ready<R: Wait + Drop>(task: &mut RowTask<'_, R>, awaiter: &Flag, number: u64) -> bool {
+pub fn is_ready<R: Wait + Drop + Copy>(
+    task: &mut RowTask<'_, R>,
+    awaiter: &Flag,
+    number: u64,
+) -> bool {
     is_ready_with(&task.poll(awaiter), number)
 }
 
 /// Polls a Task: whether it is closed.
-pub fn is_closed<R: Wait + Drop>(task: &mut RowTask<'_, R>, awaiter: &Flag) -> bool {
+pub fn is_closed<R: Wait + Drop + Copy>(task: &mut RowTask<'_, R>, awaiter: &Flag) -> bool {
     matches!(task.poll(awaiter), TaskPoll::Ready(Err(TaskClosed)))
 }
 
 /// Whether the task of a Task is finished.
-pub fn is_finished<R: Wait + Drop>(task: &mut RowTask<'_, R>) -> bool {
+pub fn is_finished<R: Wait + Drop + Copy>(task: &mut RowTask<'_, R>) -> bool {
     task.is_finished()
 }
 
 /// Drops a Task.
-pub fn drop_task<R: Wait + Drop>(task: RowTask<'_, R>) {
+pub fn drop_task<R: Wait + Drop + Copy>(task: RowTask<'_, R>) {
     drop(task);
 }
 
 /// Detaches a Task.
-pub fn detach<R: Wait + Drop>(task: RowTask<'_, R>) {
+pub fn detach<R: Wait + Drop + Copy>(task: RowTask<'_, R>) {
     task.detach();
 }
 
 /// Discards a Task, or a FallibleTask made of it.
-pub fn discard<R: Wait + Drop>(task: RowTask<'_, R>, is_fallible: bool) {
+pub fn discard<R: Wait + Drop + Copy>(task: RowTask<'_, R>, is_fallible: bool) {
     if is_fallible {
         task.fallible().discard();
     } else {
@@ -150,7 +154,10 @@ pub fn task_shows<R: Wait + Drop + Copy>(
 }
 
 /// Polls a Cancel: whether it is pending, and whether it is ready without an output.
-pub fn poll_cancel<R: Wait + Drop>(cancel: &mut RowCancel<'_, R>, awaiter: &Flag) -> (bool, bool) {
+pub fn poll_cancel<R: Wait + Drop + Copy>(
+    cancel: &mut RowCancel<'_, R>,
+    awaiter: &Flag,
+) -> (bool, bool) {
     let polled = cancel.poll(awaiter);
     (
         matches!(&polled, TaskPoll::Pending),
@@ -159,7 +166,7 @@ pub fn poll_cancel<R: Wait + Drop>(cancel: &mut RowCancel<'_, R>, awaiter: &Flag
 }
 
 /// Drops a Cancel.
-pub fn drop_cancel<R: Wait + Drop>(cancel: RowCancel<'_, R>) {
+pub fn drop_cancel<R: Wait + Drop + Copy>(cancel: RowCancel<'_, R>) {
     drop(cancel);
 }
 
@@ -175,7 +182,7 @@ pub fn waker_of<'x, R: Wait + Abort + Drop + Copy>(
 }
 
 /// Whether a Runnable is refused a waker. One that is given is dropped.
-pub fn refuses_waker<R: Wait + Drop>(runnable: &RowRunnable<'_, R>) -> bool {
+pub fn refuses_waker<R: Wait + Drop + Copy>(runnable: &RowRunnable<'_, R>) -> bool {
     !drop_given(runnable.waker())
 }
 
@@ -191,26 +198,26 @@ pub fn clone_of<'x, R: Wait + Abort + Drop + Copy>(
 }
 
 /// Whether a waker is refused a clone. One that is given is dropped.
-pub fn refuses_clone<R: Wait + Drop>(waker: &RowWaker<'_, R>) -> bool {
+pub fn refuses_clone<R: Wait + Drop + Copy>(waker: &RowWaker<'_, R>) -> bool {
     !drop_given(waker.try_clone())
 }
 
 /// Drops a waker, if one was given: whether it was.
-pub fn drop_given<R: Wait + Drop>(given: Option<RowWaker<'_, R>>) -> bool {
+pub fn drop_given<R: Wait + Drop + Copy>(given: Option<RowWaker<'_, R>>) -> bool {
     given.is_some()
 }
 
 /// Wakes by value.
-pub fn wake<R: Wait + Drop>(waker: RowWaker<'_, R>) {
+pub fn wake<R: Wait + Drop + Copy>(waker: RowWaker<'_, R>) {
     waker.wake();
 }
 
 /// Wakes by reference.
-pub fn wake_by_ref<R: Wait + Drop>(waker: &RowWaker<'_, R>) {
+pub fn wake_by_ref<R: Wait + Drop + Copy>(waker: &RowWaker<'_, R>) {
     waker.wake_by_ref();
 }
 
 /// Drops a waker.
-pub fn drop_waker<R: Wait + Drop>(waker: RowWaker<'_, R>) {
+pub fn drop_waker<R: Wait + Drop + Copy>(waker: RowWaker<'_, R>) {
     drop(waker);
 }

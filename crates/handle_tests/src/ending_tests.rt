@@ -334,13 +334,13 @@ type BareTask<'m, R> = Task<R, EndFuture, EndScheduler, Tag, EndAwaiter, (), &'m
 type EndHandles<'x, 'm, R> = (EndRunnable<'x, 'm, R>, EndTask<'x, 'm, R>);
 
 // Surroundings that hold the Runnable that was handed over, and the Task that a poll drops.
-struct Desk<'m, R: Wait + Drop> {
+struct Desk<'m, R: Wait + Drop + Copy> {
     rt: R,
     runnable: Mutex<Option<BareRunnable<'m, R>>>,
     task: Mutex<Option<BareTask<'m, R>>>,
 }
 
-impl<'m, R: Wait + Drop> Drop for Desk<'m, R> {
+impl<'m, R: Wait + Drop + Copy> Drop for Desk<'m, R> {
     fn drop(self) {
         let Desk { rt, runnable, task } = self;
         drop(task);
@@ -349,7 +349,7 @@ impl<'m, R: Wait + Drop> Drop for Desk<'m, R> {
     }
 }
 
-impl<'m, R: Wait + Drop> Desk<'m, R> {
+impl<'m, R: Wait + Drop + Copy> Desk<'m, R> {
     fn new(rt: R) -> Desk<'m, R> {
         Desk {
             rt,
@@ -389,7 +389,7 @@ impl<'m, R: Wait + Drop> Desk<'m, R> {
     }
 }
 
-impl<'x, 'm, R: Wait + Drop> Schedule<EndRunnable<'x, 'm, R>> for EndScheduler {
+impl<'x, 'm, R: Wait + Drop + Copy> Schedule<EndRunnable<'x, 'm, R>> for EndScheduler {
     ghost scheduled = { λ _ _ _. ⊤ };
 
     fn schedule(&self, runnable: EndRunnable<'x, 'm, R>, _info: ScheduleInfo) {
@@ -399,7 +399,7 @@ impl<'x, 'm, R: Wait + Drop> Schedule<EndRunnable<'x, 'm, R>> for EndScheduler {
 }
 
 // A Runnable without surroundings reaches no desk.
-impl<'m, R: Wait + Drop> Schedule<BareRunnable<'m, R>> for EndScheduler {
+impl<'m, R: Wait + Drop + Copy> Schedule<BareRunnable<'m, R>> for EndScheduler {
     ghost scheduled = { λ _ _ _. ⊤ };
 
     fn schedule(&self, runnable: BareRunnable<'m, R>, _info: ScheduleInfo) {
@@ -412,7 +412,7 @@ impl Yields for EndFuture {
     type Output = EndOutput;
 }
 
-impl<'x, 'm, R: Wait + Drop> async_task::Future<EndWaker<'x, 'm, R>> for EndFuture {
+impl<'x, 'm, R: Wait + Drop + Copy> async_task::Future<EndWaker<'x, 'm, R>> for EndFuture {
     ghost polled = { λ _ _ _ _. ⊤ };
 
     fn poll(&mut self, waker: &EndWaker<'x, 'm, R>) -> Poll<EndOutput> {

@@ -1,4 +1,4 @@
-//! The tests of handles that no worked row makes: of the builder, of Tasks and wakers, and of the cell under them.
+//! The tests of handles that no worked row makes: of the builder, and of Tasks and wakers.
 //! It stands on `fixtures` and `counted_values`. Nothing is public. The page is docs/PROOFS.md.
 #![tactic(auto)]
 
@@ -8,8 +8,6 @@ mod awaiter_tests;
 mod builder_tests;
 #[cfg(test)]
 mod calls;
-#[cfg(test)]
-mod cell_tests;
 #[cfg(test)]
 mod ending_tests;
 #[cfg(test)]

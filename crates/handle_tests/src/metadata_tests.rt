@@ -32,7 +32,7 @@ type TagRunnable<R> = Runnable<R, RowFuture, Dropper, Tag, Flag, ()>;
 
 type TagTask<R> = Task<R, RowFuture, Dropper, Tag, Flag, ()>;
 
-impl<R: Wait + Drop> Schedule<TagRunnable<R>> for Dropper {
+impl<R: Wait + Drop + Copy> Schedule<TagRunnable<R>> for Dropper {
     ghost scheduled = { λ _ _ _. ⊤ };
 
     fn schedule(&self, runnable: TagRunnable<R>, _info: ScheduleInfo) {
@@ -57,11 +57,11 @@ fn spawn_tagged<R: Wait + Abort + Drop + Copy>(
     granted(&rt, spawned)
 }
 
-fn drop_runnable<R: Wait + Drop>(runnable: TagRunnable<R>) {
+fn drop_runnable<R: Wait + Drop + Copy>(runnable: TagRunnable<R>) {
     drop(runnable);
 }
 
-fn drop_task<R: Wait + Drop>(task: TagTask<R>) {
+fn drop_task<R: Wait + Drop + Copy>(task: TagTask<R>) {
     drop(task);
 }
 

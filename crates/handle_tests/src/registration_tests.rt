@@ -19,7 +19,7 @@ const REGISTERING: &str =
     "Runnable { header: Header { scheduled: true, running: false, completed: false, closed: false, awaiter: true, task: true, ref_count: 1, metadata: () } }";
 
 // Whether a Runnable shows that.
-fn shows_registering<R: Wait + Drop>(alloc: Global, runnable: &WatchedRunnable<R>) -> bool {
+fn shows_registering<R: Wait + Drop + Copy>(alloc: Global, runnable: &WatchedRunnable<R>) -> bool {
     match format!(in alloc; "{runnable:?}") {
         Ok(text) => text.as_str() == REGISTERING,
         Err(_) => false,

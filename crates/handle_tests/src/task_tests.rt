@@ -23,7 +23,7 @@ struct Left {
 }
 
 // Drops the Task, or a Cancel made of it.
-fn let_go<R: Wait + Drop>(task: RowTask<'_, R>, cancels: bool) {
+fn let_go<R: Wait + Drop + Copy>(task: RowTask<'_, R>, cancels: bool) {
     if cancels {
         calls::drop_cancel(task.cancel());
     } else {
@@ -124,7 +124,7 @@ fn a_dropped_cancel_leaves_the_same_word(rt: HostRuntime) {
 type RowFallible<'x, R> = FallibleTask<R, RowFuture, Scheduler, (), Flag, &'x Surroundings<R>>;
 
 // Polls a FallibleTask: whether it is pending, whether it is ready with the number 4, and whether it is ready without an output.
-fn poll_fallible<R: Wait + Drop>(task: &mut RowFallible<'_, R>, flag: &Flag) -> [bool; 3] {
+fn poll_fallible<R: Wait + Drop + Copy>(task: &mut RowFallible<'_, R>, flag: &Flag) -> [bool; 3] {
     let polled = task.poll(flag);
     [
         matches!(&polled, TaskPoll::Pending),
@@ -134,7 +134,7 @@ fn poll_fallible<R: Wait + Drop>(task: &mut RowFallible<'_, R>, flag: &Flag) -> 
 }
 
 // Whether the task of a FallibleTask is finished, whose metadata is nothing.
-fn is_fallible_finished<R: Wait + Drop>(task: &mut RowFallible<'_, R>) -> bool {
+fn is_fallible_finished<R: Wait + Drop + Copy>(task: &mut RowFallible<'_, R>) -> bool {
     let () = *task.metadata();
     task.is_finished()
 }
@@ -361,7 +361,7 @@ fn a_polled_output_is_dropped_by_the_poller(rt: HostRuntime) {
 }
 
 // Turns the Task of an idle task into each of its kinds, each with other surroundings, and drops the last: whether it was finished before.
-fn change_surroundings<R: Wait + Drop>(task: RowTask<'_, R>) -> [bool; 2] {
+fn change_surroundings<R: Wait + Drop + Copy>(task: RowTask<'_, R>) -> [bool; 2] {
     let surroundings = task.around();
     let mut task = task.with_around(()).with_around(surroundings);
     let open = calls::is_finished(&mut task);

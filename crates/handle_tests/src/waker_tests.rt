@@ -59,12 +59,15 @@ fn a_closing_runnable_may_be_dropped(rt: HostRuntime) {
 }
 
 // Parks a waker, unparks it and discards it.
-fn park_and_discard<R: Wait + Drop>(waker: RowWaker<'_, R>, surroundings: &Surroundings<R>) {
+fn park_and_discard<R: Wait + Drop + Copy>(waker: RowWaker<'_, R>, surroundings: &Surroundings<R>) {
     waker.park().unpark(surroundings).discard();
 }
 
 // Wakes an idle task thrice, by reference and then by value: what was queued after the first wake, and after all.
-fn wake_idle<R: Wait + Drop>(waker: RowWaker<'_, R>, surroundings: &Surroundings<R>) -> [usize; 2] {
+fn wake_idle<R: Wait + Drop + Copy>(
+    waker: RowWaker<'_, R>,
+    surroundings: &Surroundings<R>,
+) -> [usize; 2] {
     calls::wake_by_ref(&waker);
     let woken = waker.around().queued();
     calls::wake_by_ref(&waker);
@@ -146,7 +149,7 @@ fn a_waker_is_an_awaiter(rt: HostRuntime) {
 type Awaited = ([Polled; 2], [usize; 2]);
 
 // Awaits a task by an awaiter which queues there.
-fn await_by<R: Wait + Drop, A: Wake>(
+fn await_by<R: Wait + Drop + Copy, A: Wake>(
     surroundings: &Surroundings<R>,
     awaiter: &A,
     runnable: AwaitedRunnable<R, A>,
@@ -198,7 +201,7 @@ fn a_task_awaits_another(rt: HostRuntime) {
 }
 
 // Wakes by value, by a waker without surroundings.
-fn wake_without_surroundings<R: Wait + Drop>(waker: RowWaker<'_, R>) {
+fn wake_without_surroundings<R: Wait + Drop + Copy>(waker: RowWaker<'_, R>) {
     waker.with_around(()).wake();
 }
 
@@ -244,7 +247,7 @@ fn a_kept_waker_replaces_the_one_before(rt: HostRuntime) {
 }
 
 // Forgets a waker.
-fn forget_waker<R: Wait + Drop>(waker: RowWaker<'_, R>, surroundings: &Surroundings<R>) {
+fn forget_waker<R: Wait + Drop + Copy>(waker: RowWaker<'_, R>, surroundings: &Surroundings<R>) {
     mem::forget(waker.park().unpark(surroundings));
 }
 

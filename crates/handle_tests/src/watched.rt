@@ -125,8 +125,8 @@ impl Wake for Watched {
     }
 }
 
-/// A future that behaves like that, and a schedule value, which count here. Stops where there is no memory.
-pub fn counted<R: Abort>(
+// A future that behaves like that, and a schedule value, which count here. Stops where there is no memory.
+fn counted<R: Abort>(
     rt: &R,
     behaviour: Behaviour,
     counters: &Arc<Counters>,
@@ -152,7 +152,7 @@ pub type WatchedTask<R> = AwaitedTask<R, Watched>;
 pub type Polled = (bool, bool, bool);
 
 /// Polls such a Task. An output is dropped.
-pub fn poll_awaited<R: Wait + Drop, A: Wake>(
+pub fn poll_awaited<R: Wait + Drop + Copy, A: Wake>(
     task: &mut AwaitedTask<R, A>,
     awaiter: &A,
     number: u64,

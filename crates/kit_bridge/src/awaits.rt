@@ -25,7 +25,14 @@ pub enum AwaitError {
 
 /// A Task as a future of the kit. Dropped, it drops the Task, which cancels the task.
 #[derive(Drop)]
-pub struct Awaits<R: Wait + Drop, F: Yields, Q: Drop, M: Drop, X: Copy, B: Allocator = Global>
+pub struct Awaits<
+    R: Wait + Drop + Copy,
+    F: Yields,
+    Q: Drop,
+    M: Drop,
+    X: Copy,
+    B: Allocator + Copy = Global,
+>
 where
     Q: Schedule<Runnable<R, F, Q, M, KitAwaiter<B>, X, B>>,
 {
@@ -33,7 +40,14 @@ where
     awaiter: KitAwaiter<B>,
 }
 
-impl<R: Wait + Drop, F: Yields, Q: Drop, M: Drop, X: Copy, B: Allocator> Awaits<R, F, Q, M, X, B>
+impl<R: Wait + Drop + Copy, F: Yields, Q: Drop, M: Drop, X: Copy, B: Allocator + Copy> Awaits<
+    R,
+    F,
+    Q,
+    M,
+    X,
+    B,
+>
 where
     Q: Schedule<Runnable<R, F, Q, M, KitAwaiter<B>, X, B>>,
 {
@@ -62,7 +76,7 @@ where
     }
 }
 
-impl<R: Wait + Drop, F: Yields, Q: Drop, M: Drop, X: Copy, B: Allocator> Future
+impl<R: Wait + Drop + Copy, F: Yields, Q: Drop, M: Drop, X: Copy, B: Allocator + Copy> Future
     for Awaits<R, F, Q, M, X, B>
 where
     Q: Schedule<Runnable<R, F, Q, M, KitAwaiter<B>, X, B>>,

@@ -20,11 +20,11 @@ pub type PrioritizedRunnable<R, F, Q, A> = Runnable<R, F, Q, u64, A, ()>;
 
 // A Runnable, which is compared by its priority alone.
 #[derive(Drop)]
-struct Entry<R: Wait + Drop, F: Yields, Q: Drop, A: Wake> {
+struct Entry<R: Wait + Drop + Copy, F: Yields, Q: Drop, A: Wake> {
     runnable: PrioritizedRunnable<R, F, Q, A>,
 }
 
-impl<R: Wait + Drop, F: Yields, Q: Drop, A: Wake> PartialEq for Entry<R, F, Q, A> {
+impl<R: Wait + Drop + Copy, F: Yields, Q: Drop, A: Wake> PartialEq for Entry<R, F, Q, A> {
     ghost eq = { on (λ entry. priority_of entry.runnable) nat_eq };
 
     ghost laws = { Prim.search (comparing, rules) };
@@ -34,11 +34,11 @@ impl<R: Wait + Drop, F: Yields, Q: Drop, A: Wake> PartialEq for Entry<R, F, Q, A
     }
 }
 
-impl<R: Wait + Drop, F: Yields, Q: Drop, A: Wake> Eq for Entry<R, F, Q, A> {
+impl<R: Wait + Drop + Copy, F: Yields, Q: Drop, A: Wake> Eq for Entry<R, F, Q, A> {
     ghost laws = { Prim.search (comparing, rules) };
 }
 
-impl<R: Wait + Drop, F: Yields, Q: Drop, A: Wake> PartialOrd for Entry<R, F, Q, A> {
+impl<R: Wait + Drop + Copy, F: Yields, Q: Drop, A: Wake> PartialOrd for Entry<R, F, Q, A> {
     ghost partial_cmp = { as_partial_cmp (on (λ entry. priority_of entry.runnable) nat_cmp) };
 
     ghost laws = { partial_order_from_own_ties (Prim.search (comparing, rules)) (Prim.search (comparing, rules)) };
@@ -48,7 +48,7 @@ impl<R: Wait + Drop, F: Yields, Q: Drop, A: Wake> PartialOrd for Entry<R, F, Q, 
     }
 }
 
-impl<R: Wait + Drop, F: Yields, Q: Drop, A: Wake> Ord for Entry<R, F, Q, A> {
+impl<R: Wait + Drop + Copy, F: Yields, Q: Drop, A: Wake> Ord for Entry<R, F, Q, A> {
     ghost cmp = { on (λ entry. priority_of entry.runnable) nat_cmp };
 
     ghost total = { Prim.search (comparing, rules) };
@@ -66,14 +66,14 @@ impl<R: Wait + Drop, F: Yields, Q: Drop, A: Wake> Ord for Entry<R, F, Q, A> {
 ///
 /// What is left is dropped with the heap, which cancels its tasks.
 #[derive(Drop)]
-pub struct PriorityHeap<R: Wait + Drop, F: Yields, Q: Drop, A: Wake> {
+pub struct PriorityHeap<R: Wait + Drop + Copy, F: Yields, Q: Drop, A: Wake> {
     heap: BinaryHeap<Entry<R, F, Q, A>>,
     room: usize,
     ghost ordered: { IsHeap (on (λ entry. priority_of entry.runnable) nat_cmp) (heap_items heap) } by { Prim.hlevel props },
     ghost bounded: { (heap_len heap ≤ room) × (room ≤ heap_capacity heap) },
 }
 
-impl<R: Wait + Drop, F: Yields, Q: Drop, A: Wake> PriorityHeap<R, F, Q, A> {
+impl<R: Wait + Drop + Copy, F: Yields, Q: Drop, A: Wake> PriorityHeap<R, F, Q, A> {
     ghost use Rattle.priority_heap.specs.PriorityHeap.{entries, room_of};
 
     /// An empty heap with room for that many Runnables. All its memory is taken here.

@@ -28,7 +28,15 @@ pub struct GroupSpawnError<F, Q> {
 
 // A member: its Task, or the answer that the Task gave as it was pushed.
 #[derive(Drop)]
-enum Member<R: Wait + Drop + Copy, F: Yields, Q: Drop, M: Drop, A: Posts<R>, X: Copy, B: Allocator>
+enum Member<
+    R: Wait + Drop + Copy,
+    F: Yields,
+    Q: Drop,
+    M: Drop,
+    A: Posts<R>,
+    X: Copy,
+    B: Allocator + Copy,
+>
 where
     Q: Schedule<Runnable<R, F, Q, M, A, X, B>>,
 {
@@ -38,7 +46,15 @@ where
 
 // A member that has not ended, and whether its poll was refused its awaiter.
 #[derive(Drop)]
-struct Stays<R: Wait + Drop + Copy, F: Yields, Q: Drop, M: Drop, A: Posts<R>, X: Copy, B: Allocator>
+struct Stays<
+    R: Wait + Drop + Copy,
+    F: Yields,
+    Q: Drop,
+    M: Drop,
+    A: Posts<R>,
+    X: Copy,
+    B: Allocator + Copy,
+>
 where
     Q: Schedule<Runnable<R, F, Q, M, A, X, B>>,
 {
@@ -55,7 +71,7 @@ pub struct TaskGroup<
     M: Drop,
     A: Posts<R>,
     X: Copy,
-    B: Allocator = Global,
+    B: Allocator + Copy = Global,
 >
 where
     Q: Schedule<Runnable<R, F, Q, M, A, X, B>>,
@@ -72,7 +88,7 @@ impl<
     M: Drop,
     A: Posts<R>,
     X: Copy,
-    B: Allocator,
+    B: Allocator + Copy,
 > TaskGroup<R, F, Q, M, A, X, B>
 where
     Q: Schedule<Runnable<R, F, Q, M, A, X, B>>,

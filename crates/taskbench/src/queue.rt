@@ -8,13 +8,13 @@ use std::collections::VecDeque;
 use std::sync::{Mutex, Wait};
 
 /// A queue of the Runnables of one type of future.
-pub struct Queue<R: Wait + Drop + Copy, F: Yields, B: Allocator = Global> {
+pub struct Queue<R: Wait + Drop + Copy, F: Yields, B: Allocator + Copy = Global> {
     rt: R,
     alloc: B,
     waiting: Mutex<VecDeque<Runnable<R, F, ToQueue, (), Nobody, (), B>, B>>,
 }
 
-impl<R: Wait + Drop + Copy, F: Yields, B: Allocator> Drop for Queue<R, F, B> {
+impl<R: Wait + Drop + Copy, F: Yields, B: Allocator + Copy> Drop for Queue<R, F, B> {
     // As a derived drop, which would stand field by field in each function that makes a queue.
     fn drop(self) {
         let Queue {

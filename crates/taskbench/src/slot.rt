@@ -8,13 +8,13 @@ use std::cell::Cell;
 use std::sync::Wait;
 
 /// A place for one Runnable.
-pub struct Slot<R: Wait + Drop + Copy, F: Yields, B: Allocator> {
+pub struct Slot<R: Wait + Drop + Copy, F: Yields, B: Allocator + Copy> {
     rt: R,
     alloc: B,
     held: Cell<Option<Runnable<R, F, ToSlot, (), Nobody, (), B>>>,
 }
 
-impl<R: Wait + Drop + Copy, F: Yields, B: Allocator> Drop for Slot<R, F, B> {
+impl<R: Wait + Drop + Copy, F: Yields, B: Allocator + Copy> Drop for Slot<R, F, B> {
     // As a derived drop, which would stand field by field in each function that makes a place.
     fn drop(self) {
         let Slot {

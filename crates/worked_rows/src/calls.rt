@@ -124,17 +124,17 @@ pub fn schedule_three<'x, R: Wait + Drop + Copy>(
 }
 
 /// Drops the Task of a task that has a priority.
-pub fn drop_prior<R: Wait + Drop>(task: PriorityTask<'_, R>) {
+pub fn drop_prior<R: Wait + Drop + Copy>(task: PriorityTask<'_, R>) {
     drop(task);
 }
 
 /// Runs the Runnable of greatest priority: whether that priority is this one, and the run answers false.
-pub fn runs_prior<R: Wait + Drop>(queue: &PriorityQueue<R>, priority: u64) -> bool {
+pub fn runs_prior<R: Wait + Drop + Copy>(queue: &PriorityQueue<R>, priority: u64) -> bool {
     queue.run_next() == Some((priority, false))
 }
 
 /// Runs the Runnable that has waited longest: whether there is one, and the run answers false.
-pub fn runs_next<R: Wait + Drop>(surroundings: &Surroundings<R>) -> bool {
+pub fn runs_next<R: Wait + Drop + Copy>(surroundings: &Surroundings<R>) -> bool {
     surroundings.run_next() == Some(false)
 }
 
@@ -199,17 +199,17 @@ pub fn ended_if<R: Wait + Drop + Copy>(
 }
 
 /// Runs: what the run answers.
-pub fn run<R: Wait + Drop>(runnable: RowRunnable<'_, R>) -> bool {
+pub fn run<R: Wait + Drop + Copy>(runnable: RowRunnable<'_, R>) -> bool {
     runnable.run()
 }
 
 /// Schedules a Runnable.
-pub fn schedule<R: Wait + Drop>(runnable: RowRunnable<'_, R>) {
+pub fn schedule<R: Wait + Drop + Copy>(runnable: RowRunnable<'_, R>) {
     runnable.schedule();
 }
 
 /// Drops a Runnable.
-pub fn drop_runnable<R: Wait + Drop>(runnable: RowRunnable<'_, R>) {
+pub fn drop_runnable<R: Wait + Drop + Copy>(runnable: RowRunnable<'_, R>) {
     drop(runnable);
 }
 
@@ -223,37 +223,41 @@ pub fn runnable_shows<R: Wait + Drop + Copy>(
 }
 
 /// Polls a Task: whether it is pending.
-pub fn is_pending<R: Wait + Drop>(task: &mut RowTask<'_, R>, awaiter: &Flag) -> bool {
+pub fn is_pending<R: Wait + Drop + Copy>(task: &mut RowTask<'_, R>, awaiter: &Flag) -> bool {
     matches!(task.poll(awaiter), TaskPoll::Pending)
 }
 
 /// Polls a Task: whether its awaiter was refused.
-pub fn is_refused<R: Wait + Drop>(task: &mut RowTask<'_, R>, awaiter: &Flag) -> bool {
+pub fn is_refused<R: Wait + Drop + Copy>(task: &mut RowTask<'_, R>, awaiter: &Flag) -> bool {
     matches!(task.poll(awaiter), TaskPoll::Refused)
 }
 
 /// Polls a Task: whether it is ready with that number.
-pub fn is_ready<R: Wait + Drop>(task: &mut RowTask<'_, R>, awaiter: &Flag, number: u64) -> bool {
+pub fn is_ready<R: Wait + Drop + Copy>(
+    task: &mut RowTask<'_, R>,
+    awaiter: &Flag,
+    number: u64,
+) -> bool {
     is_ready_with(&task.poll(awaiter), number)
 }
 
 /// Polls a Task: whether it is closed.
-pub fn is_closed<R: Wait + Drop>(task: &mut RowTask<'_, R>, awaiter: &Flag) -> bool {
+pub fn is_closed<R: Wait + Drop + Copy>(task: &mut RowTask<'_, R>, awaiter: &Flag) -> bool {
     matches!(task.poll(awaiter), TaskPoll::Ready(Err(TaskClosed)))
 }
 
 /// Whether the task of a Task is finished.
-pub fn is_finished<R: Wait + Drop>(task: &mut RowTask<'_, R>) -> bool {
+pub fn is_finished<R: Wait + Drop + Copy>(task: &mut RowTask<'_, R>) -> bool {
     task.is_finished()
 }
 
 /// Drops a Task.
-pub fn drop_task<R: Wait + Drop>(task: RowTask<'_, R>) {
+pub fn drop_task<R: Wait + Drop + Copy>(task: RowTask<'_, R>) {
     drop(task);
 }
 
 /// Detaches a Task.
-pub fn detach<R: Wait + Drop>(task: RowTask<'_, R>) {
+pub fn detach<R: Wait + Drop + Copy>(task: RowTask<'_, R>) {
     task.detach();
 }
 
@@ -267,66 +271,80 @@ pub fn task_shows<R: Wait + Drop + Copy>(
 }
 
 /// Polls a FallibleTask: whether it is ready without an output.
-pub fn is_fallible_empty<R: Wait + Drop>(task: &mut RowFallible<'_, R>, awaiter: &Flag) -> bool {
+pub fn is_fallible_empty<R: Wait + Drop + Copy>(
+    task: &mut RowFallible<'_, R>,
+    awaiter: &Flag,
+) -> bool {
     matches!(task.poll(awaiter), TaskPoll::Ready(None))
 }
 
 /// Polls a Cancel: whether it is pending.
-pub fn is_cancel_pending<R: Wait + Drop>(cancel: &mut RowCancel<'_, R>, awaiter: &Flag) -> bool {
+pub fn is_cancel_pending<R: Wait + Drop + Copy>(
+    cancel: &mut RowCancel<'_, R>,
+    awaiter: &Flag,
+) -> bool {
     matches!(cancel.poll(awaiter), TaskPoll::Pending)
 }
 
 /// Polls a Cancel: whether its awaiter was refused.
-pub fn is_cancel_refused<R: Wait + Drop>(cancel: &mut RowCancel<'_, R>, awaiter: &Flag) -> bool {
+pub fn is_cancel_refused<R: Wait + Drop + Copy>(
+    cancel: &mut RowCancel<'_, R>,
+    awaiter: &Flag,
+) -> bool {
     matches!(cancel.poll(awaiter), TaskPoll::Refused)
 }
 
 /// Polls a Cancel: whether it is ready without an output.
-pub fn is_cancel_empty<R: Wait + Drop>(cancel: &mut RowCancel<'_, R>, awaiter: &Flag) -> bool {
+pub fn is_cancel_empty<R: Wait + Drop + Copy>(
+    cancel: &mut RowCancel<'_, R>,
+    awaiter: &Flag,
+) -> bool {
     matches!(cancel.poll(awaiter), TaskPoll::Ready(None))
 }
 
 /// Whether the task of a Cancel is finished.
-pub fn is_cancel_finished<R: Wait + Drop>(cancel: &mut RowCancel<'_, R>) -> bool {
+pub fn is_cancel_finished<R: Wait + Drop + Copy>(cancel: &mut RowCancel<'_, R>) -> bool {
     cancel.is_finished()
 }
 
 /// Drops a Cancel.
-pub fn drop_cancel<R: Wait + Drop>(cancel: RowCancel<'_, R>) {
+pub fn drop_cancel<R: Wait + Drop + Copy>(cancel: RowCancel<'_, R>) {
     drop(cancel);
 }
 
 /// A waker of a Runnable, unless it is refused.
-pub fn waker_of<'x, R: Wait + Drop>(runnable: &RowRunnable<'x, R>) -> Option<RowWaker<'x, R>> {
+pub fn waker_of<'x, R: Wait + Drop + Copy>(
+    runnable: &RowRunnable<'x, R>,
+) -> Option<RowWaker<'x, R>> {
     runnable.waker()
 }
 
 /// A clone of a waker, unless it is refused.
-pub fn clone_of<'x, R: Wait + Drop>(waker: &RowWaker<'x, R>) -> Option<RowWaker<'x, R>> {
+pub fn clone_of<'x, R: Wait + Drop + Copy>(waker: &RowWaker<'x, R>) -> Option<RowWaker<'x, R>> {
     waker.try_clone()
 }
 
 /// Drops a waker, if one was given: whether it was.
-pub fn drop_given<R: Wait + Drop>(given: Option<RowWaker<'_, R>>) -> bool {
+pub fn drop_given<R: Wait + Drop + Copy>(given: Option<RowWaker<'_, R>>) -> bool {
     given.is_some()
 }
 
 /// Takes the oldest Runnable out of the queue, and drops it: whether there was one.
-pub fn drop_received<R: Wait + Drop>(surroundings: &Surroundings<R>) -> bool {
+pub fn drop_received<R: Wait + Drop + Copy>(surroundings: &Surroundings<R>) -> bool {
     surroundings.receive().is_some()
 }
 
 /// Wakes by value.
-pub fn wake<R: Wait + Drop>(waker: RowWaker<'_, R>) {
+pub fn wake<R: Wait + Drop + Copy>(waker: RowWaker<'_, R>) {
     waker.wake();
 }
 
 /// Wakes by reference.
-pub fn wake_by_ref<R: Wait + Drop>(waker: &RowWaker<'_, R>) {
+pub fn wake_by_ref<R: Wait + Drop + Copy>(waker: &RowWaker<'_, R>) {
     waker.wake_by_ref();
 }
 
 /// Drops a waker.
-pub fn drop_waker<R: Wait + Drop>(waker: RowWaker<'_, R>) {
+pub fn drop_waker<R: Wait + Drop + Copy>(waker: RowWaker<'_, R>) {
     drop(waker);
 }

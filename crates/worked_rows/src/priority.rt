@@ -118,6 +118,6 @@ fn run_one<R: Wait + Drop + Copy>(
 }
 
 // Whether a poll of the Task answers that the task is closed.
-fn is_closed<R: Wait + Drop>(task: &mut PriorityTask<'_, R>, flag: &Flag) -> bool {
+fn is_closed<R: Wait + Drop + Copy>(task: &mut PriorityTask<'_, R>, flag: &Flag) -> bool {
     matches!(task.poll(flag), TaskPoll::Ready(Err(TaskClosed)))
 }

@@ -116,7 +116,7 @@ where
 }
 
 // Detaches the Task, or drops it.
-fn let_go<R: Wait + Drop>(task: RowTask<'_, R>, detaches: bool) {
+fn let_go<R: Wait + Drop + Copy>(task: RowTask<'_, R>, detaches: bool) {
     if detaches {
         calls::detach(task);
     } else {

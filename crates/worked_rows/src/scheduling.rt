@@ -32,7 +32,7 @@ pub fn schedule_counter<R: Wait + Drop + Copy>(fixture: &Fixture<R>) -> Result<O
 }
 
 // Receives a Runnable and schedules it: whether there was one, and it alone is queued then.
-fn schedules_received<R: Wait + Drop>(surroundings: &Surroundings<R>) -> bool {
+fn schedules_received<R: Wait + Drop + Copy>(surroundings: &Surroundings<R>) -> bool {
     let Some(received) = surroundings.receive() else {
         return false;
     };
@@ -101,7 +101,11 @@ fn run_by_priority<R: Wait + Drop + Copy>(
 }
 
 // Whether a poll of the Task answers ready with that number.
-fn answers<R: Wait + Drop>(task: &mut PriorityTask<'_, R>, flag: &Flag, number: u64) -> bool {
+fn answers<R: Wait + Drop + Copy>(
+    task: &mut PriorityTask<'_, R>,
+    flag: &Flag,
+    number: u64,
+) -> bool {
     is_ready_with(&task.poll(flag), number)
 }
 
@@ -158,7 +162,7 @@ fn clears<R: Wait + Drop + Copy>(fixture: &Fixture<R>) -> bool {
 }
 
 // Whether the awaiter was woken once, and a poll of the Task answers that the task is closed, without another wake.
-fn is_woken_once_and_closed<R: Wait + Drop>(task: &mut RowTask<'_, R>, flag: &Flag) -> bool {
+fn is_woken_once_and_closed<R: Wait + Drop + Copy>(task: &mut RowTask<'_, R>, flag: &Flag) -> bool {
     let woken = flag.wakes() == 1;
     let closed = calls::is_closed(task, flag);
     woken & closed & (flag.wakes() == 1)

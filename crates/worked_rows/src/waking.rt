@@ -55,7 +55,7 @@ pub fn clone<R: Wait + Drop + Copy>(fixture: &Fixture<R>) -> Result<Outcome, All
 }
 
 // A clone of the waker, which is dropped then, a clone of that clone, and a clone of this one.
-fn clone_thrice<'x, R: Wait + Drop>(
+fn clone_thrice<'x, R: Wait + Drop + Copy>(
     first: RowWaker<'x, R>,
 ) -> Result<(RowWaker<'x, R>, RowWaker<'x, R>, RowWaker<'x, R>), AllocError> {
     let Some(second) = calls::clone_of(&first) else {

@@ -85,7 +85,7 @@ fn bridged<R: Wait + Abort + Drop + Copy>(
 }
 
 // Runs: what the run answers.
-fn run<R: Wait + Drop>(runnable: Work<R>) -> bool {
+fn run<R: Wait + Drop + Copy>(runnable: Work<R>) -> bool {
     runnable.run()
 }
 

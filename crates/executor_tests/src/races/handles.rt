@@ -8,7 +8,7 @@ use std::process::Abort;
 use std::sync::Wait;
 
 /// A waker of a Runnable. Stops where it is refused.
-pub fn waker_of<'x, R: Wait + Abort + Drop>(
+pub fn waker_of<'x, R: Wait + Abort + Drop + Copy>(
     rt: &R,
     runnable: &RaceRunnable<'x, R>,
 ) -> RaceWaker<'x, R> {
@@ -19,12 +19,12 @@ pub fn waker_of<'x, R: Wait + Abort + Drop>(
 }
 
 /// Runs: what the run answers.
-pub fn run<R: Wait + Drop>(runnable: RaceRunnable<'_, R>) -> bool {
+pub fn run<R: Wait + Drop + Copy>(runnable: RaceRunnable<'_, R>) -> bool {
     runnable.run()
 }
 
 /// Polls a Task.
-pub fn poll<R: Wait + Drop>(
+pub fn poll<R: Wait + Drop + Copy>(
     task: &mut RaceTask<'_, R>,
     awaiter: &RaceAwaiter,
 ) -> TaskPoll<Result<RaceOutput, TaskClosed>> {
@@ -32,17 +32,20 @@ pub fn poll<R: Wait + Drop>(
 }
 
 /// Polls a Task: whether it is pending.
-pub fn is_pending<R: Wait + Drop>(task: &mut RaceTask<'_, R>, awaiter: &RaceAwaiter) -> bool {
+pub fn is_pending<R: Wait + Drop + Copy>(
+    task: &mut RaceTask<'_, R>,
+    awaiter: &RaceAwaiter,
+) -> bool {
     matches!(task.poll(awaiter), TaskPoll::Pending)
 }
 
 /// Detaches a Task.
-pub fn detach<R: Wait + Drop>(task: RaceTask<'_, R>) {
+pub fn detach<R: Wait + Drop + Copy>(task: RaceTask<'_, R>) {
     task.detach();
 }
 
 /// Polls a Cancel.
-pub fn poll_cancel<R: Wait + Drop>(
+pub fn poll_cancel<R: Wait + Drop + Copy>(
     cancel: &mut RaceCancel<'_, R>,
     awaiter: &RaceAwaiter,
 ) -> TaskPoll<Option<RaceOutput>> {

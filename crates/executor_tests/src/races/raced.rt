@@ -80,7 +80,7 @@ impl Yields for RaceFuture {
     type Output = RaceOutput;
 }
 
-impl<'x, R: Wait + Drop> Future<RaceWaker<'x, R>> for RaceFuture {
+impl<'x, R: Wait + Drop + Copy> Future<RaceWaker<'x, R>> for RaceFuture {
     ghost polled = { λ _ _ _ _. ⊤ };
 
     fn poll(&mut self, waker: &RaceWaker<'x, R>) -> Poll<RaceOutput> {
@@ -131,7 +131,7 @@ impl Drop for RaceScheduler {
     }
 }
 
-impl<'x, R: Wait + Drop> Schedule<RaceRunnable<'x, R>> for RaceScheduler {
+impl<'x, R: Wait + Drop + Copy> Schedule<RaceRunnable<'x, R>> for RaceScheduler {
     ghost scheduled = { λ _ _ _. ⊤ };
 
     fn schedule(&self, runnable: RaceRunnable<'x, R>, _info: ScheduleInfo) {
@@ -141,7 +141,7 @@ impl<'x, R: Wait + Drop> Schedule<RaceRunnable<'x, R>> for RaceScheduler {
 }
 
 // A waker that is left in the surroundings when they go has none to queue a Runnable in, which is dropped.
-impl<R: Wait + Drop> Schedule<Runnable<R, RaceFuture, RaceScheduler, (), RaceAwaiter, ()>>
+impl<R: Wait + Drop + Copy> Schedule<Runnable<R, RaceFuture, RaceScheduler, (), RaceAwaiter, ()>>
     for RaceScheduler {
     ghost scheduled = { λ _ _ _. ⊤ };
 
@@ -156,7 +156,7 @@ impl<R: Wait + Drop> Schedule<Runnable<R, RaceFuture, RaceScheduler, (), RaceAwa
 }
 
 /// What the threads of a race share: the queue of the one Runnable, the waker of the round, and counters over all rounds.
-pub struct RaceSurroundings<R: Wait + Drop> {
+pub struct RaceSurroundings<R: Wait + Drop + Copy> {
     rt: R,
     alloc: Global,
     counters: Arc<Counters>,
@@ -203,7 +203,7 @@ impl<R: Wait + Abort + Drop + Copy> RaceSurroundings<R> {
     }
 }
 
-impl<R: Wait + Drop> RaceSurroundings<R> {
+impl<R: Wait + Drop + Copy> RaceSurroundings<R> {
     /// Queues a Runnable. A task has one at most: one that lies there already is counted, and dropped.
     pub fn queue<'x>(&'x self, runnable: RaceRunnable<'x, R>) {
         let parked = runnable.park();
@@ -288,7 +288,7 @@ impl<R: Wait + Drop> RaceSurroundings<R> {
 }
 
 // A parked handle cannot be dropped: what is left is unparked first.
-impl<R: Wait + Drop> Drop for RaceSurroundings<R> {
+impl<R: Wait + Drop + Copy> Drop for RaceSurroundings<R> {
     fn drop(self) {
         let RaceSurroundings {
             rt,

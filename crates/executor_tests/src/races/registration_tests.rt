@@ -40,7 +40,7 @@ impl Ending {
     }
 
     // Ends the task whose Runnable is queued.
-    fn end<R: Wait + Drop>(self, surroundings: &RaceSurroundings<R>) {
+    fn end<R: Wait + Drop + Copy>(self, surroundings: &RaceSurroundings<R>) {
         match self {
             Ending::Run => {
                 surroundings.run_next();
@@ -53,7 +53,7 @@ impl Ending {
 }
 
 // What the second thread does.
-fn end_all<R: Wait + Drop>(
+fn end_all<R: Wait + Drop + Copy>(
     rt: &R,
     rounds: &Rounds,
     surroundings: &RaceSurroundings<R>,
@@ -72,7 +72,7 @@ fn end_all<R: Wait + Drop>(
 
 // Whether a poll of a Task beside its end, which was answered so, tells of that end: at once, or, where it was pending, by a wake
 // and at the next poll. Drops the Task.
-fn is_told<R: Wait + Drop>(
+fn is_told<R: Wait + Drop + Copy>(
     mut task: RaceTask<'_, R>,
     awaiter: &RaceAwaiter,
     polled: TaskPoll<Result<RaceOutput, TaskClosed>>,

@@ -33,7 +33,7 @@ enum Act {
 }
 
 // What was answered to the first thread, and the handle that it has left. It is not dropped, but taken apart by `is_right`.
-enum Left<'x, R: Wait + Drop> {
+enum Left<'x, R: Wait + Drop + Copy> {
     Nothing,
     Task(RaceTask<'x, R>, TaskPoll<Result<RaceOutput, TaskClosed>>),
     Cancel(RaceCancel<'x, R>, TaskPoll<Option<RaceOutput>>),
@@ -41,7 +41,7 @@ enum Left<'x, R: Wait + Drop> {
 
 impl Act {
     // Does it.
-    fn perform<'x, R: Wait + Drop>(
+    fn perform<'x, R: Wait + Drop + Copy>(
         self,
         task: RaceTask<'x, R>,
         awaiter: &RaceAwaiter,
@@ -74,7 +74,7 @@ impl Act {
 }
 
 // Polls a Task, and where it is pending once more after a wake.
-fn poll_until_ready<R: Wait + Drop>(
+fn poll_until_ready<R: Wait + Drop + Copy>(
     task: &mut RaceTask<'_, R>,
     awaiter: &RaceAwaiter,
 ) -> TaskPoll<Result<RaceOutput, TaskClosed>> {
@@ -96,7 +96,7 @@ fn await_wake(awaiter: &RaceAwaiter) -> bool {
     false
 }
 
-impl<'x, R: Wait + Drop> Left<'x, R> {
+impl<'x, R: Wait + Drop + Copy> Left<'x, R> {
     // Whether the first thread was answered as it must be, once all threads have acted: what was pending is ready now, and
     // its awaiter was woken.
     fn is_right(self, awaiter: &RaceAwaiter) -> bool {
@@ -109,7 +109,7 @@ impl<'x, R: Wait + Drop> Left<'x, R> {
 }
 
 // Whether a Task was answered as it must be: with an output, now or at a poll after a wake. Drops the Task.
-fn is_task_right<R: Wait + Drop>(
+fn is_task_right<R: Wait + Drop + Copy>(
     mut task: RaceTask<'_, R>,
     polled: TaskPoll<Result<RaceOutput, TaskClosed>>,
     awaiter: &RaceAwaiter,
@@ -124,7 +124,7 @@ fn is_task_right<R: Wait + Drop>(
 }
 
 // Whether a Cancel was answered as it must be: ready, or without an output at a poll after a wake. Drops the Cancel.
-fn is_cancel_right<R: Wait + Drop>(
+fn is_cancel_right<R: Wait + Drop + Copy>(
     mut cancel: RaceCancel<'_, R>,
     polled: TaskPoll<Option<RaceOutput>>,
     awaiter: &RaceAwaiter,
@@ -143,7 +143,7 @@ fn is_cancel_right<R: Wait + Drop>(
 
 // What the threads of a race share.
 #[derive(Drop)]
-struct Race<R: Wait + Drop> {
+struct Race<R: Wait + Drop + Copy> {
     rt: R,
     rounds: Rounds,
     surroundings: RaceSurroundings<R>,

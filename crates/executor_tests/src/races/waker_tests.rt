@@ -13,7 +13,7 @@ use std::thread::Threads;
 const ROUNDS: u64 = 50_000;
 
 // What the second thread does: it drops the waker of each round. `thread` says which delays it has.
-fn drop_all<R: Wait + Drop>(
+fn drop_all<R: Wait + Drop + Copy>(
     rt: &R,
     rounds: &Rounds,
     surroundings: &RaceSurroundings<R>,
