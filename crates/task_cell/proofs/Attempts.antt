@@ -6,9 +6,6 @@ use Rattle.std.proofs.Common.{eq-eqb, ne_eqb, ◌&&◌, ◌≢◌}
 use Rattle.counted_block.specs.Counts.{More, Less}
 use Rattle.task_steps.specs.Shares.{shares_out, counted, MayBring, MayGive}
 use Rattle.task_steps.proofs.Shares.{Brings, Gives, Changes, Moves, may_bring, may_give}
-use Rattle.task_steps.specs.Attempts.{HasTried}
-use Rattle.task_steps.specs.declared.attempt.TriedOnce.{TriedOnce}
-use Rattle.task_steps.specs.declared.attempt.TriedOnce.TheVariants.{Made, Ended, Again}
 use prog.Atomic.{either}
 use Rattle.task_core.proofs.Bits.{state_of_number_of}
 use Rattle.task_steps.specs.declared.table.Tries.{Tries}
@@ -132,9 +129,6 @@ module _ {F T A : Type 0} where
   same_limit ends limit w me now s same x = ap (λ (m : Me (Slot F T A) View). ends m.0.limit x) s.is ∙ same x
 
   -- what a later try comes to is what the first one has come to
-  pub seen_after : (v w : State) (me now after : Me (Slot F T A) View) → HasSeen v me now → HasSeen w now after → HasSeen w me after
-  seen_after v w me now after s n = record { tries = n.tries; names = n.names; is = n.is ∙ ap (λ (m : Me (Slot F T A) View). (having_seen n.tries m.0, m.1)) s.is }
-
   pub changed_after : (limit key : ℕ) (writes : ℕ → State → Option State) (acts : State → List Act) (v w : State) (me now after : Me (Slot F T A) View) → key ≡ limit → HasSeen v me now → HasChanged key writes acts w now after → HasChanged limit writes acts w me after
   changed_after limit key writes acts v w me now after a s c = record {
     written = ap (λ l. is_some (writes l w)) (sym a) ∙ c.written;
@@ -149,12 +143,7 @@ module _ {F T A : Type 0} where
     knows = subst (λ (m : Me (Slot F T A) View). Knows (head_of m.0.members).deeds w) s.is c.knows;
   }
 
-  pub tried_after : {M K : Type 0} (limit : ℕ) (writes : ℕ → State → Option State) (ends : ℕ → State → Bool) (acts told : State → List Act) (v : State) (tried : TriedOnce M K) (me now after : Me (Slot F T A) View) → HasSeen v me now
-      → HasTried limit writes ends acts told tried now after → HasTried limit writes ends acts told tried me after
-  tried_after limit writes ends acts told v (Made w m) me now after s c = changed_after limit limit writes acts v w me now after refl s c
-  tried_after limit writes ends acts told v (Ended w k) me now after s c = ended_after limit limit ends told v w me now after refl s c
-  tried_after limit writes ends acts told v (Again w k) me now after s c = (c.0, seen_after v w me now after s c.1)
-
+  -- .. and what it owes for the shares is what was owed before
   pub bring_still : (limit id other : ℕ) (me now : Me (Slot F T A) View) (writes : ℕ → State → Option State) (counts : State → Bool) (w : State) → other ≡ id → HasSeen w me now → MayBring limit id me writes counts → MayBring limit other now writes counts
   bring_still limit id other me now writes counts w e s may = subst (λ (z : ℕ × Me (Slot F T A) View). MayBring limit z.0 z.1 writes counts) (λ i. (sym e i, sym s.is i)) (λ t v x writing names. may t v x writing names)
 

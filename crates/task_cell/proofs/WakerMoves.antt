@@ -1,5 +1,4 @@
 -- What the steps of a lent waker, and of a waker's drop, come to for the party that made them.
-use Rattle.std.proofs.Common.{inl}
 use Rattle.task_cell.proofs.Vocabulary.{◌≡◌, ℕ, Bool, true, false, not, ◌&&◌, List, [], ◌∷◌, Option, Some, None, IfSome, is_some, refl, sym, ap, ◌∙◌, subst, nat_lt, if◌then◌else◌, Me, State, is_open}
 use Rattle.task_cell.proofs.Vocabulary.{number_of, written, Slots, is_held, Nothing, Waker, Lent, Ended, ThenEnds, Position, At, Deliverer, Emptier, OrphanHolder, Act, GainReference, FindLimit}
 use Rattle.task_cell.proofs.Vocabulary.{DropWaker, DropLastWaker, OrphanTask, CloseOrphan, WakeOver, WakeScheduled, WakeRunning, WakeIdle, EndCall, Slot, Deed, Member, View, Party, Shared}

@@ -1,11 +1,10 @@
 -- What the acts of each step do to the handles that the word counts.
-use Rattle.std.proofs.Common.{◌≡◌, ℕ, zero, suc, ◌+◌, ◌-◌, ◌<◌, ◌≤◌, Bool, true, false, not, ◌&&◌, ◌||◌, cond, Option, Some, None, List, [], ◌∷◌, ◌⊎◌, inl, inr, refl, sym, ap, ◌∙◌, subst, arith}
-use Rattle.std.specs.Prelude.{nat_lt, nat_eq, if◌then◌else◌}
+use Rattle.std.proofs.Common.{◌≡◌, ℕ, zero, suc, ◌+◌, ◌-◌, ◌≤◌, Bool, true, false, not, ◌&&◌, ◌||◌, Option, Some, None, List, [], ◌∷◌, inl, inr, refl, sym, ap, ◌∙◌, subst, arith}
+use Rattle.std.specs.Prelude.{nat_lt, if◌then◌else◌}
 use Rattle.std.proofs.lemmas.Bool.Decides.{nat_tests}
 use Rattle.task_steps.specs.WakerScripts.{woken_word}
 use Rattle.task_steps.proofs.Vocabulary.{WakeScheduled, WakeRunning, WakeIdle, CancelBusy, CancelIdle, Reschedule, EndIdle, EndOrphaned, EndCall, GiveUpOutput, Detach, DetachLast, DetachOrphan, DropWaker, OrphanTask, DropLastWaker, GiveUpReference, GiveUpLastReference}
-use Rattle.task_steps.proofs.Vocabulary.{State, bit, is_open, orphan_word, Event, Answer, Rest, Runnable, Waker, Lent, Task, Position, At, GivingUp, Detacher, OrphanHolder, Pending, Slots, is_held, may_ask, row, written, GainReference, Machine, census, Census, Holds, Deed, Member}
-use Rattle.task_steps.specs.Beside.{may_call, may_change}
+use Rattle.task_steps.proofs.Vocabulary.{State, bit, is_open, Event, Answer, Rest, Waker, Task, At, GivingUp, Detacher, OrphanHolder, Pending, Slots, is_held, row, GainReference, Machine, census, Census, Holds, Deed, Member}
 use Rattle.task_steps.specs.WakerScripts.{gaining, gained_word, waking_task, woken_if_held, others_left, dropping_waker, closing_orphan}
 use Rattle.task_steps.specs.TaskScripts.{cancelling, cancelled_word, detaching, giving_task_up}
 use Rattle.task_steps.specs.RunScripts.{giving_up, ending_pending}

@@ -1,4 +1,4 @@
-use Rattle.task_cell.proofs.Vocabulary.{ap, subst, sym, ◌∙◌, WakesTask}
+use Rattle.task_cell.proofs.Vocabulary.{subst, sym, ◌∙◌, WakesTask}
 use Rattle.task_cell.specs.Calls.{second}
 use Rattle.task_cell.proofs.WakerMoves.{spent_by_wake, wake_gives, limit_before}
 use Rattle.task_cell.proofs.cell.waker.TaskWaker.wake_again.Goals as goal

@@ -1,4 +1,4 @@
-use Rattle.task_cell.proofs.Vocabulary.{ap, subst, ◌∙◌, WakesTask}
+use Rattle.task_cell.proofs.Vocabulary.{ap, subst, WakesTask}
 use Rattle.task_steps.specs.Standing.{as_lent}
 use Rattle.task_cell.specs.Calls.{second}
 use Rattle.task_cell.proofs.WakerMoves.{fresh_stands, spent_by_wake, wake_gives}
