@@ -60,14 +60,8 @@ some_references w e = grind (arith, nat_tests)
 no_references : (w : State) → nat_lt 0 w.references ≡ false → w.references ≡ 0
 no_references w e = grind (arith, nat_tests)
 
-bit_low : (b : Bool) → bit b ≤ 1
-bit_low b = grind arith
-
 waker_held : (limit : ℕ) (w : State) (slots : Slots) (t : List Event) (c : Census) → Holds limit w slots t c → 1 ≤ c.wakers → 1 ≤ w.references
 waker_held limit w slots t c h e = grind arith
-
-runnable_held : (limit : ℕ) (w : State) (slots : Slots) (t : List Event) (c : Census) → Holds limit w slots t c → 1 ≤ c.queued → 1 ≤ w.references
-runnable_held limit w slots t c h e = grind arith
 
 finishing_held : (limit : ℕ) (w : State) (slots : Slots) (t : List Event) (c : Census) → Holds limit w slots t c → 1 ≤ c.finishing → 1 ≤ w.references
 finishing_held limit w slots t c h e = grind arith
