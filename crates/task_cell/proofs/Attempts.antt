@@ -1,14 +1,10 @@
 -- One round of an attempt: what its load and its exchange leave to the next round, or to the caller.
 use Rattle.task_cell.proofs.Vocabulary.{◌≡◌, ℕ, Bool, true, false, Option, Some, None, is_some, List, [], sym, refl, ap, ◌∙◌, subst, ◌==◌, none, Me, step, Allows, State, state_of, number_of, Act, Slot, View}
-use Rattle.task_cell.proofs.Vocabulary.{RuleHolds, head_of, Makes, Machine, Position, Party, deeds, limit_of, StandsWith, Finds, Steps, OwesEnd, may_try, looked, missed, Names, having_seen, observed}
+use Rattle.task_cell.proofs.Vocabulary.{RuleHolds, head_of, Makes, Machine, Position, Party, deeds, limit_of, StandsWith, Finds, Steps, OwesEnd, may_try, looked, Names, having_seen, observed}
 use Rattle.task_cell.proofs.Vocabulary.{attempted, MayTry, HasChanged, HasEnded, HasSeen, if◌then◌else◌}
-use Rattle.std.proofs.Common.{eq-eqb, ne_eqb, ◌&&◌, ◌≢◌}
 use Rattle.counted_block.specs.Counts.{More, Less}
 use Rattle.task_steps.specs.Shares.{shares_out, counted, MayBring, MayGive}
 use Rattle.task_steps.proofs.Shares.{Brings, Gives, Changes, Moves, may_bring, may_give}
-use Rattle.task_steps.specs.Attempts.{HasTried}
-use Rattle.task_steps.specs.declared.attempt.TriedOnce.{TriedOnce}
-use Rattle.task_steps.specs.declared.attempt.TriedOnce.TheVariants.{Made, Ended, Again}
 use prog.Atomic.{either}
 use Rattle.task_core.proofs.Bits.{state_of_number_of}
 use Rattle.task_steps.specs.declared.table.Tries.{Tries}
@@ -25,10 +21,6 @@ written_if b w e = (if_some b (Some w) e).0
 pub if_is : (b : Bool) (x : Option State) (v : State) → (if b then x else None) ≡ Some v → (b ≡ true) × (x ≡ Some v)
 if_is true x v e = (refl, e)
 if_is false x v e = absurd (cc)
-
-names_missed : (w : State) (t : Option Tries) → Names w (missed w t)
-names_missed w None = refl
-names_missed w (Some t) = refl
 
 -- the word that was seen last, or any, where none was
 abbrev pub seen_word : Option Tries → State
@@ -68,19 +60,12 @@ module _ {F T A : Type 0} where
       (λ (z : ℕ × ℕ × ℕ × Me (Slot F T A) View). Allows (RuleHolds {F = F} {T = T} {A = A} z.0) z.1 z.2 z.3 0 (λ n. n) (observed ends told (step z.1 0 0 0 none) z.3))
       (λ i. (sym a i, sym b i, sym c i, sym s.is i)) (may.loads s.tries)
 
-  -- the next round: after a load, and after a miss
+  -- the next round, after a load
   pub seeing_next : (n : ℕ) (v w : State) (me now after : Me (Slot F T A) View) → HasSeen v me now → w ≡ state_of n → after ≡ (having_seen (looked (state_of n) (head_of now.0.members).tries) now.0, now.1) → HasSeen w me after
   seeing_next n v w me now after s e is = record {
     tries = looked w s.tries;
     names = refl;
     is = subst (λ (z : Me (Slot F T A) View × State). after ≡ (having_seen (looked z.1 (head_of z.0.0.members).tries) z.0.0, z.0.1)) (λ i. (s.is i, sym e i)) is;
-  }
-
-  pub seeing_missed : (n : ℕ) (v w : State) (me now after : Me (Slot F T A) View) → HasSeen v me now → w ≡ state_of n → after ≡ (having_seen (missed (state_of n) (head_of now.0.members).tries) now.0, now.1) → HasSeen w me after
-  seeing_missed n v w me now after s e is = record {
-    tries = missed w s.tries;
-    names = names_missed w s.tries;
-    is = subst (λ (z : Me (Slot F T A) View × State). after ≡ (having_seen (missed z.1 (head_of z.0.0.members).tries) z.0.0, z.0.1)) (λ i. (s.is i, sym e i)) is;
   }
 
   -- whether the word that a load finds ends the attempt
@@ -132,9 +117,6 @@ module _ {F T A : Type 0} where
   same_limit ends limit w me now s same x = ap (λ (m : Me (Slot F T A) View). ends m.0.limit x) s.is ∙ same x
 
   -- what a later try comes to is what the first one has come to
-  pub seen_after : (v w : State) (me now after : Me (Slot F T A) View) → HasSeen v me now → HasSeen w now after → HasSeen w me after
-  seen_after v w me now after s n = record { tries = n.tries; names = n.names; is = n.is ∙ ap (λ (m : Me (Slot F T A) View). (having_seen n.tries m.0, m.1)) s.is }
-
   pub changed_after : (limit key : ℕ) (writes : ℕ → State → Option State) (acts : State → List Act) (v w : State) (me now after : Me (Slot F T A) View) → key ≡ limit → HasSeen v me now → HasChanged key writes acts w now after → HasChanged limit writes acts w me after
   changed_after limit key writes acts v w me now after a s c = record {
     written = ap (λ l. is_some (writes l w)) (sym a) ∙ c.written;
@@ -149,12 +131,7 @@ module _ {F T A : Type 0} where
     knows = subst (λ (m : Me (Slot F T A) View). Knows (head_of m.0.members).deeds w) s.is c.knows;
   }
 
-  pub tried_after : {M K : Type 0} (limit : ℕ) (writes : ℕ → State → Option State) (ends : ℕ → State → Bool) (acts told : State → List Act) (v : State) (tried : TriedOnce M K) (me now after : Me (Slot F T A) View) → HasSeen v me now
-      → HasTried limit writes ends acts told tried now after → HasTried limit writes ends acts told tried me after
-  tried_after limit writes ends acts told v (Made w m) me now after s c = changed_after limit limit writes acts v w me now after refl s c
-  tried_after limit writes ends acts told v (Ended w k) me now after s c = ended_after limit limit ends told v w me now after refl s c
-  tried_after limit writes ends acts told v (Again w k) me now after s c = (c.0, seen_after v w me now after s c.1)
-
+  -- .. and what it owes for the shares is what was owed before
   pub bring_still : (limit id other : ℕ) (me now : Me (Slot F T A) View) (writes : ℕ → State → Option State) (counts : State → Bool) (w : State) → other ≡ id → HasSeen w me now → MayBring limit id me writes counts → MayBring limit other now writes counts
   bring_still limit id other me now writes counts w e s may = subst (λ (z : ℕ × Me (Slot F T A) View). MayBring limit z.0 z.1 writes counts) (λ i. (sym e i, sym s.is i)) (λ t v x writing names. may t v x writing names)
 
@@ -177,10 +154,3 @@ module _ {F T A : Type 0} where
     may_at limit p at held s writes ends acts told same changes over,
     subst (λ (m : Me (Slot F T A) View). MayGive limit p.seat.id m writes counts) (sym s) (may_give F T A limit p.seat.id (limit_of p) at (deeds p) [] held writes acts counts changes moves),
   )
-
--- whether an exchange counts, by the word that it found
-pub counts_made : (found old : ℕ) (w : State) (counts : State → Bool) → found ≡ old → old ≡ number_of w → ((found == old) && counts (state_of found)) ≡ counts w
-counts_made found old w counts hit from = ap (λ b. b && counts (state_of found)) (eq-eqb found old hit) ∙ ap counts (ap state_of (hit ∙ from) ∙ state_of_number_of w)
-
-pub counts_missed : (found old : ℕ) (counts : State → Bool) → found ≢ old → ((found == old) && counts (state_of found)) ≡ false
-counts_missed found old counts miss = ap (λ b. b && counts (state_of found)) (ne_eqb found old miss)

@@ -9,7 +9,7 @@ use Rattle.std.proofs.lemmas.Bool.Decides.{nat_tests}
 use Rattle.task_steps.specs.declared.words.Cancelled.TheVariants.{Idle as FoundIdle}
 use Rattle.task_steps.specs.declared.words.Detached.TheVariants as detached
 use Rattle.task_steps.specs.declared.words.Dropped.TheVariants as dropped
-use Rattle.task_steps.specs.Shares.{brings_runnable, ends_run, ends_task, has_references}
+use Rattle.task_steps.specs.Shares.{brings_runnable, ends_run, ends_task}
 use Rattle.task_cell.specs.RunCalls.{keeps_share}
 use Rattle.task_cell.specs.TaskPaths.{brings_share, keeps_task}
 use Rattle.task_cell.specs.WakerPaths.{keeps_waker}

@@ -1,8 +1,8 @@
 -- A cancel and a detach, put together from their steps.
-use Rattle.task_cell.proofs.Vocabulary.{◌≡◌, ℕ, Bool, true, false, List, [], ◌∷◌, ◌++◌, Option, Some, None, refl, sym, subst, State, Answer, Nothing, Deliverer, Emptier, OutputCloser, CallEnding, Ended}
+use Rattle.task_cell.proofs.Vocabulary.{◌≡◌, ℕ, Bool, true, false, List, [], ◌∷◌, ◌++◌, Option, Some, None, refl, sym, subst, State, Nothing, Deliverer, Emptier, OutputCloser}
 use Rattle.task_cell.proofs.Vocabulary.{OfCancel, ThenEnds, CancelOver, CancelBusy, CancelIdle, GiveUpOutput, DropOutput, DetachOrphan, DetachLast, Detach, EmptySlots, EndCall, HandOver, notifies}
-use Rattle.task_cell.proofs.Vocabulary.{after_cancelling, after_handing_over, after_giving_up, Slot, Deed, Party, Busy, Unclaimed, output_first, Fits, position, StandsWith, Stands, GoesWith}
-use Rattle.task_cell.proofs.Vocabulary.{Goes, row, act, as_task, as_ended, handed_over, rest_of, Notice, CancelPath, is_busy, DetachPath, drops_output_last, is_shared, is_last, Cancels, Detaches}
+use Rattle.task_cell.proofs.Vocabulary.{after_cancelling, after_handing_over, Slot, Deed, Party, Busy, Unclaimed, output_first, Fits, position, StandsWith, Stands, GoesWith}
+use Rattle.task_cell.proofs.Vocabulary.{Goes, row, act, as_task, as_ended, handed_over, Notice, CancelPath, is_busy, DetachPath, drops_output_last, is_shared, is_last, Cancels, Detaches}
 use Rattle.task_cell.proofs.Vocabulary.{GivesTaskUp}
 use Rattle.task_laws.specs.declared.positions.OnceDelivered.{OnceDelivered}
 use Rattle.task_steps.specs.declared.words.Cancelled.{Cancelled}

@@ -1,9 +1,8 @@
 -- A waker's drop, put together from its steps.
-use Rattle.task_cell.proofs.Vocabulary.{false, List, [], ◌∷◌, ◌++◌, State, Nothing, Deliverer, CallEnding, OrphanHolder, Ended, ThenEnds, DropWaker, DropLastWaker, OrphanTask, CloseOrphan, EmptySlots}
-use Rattle.task_cell.proofs.Vocabulary.{EndCall, HandOver, Deed, Party, Shared, Last, position, Goes, row, act, as_ended, rest_of, WakerDropPath, leaves_others, leaves_none, leaves_orphan, DropsWaker}
+use Rattle.task_cell.proofs.Vocabulary.{false, List, [], ◌∷◌, ◌++◌, State, Nothing, Deliverer, OrphanHolder, ThenEnds, DropWaker, DropLastWaker, OrphanTask, CloseOrphan, EmptySlots}
+use Rattle.task_cell.proofs.Vocabulary.{EndCall, HandOver, Deed, Party, Shared, Last, Goes, row, act, as_ended, WakerDropPath, leaves_others, leaves_none, leaves_orphan, DropsWaker}
 use Rattle.task_steps.specs.declared.words.Dropped.TheVariants.{Orphaned}
 use Rattle.task_cell.proofs.Moved.{goes_on}
-use Rattle.task_cell.proofs.TaskMoves.{ends}
 use Rattle.task_cell.proofs.TaskCalls.{Empties, empties}
 
 module _ {F T A : Type 0} where

@@ -1,9 +1,8 @@
 -- What the steps of a lent waker, and of a waker's drop, come to for the party that made them.
-use Rattle.std.proofs.Common.{inl}
 use Rattle.task_cell.proofs.Vocabulary.{◌≡◌, ℕ, Bool, true, false, not, ◌&&◌, List, [], ◌∷◌, Option, Some, None, IfSome, is_some, refl, sym, ap, ◌∙◌, subst, nat_lt, if◌then◌else◌, Me, State, is_open}
 use Rattle.task_cell.proofs.Vocabulary.{number_of, written, Slots, is_held, Nothing, Waker, Lent, Ended, ThenEnds, Position, At, Deliverer, Emptier, OrphanHolder, Act, GainReference, FindLimit}
 use Rattle.task_cell.proofs.Vocabulary.{DropWaker, DropLastWaker, OrphanTask, CloseOrphan, WakeOver, WakeScheduled, WakeRunning, WakeIdle, EndCall, Slot, Deed, Member, View, Party, Shared}
-use Rattle.task_cell.proofs.Vocabulary.{Last, member, view, fresh, head_of, acted, Carried, Makes, deeds, limit_of, IsNew, Stands, Goes, row, act, after, as_waker, as_deliverer, MayTry, HasChanged}
+use Rattle.task_cell.proofs.Vocabulary.{Last, member, view, fresh, head_of, acted, Carried, Makes, deeds, limit_of, IsNew, Sees, Stands, Goes, row, act, after, as_waker, as_deliverer, MayTry, HasChanged}
 use Rattle.task_cell.proofs.Vocabulary.{HasEnded, others_left, gaining, gained_word, at_limit, finding_limit, is_over, finding_over, waking_task, woken_word, woken_if_held}
 use Rattle.task_cell.proofs.Vocabulary.{dropping_waker, closing_orphan, is_gained, finds_limit, is_scheduled, is_running, Gains, gains_none, gains_one, WakesTask}
 use Rattle.task_cell.proofs.Vocabulary.{makes_none, makes_one, DropsWaker, dropped_by, both, gains, third, fourth, not_true}
@@ -47,8 +46,8 @@ module _ {F T A : Type 0} where
       (λ i. (viewed i, keeps_places (At Lent) (At Lent) [] q.seat.me.1 refl refl carried i))
 
   -- a party that has done nothing, alone on its seat
-  pub fresh_stands : (l : ℕ) (p : Party F T A) → p.seat.me ≡ (view l (fresh (At Lent) ∷ []), []) → Stands (At Lent) p
-  fresh_stands l p is = is ∙ ap (λ (z : ℕ × List Deed). (view z.0 (member (At Lent) z.1 ∷ []), []))
+  pub fresh_stands : (at : Position) (l : ℕ) (p : Party F T A) → p.seat.me ≡ (view l (fresh at ∷ []), []) → Stands at p
+  fresh_stands at l p is = is ∙ ap (λ (z : ℕ × List Deed). (view z.0 (member at z.1 ∷ []), []))
       (λ i. (sym (ap (λ (x : Me (Slot F T A) View). x.0.limit) is) i, sym (ap (λ (x : Me (Slot F T A) View). (head_of x.0.members).deeds) is) i))
 
   -- the party of a call by reference may be let go after the call
@@ -76,12 +75,15 @@ module _ {F T A : Type 0} where
   spent_by_gain limit p q None (gains_none path w g) = spent_by_count limit false path p q w g
   spent_by_gain limit p q (Some d) (gains_one path y w g n) = spent_by_count limit true path p q w g
 
-  -- what a wake by reference makes
-  pub wake_gives : {X : Type 0} (limit : ℕ) (block : BlockId) (p q : Party F T A) (made : Option (X × Party F T A)) → p.seat.block ≡ block → limit_of p ≡ limit → WakesTask p q (second made)
-      → IfSome made (λ d. (d.1.seat.block ≡ block) × (d.1.seat.me ≡ (view limit (fresh as_deliverer ∷ []), [])))
-  wake_gives limit block p q None cell is (makes_none path w g) = tt
-  wake_gives limit block p q (Some d) cell is (makes_one path x w g n) = (n.cell ∙ cell, n.is ∙ ap (λ l. (view l (fresh as_deliverer ∷ []), [])) is)
+  -- the deliverer that a wake makes
+  pub wake_gives : {X : Type 0} (limit : ℕ) (block : BlockId) (p q : Party F T A) (made : X × Party F T A) → p.seat.block ≡ block → limit_of p ≡ limit → WakesTask p q (second (Some made)) → (made.1.seat.block ≡ block) × (limit_of made.1 ≡ limit) × Stands as_deliverer made.1
+  wake_gives limit block p q d cell is (makes_one path x w g n) = (n.cell ∙ cell, ap (λ (m : Me (Slot F T A) View). m.0.limit) n.is ∙ is, fresh_stands as_deliverer (limit_of p) d.1 n.is)
 
+  -- a party has the same limit when it has seen a word
+  pub limit_before : (w : State) (p q : Party F T A) → Sees w p q → limit_of p ≡ limit_of q
+  limit_before w p q s = sym (ap (λ (m : Me (Slot F T A) View). m.0.limit) s.seen.is)
+
+  -- what a gain by reference makes
   pub gain_gives : {X : Type 0} (limit : ℕ) (block : BlockId) (p q : Party F T A) (made : Option (X × Party F T A)) → p.seat.block ≡ block → limit_of p ≡ limit → Gains limit p q (second made)
       → IfSome made (λ d. (d.1.seat.block ≡ block) × (d.1.seat.me ≡ (view limit (fresh as_waker ∷ []), [])))
   gain_gives limit block p q None cell is (gains_none path w g) = tt

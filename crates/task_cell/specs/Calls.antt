@@ -1,5 +1,5 @@
 -- What a call of the cell asks of its party, and says of it.
-use Rattle.std.specs.Prelude.{◌≡◌, ℕ, List, [], ◌∷◌, Bool, true, false, Option, Some, None}
+use Rattle.std.specs.Prelude.{◌≡◌, ◌<◌, ℕ, List, [], ◌∷◌, Bool, true, false, Option, Some, None}
 use Rattle.atomic_table.specs.Table.{Allows}
 use Rattle.counted_block.specs.Counts.{Same, Less, Notes}
 use Rattle.task_core.specs.Word.{State, state_of}
@@ -16,6 +16,7 @@ use Rattle.task_steps.specs.Deeds.{row, act, after}
 use Rattle.task_steps.specs.Standing.{way_of}
 use Rattle.task_steps.specs.Steps.{head_of, Makes}
 use Rattle.task_steps.specs.Knows.{Knows}
+use Rattle.task_steps.specs.Attempts.{HasSeen}
 use Rattle.task_steps.specs.Shares.{shares_out}
 
 -- the table has the row for this word; no limit is asked for
@@ -65,6 +66,13 @@ module _ {F T A : Type 0} where
   pub record GoesWith (path : List Deed) (at : Position) (held : List (ℕ × Slot F T A)) (p q : Party F T A) : Type 0 where
     pub cell : q.seat.block ≡ p.seat.block
     pub is : q.seat.me ≡ (view (limit_of p) (member at (after path (deeds p)) ∷ []), held)
+
+  -- q is the party p, which has tried a change, and has seen this word
+  pub record Sees (w : State) (p q : Party F T A) : Type 0 where
+    pub cell : q.seat.block ≡ p.seat.block
+    pub number : q.seat.id ≡ p.seat.id
+    pub room : w.references < 72057594037927935
+    pub seen : HasSeen w p.seat.me q.seat.me
 
   abbrev pub Goes : List Deed → Position → Party F T A → Party F T A → Type 0
   Goes path at p q = GoesWith path at [] p q

@@ -1,8 +1,8 @@
 -- What the steps of a notifier owe, and the ends of a call.
-use Rattle.std.proofs.Common.{◌≡◌, ℕ, ◌≤◌, Bool, true, false, not, ◌&&◌, ◌||◌, Option, Some, None, List, [], ◌∷◌, refl, sym, ap, ◌∙◌, subst, ◌⊎◌, inl, inr, ⊎_elim, arith}
+use Rattle.std.proofs.Common.{◌≡◌, ℕ, ◌≤◌, Bool, true, false, not, ◌&&◌, ◌||◌, Option, Some, None, List, [], ◌∷◌, refl, sym, ap, ◌∙◌, subst, ◌⊎◌, inr, ⊎_elim, arith}
 use Rattle.std.specs.Prelude.{bit_and, bit_or, if◌then◌else◌}
 use Rattle.atomic_table.specs.Table.{rest}
-use Rattle.task_steps.proofs.Vocabulary.{State, state_of, number_of, CallEnds, CloneEnded, Woken, Answer, Rest, NotifyingCall, OfRun, OfDrop, OfCancel, OfPoll, OfClaim, At, CallEnding, Notifier, Releaser}
+use Rattle.task_steps.proofs.Vocabulary.{State, state_of, number_of, CallEnds, CloneEnded, Woken, Answer, Rest, NotifyingCall, OfRun, OfPoll, OfClaim, At, CallEnding, Notifier, Releaser}
 use Rattle.task_steps.proofs.Vocabulary.{AwaiterInHand, EndCall, WakeAwaiter, DropAwaiter, MissNotify, BeginNotify, TakeAwaiter, Slots, leaves_slots, changes_slots, after_taking, after_waking, may_drop, scene, owns_awaiter}
 use Rattle.task_steps.proofs.Vocabulary.{Awaiting, await, awaiting, state_of_number_of, fetch_or-notifying, fetch_and-awaiter_notifying, Slot, Deed, Member}
 use Rattle.task_steps.specs.Rule.{has_work, IsEmpty, Waits}

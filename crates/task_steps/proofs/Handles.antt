@@ -1,11 +1,10 @@
 -- What the acts of each step do to the handles that the word counts.
-use Rattle.std.proofs.Common.{◌≡◌, ℕ, zero, suc, ◌+◌, ◌-◌, ◌<◌, ◌≤◌, Bool, true, false, not, ◌&&◌, ◌||◌, cond, Option, Some, None, List, [], ◌∷◌, ◌⊎◌, inl, inr, refl, sym, ap, ◌∙◌, subst, arith}
-use Rattle.std.specs.Prelude.{nat_lt, nat_eq, if◌then◌else◌}
+use Rattle.std.proofs.Common.{◌≡◌, ℕ, zero, suc, ◌+◌, ◌-◌, ◌≤◌, Bool, true, false, not, ◌&&◌, ◌||◌, Option, Some, None, List, [], ◌∷◌, inl, inr, refl, sym, ap, ◌∙◌, subst, arith}
+use Rattle.std.specs.Prelude.{nat_lt, if◌then◌else◌}
 use Rattle.std.proofs.lemmas.Bool.Decides.{nat_tests}
 use Rattle.task_steps.specs.WakerScripts.{woken_word}
 use Rattle.task_steps.proofs.Vocabulary.{WakeScheduled, WakeRunning, WakeIdle, CancelBusy, CancelIdle, Reschedule, EndIdle, EndOrphaned, EndCall, GiveUpOutput, Detach, DetachLast, DetachOrphan, DropWaker, OrphanTask, DropLastWaker, GiveUpReference, GiveUpLastReference}
-use Rattle.task_steps.proofs.Vocabulary.{State, bit, is_open, orphan_word, Event, Answer, Rest, Runnable, Waker, Lent, Task, Position, At, GivingUp, Detacher, OrphanHolder, Pending, Slots, is_held, may_ask, row, written, GainReference, Machine, census, Census, Holds, Deed, Member}
-use Rattle.task_steps.specs.Beside.{may_call, may_change}
+use Rattle.task_steps.proofs.Vocabulary.{State, bit, is_open, Event, Answer, Rest, Waker, Task, At, GivingUp, Detacher, OrphanHolder, Pending, Slots, is_held, row, GainReference, Machine, census, Census, Holds, Deed, Member}
 use Rattle.task_steps.specs.WakerScripts.{gaining, gained_word, waking_task, woken_if_held, others_left, dropping_waker, closing_orphan}
 use Rattle.task_steps.specs.TaskScripts.{cancelling, cancelled_word, detaching, giving_task_up}
 use Rattle.task_steps.specs.RunScripts.{giving_up, ending_pending}
@@ -61,14 +60,8 @@ some_references w e = grind (arith, nat_tests)
 no_references : (w : State) → nat_lt 0 w.references ≡ false → w.references ≡ 0
 no_references w e = grind (arith, nat_tests)
 
-bit_low : (b : Bool) → bit b ≤ 1
-bit_low b = grind arith
-
 waker_held : (limit : ℕ) (w : State) (slots : Slots) (t : List Event) (c : Census) → Holds limit w slots t c → 1 ≤ c.wakers → 1 ≤ w.references
 waker_held limit w slots t c h e = grind arith
-
-runnable_held : (limit : ℕ) (w : State) (slots : Slots) (t : List Event) (c : Census) → Holds limit w slots t c → 1 ≤ c.queued → 1 ≤ w.references
-runnable_held limit w slots t c h e = grind arith
 
 finishing_held : (limit : ℕ) (w : State) (slots : Slots) (t : List Event) (c : Census) → Holds limit w slots t c → 1 ≤ c.finishing → 1 ≤ w.references
 finishing_held limit w slots t c h e = grind arith

@@ -2,7 +2,7 @@
 use Rattle.std.proofs.Common.{◌≡◌, ℕ, ◌+◌, ◌≤◌, Bool, true, false, not, List, [], ◌∷◌, refl, ap, ◌∙◌, inl, inr, arith}
 use Rattle.std.specs.Prelude.{bit_and}
 use Rattle.atomic_table.specs.Table.{rest}
-use Rattle.task_steps.proofs.Vocabulary.{State, state_of, number_of, is_open, Event, CallEnds, FutureDropped, RunEnded, Finished, Position, At, FutureInHand, Task, ClosedRun, DroppedRunnable, WithoutPoll, OfRun, OfDrop, Slots, leaves_slots, notifies, scene, Census, census, plus, closers}
+use Rattle.task_steps.proofs.Vocabulary.{State, state_of, number_of, is_open, Event, CallEnds, FutureDropped, RunEnded, Finished, At, FutureInHand, Task, ClosedRun, DroppedRunnable, WithoutPoll, OfRun, OfDrop, Slots, leaves_slots, notifies, scene, Census, census, plus, closers}
 use Rattle.task_steps.proofs.Vocabulary.{owns_awaiter, Holds, state_of_number_of, fetch_and-scheduled, Slot, Empty, Deed, Member}
 use Rattle.task_steps.specs.Rule.{has_work, IsOutput}
 use Rattle.task_steps.specs.Steps.{future_first}
@@ -22,11 +22,6 @@ idle_drop true = (refl, refl)
 idle_drop false = (refl, refl)
 
 module _ (F T A : Type 0) (limit : ℕ) where
-  -- a step without acts
-  pub does_nothing : (at : Position) (ds : List Deed) (us : List Member) (l : List (ℕ × Slot F T A)) → Owes F T A limit (λ _. []) (λ n. n) at ds us l
-  does_nothing at ds us l m f number x lt = keeps_places (leaves_slots (scene m) m.word at [] [])
-      refl x refl
-
   pub looks_finished : (n : ℕ) (ds : List Deed) (us : List Member) (l : List (ℕ × Slot F T A)) → Owes F T A limit looking_finished (λ n. n) (At (Task n)) ds us l
   looks_finished n ds us l m f x e lt = keeps_places (leaves_slots (scene m) m.word (At (Task n)) [] (CallEnds (Finished (not (is_open m.word))) ∷ []))
       refl e refl

@@ -3,7 +3,7 @@ use Rattle.std.proofs.Common.{◌≡◌, ℕ, ◌+◌, ◌≤◌, Bool, true, fa
 use Rattle.std.specs.Prelude.{if◌then◌else◌, bit_and}
 use Rattle.atomic_table.specs.Table.{rest}
 use Rattle.task_steps.proofs.Vocabulary.{State, state_of, number_of, found, written, row, Event, TaskPollBegins, TaskPollEnds, Closes, OutputTaken, Cloned, Woken, CloneEnded, PollAnswer, IsPending, HasOutput, IsRefused, Position, OfPoll, OfClaim, At, Notifier, Looking, SawOutput, TookOutput}
-use Rattle.task_steps.proofs.Vocabulary.{RefuseClone, Answering, Registrar, HasClone, UnusedClone, Storing, Registered, OldAwaiterInHand, TookBack, CloneInHand, Task, Act, Look, ClaimOutput, CloneAwaiter, StoreAwaiter, BeginRegister, EndRegister, EndRegisterNotified, EndCall, Slots, leaves_slots, changes_slots}
+use Rattle.task_steps.proofs.Vocabulary.{RefuseClone, Answering, Registrar, HasClone, UnusedClone, Storing, Registered, TookBack, CloneInHand, Task, Act, Look, ClaimOutput, CloneAwaiter, StoreAwaiter, BeginRegister, EndRegister, EndRegisterNotified, EndCall, Slots, leaves_slots, changes_slots}
 use Rattle.task_steps.proofs.Vocabulary.{when, where_found, notifies, first_look, second_look, after_storing, Machine, scene, count, is_task_poll, owns_awaiter, Census, census, Awaiting, awaiting, HandshakeHolds, Holds, state_of_number_of}
 use Rattle.task_steps.proofs.Vocabulary.{DropAwaiter, WakeAwaiter, fetch_and-awaiter_registering_notifying, Invariant, Slot, Empty, Awaiter, Deed, Member}
 use Rattle.task_steps.specs.Rule.{has_work, IsFuture, IsEmpty, IsAwaiter, Waits}

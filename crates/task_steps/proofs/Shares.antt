@@ -1,18 +1,16 @@
 -- What a step of a party does to the number of shares that are out, by the words before and after its acts.
-use Rattle.std.proofs.Common.{◌≡◌, ◌≢◌, ℕ, zero, suc, ◌+◌, ◌<◌, Bool, true, false, ◌&&◌, Option, Some, None, List, ◌∷◌, ◌⊎◌, inl, inr, ⊎_elim, sym, refl, ap, ◌∙◌, subst, arith, eqb, eq-eqb, ne_eqb}
+use Rattle.std.proofs.Common.{◌≡◌, ℕ, zero, suc, ◌+◌, ◌<◌, Bool, true, false, ◌&&◌, Option, Some, None, List, ◌∷◌, ◌⊎◌, inl, inr, ⊎_elim, sym, refl, ap, ◌∙◌, subst, arith, eqb, eq-eqb, ne_eqb}
 use Rattle.std.proofs.lemmas.Bool.Decides.{nat_tests}
 use Rattle.std.specs.Prelude.{if◌then◌else◌}
-use mathlib.Core.Option.{some}
 use native.Mathlib.Decide.{ℕ_discrete}
 use mathlib.Core.Logic.{dite}
 use prog.Atomic.{either}
 use lib.ListN.{get_elem?}
-use Rattle.atomic_table.specs.Table.{State as Board, Me}
+use Rattle.atomic_table.specs.Table.{State as Board}
 use Rattle.counted_block.specs.Blocks.{word_of}
-use Rattle.counted_block.specs.Counts.{Same, More, Less, Last}
-use Rattle.task_steps.proofs.Vocabulary.{State, bit, state_of, number_of, state_of_number_of, Position, Act, Machine, scene, Slot, Deed, Tries, Member, View}
+use Rattle.counted_block.specs.Counts.{Same, Less, Last}
+use Rattle.task_steps.proofs.Vocabulary.{State, state_of, number_of, state_of_number_of, Position, Act, Machine, scene, Slot, Deed, Member, View}
 use Rattle.task_steps.specs.Rule.{view, trying, member, Running, RuleHolds}
-use Rattle.task_steps.specs.Attempts.{having_seen}
 use Rattle.task_steps.specs.Shares.{handles, at_least_one, shares_out, has_emptied, MayBring, MayGive}
 use Rattle.task_steps.proofs.Facts.{low, law, bit_le}
 use Rattle.task_steps.proofs.Seen.{without_handles, emptied_stays}

@@ -1,5 +1,5 @@
 //! The table of a cell, what its seats know, and the steps on it by name. Each step keeps the rule of the table.
-//! It stands on the machine of `task_laws`, on the kit's `atomic_table`, and on `inline_table`.
+//! It stands on the machine of `task_laws`, on the kit's `atomic_table`, and on `counted_block`.
 //! A user calls nothing of it; `task_cell` builds its calls of these steps.
 //! All that is public is so for `task_cell` and its claims.
 //! The pages are docs/ARCHITECTURE.md and docs/PROOFS.md.

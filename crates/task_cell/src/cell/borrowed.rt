@@ -2,7 +2,7 @@
 ghost use Rattle.std.specs.Prelude.{◌≡◌, ◌<◌, [], ◌∷◌, IfSome};
 ghost use Rattle.task_steps.specs.Rule.{view, fresh};
 ghost use Rattle.task_cell.specs.Belongs.{IsOf, cell_of, limit_in};
-ghost use Rattle.task_steps.specs.Standing.{as_waker, as_deliverer, as_lent};
+ghost use Rattle.task_steps.specs.Standing.{as_waker, as_lent};
 
 use super::{Party, Share};
 use std::alloc::Allocator;
@@ -12,6 +12,19 @@ use task_core::word::Word;
 use task_steps::table::Kept;
 use task_steps::waker::Borrowing;
 
+impl<R: Drop, F: Yields, Q: Drop, M: Drop, A: Drop, B: Allocator + Copy> Share<R, F, Q, M, A, B> {
+    // The party of one call by reference, and the word that is found.
+    #[inline(always)]
+    pub(crate) fn borrow(&self) -> (Word, Party<F, Kept<F>, A>)
+        ensures cell { IsOf self.now result.1 }
+        ensures room { result.0.references < 72057594037927935 }
+        ensures party { result.1.seat.me ≡ (view (limit_in self.now) (fresh as_lent ∷ []), []) }
+    {
+        let (found, seat) = self.block.load_new_seat::<Borrowing>();
+        (Word::from_bits(found), Party { seat })
+    }
+}
+
 impl<R: Wait + Drop + Copy, F: Yields, Q: Drop, M: Drop, A: Drop, B: Allocator + Copy> Share<
     R,
     F,
@@ -20,16 +33,6 @@ impl<R: Wait + Drop + Copy, F: Yields, Q: Drop, M: Drop, A: Drop, B: Allocator +
     A,
     B,
 > {
-    // The party of one call by reference, and the word that is found.
-    fn borrow(&self) -> (Word, Party<F, Kept<F>, A>)
-        ensures cell { IsOf self.now result.1 }
-        ensures room { result.0.references < 72057594037927935 }
-        ensures party { result.1.seat.me ≡ (view (limit_in self.now) (fresh as_lent ∷ []), []) }
-    {
-        let (found, seat) = self.block.load_new_seat::<Borrowing>();
-        (Word::from_bits(found), Party { seat })
-    }
-
     // A gain by whoever has a handle by reference: a share for the new waker, and its party.
     pub(crate) fn gain_by_reference(&self) -> Option<(Self, Party<F, Kept<F>, A>)>
         ensures share { IfSome result (λ gained. cell_of gained.0 ≡ cell_of self.now) }
@@ -39,16 +42,5 @@ impl<R: Wait + Drop + Copy, F: Yields, Q: Drop, M: Drop, A: Drop, B: Allocator +
         let gained = self.gain(&mut party, word);
         party.give_back();
         gained
-    }
-
-    // A wake by whoever has a waker by reference: a share for the Runnable, and the deliverer, where the task was idle.
-    pub(crate) fn wake_by_reference(&self) -> Option<(Self, Party<F, Kept<F>, A>)>
-        ensures share { IfSome result (λ woken. cell_of woken.0 ≡ cell_of self.now) }
-        ensures deliverer { IfSome result (λ woken. IsOf self.now woken.1 × (woken.1.seat.me ≡ (view (limit_in self.now) (fresh as_deliverer ∷ []), []))) }
-    {
-        let (word, mut party) = self.borrow();
-        let woken = self.wake_by_ref(&mut party, word);
-        party.give_back();
-        woken
     }
 }

@@ -7,21 +7,13 @@ ghost use Rattle.task_cell.specs.Belongs.{IsOf, Leaves, limit_in};
 
 use super::{MaybeShare, Party, Share};
 use std::alloc::Allocator;
-use std::sync::Wait;
 use task_core::Yields;
 use task_core::word::Word;
 use task_steps::Knowing;
 use task_steps::script::{Giving, Script};
 use task_steps::table::Kept;
 
-impl<R: Wait + Drop + Copy, F: Yields, Q: Drop, M: Drop, A: Drop, B: Allocator + Copy> Share<
-    R,
-    F,
-    Q,
-    M,
-    A,
-    B,
-> {
+impl<R: Drop, F: Yields, Q: Drop, M: Drop, A: Drop, B: Allocator + Copy> Share<R, F, Q, M, A, B> {
     // Makes a step by a load: the word that it found.
     pub(crate) fn load<S: Script>(&self, party: &mut Party<F, Kept<F>, A>) -> Word
         requires cell { IsOf self.now party.old }

@@ -10,20 +10,12 @@ ghost use Rattle.task_cell.specs.Belongs.{IsOf};
 
 use super::{Party, Share};
 use std::alloc::Allocator;
-use std::sync::Wait;
 use task_core::Yields;
 use task_core::word::Word;
 use task_steps::table::Kept;
 use task_steps::task::LookingFinished;
 
-impl<R: Wait + Drop + Copy, F: Yields, Q: Drop, M: Drop, A: Drop, B: Allocator + Copy> Share<
-    R,
-    F,
-    Q,
-    M,
-    A,
-    B,
-> {
+impl<R: Drop, F: Yields, Q: Drop, M: Drop, A: Drop, B: Allocator + Copy> Share<R, F, Q, M, A, B> {
     /// Whether the task is completed or closed. It is one load, and waits for nobody.
     pub fn is_finished(&self, party: &mut Party<F, Kept<F>, A>) -> bool
         requires cell { IsOf self.now party.old }

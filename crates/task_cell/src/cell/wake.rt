@@ -1,18 +1,67 @@
 //! Waking the task.
-ghost use Rattle.std.specs.Prelude.{◌≡◌, ◌<◌, IfSome};
-ghost use Rattle.task_cell.specs.Calls.{Stands, limit_of, second};
+ghost use Rattle.std.specs.Prelude.{◌≡◌, ◌<◌, IfSome, IfOk, IfErr};
+ghost use Rattle.task_steps.specs.Attempts.{HasChanged};
+ghost use Rattle.task_steps.specs.Shares.{brings_runnable};
 ghost use Rattle.task_steps.specs.Standing.{as_lent};
+ghost use Rattle.task_steps.specs.WakerScripts.{waking_task, woken_if_held};
+ghost use Rattle.task_cell.specs.Belongs.{IsOf, Leaves, cell_of, limit_in};
+ghost use Rattle.task_cell.specs.Calls.{Sees, Stands, limit_of, second};
 ghost use Rattle.task_cell.specs.WakerPaths.{WakesTask};
-ghost use Rattle.task_cell.specs.Belongs.{IsOf, cell_of, limit_in};
 
-use super::{Party, Share};
+use super::{MaybeShare, Party, Share};
 use std::alloc::Allocator;
 use std::sync::Wait;
 use task_core::Yields;
 use task_core::word::Word;
+use task_steps::attempt::TriedOnce;
 use task_steps::table::Kept;
 use task_steps::waker::{Parting, WakingTask};
 use task_steps::words::was_idle;
+
+impl<R: Drop, F: Yields, Q: Drop, M: Drop, A: Drop, B: Allocator + Copy> Share<R, F, Q, M, A, B> {
+    // What a wake leaves to be done that was made on this word: where the task was idle, a share for a Runnable, and a deliverer, which is to hand it over.
+    #[inline(always)]
+    fn deliverer_of(
+        &self,
+        party: &mut Party<F, Kept<F>, A>,
+        found: Word,
+        maybe: MaybeShare<R, F, Q, M, A, B>,
+    ) -> Option<(Self, Party<F, Kept<F>, A>)>
+        requires cell { IsOf self.now party.old }
+        requires brought { Leaves self.now maybe (brings_runnable found) }
+        requires made { (p : _) × Stands as_lent p × HasChanged (limit_in self.now) woken_if_held waking_task found p.seat.me party.old.seat.me }
+        ensures path { (p : _) → Stands as_lent p → (party.old.seat.block ≡ p.seat.block) → HasChanged (limit_in self.now) woken_if_held waking_task found p.seat.me party.old.seat.me → WakesTask p party.new (second result) }
+        ensures share { IfSome result (λ woken. cell_of woken.0 ≡ cell_of self.now) }
+    {
+        if !was_idle(found) {
+            maybe.none();
+            return None;
+        }
+        let seat = self.block.split_seat::<Parting>(&mut party.seat);
+        Some((maybe.share(), Party { seat }))
+    }
+
+    // The first try of a wake, by a waker that is lent, on a word that was found: what it leaves to be done, or the word on which it is to be tried again. It cannot wait.
+    #[inline(always)]
+    pub(crate) fn try_wake(
+        &self,
+        party: &mut Party<F, Kept<F>, A>,
+        word: Word,
+    ) -> Result<Option<(Self, Party<F, Kept<F>, A>)>, Word>
+        requires cell { IsOf self.now party.old × (limit_of party.old ≡ limit_in self.now) }
+        requires room { word.references < 72057594037927935 }
+        requires party { Stands as_lent party.old }
+        ensures path { IfOk result (λ woken. WakesTask party.old party.new (second woken)) }
+        ensures share { IfOk result (λ made. IfSome made (λ woken. cell_of woken.0 ≡ cell_of self.now)) }
+        ensures again { IfErr result (λ w. Sees w party.old party.new) }
+    {
+        match self.try_once::<WakingTask>(party, word) {
+            TriedOnce::Made(found, maybe) => Ok(self.deliverer_of(party, found, maybe)),
+            TriedOnce::Ended(_, ()) => Ok(None),
+            TriedOnce::Again(found, ()) => Err(found),
+        }
+    }
+}
 
 impl<R: Wait + Drop + Copy, F: Yields, Q: Drop, M: Drop, A: Drop, B: Allocator + Copy> Share<
     R,
@@ -22,29 +71,19 @@ impl<R: Wait + Drop + Copy, F: Yields, Q: Drop, M: Drop, A: Drop, B: Allocator +
     A,
     B,
 > {
-    // Wakes the task, unless it is over. Where it was idle, the answer is a share for a Runnable, and a deliverer, which is to hand it over.
-    //
-    // `party` is a waker that is lent, and `word` one that was found before: it is tried first.
-    pub(crate) fn wake_by_ref(
+    // A wake whose first try has missed, and has left this word.
+    pub(crate) fn wake_again(
         &self,
         party: &mut Party<F, Kept<F>, A>,
         word: Word,
     ) -> Option<(Self, Party<F, Kept<F>, A>)>
         requires cell { IsOf self.now party.old × (limit_of party.old ≡ limit_in self.now) }
-        requires room { word.references < 72057594037927935 }
-        requires party { Stands as_lent party.old }
-        ensures path { WakesTask party.old party.new (second result) }
+        requires party { (p : _) × Stands as_lent p × Sees word p party.old }
+        ensures path { (p : _) → Stands as_lent p → Sees word p party.old → WakesTask p party.new (second result) }
         ensures share { IfSome result (λ woken. cell_of woken.0 ≡ cell_of self.now) }
     {
-        match self.attempt_from::<WakingTask>(party, word) {
-            Ok(made) => {
-                if !was_idle(made.0) {
-                    made.1.none();
-                    return None;
-                }
-                let seat = self.block.split_seat::<Parting>(&mut party.seat);
-                Some((made.1.share(), Party { seat }))
-            }
+        match self.attempt_again::<WakingTask>(party, word) {
+            Ok(made) => self.deliverer_of(party, made.0, made.1),
             Err(_) => None,
         }
     }

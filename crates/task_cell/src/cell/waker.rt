@@ -2,7 +2,7 @@
 ghost use Rattle.std.specs.Prelude.{◌≡◌, ℕ, [], ◌∷◌, IfSome, IfOk, IfErr};
 ghost use Rattle.task_steps.specs.Rule.{view, fresh};
 ghost use Rattle.task_cell.specs.Calls.{Stands, limit_of};
-ghost use Rattle.task_steps.specs.Standing.{as_waker, as_deliverer};
+ghost use Rattle.task_steps.specs.Standing.{as_waker};
 ghost use Rattle.task_cell.specs.Wakers.{block_of, me_of, waker_me};
 ghost use Rattle.task_cell.specs.Belongs.{IsOf, cell_of, limit_in};
 
@@ -104,15 +104,6 @@ impl<R: Wait + Drop + Copy, F: Yields, Q: Drop, M: Drop, A: Wake, B: Allocator +
     {
         let (share, party) = self.share.gain_by_reference()?;
         Some(WakerSeat::owned(share, party))
-    }
-
-    // Wakes the task: a share for its Runnable, and the deliverer, where it was idle.
-    pub(crate) fn wake(&self) -> Option<(Share<R, F, Q, M, A, B>, Party<F, Kept<F>, A>)>
-        ensures share { IfSome result (λ woken. cell_of woken.0 ≡ cell_of self.now.share) }
-        ensures cell { IfSome result (λ woken. IsOf self.now.share woken.1 × (limit_of woken.1 ≡ limit_in self.now.share)) }
-        ensures deliverer { IfSome result (λ woken. Stands as_deliverer woken.1) }
-    {
-        self.share.wake_by_reference()
     }
 }
 

@@ -1,12 +1,16 @@
 //! The calls of a waker.
 ghost use Rattle.std.specs.Prelude.{◌≡◌, ⊤, false, IfSome};
-ghost use Rattle.task_cell.specs.Belongs.{cell_of};
+ghost use Rattle.task_steps.specs.Standing.{as_lent};
+ghost use Rattle.task_cell.specs.Belongs.{IsOf, cell_of, limit_in};
+ghost use Rattle.task_cell.specs.Calls.{Sees, Stands, limit_of};
 
 use super::parked::ParkedWaker;
-use crate::cell::{Runnable, TaskWaker};
+use crate::cell::{Party, Runnable, TaskWaker};
 use std::alloc::Allocator;
 use std::sync::Wait;
+use task_core::word::Word;
 use task_core::{Schedule, Wake, Yields};
+use task_steps::table::Kept;
 
 impl<
     R: Wait + Drop + Copy,
@@ -28,8 +32,30 @@ where
 
     /// Wakes the task. A task that is over stays as it is; one that is scheduled will be polled after this call; one that runs is scheduled once more by its run; and of one that is idle, a Runnable is handed to the schedule value, with `woken_while_running` false and the surroundings of this waker. Where these are `()`, and the schedule value drops such Runnables, the task is cancelled.
     pub fn wake_by_ref(&self) {
-        if let Some((share, deliverer)) = self.inner.wake() {
-            self.inner.share.finish_wake(share, deliverer, self.around);
+        let share = &self.inner.share;
+        let (word, mut party) = share.borrow();
+        match share.try_wake(&mut party, word) {
+            Ok(None) => party.give_back(),
+            Ok(Some(woken)) => {
+                party.give_back();
+                share.finish_wake(woken.0, woken.1, self.around);
+            }
+            Err(found) => self.wake_again(party, found),
+        }
+    }
+
+    // A wake whose first try has missed, and has left this word. It stands apart, so that a wake that is made at once calls nothing that may wait, but the schedule value.
+    #[cold]
+    #[inline(never)]
+    fn wake_again(&self, mut party: Party<F, Kept<F>, A>, word: Word)
+        requires cell { IsOf self.now.inner.share party × (limit_of party ≡ limit_in self.now.inner.share) }
+        requires party { (p : _) × Stands as_lent p × Sees word p party }
+    {
+        let share = &self.inner.share;
+        let woken = share.wake_again(&mut party, word);
+        party.give_back();
+        if let Some(woken) = woken {
+            share.finish_wake(woken.0, woken.1, self.around);
         }
     }
 

@@ -1,5 +1,5 @@
 use Rattle.task_cell.proofs.Vocabulary.{refl}
-use Rattle.task_cell.proofs.Attempts.{seeing_first, seen_on, may_still, bring_still, same_limit, changed_after, ended_after}
+use Rattle.task_cell.proofs.Attempts.{seeing_first, may_still, changed_after}
 use Rattle.task_cell.proofs.cell.block.Share.attempt_again.Goals as goal
 
 pub loop-init : goal.loop-init

@@ -1,5 +1,5 @@
 use Rattle.task_cell.proofs.Vocabulary.{refl}
-use Rattle.task_cell.proofs.Attempts.{may_still, changed_after}
+use Rattle.task_cell.proofs.Attempts.{may_still}
 use Rattle.task_cell.proofs.cell.block.Share.attempt_from.Goals as goal
 
 pub attempt_again-requires-clause-allowed : goal.attempt_again-requires-clause-allowed

@@ -1,6 +1,4 @@
-use Rattle.task_cell.proofs.Vocabulary.{◌≡◌, ◌∙◌, ap, sym, refl, subst, Option, Some, Busy}
-use Rattle.task_steps.specs.declared.words.Cancelled.TheVariants.{Idle}
-use Rattle.task_cell.specs.Calls.{first}
+use Rattle.task_cell.proofs.Vocabulary.{◌∙◌, ap, refl, subst, Some}
 use Rattle.task_cell.specs.TaskPaths.{brings_share}
 use Rattle.task_cell.proofs.Moved.{stands, limit_is}
 use Rattle.task_cell.proofs.Sharing.{same_cell}

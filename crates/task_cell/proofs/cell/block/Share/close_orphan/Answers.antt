@@ -1,4 +1,4 @@
-use Rattle.task_cell.proofs.Vocabulary.{ap, [], OrphanHolder, closes_orphan}
+use Rattle.task_cell.proofs.Vocabulary.{[], OrphanHolder, closes_orphan}
 use Rattle.task_cell.proofs.Steps.{may_make}
 use Rattle.task_steps.proofs.Handles.{keeps_orphan}
 use Rattle.task_cell.proofs.WakerMoves as moves

@@ -1,8 +1,7 @@
-use Rattle.task_cell.proofs.Vocabulary.{sym, ap, ◌∙◌, subst, [], false, Nothing, Detaches, HandedOver}
-use Rattle.task_cell.proofs.Moved.{stands, limit_is}
-use Rattle.task_cell.proofs.Sharing.{same_cell, same_block, same_limit}
+use Rattle.task_cell.proofs.Vocabulary.{subst, false, Nothing, Detaches, HandedOver}
+use Rattle.task_cell.proofs.Moved.{stands}
+use Rattle.task_cell.proofs.Sharing.{same_cell}
 use Rattle.task_cell.proofs.TaskCalls.{detaches_unclaimed, detaches_shared, detaches_last, detaches_orphaned}
-use Rattle.task_cell.specs.TaskPaths.{keeps_task}
 use Rattle.task_cell.proofs.cell.block.Share.detach.Goals as goal
 
 pub returns-in-Shared : goal.returns-in-Shared

@@ -1,6 +1,6 @@
 use Rattle.task_cell.proofs.Vocabulary.{sym, ◌∙◌, [], ◌∷◌, None, OfDrop, Nothing, Ended, DroppedRunnable, Empty}
 use Rattle.task_cell.proofs.Moved.{stands}
-use Rattle.task_cell.proofs.RunRest.{drop_clears, drop_closes, drop_notifies, drop_takes_cell, drop_has, drop_wakes, drop_gives_up, drop_releases, drop_leaves, drop_ends}
+use Rattle.task_cell.proofs.RunRest.{drop_clears, drop_closes, drop_notifies, drop_takes_cell, drop_has, drop_wakes, drop_gives_up, drop_leaves, drop_ends}
 use Rattle.task_cell.proofs.cell.block.Share.discard_runnable.Goals as goal
 
 pub clear-requires-clause-party : goal.clear-requires-clause-party

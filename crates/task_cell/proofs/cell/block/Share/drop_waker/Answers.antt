@@ -1,4 +1,4 @@
-use Rattle.task_cell.proofs.Vocabulary.{false, ◌∙◌, ap, sym, subst, [], Nothing, ThenEnds, Deliverer, DropsWaker, HandedOver}
+use Rattle.task_cell.proofs.Vocabulary.{false, ◌∙◌, ap, sym, subst, Nothing, DropsWaker, HandedOver}
 use Rattle.task_cell.specs.WakerPaths.{keeps_waker}
 use Rattle.task_cell.proofs.Moved.{stands, limit_is}
 use Rattle.task_cell.proofs.Sharing.{same_cell, same_block, same_limit}

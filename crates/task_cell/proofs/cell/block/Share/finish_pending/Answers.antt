@@ -1,6 +1,6 @@
 use Rattle.task_cell.proofs.Vocabulary.{ap, ◌∙◌, sym, subst, true, false, None, Some, Ran, Rescheduled, Idle, Orphaned, HandedOver}
 use Rattle.task_cell.proofs.Moved.{stands, limit_is}
-use Rattle.task_cell.specs.RunCalls.{end_of, keeps_share}
+use Rattle.task_cell.specs.RunCalls.{end_of}
 use Rattle.task_cell.proofs.Sharing.{same_cell, same_block, same_limit}
 use Rattle.task_cell.proofs.RunEnds.{cleared_first, left_pending, by_end, found_closed, found_idle, found_woken, found_orphaned}
 use Rattle.task_cell.proofs.cell.block.Share.finish_pending.Goals as goal

@@ -1,9 +1,10 @@
+use Rattle.task_steps.specs.Standing.{as_lent}
 use Rattle.task_cell.proofs.Vocabulary.{rules, ap}
 use Rattle.task_cell.proofs.WakerMoves.{fresh_stands, spent_by_gain, gain_gives}
 use Rattle.task_cell.proofs.cell.block.Share.gain_by_reference.Goals as goal
 
 pub gain-gained-requires-clause-party : goal.gain-gained-requires-clause-party
-gain-gained-requires-clause-party g c = fresh_stands _ c.borrow-word.result.1 c.borrow-word.ensures.party
+gain-gained-requires-clause-party g c = fresh_stands as_lent _ c.borrow-word.result.1 c.borrow-word.ensures.party
 
 pub give_back-requires : goal.give_back-requires
 give_back-requires g c = search (spent_by_gain, rules)

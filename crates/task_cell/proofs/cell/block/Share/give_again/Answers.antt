@@ -1,5 +1,5 @@
-use Rattle.task_cell.proofs.Vocabulary.{sym, refl, ap, ◌∙◌}
-use Rattle.task_cell.proofs.Attempts.{seeing_first, seen_on, may_still, give_still, same_limit, changed_after, ended_after}
+use Rattle.task_cell.proofs.Vocabulary.{refl}
+use Rattle.task_cell.proofs.Attempts.{seeing_first, may_still, give_still, changed_after, ended_after}
 use Rattle.task_cell.proofs.cell.block.Share.give_again.Goals as goal
 
 pub loop-init : goal.loop-init

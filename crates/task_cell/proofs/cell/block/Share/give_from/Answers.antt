@@ -1,4 +1,3 @@
-use Rattle.task_cell.proofs.Vocabulary.{refl}
 use Rattle.task_cell.proofs.Attempts.{may_still, give_still}
 use Rattle.task_cell.proofs.cell.block.Share.give_from.Goals as goal
 

@@ -1,4 +1,4 @@
-use Rattle.task_cell.proofs.Vocabulary.{sym, subst, ap, ◌∙◌, refl, Detaches}
+use Rattle.task_cell.proofs.Vocabulary.{sym, subst, ap, ◌∙◌, Detaches}
 use Rattle.task_cell.proofs.TaskMoves.{may_detach, gives_up}
 use Rattle.task_cell.proofs.Sharing.{left_by_task}
 use Rattle.task_cell.specs.TaskPaths.{keeps_task}

@@ -1,4 +1,4 @@
-use Rattle.task_cell.proofs.Vocabulary.{[], sym, ap, ◌∙◌, subst, GivingUp, gives_up, GivesUp}
+use Rattle.task_cell.proofs.Vocabulary.{[], sym, ◌∙◌, subst, GivingUp, gives_up, GivesUp}
 use Rattle.task_cell.proofs.Steps.{may_give_up}
 use Rattle.task_steps.proofs.Handles.{gives_reference}
 use Rattle.task_cell.proofs.RunGoes.{gave_up}

@@ -1,5 +1,5 @@
-use Rattle.task_cell.proofs.Vocabulary.{◌≡◌, sym, refl, ap, ◌∙◌, subst, ◌<◌, not, Some, State}
-use Rattle.task_cell.proofs.Attempts.{seeing_first, may_exchange, may_more, seeing_missed, changed, counts_made, counts_missed}
+use Rattle.task_cell.proofs.Vocabulary.{◌≡◌, sym, refl, ap, ◌∙◌, Some}
+use Rattle.task_cell.proofs.Attempts.{seeing_first, may_exchange, may_more}
 use Rattle.task_cell.proofs.cell.block.Share.try_once.Goals as goal
 
 pub observe-requires-clause-seen : goal.observe-requires-clause-seen
