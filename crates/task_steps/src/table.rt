@@ -121,7 +121,14 @@ pub fn lay<F, T, A, V: Drop, B: Allocator>(
     alloc: B,
     value: V,
     limit: u64,
-) -> Result<(Block<F, T, A, V, B>, Block<F, T, A, V, B>, TaskSeat<F, T, A>), V>
+) -> Result<
+    (
+        Block<F, T, A, V, B>,
+        Block<F, T, A, V, B>,
+        TaskSeat<F, T, A>,
+    ),
+    V,
+>
 where
     F: Drop,
     T: Drop,
