@@ -2,7 +2,7 @@
 ghost use Rattle.std.specs.Prelude.{⊤};
 
 use crate::granted::granted;
-use Event::{Freed, Future, Handed, Held, Kept, Output, Unwoken, Woken};
+use Event::{Freed, Future, Handed, Held, Kept, Output, Returned, Unwoken, Woken};
 use async_task::{Builder, Poll, Runnable, Schedule, ScheduleInfo, Task, TaskWaker, Wake, Yields};
 use bench_report::counting::Counting;
 use counted_values::counters::Counter;
@@ -31,6 +31,8 @@ enum Event {
     Unwoken,
     // The schedule value or the metadata was dropped. Which of them is first is not stated.
     Kept,
+    // The schedule value has dropped the Runnable that it got, and returns.
+    Returned,
 }
 
 impl Event {
@@ -45,6 +47,7 @@ impl Event {
             Event::Woken => 6,
             Event::Unwoken => 7,
             Event::Kept => 8,
+            Event::Returned => 9,
         }
     }
 }
@@ -405,6 +408,7 @@ impl<'m, R: Wait + Drop + Copy> Schedule<BareRunnable<'m, R>> for EndScheduler {
     fn schedule(&self, runnable: BareRunnable<'m, R>, _info: ScheduleInfo) {
         self.journal.note(Event::Handed);
         drop(runnable);
+        self.journal.note(Event::Returned);
     }
 }
 
@@ -512,6 +516,7 @@ enum Way {
     CancelledRunning,
     RunnableDropped,
     Orphaned,
+    DroppedByScheduler,
     Awaited,
 }
 
@@ -591,6 +596,15 @@ fn orphan<R: Wait + Abort + Drop + Copy>(ground: &Ground<R>) {
     run_handed(ground, &desk);
 }
 
+// An idle task without another handle is detached, and its schedule value drops the Runnable that it gets for that.
+fn drop_in_scheduler<R: Wait + Abort + Drop + Copy>(ground: &Ground<R>) {
+    let desk = Desk::new(ground.rt);
+    let (runnable, task) = spawn_in(ground, &desk, Act::Wait);
+    run(ground, runnable);
+    task.with_around(()).detach();
+    ground.mark();
+}
+
 // An idle task loses its Task, which has registered an awaiter.
 fn cancel_awaited<R: Wait + Abort + Drop + Copy>(ground: &Ground<R>) {
     let desk = Desk::new(ground.rt);
@@ -613,6 +627,7 @@ fn live<R: Wait + Abort + Drop + Copy>(rt: R, alloc: Global, way: Way) -> Life {
         Way::CancelledRunning => cancel_running(&ground),
         Way::RunnableDropped => drop_runnable(&ground),
         Way::Orphaned => orphan(&ground),
+        Way::DroppedByScheduler => drop_in_scheduler(&ground),
         Way::Awaited => cancel_awaited(&ground),
     }
     ground.life()
@@ -680,6 +695,13 @@ fn the_last_waker_of_an_orphan_hands_its_end_over(rt: HostRuntime) {
         Held, Held, Held, Held, Held, Handed, Held, Future, Unwoken, Kept, Kept, Freed,
     ];
     lives_so(rt, rt.alloc(), Way::Orphaned, &events);
+}
+
+// The detach hands a Runnable over, and has no handle left. The schedule value drops it, the last handle, and is kept with its block until it returns.
+#[test]
+fn a_schedule_value_outlives_the_last_handle(rt: HostRuntime) {
+    let events = [Held, Held, Handed, Future, Returned, Kept, Kept, Freed];
+    lives_so(rt, rt.alloc(), Way::DroppedByScheduler, &events);
 }
 
 // The drop of the Task hands a Runnable over, and then wakes the awaiter. The future is dropped by that Runnable, the last handle.
