@@ -6,6 +6,7 @@
 #![tactic(auto)]
 
 pub mod acts;
+pub mod table;
 pub mod traits;
 pub mod word;
 

@@ -87,7 +87,7 @@ output_is_detached_last : Tracked DetachLast Detacher as_found
 output_is_detached_last = by_flag scheduled (grind rules) (by_flag completed (grind rules) (grind rules))
 
 awaited_run_is_unpolled : Tracked Unschedule (FutureGone ClosedRun) (awaiter.put true)
-awaited_run_is_unpolled = by_flag task (grind rules) (grind rules)
+awaited_run_is_unpolled = by_flag task (by_flag completed (grind rules) (grind rules)) (by_flag completed (grind rules) (grind rules))
 
 run_is_unpolled : Tracked Unschedule (FutureGone ClosedRun) (awaiter.put false)
 run_is_unpolled = by_flag task (grind rules) (grind rules)

@@ -3,11 +3,9 @@ pub mod Laws
 pub mod Position
 pub mod Scene
 pub mod Onward
-pub mod HandleMoves
-pub mod ClosingMoves
-pub mod RunMoves
-pub mod AwaiterMoves
-pub mod CallMoves
+pub mod Asks
+pub mod Line
+pub mod Lines
 pub mod Table
 pub mod Machine
 pub mod Holders

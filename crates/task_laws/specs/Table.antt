@@ -5,17 +5,13 @@ use Rattle.task_core.specs.Rows.{found, written}
 use Rattle.task_laws.specs.Position.{Position, Act}
 pub use Rattle.task_laws.specs.Scene.{Slots, Scene, Outcome, when, leaves_slots, changes_slots}
 pub use Rattle.task_laws.specs.Onward.{after_taking, notifies, after_cancelling, after_handing_over, after_waking, after_giving_up}
-pub use Rattle.task_laws.specs.HandleMoves.{is_held, may_ask, may_gain, may_wake, references, wakes}
-pub use Rattle.task_laws.specs.ClosingMoves.{closes}
-pub use Rattle.task_laws.specs.RunMoves.{closing, runs, values}
-pub use Rattle.task_laws.specs.AwaiterMoves.{may_drop, after_storing, handshakes, awaiters}
-pub use Rattle.task_laws.specs.CallMoves.{first_look, second_look, ended_clone, loads, ends}
+pub use Rattle.task_laws.specs.Asks.{is_held, may_ask, may_gain, may_wake, may_drop, after_storing, first_look, second_look}
+pub use Rattle.task_laws.specs.Line.{ended_clone, leaves}
+use Rattle.task_laws.specs.Lines.{line}
 
 -- The table: what the party may do, act by act, where v is the word that it writes; None where it may not.
--- Each section allows its own acts, and leaves all others to the next one: wakes, references, closes, values, runs, awaiters, handshakes,
--- ends, loads. No act is in two of them.
 abbrev pub goes : Scene → State → Act → Position → Option Outcome
-goes s v act p = wakes s v act p
+goes s v act p = leaves s v (line act p)
 
 -- .. where the word found is the row's
 abbrev pub where_found : Bool → Option Outcome → Option Outcome
