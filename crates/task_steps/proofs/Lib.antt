@@ -21,5 +21,6 @@ pub mod Shares
 pub mod TaskOwed
 pub mod Handles
 pub mod PollOwed
+pub mod Computed
 pub mod WakerOwed
 pub mod WakerSeats

@@ -63,12 +63,12 @@ both {a} {b} e f = ap (λ (x : Bool). x && b) e ∙ f
 three : (c s d : Bool) → c ≡ false → s ≡ false → d ≡ true → (not c && not s && d) ≡ true
 three c s d e f g = grind arith
 
-four : (c s r t : Bool) → c ≡ false → s ≡ false → (r && not t) ≡ true → (not c && not s && r && not t) ≡ true
+four : (c s r t : Bool) → c ≡ false → s ≡ false → (r && not t) ≡ true → (not c && not s && (r && not t)) ≡ true
 four c s r t e f g = grind arith
 
 -- the row that fits a word that is not closed
 picked : (c s d r t : Bool) (x y z w : State) → c ≡ false → (d ≡ false → (r && not t) ≡ true)
-    → unwrap_or (option_or (option_or (if not c && s then Some x else None) (if not c && not s && d then Some y else None)) (if not c && not s && r && not t then Some z else None)) w ≡ (if s then x else (if d then y else z))
+    → unwrap_or (option_or (option_or (if not c && s then Some x else None) (if not c && not s && d then Some y else None)) (if not c && not s && (r && not t) then Some z else None)) w ≡ (if s then x else (if d then y else z))
 picked true s d r t x y z w e f = never (sym e)
 picked false true d r t x y z w e f = refl
 picked false false true r t x y z w e f = refl
