@@ -1,11 +1,12 @@
 -- What acts in a row leave, computed by the table, and whether it allows them: an obligation names no outcome.
-use Rattle.std.proofs.Common.{◌≡◌, ℕ, Bool, true, false, ◌&&◌, Option, Some, None, List, [], ◌∷◌, ◌++◌, refl, ap, ◌∙◌, arith}
-use Rattle.task_steps.proofs.Vocabulary.{State, number_of, found, written, Position, Act, Slots, Scene, Outcome, when, rule, where_found, leaves_slots, Machine, scene, Slot}
+use Rattle.std.proofs.Common.{◌≡◌, ℕ, Bool, true, false, ◌&&◌, Option, Some, None, List, [], ◌∷◌, ◌++◌, refl, sym, ap, ◌∙◌, arith}
+use Rattle.task_steps.proofs.Vocabulary.{how_many, owns_awaiter, State, number_of, found, written, Position, Act, Scene, Outcome, when, where_found, leaves_slots, Machine, scene, Slot}
 use Rattle.task_laws.specs.Line.{Line, holds, edited, next_of, told_of, leaves}
 use Rattle.task_laws.specs.Lines.{line}
+use Rattle.task_steps.specs.Rule.{has_work}
 use Rattle.task_steps.specs.Steps.{spot, then_leaves, and_then}
-use Rattle.task_steps.proofs.Acts.{leads}
-use Rattle.task_steps.proofs.Advance.{Steps, keeps_places, places_after, places_before}
+use Rattle.task_steps.proofs.Acts.{leads, word_after, leads_word}
+use Rattle.task_steps.proofs.Advance.{Steps, Placing, keeps_places, places_after, places_before}
 
 abbrev left_by : Scene → State → Line → Outcome
 left_by s v l = record { word = v; slots = edited l.slots s.slots; next = next_of s l.next; born = l.born; told = told_of s l.also l.told }
@@ -40,7 +41,7 @@ passes true true o e = refl
 passes true false o e = absurd (cc)
 passes false g o e = absurd (cc)
 
-leads_total : (s : Scene) (acts : List Act) (p : Position) → may s acts p ≡ true → leads s acts p ≡ Some (total s acts p)
+pub leads_total : (s : Scene) (acts : List Act) (p : Position) → may s acts p ≡ true → leads s acts p ≡ Some (total s acts p)
 leads_total s [] p e = refl
 leads_total s (a ∷ more) p e = by (line a p) (λ s q h. leads_total s more q h) e
   where
@@ -52,11 +53,45 @@ leads_total s (a ∷ more) p e = by (line a p) (λ s q h. leads_total s more q h
         ap (λ x. and_then x (λ o. leads (spot s.limit o.word o.slots) more o.next)) (passes (found s.limit a s.word) (holds s l.guard) o (left b rest e))
         ∙ ap (then_leaves o) (rec (spot s.limit o.word o.slots) o.next (right b rest e))
 
--- the step of acts that the table allows and that leave the places as they are
-pub computed : {F T A : Type 0} {m : Machine} {p : Position} {acts : List Act} {new : ℕ} {l : List (ℕ × Slot F T A)} → may (scene m) acts p ≡ true → new ≡ number_of (total (scene m) acts p).word
-    → places_after (total (scene m) acts p) ≡ places_before m p → Steps m p acts new l
-computed {F} {T} {A} {m} {p} {acts} allowed writes same = keeps_places (total (scene m) acts p) (leads_total (scene m) acts p allowed) writes same
+-- .. the word among it
+word_total : (m : Machine) (p : Position) (acts : List Act) → may (scene m) acts p ≡ true → number_of (word_after m.word acts) ≡ number_of (total (scene m) acts p).word
+word_total m p acts allowed = ap number_of (sym (leads_word (scene m) acts p (total (scene m) acts p) (leads_total (scene m) acts p allowed)))
 
--- the table allows an act that finds its word, where its guard holds
+-- a step of acts that the table allows, by the places that the party takes or gives back
+pub by_table : {F T A : Type 0} (m : Machine) {p : Position} {acts : List Act} {new : ℕ} {l : List (ℕ × Slot F T A)} → may (scene m) acts p ≡ true → new ≡ number_of (word_after m.word acts)
+    → (how_many has_work (total (scene m) acts p).born ≡ 0) × (how_many owns_awaiter (total (scene m) acts p).born ≡ 0) → Placing m p (total (scene m) acts p) l → Steps m p acts new l
+by_table m {p} {acts} allowed writes idle placing = record {
+  outcome = total (scene m) acts p;
+  leads_to = leads_total (scene m) acts p allowed;
+  writes = writes ∙ word_total m p acts allowed;
+  idle = idle;
+  placing = placing;
+}
+
+-- .. that leave the places as they are
+pub computed : {F T A : Type 0} (m : Machine) {p : Position} {acts : List Act} {new : ℕ} {l : List (ℕ × Slot F T A)} → may (scene m) acts p ≡ true → new ≡ number_of (word_after m.word acts)
+    → places_after (total (scene m) acts p) ≡ places_before m p → Steps m p acts new l
+computed m {p} {acts} allowed writes same = keeps_places (total (scene m) acts p) (leads_total (scene m) acts p allowed) (writes ∙ word_total m p acts allowed) same
+
+-- .. and the word too, so that they need no step
+pub record Keeps (m : Machine) (p : Position) (acts : List Act) : Type 0 where
+  pub outcome : Outcome
+  pub leads_to : leads (scene m) acts p ≡ Some outcome
+  pub word_is : outcome.word ≡ m.word
+  pub places_are : places_after outcome ≡ places_before m p
+
+pub noted : {m : Machine} {p : Position} {acts : List Act} → may (scene m) acts p ≡ true → (total (scene m) acts p).word ≡ m.word → places_after (total (scene m) acts p) ≡ places_before m p → Keeps m p acts
+noted {m} {p} {acts} allowed word places =
+    record { outcome = total (scene m) acts p; leads_to = leads_total (scene m) acts p allowed; word_is = word; places_are = places }
+
+-- an act that finds its word, where its guard holds
 pub allows : (a b : Bool) → a ≡ true → b ≡ true → ((a && b) && true) ≡ true
 allows a b e f = grind arith
+
+-- .. that has no guard
+pub row_fits : {a : Bool} → a ≡ true → ((a && true) && true) ≡ true
+row_fits {a} e = allows a true e refl
+
+-- .. that has no row
+pub guarded : {b : Bool} → b ≡ true → (b && true) ≡ true
+guarded {b} e = allows true b refl e

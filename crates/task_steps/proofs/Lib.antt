@@ -7,6 +7,7 @@ pub mod Facts
 pub mod Acts
 pub mod Seen
 pub mod Advance
+pub mod Computed
 pub mod Allowed
 pub mod Owed
 pub mod Seats
@@ -21,6 +22,5 @@ pub mod Shares
 pub mod TaskOwed
 pub mod Handles
 pub mod PollOwed
-pub mod Computed
 pub mod WakerOwed
 pub mod WakerSeats
