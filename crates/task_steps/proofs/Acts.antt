@@ -1,23 +1,17 @@
 -- Acts of one party in a row, with nothing of another party between.
 use Rattle.std.proofs.Common.{◌≡◌, ℕ, ◌+◌, ◌<◌, Bool, true, false, not, ◌&&◌, ◌||◌, cond, Option, Some, None, List, [], ◌∷◌, ◌++◌, length, map, set, sym, refl, ap, ◌∙◌, subst, arith, append-nil, append_assoc}
-use Rattle.task_steps.proofs.Vocabulary.{State, bit, is_open, Position, Act, GainReference, WakeIdle, WakeOver, WakeRunning, WakeScheduled, At, Lent, found, written, row, Slots, Scene, Outcome, when, where_found, is_held, leaves_slots}
+use Rattle.task_steps.proofs.Vocabulary.{State, bit, is_open, Position, Act, GainReference, WakeIdle, WakeOver, WakeRunning, WakeScheduled, At, Lent, found, written, row, Slots, Scene, Outcome, when, is_held, leaves_slots}
 use Rattle.task_steps.proofs.Vocabulary.{goes, rule, Machine, scene, how_many, rule_word, Deed, Member, View}
 use Rattle.task_steps.specs.Rule.{deed, member, view, fresh, found_by, Entry, Explains}
 use Rattle.task_steps.specs.Steps.{then_leaves, and_then, spot, is_lent, held_word, leaves_by, all_fit, noted}
 use Rattle.task_steps.proofs.Explains.{tells, next_machine}
-use Rattle.task_steps.proofs.Facts.{many_append, many_next, allowed_row}
-use Rattle.task_steps.proofs.Written.{found_is, found_so}
+use Rattle.task_steps.proofs.Facts.{many_append, many_next}
+use Rattle.task_steps.proofs.Written.{found_is}
 
 -- what acts in a row leave where each row finds its word
 abbrev pub leads : Scene → List Act → Position → Option Outcome
 leads s [] p = Some (leaves_slots s s.word p [] [])
 leads s (a ∷ more) p = and_then (rule s a p) (λ o. leads (spot s.limit o.word o.slots) more o.next)
-
--- .. the first of several acts, where the word found is its row's
-pub leads_first : (s : Scene) (a : Act) (more : List Act) (p : Position) (o : Outcome) → found s.limit a s.word ≡ true → goes s (written a s.word) a p ≡ Some o
-    → leads s (a ∷ more) p ≡ then_leaves o (leads (spot s.limit o.word o.slots) more o.next)
-leads_first s a more p o f g = ap (λ x. and_then (where_found (found s.limit a s.word) x) (λ o. leads (spot s.limit o.word o.slots) more o.next)) g
-    ∙ ap (λ x. and_then x (λ o. leads (spot s.limit o.word o.slots) more o.next)) (allowed_row (found s.limit a s.word) o f)
 
 when_so : (b : Bool) (x o : Outcome) → when b x ≡ Some o → Some x ≡ Some o
 when_so true x o e = e
@@ -61,12 +55,6 @@ joined (Some a) f o e = let s = joined_second a (f a) o e in record { first = a;
 
 joins : (x : Option Outcome) (f : Outcome → Option Outcome) (a b o : Outcome) → x ≡ Some a → f a ≡ Some b → Some (record { word = b.word; slots = b.slots; next = b.next; born = a.born ++ b.born; told = b.told ++ a.told }) ≡ Some o → and_then x f ≡ Some o
 joins x f a b o e g h = ap (λ z. and_then z f) e ∙ (ap (then_leaves a) g ∙ h)
-
--- a row that finds its word, and then the acts after it
-pub leads_found : (s : Scene) (a : Act) (p : Position) (more : List Act) (o x : Outcome) → found s.limit a s.word ≡ true → goes s (written a s.word) a p ≡ Some o → leads (spot s.limit o.word o.slots) more o.next ≡ Some x
-    → leads s (a ∷ more) p ≡ Some (record { word = x.word; slots = x.slots; next = x.next; born = o.born ++ x.born; told = x.told ++ o.told })
-leads_found s a p more o x f g h = joins (rule s a p) (λ o. leads (spot s.limit o.word o.slots) more o.next) o x (record { word = x.word; slots = x.slots; next = x.next; born = o.born ++ x.born; told = x.told ++ o.told })
-    (found_so (found s.limit a s.word) (goes s (written a s.word) a p) o f g) h refl
 
 -- what a function of the word says that fits
 row_if : (b : Bool) (v u : State) → Some v ≡ (cond b (Some u) None) → (b ≡ true) × (v ≡ u)

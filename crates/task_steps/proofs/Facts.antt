@@ -12,9 +12,6 @@ law limit log m r = subst Stays (told.runs limit log m r) (always limit (steps_o
 pub bit_le : (b : Bool) → bit b ≤ 1
 bit_le b = grind arith
 
-pub is_set : (b : Bool) → bit b ≡ 1 → b ≡ true
-is_set b e = grind arith
-
 pub is_clear : (b : Bool) → bit b ≡ 0 → b ≡ false
 is_clear b e = grind arith
 
@@ -98,10 +95,6 @@ pub allowed : (g h : Bool) (o : Outcome) → g ≡ true → h ≡ true → where
 allowed true true o e f = refl
 allowed true false o e f = cc
 allowed false h o e f = cc
-
-pub allowed_row : (g : Bool) (o : Outcome) → g ≡ true → where_found g (Some o) ≡ Some o
-allowed_row true o e = refl
-allowed_row false o e = cc
 
 few_works : (limit : ℕ) (w : State) (slots : Slots) (t : List Event) (c : Census) → Holds limit w slots t c → runs c + closers c + c.outputs + c.claims ≤ 1
 few_works limit w slots t c h = grind arith

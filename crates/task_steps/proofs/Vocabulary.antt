@@ -1,5 +1,4 @@
 -- The names of task_core, of task_laws and of the table that the proofs share.
-use Rattle.std.specs.Prelude.{if◌then◌else◌, List, ◌∷◌}
 pub use Rattle.task_core.proofs.Bits.{fetch_and-awaiter_notifying, fetch_and-awaiter_registering_notifying, fetch_and-scheduled, fetch_and-scheduled_running}
 pub use Rattle.task_core.proofs.Bits.{fetch_and-task, fetch_or-closed, fetch_or-notifying, fetch_sub-reference, state_of_number_of}
 pub use Rattle.task_core.specs.Rows.{found, row, written}
@@ -56,7 +55,3 @@ pub use Rattle.task_steps.specs.declared.table.Stage.{Stage}
 pub use Rattle.task_steps.specs.declared.table.Stage.TheVariants.{Filling, Laid, Spawned}
 pub use Rattle.task_steps.specs.declared.table.Tries.{Tries}
 pub use Rattle.task_steps.specs.declared.table.View.{View}
-
--- the events of a step that sets closed, which are told once
-abbrev pub closing : State → List Event → List Event
-closing w told = if w.closed then told else Closes ∷ told

@@ -4,7 +4,7 @@ use Rattle.std.specs.Prelude.{nat_lt, nat_le, nat_eq, if◌then◌else◌}
 use Rattle.std.proofs.lemmas.Bool.Decides.{nat_tests}
 use Rattle.task_steps.proofs.Vocabulary.{State, state_of, number_of, is_open, Event, Rest, Runnable, Waker, Lent}
 use Rattle.task_steps.proofs.Vocabulary.{At, OrphanHolder, GainReference, DropWaker, DropLastWaker, OrphanTask, WakeScheduled, WakeRunning, WakeIdle}
-use Rattle.task_steps.proofs.Vocabulary.{EndCall, written, row, Slots, Outcome, when, is_held, may_ask, may_gain, may_wake, Machine, scene, Census, census, Holds, state_of_number_of, fetch_sub-reference, Slot}
+use Rattle.task_steps.proofs.Vocabulary.{EndCall, written, row, Slots, is_held, may_ask, may_gain, may_wake, Machine, scene, Census, census, Holds, state_of_number_of, fetch_sub-reference, Slot}
 use Rattle.task_steps.proofs.Vocabulary.{Deed, Member}
 use Rattle.task_steps.specs.Beside.{may_call, may_change}
 use Rattle.task_steps.specs.WakerScripts.{at_limit, finding_limit, gaining, is_over, finding_over, waking_task, woken_word, dropping_waker, closing_orphan}
@@ -17,10 +17,6 @@ use Rattle.task_steps.proofs.Advance.{Finds, takes_awaiter, Steps}
 use Rattle.task_steps.proofs.Computed.{by_table, computed, allows, row_fits}
 use Rattle.task_steps.proofs.Allowed.{Owes, OwesEnd}
 use Rattle.task_steps.proofs.TaskOwed.{over}
-
--- a test that holds lets its outcome through
-passes : (b : Bool) (o : Outcome) → b ≡ true → when b o ≡ Some o
-passes b o e = ap (λ x. when x o) e
 
 at_the_limit : (n l k : ℕ) → nat_lt n l ≡ false → k ≡ l → nat_le k n ≡ true
 at_the_limit n l k e f = grind (arith, nat_tests)
