@@ -67,7 +67,19 @@ counted Adds w = record w { references = w.references + 1 }
 counted Takes w = record w { references = w.references - 1 }
 counted Orphans w = orphan_word
 
--- whether it gains a reference
+-- whether an edit changes anything
+abbrev pub changes : Edit → Bool
+changes Keeps = false
+changes (Sets flag) = true
+changes (Clears flag) = true
+
+abbrev pub recounts : Count → Bool
+recounts Stays = false
+recounts Adds = true
+recounts Takes = true
+recounts Orphans = true
+
+-- whether a change of the count gains a reference
 abbrev pub gains : Count → Bool
 gains Adds = true
 gains Stays = false
@@ -100,6 +112,10 @@ abbrev pub written_by : Option Row → State → State
 written_by None w = w
 written_by (Some r) w = counted r.3 (edit_all r.2 w)
 
+abbrev pub writes_by : Option Row → Bool
+writes_by None = false
+writes_by (Some r) = changes r.2.0 || changes r.2.1 || changes r.2.2 || changes r.2.3 || recounts r.3
+
 -- whether an act gains a reference
 abbrev pub gains_by : Option Row → Bool
 gains_by None = false
@@ -112,6 +128,10 @@ found limit act w = found_by limit (row_of act) w
 -- the word written; a load and a private act write nothing
 abbrev pub written : Act → State → State
 written act w = written_by (row_of act) w
+
+-- whether the act is a row that writes the word
+abbrev pub writes_word : Act → Bool
+writes_word act = writes_by (row_of act)
 
 -- the word written where the word found is the row's, and None where it is not
 abbrev pub row : ℕ → Act → State → Option State

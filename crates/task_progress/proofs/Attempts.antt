@@ -2,8 +2,9 @@
 use Rattle.std.proofs.Common.{◌≡◌, ℕ, ◌+◌, ◌*◌, ◌≤◌, zero, suc, Bool, true, false, not, List, [], ◌∷◌, Option, Some, None, refl, subst, sym, ap, ◌∙◌, arith}
 use Rattle.std.specs.Prelude.{slice_get, nat_eq, if◌then◌else◌}
 use Rattle.std.proofs.lemmas.Bool.Decides.{nat_tests}
-use Rattle.task_progress.proofs.Vocabulary.{State, bit, number_of, written, Position, Act, GainReference, Outcome, rule, Machine, Step, scene, after, moves, step, run_from, WordIsIn, word_is}
-use Rattle.task_progress.specs.StepsLeft.{writes_word, writes_in}
+use Rattle.task_progress.proofs.Vocabulary.{State, bit, number_of, written, Position, Act, GainReference, Outcome, rule, Machine, Step, scene, after, moves, step, run_from, rule_word}
+use Rattle.task_core.specs.Rows.{writes_word}
+use Rattle.task_progress.specs.StepsLeft.{writes_in}
 use Rattle.task_progress.specs.Attempts.{Attempt, Looks, Makes, Misses, WithSeen, is_same_word, sees, makes, unless_seen, misses, attempts_from, made, misses_of, writes_by_others, is_stale, misses_below, LockFree}
 use Rattle.task_progress.proofs.Sums.{open_calls_bound_steps}
 
@@ -31,13 +32,13 @@ abbrev LeavesWord : State → Act → Option Machine → Type 0
 LeavesWord w act None = Unit {0}
 LeavesWord w act (Some m) = writes_word act ≡ false → m.word ≡ w
 
-after_word : (m : Machine) (i : ℕ) (act : Act) (p : Position) (o : Option Outcome) → WordIsIn (written act m.word) o → LeavesWord m.word act (after m i p o)
+after_word : (m : Machine) (i : ℕ) (act : Act) (p : Position) (o : Option Outcome) → ((left : Outcome) → o ≡ Some left → left.word ≡ written act m.word) → LeavesWord m.word act (after m i p o)
 after_word m i act p None h = tt
-after_word m i act p (Some o) h = λ e. h ∙ same_word act m.word e
+after_word m i act p (Some o) h = λ e. h o refl ∙ same_word act m.word e
 
 moves_word : (m : Machine) (i : ℕ) (act : Act) (at : Option Position) → LeavesWord m.word act (moves m i act at)
 moves_word m i act None = tt
-moves_word m i act (Some p) = after_word m i act p (rule (scene m) act p) (word_is act p (scene m))
+moves_word m i act (Some p) = after_word m i act p (rule (scene m) act p) (rule_word (scene m) act p)
 
 -- so what was seen becomes stale only by a write
 stales : (o : Option State) (w v : State) (writes : Bool) → (writes ≡ false → v ≡ w) → is_stale o v ≤ is_stale o w + bit writes

@@ -3,7 +3,8 @@ use Rattle.std.proofs.Common.{◌≡◌, ℕ, ◌+◌, ◌*◌, ◌≤◌, Bool,
 use Rattle.std.specs.Prelude.{if◌then◌else◌, nat_eq, slice_get, slice_set}
 use Rattle.task_progress.proofs.Vocabulary.{bit, Position, Act, Outcome, rule, Machine, Step, scene, begins, after, moves, step, run_from, Event, how_often}
 use Rattle.task_progress.proofs.Vocabulary.{get_other, get_append, same_number}
-use Rattle.task_progress.specs.StepsLeft.{steps_left, writes_word, writes_left}
+use Rattle.task_core.specs.Rows.{writes_word}
+use Rattle.task_progress.specs.StepsLeft.{steps_left, writes_left}
 use Rattle.task_progress.specs.OwnSteps.{begins_at, begun_by, OwnStepsBounded, EachPartyIsBounded}
 use Rattle.task_progress.proofs.Rows.{Nears, NearTo, near}
 use Rattle.task_progress.proofs.Ending.{get_put}

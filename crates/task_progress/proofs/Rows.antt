@@ -1,7 +1,8 @@
 -- Each step of the table brings its call nearer to its end.
 use Rattle.std.proofs.Common.{◌≡◌, ◌+◌, ◌*◌, ◌≤◌, ◌∷◌, Option, Some, None}
 use Rattle.task_progress.proofs.Vocabulary.{bit, Position, Act, Scene, Outcome, rule, begins, Event, how_often, count, is_call_end, rules, InEach, Row, starts_run, Shows, by_rows}
-use Rattle.task_progress.specs.StepsLeft.{total, in_call, steps_left, writes_word, writes_left}
+use Rattle.task_core.specs.Rows.{writes_word}
+use Rattle.task_progress.specs.StepsLeft.{total, in_call, steps_left, writes_left}
 
 -- what is left after the act, and the act itself, are at most what was left before it, and 16 for each call that it begins
 pub record Nears (act : Act) (p : Position) (left : Outcome) : Type 0 where

@@ -31,4 +31,4 @@ pub use Rattle.task_laws.proofs.Runs.{Invariant, Stays, always, moves_stays, ope
 pub use Rattle.task_laws.proofs.Scenes.{InEach, by_flag, closed, completed, notifying, registering, rules, scheduled, task}
 pub use Rattle.task_laws.proofs.Theorem.{laws_hold, laws_of, wakers}
 pub use Rattle.task_laws.proofs.WholeRuns.{count-append, same_number}
-pub use Rattle.task_laws.proofs.Words.{WordIsIn, word_is}
+pub use Rattle.task_laws.proofs.Words.{rule_word}

@@ -4,7 +4,8 @@ use Rattle.std.specs.Prelude.{Option, Some, None}
 use Rattle.task_core.specs.Word.{State, bit, number_of}
 use Rattle.task_laws.specs.Machine.{Machine, Step, step, run_from}
 use Rattle.task_laws.specs.Laws.{count, is_call_end}
-use Rattle.task_progress.specs.StepsLeft.{total, in_call, writes_word, writes_in}
+use Rattle.task_core.specs.Rows.{writes_word}
+use Rattle.task_progress.specs.StepsLeft.{total, in_call, writes_in}
 
 -- a load; a step, by an exchange that hits or by a fetch; an exchange that misses, and so shows the present word
 pub data Attempt : Type 0 where

@@ -5,7 +5,8 @@ use Rattle.task_laws.specs.declared.positions.Position.{Position}
 use Rattle.task_laws.specs.Machine.{Machine, Step, begins, step, run_from}
 use Rattle.task_laws.specs.Event.{Event}
 use Rattle.task_laws.specs.Laws.{how_often}
-use Rattle.task_progress.specs.StepsLeft.{steps_left, writes_word, writes_left}
+use Rattle.task_core.specs.Rows.{writes_word}
+use Rattle.task_progress.specs.StepsLeft.{steps_left, writes_left}
 
 -- how many of the steps are made by party i, and how many of these write the word
 abbrev pub own_steps : ℕ → List Step → ℕ

@@ -1,6 +1,7 @@
 -- How many steps are left to each call, and how many of them write the word.
-use Rattle.std.specs.Prelude.{◌≡◌, ℕ, ◌+◌, ◌*◌, ◌≤◌, Bool, true, false, List, [], ◌∷◌, length, Option, Some, None}
+use Rattle.std.specs.Prelude.{◌≡◌, ℕ, ◌+◌, ◌*◌, ◌≤◌, List, [], ◌∷◌, length, Option, Some, None}
 use Rattle.task_core.specs.Word.{bit}
+use Rattle.task_core.specs.Rows.{writes_word}
 use Rattle.task_laws.specs.declared.positions.NotifyingCall.{NotifyingCall}
 use Rattle.task_laws.specs.declared.positions.NotifyingCall.TheVariants.{OfRun, OfDrop, OfCancel, OfPoll, OfClaim}
 use Rattle.task_laws.specs.declared.positions.OnceDelivered.TheVariants.{ThenEnds, ThenTask, ThenNotifies}
@@ -11,13 +12,6 @@ use Rattle.task_laws.specs.declared.positions.Position.TheVariants.{FutureGone, 
 use Rattle.task_laws.specs.declared.positions.Position.TheVariants.{AwaiterInHand, OrphanHolder, Registrar, HasClone, UnusedClone, Storing}
 use Rattle.task_laws.specs.declared.positions.Position.TheVariants.{Registered, TookBack, CloneInHand, Looking, SawOutput, TookOutput}
 use Rattle.task_laws.specs.declared.positions.Position.TheVariants.{OldAwaiterInHand, Answering, OutputCloser, Detacher}
-use Rattle.task_core.specs.declared.acts.Act.{Act}
-use Rattle.task_core.specs.declared.acts.Act.TheVariants.{GainReference, DropWaker, DropLastWaker, OrphanTask, CloseOrphan, GiveUpReference}
-use Rattle.task_core.specs.declared.acts.Act.TheVariants.{GiveUpLastReference, WakeRunning, WakeIdle, DiscardOpen, CancelBusy, CancelIdle}
-use Rattle.task_core.specs.declared.acts.Act.TheVariants.{ClaimOutput, GiveUpOutput, DetachOrphan, DetachLast, Detach, StartRun, Unschedule}
-use Rattle.task_core.specs.declared.acts.Act.TheVariants.{Complete, CompleteDetached, EndClosed, Reschedule, EndIdle, EndOrphaned}
-use Rattle.task_core.specs.declared.acts.Act.TheVariants.{BeginNotify, MissNotify, BeginRegister, EndNotify, EndRegister}
-use Rattle.task_core.specs.declared.acts.Act.TheVariants.{EndRegisterNotified}
 use Rattle.task_laws.specs.Machine.{Machine, Step, run_from}
 use Rattle.task_laws.specs.Event.{Event}
 use Rattle.task_laws.specs.Laws.{how_often, count, is_call_end}
@@ -91,41 +85,6 @@ steps_left (TookOutput i) = 2
 steps_left (Answering i answer) = 1
 steps_left OutputCloser = 4
 steps_left Detacher = 3
-
--- the rows that write the word
-abbrev pub writes_word : Act → Bool
-writes_word GainReference = true
-writes_word DropWaker = true
-writes_word DropLastWaker = true
-writes_word OrphanTask = true
-writes_word CloseOrphan = true
-writes_word GiveUpReference = true
-writes_word GiveUpLastReference = true
-writes_word WakeRunning = true
-writes_word WakeIdle = true
-writes_word DiscardOpen = true
-writes_word CancelBusy = true
-writes_word CancelIdle = true
-writes_word ClaimOutput = true
-writes_word GiveUpOutput = true
-writes_word DetachOrphan = true
-writes_word DetachLast = true
-writes_word Detach = true
-writes_word StartRun = true
-writes_word Unschedule = true
-writes_word Complete = true
-writes_word CompleteDetached = true
-writes_word EndClosed = true
-writes_word Reschedule = true
-writes_word EndIdle = true
-writes_word EndOrphaned = true
-writes_word BeginNotify = true
-writes_word MissNotify = true
-writes_word BeginRegister = true
-writes_word EndNotify = true
-writes_word EndRegister = true
-writes_word EndRegisterNotified = true
-writes_word _ = false
 
 -- writes left on a way once no awaiter is in hand: a run or a drop has still its reference to give up
 abbrev pub writes_on : NotifyingCall → ℕ

@@ -1,12 +1,12 @@
 -- The rule of the table: an interleaving of the machine ends in the present word, and each party of a seat did in it what the seat knows.
-use Rattle.std.specs.Prelude.{◌⊎◌, ◌≡◌, ◌≢◌, ℕ, ◌+◌, ◌<◌, ◌≤◌, Bool, true, false, not, cond, eqb, List, [], ◌∷◌, ◌++◌, length, slice_index}
+use Rattle.std.specs.Prelude.{◌⊎◌, ◌≡◌, ◌≢◌, ℕ, ◌+◌, ◌<◌, ◌≤◌, Bool, true, false, not, ◌&&◌, cond, eqb, is_none, List, [], ◌∷◌, ◌++◌, length, slice_index}
 use Rattle.std.specs.Prelude.{Option, Some, None}
 use mathlib.Core.Option.{some}
 use mathlib.Core.Option as maybe
 use lib.ListN.{get_elem?}
 use Rattle.atomic_table.specs.Table.{State as Board}
 use Rattle.task_core.specs.Word.{State, bit, number_of}
-use Rattle.task_core.specs.Rows.{written}
+use Rattle.task_core.specs.Rows.{written, row_of}
 use Rattle.task_laws.specs.declared.positions.Rest.TheVariants.{Runnable, Task, Lent}
 use Rattle.task_laws.specs.declared.positions.Position.{Position}
 use Rattle.task_laws.specs.declared.positions.NotifyingCall.TheVariants.{OfClaim}
@@ -14,9 +14,7 @@ use Rattle.task_laws.specs.declared.positions.Position.TheVariants.{At, Starting
 use Rattle.task_laws.specs.declared.positions.Position.TheVariants.{PendingFutureDropped, FutureInHand, FutureGone, OutputInHand, Notifier}
 use Rattle.task_laws.specs.declared.positions.Position.TheVariants.{Taker, Releaser, AwaiterInHand, TookOutput, OutputCloser}
 use Rattle.task_core.specs.declared.acts.Act.{Act}
-use Rattle.task_core.specs.declared.acts.Act.TheVariants.{StartPoll, AnswerPending, AnswerReady, DropFuture, StoreOutput, DropOutput}
-use Rattle.task_core.specs.declared.acts.Act.TheVariants.{HandOutOutput, CloneAwaiter, RefuseClone, StoreAwaiter, TakeAwaiter, WakeAwaiter}
-use Rattle.task_core.specs.declared.acts.Act.TheVariants.{DropAwaiter, HandOver, EmptySlots, RefuseGain, EndCall}
+use Rattle.task_core.specs.declared.acts.Act.TheVariants.{Look, LookFinished}
 use Rattle.task_laws.specs.Machine.{Machine, Step, opening, step, how_many}
 use Rattle.task_laws.specs.Holders.{owns_awaiter}
 use Rattle.task_steps.specs.declared.table.Slot.{Slot}
@@ -65,24 +63,12 @@ lender = 2
 
 -- neither a row nor a load
 abbrev pub is_private : Act → Bool
-is_private StartPoll = true
-is_private AnswerPending = true
-is_private AnswerReady = true
-is_private DropFuture = true
-is_private StoreOutput = true
-is_private DropOutput = true
-is_private HandOutOutput = true
-is_private CloneAwaiter = true
-is_private RefuseClone = true
-is_private StoreAwaiter = true
-is_private TakeAwaiter = true
-is_private WakeAwaiter = true
-is_private DropAwaiter = true
-is_private HandOver = true
-is_private EmptySlots = true
-is_private RefuseGain = true
-is_private EndCall = true
-is_private _ = false
+is_private act = is_none (row_of act) && not (is_load act)
+  where
+    is_load : Act → Bool
+    is_load Look = true
+    is_load LookFinished = true
+    is_load _ = false
 
 -- what a deed says of the word that it found
 abbrev pub found_by : Act → State → Option State
