@@ -1,36 +1,26 @@
 -- How a run takes a Runnable up.
 use Rattle.std.proofs.Common.{inl}
-use Rattle.task_cell.proofs.Vocabulary.{◌≡◌, ℕ, true, false, not, Some, List, [], ◌∷◌, refl, sym, ap, ◌∙◌, inr, is_some, State, number_of, TakenUp, FuturePollBegins, At, FutureInHand, Starting}
-use Rattle.task_cell.proofs.Vocabulary.{Polling, Runnable, ClosedRun, TakeUpClosed, StartRun, StartPoll, written, Outcome, leaves_slots, Machine, scene, Slot, Deed, Party, Stands, deeds, TakesUp}
-use Rattle.task_cell.proofs.Vocabulary.{finds_closed, starts, queued, leads_found, row_found, Finds, takes_future, Steps, OwesEnd, MayTry, HasChanged, HasEnded, not_true}
+use Rattle.task_cell.proofs.Vocabulary.{◌≡◌, ℕ, true, false, not, Some, List, [], ◌∷◌, refl, sym, ap, ◌∙◌, inr, is_some, State, number_of, At}
+use Rattle.task_cell.proofs.Vocabulary.{Runnable, TakeUpClosed, StartRun, StartPoll, written, Machine, Slot, Deed, Party, Stands, deeds, TakesUp}
+use Rattle.task_cell.proofs.Vocabulary.{finds_closed, starts, queued, row_found, Finds, takes_future, Steps, OwesEnd, MayTry, HasChanged, HasEnded, not_true}
 use Rattle.task_core.specs.Rows.{row}
 use Rattle.task_steps.specs.StartScripts.{taking_up_closed, starting_run}
 use Rattle.task_steps.proofs.Numbers.{same_word}
+use Rattle.task_steps.proofs.Computed.{by_table, row_fits}
 use Rattle.task_cell.proofs.Moved.{moved}
 use Rattle.task_steps.specs.Shares.{MayBring, never}
 use Rattle.task_cell.proofs.Attempts.{written_if, may_bring_at}
 
 module _ (F T A : Type 0) (limit : ℕ) where
   takes_up_closed : (ds : List Deed) (l : List (ℕ × Slot F T A)) → OwesEnd F T A limit (λ w. w.closed) taking_up_closed (At Runnable) ds [] l
-  takes_up_closed ds l m f n e lt closed = record {
-    outcome = leaves_slots (scene m) m.word (FutureInHand ClosedRun) [] (TakenUp ∷ []);
-    leads_to = leads_found (scene m) TakeUpClosed (At Runnable) [] (leaves_slots (scene m) m.word (FutureInHand ClosedRun) [] (TakenUp ∷ [])) (leaves_slots (scene m) m.word (FutureInHand ClosedRun) [] []) closed refl refl;
-    writes = e;
-    idle = (refl, refl);
-    placing = takes_future refl refl refl (inr refl) (queued m f.number f.invariant f.stands).future (queued m f.number f.invariant f.stands).output (λ _ h. h);
-  }
+  takes_up_closed ds l m f n e lt closed = let q = queued m f.number f.invariant f.stands in
+      by_table m (row_fits closed) e (refl, refl) (takes_future refl refl refl (inr refl) q.future q.output (λ _ h. h))
 
   pub starts_run : (ds : List Deed) (l : List (ℕ × Slot F T A)) (w v : State) (old new : ℕ) → Some v ≡ row 0 StartRun w → old ≡ number_of w → new ≡ number_of v
       → (m : Machine) → Finds limit (At Runnable) ds [] m → old ≡ number_of m.word → Steps m (At Runnable) (starting_run m.word) new l
-  starts_run ds l w v old new fits is to m f here = let same = same_word m.word w old is here in let r = row_found 0 StartRun w v fits in
-      let o : Outcome = leaves_slots (scene m) (written StartRun m.word) Starting [] (TakenUp ∷ []) in
-      let x : Outcome = leaves_slots (scene m) (written StartRun m.word) Polling [] (FuturePollBegins ∷ []) in record {
-        outcome = leaves_slots (scene m) (written StartRun m.word) Polling [] (FuturePollBegins ∷ TakenUp ∷ []);
-        leads_to = leads_found (scene m) StartRun (At Runnable) (StartPoll ∷ []) o x (ap (λ (z : State). not z.closed) same ∙ r.0) refl refl;
-        writes = to ∙ ap number_of (r.1 ∙ ap (written StartRun) (sym same));
-        idle = (refl, refl);
-        placing = takes_future refl refl refl (inr refl) (queued m f.number f.invariant f.stands).future (queued m f.number f.invariant f.stands).output (λ _ h. h);
-      }
+  starts_run ds l w v old new fits is to m f here = let same = same_word m.word w old is here in let r = row_found 0 StartRun w v fits in let q = queued m f.number f.invariant f.stands in
+      by_table m (row_fits (ap (λ (z : State). not z.closed) same ∙ r.0)) (to ∙ ap number_of (r.1 ∙ ap (written StartRun) (sym same))) (refl, refl)
+      (takes_future refl refl refl (inr refl) q.future q.output (λ _ h. h))
 
   -- the rule allows a Runnable to start its run
   pub may_start : (p : Party F T A) → Stands (At Runnable) p → MayTry limit 3 p.seat.id p.seat.me (λ _ w. row 0 StartRun w) (λ _ w. w.closed) starting_run taking_up_closed × MayBring limit p.seat.id p.seat.me (λ _ w. row 0 StartRun w) never

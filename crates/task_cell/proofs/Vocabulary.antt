@@ -53,7 +53,7 @@ pub use Rattle.task_laws.specs.declared.positions.Position.TheVariants.{SawOutpu
 pub use Rattle.task_laws.specs.declared.positions.Rest.{Rest}
 pub use Rattle.task_laws.specs.declared.positions.Rest.TheVariants.{Ended, Lent, Runnable, Task, Waker}
 pub use Rattle.task_laws.specs.declared.positions.WithoutPoll.TheVariants.{ClosedRun, DroppedRunnable}
-pub use Rattle.task_steps.proofs.Acts.{both, leads_found, row_found}
+pub use Rattle.task_steps.proofs.Acts.{both, row_found}
 pub use Rattle.task_steps.proofs.Advance.{Finds, Steps, lies_there, takes_future}
 pub use Rattle.task_steps.proofs.Allowed.{Owes, OwesEnd}
 pub use Rattle.task_steps.proofs.Attempts.{may_try, never_ends}
