@@ -1,4 +1,4 @@
--- 15 of 18: the abstract task of a cell, and its calls, in segments that end where foreign code may make calls.
+-- 13 of 16: the abstract task of a cell, and its calls, in segments that end where foreign code may make calls.
 use Rattle.std.specs.Prelude.{ℕ, ◌+◌, Bool, true, false, not, ◌&&◌, nat_lt, if◌then◌else◌, List, [], ◌∷◌, ◌++◌, Option, Some, None}
 use Rattle.task_core.specs.Word.{bit}
 use Rattle.task_laws.specs.Event.{PollAnswer, IsPending, IsClosed, HasOutput, IsRefused, Answer, Nothing, Ran, Gained, Finished, Event}

@@ -1,4 +1,4 @@
--- What the conditions of the table say.
+-- 6 of 16: what the conditions of the table say.
 use Rattle.std.specs.Prelude.{ℕ, zero, suc, Bool, true, false, not, ◌&&◌, ◌||◌, Option, Some, None, if◌then◌else◌}
 use Rattle.task_core.specs.Word.{State, is_open}
 use Rattle.task_laws.specs.Event.{IsPending}

@@ -1,4 +1,4 @@
--- 1 of 18: what happens to a task, as an outsider could write it down. A trace has the newest event first.
+-- 1 of 16: what happens to a task, as an outsider could write it down. A trace has the newest event first.
 use Rattle.std.specs.Prelude.{ℕ, nat_eq, Bool, true, false}
 pub use Rattle.task_laws.specs.declared.positions.PollAnswer.{PollAnswer}
 pub use Rattle.task_laws.specs.declared.positions.PollAnswer.TheVariants.{IsPending, IsClosed, HasOutput, IsRefused}

@@ -1,4 +1,4 @@
--- 13 of 18: which positions hold a reference, and which own a slot. The last line of each test takes all other positions.
+-- 11 of 16: which positions hold a reference, and which own a slot. The last line of each test takes all other positions.
 use Rattle.std.specs.Prelude.{Bool, true, false}
 use Rattle.task_laws.specs.Position.{Runnable, Waker, OfRun, OfDrop, OfClaim, Position, At, CallEnding, Deliverer}
 use Rattle.task_laws.specs.Position.{Starting, Polling, Pending, Ready, ReadyFutureDropped, OutputStored, PendingFutureDropped}

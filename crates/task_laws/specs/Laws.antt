@@ -1,4 +1,4 @@
--- 2 of 18: the laws, of a trace alone.
+-- 2 of 16: the laws, of a trace alone.
 use Rattle.std.specs.Prelude.{◌≡◌, ℕ, ◌+◌, ◌≤◌, ◌⊎◌, Bool, true, false, not, ◌&&◌, ◌||◌, nat_lt, nat_eq, List, [], ◌∷◌, Option, Some, None}
 use Rattle.task_core.specs.Word.{bit}
 use Rattle.task_laws.specs.Event.{Event, FuturePollBegins, FuturePending, FutureReady, FutureDropped, OutputTaken, OutputDropped}

@@ -1,4 +1,4 @@
--- A line of the table: what a party does at its position by an act, whatever the word and the slots are.
+-- 7 of 16: a line of the table: what a party does at its position by an act, whatever the word and the slots are.
 use Rattle.std.specs.Prelude.{ℕ, Bool, true, false, not, ◌&&◌, List, [], ◌∷◌, ◌++◌, Option, Some, None, if◌then◌else◌}
 use Rattle.task_core.specs.Word.{State, is_open}
 use Rattle.task_laws.specs.Event.{Event, Finished, Closes, CloneEnded}

@@ -1,11 +1,26 @@
--- The lines of the table.
+-- 8 of 16: the lines of the table of moves: what a party at its position does by an act. What the act finds and writes is a row of task_core
+-- `src/table.rt`. Where there is no line, the party may not make that act.
 use Rattle.std.specs.Prelude.{true, false, ◌+◌, [], ◌∷◌, Option, Some, None}
-use Rattle.task_laws.specs.Event.{IsPending, IsClosed as AnswersClosed, IsRefused, HasOutput, Ran, ByWake, ByClosing, Nothing, Gained, Finished, FuturePollBegins, FuturePending, FutureReady, FutureDropped}
-use Rattle.task_laws.specs.Event.{OutputTaken, OutputDropped, Made, TakenUp, RunEnded, Completes, Closes, WakeStep, WakerGained, WakerGivenUp, CallBegins, TaskGivenUp}
+use Rattle.task_laws.specs.Event.{IsPending, IsClosed as AnswersClosed, IsRefused, HasOutput, Ran, ByWake, ByClosing, Nothing, Gained, Finished}
+use Rattle.task_laws.specs.Event.{FuturePollBegins, FuturePending, FutureReady, FutureDropped}
+use Rattle.task_laws.specs.Event.{OutputTaken, OutputDropped, Made, TakenUp, RunEnded, Completes, Closes, WakeStep, WakerGained, WakerGivenUp}
+use Rattle.task_laws.specs.Event.{CallBegins, TaskGivenUp}
 use Rattle.task_laws.specs.Event.{HandedOver, Empties, TaskPollBegins, TaskPollEnds, CloneEnded, CallEnds, Cloned, Woken}
-use Rattle.task_laws.specs.Position.{Runnable, Waker, Lent, Ended, Task, ClosedRun, DroppedRunnable, OfRun, OfDrop, OfCancel, OfClaim, ThenEnds, Position, At, CallEnding, Deliverer, Starting, Polling, Pending, Ready, ReadyFutureDropped, OutputStored, PendingFutureDropped, FutureInHand, FutureGone, OutputInHand, GivingUp, Emptier, Notifier, Taker, Releaser, AwaiterInHand, OrphanHolder, Registrar, HasClone, UnusedClone, Storing, Registered, TookBack, CloneInHand, Looking, SawOutput, TookOutput, OldAwaiterInHand, Answering, OutputCloser, Detacher, Act, GainReference, FindLimit, DropWaker, DropLastWaker, OrphanTask, CloseOrphan, GiveUpReference, GiveUpLastReference, WakeOver, WakeScheduled, WakeRunning, WakeIdle, DiscardOpen, DiscardClosed, CancelOver, CancelBusy, CancelIdle, ClaimOutput, GiveUpOutput, DetachOrphan, DetachLast, Detach, TakeUpClosed, StartRun, Unschedule, Complete, CompleteDetached, EndClosed, Reschedule, EndIdle, EndOrphaned, BeginNotify, MissNotify, FindNotify, BeginRegister, EndNotify, EndRegister, EndRegisterNotified, Look, LookFinished, StartPoll, AnswerPending, AnswerReady, DropFuture, StoreOutput, DropOutput, HandOutOutput, CloneAwaiter, RefuseClone, StoreAwaiter, TakeAwaiter, WakeAwaiter, DropAwaiter, HandOver, EmptySlots, RefuseGain, EndCall}
+use Rattle.task_laws.specs.Position.{Runnable, Waker, Lent, Ended, Task, ClosedRun, DroppedRunnable, OfRun, OfDrop, OfCancel, OfClaim, ThenEnds}
+use Rattle.task_laws.specs.Position.{Position, At, CallEnding, Deliverer, Starting, Polling, Pending, Ready, ReadyFutureDropped, OutputStored}
+use Rattle.task_laws.specs.Position.{PendingFutureDropped, FutureInHand, FutureGone, OutputInHand, GivingUp, Emptier, Notifier, Taker, Releaser}
+use Rattle.task_laws.specs.Position.{AwaiterInHand, OrphanHolder, Registrar, HasClone, UnusedClone, Storing, Registered, TookBack, CloneInHand}
+use Rattle.task_laws.specs.Position.{Looking, SawOutput, TookOutput, OldAwaiterInHand, Answering, OutputCloser, Detacher, Act, GainReference}
+use Rattle.task_laws.specs.Position.{FindLimit, DropWaker, DropLastWaker, OrphanTask, CloseOrphan, GiveUpReference, GiveUpLastReference, WakeOver}
+use Rattle.task_laws.specs.Position.{WakeScheduled, WakeRunning, WakeIdle, DiscardOpen, DiscardClosed, CancelOver, CancelBusy, CancelIdle}
+use Rattle.task_laws.specs.Position.{ClaimOutput, GiveUpOutput, DetachOrphan, DetachLast, Detach, TakeUpClosed, StartRun, Unschedule, Complete}
+use Rattle.task_laws.specs.Position.{CompleteDetached, EndClosed, Reschedule, EndIdle, EndOrphaned, BeginNotify, MissNotify, FindNotify}
+use Rattle.task_laws.specs.Position.{BeginRegister, EndNotify, EndRegister, EndRegisterNotified, Look, LookFinished, StartPoll, AnswerPending}
+use Rattle.task_laws.specs.Position.{AnswerReady, DropFuture, StoreOutput, DropOutput, HandOutOutput, CloneAwaiter, RefuseClone, StoreAwaiter}
+use Rattle.task_laws.specs.Position.{TakeAwaiter, WakeAwaiter, DropAwaiter, HandOver, EmptySlots, RefuseGain, EndCall}
 use Rattle.task_laws.specs.Onward.{after_taking, after_waking, after_giving_up, after_handing_over, notifies}
-use Rattle.task_laws.specs.Line.{Line, Always, IsClaimed, IsClosed, IsNotified, MayAsk, MayGain, MayWake, MayDrop, KeepsSlots, DropsFuture, StoresOutput}
+use Rattle.task_laws.specs.Line.{Line, Always, IsClaimed, IsClosed, IsNotified, MayAsk, MayGain, MayWake, MayDrop, KeepsSlots, DropsFuture}
+use Rattle.task_laws.specs.Line.{StoresOutput}
 use Rattle.task_laws.specs.Line.{EndsOutput, EmptiesAwaiter, StoresAwaiter, GoesTo, Notifies, EndsRun, EndsDetached, Delivers, Answers, LooksFirst}
 use Rattle.task_laws.specs.Line.{LooksAgain, StoresOver, Releases, NothingElse, ClosesIfOpen, EndsClone, moves_to, moves_on, adds, changes}
 

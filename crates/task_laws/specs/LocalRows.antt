@@ -1,4 +1,4 @@
--- 18 of 18: the task of one thread as the abstract task of a cell. Each of its rows is a call that is made alone.
+-- 16 of 16: the task of one thread as the abstract task of a cell. Each of its rows is a call that is made alone.
 use Rattle.std.specs.Prelude.{◌≡◌, ℕ, Bool, true, false, not, ◌&&◌, if◌then◌else◌, List, [], ◌∷◌, ◌++◌, Option, Some, None}
 use Rattle.task_core.specs.declared.traits.Poll.TheVariants.{Pending, Ready}
 use Rattle.task_core.specs.declared.traits.TaskPoll.{TaskPoll}

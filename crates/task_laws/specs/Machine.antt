@@ -1,4 +1,4 @@
--- 12 of 18: the machine, any number of parties, of which one at a time makes a step.
+-- 10 of 16: the machine, any number of parties, of which one at a time makes a step.
 use Rattle.std.specs.Prelude.{ℕ, ◌+◌, Bool, true, false, List, [], ◌∷◌, ◌++◌, Option, Some, None, slice_get, slice_set}
 use Rattle.task_core.specs.Word.{State, bit, opening_word}
 use Rattle.task_laws.specs.Event.{Event, Made, BySpawn, CallBegins}

@@ -1,4 +1,4 @@
--- 5 of 18: where a party goes next, where that hangs on what it found or has in hand.
+-- 5 of 16: where a party goes next, where that hangs on what it found or has in hand.
 use Rattle.std.specs.Prelude.{ℕ, Bool, true, false, Option, Some, None}
 use Rattle.task_laws.specs.Event.{IsClosed, Answer, Nothing, Ran}
 use Rattle.task_laws.specs.Position.{Ended, Task, NotifyingCall, OfRun, OfDrop, OfCancel, OfPoll, OfClaim, OnceDelivered, ThenEnds}

@@ -1,4 +1,4 @@
--- 3 of 18: where a party stands in its call, and what it may do there, as the modules `positions` and `acts` declare it.
+-- 3 of 16: where a party stands in its call, and what it may do there, as the modules `positions` and `acts` declare it.
 pub use Rattle.task_laws.specs.declared.positions.Rest.{Rest}
 pub use Rattle.task_laws.specs.declared.positions.Rest.TheVariants.{Runnable, Waker, Lent, Ended, Task}
 pub use Rattle.task_laws.specs.declared.positions.WithoutPoll.{WithoutPoll}

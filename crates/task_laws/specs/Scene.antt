@@ -1,4 +1,4 @@
--- 4 of 18: what a party finds at a step, and what it leaves.
+-- 4 of 16: what a party finds at a step, and what it leaves.
 use Rattle.std.specs.Prelude.{ℕ, Bool, if◌then◌else◌, List, [], Option, Some, None}
 use Rattle.task_core.specs.Word.{State}
 use Rattle.task_laws.specs.Event.{Event}

@@ -1,4 +1,4 @@
--- 11 of 18: the table of moves, from where a party steps, and where it goes.
+-- 9 of 16: the table of moves, from where a party steps, and where it goes.
 use Rattle.std.specs.Prelude.{Bool, Option, Some, None}
 use Rattle.task_core.specs.Word.{State}
 use Rattle.task_core.specs.Rows.{found, written}

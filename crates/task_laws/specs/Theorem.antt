@@ -1,4 +1,4 @@
--- 14 of 18: what holds of the machine after every list of steps that it allows.
+-- 12 of 16: what holds of the machine after every list of steps that it allows.
 use Rattle.std.specs.Prelude.{◌≡◌, ◌≢◌, ℕ, ◌+◌, ◌≤◌, true, false, List, Some, None}
 use Rattle.task_laws.specs.Position.{Position, Act}
 use Rattle.task_laws.specs.Table.{Scene, Outcome, rule}

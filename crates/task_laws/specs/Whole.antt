@@ -1,4 +1,4 @@
--- 16 of 18: whole runs of the machine, and the abstract task that stands where they are cut.
+-- 14 of 16: whole runs of the machine, and the abstract task that stands where they are cut.
 use Rattle.std.specs.Prelude.{◌≡◌, ℕ, ◌+◌, Bool, true, false, not, ◌&&◌, ◌||◌, nat_eq, nat_lt, if◌then◌else◌, List, [], ◌∷◌, Option, Some}
 use Rattle.std.specs.Prelude.{None, slice_get, length}
 use Rattle.task_core.specs.Word.{State}

@@ -1,4 +1,4 @@
--- 17 of 18: a call that is made whole, with no call inside.
+-- 15 of 16: a call that is made whole, with no call inside.
 use Rattle.std.specs.Prelude.{◌≡◌, ℕ, ◌⊎◌, Bool, true, false, ◌&&◌, List, [], ◌∷◌, ◌++◌, Option, Some, None}
 use Rattle.task_laws.specs.Machine.{Step}
 use Rattle.task_laws.specs.Abstract.{Call, Frame, SegmentEnd, begin, go, follow, Move, Begin, Go}
