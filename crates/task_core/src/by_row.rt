@@ -1,6 +1,6 @@
 //! The word that an act writes, by its row.
 ghost use Rattle.std.specs.Prelude.{◌≡◌, true, ◌<◌, ◌-◌, ◌^◌};
-ghost use Rattle.task_core.specs.Rows.{row, row_of, mask_of, is_set, meets, and_meets, meets_all, edited, edit_all, counted, gains, gains_by};
+ghost use Rattle.task_core.specs.Rows.{found, row, row_of, mask_of, is_set, meets, and_meets, meets_all, edited, edit_all, counted, gains, gains_by};
 
 use crate::acts::Act;
 use crate::table::Count::*;
@@ -131,6 +131,17 @@ impl Word {
             .edited(edits.1)
             .edited(edits.2)
             .edited(edits.3)
+    }
+
+    /// Whether an act's row fits the word found. A load and a private act fit each word.
+    #[inline(always)]
+    pub fn fits(self, limit: u64, act: Act) -> bool
+        ensures { result ≡ found limit act self }
+    {
+        match row_of(act) {
+            Some(Row(_, finds, _, _)) => self.meets_all(limit, finds),
+            None => true,
+        }
     }
 
     /// The word that an act writes where it finds this one, and the word found where it writes nothing. `None` where the word found does not fit.

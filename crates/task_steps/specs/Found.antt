@@ -1,6 +1,8 @@
 -- What a call has found, by the word that it wrote on.
-use Rattle.std.specs.Prelude.{not, ◌&&◌, ◌||◌, nat_lt, if◌then◌else◌}
+use Rattle.std.specs.Prelude.{◌||◌, nat_lt, if◌then◌else◌}
 use Rattle.task_core.specs.Word.{State, is_open}
+use Rattle.task_core.specs.Rows.{found}
+use Rattle.task_core.specs.declared.acts.Act.TheVariants.{GiveUpOutput}
 use Rattle.task_steps.specs.declared.words.Cancelled.{Cancelled}
 use Rattle.task_steps.specs.declared.words.Cancelled.TheVariants.{Busy, Idle}
 use Rattle.task_steps.specs.declared.words.Detached.{Detached}
@@ -18,7 +20,7 @@ closed_by w = if w.scheduled || w.running then Busy w.awaiter else Idle w.awaite
 -- .. and a detach
 abbrev pub given_up_by : State → Detached
 given_up_by w =
-    if w.completed && not w.closed then Unclaimed else (if nat_lt 0 w.references then Shared else (if w.closed then Last else Orphaned))
+    if found 0 GiveUpOutput w then Unclaimed else (if nat_lt 0 w.references then Shared else (if w.closed then Last else Orphaned))
 
 -- what a drop found that took its reference off this word
 abbrev pub dropped_by : State → Dropped
@@ -26,4 +28,4 @@ dropped_by w = if others_left w then DropsShared else (if is_open w then DropsOr
 
 -- how a run ends without an output that finds this word, of an open task
 abbrev pub ending_of : State → PendingEnd
-ending_of w = if w.scheduled then Rescheduled else (if nat_lt 1 w.references || w.task then EndsIdle else EndsOrphaned)
+ending_of w = if w.scheduled then Rescheduled else (if others_left w then EndsIdle else EndsOrphaned)

@@ -1,13 +1,14 @@
 -- The acts that the steps of a poll of the Task make.
 use Rattle.std.specs.Prelude.{Bool, not, ◌&&◌, ◌||◌, if◌then◌else◌, List, [], ◌∷◌}
 use Rattle.task_core.specs.Word.{State}
+use Rattle.task_core.specs.Rows.{found}
 use Rattle.task_core.specs.declared.acts.Act.{Act}
 use Rattle.task_core.specs.declared.acts.Act.TheVariants.{Look, ClaimOutput, HandOutOutput, CloneAwaiter, RefuseClone, StoreAwaiter}
 use Rattle.task_core.specs.declared.acts.Act.TheVariants.{TakeAwaiter, FindNotify, BeginRegister, EndRegister, EndRegisterNotified, EndCall}
 
 -- the output is there, and nobody has taken it
 abbrev pub has_output : State → Bool
-has_output w = w.completed && not w.closed
+has_output w = found 0 ClaimOutput w
 
 -- the task is closed, and no Runnable or run holds the future
 abbrev pub has_ended : State → Bool

@@ -1,8 +1,8 @@
 -- The acts that the steps of a run and of a Runnable's drop make.
-use Rattle.std.specs.Prelude.{◌||◌, nat_lt, if◌then◌else◌, List, [], ◌∷◌, unwrap_or}
+use Rattle.std.specs.Prelude.{if◌then◌else◌, List, [], ◌∷◌, unwrap_or}
 use Rattle.std.specs.Option.{option_or}
 use Rattle.task_core.specs.Word.{State}
-use Rattle.task_core.specs.Rows.{written, row}
+use Rattle.task_core.specs.Rows.{found, written, row}
 use Rattle.task_core.specs.declared.acts.Act.{Act}
 use Rattle.task_core.specs.declared.acts.Act.TheVariants.{Unschedule, DropFuture, GiveUpReference, GiveUpLastReference, EmptySlots}
 use Rattle.task_core.specs.declared.acts.Act.TheVariants.{DiscardOpen, DiscardClosed, AnswerReady, StoreOutput, Complete, CompleteDetached}
@@ -14,7 +14,7 @@ unscheduling w = DropFuture ∷ Unschedule ∷ []
 
 -- the reference is given up
 abbrev pub giving_up : State → List Act
-giving_up w = if nat_lt 1 w.references || w.task then GiveUpReference ∷ [] else GiveUpLastReference ∷ []
+giving_up w = if found 0 GiveUpReference w then GiveUpReference ∷ [] else GiveUpLastReference ∷ []
 
 -- the last party has emptied the place of the awaiter
 abbrev pub emptying : State → List Act
@@ -22,7 +22,7 @@ emptying w = EmptySlots ∷ []
 
 -- a Runnable that is dropped closes the task
 abbrev pub discarding : State → List Act
-discarding w = if w.closed then DiscardClosed ∷ [] else DiscardOpen ∷ []
+discarding w = if found 0 DiscardClosed w then DiscardClosed ∷ [] else DiscardOpen ∷ []
 
 -- the poll of the future has answered Ready
 abbrev pub answering_ready : State → List Act
@@ -30,7 +30,7 @@ answering_ready w = AnswerReady ∷ []
 
 -- the run ends, after the future was dropped and the output stored
 abbrev pub completing : State → List Act
-completing w = if w.task then DropFuture ∷ StoreOutput ∷ Complete ∷ [] else DropFuture ∷ StoreOutput ∷ CompleteDetached ∷ []
+completing w = if found 0 Complete w then DropFuture ∷ StoreOutput ∷ Complete ∷ [] else DropFuture ∷ StoreOutput ∷ CompleteDetached ∷ []
 
 -- the poll of the future has answered Pending; where the task is closed, the future is dropped next
 abbrev pub answering_pending : State → List Act
@@ -39,7 +39,7 @@ answering_pending w = if w.closed then AnswerPending ∷ DropFuture ∷ [] else 
 -- the run of an open task ends
 abbrev pub ending_pending : State → List Act
 ending_pending w =
-    if w.scheduled then Reschedule ∷ [] else (if nat_lt 1 w.references || w.task then EndIdle ∷ EndCall ∷ [] else EndOrphaned ∷ [])
+    if w.scheduled then Reschedule ∷ [] else (if found 0 GiveUpReference w then EndIdle ∷ EndCall ∷ [] else EndOrphaned ∷ [])
 
 -- .. and that of a closed one goes on: its future is dropped next
 abbrev pub finding_closed : State → List Act
@@ -51,7 +51,7 @@ ending_closed w = EndClosed ∷ []
 
 -- the word that a run leaves that ends with an output
 abbrev pub completed_word : State → State
-completed_word w = if w.task then written Complete w else written CompleteDetached w
+completed_word w = if found 0 Complete w then written Complete w else written CompleteDetached w
 
 -- .. and one that ends without an output on an open task: each of the three rows where it fits
 abbrev pub after_pending : State → State

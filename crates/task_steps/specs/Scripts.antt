@@ -1,6 +1,7 @@
 -- The acts that the steps make which several calls have.
-use Rattle.std.specs.Prelude.{◌||◌, if◌then◌else◌, List, [], ◌∷◌}
+use Rattle.std.specs.Prelude.{if◌then◌else◌, List, [], ◌∷◌}
 use Rattle.task_core.specs.Word.{State}
+use Rattle.task_core.specs.Rows.{found}
 use Rattle.task_core.specs.declared.acts.Act.{Act}
 use Rattle.task_core.specs.declared.acts.Act.TheVariants.{EndCall, BeginNotify, MissNotify, TakeAwaiter, EndNotify, WakeAwaiter}
 use Rattle.task_core.specs.declared.acts.Act.TheVariants.{DropAwaiter, DropOutput}
@@ -11,7 +12,7 @@ ending w = EndCall ∷ []
 
 -- the awaiter slot is taken, and emptied, unless another party is at it
 abbrev pub taking_awaiter : State → List Act
-taking_awaiter w = if w.notifying || w.registering then MissNotify ∷ [] else BeginNotify ∷ TakeAwaiter ∷ []
+taking_awaiter w = if found 0 MissNotify w then MissNotify ∷ [] else BeginNotify ∷ TakeAwaiter ∷ []
 
 -- the awaiter slot is given back
 abbrev pub releasing_awaiter : State → List Act

@@ -1,6 +1,7 @@
 -- The acts that the steps of a Task make beside its polls.
-use Rattle.std.specs.Prelude.{ℕ, Option, Some, None, ◌+◌, not, ◌&&◌, ◌||◌, nat_lt, true, false, if◌then◌else◌, List, [], ◌∷◌}
+use Rattle.std.specs.Prelude.{ℕ, Option, Some, None, ◌+◌, ◌||◌, nat_lt, true, false, if◌then◌else◌, List, [], ◌∷◌}
 use Rattle.task_core.specs.Word.{State, is_open, orphan_word}
+use Rattle.task_core.specs.Rows.{found}
 use Rattle.task_core.specs.declared.acts.Act.{Act}
 use Rattle.task_core.specs.declared.acts.Act.TheVariants.{LookFinished, CancelOver, CancelBusy, CancelIdle, GiveUpOutput, DetachOrphan}
 use Rattle.task_core.specs.declared.acts.Act.TheVariants.{DetachLast, Detach, EndCall}
@@ -29,13 +30,13 @@ cancelled_word limit w = if is_open w then Some (cancelled w) else None
 -- the Task is given up
 abbrev pub detaching : State → List Act
 detaching w =
-    if w.completed && not w.closed then GiveUpOutput ∷ []
+    if found 0 GiveUpOutput w then GiveUpOutput ∷ []
     else (if nat_lt 0 w.references then Detach ∷ EndCall ∷ [] else (if w.closed then DetachLast ∷ [] else DetachOrphan ∷ []))
 
 -- .. and this word written
 abbrev pub detached : State → State
 detached w =
-    if w.completed && not w.closed then record w { closed = true }
+    if found 0 GiveUpOutput w then record w { closed = true }
     else (if nat_lt 0 w.references || w.closed then record w { task = false } else orphan_word)
 
 -- the Task is given up whose output was dropped

@@ -1,7 +1,7 @@
 -- The acts that the steps make by which a waker is gained, wakes and is dropped.
-use Rattle.std.specs.Prelude.{ℕ, Bool, not, ◌||◌, nat_lt, if◌then◌else◌, List, [], ◌∷◌, Option, Some, None}
+use Rattle.std.specs.Prelude.{ℕ, Bool, not, nat_lt, if◌then◌else◌, List, [], ◌∷◌, Option, Some, None}
 use Rattle.task_core.specs.Word.{State, is_open}
-use Rattle.task_core.specs.Rows.{written, row}
+use Rattle.task_core.specs.Rows.{found, written, row}
 use Rattle.task_laws.specs.Table.{is_held}
 use Rattle.task_core.specs.declared.acts.Act.{Act}
 use Rattle.task_core.specs.declared.acts.Act.TheVariants.{GainReference, FindLimit, DropWaker, DropLastWaker, OrphanTask}
@@ -24,7 +24,7 @@ finding_limit w = FindLimit ∷ EndCall ∷ []
 
 -- the task is over, and a wake of it ends
 abbrev pub is_over : ℕ → State → Bool
-is_over limit w = not (is_open w)
+is_over limit w = found limit WakeOver w
 
 abbrev pub finding_over : State → List Act
 finding_over w = WakeOver ∷ EndCall ∷ []
@@ -44,7 +44,7 @@ woken_if_held limit w = if is_held w then (if is_open w then Some (woken_word w)
 
 -- whether there are other handles than the one that gives its reference up
 abbrev pub others_left : State → Bool
-others_left w = nat_lt 1 w.references || w.task
+others_left w = found 0 DropWaker w
 
 -- a waker is dropped
 abbrev pub dropping_waker : State → List Act

@@ -12,8 +12,9 @@ ghost use Rattle.task_steps.specs.PollScripts.{has_output, has_ended, has_to_wai
 ghost use Rattle.task_steps.specs.Found.{closed_by, given_up_by, ending_of, dropped_by};
 
 use task_core::acts::Act::{
-    CancelBusy, CancelIdle, Complete, CompleteDetached, Detach, DetachLast, DetachOrphan, EndIdle,
-    EndOrphaned, GiveUpOutput, GiveUpReference, Reschedule, WakeIdle, WakeRunning,
+    CancelBusy, CancelIdle, ClaimOutput, Complete, CompleteDetached, Detach, DetachLast,
+    DetachOrphan, DropWaker, EndIdle, EndOrphaned, GiveUpOutput, GiveUpReference, Reschedule,
+    WakeIdle, WakeRunning,
 };
 use task_core::word::Word;
 
@@ -139,7 +140,7 @@ fn giving_up_unclosed(word: Word) -> Word
 pub fn given_up_as(word: Word) -> Detached
     ensures { result ≡ given_up_by word }
 {
-    if word.completed() && !word.closed() {
+    if word.fits(0, GiveUpOutput) {
         return Detached::Unclaimed;
     }
     if word.references() > 0 {
@@ -190,7 +191,7 @@ pub fn pending_end(word: Word) -> PendingEnd
 {
     if word.scheduled() {
         PendingEnd::Rescheduled
-    } else if word.by_row(0, GiveUpReference).is_some() {
+    } else if word.fits(0, GiveUpReference) {
         PendingEnd::Idle
     } else {
         PendingEnd::Orphaned
@@ -201,7 +202,7 @@ pub fn pending_end(word: Word) -> PendingEnd
 pub fn dropped_as(word: Word) -> Dropped
     ensures { result ≡ dropped_by word }
 {
-    if word.references() > 1 || word.task() {
+    if word.fits(0, DropWaker) {
         Dropped::Shared
     } else if word.is_open() {
         Dropped::Orphaned
@@ -214,7 +215,7 @@ pub fn dropped_as(word: Word) -> Dropped
 pub fn is_last(word: Word) -> bool
     ensures { result ≡ not (others_left word) }
 {
-    !(word.references() > 1 || word.task())
+    !word.fits(0, GiveUpReference)
 }
 
 /// Whether somebody may claim the output of a run that finds this word.
@@ -228,7 +229,7 @@ pub fn keeps_output(found: Word) -> bool
 pub fn has_output(word: Word) -> bool
     ensures { result ≡ has_output word }
 {
-    word.completed() && !word.closed()
+    word.fits(0, ClaimOutput)
 }
 
 /// The task is closed, and no Runnable or run holds the future.
