@@ -6,6 +6,7 @@
 #![tactic(auto)]
 
 pub mod acts;
+pub mod by_row;
 pub mod table;
 pub mod traits;
 pub mod word;

@@ -1,9 +1,10 @@
 //! The table of the word: what each row finds, and what it writes.
 ghost use Rattle.std.specs.Prelude.{◌≡◌};
-ghost use Rattle.task_core.specs.Data.{row_of};
+ghost use Rattle.task_core.specs.Rows.{row_of};
 
 use crate::acts::Act;
 use crate::acts::Act::*;
+use crate::table::Count::*;
 use crate::table::Edit::*;
 use crate::table::Flag::*;
 use crate::table::Test::*;
@@ -62,7 +63,7 @@ pub enum Test {
     SomeReference,
 }
 
-/// What a row does to the word.
+/// What a row does to the flags of the word.
 #[derive(Clone, Copy, Debug, PartialEq, Eq)]
 pub enum Edit {
     /// Nothing.
@@ -71,66 +72,75 @@ pub enum Edit {
     Sets(Flag),
     /// Clears it.
     Clears(Flag),
+}
+
+/// .. and to its count.
+#[derive(Clone, Copy, Debug, PartialEq, Eq)]
+pub enum Count {
+    /// Nothing.
+    Stays,
     /// One reference more.
     Adds,
     /// One reference less.
     Takes,
-    /// The word is that of an orphan.
+    /// The whole word becomes that of an orphan: closed, scheduled once more, and one reference.
     Orphans,
 }
 
-/// A row of the table: its act, what it asks of the word, and what it does to it.
+/// A row of the table: its act, what it asks of the word, and what it does to the flags and to the count.
 #[derive(Clone, Copy, Debug)]
 pub struct Row(
     pub Act,
     pub (Test, Test, Test),
     pub (Edit, Edit, Edit, Edit),
+    pub Count,
 );
 
 /// The rows, in the order of the kinds.
 #[rattlefmt::skip]
 pub const ROWS: [Row; 38] = [
-    Row(GainReference,       (BelowLimit, Always, Always),                 (Adds, Keeps, Keeps, Keeps)),
-    Row(FindLimit,           (AtLimit, Always, Always),                    (Keeps, Keeps, Keeps, Keeps)),
-    Row(DropWaker,           (OthersLeft, Always, Always),                 (Takes, Keeps, Keeps, Keeps)),
-    Row(DropLastWaker,       (LastHandle, Over, Always),                   (Takes, Keeps, Keeps, Keeps)),
-    Row(OrphanTask,          (LastHandle, Open, Always),                   (Takes, Keeps, Keeps, Keeps)),
-    Row(CloseOrphan,         (Always, Always, Always),                     (Orphans, Keeps, Keeps, Keeps)),
-    Row(GiveUpReference,     (OthersLeft, Always, Always),                 (Takes, Keeps, Keeps, Keeps)),
-    Row(GiveUpLastReference, (LastHandle, Always, Always),                 (Takes, Keeps, Keeps, Keeps)),
-    Row(WakeOver,            (Over, Always, Always),                       (Keeps, Keeps, Keeps, Keeps)),
-    Row(WakeScheduled,       (Open, Is(Scheduled), Always),                (Keeps, Keeps, Keeps, Keeps)),
-    Row(WakeRunning,         (Open, Not(Scheduled), Is(Running)),          (Sets(Scheduled), Keeps, Keeps, Keeps)),
-    Row(WakeIdle,            (Open, Not(Scheduled), Not(Running)),         (Sets(Scheduled), Adds, Keeps, Keeps)),
-    Row(DiscardOpen,         (Not(Closed), Always, Always),                (Sets(Closed), Keeps, Keeps, Keeps)),
-    Row(DiscardClosed,       (Is(Closed), Always, Always),                 (Keeps, Keeps, Keeps, Keeps)),
-    Row(CancelOver,          (Over, Always, Always),                       (Keeps, Keeps, Keeps, Keeps)),
-    Row(CancelBusy,          (Open, Busy, Always),                         (Sets(Closed), Keeps, Keeps, Keeps)),
-    Row(CancelIdle,          (Open, Not(Scheduled), Not(Running)),         (Sets(Scheduled), Sets(Closed), Adds, Keeps)),
-    Row(ClaimOutput,         (Is(Completed), Not(Closed), Always),         (Sets(Closed), Keeps, Keeps, Keeps)),
-    Row(GiveUpOutput,        (Is(Completed), Not(Closed), Always),         (Sets(Closed), Keeps, Keeps, Keeps)),
-    Row(DetachOrphan,        (NoReference, Open, Always),                  (Orphans, Keeps, Keeps, Keeps)),
-    Row(DetachLast,          (NoReference, Is(Closed), Always),            (Clears(TaskExists), Keeps, Keeps, Keeps)),
-    Row(Detach,              (SomeReference, NoOutput, Always),            (Clears(TaskExists), Keeps, Keeps, Keeps)),
-    Row(TakeUpClosed,        (Is(Closed), Always, Always),                 (Keeps, Keeps, Keeps, Keeps)),
-    Row(StartRun,            (Not(Closed), Always, Always),                (Clears(Scheduled), Sets(Running), Keeps, Keeps)),
-    Row(Unschedule,          (Always, Always, Always),                     (Clears(Scheduled), Keeps, Keeps, Keeps)),
-    Row(Complete,            (Is(TaskExists), Always, Always),             (Clears(Running), Clears(Scheduled), Sets(Completed), Keeps)),
-    Row(CompleteDetached,    (Not(TaskExists), Always, Always),            (Clears(Running), Clears(Scheduled), Sets(Completed), Sets(Closed))),
-    Row(EndClosed,           (Is(Closed), Always, Always),                 (Clears(Running), Clears(Scheduled), Keeps, Keeps)),
-    Row(Reschedule,          (Not(Closed), Is(Scheduled), Always),         (Clears(Running), Keeps, Keeps, Keeps)),
-    Row(EndIdle,             (Not(Closed), Not(Scheduled), OthersLeft),    (Clears(Running), Takes, Keeps, Keeps)),
-    Row(EndOrphaned,         (Not(Closed), Not(Scheduled), LastHandle),    (Orphans, Keeps, Keeps, Keeps)),
-    Row(BeginNotify,         (Not(Notifying), Not(Registering), Always),   (Sets(Notifying), Keeps, Keeps, Keeps)),
-    Row(MissNotify,          (SlotBusy, Always, Always),                   (Sets(Notifying), Keeps, Keeps, Keeps)),
-    Row(FindNotify,          (Is(Notifying), Always, Always),              (Keeps, Keeps, Keeps, Keeps)),
-    Row(BeginRegister,       (Not(Notifying), Always, Always),             (Sets(Registering), Keeps, Keeps, Keeps)),
-    Row(EndNotify,           (Always, Always, Always),                     (Clears(Notifying), Clears(Awaiter), Keeps, Keeps)),
-    Row(EndRegister,         (Not(Notifying), Always, Always),             (Clears(Registering), Sets(Awaiter), Keeps, Keeps)),
-    Row(EndRegisterNotified, (Is(Notifying), Always, Always),              (Clears(Registering), Clears(Notifying), Clears(Awaiter), Keeps)),
+    Row(GainReference,       (BelowLimit, Always, Always),                 (Keeps, Keeps, Keeps, Keeps),            Adds),
+    Row(FindLimit,           (AtLimit, Always, Always),                    (Keeps, Keeps, Keeps, Keeps),            Stays),
+    Row(DropWaker,           (OthersLeft, Always, Always),                 (Keeps, Keeps, Keeps, Keeps),            Takes),
+    Row(DropLastWaker,       (LastHandle, Over, Always),                   (Keeps, Keeps, Keeps, Keeps),            Takes),
+    Row(OrphanTask,          (LastHandle, Open, Always),                   (Keeps, Keeps, Keeps, Keeps),            Takes),
+    Row(CloseOrphan,         (Always, Always, Always),                     (Keeps, Keeps, Keeps, Keeps),            Orphans),
+    Row(GiveUpReference,     (OthersLeft, Always, Always),                 (Keeps, Keeps, Keeps, Keeps),            Takes),
+    Row(GiveUpLastReference, (LastHandle, Always, Always),                 (Keeps, Keeps, Keeps, Keeps),            Takes),
+    Row(WakeOver,            (Over, Always, Always),                       (Keeps, Keeps, Keeps, Keeps),            Stays),
+    Row(WakeScheduled,       (Open, Is(Scheduled), Always),                (Keeps, Keeps, Keeps, Keeps),            Stays),
+    Row(WakeRunning,         (Open, Not(Scheduled), Is(Running)),          (Sets(Scheduled), Keeps, Keeps, Keeps),  Stays),
+    Row(WakeIdle,            (Open, Not(Scheduled), Not(Running)),         (Sets(Scheduled), Keeps, Keeps, Keeps),  Adds),
+    Row(DiscardOpen,         (Not(Closed), Always, Always),                (Sets(Closed), Keeps, Keeps, Keeps),     Stays),
+    Row(DiscardClosed,       (Is(Closed), Always, Always),                 (Keeps, Keeps, Keeps, Keeps),            Stays),
+    Row(CancelOver,          (Over, Always, Always),                       (Keeps, Keeps, Keeps, Keeps),            Stays),
+    Row(CancelBusy,          (Open, Busy, Always),                         (Sets(Closed), Keeps, Keeps, Keeps),     Stays),
+    Row(CancelIdle,          (Open, Not(Scheduled), Not(Running)),         (Sets(Scheduled), Sets(Closed), Keeps, Keeps), Adds),
+    Row(ClaimOutput,         (Is(Completed), Not(Closed), Always),         (Sets(Closed), Keeps, Keeps, Keeps),     Stays),
+    Row(GiveUpOutput,        (Is(Completed), Not(Closed), Always),         (Sets(Closed), Keeps, Keeps, Keeps),     Stays),
+    Row(DetachOrphan,        (NoReference, Open, Always),                  (Keeps, Keeps, Keeps, Keeps),            Orphans),
+    Row(DetachLast,          (NoReference, Is(Closed), Always),            (Clears(TaskExists), Keeps, Keeps, Keeps), Stays),
+    Row(Detach,              (SomeReference, NoOutput, Always),            (Clears(TaskExists), Keeps, Keeps, Keeps), Stays),
+    Row(TakeUpClosed,        (Is(Closed), Always, Always),                 (Keeps, Keeps, Keeps, Keeps),            Stays),
+    Row(StartRun,            (Not(Closed), Always, Always),                (Clears(Scheduled), Sets(Running), Keeps, Keeps), Stays),
+    Row(Unschedule,          (Always, Always, Always),                     (Clears(Scheduled), Keeps, Keeps, Keeps), Stays),
+    Row(Complete,            (Is(TaskExists), Always, Always),             (Clears(Running), Clears(Scheduled), Sets(Completed), Keeps), Stays),
+    Row(CompleteDetached,    (Not(TaskExists), Always, Always),            (Clears(Running), Clears(Scheduled), Sets(Completed), Sets(Closed)), Stays),
+    Row(EndClosed,           (Is(Closed), Always, Always),                 (Clears(Running), Clears(Scheduled), Keeps, Keeps), Stays),
+    Row(Reschedule,          (Not(Closed), Is(Scheduled), Always),         (Clears(Running), Keeps, Keeps, Keeps),  Stays),
+    Row(EndIdle,             (Not(Closed), Not(Scheduled), OthersLeft),    (Clears(Running), Keeps, Keeps, Keeps),  Takes),
+    Row(EndOrphaned,         (Not(Closed), Not(Scheduled), LastHandle),    (Keeps, Keeps, Keeps, Keeps),            Orphans),
+    Row(BeginNotify,         (Not(Notifying), Not(Registering), Always),   (Sets(Notifying), Keeps, Keeps, Keeps),  Stays),
+    Row(MissNotify,          (SlotBusy, Always, Always),                   (Sets(Notifying), Keeps, Keeps, Keeps),  Stays),
+    Row(FindNotify,          (Is(Notifying), Always, Always),              (Keeps, Keeps, Keeps, Keeps),            Stays),
+    Row(BeginRegister,       (Not(Notifying), Always, Always),             (Sets(Registering), Keeps, Keeps, Keeps), Stays),
+    Row(EndNotify,           (Always, Always, Always),                     (Clears(Notifying), Clears(Awaiter), Keeps, Keeps), Stays),
+    Row(EndRegister,         (Not(Notifying), Always, Always),             (Clears(Registering), Sets(Awaiter), Keeps, Keeps), Stays),
+    Row(EndRegisterNotified, (Is(Notifying), Always, Always),              (Clears(Registering), Clears(Notifying), Clears(Awaiter), Keeps), Stays),
 ];
 
 /// The row of an act. `None` for a load and a private act.
+#[inline(always)]
 pub fn row_of(act: Act) -> Option<Row>
     ensures { result ≡ row_of act }
 {

@@ -2,15 +2,14 @@
 use Rattle.std.proofs.Common.{◌≡◌, ℕ, ◌≤◌, Bool, true, false, not, ◌&&◌, ◌||◌, Option, Some, None, List, [], ◌∷◌, refl, sym, ap, ◌∙◌, subst, ◌⊎◌, inr, ⊎_elim, arith}
 use Rattle.std.specs.Prelude.{bit_and, bit_or, if◌then◌else◌}
 use Rattle.atomic_table.specs.Table.{rest}
-use Rattle.task_steps.proofs.Vocabulary.{State, state_of, number_of, CallEnds, CloneEnded, Woken, Answer, Rest, NotifyingCall, OfRun, OfPoll, OfClaim, At, CallEnding, Notifier, Releaser}
-use Rattle.task_steps.proofs.Vocabulary.{AwaiterInHand, EndCall, WakeAwaiter, DropAwaiter, MissNotify, BeginNotify, TakeAwaiter, Slots, leaves_slots, changes_slots, after_taking, after_waking, may_drop, scene, owns_awaiter}
+use Rattle.task_steps.proofs.Vocabulary.{State, state_of, number_of, Answer, Rest, NotifyingCall, OfRun, CallEnding, Notifier, Releaser}
+use Rattle.task_steps.proofs.Vocabulary.{AwaiterInHand, EndCall, WakeAwaiter, DropAwaiter, MissNotify, BeginNotify, TakeAwaiter, Slots, after_taking, after_waking, may_drop, owns_awaiter}
 use Rattle.task_steps.proofs.Vocabulary.{Awaiting, await, awaiting, state_of_number_of, fetch_or-notifying, fetch_and-awaiter_notifying, Slot, Deed, Member}
 use Rattle.task_steps.specs.Rule.{has_work, IsEmpty, Waits}
 use Rattle.task_steps.specs.Scripts.{taking_awaiter, releasing_awaiter}
-use Rattle.task_steps.proofs.Bools.{never}
 use Rattle.task_steps.proofs.Facts.{counted_awaiting}
-use Rattle.task_steps.proofs.Acts.{leads_first}
 use Rattle.task_steps.proofs.Advance.{stays, takes_awaiter, gives_awaiter, Steps}
+use Rattle.task_steps.proofs.Computed.{by_table, noted, row_fits, guarded}
 use Rattle.task_steps.proofs.Allowed.{Owes}
 use Rattle.task_steps.proofs.Known.{OwesNote}
 
@@ -50,15 +49,13 @@ neither a b e = grind arith
 
 module _ (limit : ℕ) where
   pub ends : (answer : Answer) (r : Rest) (ds : List Deed) (us : List Member) → OwesNote limit (EndCall ∷ []) (CallEnding answer r) ds us
-  ends answer r ds us m f = (leaves_slots (scene m) m.word (At r) [] (CallEnds answer ∷ []), refl, refl, refl)
+  ends answer r ds us m f = noted refl refl refl
 
   pub wakes : (i : ℕ) (way : NotifyingCall) (ds : List Deed) (us : List Member) → OwesNote limit (WakeAwaiter ∷ []) (AwaiterInHand i way) ds us
-  wakes i way ds us m f = (leaves_slots (scene m) m.word (after_waking way) [] (CloneEnded i ∷ Woken i ∷ []), refl, refl, (λ j. (off_work i way j, off_free way j, m.slots, 0, 0)))
+  wakes i way ds us m f = noted refl refl (λ j. (off_work i way j, off_free way j, m.slots, 0, 0))
 
   pub drops : (i : ℕ) (way : NotifyingCall) (ds : List Deed) (us : List Member) → may_drop way ≡ true → OwesNote limit (DropAwaiter ∷ []) (AwaiterInHand i way) ds us
-  drops i (OfPoll n) ds us may m f = (leaves_slots (scene m) m.word (after_waking (OfPoll n)) [] (CloneEnded i ∷ []), refl, refl, refl)
-  drops i (OfClaim n) ds us may m f = (leaves_slots (scene m) m.word (after_waking (OfClaim n)) [] (CloneEnded i ∷ []), refl, refl, refl)
-  drops i _ ds us may m f = never may
+  drops i way ds us may m f = noted (guarded may) refl (λ j. (off_work i way j, off_free way j, m.slots, 0, 0))
 
 module _ (F T A : Type 0) (limit : ℕ) where
   pub takes : (way : NotifyingCall) (ds : List Deed) (us : List Member) (l : List (ℕ × Slot F T A)) → Owes F T A limit taking_awaiter (λ n. bit_or n 128) (Notifier way) ds us l
@@ -68,30 +65,14 @@ module _ (F T A : Type 0) (limit : ℕ) where
       sets = fetch_or-notifying x ∙ ap (λ (w : State). number_of (record w { notifying = true })) (ap state_of e ∙ state_of_number_of m.word)
 
       by : (b : Bool) → (m.word.notifying || m.word.registering) ≡ b → Steps m (Notifier way) (if b then MissNotify ∷ [] else BeginNotify ∷ TakeAwaiter ∷ []) (bit_or x 128) l
-      by true h = record {
-        outcome = leaves_slots (scene m) (record (m.word) { notifying = true }) (after_taking None way) [] [];
-        leads_to = leads_first (scene m) MissNotify [] (Notifier way) _ h refl;
-        writes = sets;
-        idle = (refl, refl);
-        placing = stays (on_work None way) (on_free None way) (inr (refl, refl)) (inr refl);
-      }
-      by false h = record {
-        outcome = changes_slots (scene m) (record (m.word) { notifying = true }) (record (m.slots) { awaiter = None }) (Releaser m.slots.awaiter way) [];
-        leads_to = leads_first (scene m) BeginNotify (TakeAwaiter ∷ []) (Notifier way) _ (neither m.word.notifying m.word.registering h) refl;
-        writes = sets;
-        idle = (refl, refl);
-        placing = takes_awaiter refl refl (same_way m.slots.awaiter way) (inr (refl, refl)) (λ y w. w);
-      }
+      by true h = by_table m (row_fits h) sets (refl, refl) (stays (on_work None way) (on_free None way) (inr (refl, refl)) (inr refl))
+      by false h = by_table m (row_fits (neither m.word.notifying m.word.registering h)) sets (refl, refl)
+          (takes_awaiter refl refl (same_way m.slots.awaiter way) (inr (refl, refl)) (λ y w. w))
 
   pub releases_awaiter : (hand : Option ℕ) (way : NotifyingCall) (ds : List Deed) (us : List Member) (y : Slot F T A) (l : List (ℕ × Slot F T A)) → l ≡ (2, y) ∷ rest l → IsEmpty y
       → Owes F T A limit releasing_awaiter (λ n. bit_and n 18446744073709551455) (Releaser hand way) ds us l
-  releases_awaiter hand way ds us y l has empty m f x e lt = record {
-    outcome = leaves_slots (scene m) (record (m.word) { notifying = false; awaiter = false }) (after_taking hand way) [] [];
-    leads_to = refl;
-    writes = fetch_and-awaiter_notifying x lt ∙ ap (λ (w : State). number_of (record w { awaiter = false; notifying = false })) (ap state_of e ∙ state_of_number_of m.word);
-    idle = (refl, refl);
-    placing = gives_awaiter y refl (on_free hand way) (on_work hand way ∙ sym (same_way hand way)) (inr (refl, refl)) has (subst (λ x. Waits x y) (sym none) empty);
-  }
+  releases_awaiter hand way ds us y l has empty m f x e lt = by_table m refl (fetch_and-awaiter_notifying x lt ∙ ap (λ (w : State). number_of (record w { awaiter = false; notifying = false })) (ap state_of e ∙ state_of_number_of m.word)) (refl, refl)
+      (gives_awaiter y refl (on_free hand way) (on_work hand way ∙ sym (same_way hand way)) (inr (refl, refl)) has (subst (λ x. Waits x y) (sym none) empty))
     where
       none : m.slots.awaiter ≡ None
       none = let here : 1 ≤ (awaiting 0 m.parties).releasers = omega (arith, releases 0 hand way, counted_awaiting (λ b. b.releasers) (λ a b. refl) 0 m.parties f.number (Releaser hand way) f.stands) in

@@ -1,22 +1,22 @@
 -- The steps of the table that tell what their party knows of the word that it finds.
-use Rattle.std.proofs.Common.{◌≡◌, ℕ, ◌<◌, Option, Some, None, List, ◌∷◌, get_or, sym, ap, ◌∙◌, subst, arith}
+use Rattle.std.proofs.Common.{◌≡◌, ℕ, ◌<◌, Option, None, List, ◌∷◌, get_or, sym, ap, ◌∙◌, subst, arith}
 use mathlib.Core.Option.{some}
 use lib.ListN.{get_elem?}
 use Rattle.atomic_table.specs.Table.{State as Board, Me, Allows}
-use Rattle.task_steps.proofs.Vocabulary.{State, state_of, Position, Act, Outcome, Machine, scene, state_of_number_of, Slot, Deed, Member, View, Tries}
+use Rattle.task_steps.proofs.Vocabulary.{State, state_of, Position, Act, Machine, state_of_number_of, Slot, Deed, Member, View, Tries}
 use Rattle.task_steps.specs.Rule.{member, trying, view, Running, RuleHolds}
 use Rattle.task_steps.specs.Steps.{head_of, Makes}
 use Rattle.task_steps.specs.Knows.{Knows}
 use Rattle.task_steps.proofs.Facts.{law, low}
 use Rattle.task_steps.proofs.Seen.{over_stays, closed_stays, ended_stays}
 use Rattle.counted_block.specs.Counts.{Notes}
-use Rattle.task_steps.proofs.Acts.{leads}
-use Rattle.task_steps.proofs.Advance.{Finds, places_before, places_after}
+use Rattle.task_steps.proofs.Advance.{Finds}
+use Rattle.task_steps.proofs.Computed.{Keeps}
 use Rattle.task_steps.proofs.Allowed.{Owes, finds, noted_only, steps_always}
 
 -- what a party owes that makes these private acts, whatever it finds: they keep the word and the places
 abbrev pub OwesNote : ℕ → List Act → Position → List Deed → List Member → Type 0
-OwesNote limit acts p ds us = (m : Machine) → Finds limit p ds us m → (o : Outcome) × (leads (scene m) acts p ≡ Some o) × (o.word ≡ m.word) × (places_after o ≡ places_before m p)
+OwesNote limit acts p ds us = (m : Machine) → Finds limit p ds us m → Keeps m p acts
 
 module _ (F T A : Type 0) (limit : ℕ) where
   abbrev M : Type 0
@@ -52,6 +52,6 @@ module _ (F T A : Type 0) (limit : ℕ) where
   pub may_note : (id : ℕ) (me : M) (l : ℕ) (p : Position) (ds : List Deed) (us : List Member) (acts : List Act) → me.0 ≡ view l (member p ds ∷ us) → OwesNote limit acts p ds us
       → Notes (RuleHolds {F = F} {T = T} {A = A} limit) id me (λ n m. Makes acts (state_of n) me m × Knows (head_of me.0.members).deeds (state_of n))
   may_note id me l p ds us acts is owes s r three at fits = let run = r.running in let f = finds F T A limit s r.capped run id me.0 l p ds us at is in let n = owes run.machine f in
-      let a = noted_only F T A limit s r.capped run id me l p ds us acts at is three n.0 n.1 n.2 n.3 in
+      let a = noted_only F T A limit s r.capped run id me l p ds us acts at is three n.outcome n.leads_to n.word_is n.places_are in
       let same : run.machine.word ≡ state_of (get_or s.words 0 0) = sym (ap state_of run.word_is ∙ state_of_number_of run.machine.word) in
       (a.0, a.1, (subst (λ (w : State). Makes acts w me (a.0, me.1)) same a.2, knows_now s id me l p ds None us is r at))

@@ -7,6 +7,7 @@ pub mod Facts
 pub mod Acts
 pub mod Seen
 pub mod Advance
+pub mod Computed
 pub mod Allowed
 pub mod Owed
 pub mod Seats

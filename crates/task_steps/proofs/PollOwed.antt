@@ -2,9 +2,9 @@
 use Rattle.std.proofs.Common.{◌≡◌, ℕ, ◌+◌, ◌≤◌, Bool, true, false, not, ◌&&◌, ◌||◌, Option, Some, None, List, [], ◌∷◌, refl, sym, ap, ◌∙◌, subst, inl, inr, ⊎_elim, arith}
 use Rattle.std.specs.Prelude.{if◌then◌else◌, bit_and}
 use Rattle.atomic_table.specs.Table.{rest}
-use Rattle.task_steps.proofs.Vocabulary.{State, state_of, number_of, found, written, row, Event, TaskPollBegins, TaskPollEnds, Closes, OutputTaken, Cloned, Woken, CloneEnded, PollAnswer, IsPending, HasOutput, IsRefused, Position, OfPoll, OfClaim, At, Notifier, Looking, SawOutput, TookOutput}
-use Rattle.task_steps.proofs.Vocabulary.{RefuseClone, Answering, Registrar, HasClone, UnusedClone, Storing, Registered, TookBack, CloneInHand, Task, Act, Look, ClaimOutput, CloneAwaiter, StoreAwaiter, BeginRegister, EndRegister, EndRegisterNotified, EndCall, Slots, leaves_slots, changes_slots}
-use Rattle.task_steps.proofs.Vocabulary.{when, where_found, notifies, first_look, second_look, after_storing, Machine, scene, count, is_task_poll, owns_awaiter, Census, census, Awaiting, awaiting, HandshakeHolds, Holds, state_of_number_of}
+use Rattle.task_steps.proofs.Vocabulary.{State, state_of, number_of, found, written, row, Event, TaskPollBegins, TaskPollEnds, Closes, PollAnswer, IsPending, Position, OfPoll, OfClaim, At, Notifier, Looking, SawOutput, TookOutput}
+use Rattle.task_steps.proofs.Vocabulary.{RefuseClone, Answering, Registrar, UnusedClone, Registered, TookBack, CloneInHand, Task, Act, Look, ClaimOutput, CloneAwaiter, StoreAwaiter, BeginRegister, EndRegister, EndCall, Slots, leaves_slots}
+use Rattle.task_steps.proofs.Vocabulary.{when, notifies, first_look, second_look, after_storing, Machine, scene, count, is_task_poll, owns_awaiter, Census, census, Awaiting, awaiting, HandshakeHolds, Holds, state_of_number_of}
 use Rattle.task_steps.proofs.Vocabulary.{DropAwaiter, WakeAwaiter, fetch_and-awaiter_registering_notifying, Invariant, Slot, Empty, Awaiter, Deed, Member}
 use Rattle.task_steps.specs.Rule.{has_work, IsFuture, IsEmpty, IsAwaiter, Waits}
 use Rattle.task_steps.specs.Steps.{and_then, spot, output_first, TakesOutput, Works, Awaits}
@@ -13,6 +13,7 @@ use Rattle.task_steps.proofs.Bools.{never}
 use Rattle.task_steps.proofs.Acts.{leads}
 use Rattle.task_steps.proofs.Facts.{counted, counted_awaiting}
 use Rattle.task_steps.proofs.Advance.{Finds, stays, takes_output, gives_work, lies_nowhere, takes_awaiter, gives_awaiter, Steps, keeps_places}
+use Rattle.task_steps.proofs.Computed.{by_table, computed, noted, row_fits, guarded}
 use Rattle.task_steps.proofs.Allowed.{Owes, OwesEnd}
 use Rattle.task_steps.proofs.Known.{OwesNote}
 
@@ -105,42 +106,31 @@ output_lies m i e = (future_left m.limit m.word m.slots m.trace (census m.partie
 
 module _ (limit : ℕ) where
   pub ends_poll : (i : ℕ) (answer : PollAnswer) (ds : List Deed) (us : List Member) → OwesNote limit (EndCall ∷ []) (Answering i answer) ds us
-  ends_poll i answer ds us m f = (leaves_slots (scene m) m.word (At (Task i)) [] (TaskPollEnds i answer ∷ []), refl, refl, refl)
+  ends_poll i answer ds us m f = noted refl refl refl
 
   pub refuses : (i : ℕ) (ds : List Deed) (us : List Member) → OwesNote limit (RefuseClone ∷ EndCall ∷ []) (Registrar i) ds us
-  refuses i ds us m f = (leaves_slots (scene m) m.word (At (Task i)) [] (TaskPollEnds i IsRefused ∷ []), refl, refl, refl)
+  refuses i ds us m f = noted refl refl refl
 
   pub drops_clone : (i : ℕ) (ds : List Deed) (us : List Member) → OwesNote limit (DropAwaiter ∷ []) (UnusedClone i) ds us
-  drops_clone i ds us m f = (leaves_slots (scene m) m.word (Looking i) [] (CloneEnded i ∷ []), refl, refl, refl)
+  drops_clone i ds us m f = noted refl refl refl
 
   -- .. where the slot's awaiter tells that there was one
   pub drops_stored : {F T A : Type 0} (i : ℕ) (hand : Option ℕ) (y : Slot F T A) (a : A) → Waits hand y → y ≡ Awaiter a → (ds : List Deed) (us : List Member) → OwesNote limit (DropAwaiter ∷ []) (after_storing i hand) ds us
   drops_stored {F = F} {T = T} {A = A} i None y a h e ds us m f = absurd (subst (λ (x : Slot F T A). IsEmpty x) e h)
-  drops_stored i (Some old) y a h e ds us m f = (leaves_slots (scene m) m.word (Registered i) [] (CloneEnded old ∷ []), refl, refl, refl)
+  drops_stored i (Some old) y a h e ds us m f = noted refl refl refl
 
   pub wakes_clone : (i : ℕ) (ds : List Deed) (us : List Member) → OwesNote limit (WakeAwaiter ∷ []) (CloneInHand i) ds us
-  wakes_clone i ds us m f = (leaves_slots (scene m) m.word (Looking i) [] (CloneEnded i ∷ Woken i ∷ []), refl, refl, refl)
+  wakes_clone i ds us m f = noted refl refl refl
 
 module _ (F T A : Type 0) (limit : ℕ) where
   pub looks : (n : ℕ) (ds : List Deed) (us : List Member) (l : List (ℕ × Slot F T A)) → OwesEnd F T A limit (λ w. not (has_output w)) looking (At (Task n)) ds us l
-  looks n ds us l m f number x lt e = let f = first_free m.word (n + 1) in record {
-    outcome = leaves_slots (scene m) m.word (first_look m.word (n + 1)) [] (TaskPollBegins (n + 1) ∷ []);
-    leads_to = ap (λ (b : Bool). and_then (where_found true (when b (leaves_slots (scene m) m.word (first_look m.word (n + 1)) [] (TaskPollBegins (n + 1) ∷ [])))) (λ o. leads (spot m.limit o.word o.slots) [] o.next)) e;
-    writes = x;
-    idle = (refl, refl);
-    placing = stays f.0 f.1 (inr (refl, refl)) (inr refl);
-  }
+  looks n ds us l m f number x lt e = let f = first_free m.word (n + 1) in by_table m (guarded e) x (refl, refl)
+      (stays f.0 f.1 (inr (refl, refl)) (inr refl))
 
   looks_again_by : (m : Machine) (i number : ℕ) (l : List (ℕ × Slot F T A)) (b : Bool) → has_to_wait m.word ≡ b → number ≡ number_of m.word → Steps m (Looking i) (if b then Look ∷ EndCall ∷ [] else Look ∷ []) number l
   looks_again_by m i number l true e x = keeps_places (leaves_slots (scene m) m.word (At (Task i)) [] (TaskPollEnds i IsPending ∷ []))
       (ap (λ (p : Position). and_then (Some (leaves_slots (scene m) m.word p [] [])) (λ o. leads (spot m.limit o.word o.slots) (EndCall ∷ []) o.next)) (has_waited m.word i e)) x refl
-  looks_again_by m i number l false e x = let f = second_free m.word i in record {
-    outcome = leaves_slots (scene m) m.word (second_look m.word i) [] [];
-    leads_to = refl;
-    writes = x;
-    idle = (refl, refl);
-    placing = stays f.0 f.1 (inr (refl, refl)) (inr refl);
-  }
+  looks_again_by m i number l false e x = let f = second_free m.word i in by_table m refl x (refl, refl) (stays f.0 f.1 (inr (refl, refl)) (inr refl))
 
   pub looks_again : (i : ℕ) (ds : List Deed) (us : List Member) (l : List (ℕ × Slot F T A)) → OwesEnd F T A limit (λ w. not (has_output w)) looking_again (Looking i) ds us l
   looks_again i ds us l m f number x lt e = looks_again_by m i number l (has_to_wait m.word) refl x
@@ -161,17 +151,11 @@ module _ (F T A : Type 0) (limit : ℕ) where
       works false l' h = h
 
   pub hands_out : (i : ℕ) (ds : List Deed) (us : List Member) (l : List (ℕ × Slot F T A)) → l ≡ output_first Empty (rest (rest l)) → Owes F T A limit handing_out (λ n. n) (TookOutput i) ds us l
-  hands_out i ds us l has m f number x lt = let none = future_gone m.limit m.word m.slots m.trace (census m.parties) f.invariant.holds (counted (λ c. c.claims) (λ a b. refl) m.parties f.number (TookOutput i) f.stands) in record {
-    outcome = record { word = m.word; slots = record (m.slots) { output = false }; next = At (Task i); born = []; told = TaskPollEnds i HasOutput ∷ OutputTaken ∷ [] };
-    leads_to = refl;
-    writes = x;
-    idle = (refl, refl);
-    placing = gives_work Empty Empty refl refl refl (inr refl) (inr has) (lies_nowhere IsFuture m.slots.future none) tt;
-  }
+  hands_out i ds us l has m f number x lt = let none = future_gone m.limit m.word m.slots m.trace (census m.parties) f.invariant.holds (counted (λ c. c.claims) (λ a b. refl) m.parties f.number (TookOutput i) f.stands) in by_table m refl x (refl, refl)
+      (gives_work Empty Empty refl refl refl (inr refl) (inr has) (lies_nowhere IsFuture m.slots.future none) tt)
 
   pub finds_notifier : (i : ℕ) (ds : List Deed) (us : List Member) (l : List (ℕ × Slot F T A)) → OwesEnd F T A limit (λ w. w.notifying) finding_notifier (Registrar i) ds us l
-  finds_notifier i ds us l m f number x lt e = keeps_places (leaves_slots (scene m) m.word (UnusedClone i) [] (Woken i ∷ Cloned i ∷ []))
-      (ap (λ (b : Bool). and_then (Some (leaves_slots (scene m) m.word (HasClone i) [] (Cloned i ∷ []))) (λ o. and_then (when b (leaves_slots (spot m.limit o.word o.slots) o.word (UnusedClone i) [] (Woken i ∷ []))) (λ o. leads (spot m.limit o.word o.slots) [] o.next))) e) x refl
+  finds_notifier i ds us l m f number x lt e = computed m (row_fits e) x refl
 
   -- where the clone was put in, by what stood there
   stored_free : (i : ℕ) (hand : Option ℕ) → (has_work (after_storing i hand) ≡ false) × (owns_awaiter (after_storing i hand) ≡ true)
@@ -185,43 +169,20 @@ module _ (F T A : Type 0) (limit : ℕ) where
   pub begins_register : (i : ℕ) (ds : List Deed) (us : List Member) (l : List (ℕ × Slot F T A)) (m : Machine) (new : ℕ) → Finds limit (Registrar i) ds us m → Fits BeginRegister m.word new
       → Steps m (Registrar i) (CloneAwaiter ∷ BeginRegister ∷ StoreAwaiter ∷ []) new l
   begins_register i ds us l m new f fit = let s = stored_free i m.slots.awaiter in
-      record {
-        outcome = record { word = written BeginRegister m.word; slots = record (m.slots) { awaiter = Some i }; next = after_storing i m.slots.awaiter; born = []; told = Cloned i ∷ [] };
-        leads_to = ap (λ (b : Bool). and_then (Some (leaves_slots (scene m) m.word (HasClone i) [] (Cloned i ∷ [])))
-            (λ o. and_then (when b (leaves_slots (spot m.limit o.word o.slots) (written BeginRegister o.word) (Storing i) [] [])) (λ o. leads (spot m.limit o.word o.slots) (StoreAwaiter ∷ []) o.next))) fit.finds;
-        writes = fit.writes;
-        idle = (refl, refl);
-        placing = takes_awaiter refl s.1 s.0 (inr (refl, refl)) (stored_awaits i m.slots.awaiter);
-      }
+      by_table m (row_fits fit.finds) fit.writes (refl, refl) (takes_awaiter refl s.1 s.0 (inr (refl, refl)) (stored_awaits i m.slots.awaiter))
 
   pub ends_register : (i : ℕ) (ds : List Deed) (us : List Member) (y : Slot F T A) (l : List (ℕ × Slot F T A)) (m : Machine) (new : ℕ) → Finds limit (Registered i) ds us m → l ≡ (2, y) ∷ rest l → IsAwaiter y → Fits EndRegister m.word new
       → Steps m (Registered i) (EndRegister ∷ []) new l
-  ends_register i ds us y l m new f has is fit = let stored = clone_stored i m.word m.slots m.trace (awaiting i m.parties) (f.invariant.shakes i) (counted_awaiting (λ b. b.registered) (λ a b. refl) i m.parties f.number (Registered i) f.stands) in record {
-    outcome = leaves_slots (scene m) (written EndRegister m.word) (Looking i) [] [];
-    leads_to = ap (λ (b : Bool). and_then (when b (leaves_slots (scene m) (written EndRegister m.word) (Looking i) [] [])) (λ o. leads (spot m.limit o.word o.slots) [] o.next)) fit.finds;
-    writes = fit.writes;
-    idle = (refl, refl);
-    placing = gives_awaiter y refl refl refl (inr (refl, refl)) has (subst (λ (hand : Option ℕ). Waits hand y) (sym stored) is);
-  }
+  ends_register i ds us y l m new f has is fit = let stored = clone_stored i m.word m.slots m.trace (awaiting i m.parties) (f.invariant.shakes i) (counted_awaiting (λ b. b.registered) (λ a b. refl) i m.parties f.number (Registered i) f.stands) in by_table m (row_fits fit.finds) fit.writes (refl, refl)
+      (gives_awaiter y refl refl refl (inr (refl, refl)) has (subst (λ (hand : Option ℕ). Waits hand y) (sym stored) is))
 
   -- the clone is taken back while its place is still the poll's
   pub takes_back : (i : ℕ) (ds : List Deed) (us : List Member) (l : List (ℕ × Slot F T A)) → OwesEnd F T A limit (λ w. w.notifying) taking_back (Registered i) ds us l
-  takes_back i ds us l m f number x lt e = record {
-    outcome = changes_slots (scene m) m.word (record (m.slots) { awaiter = None }) (TookBack i) [];
-    leads_to = ap (λ (b : Bool). and_then (where_found true (when b (changes_slots (scene m) m.word (record (m.slots) { awaiter = None }) (TookBack i) []))) (λ o. leads (spot m.limit o.word o.slots) [] o.next)) e;
-    writes = x;
-    idle = (refl, refl);
-    placing = stays refl refl (inr (refl, refl)) (inl refl);
-  }
+  takes_back i ds us l m f number x lt e = by_table m (guarded e) x (refl, refl) (stays refl refl (inr (refl, refl)) (inl refl))
 
   pub ends_notified : (i : ℕ) (ds : List Deed) (us : List Member) (y : Slot F T A) (l : List (ℕ × Slot F T A)) → l ≡ (2, y) ∷ rest l → IsEmpty y → Owes F T A limit ending_notified (λ n. bit_and n 18446744073709551391) (TookBack i) ds us l
-  ends_notified i ds us y l has is m f n e lt = let t = was_taken_back i m.word m.slots m.trace (awaiting i m.parties) (f.invariant.shakes i) (counted_awaiting (λ b. b.takers_back) (λ a b. refl) i m.parties f.number (TookBack i) f.stands) in record {
-    outcome = leaves_slots (scene m) (written EndRegisterNotified m.word) (CloneInHand i) [] [];
-    leads_to = ap (λ (b : Bool). and_then (when b (leaves_slots (scene m) (written EndRegisterNotified m.word) (CloneInHand i) [] [])) (λ o. leads (spot m.limit o.word o.slots) [] o.next)) t.0;
-    writes = fetch_and-awaiter_registering_notifying n lt ∙ ap (λ (w : State). number_of (record w { awaiter = false; registering = false; notifying = false })) (ap state_of e ∙ state_of_number_of m.word);
-    idle = (refl, refl);
-    placing = gives_awaiter y refl refl refl (inr (refl, refl)) has (subst (λ (hand : Option ℕ). Waits hand y) (sym t.1) is);
-  }
+  ends_notified i ds us y l has is m f n e lt = let t = was_taken_back i m.word m.slots m.trace (awaiting i m.parties) (f.invariant.shakes i) (counted_awaiting (λ b. b.takers_back) (λ a b. refl) i m.parties f.number (TookBack i) f.stands) in by_table m (row_fits t.0) (fetch_and-awaiter_registering_notifying n lt ∙ ap (λ (w : State). number_of (record w { awaiter = false; registering = false; notifying = false })) (ap state_of e ∙ state_of_number_of m.word)) (refl, refl)
+      (gives_awaiter y refl refl refl (inr (refl, refl)) has (subst (λ (hand : Option ℕ). Waits hand y) (sym t.1) is))
 
   -- the output is taken at once, or by a poll that has registered
   pub claims : (n : ℕ) (ds : List Deed) (us : List Member) (l : List (ℕ × Slot F T A)) (m : Machine) (new : ℕ) → Finds limit (At (Task n)) ds us m → Fits ClaimOutput m.word new → Steps m (At (Task n)) (ClaimOutput ∷ []) new l

@@ -1,22 +1,22 @@
 -- What the steps of a run and of a Runnable's drop owe.
-use Rattle.std.proofs.Common.{◌≡◌, ℕ, ◌+◌, ◌-◌, ◌%◌, ◌^◌, ◌≤◌, Bool, true, false, not, ◌&&◌, ◌||◌, Option, Some, None, List, [], ◌∷◌, ◌++◌, refl, sym, ap, ◌∙◌, subst, inl, inr, arith}
+use Rattle.std.proofs.Common.{◌≡◌, ℕ, ◌+◌, ◌-◌, ◌%◌, ◌^◌, ◌≤◌, Bool, true, false, not, ◌&&◌, ◌||◌, Option, Some, None, List, [], ◌∷◌, refl, sym, ap, ◌∙◌, subst, inl, inr, arith}
 use Rattle.std.specs.Prelude.{bit_and, bit_or, unwrap_or, nat_eq, nat_lt, if◌then◌else◌}
 use Rattle.std.specs.Option.{option_or}
 use Rattle.std.proofs.lemmas.Bool.Decides.{nat_tests}
 use Rattle.atomic_table.specs.Table.{rest}
-use Rattle.task_steps.proofs.Vocabulary.{State, state_of, number_of, Event, ByWake, ByClosing, Empties, Closes, TakenUp, FutureReady, FuturePending, FutureDropped, Completes, RunEnded, OutputDropped, Made, CallEnds, Answer, Ran, Runnable, Ended, OfRun, ThenEnds}
-use Rattle.task_steps.proofs.Vocabulary.{DroppedRunnable, At, CallEnding, Deliverer, GivingUp, Emptier, FutureInHand, Polling, Pending, Ready, ReadyFutureDropped, OutputStored, PendingFutureDropped, OutputInHand, GiveUpReference, GiveUpLastReference, DiscardOpen, DiscardClosed}
-use Rattle.task_steps.proofs.Vocabulary.{DropFuture, StoreOutput, Complete, CompleteDetached, AnswerPending, Reschedule, EndIdle, EndOrphaned, EndClosed, EndCall, written, Slots, leaves_slots, changes_slots, notifies, after_giving_up, ended_clone, closing, Machine, scene}
+use Rattle.task_steps.proofs.Vocabulary.{State, state_of, number_of, Event, FutureDropped, Completes, RunEnded, Answer, Runnable, OfRun}
+use Rattle.task_steps.proofs.Vocabulary.{At, GivingUp, Emptier, Polling, Pending, Ready, PendingFutureDropped, OutputInHand, GiveUpReference, GiveUpLastReference, DiscardOpen, DiscardClosed}
+use Rattle.task_steps.proofs.Vocabulary.{DropFuture, StoreOutput, Complete, CompleteDetached, AnswerPending, Reschedule, EndIdle, EndOrphaned, EndCall, written, Slots, notifies, after_giving_up, Machine}
 use Rattle.task_steps.proofs.Vocabulary.{owns_awaiter, Census, census, Holds, state_of_number_of, fetch_or-closed, fetch_sub-reference, fetch_and-scheduled_running, Slot, Empty, Deed, Member}
 use Rattle.task_steps.specs.Rule.{has_work, IsFuture, IsOutput}
-use Rattle.task_steps.specs.Steps.{then_leaves, spot, future_first, output_first}
+use Rattle.task_steps.specs.Steps.{future_first, output_first}
 use Rattle.task_steps.specs.Scripts.{dropping_output}
 use Rattle.task_steps.specs.RunScripts.{giving_up, emptying, discarding, answering_ready, completing, answering_pending, ending_pending, finding_closed, ending_closed, completed_word, after_pending}
 use Rattle.task_steps.proofs.Bools.{never}
 use Rattle.task_steps.proofs.Numbers.{same_word}
 use Rattle.task_steps.proofs.Facts.{Queued, queued, counted}
-use Rattle.task_steps.proofs.Acts.{leads_first}
 use Rattle.task_steps.proofs.Advance.{Finds, Placing, stays, takes_future, gives_work, lies_nowhere, lies_there, takes_awaiter, gives_awaiter, Steps}
+use Rattle.task_steps.proofs.Computed.{by_table, row_fits, guarded}
 use Rattle.task_steps.proofs.Allowed.{Owes, OwesEnd}
 
 -- after a reference was given up, no place is held
@@ -63,12 +63,12 @@ both {a} {b} e f = ap (λ (x : Bool). x && b) e ∙ f
 three : (c s d : Bool) → c ≡ false → s ≡ false → d ≡ true → (not c && not s && d) ≡ true
 three c s d e f g = grind arith
 
-four : (c s r t : Bool) → c ≡ false → s ≡ false → (r && not t) ≡ true → (not c && not s && r && not t) ≡ true
+four : (c s r t : Bool) → c ≡ false → s ≡ false → (r && not t) ≡ true → (not c && not s && (r && not t)) ≡ true
 four c s r t e f g = grind arith
 
 -- the row that fits a word that is not closed
 picked : (c s d r t : Bool) (x y z w : State) → c ≡ false → (d ≡ false → (r && not t) ≡ true)
-    → unwrap_or (option_or (option_or (if not c && s then Some x else None) (if not c && not s && d then Some y else None)) (if not c && not s && r && not t then Some z else None)) w ≡ (if s then x else (if d then y else z))
+    → unwrap_or (option_or (option_or (if not c && s then Some x else None) (if not c && not s && d then Some y else None)) (if not c && not s && (r && not t) then Some z else None)) w ≡ (if s then x else (if d then y else z))
 picked true s d r t x y z w e f = never (sym e)
 picked false true d r t x y z w e f = refl
 picked false false true r t x y z w e f = refl
@@ -93,29 +93,13 @@ module _ (F T A : Type 0) (limit : ℕ) where
       fewer = fetch_sub-reference x lt (subst (λ (w : State). 1 ≤ w.references) (sym is) some) ∙ ap (λ (w : State). number_of (record w { references = w.references - 1 })) is
 
       by : (b : Bool) → (nat_lt 1 m.word.references || m.word.task) ≡ b → Steps m (GivingUp hand answer) (if b then GiveUpReference ∷ [] else GiveUpLastReference ∷ []) ((x + (2 ^ 64 - 256)) % 2 ^ 64) l
-      by true h = record {
-        outcome = leaves_slots (scene m) (record (m.word) { references = m.word.references - 1 }) (after_giving_up hand answer) [] [];
-        leads_to = leads_first (scene m) GiveUpReference [] (GivingUp hand answer) _ h refl;
-        writes = fewer;
-        idle = (refl, refl);
-        placing = stays (given_work hand answer) (given_free hand answer) (inr (refl, refl)) (inr refl);
-      }
-      by false h = record {
-        outcome = leaves_slots (scene m) (record (m.word) { references = m.word.references - 1 }) (Emptier hand answer) [] [];
-        leads_to = leads_first (scene m) GiveUpLastReference [] (GivingUp hand answer) _ (is_last m.word.references m.word.task some h) refl;
-        writes = fewer;
-        idle = (refl, refl);
-        placing = takes_awaiter refl refl refl (inr (refl, refl)) (λ y w. (m.slots.awaiter, w));
-      }
+      by true h = by_table m {acts = GiveUpReference ∷ []} (row_fits h) fewer (refl, refl) (stays (given_work hand answer) (given_free hand answer) (inr (refl, refl)) (inr refl))
+      by false h = by_table m {acts = GiveUpLastReference ∷ []} (row_fits (is_last m.word.references m.word.task some h)) fewer (refl, refl)
+          (takes_awaiter refl refl refl (inr (refl, refl)) (λ y w. (m.slots.awaiter, w)))
 
   pub empties : (hand : Option ℕ) (answer : Answer) (ds : List Deed) (us : List Member) (l : List (ℕ × Slot F T A)) → l ≡ (2, Empty) ∷ rest l → Owes F T A limit emptying (λ n. n) (Emptier hand answer) ds us l
-  empties hand answer ds us l has m f x e lt = record {
-    outcome = changes_slots (scene m) m.word (record (m.slots) { awaiter = None }) (after_giving_up hand answer) (Empties ∷ ended_clone (m.slots.awaiter));
-    leads_to = refl;
-    writes = e;
-    idle = (refl, refl);
-    placing = gives_awaiter Empty refl (given_free hand answer) (given_work hand answer) (inr (refl, refl)) has tt;
-  }
+  empties hand answer ds us l has m f x e lt = by_table m refl e (refl, refl)
+      (gives_awaiter Empty refl (given_free hand answer) (given_work hand answer) (inr (refl, refl)) has tt)
 
   pub discards : (ds : List Deed) (us : List Member) (l : List (ℕ × Slot F T A)) → Owes F T A limit discarding (λ n. bit_or n 8) (At Runnable) ds us l
   discards ds us l m f x e lt = by m.word.closed refl
@@ -127,84 +111,34 @@ module _ (F T A : Type 0) (limit : ℕ) where
       sets = fetch_or-closed x ∙ ap (λ (w : State). number_of (record w { closed = true })) (ap state_of e ∙ state_of_number_of m.word)
 
       by : (b : Bool) → m.word.closed ≡ b → Steps m (At Runnable) (if b then DiscardClosed ∷ [] else DiscardOpen ∷ []) (bit_or x 8) l
-      by true h = record {
-        outcome = leaves_slots (scene m) m.word (FutureInHand DroppedRunnable) [] (TakenUp ∷ []);
-        leads_to = leads_first (scene m) DiscardClosed [] (At Runnable) _ h refl;
-        writes = sets ∙ ap number_of (closed_already m.word h);
-        idle = (refl, refl);
-        placing = takes_future refl refl refl (inr refl) there.future there.output (λ _ h. h);
-      }
-      by false h = record {
-        outcome = leaves_slots (scene m) (record (m.word) { closed = true }) (FutureInHand DroppedRunnable) [] (Closes ∷ TakenUp ∷ []);
-        leads_to = leads_first (scene m) DiscardOpen [] (At Runnable) _ (ap not h) refl;
-        writes = sets;
-        idle = (refl, refl);
-        placing = takes_future refl refl refl (inr refl) there.future there.output (λ _ h. h);
-      }
+      by true h = by_table m (row_fits h) (sets ∙ ap number_of (closed_already m.word h)) (refl, refl)
+          (takes_future refl refl refl (inr refl) there.future there.output (λ _ h. h))
+      by false h = by_table m (row_fits (ap not h)) sets (refl, refl) (takes_future refl refl refl (inr refl) there.future there.output (λ _ h. h))
 
   pub answers_ready : (ds : List Deed) (us : List Member) (l : List (ℕ × Slot F T A)) → Owes F T A limit answering_ready (λ n. n) Polling ds us l
-  answers_ready ds us l m f x e lt = record {
-    outcome = leaves_slots (scene m) m.word Ready [] (FutureReady ∷ []);
-    leads_to = refl;
-    writes = e;
-    idle = (refl, refl);
-    placing = stays refl refl (inl refl) (inr refl);
-  }
+  answers_ready ds us l m f x e lt = by_table m refl e (refl, refl) (stays refl refl (inl refl) (inr refl))
 
   pub answers_pending : (ds : List Deed) (us : List Member) (l : List (ℕ × Slot F T A)) → Owes F T A limit answering_pending (λ n. n) Polling ds us l
   answers_pending ds us l m f x e lt = by m.word.closed refl
     where
       by : (b : Bool) → m.word.closed ≡ b → Steps m Polling (if b then AnswerPending ∷ DropFuture ∷ [] else AnswerPending ∷ []) x l
-      by true h = record {
-        outcome =
-            changes_slots (scene m) m.word (record (m.slots) { future = false }) PendingFutureDropped (FutureDropped ∷ FuturePending ∷ []);
-        leads_to = ap (then_leaves (leaves_slots (scene m) m.word Pending [] (FuturePending ∷ [])))
-            (leads_first (spot m.limit m.word m.slots) DropFuture [] Pending (changes_slots (scene m) m.word (record (m.slots) { future = false }) PendingFutureDropped (FutureDropped ∷ [])) refl
-            (ap (λ b. if b then Some (changes_slots (scene m) m.word (record (m.slots) { future = false }) PendingFutureDropped (FutureDropped ∷ [])) else None) h));
-        writes = e;
-        idle = (refl, refl);
-        placing = stays refl refl (inl refl) (inr refl);
-      }
-      by false h = record {
-        outcome = leaves_slots (scene m) m.word Pending [] (FuturePending ∷ []);
-        leads_to = refl;
-        writes = e;
-        idle = (refl, refl);
-        placing = stays refl refl (inl refl) (inr refl);
-      }
+      by true h = by_table m (guarded h) e (refl, refl) (stays refl refl (inl refl) (inr refl))
+      by false h = by_table m refl e (refl, refl) (stays refl refl (inl refl) (inr refl))
 
   -- the task was closed meanwhile, and its future is dropped next
   pub finds_closed : (ds : List Deed) (us : List Member) (l : List (ℕ × Slot F T A)) → OwesEnd F T A limit (λ w. w.closed) finding_closed Pending ds us l
-  finds_closed ds us l m f x e lt h = record {
-    outcome = changes_slots (scene m) m.word (record (m.slots) { future = false }) PendingFutureDropped (FutureDropped ∷ []);
-    leads_to = leads_first (scene m) DropFuture [] Pending (changes_slots (scene m) m.word (record (m.slots) { future = false }) PendingFutureDropped (FutureDropped ∷ [])) refl
-        (ap (λ b. if b then Some (changes_slots (scene m) m.word (record (m.slots) { future = false }) PendingFutureDropped (FutureDropped ∷ [])) else None) h);
-    writes = e;
-    idle = (refl, refl);
-    placing = stays refl refl (inl refl) (inr refl);
-  }
+  finds_closed ds us l m f x e lt h = by_table m (guarded h) e (refl, refl) (stays refl refl (inl refl) (inr refl))
 
   pub ends_closed : (ds : List Deed) (us : List Member) (l : List (ℕ × Slot F T A)) → l ≡ future_first Empty (rest (rest l)) → Owes F T A limit ending_closed (λ n. bit_and n 18446744073709551612) PendingFutureDropped ds us l
-  ends_closed ds us l has m f x e lt = record {
-    outcome =
-        leaves_slots (scene m) (record (m.word) { running = false; scheduled = false }) (notifies m.word.awaiter OfRun) [] (RunEnded ∷ []);
-    leads_to = leads_first (scene m) EndClosed [] PendingFutureDropped _ gone.2 refl;
-    writes = fetch_and-scheduled_running x lt ∙ ap (λ (w : State). number_of (record w { scheduled = false; running = false })) (ap state_of e ∙ state_of_number_of m.word);
-    idle = (refl, refl);
-    placing = gives_work Empty Empty refl (due_work m.word.awaiter) (due_free m.word.awaiter) (inr refl) (inl has) (lies_nowhere IsFuture m.slots.future gone.0) (lies_nowhere IsOutput m.slots.output gone.1);
-  }
+  ends_closed ds us l has m f x e lt = by_table m (row_fits gone.2) (fetch_and-scheduled_running x lt ∙ ap (λ (w : State). number_of (record w { scheduled = false; running = false })) (ap state_of e ∙ state_of_number_of m.word)) (refl, refl)
+      (gives_work Empty Empty refl (due_work m.word.awaiter) (due_free m.word.awaiter) (inr refl) (inl has) (lies_nowhere IsFuture m.slots.future gone.0) (lies_nowhere IsOutput m.slots.output gone.1))
     where
       gone : (m.slots.future ≡ false) × (m.slots.output ≡ false) × (m.word.closed ≡ true)
       gone = cleared_facts m.limit m.word m.slots m.trace (census m.parties) f.invariant.holds (counted (λ c. c.cleared) (λ a b. refl) m.parties f.number PendingFutureDropped f.stands)
 
   pub drops_output : (due : Bool) (ds : List Deed) (us : List Member) (l : List (ℕ × Slot F T A)) → l ≡ output_first Empty (rest (rest l)) → Owes F T A limit dropping_output (λ n. n) (OutputInHand due) ds us l
-  drops_output due ds us l has m f x e lt = record {
-    outcome = changes_slots (scene m) m.word (record (m.slots) { output = false }) (notifies due OfRun) (OutputDropped ∷ []);
-    leads_to = refl;
-    writes = e;
-    idle = (refl, refl);
-    placing = gives_work Empty Empty refl (due_work due) (due_free due) (inr refl) (inr has) (lies_nowhere IsFuture m.slots.future gone) tt;
-  }
+  drops_output due ds us l has m f x e lt = by_table m refl e (refl, refl)
+      (gives_work Empty Empty refl (due_work due) (due_free due) (inr refl) (inr has) (lies_nowhere IsFuture m.slots.future gone) tt)
     where
       gone : m.slots.future ≡ false
       gone = output_facts m.limit m.word m.slots m.trace (census m.parties) f.invariant.holds (counted (λ c. c.outputs) (λ a b. refl) m.parties f.number (OutputInHand due) f.stands)
@@ -225,22 +159,10 @@ module _ (F T A : Type 0) (limit : ℕ) where
       placed false a v told = gives_work Empty z refl (due_work a) (due_free a) (inr refl) (inr has) tt is
 
       by : (b : Bool) → m.word.task ≡ b → Steps m Ready (if b then DropFuture ∷ StoreOutput ∷ Complete ∷ [] else DropFuture ∷ StoreOutput ∷ CompleteDetached ∷ []) (number_of (completed_word w)) l
-      by true h = record {
-        outcome = record { word = written Complete m.word; slots = stored; next = if m.word.closed then OutputInHand m.word.awaiter else notifies m.word.awaiter OfRun; born = []; told = Completes ∷ RunEnded ∷ FutureDropped ∷ [] };
-        leads_to = ap (λ x. then_leaves (changes_slots (scene m) m.word gone ReadyFutureDropped (FutureDropped ∷ [])) (then_leaves (changes_slots (spot m.limit m.word gone) m.word stored OutputStored []) x))
-            (leads_first (spot m.limit m.word stored) Complete [] OutputStored (leaves_slots (spot m.limit m.word stored) (written Complete m.word) (if m.word.closed then OutputInHand m.word.awaiter else notifies m.word.awaiter OfRun) [] (Completes ∷ RunEnded ∷ [])) h refl);
-        writes = ap number_of (ap completed_word (same_word w m.word _ e refl) ∙ ap (λ b. if b then written Complete m.word else written CompleteDetached m.word) h);
-        idle = (refl, refl);
-        placing = placed m.word.closed m.word.awaiter (written Complete m.word) (Completes ∷ RunEnded ∷ FutureDropped ∷ []);
-      }
-      by false h = record {
-        outcome = record { word = written CompleteDetached m.word; slots = stored; next = OutputInHand m.word.awaiter; born = []; told = (closing m.word (Completes ∷ RunEnded ∷ []) ++ []) ++ FutureDropped ∷ [] };
-        leads_to = ap (λ x. then_leaves (changes_slots (scene m) m.word gone ReadyFutureDropped (FutureDropped ∷ [])) (then_leaves (changes_slots (spot m.limit m.word gone) m.word stored OutputStored []) x))
-            (leads_first (spot m.limit m.word stored) CompleteDetached [] OutputStored (leaves_slots (spot m.limit m.word stored) (written CompleteDetached m.word) (OutputInHand m.word.awaiter) [] (closing m.word (Completes ∷ RunEnded ∷ []))) (ap not h) refl);
-        writes = ap number_of (ap completed_word (same_word w m.word _ e refl) ∙ ap (λ b. if b then written Complete m.word else written CompleteDetached m.word) h);
-        idle = (refl, refl);
-        placing = stays refl refl (inl refl) (inr refl);
-      }
+      by true h = by_table m (row_fits h) (ap number_of (ap completed_word (same_word w m.word _ e refl) ∙ ap (λ b. if b then written Complete m.word else written CompleteDetached m.word) h)) (refl, refl)
+          (placed m.word.closed m.word.awaiter (written Complete m.word) (Completes ∷ RunEnded ∷ FutureDropped ∷ []))
+      by false h = by_table m (row_fits (ap not h)) (ap number_of (ap completed_word (same_word w m.word _ e refl) ∙ ap (λ b. if b then written Complete m.word else written CompleteDetached m.word) h)) (refl, refl)
+          (stays refl refl (inl refl) (inr refl))
 
   -- the run of a Pending future, on an open task
   pub ends_pending : (w : State) (ds : List Deed) (us : List Member) (y : Slot F T A) (l : List (ℕ × Slot F T A)) → l ≡ future_first y (rest (rest l)) → IsFuture y → w.closed ≡ false
@@ -263,25 +185,9 @@ module _ (F T A : Type 0) (limit : ℕ) where
       wrote = ap after_pending same ∙ picked m.word.closed m.word.scheduled shared (nat_eq m.word.references 1) m.word.task (written Reschedule m.word) (written EndIdle m.word) (written EndOrphaned m.word) m.word not_closed (λ h. is_last m.word.references m.word.task facts.0 h)
 
       by : (b d : Bool) → m.word.scheduled ≡ b → shared ≡ d → Steps m Pending (if b then Reschedule ∷ [] else (if d then EndIdle ∷ EndCall ∷ [] else EndOrphaned ∷ [])) (number_of (after_pending w)) l
-      by true d h k = record {
-        outcome =
-            leaves_slots (scene m) (written Reschedule m.word) (Deliverer true (ThenEnds (Ran true))) [] (Made ByWake ∷ RunEnded ∷ []);
-        leads_to = leads_first (scene m) Reschedule [] Pending _ (both (ap not not_closed) h) refl;
-        writes = ap number_of (wrote ∙ ap (λ b. if b then written Reschedule m.word else (if shared then written EndIdle m.word else written EndOrphaned m.word)) h);
-        idle = (refl, refl);
-        placing = gives_work y Empty refl refl refl (inr refl) (inl has) (lies_there IsFuture m.slots.future y facts.2 is) (lies_nowhere IsOutput m.slots.output facts.1);
-      }
-      by false true h k = record {
-        outcome = leaves_slots (scene m) (written EndIdle m.word) (At Ended) [] (CallEnds (Ran false) ∷ RunEnded ∷ []);
-        leads_to = leads_first (scene m) EndIdle (EndCall ∷ []) Pending (leaves_slots (scene m) (written EndIdle m.word) (CallEnding (Ran false) Ended) [] (RunEnded ∷ [])) (three m.word.closed m.word.scheduled shared not_closed h k) refl;
-        writes = ap number_of (wrote ∙ (ap (λ b. if b then written Reschedule m.word else (if shared then written EndIdle m.word else written EndOrphaned m.word)) h ∙ ap (λ b. if b then written EndIdle m.word else written EndOrphaned m.word) k));
-        idle = (refl, refl);
-        placing = gives_work y Empty refl refl refl (inr refl) (inl has) (lies_there IsFuture m.slots.future y facts.2 is) (lies_nowhere IsOutput m.slots.output facts.1);
-      }
-      by false false h k = record {
-        outcome = leaves_slots (scene m) (written EndOrphaned m.word) (Deliverer false (ThenEnds (Ran false))) [] (Made ByClosing ∷ Closes ∷ RunEnded ∷ []);
-        leads_to = leads_first (scene m) EndOrphaned [] Pending _ (four m.word.closed m.word.scheduled (nat_eq m.word.references 1) m.word.task not_closed h (is_last m.word.references m.word.task facts.0 k)) refl;
-        writes = ap number_of (wrote ∙ (ap (λ b. if b then written Reschedule m.word else (if shared then written EndIdle m.word else written EndOrphaned m.word)) h ∙ ap (λ b. if b then written EndIdle m.word else written EndOrphaned m.word) k));
-        idle = (refl, refl);
-        placing = gives_work y Empty refl refl refl (inr refl) (inl has) (lies_there IsFuture m.slots.future y facts.2 is) (lies_nowhere IsOutput m.slots.output facts.1);
-      }
+      by true d h k = by_table m (row_fits (both (ap not not_closed) h)) (ap number_of (wrote ∙ ap (λ b. if b then written Reschedule m.word else (if shared then written EndIdle m.word else written EndOrphaned m.word)) h)) (refl, refl)
+          (gives_work y Empty refl refl refl (inr refl) (inl has) (lies_there IsFuture m.slots.future y facts.2 is) (lies_nowhere IsOutput m.slots.output facts.1))
+      by false true h k = by_table m (row_fits (three m.word.closed m.word.scheduled shared not_closed h k)) (ap number_of (wrote ∙ (ap (λ b. if b then written Reschedule m.word else (if shared then written EndIdle m.word else written EndOrphaned m.word)) h ∙ ap (λ b. if b then written EndIdle m.word else written EndOrphaned m.word) k))) (refl, refl)
+          (gives_work y Empty refl refl refl (inr refl) (inl has) (lies_there IsFuture m.slots.future y facts.2 is) (lies_nowhere IsOutput m.slots.output facts.1))
+      by false false h k = by_table m (row_fits (four m.word.closed m.word.scheduled (nat_eq m.word.references 1) m.word.task not_closed h (is_last m.word.references m.word.task facts.0 k))) (ap number_of (wrote ∙ (ap (λ b. if b then written Reschedule m.word else (if shared then written EndIdle m.word else written EndOrphaned m.word)) h ∙ ap (λ b. if b then written EndIdle m.word else written EndOrphaned m.word) k))) (refl, refl)
+          (gives_work y Empty refl refl refl (inr refl) (inl has) (lies_there IsFuture m.slots.future y facts.2 is) (lies_nowhere IsOutput m.slots.output facts.1))

@@ -1,28 +1,22 @@
 -- What each step of a Task owes beside its polls.
-use Rattle.std.proofs.Common.{◌≡◌, ℕ, ◌+◌, ◌-◌, ◌%◌, ◌^◌, ◌<◌, ◌≤◌, Bool, true, false, not, ◌&&◌, ◌||◌, Option, Some, None, List, [], ◌∷◌, refl, sym, ap, ◌∙◌, subst, inr, arith}
+use Rattle.std.proofs.Common.{◌≡◌, ℕ, ◌+◌, ◌-◌, ◌%◌, ◌^◌, ◌<◌, ◌≤◌, Bool, true, false, not, ◌&&◌, ◌||◌, List, [], ◌∷◌, refl, sym, ap, ◌∙◌, subst, inr, arith}
 use Rattle.std.specs.Prelude.{nat_lt, nat_eq, if◌then◌else◌}
 use Rattle.std.proofs.lemmas.Bool.Decides.{nat_tests}
 use Rattle.atomic_table.specs.Table.{rest}
-use Rattle.task_steps.proofs.Vocabulary.{State, bit, state_of, number_of, is_open, orphan_word, Event, CallEnds, Closes, Made, ByClosing, TaskGivenUp, OutputDropped, Nothing, Position, At, Deliverer, Emptier, OutputCloser, Detacher, Task, Ended, ThenEnds, OfCancel, Act, CancelOver}
-use Rattle.task_steps.proofs.Vocabulary.{CancelBusy, CancelIdle, GiveUpOutput, DetachOrphan, DetachLast, Detach, EndCall, found, written, Slots, Outcome, leaves_slots, changes_slots, goes, where_found, notifies, after_cancelling, Machine, scene, owns_awaiter}
+use Rattle.task_steps.proofs.Vocabulary.{State, bit, state_of, number_of, is_open, orphan_word, Event, At, OutputCloser, Detacher, Task, OfCancel}
+use Rattle.task_steps.proofs.Vocabulary.{CancelBusy, CancelIdle, GiveUpOutput, DetachOrphan, DetachLast, Detach, EndCall, Slots, notifies, Machine, owns_awaiter}
 use Rattle.task_steps.proofs.Vocabulary.{Census, census, Holds, state_of_number_of, Slot, Empty, Deed, Member}
 use Rattle.task_steps.specs.Rule.{has_work, IsFuture}
-use Rattle.task_steps.specs.Steps.{saw_closed, output_first, and_then, spot}
+use Rattle.task_steps.specs.Steps.{saw_closed, output_first}
 use Rattle.task_steps.specs.Scripts.{dropping_output}
 use Rattle.task_steps.specs.WakerScripts.{is_over}
 use Rattle.task_steps.specs.TaskScripts.{finding_cancelled, cancelling, cancelled, detaching, detached, giving_task_up}
-use Rattle.task_steps.proofs.Acts.{leads, both}
+use Rattle.task_steps.proofs.Acts.{both}
 use Rattle.task_steps.proofs.Facts.{counted}
 use Rattle.task_steps.proofs.PollOwed.{output_lies, future_gone}
-use Rattle.task_steps.proofs.Advance.{Finds, stays, gives_work, lies_nowhere, takes_output, takes_awaiter, Steps, keeps_places}
+use Rattle.task_steps.proofs.Advance.{Finds, stays, gives_work, lies_nowhere, takes_output, takes_awaiter, Steps}
+use Rattle.task_steps.proofs.Computed.{by_table, computed, row_fits}
 use Rattle.task_steps.proofs.Allowed.{Owes, OwesEnd}
-
--- acts in a row, by whether the first finds its word
-abbrev leads_if : Machine → Position → Act → List Act → Bool → Option Outcome
-leads_if m p a more b = and_then (where_found b (goes (scene m) (written a m.word) a p)) (λ o. leads (spot m.limit o.word o.slots) more o.next)
-
-finds_it : (m : Machine) (p : Position) (a : Act) (more : List Act) → found m.limit a m.word ≡ true → leads (scene m) (a ∷ more) p ≡ leads_if m p a more true
-finds_it m p a more e = ap (leads_if m p a more) e
 
 pub over : (b : Bool) → b ≡ false → not b ≡ true
 over b e = cc
@@ -54,8 +48,7 @@ idle_cancel false n = (refl, refl)
 
 module _ (F T A : Type 0) (limit : ℕ) where
   pub finds_over : (n : ℕ) (ds : List Deed) (us : List Member) (l : List (ℕ × Slot F T A)) → OwesEnd F T A limit (is_over limit) finding_cancelled (At (Task n)) ds us l
-  finds_over n ds us l m f x e lt is = keeps_places (leaves_slots (scene m) m.word (At (Task n)) [] (CallEnds Nothing ∷ []))
-      (finds_it m (At (Task n)) CancelOver (EndCall ∷ []) is) e refl
+  finds_over n ds us l m f x e lt is = computed m (row_fits is) e refl
 
   pub cancels : (n : ℕ) (ds : List Deed) (us : List Member) (l : List (ℕ × Slot F T A)) (w : State) (old new : ℕ) → old ≡ number_of w → new ≡ number_of (cancelled w) → is_open w ≡ true
       → (m : Machine) → Finds limit (At (Task n)) ds us m → old ≡ number_of m.word → Steps m (At (Task n)) (cancelling m.word) new l
@@ -69,38 +62,17 @@ module _ (F T A : Type 0) (limit : ℕ) where
 
       closes : (b : Bool) → (m.word.scheduled || m.word.running) ≡ b
           → Steps m (At (Task n)) (if b then CancelBusy ∷ [] else CancelIdle ∷ []) (number_of (if b then record (m.word) { closed = true } else record (m.word) { scheduled = true; closed = true; references = m.word.references + 1 })) l
-      closes true is = let i = idle_cancel m.word.awaiter n in record {
-        outcome = leaves_slots (scene m) (record (m.word) { closed = true }) (notifies m.word.awaiter (OfCancel n)) [] (Closes ∷ []);
-        leads_to = finds_it m (At (Task n)) CancelBusy [] (both (is_open m.word) (m.word.scheduled || m.word.running) now is);
-        writes = refl;
-        idle = (refl, refl);
-        placing = stays i.0 i.1 (inr (refl, refl)) (inr refl);
-      }
-      closes false is = keeps_places (leaves_slots (scene m) (record (m.word) { scheduled = true; closed = true; references = m.word.references + 1 }) (Deliverer false (after_cancelling m.word.awaiter n)) [] (Made ByClosing ∷ Closes ∷ []))
-          (finds_it m (At (Task n)) CancelIdle [] (neither (is_open m.word) m.word.scheduled m.word.running now is)) refl refl
+      closes true is = let i = idle_cancel m.word.awaiter n in by_table m (row_fits (both (is_open m.word) (m.word.scheduled || m.word.running) now is)) refl (refl, refl)
+          (stays i.0 i.1 (inr (refl, refl)) (inr refl))
+      closes false is = computed m (row_fits (neither (is_open m.word) m.word.scheduled m.word.running now is)) refl refl
 
-  -- the row of a Task that is given up, from here on
-  gives_reference : (p : Position) (m : Machine) (x : ℕ) (l : List (ℕ × Slot F T A)) → has_work p ≡ false → owns_awaiter p ≡ false
-      → leads_if m p Detach (EndCall ∷ []) true ≡ Some (leaves_slots (scene m) (record (m.word) { task = false }) (At Ended) [] (CallEnds Nothing ∷ TaskGivenUp ∷ []))
-      → x ≡ number_of (record (m.word) { task = false }) → nat_lt 0 m.word.references ≡ true → (m.word.completed && not m.word.closed) ≡ false → Steps m p (Detach ∷ EndCall ∷ []) x l
-  gives_reference p m x l free bare goes e counted claimed = record {
-    outcome = leaves_slots (scene m) (record (m.word) { task = false }) (At Ended) [] (CallEnds Nothing ∷ TaskGivenUp ∷ []);
-    leads_to = finds_it m p Detach (EndCall ∷ []) (both (nat_lt 0 m.word.references) (not (m.word.completed && not m.word.closed)) counted (over (m.word.completed && not m.word.closed) claimed)) ∙ goes;
-    writes = e;
-    idle = (refl, refl);
-    placing = stays (sym free) (sym bare) (inr (refl, refl)) (inr refl);
-  }
+  -- the Task is given up, with references left
+  shares : (m : Machine) → nat_lt 0 m.word.references ≡ true → (m.word.completed && not m.word.closed) ≡ false → (nat_lt 0 m.word.references && not (m.word.completed && not m.word.closed)) ≡ true
+  shares m left claimed = both (nat_lt 0 m.word.references) (not (m.word.completed && not m.word.closed)) left (over (m.word.completed && not m.word.closed) claimed)
 
-  gives_last : (p : Position) (m : Machine) (x : ℕ) (l : List (ℕ × Slot F T A)) → has_work p ≡ false → owns_awaiter p ≡ false
-      → leads_if m p DetachLast [] true ≡ Some (leaves_slots (scene m) (record (m.word) { task = false }) (Emptier None Nothing) [] (TaskGivenUp ∷ []))
-      → x ≡ number_of (record (m.word) { task = false }) → nat_lt 0 m.word.references ≡ false → m.word.closed ≡ true → Steps m p (DetachLast ∷ []) x l
-  gives_last p m x l free bare goes e none closed = record {
-    outcome = leaves_slots (scene m) (record (m.word) { task = false }) (Emptier None Nothing) [] (TaskGivenUp ∷ []);
-    leads_to = finds_it m p DetachLast [] (both (nat_eq m.word.references 0) m.word.closed (none_left m.word.references none) closed) ∙ goes;
-    writes = e;
-    idle = (refl, refl);
-    placing = takes_awaiter bare refl (sym free) (inr (refl, refl)) (λ y h. (m.slots.awaiter, h));
-  }
+  -- .. and with none
+  is_last : (m : Machine) → nat_lt 0 m.word.references ≡ false → m.word.closed ≡ true → (nat_eq m.word.references 0 && m.word.closed) ≡ true
+  is_last m none closed = both (nat_eq m.word.references 0) m.word.closed (none_left m.word.references none) closed
 
   pub detaches : (n : ℕ) (ds : List Deed) (us : List Member) (l : List (ℕ × Slot F T A)) (w : State) (old new : ℕ) → old ≡ number_of w → new ≡ number_of (detached w)
       → (m : Machine) → Finds limit (At (Task n)) ds us m → old ≡ number_of m.word → Steps m (At (Task n)) (detaching m.word) new l
@@ -112,26 +84,16 @@ module _ (F T A : Type 0) (limit : ℕ) where
       gives : (a b c : Bool) → (m.word.completed && not m.word.closed) ≡ a → nat_lt 0 m.word.references ≡ b → m.word.closed ≡ c
           → Steps m (At (Task n)) (if a then GiveUpOutput ∷ [] else (if b then Detach ∷ EndCall ∷ [] else (if c then DetachLast ∷ [] else DetachOrphan ∷ [])))
           (number_of (if a then record (m.word) { closed = true } else (if b || c then record (m.word) { task = false } else orphan_word))) l
-      gives true b c claimed counted closed = record {
-        outcome = leaves_slots (scene m) (record (m.word) { closed = true }) OutputCloser [] (Closes ∷ []);
-        leads_to = finds_it m (At (Task n)) GiveUpOutput [] claimed;
-        writes = refl;
-        idle = (refl, refl);
-        placing = takes_output refl refl refl (inr refl) (output_lies m f.invariant claimed).0 (output_lies m f.invariant claimed).1 (λ _ h. h);
-      }
-      gives false true c claimed counted closed = gives_reference (At (Task n)) m (number_of (record (m.word) { task = false })) l refl refl refl refl counted claimed
-      gives false false true claimed counted closed = gives_last (At (Task n)) m (number_of (record (m.word) { task = false })) l refl refl refl refl counted closed
-      gives false false false claimed counted closed = keeps_places (leaves_slots (scene m) orphan_word (Deliverer false (ThenEnds Nothing)) [] (Made ByClosing ∷ Closes ∷ TaskGivenUp ∷ []))
-          (finds_it m (At (Task n)) DetachOrphan [] (last_orphan m.word.references m.word.completed m.word.closed counted claimed closed)) refl refl
+      gives true b c claimed counted closed = by_table m (row_fits claimed) refl (refl, refl)
+          (takes_output refl refl refl (inr refl) (output_lies m f.invariant claimed).0 (output_lies m f.invariant claimed).1 (λ _ h. h))
+      gives false true c claimed counted closed = computed m (row_fits (shares m counted claimed)) refl refl
+      gives false false true claimed counted closed = by_table m (row_fits (is_last m counted closed)) refl (refl, refl)
+          (takes_awaiter refl refl refl (inr (refl, refl)) (λ y h. (m.slots.awaiter, h)))
+      gives false false false claimed counted closed = computed m (row_fits (last_orphan m.word.references m.word.completed m.word.closed counted claimed closed)) refl refl
 
   pub drops_output : (ds : List Deed) (us : List Member) (l : List (ℕ × Slot F T A)) → l ≡ output_first Empty (rest (rest l)) → Owes F T A limit dropping_output (λ n. n) OutputCloser ds us l
-  drops_output ds us l has m f x e lt = let none = future_gone m.limit m.word m.slots m.trace (census m.parties) f.invariant.holds (counted (λ c. c.claims) (λ a b. refl) m.parties f.number OutputCloser f.stands) in record {
-    outcome = changes_slots (scene m) m.word (record (m.slots) { output = false }) Detacher (OutputDropped ∷ []);
-    leads_to = refl;
-    writes = e;
-    idle = (refl, refl);
-    placing = gives_work Empty Empty refl refl refl (inr refl) (inr has) (lies_nowhere IsFuture m.slots.future none) tt;
-  }
+  drops_output ds us l has m f x e lt = let none = future_gone m.limit m.word m.slots m.trace (census m.parties) f.invariant.holds (counted (λ c. c.claims) (λ a b. refl) m.parties f.number OutputCloser f.stands) in by_table m refl e (refl, refl)
+      (gives_work Empty Empty refl refl refl (inr refl) (inr has) (lies_nowhere IsFuture m.slots.future none) tt)
 
   pub gives_task_up : (ds : List Deed) (us : List Member) (l : List (ℕ × Slot F T A)) → saw_closed ds ≡ true → Owes F T A limit giving_task_up (λ n. (n + (2 ^ 64 - 16)) % 2 ^ 64) Detacher ds us l
   gives_task_up ds us l saw m f x e lt = gives (nat_lt 0 m.word.references) refl
@@ -140,5 +102,6 @@ module _ (F T A : Type 0) (limit : ℕ) where
       wrote = task_taken m.word x e lt (has_task m.limit m.word m.slots m.trace (census m.parties) f.invariant.holds (counted (λ c. c.tasks) (λ a b. refl) m.parties f.number Detacher f.stands))
 
       gives : (b : Bool) → nat_lt 0 m.word.references ≡ b → Steps m Detacher (if b then Detach ∷ EndCall ∷ [] else DetachLast ∷ []) ((x + (2 ^ 64 - 16)) % 2 ^ 64) l
-      gives true counted = gives_reference Detacher m ((x + (2 ^ 64 - 16)) % 2 ^ 64) l refl refl refl wrote counted (closed_claimed m.word.completed m.word.closed (f.closed saw))
-      gives false counted = gives_last Detacher m ((x + (2 ^ 64 - 16)) % 2 ^ 64) l refl refl refl wrote counted (f.closed saw)
+      gives true counted = computed m (row_fits (shares m counted (closed_claimed m.word.completed m.word.closed (f.closed saw)))) wrote refl
+      gives false counted = by_table m (row_fits (is_last m counted (f.closed saw))) wrote (refl, refl)
+          (takes_awaiter refl refl refl (inr (refl, refl)) (λ y h. (m.slots.awaiter, h)))

@@ -1,4 +1,5 @@
 -- The names of task_core, of task_laws and of the table that the proofs share.
+use Rattle.std.specs.Prelude.{if◌then◌else◌, List, ◌∷◌}
 pub use Rattle.task_core.proofs.Bits.{fetch_and-awaiter_notifying, fetch_and-awaiter_registering_notifying, fetch_and-scheduled, fetch_and-scheduled_running}
 pub use Rattle.task_core.proofs.Bits.{fetch_and-task, fetch_or-closed, fetch_or-notifying, fetch_sub-reference, state_of_number_of}
 pub use Rattle.task_core.specs.Rows.{found, row, written}
@@ -37,7 +38,7 @@ pub use Rattle.task_laws.specs.Holders.{owns_awaiter}
 pub use Rattle.task_laws.specs.Laws.{count, how_often, is_task_poll}
 pub use Rattle.task_laws.specs.Machine.{Machine, Step, after, begins, how_many, moves, opening, run, run_from, scene, step}
 pub use Rattle.task_laws.specs.Table.{Outcome, Scene, Slots, after_cancelling, after_giving_up, after_handing_over, after_storing, after_taking, after_waking}
-pub use Rattle.task_laws.specs.Table.{changes_slots, closing, ended_clone, first_look, goes, is_held, leaves_slots, may_ask, may_drop, may_gain, may_wake}
+pub use Rattle.task_laws.specs.Table.{changes_slots, ended_clone, first_look, goes, is_held, leaves_slots, may_ask, may_drop, may_gain, may_wake}
 pub use Rattle.task_laws.specs.Table.{notifies, rule, second_look, when, where_found}
 pub use Rattle.task_laws.proofs.Awaiting.{Awaiting, await, awaiting, join}
 pub use Rattle.task_laws.proofs.Census.{Census, census, closers, plus, runs, weigh}
@@ -55,3 +56,7 @@ pub use Rattle.task_steps.specs.declared.table.Stage.{Stage}
 pub use Rattle.task_steps.specs.declared.table.Stage.TheVariants.{Filling, Laid, Spawned}
 pub use Rattle.task_steps.specs.declared.table.Tries.{Tries}
 pub use Rattle.task_steps.specs.declared.table.View.{View}
+
+-- the events of a step that sets closed, which are told once
+abbrev pub closing : State → List Event → List Event
+closing w told = if w.closed then told else Closes ∷ told

@@ -1,19 +1,20 @@
 -- What the steps owe by which a waker is gained, wakes and is dropped.
-use Rattle.std.proofs.Common.{◌≡◌, ℕ, ◌+◌, ◌-◌, ◌%◌, ◌^◌, ◌≤◌, Bool, true, false, not, ◌&&◌, ◌||◌, Some, None, List, [], ◌∷◌, refl, sym, ap, ◌∙◌, subst, inr, arith}
+use Rattle.std.proofs.Common.{◌≡◌, ℕ, ◌+◌, ◌-◌, ◌%◌, ◌^◌, ◌≤◌, Bool, true, false, not, ◌&&◌, ◌||◌, Some, List, [], ◌∷◌, refl, sym, ap, ◌∙◌, subst, inr, arith}
 use Rattle.std.specs.Prelude.{nat_lt, nat_le, nat_eq, if◌then◌else◌}
 use Rattle.std.proofs.lemmas.Bool.Decides.{nat_tests}
-use Rattle.task_steps.proofs.Vocabulary.{State, state_of, number_of, is_open, orphan_word, Event, WakerGained, WakerGivenUp, WakeStep, Made, ByWake, ByClosing, Closes, CallBegins, CallEnds, Nothing, Gained, Rest, Runnable, Waker, Lent}
-use Rattle.task_steps.proofs.Vocabulary.{Ended, ThenEnds, At, CallEnding, Deliverer, Emptier, OrphanHolder, GainReference, FindLimit, DropWaker, DropLastWaker, OrphanTask, WakeOver, WakeScheduled, WakeRunning, WakeIdle}
-use Rattle.task_steps.proofs.Vocabulary.{EndCall, written, row, Slots, Outcome, when, is_held, may_ask, leaves_slots, may_gain, may_wake, Machine, scene, Census, census, Holds, state_of_number_of, fetch_sub-reference, Slot}
+use Rattle.task_steps.proofs.Vocabulary.{State, state_of, number_of, is_open, Event, Rest, Runnable, Waker, Lent}
+use Rattle.task_steps.proofs.Vocabulary.{At, OrphanHolder, GainReference, DropWaker, DropLastWaker, OrphanTask, WakeScheduled, WakeRunning, WakeIdle}
+use Rattle.task_steps.proofs.Vocabulary.{EndCall, written, row, Slots, Outcome, when, is_held, may_ask, may_gain, may_wake, Machine, scene, Census, census, Holds, state_of_number_of, fetch_sub-reference, Slot}
 use Rattle.task_steps.proofs.Vocabulary.{Deed, Member}
 use Rattle.task_steps.specs.Beside.{may_call, may_change}
 use Rattle.task_steps.specs.WakerScripts.{at_limit, finding_limit, gaining, is_over, finding_over, waking_task, woken_word, dropping_waker, closing_orphan}
 use Rattle.task_steps.proofs.Bools.{never}
-use Rattle.task_steps.proofs.Acts.{row_found, both, leads_first}
+use Rattle.task_steps.proofs.Acts.{row_found, both}
 use Rattle.task_steps.proofs.Seen.{true_right}
 use Rattle.task_steps.proofs.Facts.{counted}
 use Rattle.task_steps.proofs.Numbers.{same_word}
-use Rattle.task_steps.proofs.Advance.{Finds, takes_awaiter, Steps, keeps_places}
+use Rattle.task_steps.proofs.Advance.{Finds, takes_awaiter, Steps}
+use Rattle.task_steps.proofs.Computed.{by_table, computed, allows, row_fits}
 use Rattle.task_steps.proofs.Allowed.{Owes, OwesEnd}
 use Rattle.task_steps.proofs.TaskOwed.{over}
 
@@ -62,24 +63,17 @@ gains_it r m ask held = never ask
 module _ (F T A : Type 0) (limit : ℕ) where
   -- the count is at the limit
   pub finds_limit : (r : Rest) (ds : List Deed) (us : List Member) (l : List (ℕ × Slot F T A)) → may_ask r ≡ true → OwesEnd F T A limit (at_limit limit) finding_limit (At r) ds us l
-  finds_limit r ds us l may m f x e lt full = let o : Outcome = leaves_slots (scene m) m.word (CallEnding (Gained false) r) [] [] in
-      keeps_places (leaves_slots (scene m) m.word (At r) [] (CallEnds (Gained false) ∷ []))
-      (leads_first (scene m) FindLimit (EndCall ∷ []) (At r) o (at_the_limit m.word.references limit m.limit (is_not (nat_lt m.word.references limit) full) f.limited) (passes (may_ask r) o may)) e refl
+  finds_limit r ds us l may m f x e lt full = computed m (allows _ (may_ask r) (at_the_limit m.word.references limit m.limit (is_not (nat_lt m.word.references limit) full) f.limited) may) e refl
 
   -- a reference is gained
   pub gains : (r : Rest) (ds : List Deed) (us : List Member) (l : List (ℕ × Slot F T A)) (w v : State) (old new : ℕ) → may_ask r ≡ true → may_change r w ≡ true → Some v ≡ row limit GainReference w → old ≡ number_of w → new ≡ number_of v
       → (m : Machine) → Finds limit (At r) ds us m → old ≡ number_of m.word → Steps m (At r) (gaining m.word) new l
   gains r ds us l w v old new may held fits is to m f here = let same = same_word m.word w old is here in let x = row_found limit GainReference w v fits in
-      let o : Outcome = leaves_slots (scene m) (written GainReference m.word) (CallEnding (Gained true) r) (At Waker ∷ []) (WakerGained ∷ []) in
-      keeps_places (leaves_slots (scene m) (written GainReference m.word) (At r) (At Waker ∷ []) (CallEnds (Gained true) ∷ WakerGained ∷ []))
-      (leads_first (scene m) GainReference (EndCall ∷ []) (At r) o (ap (λ (z : ℕ × State). nat_lt z.1.references z.0) (λ i. (f.limited i, same i)) ∙ x.0) (passes (may_gain (scene m) r) o (gains_it r m may (ap (may_change r) same ∙ held))))
-      (to ∙ ap number_of (x.1 ∙ ap (written GainReference) (sym same))) refl
+      computed m (allows _ (may_gain (scene m) r) (ap (λ (z : ℕ × State). nat_lt z.1.references z.0) (λ i. (f.limited i, same i)) ∙ x.0) (gains_it r m may (ap (may_change r) same ∙ held))) (to ∙ ap number_of (x.1 ∙ ap (written GainReference) (sym same))) refl
 
   -- the task is over
   pub finds_over : (r : Rest) (ds : List Deed) (us : List Member) (l : List (ℕ × Slot F T A)) → may_call r ≡ true → OwesEnd F T A limit (is_over limit) finding_over (At r) ds us l
-  finds_over r ds us l may m f x e lt is = let o : Outcome = leaves_slots (scene m) m.word (CallEnding Nothing r) [] (WakeStep ∷ []) in
-      keeps_places (leaves_slots (scene m) m.word (At r) [] (CallEnds Nothing ∷ WakeStep ∷ []))
-      (leads_first (scene m) WakeOver (EndCall ∷ []) (At r) o is (passes (may_wake (scene m) r) o (finds_it_over r m may (is_not (is_open m.word) is)))) e refl
+  finds_over r ds us l may m f x e lt is = computed m (allows _ (may_wake (scene m) r) is (finds_it_over r m may (is_not (is_open m.word) is))) e refl
 
   -- a wake of an open task
   pub wakes : (r : Rest) (ds : List Deed) (us : List Member) (l : List (ℕ × Slot F T A)) (w : State) (old new : ℕ) → may_call r ≡ true → may_change r w ≡ true → is_open w ≡ true → old ≡ number_of w → new ≡ number_of (woken_word w)
@@ -97,15 +91,9 @@ module _ (F T A : Type 0) (limit : ℕ) where
 
       by : (s b : Bool) → m.word.scheduled ≡ s → m.word.running ≡ b → Steps m (At r) (if s then WakeScheduled ∷ EndCall ∷ [] else (if b then WakeRunning ∷ EndCall ∷ [] else WakeIdle ∷ EndCall ∷ []))
           (number_of (if s then m.word else (if b then written WakeRunning m.word else written WakeIdle m.word))) l
-      by true b scheduled running = let o : Outcome = leaves_slots (scene m) m.word (CallEnding Nothing r) [] (WakeStep ∷ []) in
-          keeps_places (leaves_slots (scene m) m.word (At r) [] (CallEnds Nothing ∷ WakeStep ∷ []))
-          (leads_first (scene m) WakeScheduled (EndCall ∷ []) (At r) o (both (is_open m.word) m.word.scheduled now scheduled) (passes (may_wake (scene m) r) o lets)) refl refl
-      by false true scheduled running = let o : Outcome = leaves_slots (scene m) (written WakeRunning m.word) (CallEnding Nothing r) [] (WakeStep ∷ []) in
-          keeps_places (leaves_slots (scene m) (written WakeRunning m.word) (At r) [] (CallEnds Nothing ∷ WakeStep ∷ []))
-          (leads_first (scene m) WakeRunning (EndCall ∷ []) (At r) o (third (is_open m.word) m.word.scheduled m.word.running now scheduled running) (passes (may_wake (scene m) r) o lets)) refl refl
-      by false false scheduled running = let o : Outcome = leaves_slots (scene m) (written WakeIdle m.word) (CallEnding Nothing r) (Deliverer false (ThenEnds Nothing) ∷ []) (CallBegins ∷ Made ByWake ∷ WakeStep ∷ []) in
-          keeps_places (leaves_slots (scene m) (written WakeIdle m.word) (At r) (Deliverer false (ThenEnds Nothing) ∷ []) (CallEnds Nothing ∷ CallBegins ∷ Made ByWake ∷ WakeStep ∷ []))
-          (leads_first (scene m) WakeIdle (EndCall ∷ []) (At r) o (fourth (is_open m.word) m.word.scheduled m.word.running now scheduled running) (passes (may_wake (scene m) r) o lets)) refl refl
+      by true b scheduled running = computed m (allows _ (may_wake (scene m) r) (both (is_open m.word) m.word.scheduled now scheduled) lets) refl refl
+      by false true scheduled running = computed m (allows _ (may_wake (scene m) r) (third (is_open m.word) m.word.scheduled m.word.running now scheduled running) lets) refl refl
+      by false false scheduled running = computed m (allows _ (may_wake (scene m) r) (fourth (is_open m.word) m.word.scheduled m.word.running now scheduled running) lets) refl refl
 
   -- a waker is dropped
   pub drops_waker : (ds : List Deed) (us : List Member) (l : List (ℕ × Slot F T A)) → Owes F T A limit dropping_waker (λ n. (n + (2 ^ 64 - 256)) % 2 ^ 64) (At Waker) ds us l
@@ -125,20 +113,11 @@ module _ (F T A : Type 0) (limit : ℕ) where
 
       by : (b o : Bool) → (nat_lt 1 m.word.references || m.word.task) ≡ b → is_open m.word ≡ o
           → Steps m (At Waker) (if b then DropWaker ∷ EndCall ∷ [] else (if o then OrphanTask ∷ [] else DropLastWaker ∷ [])) ((x + (2 ^ 64 - 256)) % 2 ^ 64) l
-      by true o shared now = let o : Outcome = leaves_slots (scene m) (written DropWaker m.word) (CallEnding Nothing Ended) [] (WakerGivenUp ∷ []) in
-          keeps_places (leaves_slots (scene m) (written DropWaker m.word) (At Ended) [] (CallEnds Nothing ∷ WakerGivenUp ∷ []))
-          (leads_first (scene m) DropWaker (EndCall ∷ []) (At Waker) o shared refl) fewer refl
-      by false true shared now = keeps_places (leaves_slots (scene m) (written OrphanTask m.word) OrphanHolder [] (WakerGivenUp ∷ []))
-          (leads_first (scene m) OrphanTask [] (At Waker) _ (is_last m.word.references m.word.task (is_open m.word) some shared now) refl) fewer refl
-      by false false shared now = record {
-        outcome = leaves_slots (scene m) (written DropLastWaker m.word) (Emptier None Nothing) [] (WakerGivenUp ∷ []);
-        leads_to = leads_first (scene m) DropLastWaker [] (At Waker) _ (is_last m.word.references m.word.task (not (is_open m.word)) some shared (over (is_open m.word) now)) refl;
-        writes = fewer;
-        idle = (refl, refl);
-        placing = takes_awaiter refl refl refl (inr (refl, refl)) (λ y w. (m.slots.awaiter, w));
-      }
+      by true o shared now = computed m {acts = DropWaker ∷ EndCall ∷ []} (row_fits shared) fewer refl
+      by false true shared now = computed m {acts = OrphanTask ∷ []} (row_fits (is_last m.word.references m.word.task (is_open m.word) some shared now)) fewer refl
+      by false false shared now = by_table m {acts = DropLastWaker ∷ []} (row_fits (is_last m.word.references m.word.task (not (is_open m.word)) some shared (over (is_open m.word) now))) fewer (refl, refl)
+          (takes_awaiter refl refl refl (inr (refl, refl)) (λ y w. (m.slots.awaiter, w)))
 
   -- the last waker closes the task
   pub closes_orphan : (ds : List Deed) (us : List Member) (l : List (ℕ × Slot F T A)) → Owes F T A limit closing_orphan (λ _. 265) OrphanHolder ds us l
-  closes_orphan ds us l m f x e lt = keeps_places (leaves_slots (scene m) orphan_word (Deliverer false (ThenEnds Nothing)) [] (Made ByClosing ∷ Closes ∷ []))
-      refl refl refl
+  closes_orphan ds us l m f x e lt = computed m refl refl refl

@@ -8,6 +8,7 @@ ghost use Rattle.task_steps.specs.Shares.{never};
 use crate::attempt::Change;
 use crate::script::Script;
 use crate::words::has_output;
+use task_core::acts::Act::{BeginRegister, ClaimOutput, EndRegister};
 use task_core::word::Word;
 
 /// The first look of a poll, which takes the output where it is there.
@@ -26,7 +27,7 @@ impl Change for Looking {
 
     fn next(word: Word, limit: u64) -> Option<Word> {
         let _ = limit;
-        word.claim_output()
+        word.by_row(0, ClaimOutput)
     }
 
     fn is_end(word: Word, limit: u64) -> bool {
@@ -51,7 +52,7 @@ impl Change for LookingAgain {
 
     fn next(word: Word, limit: u64) -> Option<Word> {
         let _ = limit;
-        word.claim_output()
+        word.by_row(0, ClaimOutput)
     }
 
     fn is_end(word: Word, limit: u64) -> bool {
@@ -90,7 +91,7 @@ impl Change for BeginningRegister {
 
     fn next(word: Word, limit: u64) -> Option<Word> {
         let _ = limit;
-        word.begin_register()
+        word.by_row(0, BeginRegister)
     }
 
     fn is_end(word: Word, limit: u64) -> bool {
@@ -115,7 +116,7 @@ impl Change for EndingRegister {
 
     fn next(word: Word, limit: u64) -> Option<Word> {
         let _ = limit;
-        word.end_register()
+        word.by_row(0, EndRegister)
     }
 
     fn is_end(word: Word, limit: u64) -> bool {

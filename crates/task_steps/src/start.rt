@@ -5,6 +5,7 @@ ghost use Rattle.task_steps.specs.StartScripts.{taking_up_closed, starting_run};
 ghost use Rattle.task_steps.specs.Shares.{never};
 
 use crate::attempt::Change;
+use task_core::acts::Act::StartRun;
 use task_core::word::Word;
 
 /// The run starts, and its poll, unless the task is closed.
@@ -23,7 +24,7 @@ impl Change for StartingRun {
 
     fn next(word: Word, limit: u64) -> Option<Word> {
         let _ = limit;
-        word.start_run()
+        word.by_row(0, StartRun)
     }
 
     fn is_end(word: Word, limit: u64) -> bool {

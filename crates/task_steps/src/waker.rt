@@ -8,6 +8,7 @@ use crate::script::{Giving, Script};
 use crate::table::{Slot, View};
 use crate::words::{is_held, woken};
 use atomic_table::{Play, Split};
+use task_core::acts::Act::GainReference;
 use task_core::word::Word;
 
 /// Who has a waker by reference gets a party of its own, by a seat of its own.
@@ -35,7 +36,7 @@ impl Change for Gaining {
         if !is_held(word) {
             return None;
         }
-        word.gain_reference(limit)
+        word.by_row(limit, GainReference)
     }
 
     fn is_end(word: Word, limit: u64) -> bool {

@@ -11,6 +11,10 @@ ghost use Rattle.task_steps.specs.RunScripts.{completed_word, after_pending};
 ghost use Rattle.task_steps.specs.PollScripts.{has_output, has_ended, has_to_wait};
 ghost use Rattle.task_steps.specs.Found.{closed_by, given_up_by, ending_of, dropped_by};
 
+use task_core::acts::Act::{
+    CancelBusy, CancelIdle, Complete, CompleteDetached, Detach, DetachLast, DetachOrphan, EndIdle,
+    EndOrphaned, GiveUpOutput, GiveUpReference, Reschedule, WakeIdle, WakeRunning,
+};
 use task_core::word::Word;
 
 /// What a cancel found that closed the task, and whether an awaiter is to be taken.
@@ -72,9 +76,9 @@ pub fn woken(word: Word) -> Option<Word>
         return Some(word);
     }
     if word.running() {
-        return word.wake_running();
+        return word.by_row(0, WakeRunning);
     }
-    word.wake_idle()
+    word.by_row(0, WakeIdle)
 }
 
 /// Whether the task of this word was idle, if it was open.
@@ -90,9 +94,9 @@ pub fn closing(word: Word) -> Option<Word>
     ensures { result ≡ (if is_open word then Some (cancelled word) else None) }
 {
     if was_idle(word) {
-        word.cancel_idle()
+        word.by_row(0, CancelIdle)
     } else {
-        word.cancel_busy()
+        word.by_row(0, CancelBusy)
     }
 }
 
@@ -111,10 +115,10 @@ pub fn closed_as(word: Word) -> Cancelled
 pub fn giving_up(word: Word) -> Word
     ensures { result ≡ detached word }
 {
-    if let Some(next) = word.detach() {
+    if let Some(next) = word.by_row(0, Detach) {
         return next;
     }
-    if let Some(next) = word.detach_last() {
+    if let Some(next) = word.by_row(0, DetachLast) {
         return next;
     }
     giving_up_unclosed(word)
@@ -126,8 +130,8 @@ pub fn giving_up(word: Word) -> Word
 fn giving_up_unclosed(word: Word) -> Word
     ensures { result ≡ unwrap_or (option_or (row 0 GiveUpOutput word) (row 0 DetachOrphan word)) word }
 {
-    word.give_up_output()
-        .or(word.detach_orphan())
+    word.by_row(0, GiveUpOutput)
+        .or(word.by_row(0, DetachOrphan))
         .unwrap_or(word)
 }
 
@@ -152,9 +156,9 @@ pub fn given_up_as(word: Word) -> Detached
 pub fn completed(word: Word) -> Word
     ensures { result ≡ completed_word word }
 {
-    match word.complete() {
+    match word.by_row(0, Complete) {
         Some(next) => next,
-        None => word.complete_detached().unwrap_or(word),
+        None => word.by_row(0, CompleteDetached).unwrap_or(word),
     }
 }
 
@@ -163,9 +167,9 @@ pub fn ended(word: Word) -> Word
     ensures { result ≡ after_pending word }
 {
     if word.scheduled() {
-        return word.reschedule().unwrap_or(word);
+        return word.by_row(0, Reschedule).unwrap_or(word);
     }
-    if let Some(next) = word.end_idle() {
+    if let Some(next) = word.by_row(0, EndIdle) {
         return next;
     }
     ended_last(word)
@@ -177,7 +181,7 @@ pub fn ended(word: Word) -> Word
 fn ended_last(word: Word) -> Word
     ensures { result ≡ unwrap_or (row 0 EndOrphaned word) word }
 {
-    word.end_orphaned().unwrap_or(word)
+    word.by_row(0, EndOrphaned).unwrap_or(word)
 }
 
 /// How a run ends that finds this word, of an open task.
@@ -186,7 +190,7 @@ pub fn pending_end(word: Word) -> PendingEnd
 {
     if word.scheduled() {
         PendingEnd::Rescheduled
-    } else if word.give_up_reference().is_some() {
+    } else if word.by_row(0, GiveUpReference).is_some() {
         PendingEnd::Idle
     } else {
         PendingEnd::Orphaned
