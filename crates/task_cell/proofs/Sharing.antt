@@ -1,6 +1,8 @@
 -- Whose share is left, or was brought, by what a step found.
 use Rattle.task_cell.proofs.Vocabulary.{◌≡◌, ℕ, Bool, true, false, not, ◌&&◌, ◌||◌, refl, arith, nat_lt, nat_eq, if◌then◌else◌, State, is_open, closed_by, dropped_by, ending_of, given_up_by, others_left, Busy, Unclaimed, Rescheduled, Idle, Orphaned}
 use Rattle.task_cell.proofs.Vocabulary.{◌∙◌}
+use Rattle.task_core.specs.Rows.{found}
+use Rattle.task_core.specs.declared.acts.Act.TheVariants.{CancelIdle}
 use Rattle.task_core.specs.declared.traits.Yields.{Ghosts}
 use Rattle.task_cell.specs.declared.cell.block.Share.{Share}
 use Rattle.task_cell.specs.declared.cell.block.MaybeShare.{MaybeShare}
@@ -15,9 +17,9 @@ use Rattle.task_cell.specs.TaskPaths.{brings_share, keeps_task}
 use Rattle.task_cell.specs.WakerPaths.{keeps_waker}
 
 pub brought_by_cancel : (w : State) → brings_runnable w ≡ brings_share (closed_by w)
-brought_by_cancel w = by (w.scheduled || w.running)
+brought_by_cancel w = by (found 0 CancelIdle w)
   where
-    by : (b : Bool) → not b ≡ brings_share (if b then Busy w.awaiter else FoundIdle w.awaiter)
+    by : (b : Bool) → b ≡ brings_share (if b then FoundIdle w.awaiter else Busy w.awaiter)
     by true = refl
     by false = refl
 
@@ -48,12 +50,6 @@ left_by_waker w = by (others_left w) (is_open w)
 
 pub left_by_last : (n : ℕ) → not (nat_lt 0 n) ≡ nat_eq n 0
 left_by_last n = grind (arith, nat_tests)
-
-pub idle_brings : (w : State) → (not w.scheduled && not w.running) ≡ true → brings_runnable w ≡ true
-idle_brings w e = grind arith
-
-pub busy_brings_none : (w : State) → (not w.scheduled && not w.running) ≡ false → brings_runnable w ≡ false
-busy_brings_none w e = grind arith
 
 module _ {R F Q M A B O : Type 0} {G : Ghosts F O} where
   -- the share that a step left or made is of the same cell

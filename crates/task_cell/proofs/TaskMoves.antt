@@ -1,9 +1,9 @@
 -- What the steps of a cancel and of a detach come to for the party that made them.
-use Rattle.task_cell.proofs.Vocabulary.{◌≡◌, ℕ, Bool, true, false, not, ◌&&◌, ◌||◌, List, [], ◌∷◌, ◌++◌, Option, Some, None, refl, sym, ap, subst, arith, nat_lt, nat_eq, if◌then◌else◌, State, is_open}
+use Rattle.task_cell.proofs.Vocabulary.{◌≡◌, ℕ, Bool, true, false, not, ◌&&◌, List, [], ◌∷◌, ◌++◌, Option, Some, None, refl, sym, ap, subst, arith, nat_lt, nat_eq, if◌then◌else◌, State, is_open}
 use Rattle.task_cell.proofs.Vocabulary.{number_of, Answer, Nothing, Position, At, Deliverer, Emptier, OutputCloser, Detacher, CallEnding, Rest, Task, Ended, ThenEnds, OfCancel, CancelOver, CancelBusy}
 use Rattle.task_cell.proofs.Vocabulary.{CancelIdle, GiveUpOutput, DropOutput, DetachOrphan, DetachLast, Detach, EndCall, notifies, after_cancelling, owns_awaiter, Slot, Deed, Party, Busy}
 use Rattle.task_cell.proofs.Vocabulary.{Unclaimed, has_work, output_first, Carries, Makes, position, Stands, Goes, deeds, row, act, rest_of, as_task, NotifyPath, none_there, taken, WakePath, nobody}
-use Rattle.task_cell.proofs.Vocabulary.{woken, TakesDue, Wakes, Notice, not_due, found_none, woke, Cancels, Detaches, GivesTaskUp, closed_by, given_up_by, both, over, neither, none_left, last_orphan}
+use Rattle.task_cell.proofs.Vocabulary.{woken, TakesDue, Wakes, Notice, not_due, found_none, woke, Cancels, Detaches, GivesTaskUp, closed_by, given_up_by, both, over, busy_fits, none_left, last_orphan}
 use Rattle.task_cell.proofs.Vocabulary.{closed_claimed, idle_cancel, finds_over, cancels, detaches, is_over, MayTry, HasChanged, HasEnded, never_ends, is_some, after_taking}
 use Rattle.std.proofs.lemmas.Bool.Decides.{nat_tests}
 use Rattle.task_steps.specs.declared.words.Cancelled.TheVariants.{Idle}
@@ -12,6 +12,7 @@ use Rattle.task_cell.specs.RunPaths.{not_due as none_due, missed as miss}
 use Rattle.task_steps.specs.TaskScripts.{cancelling, detaching, giving_task_up, finding_cancelled, cancelled, cancelled_word, detached}
 use Rattle.task_cell.specs.TaskPaths.{missed}
 use Rattle.task_cell.proofs.Moved.{moved, goes, goes_on, stands, position_is}
+use Rattle.task_core.specs.Rows.{found}
 use Rattle.task_steps.specs.Shares.{MayBring, MayGive, brings_runnable, ends_task}
 use Rattle.task_steps.proofs.Handles.{cancels_task, detaches_task}
 use Rattle.task_cell.proofs.Attempts.{written_if, may_bring_at, may_give_at}
@@ -40,16 +41,16 @@ module _ {F T A : Type 0} where
 
   -- .. and the row of one that closes it
   pub closes : (limit : ℕ) (p q : Party F T A) (n : ℕ) (w : State) → Stands (as_task n) p → q.seat.block ≡ p.seat.block → HasChanged limit cancelled_word cancelling w p.seat.me q.seat.me → Cancels n p q (Some (closed_by w))
-  closes limit p q n w s cell c = made (w.scheduled || w.running) refl c.made
+  closes limit p q n w s cell c = made (found 0 CancelIdle w) refl c.made
     where
       now : is_open w ≡ true
       now = written_if (is_open w) (cancelled w) c.written
 
-      made : (b : Bool) → (w.scheduled || w.running) ≡ b → Makes (if b then CancelBusy ∷ [] else CancelIdle ∷ []) w p.seat.me q.seat.me → Cancels n p q (Some (if b then Busy w.awaiter else Idle w.awaiter))
-      made true is m = let x = moved (CancelBusy ∷ []) w (At (Task n)) [] p q s m in let at : Position = notifies w.awaiter (OfCancel n) in let i = idle_cancel w.awaiter n in
-          (w, refl, both (is_open w) (w.scheduled || w.running) now is, goes p q (row CancelBusy w ∷ []) at [] cell x.viewed (bare (has_work at) (owns_awaiter at) at q.seat.me.1 i.0 i.1 x.carried))
-      made false is m = let x = moved (CancelIdle ∷ []) w (At (Task n)) [] p q s m in
-          (w, refl, neither (is_open w) w.scheduled w.running now is, goes p q (row CancelIdle w ∷ []) (Deliverer false (after_cancelling w.awaiter n)) [] cell x.viewed x.carried)
+      made : (b : Bool) → found 0 CancelIdle w ≡ b → Makes (if b then CancelIdle ∷ [] else CancelBusy ∷ []) w p.seat.me q.seat.me → Cancels n p q (Some (if b then Idle w.awaiter else Busy w.awaiter))
+      made true fit m = let x = moved (CancelIdle ∷ []) w (At (Task n)) [] p q s m in
+          (w, refl, fit, goes p q (row CancelIdle w ∷ []) (Deliverer false (after_cancelling w.awaiter n)) [] cell x.viewed x.carried)
+      made false unfit m = let x = moved (CancelBusy ∷ []) w (At (Task n)) [] p q s m in let at : Position = notifies w.awaiter (OfCancel n) in let i = idle_cancel w.awaiter n in
+          (w, refl, busy_fits (is_open w) w.scheduled w.running now unfit, goes p q (row CancelBusy w ∷ []) at [] cell x.viewed (bare (has_work at) (owns_awaiter at) at q.seat.me.1 i.0 i.1 x.carried))
 
   -- the row of a detach
   pub gives_up : (limit : ℕ) (p q : Party F T A) (n : ℕ) (w : State) → Stands (as_task n) p → q.seat.block ≡ p.seat.block → HasChanged limit (λ _ w. Some (detached w)) detaching w p.seat.me q.seat.me → Detaches p q (given_up_by w)

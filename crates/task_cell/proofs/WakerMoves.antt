@@ -1,12 +1,13 @@
 -- What the steps of a lent waker, and of a waker's drop, come to for the party that made them.
-use Rattle.task_cell.proofs.Vocabulary.{◌≡◌, ℕ, Bool, true, false, not, ◌&&◌, List, [], ◌∷◌, Option, Some, None, IfSome, is_some, refl, sym, ap, ◌∙◌, subst, nat_lt, if◌then◌else◌, Me, State, is_open}
+use Rattle.task_cell.proofs.Vocabulary.{◌≡◌, ℕ, Bool, true, false, List, [], ◌∷◌, Option, Some, None, IfSome, is_some, refl, sym, ap, ◌∙◌, subst, nat_lt, if◌then◌else◌, Me, State, is_open}
 use Rattle.task_cell.proofs.Vocabulary.{number_of, written, Slots, is_held, Nothing, Waker, Lent, Ended, ThenEnds, Position, At, Deliverer, Emptier, OrphanHolder, Act, GainReference, FindLimit}
 use Rattle.task_cell.proofs.Vocabulary.{DropWaker, DropLastWaker, OrphanTask, CloseOrphan, WakeOver, WakeScheduled, WakeRunning, WakeIdle, EndCall, Slot, Deed, Member, View, Party, Shared}
 use Rattle.task_cell.proofs.Vocabulary.{Last, member, view, fresh, head_of, acted, Carried, Makes, deeds, limit_of, IsNew, Sees, Stands, Goes, row, act, after, as_waker, as_deliverer, MayTry, HasChanged}
 use Rattle.task_cell.proofs.Vocabulary.{HasEnded, others_left, gaining, gained_word, at_limit, finding_limit, is_over, finding_over, waking_task, woken_word, woken_if_held}
 use Rattle.task_cell.proofs.Vocabulary.{dropping_waker, closing_orphan, is_gained, finds_limit, is_scheduled, is_running, Gains, gains_none, gains_one, WakesTask}
-use Rattle.task_cell.proofs.Vocabulary.{makes_none, makes_one, DropsWaker, dropped_by, both, gains, third, fourth, not_true}
-use Rattle.task_core.specs.Rows.{row as row_of}
+use Rattle.task_cell.proofs.Vocabulary.{makes_none, makes_one, DropsWaker, dropped_by, gains, not_true}
+use Rattle.task_core.specs.Rows.{found, row as row_of}
+use Rattle.task_steps.proofs.WakerOwed.{scheduled_fits}
 use Rattle.task_steps.specs.declared.words.Dropped.TheVariants.{Orphaned}
 use Rattle.task_steps.specs.Beside.{without_newest, newest}
 use Rattle.task_cell.specs.WakerPaths.{is_idle, GainPath, TaskWakePath}
@@ -28,11 +29,6 @@ has_room limit w e = written_if (nat_lt w.references limit) (written GainReferen
 
 was_open : (limit : ℕ) (w : State) → is_some (woken_if_held limit w) ≡ true → is_open w ≡ true
 was_open limit w e = written_if (is_open w) (woken_word w) (if_some (is_held w) (if is_open w then Some (woken_word w) else None) e).1
-
--- no wake is there yet, and no run
-both_idle : (a b : Bool) → (not a && not b) ≡ true → (a ≡ false) × (b ≡ false)
-both_idle true b e = absurd (cc)
-both_idle false b e = (refl, not_true b e)
 
 module _ {F T A : Type 0} where
   -- the seat of a lent waker after acts by which it comes back, with what they added
@@ -114,25 +110,27 @@ module _ {F T A : Type 0} where
       makes_none path (paths.is_over w x.at_end) (record { cell = cell; is = back w (finding_over w) path [] p q s (λ slots l ds. refl) x.made })
 
   -- .. of one that is scheduled, or runs
-  pub wakes_busy : (limit : ℕ) (w : State) (p q : Party F T A) → Stands (At Lent) p → q.seat.block ≡ p.seat.block → HasChanged limit woken_if_held waking_task w p.seat.me q.seat.me → (not w.scheduled && not w.running) ≡ false → WakesTask p q None
-  wakes_busy limit w p q s cell x busy = by w.scheduled w.running refl refl busy x.made
+  pub wakes_busy : (limit : ℕ) (w : State) (p q : Party F T A) → Stands (At Lent) p → q.seat.block ≡ p.seat.block → HasChanged limit woken_if_held waking_task w p.seat.me q.seat.me → found 0 WakeIdle w ≡ false → WakesTask p q None
+  wakes_busy limit w p q s cell x busy = by (found 0 WakeRunning w) refl (subst (λ (b : Bool). Makes (made b (found 0 WakeRunning w)) w p.seat.me q.seat.me) busy x.made)
     where
-      by : (a b : Bool) → w.scheduled ≡ a → w.running ≡ b → (not a && not b) ≡ false → Makes (if a then WakeScheduled ∷ EndCall ∷ [] else (if b then WakeRunning ∷ EndCall ∷ [] else WakeIdle ∷ EndCall ∷ [])) w p.seat.me q.seat.me → WakesTask p q None
-      by true b scheduled running busy m = let path : List Deed = row WakeScheduled w ∷ act EndCall ∷ [] in
-          makes_none path (is_scheduled w (both (is_open w) w.scheduled (was_open limit w x.written) scheduled)) (record { cell = cell; is = back w (WakeScheduled ∷ EndCall ∷ []) path [] p q s (λ slots l ds. refl) m })
-      by false true scheduled running busy m = let path : List Deed = row WakeRunning w ∷ act EndCall ∷ [] in
-          makes_none path (is_running w (third (is_open w) w.scheduled w.running (was_open limit w x.written) scheduled running)) (record { cell = cell; is = back w (WakeRunning ∷ EndCall ∷ []) path [] p q s (λ slots l ds. refl) m })
-      by false false scheduled running busy m = absurd (cc)
+      made : Bool → Bool → List Act
+      made a b = if a then WakeIdle ∷ EndCall ∷ [] else (if b then WakeRunning ∷ EndCall ∷ [] else WakeScheduled ∷ EndCall ∷ [])
+
+      by : (b : Bool) → found 0 WakeRunning w ≡ b → Makes (made false b) w p.seat.me q.seat.me → WakesTask p q None
+      by true fit m = let path : List Deed = row WakeRunning w ∷ act EndCall ∷ [] in
+          makes_none path (is_running w fit) (record { cell = cell; is = back w (WakeRunning ∷ EndCall ∷ []) path [] p q s (λ slots l ds. refl) m })
+      by false unfit m = let path : List Deed = row WakeScheduled w ∷ act EndCall ∷ [] in
+          makes_none path (is_scheduled w (scheduled_fits w (was_open limit w x.written) busy unfit)) (record { cell = cell; is = back w (WakeScheduled ∷ EndCall ∷ []) path [] p q s (λ slots l ds. refl) m })
 
   -- .. of one that was idle: the seat after the row, and what it comes to when the deliverer has left it
-  pub beside_deliverer : (limit : ℕ) (w : State) (p q : Party F T A) → Stands (At Lent) p → HasChanged limit woken_if_held waking_task w p.seat.me q.seat.me → (not w.scheduled && not w.running) ≡ true → Beside (row WakeIdle w ∷ act EndCall ∷ []) (fresh as_deliverer ∷ []) p q
-  beside_deliverer limit w p q s x idle = let i = both_idle w.scheduled w.running idle in back w (WakeIdle ∷ EndCall ∷ []) (row WakeIdle w ∷ act EndCall ∷ []) (fresh as_deliverer ∷ []) p q s (λ slots l ds. refl)
-      (subst (λ (z : Bool × Bool). Makes (if z.0 then WakeScheduled ∷ EndCall ∷ [] else (if z.1 then WakeRunning ∷ EndCall ∷ [] else WakeIdle ∷ EndCall ∷ [])) w p.seat.me q.seat.me) (λ j. (i.0 j, i.1 j)) x.made)
+  pub beside_deliverer : (limit : ℕ) (w : State) (p q : Party F T A) → Stands (At Lent) p → HasChanged limit woken_if_held waking_task w p.seat.me q.seat.me → found 0 WakeIdle w ≡ true → Beside (row WakeIdle w ∷ act EndCall ∷ []) (fresh as_deliverer ∷ []) p q
+  beside_deliverer limit w p q s x idle = back w (WakeIdle ∷ EndCall ∷ []) (row WakeIdle w ∷ act EndCall ∷ []) (fresh as_deliverer ∷ []) p q s (λ slots l ds. refl)
+      (subst (λ (b : Bool). Makes (if b then WakeIdle ∷ EndCall ∷ [] else (if found 0 WakeRunning w then WakeRunning ∷ EndCall ∷ [] else WakeScheduled ∷ EndCall ∷ [])) w p.seat.me q.seat.me) idle x.made)
 
-  pub wakes_idle : (limit : ℕ) (w : State) (p q t d : Party F T A) → Stands (At Lent) p → q.seat.block ≡ p.seat.block → HasChanged limit woken_if_held waking_task w p.seat.me q.seat.me → (not w.scheduled && not w.running) ≡ true
+  pub wakes_idle : (limit : ℕ) (w : State) (p q t d : Party F T A) → Stands (At Lent) p → q.seat.block ≡ p.seat.block → HasChanged limit woken_if_held waking_task w p.seat.me q.seat.me → found 0 WakeIdle w ≡ true
       → t.seat.block ≡ q.seat.block → t.seat.me ≡ (without_newest q.seat.me.0, q.seat.me.1) → d.seat.block ≡ q.seat.block → d.seat.me ≡ (newest q.seat.me.0, []) → WakesTask p t (Some d)
-  wakes_idle limit w p q t d s cell x idle there is there' is' = let path : List Deed = row WakeIdle w ∷ act EndCall ∷ [] in let b = beside_deliverer limit w p q s x idle in let i = both_idle w.scheduled w.running idle in
-      makes_one path d (is_idle w (fourth (is_open w) w.scheduled w.running (was_open limit w x.written) i.0 i.1)) (leaves_newest path (fresh as_deliverer) p q t b cell there is) (is_newest path as_deliverer p q d b cell there' is')
+  wakes_idle limit w p q t d s cell x idle there is there' is' = let path : List Deed = row WakeIdle w ∷ act EndCall ∷ [] in let b = beside_deliverer limit w p q s x idle in
+      makes_one path d (is_idle w idle) (leaves_newest path (fresh as_deliverer) p q t b cell there is) (is_newest path as_deliverer p q d b cell there' is')
 
   -- the row of a waker's drop
   pub drops : (w : State) (p q : Party F T A) → Stands as_waker p → q.seat.block ≡ p.seat.block → Makes (dropping_waker w) w p.seat.me q.seat.me → DropsWaker p q (dropped_by w)

@@ -1,7 +1,8 @@
 -- What the acts of each step do to the handles that the word counts.
-use Rattle.std.proofs.Common.{◌≡◌, ℕ, zero, suc, ◌+◌, ◌-◌, ◌≤◌, Bool, true, false, not, ◌&&◌, ◌||◌, Option, Some, None, List, [], ◌∷◌, inl, inr, refl, sym, ap, ◌∙◌, subst, arith}
+use Rattle.std.proofs.Common.{◌≡◌, ℕ, zero, suc, ◌+◌, ◌-◌, ◌≤◌, Bool, true, false, not, ◌&&◌, Option, Some, None, List, [], ◌∷◌, inl, inr, refl, sym, ap, ◌∙◌, subst, arith}
 use Rattle.std.specs.Prelude.{nat_lt, if◌then◌else◌}
 use Rattle.std.proofs.lemmas.Bool.Decides.{nat_tests}
+use Rattle.task_core.specs.Rows.{found}
 use Rattle.task_steps.specs.WakerScripts.{woken_word}
 use Rattle.task_steps.proofs.Vocabulary.{WakeScheduled, WakeRunning, WakeIdle, CancelBusy, CancelIdle, Reschedule, EndIdle, EndOrphaned, EndCall, GiveUpOutput, Detach, DetachLast, DetachOrphan, DropWaker, OrphanTask, DropLastWaker, GiveUpReference, GiveUpLastReference}
 use Rattle.task_steps.proofs.Vocabulary.{State, bit, is_open, Event, Answer, Rest, Waker, Task, At, GivingUp, Detacher, OrphanHolder, Pending, Slots, is_held, row, GainReference, Machine, census, Census, Holds, Deed, Member}
@@ -111,26 +112,26 @@ module _ (limit : ℕ) where
 
   -- a wake of an idle task makes a Runnable
   pub wakes_task : (r : Rest) (ds : List Deed) (us : List Member) (F T A : Type 0) → Moves F T A limit Brings woken_if_held waking_task brings_runnable (At r) ds us
-  wakes_task r ds us F T A w v e m f is = by m.word.scheduled m.word.running
+  wakes_task r ds us F T A w v e m f is = by (found 0 WakeIdle m.word) (found 0 WakeRunning m.word)
     where
       held : 1 ≤ handles m.word
       held = subst (λ (z : State). 1 ≤ handles z) (sym is) (woken_held w v e)
 
-      by : (s b : Bool) → Brings (not (s || b)) (shares_of m.word) (shares_of (word_after m.word (if s then WakeScheduled ∷ EndCall ∷ [] else (if b then WakeRunning ∷ EndCall ∷ [] else WakeIdle ∷ EndCall ∷ []))))
-      by true b = inl (refl, refl)
+      by : (a b : Bool) → Brings a (shares_of m.word) (shares_of (word_after m.word (if a then WakeIdle ∷ EndCall ∷ [] else (if b then WakeRunning ∷ EndCall ∷ [] else WakeScheduled ∷ EndCall ∷ []))))
+      by true b = inr (refl, (let sum : m.word.references + 1 + bit m.word.task ≡ handles m.word + 1 = omega arith in ap at_least_one sum ∙ one_more (handles m.word) held))
       by false true = inl (refl, refl)
-      by false false = inr (refl, (let sum : m.word.references + 1 + bit m.word.task ≡ handles m.word + 1 = omega arith in ap at_least_one sum ∙ one_more (handles m.word) held))
+      by false false = inl (refl, refl)
 
   -- .. and so does a cancel of one
   pub cancels_task : (n : ℕ) (ds : List Deed) (us : List Member) (F T A : Type 0) → Moves F T A limit Brings cancelled_word cancelling brings_runnable (At (Task n)) ds us
-  cancels_task n ds us F T A w v e m f is = by (m.word.scheduled || m.word.running)
+  cancels_task n ds us F T A w v e m f is = by (found 0 CancelIdle m.word)
     where
       held : 1 ≤ handles m.word
       held = let t = finds_task n ds us m f in omega arith
 
-      by : (b : Bool) → Brings (not b) (shares_of m.word) (shares_of (word_after m.word (if b then CancelBusy ∷ [] else CancelIdle ∷ [])))
-      by true = inl (refl, refl)
-      by false = inr (refl, (let sum : m.word.references + 1 + bit m.word.task ≡ handles m.word + 1 = omega arith in ap at_least_one sum ∙ one_more (handles m.word) held))
+      by : (b : Bool) → Brings b (shares_of m.word) (shares_of (word_after m.word (if b then CancelIdle ∷ [] else CancelBusy ∷ [])))
+      by true = inr (refl, (let sum : m.word.references + 1 + bit m.word.task ≡ handles m.word + 1 = omega arith in ap at_least_one sum ∙ one_more (handles m.word) held))
+      by false = inl (refl, refl)
 
   -- a run of an open task that ends
   pub ends_open : (writes : ℕ → State → Option State) (ds : List Deed) (us : List Member) (F T A : Type 0) → Moves F T A limit Gives writes ending_pending ends_run Pending ds us

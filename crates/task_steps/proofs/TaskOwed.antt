@@ -6,6 +6,7 @@ use Rattle.atomic_table.specs.Table.{rest}
 use Rattle.task_steps.proofs.Vocabulary.{State, bit, state_of, number_of, is_open, orphan_word, Event, At, OutputCloser, Detacher, Task, OfCancel}
 use Rattle.task_steps.proofs.Vocabulary.{CancelBusy, CancelIdle, GiveUpOutput, DetachOrphan, DetachLast, Detach, EndCall, Slots, notifies, Machine, owns_awaiter}
 use Rattle.task_steps.proofs.Vocabulary.{Census, census, Holds, state_of_number_of, Slot, Empty, Deed, Member}
+use Rattle.task_core.specs.Rows.{found, written}
 use Rattle.task_steps.specs.Rule.{has_work, IsFuture}
 use Rattle.task_steps.specs.Steps.{saw_closed, output_first}
 use Rattle.task_steps.specs.Scripts.{dropping_output}
@@ -21,8 +22,8 @@ use Rattle.task_steps.proofs.Allowed.{Owes, OwesEnd}
 pub over : (b : Bool) → b ≡ false → not b ≡ true
 over b e = cc
 
-pub neither : (o s r : Bool) → o ≡ true → (s || r) ≡ false → (o && not s && not r) ≡ true
-neither o s r e f = grind arith
+pub busy_fits : (o s r : Bool) → o ≡ true → (o && not s && not r) ≡ false → (o && (s || r)) ≡ true
+busy_fits o s r e f = grind arith
 
 pub none_left : (n : ℕ) → nat_lt 0 n ≡ false → nat_eq n 0 ≡ true
 none_left n e = grind (arith, nat_tests)
@@ -52,7 +53,7 @@ module _ (F T A : Type 0) (limit : ℕ) where
 
   pub cancels : (n : ℕ) (ds : List Deed) (us : List Member) (l : List (ℕ × Slot F T A)) (w : State) (old new : ℕ) → old ≡ number_of w → new ≡ number_of (cancelled w) → is_open w ≡ true
       → (m : Machine) → Finds limit (At (Task n)) ds us m → old ≡ number_of m.word → Steps m (At (Task n)) (cancelling m.word) new l
-  cancels n ds us l w old new is wrote before m f e = subst (λ (k : ℕ). Steps m (At (Task n)) (cancelling m.word) k l) (ap (λ (v : State). number_of (cancelled v)) same ∙ sym wrote) (closes (m.word.scheduled || m.word.running) refl)
+  cancels n ds us l w old new is wrote before m f e = subst (λ (k : ℕ). Steps m (At (Task n)) (cancelling m.word) k l) (ap (λ (v : State). number_of (cancelled v)) same ∙ sym wrote) (closes (found 0 CancelIdle m.word) refl)
     where
       same : m.word ≡ w
       same = sym (state_of_number_of m.word) ∙ ap state_of (sym e ∙ is) ∙ state_of_number_of w
@@ -60,11 +61,11 @@ module _ (F T A : Type 0) (limit : ℕ) where
       now : is_open m.word ≡ true
       now = ap is_open same ∙ before
 
-      closes : (b : Bool) → (m.word.scheduled || m.word.running) ≡ b
-          → Steps m (At (Task n)) (if b then CancelBusy ∷ [] else CancelIdle ∷ []) (number_of (if b then record (m.word) { closed = true } else record (m.word) { scheduled = true; closed = true; references = m.word.references + 1 })) l
-      closes true is = let i = idle_cancel m.word.awaiter n in by_table m (row_fits (both (is_open m.word) (m.word.scheduled || m.word.running) now is)) refl (refl, refl)
+      closes : (b : Bool) → found 0 CancelIdle m.word ≡ b
+          → Steps m (At (Task n)) (if b then CancelIdle ∷ [] else CancelBusy ∷ []) (number_of (if b then written CancelIdle m.word else written CancelBusy m.word)) l
+      closes true fit = computed m (row_fits fit) refl refl
+      closes false unfit = let i = idle_cancel m.word.awaiter n in by_table m (row_fits (busy_fits (is_open m.word) m.word.scheduled m.word.running now unfit)) refl (refl, refl)
           (stays i.0 i.1 (inr (refl, refl)) (inr refl))
-      closes false is = computed m (row_fits (neither (is_open m.word) m.word.scheduled m.word.running now is)) refl refl
 
   -- the Task is given up, with references left
   shares : (m : Machine) → nat_lt 0 m.word.references ≡ true → (m.word.completed && not m.word.closed) ≡ false → (nat_lt 0 m.word.references && not (m.word.completed && not m.word.closed)) ≡ true

@@ -6,10 +6,11 @@ use Rattle.task_steps.proofs.Vocabulary.{State, state_of, number_of, is_open, Ev
 use Rattle.task_steps.proofs.Vocabulary.{At, OrphanHolder, GainReference, DropWaker, DropLastWaker, OrphanTask, WakeScheduled, WakeRunning, WakeIdle}
 use Rattle.task_steps.proofs.Vocabulary.{EndCall, written, row, Slots, is_held, may_ask, may_gain, may_wake, Machine, scene, Census, census, Holds, state_of_number_of, fetch_sub-reference, Slot}
 use Rattle.task_steps.proofs.Vocabulary.{Deed, Member}
+use Rattle.task_core.specs.Rows.{found}
 use Rattle.task_steps.specs.Beside.{may_call, may_change}
 use Rattle.task_steps.specs.WakerScripts.{at_limit, finding_limit, gaining, is_over, finding_over, waking_task, woken_word, dropping_waker, closing_orphan}
 use Rattle.task_steps.proofs.Bools.{never}
-use Rattle.task_steps.proofs.Acts.{row_found, both}
+use Rattle.task_steps.proofs.Acts.{row_found}
 use Rattle.task_steps.proofs.Seen.{true_right}
 use Rattle.task_steps.proofs.Facts.{counted}
 use Rattle.task_steps.proofs.Numbers.{same_word}
@@ -25,11 +26,12 @@ is_not : (b : Bool) → not b ≡ true → b ≡ false
 is_not true e = never e
 is_not false e = refl
 
-pub third : (o s r : Bool) → o ≡ true → s ≡ false → r ≡ true → (o && not s && r) ≡ true
-third o s r e f g = grind arith
-
-pub fourth : (o s r : Bool) → o ≡ true → s ≡ false → r ≡ false → (o && not s && not r) ≡ true
-fourth o s r e f g = grind arith
+-- an open task to which no other row of a wake fits is scheduled
+pub scheduled_fits : (w : State) → is_open w ≡ true → found 0 WakeIdle w ≡ false → found 0 WakeRunning w ≡ false → found 0 WakeScheduled w ≡ true
+scheduled_fits w e f g = by (is_open w) w.scheduled w.running e f g
+  where
+    by : (o s r : Bool) → o ≡ true → (o && not s && not r) ≡ false → (o && not s && r) ≡ false → (o && s) ≡ true
+    by o s r e f g = grind arith
 
 is_last : (n : ℕ) (t o : Bool) → 1 ≤ n → (nat_lt 1 n || t) ≡ false → o ≡ true → (nat_eq n 1 && not t && o) ≡ true
 is_last n t o h e f = grind (arith, nat_tests)
@@ -74,7 +76,7 @@ module _ (F T A : Type 0) (limit : ℕ) where
   -- a wake of an open task
   pub wakes : (r : Rest) (ds : List Deed) (us : List Member) (l : List (ℕ × Slot F T A)) (w : State) (old new : ℕ) → may_call r ≡ true → may_change r w ≡ true → is_open w ≡ true → old ≡ number_of w → new ≡ number_of (woken_word w)
       → (m : Machine) → Finds limit (At r) ds us m → old ≡ number_of m.word → Steps m (At r) (waking_task m.word) new l
-  wakes r ds us l w old new may held before is wrote m f here = subst (λ (k : ℕ). Steps m (At r) (waking_task m.word) k l) (ap (λ (v : State). number_of (woken_word v)) same ∙ sym wrote) (by m.word.scheduled m.word.running refl refl)
+  wakes r ds us l w old new may held before is wrote m f here = subst (λ (k : ℕ). Steps m (At r) (waking_task m.word) k l) (ap (λ (v : State). number_of (woken_word v)) same ∙ sym wrote) (by (found 0 WakeIdle m.word) (found 0 WakeRunning m.word) refl refl)
     where
       same : m.word ≡ w
       same = same_word m.word w old is here
@@ -85,11 +87,11 @@ module _ (F T A : Type 0) (limit : ℕ) where
       lets : may_wake (scene m) r ≡ true
       lets = wakes_it r m may (ap (may_change r) same ∙ held)
 
-      by : (s b : Bool) → m.word.scheduled ≡ s → m.word.running ≡ b → Steps m (At r) (if s then WakeScheduled ∷ EndCall ∷ [] else (if b then WakeRunning ∷ EndCall ∷ [] else WakeIdle ∷ EndCall ∷ []))
-          (number_of (if s then m.word else (if b then written WakeRunning m.word else written WakeIdle m.word))) l
-      by true b scheduled running = computed m (allows _ (may_wake (scene m) r) (both (is_open m.word) m.word.scheduled now scheduled) lets) refl refl
-      by false true scheduled running = computed m (allows _ (may_wake (scene m) r) (third (is_open m.word) m.word.scheduled m.word.running now scheduled running) lets) refl refl
-      by false false scheduled running = computed m (allows _ (may_wake (scene m) r) (fourth (is_open m.word) m.word.scheduled m.word.running now scheduled running) lets) refl refl
+      by : (a b : Bool) → found 0 WakeIdle m.word ≡ a → found 0 WakeRunning m.word ≡ b → Steps m (At r) (if a then WakeIdle ∷ EndCall ∷ [] else (if b then WakeRunning ∷ EndCall ∷ [] else WakeScheduled ∷ EndCall ∷ []))
+          (number_of (if a then written WakeIdle m.word else (if b then written WakeRunning m.word else m.word))) l
+      by true b fit too = computed m (allows _ (may_wake (scene m) r) fit lets) refl refl
+      by false true unfit fit = computed m (allows _ (may_wake (scene m) r) fit lets) refl refl
+      by false false unfit too = computed m (allows _ (may_wake (scene m) r) (scheduled_fits m.word now unfit too) lets) refl refl
 
   -- a waker is dropped
   pub drops_waker : (ds : List Deed) (us : List Member) (l : List (ℕ × Slot F T A)) → Owes F T A limit dropping_waker (λ n. (n + (2 ^ 64 - 256)) % 2 ^ 64) (At Waker) ds us l

@@ -1,8 +1,8 @@
 -- What a call has found, by the word that it wrote on.
-use Rattle.std.specs.Prelude.{◌||◌, nat_lt, if◌then◌else◌}
+use Rattle.std.specs.Prelude.{nat_lt, if◌then◌else◌}
 use Rattle.task_core.specs.Word.{State, is_open}
 use Rattle.task_core.specs.Rows.{found}
-use Rattle.task_core.specs.declared.acts.Act.TheVariants.{GiveUpOutput}
+use Rattle.task_core.specs.declared.acts.Act.TheVariants.{GiveUpOutput, CancelIdle}
 use Rattle.task_steps.specs.declared.words.Cancelled.{Cancelled}
 use Rattle.task_steps.specs.declared.words.Cancelled.TheVariants.{Busy, Idle}
 use Rattle.task_steps.specs.declared.words.Detached.{Detached}
@@ -15,7 +15,7 @@ use Rattle.task_steps.specs.WakerScripts.{others_left}
 
 -- what a cancel found that wrote on this word
 abbrev pub closed_by : State → Cancelled
-closed_by w = if w.scheduled || w.running then Busy w.awaiter else Idle w.awaiter
+closed_by w = if found 0 CancelIdle w then Idle w.awaiter else Busy w.awaiter
 
 -- .. and a detach
 abbrev pub given_up_by : State → Detached

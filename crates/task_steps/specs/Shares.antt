@@ -4,8 +4,9 @@ use prog.Atomic.{either}
 use Rattle.atomic_table.specs.Table.{Me, Step}
 use Rattle.counted_block.specs.Counts.{More, Less}
 use Rattle.task_core.specs.Word.{State, bit, state_of, number_of}
+use Rattle.task_core.specs.Rows.{found}
 use Rattle.task_core.specs.declared.acts.Act.{Act}
-use Rattle.task_core.specs.declared.acts.Act.TheVariants.{EmptySlots}
+use Rattle.task_core.specs.declared.acts.Act.TheVariants.{EmptySlots, WakeIdle}
 use Rattle.task_steps.specs.declared.table.Slot.{Slot}
 use Rattle.task_steps.specs.declared.table.Tries.{Tries}
 use Rattle.task_steps.specs.declared.table.View.{View}
@@ -37,7 +38,7 @@ has_emptied (d ∷ earlier) = is_emptying d.act || has_emptied earlier
 
 -- a change that makes a Runnable of an idle task brings a share
 abbrev pub brings_runnable : State → Bool
-brings_runnable w = not (w.scheduled || w.running)
+brings_runnable w = found 0 WakeIdle w
 
 -- a run that ends on an open task gives its share up where nobody woke the task and other handles are left
 abbrev pub ends_run : State → Bool

@@ -1,7 +1,7 @@
 -- The acts that the steps of a Task make beside its polls.
-use Rattle.std.specs.Prelude.{ℕ, Option, Some, None, ◌+◌, ◌||◌, nat_lt, true, false, if◌then◌else◌, List, [], ◌∷◌}
+use Rattle.std.specs.Prelude.{ℕ, Option, Some, None, ◌||◌, nat_lt, true, false, if◌then◌else◌, List, [], ◌∷◌}
 use Rattle.task_core.specs.Word.{State, is_open, orphan_word}
-use Rattle.task_core.specs.Rows.{found}
+use Rattle.task_core.specs.Rows.{found, written}
 use Rattle.task_core.specs.declared.acts.Act.{Act}
 use Rattle.task_core.specs.declared.acts.Act.TheVariants.{LookFinished, CancelOver, CancelBusy, CancelIdle, GiveUpOutput, DetachOrphan}
 use Rattle.task_core.specs.declared.acts.Act.TheVariants.{DetachLast, Detach, EndCall}
@@ -16,13 +16,11 @@ finding_cancelled w = CancelOver ∷ EndCall ∷ []
 
 -- a cancel closes an open task
 abbrev pub cancelling : State → List Act
-cancelling w = if w.scheduled || w.running then CancelBusy ∷ [] else CancelIdle ∷ []
+cancelling w = if found 0 CancelIdle w then CancelIdle ∷ [] else CancelBusy ∷ []
 
 -- .. and writes this word
 abbrev pub cancelled : State → State
-cancelled w =
-    if w.scheduled || w.running then record w { closed = true }
-    else record w { scheduled = true; closed = true; references = w.references + 1 }
+cancelled w = if found 0 CancelIdle w then written CancelIdle w else written CancelBusy w
 
 abbrev pub cancelled_word : ℕ → State → Option State
 cancelled_word limit w = if is_open w then Some (cancelled w) else None

@@ -32,11 +32,12 @@ finding_over w = WakeOver ∷ EndCall ∷ []
 -- a wake of an open task
 abbrev pub waking_task : State → List Act
 waking_task w =
-    if w.scheduled then WakeScheduled ∷ EndCall ∷ [] else (if w.running then WakeRunning ∷ EndCall ∷ [] else WakeIdle ∷ EndCall ∷ [])
+    if found 0 WakeIdle w then WakeIdle ∷ EndCall ∷ []
+    else (if found 0 WakeRunning w then WakeRunning ∷ EndCall ∷ [] else WakeScheduled ∷ EndCall ∷ [])
 
 -- .. and the word that it writes
 abbrev pub woken_word : State → State
-woken_word w = if w.scheduled then w else (if w.running then written WakeRunning w else written WakeIdle w)
+woken_word w = if found 0 WakeIdle w then written WakeIdle w else (if found 0 WakeRunning w then written WakeRunning w else w)
 
 -- .. which has a handle
 abbrev pub woken_if_held : ℕ → State → Option State

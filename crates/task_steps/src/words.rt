@@ -14,7 +14,7 @@ ghost use Rattle.task_steps.specs.Found.{closed_by, given_up_by, ending_of, drop
 use task_core::acts::Act::{
     CancelBusy, CancelIdle, ClaimOutput, Complete, CompleteDetached, Detach, DetachLast,
     DetachOrphan, DropWaker, EndIdle, EndOrphaned, GiveUpOutput, GiveUpReference, Reschedule,
-    WakeIdle, WakeRunning,
+    WakeIdle, WakeRunning, WakeScheduled,
 };
 use task_core::word::Word;
 
@@ -73,20 +73,13 @@ pub fn woken(word: Word) -> Option<Word>
     if word.is_over() {
         return None;
     }
-    if word.scheduled() {
+    if word.fits(0, WakeScheduled) {
         return Some(word);
     }
-    if word.running() {
-        return word.by_row(0, WakeRunning);
+    if let Some(next) = word.by_row(0, WakeRunning) {
+        return Some(next);
     }
     word.by_row(0, WakeIdle)
-}
-
-/// Whether the task of this word was idle, if it was open.
-pub fn was_idle(word: Word) -> bool
-    ensures { result ≡ (not word.scheduled && not word.running) }
-{
-    !word.scheduled() && !word.running()
 }
 
 /// The word that a cancel writes; `None` where the task is over.
@@ -94,21 +87,20 @@ pub fn closing(word: Word) -> Option<Word>
     requires room { word.references < 72057594037927935 }
     ensures { result ≡ (if is_open word then Some (cancelled word) else None) }
 {
-    if was_idle(word) {
-        word.by_row(0, CancelIdle)
-    } else {
-        word.by_row(0, CancelBusy)
+    if let Some(next) = word.by_row(0, CancelIdle) {
+        return Some(next);
     }
+    word.by_row(0, CancelBusy)
 }
 
 /// What the cancel found that wrote on this word.
 pub fn closed_as(word: Word) -> Cancelled
     ensures { result ≡ closed_by word }
 {
-    if word.scheduled() || word.running() {
-        Cancelled::Busy(word.awaiter())
-    } else {
+    if word.fits(0, CancelIdle) {
         Cancelled::Idle(word.awaiter())
+    } else {
+        Cancelled::Busy(word.awaiter())
     }
 }
 

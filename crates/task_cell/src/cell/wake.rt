@@ -12,11 +12,11 @@ use super::{MaybeShare, Party, Share};
 use std::alloc::Allocator;
 use std::sync::Wait;
 use task_core::Yields;
+use task_core::acts::Act::WakeIdle;
 use task_core::word::Word;
 use task_steps::attempt::TriedOnce;
 use task_steps::table::Kept;
 use task_steps::waker::{Parting, WakingTask};
-use task_steps::words::was_idle;
 
 impl<R: Drop, F: Yields, Q: Drop, M: Drop, A: Drop, B: Allocator + Copy> Share<R, F, Q, M, A, B> {
     // What a wake leaves to be done that was made on this word: where the task was idle, a share for a Runnable, and a deliverer, which is to hand it over.
@@ -33,7 +33,7 @@ impl<R: Drop, F: Yields, Q: Drop, M: Drop, A: Drop, B: Allocator + Copy> Share<R
         ensures path { (p : _) → Stands as_lent p → (party.old.seat.block ≡ p.seat.block) → HasChanged (limit_in self.now) woken_if_held waking_task found p.seat.me party.old.seat.me → WakesTask p party.new (second result) }
         ensures share { IfSome result (λ woken. cell_of woken.0 ≡ cell_of self.now) }
     {
-        if !was_idle(found) {
+        if !found.fits(0, WakeIdle) {
             maybe.none();
             return None;
         }
