@@ -2,7 +2,7 @@
 use Rattle.task_cell.proofs.Vocabulary.{◌≡◌, ℕ, Bool, true, false, not, ◌&&◌, ◌||◌, refl, arith, nat_lt, nat_eq, if◌then◌else◌, State, is_open, closed_by, dropped_by, ending_of, given_up_by, others_left, Busy, Unclaimed, Rescheduled, Idle, Orphaned}
 use Rattle.task_cell.proofs.Vocabulary.{◌∙◌}
 use Rattle.task_core.specs.Rows.{found}
-use Rattle.task_core.specs.declared.acts.Act.TheVariants.{CancelIdle}
+use Rattle.task_core.specs.declared.acts.Act.TheVariants.{CancelIdle, Detach, DetachLast, DetachOrphan}
 use Rattle.task_core.specs.declared.traits.Yields.{Ghosts}
 use Rattle.task_cell.specs.declared.cell.block.Share.{Share}
 use Rattle.task_cell.specs.declared.cell.block.MaybeShare.{MaybeShare}
@@ -32,9 +32,9 @@ left_by_run w = by w.scheduled (nat_lt 1 w.references || w.task)
     by false false = refl
 
 pub left_by_task : (w : State) → not (ends_task w) ≡ keeps_task (given_up_by w)
-left_by_task w = by (w.completed && not w.closed) (nat_lt 0 w.references) w.closed
+left_by_task w = by (found 0 Detach w) (found 0 DetachLast w) (found 0 DetachOrphan w)
   where
-    by : (a b c : Bool) → not (not a && b) ≡ keeps_task (if a then Unclaimed else (if b then detached.Shared else (if c then detached.Last else detached.Orphaned)))
+    by : (a b c : Bool) → not a ≡ keeps_task (if a then detached.Shared else (if b then detached.Last else (if c then detached.Orphaned else Unclaimed)))
     by true b c = refl
     by false true c = refl
     by false false true = refl

@@ -3,7 +3,7 @@ use Rattle.task_cell.proofs.Vocabulary.{◌≡◌, ℕ, Bool, true, false, not, 
 use Rattle.task_cell.proofs.Vocabulary.{number_of, Answer, Nothing, Position, At, Deliverer, Emptier, OutputCloser, Detacher, CallEnding, Rest, Task, Ended, ThenEnds, OfCancel, CancelOver, CancelBusy}
 use Rattle.task_cell.proofs.Vocabulary.{CancelIdle, GiveUpOutput, DropOutput, DetachOrphan, DetachLast, Detach, EndCall, notifies, after_cancelling, owns_awaiter, Slot, Deed, Party, Busy}
 use Rattle.task_cell.proofs.Vocabulary.{Unclaimed, has_work, output_first, Carries, Makes, position, Stands, Goes, deeds, row, act, rest_of, as_task, NotifyPath, none_there, taken, WakePath, nobody}
-use Rattle.task_cell.proofs.Vocabulary.{woken, TakesDue, Wakes, Notice, not_due, found_none, woke, Cancels, Detaches, GivesTaskUp, closed_by, given_up_by, both, over, busy_fits, none_left, last_orphan}
+use Rattle.task_cell.proofs.Vocabulary.{woken, TakesDue, Wakes, Notice, not_due, found_none, woke, Cancels, Detaches, GivesTaskUp, closed_by, given_up_by, both, over, busy_fits, none_left, output_left}
 use Rattle.task_cell.proofs.Vocabulary.{closed_claimed, idle_cancel, finds_over, cancels, detaches, is_over, MayTry, HasChanged, HasEnded, never_ends, is_some, after_taking}
 use Rattle.std.proofs.lemmas.Bool.Decides.{nat_tests}
 use Rattle.task_steps.specs.declared.words.Cancelled.TheVariants.{Idle}
@@ -54,19 +54,19 @@ module _ {F T A : Type 0} where
 
   -- the row of a detach
   pub gives_up : (limit : ℕ) (p q : Party F T A) (n : ℕ) (w : State) → Stands (as_task n) p → q.seat.block ≡ p.seat.block → HasChanged limit (λ _ w. Some (detached w)) detaching w p.seat.me q.seat.me → Detaches p q (given_up_by w)
-  gives_up limit p q n w s cell c = made (w.completed && not w.closed) (nat_lt 0 w.references) w.closed refl refl refl c.made
+  gives_up limit p q n w s cell c = made (found 0 Detach w) (found 0 DetachLast w) (found 0 DetachOrphan w) refl refl refl c.made
     where
-      made : (a b c : Bool) → (w.completed && not w.closed) ≡ a → nat_lt 0 w.references ≡ b → w.closed ≡ c
-          → Makes (if a then GiveUpOutput ∷ [] else (if b then Detach ∷ EndCall ∷ [] else (if c then DetachLast ∷ [] else DetachOrphan ∷ []))) w p.seat.me q.seat.me
-          → Detaches p q (if a then Unclaimed else (if b then Shared else (if c then Last else Orphaned)))
-      made true b c claimed counted closed m = let x = moved (GiveUpOutput ∷ []) w (At (Task n)) [] p q s m in let y = x.carried in
-          (w, y.0, claimed, y.1, goes p q (row GiveUpOutput w ∷ []) OutputCloser (output_first y.0 []) cell x.viewed y.2)
-      made false true c claimed counted closed m = let x = moved (Detach ∷ EndCall ∷ []) w (At (Task n)) [] p q s m in
-          (w, both (nat_lt 0 w.references) (not (w.completed && not w.closed)) counted (over (w.completed && not w.closed) claimed), goes p q (row Detach w ∷ act EndCall ∷ []) (At Ended) [] cell x.viewed x.carried)
-      made false false true claimed counted closed m = let x = moved (DetachLast ∷ []) w (At (Task n)) [] p q s m in let y = x.carried in
-          (w, y.0, both (nat_eq w.references 0) w.closed (none_left w.references counted) closed, goes p q (row DetachLast w ∷ []) (Emptier None Nothing) ((2, y.0) ∷ []) cell x.viewed y.2)
-      made false false false claimed counted closed m = let x = moved (DetachOrphan ∷ []) w (At (Task n)) [] p q s m in
-          (w, last_orphan w.references w.completed w.closed counted claimed closed, goes p q (row DetachOrphan w ∷ []) (Deliverer false (ThenEnds Nothing)) [] cell x.viewed x.carried)
+      made : (a b c : Bool) → found 0 Detach w ≡ a → found 0 DetachLast w ≡ b → found 0 DetachOrphan w ≡ c
+          → Makes (if a then Detach ∷ EndCall ∷ [] else (if b then DetachLast ∷ [] else (if c then DetachOrphan ∷ [] else GiveUpOutput ∷ []))) w p.seat.me q.seat.me
+          → Detaches p q (if a then Shared else (if b then Last else (if c then Orphaned else Unclaimed)))
+      made true b c fit y z m = let x = moved (Detach ∷ EndCall ∷ []) w (At (Task n)) [] p q s m in
+          (w, fit, goes p q (row Detach w ∷ act EndCall ∷ []) (At Ended) [] cell x.viewed x.carried)
+      made false true c k fit z m = let x = moved (DetachLast ∷ []) w (At (Task n)) [] p q s m in let y = x.carried in
+          (w, y.0, fit, goes p q (row DetachLast w ∷ []) (Emptier None Nothing) ((2, y.0) ∷ []) cell x.viewed y.2)
+      made false false true k l fit m = let x = moved (DetachOrphan ∷ []) w (At (Task n)) [] p q s m in
+          (w, fit, goes p q (row DetachOrphan w ∷ []) (Deliverer false (ThenEnds Nothing)) [] cell x.viewed x.carried)
+      made false false false k l z m = let x = moved (GiveUpOutput ∷ []) w (At (Task n)) [] p q s m in let y = x.carried in
+          (w, y.0, output_left w.references w.completed w.closed k l z, y.1, goes p q (row GiveUpOutput w ∷ []) OutputCloser (output_first y.0 []) cell x.viewed y.2)
 
   -- the Task is given up whose output was dropped
   pub gives_rest : (p q r : Party F T A) (w : State) → Goes (act DropOutput ∷ []) Detacher p q → r.seat.block ≡ q.seat.block → w.closed ≡ true → Makes (giving_task_up w) w q.seat.me r.seat.me → GivesTaskUp p r (nat_eq w.references 0)

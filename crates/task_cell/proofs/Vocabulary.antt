@@ -69,7 +69,7 @@ pub use Rattle.task_steps.proofs.RunOwed.{answers_pending, answers_ready, closed
 pub use Rattle.task_steps.proofs.RunOwed.{given_free, given_work, gives_up}
 pub use Rattle.task_steps.proofs.Seats.{first_more, leaves, retold, splits, staged_more}
 pub use Rattle.task_steps.proofs.Seen.{left_true, not_true, true_left, true_right}
-pub use Rattle.task_steps.proofs.TaskOwed.{cancels, closed_claimed, detaches, drops_output, finds_over, gives_task_up, idle_cancel, last_orphan, busy_fits}
+pub use Rattle.task_steps.proofs.TaskOwed.{cancels, closed_claimed, detaches, drops_output, finds_over, gives_task_up, idle_cancel, output_left, busy_fits}
 pub use Rattle.task_steps.proofs.TaskOwed.{none_left, over}
 pub use Rattle.task_steps.proofs.WakerOwed.{closes_orphan, drops_waker, gains}
 pub use Rattle.task_steps.proofs.WakerSeats.{parts_newest}

@@ -1,6 +1,6 @@
 //! The word that an act writes, by its row.
 ghost use Rattle.std.specs.Prelude.{◌≡◌, true, ◌<◌, ◌-◌, ◌^◌};
-ghost use Rattle.task_core.specs.Rows.{found, row, row_of, mask_of, is_set, meets, and_meets, meets_all, edited, edit_all, counted, gains, gains_by};
+ghost use Rattle.task_core.specs.Rows.{found, written, row, row_of, mask_of, is_set, meets, and_meets, meets_all, edited, edit_all, counted, gains, gains_by};
 
 use crate::acts::Act;
 use crate::table::Count::*;
@@ -144,18 +144,28 @@ impl Word {
         }
     }
 
-    /// The word that an act writes where it finds this one, and the word found where it writes nothing. `None` where the word found does not fit.
+    /// The word that an act writes, where its row fits the word found. A load and a private act write nothing.
+    #[inline(always)]
+    pub fn written(self, act: Act) -> Word
+        requires room { gains_by (row_of act) ≡ true → self.references < 2 ^ 56 - 1 }
+        ensures { result ≡ written act self }
+    {
+        match row_of(act) {
+            Some(Row(_, _, edits, count)) => self.edited_all(edits).counted(count),
+            None => self,
+        }
+    }
+
+    /// .. and `None` where the row does not fit.
     #[inline(always)]
     pub fn by_row(self, limit: u64, act: Act) -> Option<Word>
         requires room { gains_by (row_of act) ≡ true → self.references < 2 ^ 56 - 1 }
         ensures { result ≡ row limit act self }
     {
-        let Some(Row(_, finds, edits, count)) = row_of(act) else {
-            return Some(self);
-        };
-        if !self.meets_all(limit, finds) {
-            return None;
+        if self.fits(limit, act) {
+            Some(self.written(act))
+        } else {
+            None
         }
-        Some(self.edited_all(edits).counted(count))
     }
 }

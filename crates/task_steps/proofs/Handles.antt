@@ -1,6 +1,6 @@
 -- What the acts of each step do to the handles that the word counts.
 use Rattle.std.proofs.Common.{◌≡◌, ℕ, zero, suc, ◌+◌, ◌-◌, ◌≤◌, Bool, true, false, not, ◌&&◌, Option, Some, None, List, [], ◌∷◌, inl, inr, refl, sym, ap, ◌∙◌, subst, arith}
-use Rattle.std.specs.Prelude.{nat_lt, if◌then◌else◌}
+use Rattle.std.specs.Prelude.{nat_lt, nat_eq, if◌then◌else◌}
 use Rattle.std.proofs.lemmas.Bool.Decides.{nat_tests}
 use Rattle.task_core.specs.Rows.{found}
 use Rattle.task_steps.specs.WakerScripts.{woken_word}
@@ -60,6 +60,12 @@ some_references w e = grind (arith, nat_tests)
 
 no_references : (w : State) → nat_lt 0 w.references ≡ false → w.references ≡ 0
 no_references w e = grind (arith, nat_tests)
+
+zero_references : (w : State) → nat_eq w.references 0 ≡ true → w.references ≡ 0
+zero_references w e = grind (arith, nat_tests)
+
+both_left : (a b : Bool) → (a && b) ≡ true → a ≡ true
+both_left a b e = grind arith
 
 waker_held : (limit : ℕ) (w : State) (slots : Slots) (t : List Event) (c : Census) → Holds limit w slots t c → 1 ≤ c.wakers → 1 ≤ w.references
 waker_held limit w slots t c h e = grind arith
@@ -147,16 +153,17 @@ module _ (limit : ℕ) where
 
   -- a Task that is given up
   pub detaches_task : (n : ℕ) (writes : ℕ → State → Option State) (ds : List Deed) (us : List Member) (F T A : Type 0) → Moves F T A limit Gives writes detaching ends_task (At (Task n)) ds us
-  detaches_task n writes ds us F T A w v e m f is = by (m.word.completed && not m.word.closed) (nat_lt 0 m.word.references) m.word.closed refl
+  detaches_task n writes ds us F T A w v e m f is = by (found 0 Detach m.word) (found 0 DetachLast m.word) (found 0 DetachOrphan m.word) refl refl refl
     where
       task : bit m.word.task ≡ 1
       task = finds_task n ds us m f
 
-      by : (a b c : Bool) → nat_lt 0 m.word.references ≡ b → Gives (not a && b) (shares_of m.word) (shares_of (word_after m.word (if a then GiveUpOutput ∷ [] else (if b then Detach ∷ EndCall ∷ [] else (if c then DetachLast ∷ [] else DetachOrphan ∷ [])))))
-      by true b c h = inl (refl, refl)
-      by false true c h = inr (refl, (let t = task in let some = some_references m.word h in less_one (handles m.word) (m.word.references + 0) (omega arith) (omega arith)))
-      by false false true h = inl (refl, (let t = task in let none = no_references m.word h in last_one (handles m.word) (m.word.references + 0) (omega arith) (omega arith)))
-      by false false false h = inl (refl, (let t = task in let none = no_references m.word h in last_one (handles m.word) 1 (omega arith) (omega arith)))
+      by : (a b c : Bool) → found 0 Detach m.word ≡ a → found 0 DetachLast m.word ≡ b → found 0 DetachOrphan m.word ≡ c
+          → Gives a (shares_of m.word) (shares_of (word_after m.word (if a then Detach ∷ EndCall ∷ [] else (if b then DetachLast ∷ [] else (if c then DetachOrphan ∷ [] else GiveUpOutput ∷ [])))))
+      by true b c fit x y = inr (refl, (let t = task in let some = some_references m.word (both_left _ (not (m.word.completed && not m.word.closed)) fit) in less_one (handles m.word) (m.word.references + 0) (omega arith) (omega arith)))
+      by false true c x fit y = inl (refl, (let t = task in let none = zero_references m.word (both_left _ m.word.closed fit) in last_one (handles m.word) (m.word.references + 0) (omega arith) (omega arith)))
+      by false false true x y fit = inl (refl, (let t = task in let none = zero_references m.word (both_left _ (is_open m.word) fit) in last_one (handles m.word) 1 (omega arith) (omega arith)))
+      by false false false x y z = inl (refl, refl)
 
   -- a fetch that takes a reference off
   fewer_references : (w : State) → 1 ≤ w.references → Gives (others_left w) (shares_of w) (at_least_one (w.references - 1 + bit w.task))

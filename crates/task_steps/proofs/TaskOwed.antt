@@ -3,7 +3,7 @@ use Rattle.std.proofs.Common.{◌≡◌, ℕ, ◌+◌, ◌-◌, ◌%◌, ◌^◌
 use Rattle.std.specs.Prelude.{nat_lt, nat_eq, if◌then◌else◌}
 use Rattle.std.proofs.lemmas.Bool.Decides.{nat_tests}
 use Rattle.atomic_table.specs.Table.{rest}
-use Rattle.task_steps.proofs.Vocabulary.{State, bit, state_of, number_of, is_open, orphan_word, Event, At, OutputCloser, Detacher, Task, OfCancel}
+use Rattle.task_steps.proofs.Vocabulary.{State, bit, state_of, number_of, is_open, Event, At, OutputCloser, Detacher, Task, OfCancel}
 use Rattle.task_steps.proofs.Vocabulary.{CancelBusy, CancelIdle, GiveUpOutput, DetachOrphan, DetachLast, Detach, EndCall, Slots, notifies, Machine, owns_awaiter}
 use Rattle.task_steps.proofs.Vocabulary.{Census, census, Holds, state_of_number_of, Slot, Empty, Deed, Member}
 use Rattle.task_core.specs.Rows.{found, written}
@@ -28,8 +28,9 @@ busy_fits o s r e f = grind arith
 pub none_left : (n : ℕ) → nat_lt 0 n ≡ false → nat_eq n 0 ≡ true
 none_left n e = grind (arith, nat_tests)
 
-pub last_orphan : (n : ℕ) (completed closed : Bool) → nat_lt 0 n ≡ false → (completed && not closed) ≡ false → closed ≡ false → (nat_eq n 0 && (not completed && not closed)) ≡ true
-last_orphan n completed closed e f g = grind (arith, nat_tests)
+-- where a Task can be given up by no other row, its output is there
+pub output_left : (n : ℕ) (completed closed : Bool) → (nat_lt 0 n && not (completed && not closed)) ≡ false → (nat_eq n 0 && closed) ≡ false → (nat_eq n 0 && (not completed && not closed)) ≡ false → (completed && not closed) ≡ true
+output_left n completed closed e f g = grind (arith, nat_tests)
 
 pub closed_claimed : (completed closed : Bool) → closed ≡ true → (completed && not closed) ≡ false
 closed_claimed completed closed e = grind arith
@@ -77,20 +78,21 @@ module _ (F T A : Type 0) (limit : ℕ) where
 
   pub detaches : (n : ℕ) (ds : List Deed) (us : List Member) (l : List (ℕ × Slot F T A)) (w : State) (old new : ℕ) → old ≡ number_of w → new ≡ number_of (detached w)
       → (m : Machine) → Finds limit (At (Task n)) ds us m → old ≡ number_of m.word → Steps m (At (Task n)) (detaching m.word) new l
-  detaches n ds us l w old new is wrote m f e = subst (λ (k : ℕ). Steps m (At (Task n)) (detaching m.word) k l) (ap (λ (v : State). number_of (detached v)) same ∙ sym wrote) (gives (m.word.completed && not m.word.closed) (nat_lt 0 m.word.references) m.word.closed refl refl refl)
+  detaches n ds us l w old new is wrote m f e = subst (λ (k : ℕ). Steps m (At (Task n)) (detaching m.word) k l) (ap (λ (v : State). number_of (detached v)) same ∙ sym wrote)
+      (gives (found 0 Detach m.word) (found 0 DetachLast m.word) (found 0 DetachOrphan m.word) refl refl refl)
     where
       same : m.word ≡ w
       same = sym (state_of_number_of m.word) ∙ ap state_of (sym e ∙ is) ∙ state_of_number_of w
 
-      gives : (a b c : Bool) → (m.word.completed && not m.word.closed) ≡ a → nat_lt 0 m.word.references ≡ b → m.word.closed ≡ c
-          → Steps m (At (Task n)) (if a then GiveUpOutput ∷ [] else (if b then Detach ∷ EndCall ∷ [] else (if c then DetachLast ∷ [] else DetachOrphan ∷ [])))
-          (number_of (if a then record (m.word) { closed = true } else (if b || c then record (m.word) { task = false } else orphan_word))) l
-      gives true b c claimed counted closed = by_table m (row_fits claimed) refl (refl, refl)
-          (takes_output refl refl refl (inr refl) (output_lies m f.invariant claimed).0 (output_lies m f.invariant claimed).1 (λ _ h. h))
-      gives false true c claimed counted closed = computed m (row_fits (shares m counted claimed)) refl refl
-      gives false false true claimed counted closed = by_table m (row_fits (is_last m counted closed)) refl (refl, refl)
+      gives : (a b c : Bool) → found 0 Detach m.word ≡ a → found 0 DetachLast m.word ≡ b → found 0 DetachOrphan m.word ≡ c
+          → Steps m (At (Task n)) (if a then Detach ∷ EndCall ∷ [] else (if b then DetachLast ∷ [] else (if c then DetachOrphan ∷ [] else GiveUpOutput ∷ [])))
+          (number_of (if a then written Detach m.word else (if b then written DetachLast m.word else (if c then written DetachOrphan m.word else written GiveUpOutput m.word)))) l
+      gives true b c fit x y = computed m (row_fits fit) refl refl
+      gives false true c x fit y = by_table m (row_fits fit) refl (refl, refl)
           (takes_awaiter refl refl refl (inr (refl, refl)) (λ y h. (m.slots.awaiter, h)))
-      gives false false false claimed counted closed = computed m (row_fits (last_orphan m.word.references m.word.completed m.word.closed counted claimed closed)) refl refl
+      gives false false true x y fit = computed m (row_fits fit) refl refl
+      gives false false false x y z = let claimed = output_left m.word.references m.word.completed m.word.closed x y z in by_table m (row_fits claimed) refl (refl, refl)
+          (takes_output refl refl refl (inr refl) (output_lies m f.invariant claimed).0 (output_lies m f.invariant claimed).1 (λ _ h. h))
 
   pub drops_output : (ds : List Deed) (us : List Member) (l : List (ℕ × Slot F T A)) → l ≡ output_first Empty (rest (rest l)) → Owes F T A limit dropping_output (λ n. n) OutputCloser ds us l
   drops_output ds us l has m f x e lt = let none = future_gone m.limit m.word m.slots m.trace (census m.parties) f.invariant.holds (counted (λ c. c.claims) (λ a b. refl) m.parties f.number OutputCloser f.stands) in by_table m refl e (refl, refl)

@@ -1,8 +1,8 @@
 -- What a call has found, by the word that it wrote on.
-use Rattle.std.specs.Prelude.{nat_lt, if◌then◌else◌}
+use Rattle.std.specs.Prelude.{if◌then◌else◌}
 use Rattle.task_core.specs.Word.{State, is_open}
 use Rattle.task_core.specs.Rows.{found}
-use Rattle.task_core.specs.declared.acts.Act.TheVariants.{GiveUpOutput, CancelIdle}
+use Rattle.task_core.specs.declared.acts.Act.TheVariants.{CancelIdle, Detach, DetachLast, DetachOrphan}
 use Rattle.task_steps.specs.declared.words.Cancelled.{Cancelled}
 use Rattle.task_steps.specs.declared.words.Cancelled.TheVariants.{Busy, Idle}
 use Rattle.task_steps.specs.declared.words.Detached.{Detached}
@@ -20,7 +20,7 @@ closed_by w = if found 0 CancelIdle w then Idle w.awaiter else Busy w.awaiter
 -- .. and a detach
 abbrev pub given_up_by : State → Detached
 given_up_by w =
-    if found 0 GiveUpOutput w then Unclaimed else (if nat_lt 0 w.references then Shared else (if w.closed then Last else Orphaned))
+    if found 0 Detach w then Shared else (if found 0 DetachLast w then Last else (if found 0 DetachOrphan w then Orphaned else Unclaimed))
 
 -- what a drop found that took its reference off this word
 abbrev pub dropped_by : State → Dropped

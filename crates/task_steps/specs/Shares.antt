@@ -6,7 +6,7 @@ use Rattle.counted_block.specs.Counts.{More, Less}
 use Rattle.task_core.specs.Word.{State, bit, state_of, number_of}
 use Rattle.task_core.specs.Rows.{found}
 use Rattle.task_core.specs.declared.acts.Act.{Act}
-use Rattle.task_core.specs.declared.acts.Act.TheVariants.{EmptySlots, WakeIdle}
+use Rattle.task_core.specs.declared.acts.Act.TheVariants.{EmptySlots, WakeIdle, Detach}
 use Rattle.task_steps.specs.declared.table.Slot.{Slot}
 use Rattle.task_steps.specs.declared.table.Tries.{Tries}
 use Rattle.task_steps.specs.declared.table.View.{View}
@@ -46,7 +46,7 @@ ends_run w = not w.scheduled && others_left w
 
 -- a Task that is given up gives its share up where no output waits and a reference is left
 abbrev pub ends_task : State → Bool
-ends_task w = not (w.completed && not w.closed) && nat_lt 0 w.references
+ends_task w = found 0 Detach w
 
 abbrev pub has_references : State → Bool
 has_references w = nat_lt 0 w.references

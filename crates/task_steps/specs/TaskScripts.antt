@@ -1,6 +1,6 @@
 -- The acts that the steps of a Task make beside its polls.
-use Rattle.std.specs.Prelude.{ℕ, Option, Some, None, ◌||◌, nat_lt, true, false, if◌then◌else◌, List, [], ◌∷◌}
-use Rattle.task_core.specs.Word.{State, is_open, orphan_word}
+use Rattle.std.specs.Prelude.{ℕ, Option, Some, None, nat_lt, if◌then◌else◌, List, [], ◌∷◌}
+use Rattle.task_core.specs.Word.{State, is_open}
 use Rattle.task_core.specs.Rows.{found, written}
 use Rattle.task_core.specs.declared.acts.Act.{Act}
 use Rattle.task_core.specs.declared.acts.Act.TheVariants.{LookFinished, CancelOver, CancelBusy, CancelIdle, GiveUpOutput, DetachOrphan}
@@ -28,14 +28,14 @@ cancelled_word limit w = if is_open w then Some (cancelled w) else None
 -- the Task is given up
 abbrev pub detaching : State → List Act
 detaching w =
-    if found 0 GiveUpOutput w then GiveUpOutput ∷ []
-    else (if nat_lt 0 w.references then Detach ∷ EndCall ∷ [] else (if w.closed then DetachLast ∷ [] else DetachOrphan ∷ []))
+    if found 0 Detach w then Detach ∷ EndCall ∷ []
+    else (if found 0 DetachLast w then DetachLast ∷ [] else (if found 0 DetachOrphan w then DetachOrphan ∷ [] else GiveUpOutput ∷ []))
 
 -- .. and this word written
 abbrev pub detached : State → State
 detached w =
-    if found 0 GiveUpOutput w then record w { closed = true }
-    else (if nat_lt 0 w.references || w.closed then record w { task = false } else orphan_word)
+    if found 0 Detach w then written Detach w
+    else (if found 0 DetachLast w then written DetachLast w else (if found 0 DetachOrphan w then written DetachOrphan w else written GiveUpOutput w))
 
 -- the Task is given up whose output was dropped
 abbrev pub giving_task_up : State → List Act

@@ -76,10 +76,10 @@ pub fn woken(word: Word) -> Option<Word>
     if word.fits(0, WakeScheduled) {
         return Some(word);
     }
-    if let Some(next) = word.by_row(0, WakeRunning) {
-        return Some(next);
+    if word.fits(0, WakeRunning) {
+        return Some(word.written(WakeRunning));
     }
-    word.by_row(0, WakeIdle)
+    Some(word.written(WakeIdle))
 }
 
 /// The word that a cancel writes; `None` where the task is over.
@@ -87,10 +87,13 @@ pub fn closing(word: Word) -> Option<Word>
     requires room { word.references < 72057594037927935 }
     ensures { result ≡ (if is_open word then Some (cancelled word) else None) }
 {
-    if let Some(next) = word.by_row(0, CancelIdle) {
-        return Some(next);
+    if word.is_over() {
+        return None;
     }
-    word.by_row(0, CancelBusy)
+    if word.fits(0, CancelIdle) {
+        return Some(word.written(CancelIdle));
+    }
+    Some(word.written(CancelBusy))
 }
 
 /// What the cancel found that wrote on this word.
@@ -108,40 +111,31 @@ pub fn closed_as(word: Word) -> Cancelled
 pub fn giving_up(word: Word) -> Word
     ensures { result ≡ detached word }
 {
-    if let Some(next) = word.by_row(0, Detach) {
-        return next;
+    if word.fits(0, Detach) {
+        return word.written(Detach);
     }
-    if let Some(next) = word.by_row(0, DetachLast) {
-        return next;
+    if word.fits(0, DetachLast) {
+        return word.written(DetachLast);
     }
-    giving_up_unclosed(word)
-}
-
-// The rest of a detach, which is rare: the output is unclaimed, or no other handle of an open task is left.
-#[cold]
-#[inline(never)]
-fn giving_up_unclosed(word: Word) -> Word
-    ensures { result ≡ unwrap_or (option_or (row 0 GiveUpOutput word) (row 0 DetachOrphan word)) word }
-{
-    word.by_row(0, GiveUpOutput)
-        .or(word.by_row(0, DetachOrphan))
-        .unwrap_or(word)
+    if word.fits(0, DetachOrphan) {
+        word.written(DetachOrphan)
+    } else {
+        word.written(GiveUpOutput)
+    }
 }
 
 /// What the detach found that wrote on this word.
 pub fn given_up_as(word: Word) -> Detached
     ensures { result ≡ given_up_by word }
 {
-    if word.fits(0, GiveUpOutput) {
-        return Detached::Unclaimed;
-    }
-    if word.references() > 0 {
-        return Detached::Shared;
-    }
-    if word.closed() {
+    if word.fits(0, Detach) {
+        Detached::Shared
+    } else if word.fits(0, DetachLast) {
         Detached::Last
-    } else {
+    } else if word.fits(0, DetachOrphan) {
         Detached::Orphaned
+    } else {
+        Detached::Unclaimed
     }
 }
 
@@ -149,9 +143,10 @@ pub fn given_up_as(word: Word) -> Detached
 pub fn completed(word: Word) -> Word
     ensures { result ≡ completed_word word }
 {
-    match word.by_row(0, Complete) {
-        Some(next) => next,
-        None => word.by_row(0, CompleteDetached).unwrap_or(word),
+    if word.fits(0, Complete) {
+        word.written(Complete)
+    } else {
+        word.written(CompleteDetached)
     }
 }
 
