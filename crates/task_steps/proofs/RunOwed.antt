@@ -1,7 +1,6 @@
 -- What the steps of a run and of a Runnable's drop owe.
 use Rattle.std.proofs.Common.{◌≡◌, ℕ, ◌+◌, ◌-◌, ◌%◌, ◌^◌, ◌≤◌, Bool, true, false, not, ◌&&◌, ◌||◌, Option, Some, None, List, [], ◌∷◌, refl, sym, ap, ◌∙◌, subst, inl, inr, arith}
-use Rattle.std.specs.Prelude.{bit_and, bit_or, unwrap_or, nat_eq, nat_lt, if◌then◌else◌}
-use Rattle.std.specs.Option.{option_or}
+use Rattle.std.specs.Prelude.{bit_and, bit_or, nat_eq, nat_lt, if◌then◌else◌}
 use Rattle.std.proofs.lemmas.Bool.Decides.{nat_tests}
 use Rattle.atomic_table.specs.Table.{rest}
 use Rattle.task_steps.proofs.Vocabulary.{State, state_of, number_of, Event, FutureDropped, Completes, RunEnded, Answer, Runnable, OfRun}
@@ -12,7 +11,6 @@ use Rattle.task_steps.specs.Rule.{has_work, IsFuture, IsOutput}
 use Rattle.task_steps.specs.Steps.{future_first, output_first}
 use Rattle.task_steps.specs.Scripts.{dropping_output}
 use Rattle.task_steps.specs.RunScripts.{giving_up, emptying, discarding, answering_ready, completing, answering_pending, ending_pending, finding_closed, ending_closed, completed_word, after_pending}
-use Rattle.task_steps.proofs.Bools.{never}
 use Rattle.task_steps.proofs.Numbers.{same_word}
 use Rattle.task_steps.proofs.Facts.{Queued, queued, counted}
 use Rattle.task_steps.proofs.Advance.{Finds, Placing, stays, takes_future, gives_work, lies_nowhere, lies_there, takes_awaiter, gives_awaiter, Steps}
@@ -65,16 +63,6 @@ three c s d e f g = grind arith
 
 four : (c s r t : Bool) → c ≡ false → s ≡ false → (r && not t) ≡ true → (not c && not s && (r && not t)) ≡ true
 four c s r t e f g = grind arith
-
--- the row that fits a word that is not closed
-picked : (c s d r t : Bool) (x y z w : State) → c ≡ false → (d ≡ false → (r && not t) ≡ true)
-    → unwrap_or (option_or (option_or (if not c && s then Some x else None) (if not c && not s && d then Some y else None)) (if not c && not s && (r && not t) then Some z else None)) w ≡ (if s then x else (if d then y else z))
-picked true s d r t x y z w e f = never (sym e)
-picked false true d r t x y z w e f = refl
-picked false false true r t x y z w e f = refl
-picked false false false true true x y z w e f = never (f refl)
-picked false false false true false x y z w e f = refl
-picked false false false false t x y z w e f = never (f refl)
 
 module _ (F T A : Type 0) (limit : ℕ) where
   pub gives_up : (hand : Option ℕ) (answer : Answer) (ds : List Deed) (us : List Member) (l : List (ℕ × Slot F T A)) → Owes F T A limit giving_up (λ n. (n + (2 ^ 64 - 256)) % 2 ^ 64) (GivingUp hand answer) ds us l
@@ -182,7 +170,7 @@ module _ (F T A : Type 0) (limit : ℕ) where
       shared = nat_lt 1 m.word.references || m.word.task
 
       wrote : after_pending w ≡ (if m.word.scheduled then written Reschedule m.word else (if shared then written EndIdle m.word else written EndOrphaned m.word))
-      wrote = ap after_pending same ∙ picked m.word.closed m.word.scheduled shared (nat_eq m.word.references 1) m.word.task (written Reschedule m.word) (written EndIdle m.word) (written EndOrphaned m.word) m.word not_closed (λ h. is_last m.word.references m.word.task facts.0 h)
+      wrote = ap after_pending same
 
       by : (b d : Bool) → m.word.scheduled ≡ b → shared ≡ d → Steps m Pending (if b then Reschedule ∷ [] else (if d then EndIdle ∷ EndCall ∷ [] else EndOrphaned ∷ [])) (number_of (after_pending w)) l
       by true d h k = by_table m (row_fits (both (ap not not_closed) h)) (ap number_of (wrote ∙ ap (λ b. if b then written Reschedule m.word else (if shared then written EndIdle m.word else written EndOrphaned m.word)) h)) (refl, refl)

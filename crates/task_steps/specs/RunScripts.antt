@@ -1,8 +1,7 @@
 -- The acts that the steps of a run and of a Runnable's drop make.
-use Rattle.std.specs.Prelude.{if◌then◌else◌, List, [], ◌∷◌, unwrap_or}
-use Rattle.std.specs.Option.{option_or}
+use Rattle.std.specs.Prelude.{if◌then◌else◌, List, [], ◌∷◌}
 use Rattle.task_core.specs.Word.{State}
-use Rattle.task_core.specs.Rows.{found, written, row}
+use Rattle.task_core.specs.Rows.{found, written}
 use Rattle.task_core.specs.declared.acts.Act.{Act}
 use Rattle.task_core.specs.declared.acts.Act.TheVariants.{Unschedule, DropFuture, GiveUpReference, GiveUpLastReference, EmptySlots}
 use Rattle.task_core.specs.declared.acts.Act.TheVariants.{DiscardOpen, DiscardClosed, AnswerReady, StoreOutput, Complete, CompleteDetached}
@@ -53,6 +52,7 @@ ending_closed w = EndClosed ∷ []
 abbrev pub completed_word : State → State
 completed_word w = if found 0 Complete w then written Complete w else written CompleteDetached w
 
--- .. and one that ends without an output on an open task: each of the three rows where it fits
+-- .. and one that ends without an output on an open task
 abbrev pub after_pending : State → State
-after_pending w = unwrap_or (option_or (option_or (row 0 Reschedule w) (row 0 EndIdle w)) (row 0 EndOrphaned w)) w
+after_pending w =
+    if w.scheduled then written Reschedule w else (if found 0 GiveUpReference w then written EndIdle w else written EndOrphaned w)

@@ -1,9 +1,6 @@
 //! The words that calls write, and what a call has found, by the word that it wrote on.
-ghost use Rattle.std.specs.Prelude.{◌≡◌, ◌<◌, not, ◌&&◌, Some, None, if◌then◌else◌, unwrap_or};
-ghost use Rattle.std.specs.Option.{option_or};
+ghost use Rattle.std.specs.Prelude.{◌≡◌, ◌<◌, not, ◌&&◌, Some, None, if◌then◌else◌};
 ghost use Rattle.task_core.specs.Word.{is_open};
-ghost use Rattle.task_core.specs.Rows.{row};
-ghost use Rattle.task_core.specs.declared.acts.Act.TheVariants.{GiveUpOutput, DetachOrphan, EndOrphaned};
 ghost use Rattle.task_laws.specs.Table.{is_held as has_handle};
 ghost use Rattle.task_steps.specs.WakerScripts.{others_left, woken_word};
 ghost use Rattle.task_steps.specs.TaskScripts.{cancelled, detached};
@@ -155,21 +152,13 @@ pub fn ended(word: Word) -> Word
     ensures { result ≡ after_pending word }
 {
     if word.scheduled() {
-        return word.by_row(0, Reschedule).unwrap_or(word);
+        return word.written(Reschedule);
     }
-    if let Some(next) = word.by_row(0, EndIdle) {
-        return next;
+    if word.fits(0, GiveUpReference) {
+        word.written(EndIdle)
+    } else {
+        word.written(EndOrphaned)
     }
-    ended_last(word)
-}
-
-// The end of a run whose reference is the last, which is rare.
-#[cold]
-#[inline(never)]
-fn ended_last(word: Word) -> Word
-    ensures { result ≡ unwrap_or (row 0 EndOrphaned word) word }
-{
-    word.by_row(0, EndOrphaned).unwrap_or(word)
 }
 
 /// How a run ends that finds this word, of an open task.
