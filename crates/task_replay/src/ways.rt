@@ -1,9 +1,7 @@
 //! How a party goes on, where that depends on more than its position: the small definitions of the table of moves.
 ghost use Rattle.std.specs.Prelude.{◌≡◌};
 ghost use Rattle.task_laws.specs.Table as table;
-ghost use Rattle.task_replay.specs.Replay.{scene_of};
 
-use crate::table::Scene;
 use task_core::word::Word;
 use task_laws::positions::{Answer, NotifyingCall, OnceDelivered, PollAnswer, Position, Rest};
 
@@ -21,27 +19,6 @@ pub(crate) fn may_ask(rest: Rest) -> bool
     match rest {
         Rest::Runnable | Rest::Waker | Rest::Lent => true,
         Rest::Ended | Rest::Task(_) => false,
-    }
-}
-
-/// .. and gain it.
-pub(crate) fn may_gain(scene: &Scene, rest: Rest) -> bool
-    ensures { result ≡ table.may_gain (scene_of scene.now) rest }
-{
-    match rest {
-        Rest::Lent => is_held(scene.word),
-        _ => may_ask(rest),
-    }
-}
-
-/// Whether a party that rests there may wake the task.
-pub(crate) fn may_wake(scene: &Scene, rest: Rest) -> bool
-    ensures { result ≡ table.may_wake (scene_of scene.now) rest }
-{
-    match rest {
-        Rest::Waker => true,
-        Rest::Lent => is_held(scene.word) || scene.word.is_over(),
-        Rest::Runnable | Rest::Ended | Rest::Task(_) => false,
     }
 }
 
@@ -69,17 +46,6 @@ pub(crate) fn notifies(awaiter: bool, way: NotifyingCall) -> Position
     }
 }
 
-/// What follows the handing over of a cancel by a Task that has begun so many polls.
-pub(crate) fn after_cancelling(awaiter: bool, polls: u64) -> OnceDelivered
-    ensures { result ≡ table.after_cancelling awaiter polls }
-{
-    if awaiter {
-        OnceDelivered::ThenNotifies(polls)
-    } else {
-        OnceDelivered::ThenTask(polls)
-    }
-}
-
 /// The way on once the Runnable was handed over.
 pub(crate) fn after_handing_over(after: OnceDelivered) -> Position
     ensures { result ≡ table.after_handing_over after }
@@ -102,13 +68,6 @@ pub(crate) fn after_waking(way: NotifyingCall) -> Position
         NotifyingCall::OfPoll(n) => Position::Answering(n, PollAnswer::IsClosed),
         NotifyingCall::OfClaim(n) => Position::TookOutput(n),
     }
-}
-
-/// Whether the awaiter in hand may be dropped in place of being woken.
-pub(crate) fn may_drop(way: NotifyingCall) -> bool
-    ensures { result ≡ table.may_drop way }
-{
-    matches!(way, NotifyingCall::OfPoll(_) | NotifyingCall::OfClaim(_))
 }
 
 /// The way on once the reference was given up, with that awaiter in hand.
