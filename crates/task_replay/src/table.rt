@@ -2,6 +2,7 @@
 ghost use Rattle.std.specs.Prelude.{◌≡◌, ◌<◌, ◌-◌, ◌^◌, Some};
 ghost use Rattle.std.specs.Option.{option_map};
 ghost use Rattle.task_laws.specs.Line as table;
+ghost use Rattle.task_laws.specs.Asks as asks;
 ghost use Rattle.task_laws.specs.Table.{rule};
 ghost use Rattle.task_replay.specs.Line.{HoldsAt, edit_of, next_of, line_of};
 ghost use Rattle.task_replay.specs.Replay.{begun, slots_of, scene_of, untold, outcome_of};
@@ -11,12 +12,13 @@ use crate::line::Next::*;
 use crate::line::SlotEdit::*;
 use crate::line::{Guard, Line, Next, SlotEdit, line_of};
 use crate::machine::Slots;
-use crate::ways::{after_storing, first_look, is_held, may_ask, notifies, second_look};
+use crate::ways::notifies;
 use task_core::acts::Act;
 use task_core::word::Word;
 use task_laws::positions::Answer::*;
 use task_laws::positions::NotifyingCall::*;
 use task_laws::positions::OnceDelivered::*;
+use task_laws::positions::PollAnswer::IsPending;
 use task_laws::positions::Position;
 use task_laws::positions::Position::*;
 use task_laws::positions::Rest::*;
@@ -82,12 +84,19 @@ pub(crate) fn holds(word: Word, guard: Guard) -> bool
         IsClosed => word.closed(),
         IsNotified => word.notifying(),
         MayGain(Lent) => is_held(word),
-        MayAsk(rest) | MayGain(rest) => may_ask(rest),
+        MayAsk(rest) | MayGain(rest) => matches!(rest, Runnable | Waker | Lent),
         MayWake(Waker) => true,
         MayWake(Lent) => is_held(word) || word.is_over(),
         MayWake(_) => false,
         MayDrop(way) => matches!(way, OfPoll(_) | OfClaim(_)),
     }
+}
+
+// Whether the task has a handle: the Task, or one that holds a reference.
+fn is_held(word: Word) -> bool
+    ensures { result ≡ asks.is_held word }
+{
+    word.task() || word.references() > 0
 }
 
 // The slots, edited.
@@ -120,9 +129,16 @@ fn next_of(scene: &Scene, next: Next) -> Position
         Delivers(n) if word.awaiter() => Deliverer(false, ThenNotifies(n)),
         Delivers(n) => Deliverer(false, ThenTask(n)),
         Answers(n) => CallEnding(Finished(word.is_over()), Task(n)),
-        LooksFirst(i) => first_look(word, i),
-        LooksAgain(i) => second_look(word, i),
-        StoresOver(i) => after_storing(i, scene.slots.awaiter),
+        LooksFirst(i) | LooksAgain(i) if word.closed() && !(word.scheduled() || word.running()) => {
+            Notifier(OfPoll(i))
+        }
+        LooksFirst(i) => Registrar(i),
+        LooksAgain(i) if word.completed() && !word.closed() => SawOutput(i),
+        LooksAgain(i) => Answering(i, IsPending),
+        StoresOver(i) => match scene.slots.awaiter {
+            Some(old) => OldAwaiterInHand(i, old),
+            None => Registered(i),
+        },
         Releases(way) => Releaser(scene.slots.awaiter, way),
     }
 }

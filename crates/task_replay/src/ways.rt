@@ -2,25 +2,7 @@
 ghost use Rattle.std.specs.Prelude.{◌≡◌};
 ghost use Rattle.task_laws.specs.Table as table;
 
-use task_core::word::Word;
 use task_laws::positions::{Answer, NotifyingCall, OnceDelivered, PollAnswer, Position, Rest};
-
-/// Whether the task has a handle: the Task, or one that holds a reference.
-pub(crate) fn is_held(word: Word) -> bool
-    ensures { result ≡ table.is_held word }
-{
-    word.task() || word.references() > 0
-}
-
-/// Whether a party that rests there may ask for a reference.
-pub(crate) fn may_ask(rest: Rest) -> bool
-    ensures { result ≡ table.may_ask rest }
-{
-    match rest {
-        Rest::Runnable | Rest::Waker | Rest::Lent => true,
-        Rest::Ended | Rest::Task(_) => false,
-    }
-}
 
 /// The way on once an awaiter was taken, or was not.
 pub(crate) fn after_taking(hand: Option<u64>, way: NotifyingCall) -> Position
@@ -77,41 +59,5 @@ pub(crate) fn after_giving_up(hand: Option<u64>, answer: Answer) -> Position
     match hand {
         Some(i) => Position::AwaiterInHand(i, NotifyingCall::OfRun),
         None => Position::CallEnding(answer, Rest::Ended),
-    }
-}
-
-/// The way on of this poll by the word that its first load found.
-pub(crate) fn first_look(word: Word, poll: u64) -> Position
-    ensures { result ≡ table.first_look word poll }
-{
-    let is_held = word.scheduled() || word.running();
-    if word.closed() && !is_held {
-        Position::Notifier(NotifyingCall::OfPoll(poll))
-    } else {
-        Position::Registrar(poll)
-    }
-}
-
-/// The way on of this poll by the word that it found after it registered.
-pub(crate) fn second_look(word: Word, poll: u64) -> Position
-    ensures { result ≡ table.second_look word poll }
-{
-    let is_held = word.scheduled() || word.running();
-    if word.closed() && !is_held {
-        Position::Notifier(NotifyingCall::OfPoll(poll))
-    } else if word.completed() && !word.closed() {
-        Position::SawOutput(poll)
-    } else {
-        Position::Answering(poll, PollAnswer::IsPending)
-    }
-}
-
-/// The way on of a poll that has stored its clone where that of an older poll stood, or none.
-pub(crate) fn after_storing(poll: u64, old: Option<u64>) -> Position
-    ensures { result ≡ table.after_storing poll old }
-{
-    match old {
-        Some(old) => Position::OldAwaiterInHand(poll, old),
-        None => Position::Registered(poll),
     }
 }

@@ -1,4 +1,4 @@
-use Rattle.std.proofs.Common.{◌∙◌, ap, sym, Some}
+use Rattle.std.proofs.Common.{◌∙◌, ap, sym}
 use Rattle.std.specs.Option.{option_map}
 use Rattle.task_replay.specs.Line.{line_of}
 use Rattle.task_replay.specs.Replay.{scene_of, untold, outcome_of}
@@ -14,5 +14,5 @@ returns-in_err-written c = no_row (scene_of c.args.scene) c.args.act c.args.posi
     ∙ sym (ap (option_map outcome_of) c.from_residual-in_err-written.ensures)
 
 pub returns : goal.returns
-returns c = ruled (scene_of c.args.scene) c.args.act c.args.position (Some (line_of c.in_ok-line.line)) c.in_ok-written.written (c.line_of.ensures ∙ ap (option_map line_of) c.in_ok-line.was)
+returns c = ruled (scene_of c.args.scene) c.args.act c.args.position (line_of c.in_ok-line.line) c.in_ok-written.written (c.line_of.ensures ∙ ap (option_map line_of) c.in_ok-line.was)
     (sym c.by_row.ensures ∙ c.in_ok-written.was) ∙ c.leaves.ensures
