@@ -19,7 +19,8 @@ use Rattle.task_laws.proofs.Awaiting.{Awaiting, await, awaiting, join}
 use Rattle.task_laws.proofs.Runs.{Invariant, Stays, always, others, split_awaiting}
 use Rattle.task_laws.proofs.Theorem.{laws_hold}
 use Rattle.task_laws.proofs.WholeRuns.{count-append}
-use Rattle.task_replay.proofs.Modest.{polls_told, modest}
+use Rattle.task_laws.proofs.Scenes.{rules, InEach}
+use Rattle.task_laws.proofs.Rows.{Row, starts_run, Shows, by_rows}
 
 -- what is told of a step is no part of how the machine stands
 abbrev pub left_at : Standing → ℕ → Option Outcome → Option Standing
@@ -81,7 +82,22 @@ plays limit i steps s now next h e e' does =
     let known = shown (run limit (take i steps)) now e' in
     rw add-one (ap stands (run_more (Some (opening limit)) steps i s h e ∙ ap (λ m. then_step m s) known.is) ∙ does known.machine known.stands_so)
 
--- the limit stays, and a step tells of one poll at most
+-- a step tells of one poll at most
+abbrev polls_told : Option Outcome → ℕ
+polls_told None = 0
+polls_told (Some o) = count is_task_poll o.told
+
+abbrev IsModest : Act → Position → Scene → Option Outcome → Type 0
+IsModest act p s left = polls_told left ≤ 1
+
+modest_row : (act : Act) (p : Position) (put : Scene → Scene) → Row act p put → InEach (λ scene. Shows IsModest act p (put scene))
+modest_row _ _ _ starts_run = grind rules
+modest_row act p put row = grind rules
+
+modest : (act : Act) (p : Position) (s : Scene) → polls_told (rule s act p) ≤ 1
+modest = by_rows IsModest (λ act p s. grind rules) modest_row
+
+-- .. and the limit stays
 abbrev pub Bounded : ℕ → Option Machine → ℕ → Type 0
 Bounded limit None n = Unit {0}
 Bounded limit (Some m) n = (m.limit ≡ limit) × (count is_task_poll m.trace ≤ n)
