@@ -12,6 +12,7 @@ use Rattle.task_replay.specs.declared.line.Next.{Next}
 use Rattle.task_replay.specs.declared.line.Next.TheVariants as next
 use Rattle.task_replay.specs.declared.line.Line.{Line}
 
+-- what a line asks
 abbrev pub guard_of : Guard → table.Guard
 guard_of guard.Always = table.Always
 guard_of guard.IsClaimed = table.IsClaimed
@@ -26,6 +27,7 @@ guard_of (guard.MayDrop way) = table.MayDrop way
 abbrev pub HoldsAt : State → Guard → Bool → Type 0
 HoldsAt w g b = (limit : ℕ) (slots : Slots) → table.holds (record { limit = limit; word = w; slots = slots }) (guard_of g) ≡ b
 
+-- what it does to the slots
 abbrev pub edit_of : SlotEdit → table.SlotEdit
 edit_of edit.KeepsSlots = table.KeepsSlots
 edit_of edit.DropsFuture = table.DropsFuture
@@ -34,6 +36,7 @@ edit_of edit.EndsOutput = table.EndsOutput
 edit_of edit.EmptiesAwaiter = table.EmptiesAwaiter
 edit_of (edit.StoresAwaiter i) = table.StoresAwaiter i
 
+-- where the party goes
 abbrev pub next_of : Next → table.Next
 next_of (next.GoesTo p) = table.GoesTo p
 next_of (next.Notifies way) = table.Notifies way
