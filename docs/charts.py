@@ -1,8 +1,9 @@
 #!/usr/bin/env python3
-"""Draws word.svg, handshake.svg and life.svg from the table of moves. With --check it only compares them with the table.
+"""Draws word.svg, handshake.svg and life.svg from the table of moves, and prints the rows of MACHINE.md. With --check it only compares them with the table.
 
-The definitions are read from the specs/ of crates/task_core, crates/task_laws and crates/task_progress and evaluated as they stand there. All that is
-stated here is where each state of the word stands in a picture, and who steps in a life of a task, and how.
+The definitions are read from the specs/ of crates/task_core, crates/task_laws and crates/task_progress and evaluated as they stand there, over the
+constants ROWS and NAMES of crates/task_core. All that is stated here is where each state of the word stands in a picture, who steps in a life of a task,
+and how, and how tests and edits of a row are written.
 """
 
 import argparse
@@ -17,8 +18,8 @@ DOCUMENTS = pathlib.Path(__file__).resolve().parent
 CRATES = DOCUMENTS.parent / "crates"
 FILES = (
     "task_core/specs/Word", "task_core/specs/Rows", "task_laws/specs/Position", "task_laws/specs/Scene", "task_laws/specs/Onward",
-    "task_laws/specs/HandleMoves", "task_laws/specs/ClosingMoves", "task_laws/specs/RunMoves", "task_laws/specs/AwaiterMoves",
-    "task_laws/specs/CallMoves", "task_laws/specs/Table", "task_laws/specs/Machine", "task_laws/specs/Holders",
+    "task_laws/specs/Asks", "task_laws/specs/Line", "task_laws/specs/Lines", "task_laws/specs/Table", "task_laws/specs/Machine",
+    "task_laws/specs/Holders",
     "task_progress/specs/Waiting",
 )
 TOKEN = re.compile(r"0x[0-9a-fA-F_]+|\d+|\w+|\[\]|&&|\|\||\+\+|\S")
@@ -43,6 +44,25 @@ LIFE = (
 WIDTH, COLUMNS, ROW, HEAD = 1450, {0: 340, 2: 525, 3: 710, 4: 895, 5: 1080, 1: 1275}, 24, (56, 17)
 
 
+# how a test and an edit of a row are written, where they are not of one flag; a test that asks nothing and an edit that keeps all are not
+TESTS = {
+    "Open": "open",
+    "Over": "over",
+    "Busy": "SCHEDULED or RUNNING",
+    "SlotBusy": "NOTIFYING or REGISTERING",
+    "NoOutput": "no output left for the Task",
+    "BelowLimit": "count below the limit",
+    "AtLimit": "count at the limit",
+    "OthersLeft": "another handle",
+    "LastHandle": "no other handle",
+    "NoReference": "count 0",
+    "SomeReference": "count of at least 1",
+}
+COUNTS = {"Adds": "count + 1", "Takes": "count − 1", "Orphans": "0x109"}
+# the lines between which the rows stand in MACHINE.md
+TABLE_HEAD, TABLE_END = "| Row | Finds | Writes |\n|---|---|---|\n", "\n\n"
+
+
 def chain_of(items, end=("[]",)):
     """The list of these elements, which goes on with the end."""
     return ("∷", items[0], chain_of(items[1:], end)) if items else end
@@ -65,7 +85,60 @@ def replaced(chain, place, item):
     return chain_of(items[:place] + [item] + items[place + 1:])
 
 
+def source(name):
+    """The text of a file of the crates."""
+    return (CRATES / name).read_text(encoding="utf-8")
+
+
+def terms(text):
+    """Constructors of at most one argument, parted by commas."""
+    return [(name, (argument,)) if argument else (name,) for name, argument in re.findall(r"(\w+)(?:\((\w+)\))?", text)]
+
+
+def fields_of(values):
+    """A tuple as a record: its fields go by their places."""
+    return tuple((str(place), value) for place, value in enumerate(values))
+
+
+# the acts, and of each that is a row what it finds, how it edits the flags, and what it does to the count
+ACTS = re.findall(r"\(Act::(\w+), ", source("task_core/src/acts.rt"))
+ROWS = {
+    act: (terms(tests), terms(edits), (count,))
+    for act, tests, edits, count in re.findall(r"Row\((\w+), +\((.*)\), +\((.*)\), +(\w+)\),", source("task_core/src/table.rt"))
+}
+
+
+def row_of(act):
+    """The row of an act, if it has one."""
+    if act[0] not in ROWS:
+        return ("None",)
+    tests, edits, count = ROWS[act[0]]
+    return ("Some", fields_of([act, fields_of(tests), fields_of(edits), count]))
+
+
+def flag_of(term):
+    """The name of the flag of a test or an edit."""
+    return {"TaskExists": "TASK"}.get(term[1][0], term[1][0].upper())
+
+
+def row_lines():
+    """A line for each row: what it finds, and what it writes."""
+    for act, (tests, edits, count) in ROWS.items():
+        finds = [{"Is": "", "Not": "no "}[test[0]] + flag_of(test) if len(test) > 1 else TESTS[test[0]] for test in tests if test != ("Always",)]
+        writes = [{"Sets": "+ ", "Clears": "− "}[edit[0]] + flag_of(edit) for edit in edits if edit != ("Keeps",)]
+        writes += [COUNTS[count[0]]] if count != ("Stays",) else []
+        yield f"| {act} | {', '.join(finds) or 'any word'} | {', '.join(writes) or 'nothing'} |"
+
+
+def machine_page():
+    """MACHINE.md with these lines in its table of rows."""
+    text = (DOCUMENTS / "MACHINE.md").read_text(encoding="utf-8")
+    before, rest = text.split(TABLE_HEAD)
+    return before + TABLE_HEAD + "\n".join(row_lines()) + TABLE_END + rest.split(TABLE_END, 1)[1]
+
+
 PRIMITIVES = {
+    "row_of": row_of,
     "||": operator.or_,
     "&&": operator.and_,
     "not": operator.not_,
@@ -74,6 +147,9 @@ PRIMITIVES = {
     "+": operator.add,
     "-": lambda left, right: max(0, left - right),
     "*": operator.mul,
+    "/": operator.floordiv,
+    "%": operator.mod,
+    "^": operator.pow,
     "nat_lt": operator.lt,
     "nat_le": operator.le,
     "nat_eq": operator.eq,
@@ -188,6 +264,10 @@ class Parser:
         elif token in ("true", "false"):
             result = ("constant", token == "true")
         else:
+            if self.at(".") and self.tokens[self.place + 1][0].isupper():
+                # a constructor that is named by its module
+                self.take(".")
+                token = self.take()
             result = ("constructor", token, []) if token == "[]" or token[0].isupper() else ("name", token)
         while self.at("."):
             self.take(".")
@@ -214,8 +294,8 @@ class Definitions:
             text = re.sub(r"\n  where((?:\n    .*)*)", lambda local: local[1].replace("\n    ", "\n"), re.sub(r"--.*", "", text))
             # an item goes on until a line begins with a letter; types, imports and claims are no equations
             for item in re.findall(r"^\w.*(?:\n(?!\w).*)*", text, re.MULTILINE):
-                # nor are statements, which nothing here asks for
-                if not re.match(r"(use|pub|abbrev) |\w+ : ", item) and not re.search("[→≡]", item):
+                # nor are statements, which nothing here asks for, and the search of a constant is a primitive
+                if not re.match(r"(use|pub|abbrev) |\w+ : ", item) and not re.search("[→≡λ]", item):
                     name, patterns, body = Parser(item).equation()
                     self.equations.setdefault(name, []).append((patterns, body))
 
@@ -601,14 +681,12 @@ class Life:
         return "\n".join([*lines, *self.below, *self.above, written((12, size[1] - 14), legend), "</svg>", ""])
 
 
-def pictures():
-    """The text of each picture. Ends the program where a place has no state, a state no place, or a picture a fault."""
-    texts = [(CRATES / f"{name}.antt").read_text(encoding="utf-8") for name in FILES]
-    definitions = Definitions(texts)
+def pages():
+    """The text of MACHINE.md and of each picture. Ends the program where a place has no state, a state no place, or a picture a fault."""
+    definitions = Definitions([source(f"{name}.antt") for name in FILES])
+    yield DOCUMENTS / "MACHINE.md", machine_page()
     yield DOCUMENTS / "life.svg", Life(definitions).text()
-    imports = re.findall(r"Act\.TheVariants\.\{([^}]*)\}", texts[FILES.index("task_laws/specs/Position")])
-    acts = ", ".join(imports).split(", ")
-    exploration = Exploration(definitions, acts)
+    exploration = Exploration(definitions, ACTS)
     print(f"{len(exploration.seen)} states of the machine")
     for name, (flags, empty, size, places) in PICTURES.items():
         chart = Chart(definitions, exploration.steps, flags)
@@ -623,11 +701,11 @@ def pictures():
 
 
 def main():
-    """Writes the pictures, or compares them."""
-    arguments = argparse.ArgumentParser(description="Draws the charts of the word from the table of moves.")
-    arguments.add_argument("--check", action="store_true", help="compare the charts, and write nothing")
+    """Writes the page and the pictures, or compares them."""
+    arguments = argparse.ArgumentParser(description="Draws the charts and prints the rows from the table of moves.")
+    arguments.add_argument("--check", action="store_true", help="compare them, and write nothing")
     check, differs = arguments.parse_args().check, False
-    for path, text in list(pictures()):
+    for path, text in list(pages()):
         if not check:
             path.write_text(text, encoding="utf-8")
         elif not path.exists() or path.read_text(encoding="utf-8") != text:

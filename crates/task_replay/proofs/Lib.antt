@@ -1,4 +1,3 @@
-pub mod Modest
 pub mod Replayed
 pub mod Playing
 pub mod Refused

@@ -7,58 +7,40 @@ use Rattle.task_laws.specs.declared.positions.Position.{Position}
 use Rattle.task_core.specs.declared.acts.Act.{Act}
 use Rattle.task_laws.specs.declared.positions.Position.TheVariants.{At}
 use Rattle.task_laws.specs.declared.positions.Rest.TheVariants.{Task}
-use Rattle.task_core.specs.Rows.{found, written, row}
-use Rattle.task_laws.specs.Table.{Scene, Outcome, where_found, goes, rule}
+use Rattle.task_laws.specs.Table.{Scene, Outcome, rule}
 use Rattle.task_laws.specs.Machine.{Machine, Step, opening, scene, begins, after, moves, step, run_from, run}
 use Rattle.task_laws.specs.Laws.{count, is_task_poll}
-use Rattle.task_replay.specs.Replay.{Standing, standing, stands, scene_at, listed, begun, slots_of, effect_of}
+use Rattle.std.specs.Option.{option_map}
+use Rattle.task_replay.specs.Line.{listed}
+use Rattle.task_replay.specs.Replay.{Standing, standing, stands, scene_at, begun, slots_of, untold, outcome_of}
 use Rattle.task_replay.specs.declared.machine.Slots.{Slots as SlotsHeld}
 use Rattle.task_replay.specs.declared.table.Effect.{Effect}
 use Rattle.task_laws.proofs.Awaiting.{Awaiting, await, awaiting, join}
 use Rattle.task_laws.proofs.Runs.{Invariant, Stays, always, others, split_awaiting}
 use Rattle.task_laws.proofs.Theorem.{laws_hold}
 use Rattle.task_laws.proofs.WholeRuns.{count-append}
-use Rattle.task_replay.proofs.Modest.{Modest, modest}
+use Rattle.task_laws.proofs.Scenes.{rules, InEach}
+use Rattle.task_laws.proofs.Rows.{Row, starts_run, Shows, by_rows}
 
--- a row that is found, and one that is not
-found_there : (left : Option Outcome) → where_found true left ≡ left
-found_there None = refl
-found_there (Some o) = refl
-
-not_found : (left : Option Outcome) → where_found false left ≡ None
-not_found None = refl
-not_found (Some o) = refl
-
-by_found : (is_found : Bool) (w v : State) (g : State → Option Outcome) → (if is_found then Some w else None) ≡ Some v → effect_of (g v) ≡ effect_of (where_found is_found (g w))
-by_found true w v g e = let same : w ≡ v = cc in rw same (sym (ap effect_of (found_there (g v))))
-by_found false w v g e = cc
-
-by_not_found : (is_found : Bool) (w : State) (left : Option Outcome) → (if is_found then Some w else None) ≡ None → None ≡ effect_of (where_found is_found left)
-by_not_found true w left e = cc
-by_not_found false w left e = sym (ap effect_of (not_found left))
-
--- so the word of the row, and where it goes, are the rule
-pub ruled : (s : Scene) (act : Act) (p : Position) (v : State) → row s.limit act s.word ≡ Some v → effect_of (goes s v act p) ≡ effect_of (rule s act p)
-ruled s act p v e = by_found (found s.limit act s.word) (written act s.word) v (λ w. goes s w act p) e
-
-pub not_ruled : (s : Scene) (act : Act) (p : Position) → row s.limit act s.word ≡ None → None ≡ effect_of (rule s act p)
-not_ruled s act p e = by_not_found (found s.limit act s.word) (written act s.word) (goes s (written act s.word) act p) e
-
--- a step, by what the party leaves
-abbrev pub left_at : Standing → ℕ → Option Effect → Option Standing
+-- what is told of a step is no part of how the machine stands
+abbrev pub left_at : Standing → ℕ → Option Outcome → Option Standing
 left_at n i None = None
-left_at n i (Some left) = Some (record { limit = n.limit; word = left.word; slots = slots_of left.slots; parties = slice_set n.parties i left.next ++ listed left.added })
+left_at n i (Some o) = Some (record { limit = n.limit; word = o.word; slots = o.slots; parties = slice_set n.parties i o.next ++ o.born })
 
-after_at : (m : Machine) (i : ℕ) (p : Position) (o : Option Outcome) → Modest o → stands (after m i p o) ≡ left_at (standing m) i (effect_of o)
-after_at m i p None modest = refl
-after_at m i p (Some o) modest = ap (λ born. Some (record { limit = m.limit; word = o.word; slots = o.slots; parties = slice_set m.parties i o.next ++ born })) modest.parties
+left_untold : (n : Standing) (i : ℕ) (o : Option Outcome) → left_at n i o ≡ left_at n i (untold o)
+left_untold n i None = refl
+left_untold n i (Some o) = refl
 
-moves_at : (m : Machine) (i : ℕ) (act : Act) (at : Option Position) (p : Position) → at ≡ Some p → stands (moves m i act at) ≡ left_at (standing m) i (effect_of (rule (scene m) act p))
+after_at : (m : Machine) (i : ℕ) (p : Position) (o : Option Outcome) → stands (after m i p o) ≡ left_at (standing m) i o
+after_at m i p None = refl
+after_at m i p (Some o) = refl
+
+moves_at : (m : Machine) (i : ℕ) (act : Act) (at : Option Position) (p : Position) → at ≡ Some p → stands (moves m i act at) ≡ left_at (standing m) i (rule (scene m) act p)
 moves_at m i act None p e = cc
-moves_at m i act (Some q) p e = let same : q ≡ p = cc in rw same (after_at m i p (rule (scene m) act p) (modest act p (scene m)))
+moves_at m i act (Some q) p e = let same : q ≡ p = cc in rw same (after_at m i p (rule (scene m) act p))
 
-pub steps_at : (m : Machine) (s : Step) (now : Standing) (p : Position) → standing m ≡ now → slice_get now.parties s.party ≡ Some p → stands (step m s) ≡ left_at now s.party (effect_of (rule (scene_at now) s.act p))
-steps_at m s now p e at = subst (λ (n : Standing). slice_get n.parties s.party ≡ Some p → stands (step m s) ≡ left_at n s.party (effect_of (rule (scene_at n) s.act p))) e (λ (h : slice_get m.parties s.party ≡ Some p). moves_at m s.party s.act (slice_get m.parties s.party) p h) at
+pub steps_at : (m : Machine) (s : Step) (now : Standing) (p : Position) → standing m ≡ now → slice_get now.parties s.party ≡ Some p → stands (step m s) ≡ left_at now s.party (rule (scene_at now) s.act p)
+steps_at m s now p e at = subst (λ (n : Standing). slice_get n.parties s.party ≡ Some p → stands (step m s) ≡ left_at n s.party (rule (scene_at n) s.act p)) e (λ (h : slice_get m.parties s.party ≡ Some p). moves_at m s.party s.act (slice_get m.parties s.party) p h) at
 
 -- the machine that stands so
 pub record Shown (o : Option Machine) (now : Standing) : Type 0 where
@@ -100,7 +82,22 @@ plays limit i steps s now next h e e' does =
     let known = shown (run limit (take i steps)) now e' in
     rw add-one (ap stands (run_more (Some (opening limit)) steps i s h e ∙ ap (λ m. then_step m s) known.is) ∙ does known.machine known.stands_so)
 
--- the limit stays, and a step tells of one poll at most
+-- a step tells of one poll at most
+abbrev polls_told : Option Outcome → ℕ
+polls_told None = 0
+polls_told (Some o) = count is_task_poll o.told
+
+abbrev IsModest : Act → Position → Scene → Option Outcome → Type 0
+IsModest act p s left = polls_told left ≤ 1
+
+modest_row : (act : Act) (p : Position) (put : Scene → Scene) → Row act p put → InEach (λ scene. Shows IsModest act p (put scene))
+modest_row _ _ _ starts_run = grind rules
+modest_row act p put row = grind rules
+
+modest : (act : Act) (p : Position) (s : Scene) → polls_told (rule s act p) ≤ 1
+modest = by_rows IsModest (λ act p s. grind rules) modest_row
+
+-- .. and the limit stays
 abbrev pub Bounded : ℕ → Option Machine → ℕ → Type 0
 Bounded limit None n = Unit {0}
 Bounded limit (Some m) n = (m.limit ≡ limit) × (count is_task_poll m.trace ≤ n)
@@ -109,9 +106,9 @@ no_poll : (p : Position) → count is_task_poll (begins p) ≡ 0
 no_poll (At r) = refl
 no_poll p = refl
 
-after_bounded : (limit : ℕ) (m : Machine) (i n : ℕ) (p : Position) (o : Option Outcome) → Modest o → Bounded limit (Some m) n → Bounded limit (after m i p o) (n + 1)
+after_bounded : (limit : ℕ) (m : Machine) (i n : ℕ) (p : Position) (o : Option Outcome) → polls_told o ≤ 1 → Bounded limit (Some m) n → Bounded limit (after m i p o) (n + 1)
 after_bounded limit m i n p None modest bound = tt
-after_bounded limit m i n p (Some o) modest bound = (bound.0, omega (arith, bound.1, count-append is_task_poll o.told (begins p ++ m.trace), count-append is_task_poll (begins p) m.trace, no_poll p, modest.polls))
+after_bounded limit m i n p (Some o) modest bound = (bound.0, omega (arith, bound.1, count-append is_task_poll o.told (begins p ++ m.trace), count-append is_task_poll (begins p) m.trace, no_poll p, modest))
 
 moves_bounded : (limit : ℕ) (m : Machine) (i n : ℕ) (act : Act) (at : Option Position) → Bounded limit (Some m) n → Bounded limit (moves m i act at) (n + 1)
 moves_bounded limit m i n act None bound = tt
@@ -167,14 +164,15 @@ few_references limit steps now e =
 
 -- what the code leaves, where it finds such a scene
 pub leaves : (m : Machine) (s : Step) (now : Standing) (seen : Scene) (p : Position) (left : Option Effect) → standing m ≡ now → seen ≡ scene_at now → slice_get now.parties s.party ≡ Some p
-    → effect_of (rule seen s.act p) ≡ left → stands (step m s) ≡ left_at now s.party left
+    → untold (rule seen s.act p) ≡ option_map outcome_of left → stands (step m s) ≡ left_at now s.party (option_map outcome_of left)
 leaves m s now seen p left stands_so is_seen at is_left =
-    steps_at m s now p stands_so at ∙ (ap (λ (x : Scene). left_at now s.party (effect_of (rule x s.act p))) (sym is_seen) ∙ ap (left_at now s.party) is_left)
+    steps_at m s now p stands_so at ∙ (ap (λ (x : Scene). left_at now s.party (rule x s.act p)) (sym is_seen)
+    ∙ (left_untold now s.party (rule seen s.act p) ∙ ap (left_at now s.party) is_left))
 
 -- .. and writes, where the party that it adds was listed first
 pub left_so : (now : Standing) (limit : ℕ) (word : State) (slots : SlotsHeld) (parties : List Position) (i : ℕ) (left : Effect)
     → record { limit = limit; word = word; slots = slots_of slots; parties = parties } ≡ record now { parties = now.parties ++ listed left.added } → i < length now.parties
-    → left_at now i (Some left) ≡ Some (record { limit = limit; word = left.word; slots = slots_of left.slots; parties = slice_set parties i left.next })
+    → left_at now i (Some (outcome_of left)) ≡ Some (record { limit = limit; word = left.word; slots = slots_of left.slots; parties = slice_set parties i left.next })
 left_so now limit word slots parties i left fields within =
     let standing_of : ℕ → List Position → Standing = λ l ps. record { limit = l; word = left.word; slots = slots_of left.slots; parties = ps } in
     ap (λ ps. Some (standing_of now.limit ps)) (sym (set-append_left now.parties (listed left.added) i left.next within))

@@ -5,11 +5,10 @@
 //! The page is docs/TRACES.md.
 #![tactic(auto)]
 
-mod kind;
+mod line;
 pub mod machine;
 pub mod player;
 pub mod refusal;
-mod rows;
 mod table;
 mod ways;
 

@@ -6,7 +6,8 @@ ghost use Rattle.std.specs.Prelude.{◌≡◌, ◌<◌, ◌-◌, ◌^◌, Some, 
 ghost use Rattle.task_laws.specs.Machine as machine;
 ghost use Rattle.task_laws.specs.declared.positions.Position.{Position};
 ghost use Rattle.task_laws.specs.Machine.{run, opening};
-ghost use Rattle.task_replay.specs.Replay.{standing, stands, slots_of, scene_of, scene_at, begun, listed, StepsTo, IsRight};
+ghost use Rattle.task_replay.specs.Line.{listed};
+ghost use Rattle.task_replay.specs.Replay.{standing, stands, slots_of, scene_of, scene_at, begun, StepsTo, IsRight};
 
 use crate::player::Player;
 use crate::table::{Scene, rule_of_act};

@@ -7,9 +7,10 @@ ghost use Rattle.task_replay.specs.Replay.{Standing, StepsTo, begun, scene_of, s
 ghost use Rattle.task_replay.specs.Refusal.{IsMade, IsNeverMade, FitsAt, IsReason};
 ghost use Rattle.task_core.specs.declared.word.TheConstants.{LIMIT};
 
-use crate::machine::{Slots, Step};
+use crate::line::line_of;
+use crate::machine::Step;
 use crate::player::Player;
-use crate::table::{Scene, moves_of_act, rule_of_act};
+use crate::table::{Scene, holds, rule_of_act};
 use std::alloc::Allocator;
 use task_core::acts::Act;
 use task_core::word::{CLOSED, LIMIT, NOTIFYING, REFERENCE, TASK, Word};
@@ -61,11 +62,11 @@ fn refusal_at(scene: Scene, act: Act, position: Position) -> Option<Refusal>
     ensures refused { IsSome result → rule (scene_of scene) act position ≡ None }
     ensures reason { IfSome result (IsReason (scene_of scene) act (Some position)) }
 {
-    if !is_made(act, position) {
-        return Some(Refusal::NeverThere(position));
-    }
     if fits(scene, act, position) {
         return None;
+    }
+    if !is_made(act, position) {
+        return Some(Refusal::NeverThere(position));
     }
     Some(Refusal::UnfitWord(nearest_word(&scene, act, position)))
 }
@@ -80,25 +81,18 @@ fn fits(scene: Scene, act: Act, position: Position) -> bool
     rule_of_act(scene, act, position).is_some()
 }
 
-// Whether the table has a line for the act at this position. The scene is one in which each condition beside the rows holds: a task that is closed, with
-// its Task there and a notifier at work.
+// Whether the table has a line for the act at this position whose guard ever holds: it does so at the word that favours each guard, of a task that is
+// closed, with its Task there and a notifier at work.
 fn is_made(act: Act, position: Position) -> bool
     requires { begun position < 2 ^ 64 - 1 }
     ensures made { result ≡ true → IsMade act position }
     ensures never { result ≡ false → IsNeverMade act position }
 {
     let word = Word::from_bits(CLOSED | TASK | NOTIFYING);
-    let slots = Slots {
-        future: true,
-        output: true,
-        awaiter: None,
-    };
-    let scene = Scene {
-        limit: LIMIT,
-        word,
-        slots,
-    };
-    moves_of_act(scene, word, act, position).is_some()
+    match line_of(act, position) {
+        Some(line) => holds(word, line.0),
+        None => false,
+    }
 }
 
 // A word at which the act may be made, all else as it is: with the count that was found, if there is one, else with one near it, or at the limit.

@@ -1,49 +1,8 @@
 //! How a party goes on, where that depends on more than its position: the small definitions of the table of moves.
 ghost use Rattle.std.specs.Prelude.{◌≡◌};
 ghost use Rattle.task_laws.specs.Table as table;
-ghost use Rattle.task_replay.specs.Replay.{scene_of};
 
-use crate::table::Scene;
-use task_core::word::Word;
 use task_laws::positions::{Answer, NotifyingCall, OnceDelivered, PollAnswer, Position, Rest};
-
-/// Whether the task has a handle: the Task, or one that holds a reference.
-pub(crate) fn is_held(word: Word) -> bool
-    ensures { result ≡ table.is_held word }
-{
-    word.task() || word.references() > 0
-}
-
-/// Whether a party that rests there may ask for a reference.
-pub(crate) fn may_ask(rest: Rest) -> bool
-    ensures { result ≡ table.may_ask rest }
-{
-    match rest {
-        Rest::Runnable | Rest::Waker | Rest::Lent => true,
-        Rest::Ended | Rest::Task(_) => false,
-    }
-}
-
-/// .. and gain it.
-pub(crate) fn may_gain(scene: &Scene, rest: Rest) -> bool
-    ensures { result ≡ table.may_gain (scene_of scene.now) rest }
-{
-    match rest {
-        Rest::Lent => is_held(scene.word),
-        _ => may_ask(rest),
-    }
-}
-
-/// Whether a party that rests there may wake the task.
-pub(crate) fn may_wake(scene: &Scene, rest: Rest) -> bool
-    ensures { result ≡ table.may_wake (scene_of scene.now) rest }
-{
-    match rest {
-        Rest::Waker => true,
-        Rest::Lent => is_held(scene.word) || scene.word.is_over(),
-        Rest::Runnable | Rest::Ended | Rest::Task(_) => false,
-    }
-}
 
 /// The way on once an awaiter was taken, or was not.
 pub(crate) fn after_taking(hand: Option<u64>, way: NotifyingCall) -> Position
@@ -66,17 +25,6 @@ pub(crate) fn notifies(awaiter: bool, way: NotifyingCall) -> Position
         Position::Notifier(way)
     } else {
         after_taking(None, way)
-    }
-}
-
-/// What follows the handing over of a cancel by a Task that has begun so many polls.
-pub(crate) fn after_cancelling(awaiter: bool, polls: u64) -> OnceDelivered
-    ensures { result ≡ table.after_cancelling awaiter polls }
-{
-    if awaiter {
-        OnceDelivered::ThenNotifies(polls)
-    } else {
-        OnceDelivered::ThenTask(polls)
     }
 }
 
@@ -104,13 +52,6 @@ pub(crate) fn after_waking(way: NotifyingCall) -> Position
     }
 }
 
-/// Whether the awaiter in hand may be dropped in place of being woken.
-pub(crate) fn may_drop(way: NotifyingCall) -> bool
-    ensures { result ≡ table.may_drop way }
-{
-    matches!(way, NotifyingCall::OfPoll(_) | NotifyingCall::OfClaim(_))
-}
-
 /// The way on once the reference was given up, with that awaiter in hand.
 pub(crate) fn after_giving_up(hand: Option<u64>, answer: Answer) -> Position
     ensures { result ≡ table.after_giving_up hand answer }
@@ -118,41 +59,5 @@ pub(crate) fn after_giving_up(hand: Option<u64>, answer: Answer) -> Position
     match hand {
         Some(i) => Position::AwaiterInHand(i, NotifyingCall::OfRun),
         None => Position::CallEnding(answer, Rest::Ended),
-    }
-}
-
-/// The way on of this poll by the word that its first load found.
-pub(crate) fn first_look(word: Word, poll: u64) -> Position
-    ensures { result ≡ table.first_look word poll }
-{
-    let is_held = word.scheduled() || word.running();
-    if word.closed() && !is_held {
-        Position::Notifier(NotifyingCall::OfPoll(poll))
-    } else {
-        Position::Registrar(poll)
-    }
-}
-
-/// The way on of this poll by the word that it found after it registered.
-pub(crate) fn second_look(word: Word, poll: u64) -> Position
-    ensures { result ≡ table.second_look word poll }
-{
-    let is_held = word.scheduled() || word.running();
-    if word.closed() && !is_held {
-        Position::Notifier(NotifyingCall::OfPoll(poll))
-    } else if word.completed() && !word.closed() {
-        Position::SawOutput(poll)
-    } else {
-        Position::Answering(poll, PollAnswer::IsPending)
-    }
-}
-
-/// The way on of a poll that has stored its clone where that of an older poll stood, or none.
-pub(crate) fn after_storing(poll: u64, old: Option<u64>) -> Position
-    ensures { result ≡ table.after_storing poll old }
-{
-    match old {
-        Some(old) => Position::OldAwaiterInHand(poll, old),
-        None => Position::Registered(poll),
     }
 }

@@ -4,11 +4,11 @@ ghost use Rattle.trace_printer.specs.Arguments.{AskForAll, AskForHelp, AskForPro
 ghost use Rattle.trace_printer.specs.declared.arguments.Request.TheVariants.{Help, Trace};
 ghost use Rattle.trace_printer.specs.declared.row.Shown.TheVariants.{Changed, All, Progress};
 
-use crate::names::{ACTS, name};
 use crate::row::Shown;
 use crate::trace::trace;
 use std::alloc::Global;
 use std::io;
+use task_core::acts::NAMES;
 
 /// What the arguments ask for.
 #[derive(Clone, Copy, Debug, PartialEq, Eq)]
@@ -91,9 +91,8 @@ fn print_help<W: io::Write>(out: &mut W) -> io::Result<u8>
     ensures { IfOk result (λ status. status ≡ 0) }
 {
     write!(out, "{USAGE}\n{HELP}")?;
-    for act in &ACTS {
-        let act = name(*act);
-        writeln!(out, "    {act}")?;
+    for &(_, name) in &NAMES {
+        writeln!(out, "    {name}")?;
     }
     out.flush()?;
     Ok(0)

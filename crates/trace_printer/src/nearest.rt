@@ -1,9 +1,8 @@
 //! Which act is meant by a word that names none.
 
-use crate::names::{ACTS, name};
 use std::alloc::{AllocError, Global};
 use strsim::levenshtein;
-use task_core::acts::Act;
+use task_core::acts::{Act, NAMES};
 
 // A name that is more edits away is not meant.
 const EDITS: usize = 3;
@@ -13,10 +12,10 @@ const EDITS: usize = 3;
 pub fn nearest(alloc: Global, word: &str) -> Result<Option<Act>, AllocError> {
     let mut nearest = None;
     let mut fewest = EDITS + 1;
-    for act in &ACTS {
-        let edits = levenshtein(alloc, word, name(*act))?;
+    for &(act, name) in &NAMES {
+        let edits = levenshtein(alloc, word, name)?;
         if edits < fewest {
-            nearest = Some(*act);
+            nearest = Some(act);
             fewest = edits;
         }
     }

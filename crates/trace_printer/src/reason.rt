@@ -1,9 +1,9 @@
 //! Why a step is refused, in words.
 
-use crate::names::{ACTS, name};
 use crate::row::{FLAGS, ShownStep};
 use std::alloc::Global;
 use std::{fmt, io};
+use task_core::acts::NAMES;
 use task_core::word::Word;
 use task_replay::machine::Step;
 use task_replay::player::Player;
@@ -54,15 +54,15 @@ fn write_acts<W: fmt::Write>(
     step: Step,
     f: &mut fmt::Formatter<W>,
 ) -> fmt::Result {
-    let mut mark = "";
-    for &act in &ACTS {
+    let mut is_any = false;
+    for &(act, name) in &NAMES {
         if player.is_made_there(Step { act, ..step }) {
-            let act = name(act);
-            write!(f, "{mark} {act}")?;
-            mark = ",";
+            let mark = if is_any { "," } else { "" };
+            write!(f, "{mark} {name}")?;
+            is_any = true;
         }
     }
-    let none = if mark.is_empty() { " no act" } else { "" };
+    let none = if is_any { "" } else { " no act" };
     write!(f, "{none} may be made")
 }
 
@@ -75,8 +75,8 @@ fn write_word<W: fmt::Write>(found: Word, fitting: Word, f: &mut fmt::Formatter<
         "the word 0x{bits:03X} does not fit, 0x{wanted:03X} would:"
     )?;
     for &(flag, name) in &FLAGS {
-        if bits & flag != wanted & flag {
-            let state = if wanted & flag == 0 { "clear" } else { "set" };
+        if found.has(flag) != fitting.has(flag) {
+            let state = if fitting.has(flag) { "set" } else { "clear" };
             write!(f, " {name} {state}")?;
         }
     }

@@ -5,23 +5,22 @@ use crate::names::name;
 use crate::progress::{next_act, steps_left};
 use std::alloc::Global;
 use std::{fmt, io};
-use task_core::word::{
-    AWAITER, CLOSED, COMPLETED, NOTIFYING, REGISTERING, RUNNING, SCHEDULED, TASK, Word,
-};
+use task_core::table::Flag;
+use task_core::word::Word;
 use task_laws::positions::{Position, Rest};
 use task_replay::machine::{Machine, Step};
 use task_replay::player::Player;
 
 /// The flags of a word, each with its name.
-pub const FLAGS: [(u64, &str); 8] = [
-    (SCHEDULED, "SCHEDULED"),
-    (RUNNING, "RUNNING"),
-    (COMPLETED, "COMPLETED"),
-    (CLOSED, "CLOSED"),
-    (TASK, "TASK"),
-    (AWAITER, "AWAITER"),
-    (REGISTERING, "REGISTERING"),
-    (NOTIFYING, "NOTIFYING"),
+pub const FLAGS: [(Flag, &str); 8] = [
+    (Flag::Scheduled, "SCHEDULED"),
+    (Flag::Running, "RUNNING"),
+    (Flag::Completed, "COMPLETED"),
+    (Flag::Closed, "CLOSED"),
+    (Flag::TaskExists, "TASK"),
+    (Flag::Awaiter, "AWAITER"),
+    (Flag::Registering, "REGISTERING"),
+    (Flag::Notifying, "NOTIFYING"),
 ];
 
 /// Which parties a row shows.
@@ -114,7 +113,7 @@ fn write_word<W: fmt::Write>(word: Word, f: &mut fmt::Formatter<W>) -> fmt::Resu
     let bits = word.bits();
     write!(f, "0x{bits:03X} |")?;
     for &(flag, name) in &FLAGS {
-        if bits & flag != 0 {
+        if word.has(flag) {
             write!(f, " {name}")?;
         }
     }

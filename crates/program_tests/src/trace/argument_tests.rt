@@ -7,8 +7,9 @@ use crate::words::{Told, words_of};
 use std::alloc::Global;
 use std::io;
 use std::process::Abort;
+use task_core::acts::NAMES;
 use trace_printer::arguments::{Request, answer, asked};
-use trace_printer::names::{ACTS, name};
+use trace_printer::names::name;
 use trace_printer::row::Shown;
 
 // A task that is spawned and run for one step.
@@ -90,7 +91,7 @@ fn the_help_lists_what_may_be_written(rt: HostRuntime) {
 // A line for each act.
 fn lines_of_acts<R: Abort>(rt: &R, alloc: Global) -> String {
     let mut lines = String::new(alloc);
-    for &act in &ACTS {
+    for &(act, _) in &NAMES {
         for part in ["    ", name(act), "\n"] {
             granted(rt, lines.push_str(part));
         }

@@ -1,15 +1,15 @@
 //! What lines say, and what is expected where one cannot be read.
 
 use crate::stops::{granted, holds};
-use task_core::acts::Act;
+use task_core::acts::{Act, NAMES};
 use task_replay::machine::Step;
 use trace_printer::line::{Expected, content, is_blank, read_limit, read_step};
-use trace_printer::names::{ACTS, name};
+use trace_printer::names::name;
 use trace_printer::nearest::nearest;
 
 #[test]
 fn each_act_is_read_by_its_name(rt: HostRuntime) {
-    for &act in &ACTS {
+    for &(act, _) in &NAMES {
         let text = name(act);
         let line = granted(&rt, format!(in rt.alloc(); "7 {text}"));
         let is_read = read_step(line.as_str()) == Ok(Step { party: 7, act });

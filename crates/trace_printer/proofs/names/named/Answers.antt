@@ -1,10 +1,9 @@
-use Rattle.std.proofs.Common.{◌∙◌, ap, sym}
-use Rattle.std.specs.List.{find}
-use Rattle.std.specs.Str.{bytes_eq}
+use Rattle.std.proofs.Common.{◌≡◌, ◌∙◌, ap, subst, sym}
+use Rattle.std.specs.Option.{option_map}
+use Rattle.std.specs.Prelude.{IfSome}
 use Rattle.trace_printer.specs.Names.{name_of}
-use Rattle.trace_printer.specs.declared.names.TheConstants.{ACTS}
-use Rattle.trace_printer.proofs.Named.{first_of_name}
+use Rattle.trace_printer.proofs.Named.{seen, named_so}
 use Rattle.trace_printer.proofs.names.named.Goals as goal
 
-pub returns-clause-known : goal.returns-clause-known
-returns-clause-known c = λ act e. c.first_named.ensures.first ∙ (ap (λ text. find (λ other. bytes_eq (name_of other) text) ACTS) (sym e) ∙ first_of_name act)
+pub returns-in-Some-clause-named : goal.returns-in-Some-clause-named
+returns-in-Some-clause-named c = subst (λ o. IfSome o (λ entry. name_of entry.0 ≡ c.args.text.now)) (sym c.entry_of_text.ensures ∙ ap (option_map (λ y. seen y.now)) c.in-Some.is) (named_so c.args.text.now)
