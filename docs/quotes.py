@@ -1,5 +1,5 @@
 #!/usr/bin/env python3
-"""quotes.py --check compares the code blocks of README.md and of four pages with the files that they are quoted from, and looks for what pages name:
+"""quotes.py --check compares the code blocks of README.md and of five pages with the files that they are quoted from, and looks for what pages name:
 the tests of docs/API.md, and each name with an underscore on the pages of NAMING. quotes.py FOLDER writes the files below FOLDER as a reader who types
 the blocks of README.md and docs/GUIDE.md in would, to try them in another repository.
 
@@ -16,7 +16,7 @@ HERE = pathlib.Path(__file__).resolve().parent.parent
 PATH = re.compile(r"`(crates/[\w./]+|crates\.txt)`")
 FENCED = re.compile(r"^```\w*\n(.*?)^```\n", re.MULTILINE | re.DOTALL)
 WHOLE = ("README.md", "docs/GUIDE.md")
-EXCERPTS = ("docs/EXECUTORS.md", "docs/EXECUTOR_POOL.md", "docs/KIT_BRIDGE.md")
+EXCERPTS = ("docs/EXECUTORS.md", "docs/EXECUTOR_POOL.md", "docs/FUTURES.md", "docs/KIT_BRIDGE.md")
 # the pages that name hardly anything but what this repository has, and what they name of the kit
 NAMING = WHOLE + EXCERPTS + (
     "docs/API.md", "docs/ARCHITECTURE.md", "docs/DEVELOPING.md", "docs/EXAMPLES.md", "docs/MACHINE.md", "docs/PROOFS.md", "docs/ROWS.md", "docs/RULES.md",

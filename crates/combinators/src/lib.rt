@@ -1,0 +1,22 @@
+//! Futures that any executor can poll: `ready`, `pending`, `yield_now`, `join` and `race`. They allocate nothing and take no lock, and their drop drops their parts.
+//! It stands on the traits of `task_core`.
+//! A user makes them by the functions of these names, and gives them to an executor, or polls them in a future of its own.
+//! `Half` and `Kept`, what a `join` has of its futures, are public only to carry the claims on it.
+//! The page is docs/FUTURES.md.
+#![tactic(auto)]
+
+mod half;
+mod instant;
+mod joining;
+mod kept;
+mod make;
+mod racing;
+mod yielding;
+
+pub use half::Half;
+pub use instant::{Pending, Ready};
+pub use joining::Join;
+pub use kept::Kept;
+pub use make::{join, pending, race, ready, yield_now};
+pub use racing::{Race, Raced};
+pub use yielding::YieldNow;
