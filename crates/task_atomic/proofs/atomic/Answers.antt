@@ -1,0 +1,8 @@
+use Rattle.task_atomic.proofs.Atoms.{steps_are_atomic, answers_are_true}
+use Rattle.task_atomic.proofs.atomic.Goals as goal
+
+pub returns-clause-steps : goal.returns-clause-steps
+returns-clause-steps c = steps_are_atomic
+
+pub returns-clause-answers : goal.returns-clause-answers
+returns-clause-answers c = answers_are_true

@@ -1,0 +1,3 @@
+pub mod Small
+pub mod Atomic
+pub mod Answers
