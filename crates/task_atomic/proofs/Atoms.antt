@@ -26,10 +26,10 @@ Known (FutureGone closer) w = (w.running ≡ false) × (w.closed ≡ true)
 Known _ w = Unit {0}
 
 -- a task that is completed has neither Runnable nor run
-abbrev Rests : State → Type 0
+abbrev pub Rests : State → Type 0
 Rests w = (w.completed && (w.scheduled || w.running)) ≡ false
 
-rests : (limit : ℕ) (w : State) (slots : Slots) (t : List Event) (c : Census) → Holds limit w slots t c → Rests w
+pub rests : (limit : ℕ) (w : State) (slots : Slots) (t : List Event) (c : Census) → Holds limit w slots t c → Rests w
 rests limit w slots t c h = grind arith
 
 known : (limit : ℕ) (w : State) (slots : Slots) (t : List Event) (p : Position) (rest : Census) → Holds limit w slots t (plus (weigh p) rest) → Known p w

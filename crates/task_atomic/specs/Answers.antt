@@ -1,4 +1,4 @@
--- 3 of 3: what a call answers is true of the small task at the step at which it is decided.
+-- 3 of 4: what a call answers is true of the small task at the step at which it is decided.
 use Rattle.std.specs.Prelude.{◌≡◌, ℕ, Bool, true, false, not, ◌&&◌, nat_lt, List, Some, slice_get}
 use Rattle.task_core.specs.Local.{Phase, Polled, PolledAndWoken}
 use Rattle.task_core.specs.declared.acts.Act.{Act}

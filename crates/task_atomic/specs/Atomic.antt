@@ -1,4 +1,4 @@
--- 2 of 3: each step of the machine is one atomic act on the small task, or leaves it as it is.
+-- 2 of 4: each step of the machine is one atomic act on the small task, or leaves it as it is.
 use Rattle.std.specs.Prelude.{◌≡◌, ℕ, List, Some}
 use Rattle.task_core.specs.declared.acts.Act.{Act}
 use Rattle.task_core.specs.declared.acts.Act.TheVariants.{GainReference, FindLimit, DropWaker, DropLastWaker, OrphanTask, CloseOrphan}

@@ -1,3 +1,4 @@
 pub mod Small
 pub mod Atomic
 pub mod Answers
+pub mod Registered
