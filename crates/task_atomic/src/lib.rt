@@ -5,11 +5,12 @@
 
 ghost use Rattle.task_atomic.specs.Answers.{AnswersAreTrue};
 ghost use Rattle.task_atomic.specs.Atomic.{StepsAreAtomic};
-ghost use Rattle.task_atomic.specs.Registered.{PendingIsRegistered};
+ghost use Rattle.task_atomic.specs.Registered.{OpenTaskKeepsAwaiter, PendingIsRegistered};
 
 /// What holds of every interleaving of the machine, for every limit of references and any number of parties. It has no body: the contract is the claim.
 pub fn atomic()
     ensures steps { StepsAreAtomic }
     ensures answers { AnswersAreTrue }
     ensures pending { PendingIsRegistered }
+    ensures kept { OpenTaskKeepsAwaiter }
 {}

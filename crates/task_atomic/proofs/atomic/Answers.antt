@@ -1,5 +1,5 @@
 use Rattle.task_atomic.proofs.Atoms.{steps_are_atomic, answers_are_true}
-use Rattle.task_atomic.proofs.Looks.{pending_is_registered}
+use Rattle.task_atomic.proofs.Looks.{pending_is_registered, open_task_keeps_awaiter}
 use Rattle.task_atomic.proofs.atomic.Goals as goal
 
 pub returns-clause-steps : goal.returns-clause-steps
@@ -10,3 +10,6 @@ returns-clause-answers c = answers_are_true
 
 pub returns-clause-pending : goal.returns-clause-pending
 returns-clause-pending c = pending_is_registered
+
+pub returns-clause-kept : goal.returns-clause-kept
+returns-clause-kept c = open_task_keeps_awaiter
