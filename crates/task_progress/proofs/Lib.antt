@@ -13,3 +13,4 @@ pub mod Seen
 pub mod Tables
 mod WorkedAttempts
 mod WorkedRest
+pub mod Carried

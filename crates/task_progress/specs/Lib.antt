@@ -5,3 +5,4 @@ pub mod Waiting
 pub mod Ending
 pub mod AtRest
 pub mod Tables
+pub mod Carried

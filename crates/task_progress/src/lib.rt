@@ -8,6 +8,7 @@
 ghost use Rattle.task_progress.specs.StepsLeft.{OpenCallsBoundSteps, StepsAreBounded};
 ghost use Rattle.task_progress.specs.OwnSteps.{EachPartyIsBounded};
 ghost use Rattle.task_progress.specs.Attempts.{LockFree};
+ghost use Rattle.task_progress.specs.Carried.{DueWakesAreCarried};
 ghost use Rattle.task_progress.specs.Waiting.{NoCallWaits, WhatTaskSawStays};
 ghost use Rattle.task_progress.specs.Ending.{AllCallsEnd, EachEndsAlone, NeverStuck};
 ghost use Rattle.task_progress.specs.AtRest.{AllComeToRest, DueWakesArePolled, DueWakesStay, WithoutWorkAtRest};
@@ -26,6 +27,8 @@ ghost use Rattle.task_laws.specs.Table.{rule};
 /// - All calls in progress can end without a new one (`calls_end`), and a run without new calls never sticks before they have (`never_stuck`).
 /// - A wake that is due stays due while no call begins, or the task is over (`wake_stays_due`). Where no call is in progress, one Runnable exists, and
 ///   its run polls (`wake_is_polled`).
+/// - While a wake is due, also while calls go on beginning, one party carries it: its own steps lead to a poll, and no step of another party takes it
+///   further from one (`wake_is_carried`).
 /// - After every list of steps, the rest of the calls in progress and at most two more lead to rest, and a due wake to a poll, or the task is over
 ///   (`comes_to_rest`). Once a run has started, calls that end lead to rest, or to a closed task (`run_leads_to_rest`). A closed task makes no
 ///   Runnable more (`closed_makes_none`), and without one it is at rest whenever no call is in progress (`closed_leads_to_rest`).
@@ -43,6 +46,7 @@ pub fn progress()
     ensures never_stuck { NeverStuck }
     ensures wake_stays_due { DueWakesStay }
     ensures wake_is_polled { DueWakesArePolled }
+    ensures wake_is_carried { DueWakesAreCarried }
     ensures comes_to_rest { AllComeToRest }
     ensures run_leads_to_rest { RunsLeadToRest }
     ensures closed_makes_none { ClosedMakesNoRunnable }

@@ -6,6 +6,7 @@ use Rattle.task_progress.proofs.Seen.{what_task_saw_stays}
 use Rattle.task_progress.proofs.Ending.{each_ends_alone, all_calls_end, never_stuck}
 use Rattle.task_progress.proofs.AtRest.{without_work_at_rest, due_wakes_are_polled}
 use Rattle.task_progress.proofs.ComesToRest.{all_come_to_rest, due_wakes_stay, closed_makes_no_runnable, runs_lead_to_rest, closed_leads_to_rest}
+use Rattle.task_progress.proofs.Carried.{due_wakes_are_carried}
 use Rattle.task_progress.proofs.progress.Goals as goal
 
 pub returns : goal.returns
@@ -21,6 +22,7 @@ returns c = record {
   never_stuck = never_stuck;
   wake_stays_due = due_wakes_stay;
   wake_is_polled = due_wakes_are_polled;
+  wake_is_carried = due_wakes_are_carried;
   comes_to_rest = all_come_to_rest;
   run_leads_to_rest = runs_lead_to_rest;
   closed_makes_none = closed_makes_no_runnable;

@@ -1,0 +1,57 @@
+-- A due wake is carried: by one party, whose own steps lead to a poll, and no other party's step holds it up.
+use Rattle.std.specs.Prelude.{◌≡◌, ℕ, ◌+◌, ◌≤◌, ◌⊎◌, Bool, true, false, not, ◌&&◌, List, Some, slice_get, nat_lt}
+use Rattle.task_core.specs.Word.{bit, is_open}
+use Rattle.task_core.specs.declared.acts.Act.{Act}
+use Rattle.task_core.specs.declared.acts.Act.TheVariants.{StartPoll, HandOver, GainReference, FindLimit, RefuseGain, EndCall}
+use Rattle.task_laws.specs.declared.positions.Position.{Position}
+use Rattle.task_laws.specs.declared.positions.Position.TheVariants.{At, CallEnding, Deliverer, Starting, Polling, Pending, Ready, ReadyFutureDropped, OutputStored}
+use Rattle.task_laws.specs.declared.positions.Rest.TheVariants.{Runnable}
+use Rattle.task_laws.specs.Machine.{Machine, Step, run, step, how_many}
+use Rattle.task_laws.specs.Laws.{wake_is_due}
+use Rattle.task_progress.specs.StepsLeft.{total}
+
+-- how many of its own steps a party has left at most until it begins a poll, or the task is over; none of a party that carries nothing
+abbrev pub distance : Position → ℕ
+distance (At Runnable) = 2
+distance (CallEnding answer Runnable) = 2
+distance Starting = 1
+distance (Deliverer woken next) = 3
+distance Pending = 4
+distance Polling = 5
+distance Ready = 3
+distance ReadyFutureDropped = 2
+distance OutputStored = 1
+distance _ = 0
+
+abbrev pub carries : Position → Bool
+carries p = nat_lt 0 (distance p)
+
+-- the executor moves a Runnable on, or takes a waker of it, which is no step towards the poll
+abbrev pub is_aside : Act → Position → Bool
+is_aside HandOver (At Runnable) = true
+is_aside GainReference (At Runnable) = true
+is_aside FindLimit (At Runnable) = true
+is_aside RefuseGain (At Runnable) = true
+is_aside EndCall (CallEnding answer Runnable) = true
+is_aside _ _ = false
+
+abbrev pub is_starting : Position → Bool
+is_starting Starting = true
+is_starting _ = false
+
+abbrev pub is_start_poll : Act → Bool
+is_start_poll StartPoll = true
+is_start_poll _ = false
+
+-- a poll is owed: the task is open, and a wake is due, or was taken up by a run that has not polled yet
+abbrev pub IsOwed : Machine → Type 0
+IsOwed m = (is_open m.word ≡ true) × ((wake_is_due m.trace ≡ true) ⊎ (1 ≤ how_many is_starting m.parties))
+
+-- after every list of steps, while a poll is owed: one party carries it; and after each step, unless a poll begins or the task is over by it, a poll
+-- is owed still, the distance is no longer, and it is shorter where the party that carries it has stepped, but not aside
+abbrev pub DueWakesAreCarried : Type 0
+DueWakesAreCarried =
+    (limit : ℕ) (steps : List Step) (m : Machine) → run limit steps ≡ Some m → IsOwed m
+    → (how_many carries m.parties ≡ 1)
+    × ((s : Step) (p : Position) (now : Machine) → slice_get m.parties s.party ≡ Some p → step m s ≡ Some now → is_start_poll s.act ≡ false → is_open now.word ≡ true
+    → IsOwed now × (total distance now.parties + bit (carries p && not (is_aside s.act p)) ≤ total distance m.parties))
