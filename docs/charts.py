@@ -470,6 +470,15 @@ def between(curve, first, last):
     return tuple(weights[0] * start + weights[1] * bend + weights[2] * end for start, bend, end in zip(*curve))
 
 
+def outside(curve, boxes):
+    """The part of a curve that leads from one of these boxes to the other."""
+    shares = [step / 500 for step in range(501)]
+    free = [share for share in shares if not any(overlap(2 * between(curve, share, share), box) for box in boxes)]
+    # boxes over each other leave no share, which is reported as a fault
+    first, last = (free[0], free[-1]) if free else (0.5, 0.5)
+    return between(curve, first, first), between(curve, first, last), between(curve, last, last)
+
+
 def opened(size, title, description):
     """The first lines of a picture."""
     yield f'<svg xmlns="http://www.w3.org/2000/svg" width="{size[0]}" height="{size[1]}" viewBox="0 0 {size[0]} {size[1]}">'
@@ -484,13 +493,13 @@ def written(place, text, color=INK, family="sans-serif", anchor="start", weight=
     return f'<text x="{place[0]:.1f}" y="{place[1]:.1f}" {style}>{text}</text>'
 
 
-def arrow(start, bend, end, color=INK):
-    """The curve of an arrow, and its head."""
+def arrow(start, bend, end, color=INK, dashes=""):
+    """The curve of an arrow, which may have dashes, and its head."""
     length = math.dist(bend, end)
     along, across = (end[0] - bend[0]) / length, (end[1] - bend[1]) / length
     corners = [(end[0] - 11 * along + side * across, end[1] - 11 * across - side * along) for side in (4.5, -4.5)]
     first, control, last, left, right = (f"{x:.1f} {y:.1f}" for x, y in (start, bend, end, *corners))
-    yield f'<path d="M {first} Q {control} {last}" fill="none" stroke="{color}" stroke-width="1.4"/>'
+    yield f'<path d="M {first} Q {control} {last}" fill="none" stroke="{color}" stroke-width="1.4"{dashes}/>'
     yield f'<path d="M {last} L {left} L {right} Z" fill="{color}"/>'
 
 
@@ -524,12 +533,7 @@ class Drawing:
         aside = 2 * BEND / math.dist(start, end) if has_opposite else 0
         across = aside * (start[1] - end[1]), aside * (end[0] - start[0])
         bend = (start[0] + end[0]) / 2 + across[0], (start[1] + end[1]) / 2 + across[1]
-        whole, boxes = (start, bend, end), (around(start, *BOX), around(end, *BOX))
-        shares = [step / 500 for step in range(501)]
-        free = [share for share in shares if not any(overlap(2 * between(whole, share, share), box) for box in boxes)]
-        # boxes over each other leave no share, which is reported as a fault
-        first, last = (free[0], free[-1]) if free else (0.5, 0.5)
-        return between(whole, first, first), between(whole, first, last), between(whole, last, last)
+        return outside((start, bend, end), (around(start, *BOX), around(end, *BOX)))
 
     def faults(self):
         """What is drawn over something else, or beside the picture."""
@@ -700,19 +704,19 @@ def pages():
         yield DOCUMENTS / name, drawing.text()
 
 
-def main():
-    """Writes the page and the pictures, or compares them."""
-    arguments = argparse.ArgumentParser(description="Draws the charts and prints the rows from the table of moves.")
+def main(drawn, description):
+    """Writes what is drawn, a page or a picture at each path, or compares it."""
+    arguments = argparse.ArgumentParser(description=description)
     arguments.add_argument("--check", action="store_true", help="compare them, and write nothing")
     check, differs = arguments.parse_args().check, False
-    for path, text in list(pages()):
+    for path, text in list(drawn):
         if not check:
             path.write_text(text, encoding="utf-8")
         elif not path.exists() or path.read_text(encoding="utf-8") != text:
             differs = True
-            print(f"{path.name} differs from the table: run docs/charts.py")
+            print(f"{path.name} differs from what is drawn: run docs/{pathlib.Path(sys.argv[0]).name}")
     sys.exit(1 if differs else 0)
 
 
 if __name__ == "__main__":
-    main()
+    main(pages(), "Draws the charts and prints the rows from the table of moves.")

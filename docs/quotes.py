@@ -1,5 +1,5 @@
 #!/usr/bin/env python3
-"""quotes.py --check compares the code blocks of README.md and of five pages with the files that they are quoted from, and looks for what pages name:
+"""quotes.py --check compares the code blocks of README.md and of other pages with the files that they are quoted from, and looks for what pages name:
 the tests of docs/API.md, and each name with an underscore on the pages of NAMING. quotes.py FOLDER writes the files below FOLDER as a reader who types
 the blocks of README.md and docs/GUIDE.md in would, to try them in another repository.
 
@@ -16,11 +16,13 @@ HERE = pathlib.Path(__file__).resolve().parent.parent
 PATH = re.compile(r"`(crates/[\w./]+|crates\.txt)`")
 FENCED = re.compile(r"^```\w*\n(.*?)^```\n", re.MULTILINE | re.DOTALL)
 WHOLE = ("README.md", "docs/GUIDE.md")
-EXCERPTS = ("docs/EXECUTORS.md", "docs/EXECUTOR_POOL.md", "docs/FUTURES.md", "docs/KIT_BRIDGE.md")
+# crates with a page of their own, which is looked at as the other pages are
+CRATES = ("awaiters", "task_group", "kit_bridge", "combinators", "shared_waker", "local_task", "priority_heap", "executor", "async_task")
+EXCERPTS = ("docs/EXECUTOR_POOL.md",) + tuple(f"crates/{name}/README.md" for name in CRATES)
 # the pages that name hardly anything but what this repository has, and what they name of the kit
 NAMING = WHOLE + EXCERPTS + (
-    "docs/API.md", "docs/ARCHITECTURE.md", "docs/DEVELOPING.md", "docs/EXAMPLES.md", "docs/MACHINE.md", "docs/PROOFS.md", "docs/ROWS.md", "docs/RULES.md",
-    "docs/TRACES.md")
+    "docs/API.md", "docs/ARCHITECTURE.md", "docs/DEVELOPING.md", "docs/EXAMPLES.md", "docs/EXECUTORS.md", "docs/FUTURES.md",
+    "docs/KIT_BRIDGE.md", "docs/MACHINE.md", "docs/PROOFS.md", "docs/ROWS.md", "docs/RULES.md", "docs/TRACES.md")
 OF_THE_KIT = {"from_event_fd", "from_raw_fd", "get_mut", "pop_front"}
 # a definition of Rust or of a spec, a clause of a contract, a variable; or a field, a parameter or a constructor
 DEFINED = re.compile(

@@ -1,5 +1,5 @@
 -- What a handle keeps of its party between two calls.
-use Rattle.task_cell.proofs.Vocabulary.{◌≡◌, ℕ, true, List, [], ◌∷◌, ◌++◌, refl, ap, ◌∙◌, subst, Position, At, Task, Deed, member, view, deeds, position, holds, limit_of, Stands, Goes, as_task}
+use Rattle.task_cell.proofs.Vocabulary.{◌≡◌, ℕ, true, List, [], ◌∷◌, ◌++◌, refl, ap, ◌∙◌, subst, Position, At, Task, Deed, member, view, deeds, position, places_of, limit_of, Stands, Did, as_task}
 use Rattle.task_cell.proofs.Vocabulary.{poll_number}
 use Rattle.task_cell.specs.declared.cell.Party.{Party}
 use Rattle.task_cell.specs.Calls.{is_empty}
@@ -16,18 +16,18 @@ at_task _ e = absurd (cc)
 
 module _ {F T A : Type 0} where
   -- a party that is alone on its seat stands where it is
-  pub stands_alone : (p : Party F T A) (at : Position) → p.seat.me.0 ≡ view (limit_of p) (member at (deeds p) ∷ []) → is_empty (holds p) ≡ true → Stands at p
-  stands_alone p at alone free = λ i. (alone i, none_held (holds p) free i)
+  pub stands_alone : (p : Party F T A) (at : Position) → p.seat.me.0 ≡ view (limit_of p) (member at (deeds p) ∷ []) → is_empty (places_of p) ≡ true → Stands at p
+  stands_alone p at alone free = λ i. (alone i, none_held (places_of p) free i)
 
-  pub stands_task : (p : Party F T A) → p.seat.me.0 ≡ view (limit_of p) (member (position p) (deeds p) ∷ []) → is_task (position p) ≡ true → is_empty (holds p) ≡ true → (n : ℕ) × Stands (as_task n) p
+  pub stands_task : (p : Party F T A) → p.seat.me.0 ≡ view (limit_of p) (member (position p) (deeds p) ∷ []) → is_task (position p) ≡ true → is_empty (places_of p) ≡ true → (n : ℕ) × Stands (as_task n) p
   stands_task p alone placed free = let n = at_task (position p) placed in
       (n.0, stands_alone p (as_task n.0) (alone ∙ ap (λ at. view (limit_of p) (member at (deeds p) ∷ [])) n.1) free)
 
   -- .. also where the Task stood before
-  pub stands_again : (p q : Party F T A) (path : List Deed) (n : ℕ) → Stands (as_task n) p → Goes path (position p) p q → Stands (as_task n) q
+  pub stands_again : (p q : Party F T A) (path : List Deed) (n : ℕ) → Stands (as_task n) p → Did path (position p) p q → Stands (as_task n) q
   stands_again p q path n s g = subst (λ (at : Position). Stands at q) (moved.position_is p (as_task n) [] s) (moved.stands p q path (position p) [] g)
 
   -- a call that ends where it began, and then a poll
-  pub then_polls : (p m q : Party F T A) (before path : List Deed) → Goes before (position p) p m → Goes path (as_task (poll_number (position m))) m q → Goes (before ++ path) (as_task (poll_number (position p))) p q
-  then_polls p m q before path f g = moved.goes_on p m q before path (position p) (as_task (poll_number (position p))) [] [] f
-      (subst (λ (at : Position). Goes path (as_task (poll_number at)) m q) (moved.position_is m (position p) [] (moved.stands p m before (position p) [] f)) g)
+  pub then_polls : (p m q : Party F T A) (before path : List Deed) → Did before (position p) p m → Did path (as_task (poll_number (position m))) m q → Did (before ++ path) (as_task (poll_number (position p))) p q
+  then_polls p m q before path f g = moved.did_then p m q before path (position p) (as_task (poll_number (position p))) [] [] f
+      (subst (λ (at : Position). Did path (as_task (poll_number at)) m q) (moved.position_is m (position p) [] (moved.stands p m before (position p) [] f)) g)

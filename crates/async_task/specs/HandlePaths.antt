@@ -6,9 +6,9 @@ use Rattle.task_core.specs.declared.traits.TaskPoll.TheVariants.{Pending as Wait
 use Rattle.task_core.specs.declared.acts.Act.TheVariants.{LookFinished, EndCall}
 use Rattle.task_steps.specs.declared.table.Deed.{Deed}
 use Rattle.task_cell.specs.declared.cell.Party.{Party}
-use Rattle.task_cell.specs.Calls.{Goes, position}
+use Rattle.task_cell.specs.Calls.{Did, position}
 use Rattle.task_steps.specs.Deeds.{row, act}
-use Rattle.task_steps.specs.Standing.{as_task, poll_number}
+use Rattle.task_steps.specs.Standing.{as_ended, as_task, poll_number}
 use Rattle.task_cell.specs.PollPaths.{PollPath}
 
 -- the answer of a Task's poll as a FallibleTask gives it
@@ -39,18 +39,22 @@ ClosesUnless false Closes path = Closes path
 module _ {F T A : Type 0} where
   -- one load, which answers whether the task is over
   abbrev pub FindsFinished : Party F T A → Party F T A → Bool → Type 0
-  FindsFinished p q answer = (w : State) × Goes (row LookFinished w ∷ act EndCall ∷ []) (position p) p q × (answer ≡ not (is_open w))
+  FindsFinished p q answer = (w : State) × Did (row LookFinished w ∷ act EndCall ∷ []) (position p) p q × (answer ≡ not (is_open w))
+
+  -- the task is closed, and then the Task given up
+  abbrev pub EndsTask : (List Deed → Type 0) → (List Deed → Type 0) → Party F T A → Party F T A → Type 0
+  EndsTask Closes GivesUp p q = (closing path : List Deed) × Closes closing × GivesUp path × Did (closing ++ path) as_ended p q
 
   -- one poll of the Task
   abbrev pub PollsOnce : {U : Type 0} → (A → Option A → Type 0) → (A → Type 0) → (A → Type 0) → (A → A → Bool → Type 0) → A → Party F T A
       → Party F T A → TaskPoll (Option U) → Type 0
   PollsOnce cloned woken woken_by_ref compared awaiter p q answer =
       (path : List Deed) × PollPath cloned woken woken_by_ref compared awaiter path answer
-      × Goes path (as_task (poll_number (position p))) p q
+      × Did path (as_task (poll_number (position p))) p q
 
   -- .. before which the task is closed, unless it was by an earlier one
   abbrev pub PollsClosed : {U : Type 0} → Bool → (List Deed → Type 0) → (A → Option A → Type 0) → (A → Type 0) → (A → Type 0)
       → (A → A → Bool → Type 0) → A → Party F T A → Party F T A → TaskPoll (Option U) → Type 0
   PollsClosed was_closed Closes cloned woken woken_by_ref compared awaiter p q answer =
       (closing path : List Deed) × ClosesUnless was_closed Closes closing × PollPath cloned woken woken_by_ref compared awaiter path answer
-      × Goes (closing ++ path) (as_task (poll_number (position p))) p q
+      × Did (closing ++ path) (as_task (poll_number (position p))) p q

@@ -7,12 +7,14 @@ ghost use Rattle.task_cell.specs.Belongs.{cell_of, limit_in};
 ghost use Rattle.task_cell.specs.Calls.{Stands, deeds};
 
 use crate::task::{Task, TaskParty};
-use std::alloc::Allocator;
+use std::alloc::{AllocError, Allocator};
 use std::sync::Wait;
+use std::{fmt, io};
 use task_cell::{Runnable, Share};
 use task_core::word::LIMIT;
 use task_core::{Schedule, Wake, Yields};
 use task_steps::table::{Kept, TaskSeat};
+use thiserror::Error;
 
 /// What a spawn is given beside the future and the schedule value: the metadata, and the limit of references.
 #[derive(Debug, Drop)]
@@ -23,7 +25,8 @@ pub struct Builder<M> {
 }
 
 /// A spawn was refused for want of memory: what it was given.
-#[derive(Debug, Drop)]
+#[derive(Drop, Error)]
+#[error("no memory for the task")]
 pub struct SpawnError<M, G, Q> {
     /// The builder.
     pub builder: Builder<M>,
@@ -31,6 +34,24 @@ pub struct SpawnError<M, G, Q> {
     pub maker: G,
     /// The schedule value.
     pub schedule: Q,
+}
+
+impl<M, G, Q> fmt::Debug for SpawnError<M, G, Q> {
+    fn fmt<W: fmt::Write>(&self, f: &mut fmt::Formatter<W>) -> fmt::Result {
+        f.write_str("SpawnError")
+    }
+}
+
+impl<M: Drop, G: Drop, Q: Drop> From<SpawnError<M, G, Q>> for AllocError {
+    fn from(_error: SpawnError<M, G, Q>) -> AllocError {
+        AllocError
+    }
+}
+
+impl<M: Drop, G: Drop, Q: Drop> From<SpawnError<M, G, Q>> for io::Error {
+    fn from(_error: SpawnError<M, G, Q>) -> io::Error {
+        io::Error::from(AllocError)
+    }
 }
 
 impl Builder<()> {

@@ -6,7 +6,7 @@ ghost use Rattle.task_steps.specs.Steps.{saw_over, saw_ended};
 ghost use Rattle.task_cell.specs.TaskPaths.{CancelPath};
 ghost use Rattle.task_cell.specs.Handed.{HandedOver};
 ghost use Rattle.async_task.specs.HandlePaths.{ClosesUnless, FindsFinished, PollsClosed, IfSomeOutput};
-ghost use Rattle.task_cell.specs.Calls.{Goes, deeds, position};
+ghost use Rattle.task_cell.specs.Calls.{Did, deeds, position};
 
 use crate::task::Task;
 use std::alloc::{Allocator, Global};
@@ -16,6 +16,7 @@ use task_core::{Schedule, TaskPoll, Wake, Yields};
 
 /// A Task whose first poll cancels the task. Each poll answers as that of a `FallibleTask` does. Dropped, polled or not, it cancels the task.
 #[derive(Drop)]
+#[must_use]
 pub struct Cancel<
     R: Wait + Drop + Copy,
     F: Yields,
@@ -91,7 +92,7 @@ where
 
     // Cancels the task, unless an earlier poll did.
     fn cancel_once(&mut self)
-        ensures path { (path : List Deed) × ClosesUnless self.old.cancelled (CancelPath (HandedOver Q.scheduled (cell_of self.old.task.inner.share) self.old.task.around false) ((a : A) × A.woken a)) path × Goes path (position self.old.task.inner.party) self.old.task.inner.party self.new.task.inner.party }
+        ensures path { (path : List Deed) × ClosesUnless self.old.cancelled (CancelPath (HandedOver Q.scheduled (cell_of self.old.task.inner.share) self.old.task.around false) ((a : A) × A.woken a)) path × Did path (position self.old.task.inner.party) self.old.task.inner.party self.new.task.inner.party }
         ensures cancelled { self.new.cancelled ≡ true }
         ensures ended { saw_ended (deeds self.old.task.inner.party) ≡ true → saw_ended (deeds self.new.task.inner.party) ≡ true }
         ensures cell { self.new.task.inner.share ≡ self.old.task.inner.share }

@@ -1,18 +1,24 @@
 //! The Task as a handle whose polls answer `None` for a task that is closed.
-ghost use Rattle.std.specs.Prelude.{◌≡◌, true, false, None};
+ghost use Rattle.std.specs.Prelude.{◌≡◌, List, true, false, None};
+ghost use Rattle.task_steps.specs.declared.table.Deed.{Deed};
+ghost use Rattle.task_steps.specs.Standing.{as_ended};
 ghost use Rattle.task_steps.specs.Steps.{saw_over, saw_ended};
-ghost use Rattle.async_task.specs.HandlePaths.{FindsFinished, PollsOnce, IfSomeOutput};
-ghost use Rattle.task_cell.specs.Calls.{deeds};
+ghost use Rattle.async_task.specs.HandlePaths.{EndsTask, FindsFinished, PollsOnce, IfSomeOutput};
+ghost use Rattle.task_cell.specs.Belongs.{cell_of};
+ghost use Rattle.task_cell.specs.Calls.{Did, deeds};
+ghost use Rattle.task_cell.specs.Handed.{HandedOver};
+ghost use Rattle.task_cell.specs.TaskPaths.{CancelPath, DetachPath};
 
 use crate::cancel::Cancel;
 use crate::task::Task;
 use std::alloc::{Allocator, Global};
 use std::sync::Wait;
-use task_cell::Runnable;
+use task_cell::{EndedCall, Kept, Runnable};
 use task_core::{Schedule, TaskPoll, Wake, Yields};
 
 /// A Task whose polls answer `None` where a Task's answer `TaskClosed`. Dropped, it cancels the task.
 #[derive(Drop)]
+#[must_use]
 pub struct FallibleTask<
     R: Wait + Drop + Copy,
     F: Yields,
@@ -48,8 +54,11 @@ where
     }
 
     /// Does what a drop does: cancels the task, and gives the Task up.
-    pub fn discard(self) {
-        drop(self);
+    pub fn discard(self) -> EndedCall<F, Kept<F>, A>
+        ensures path { EndsTask (CancelPath (HandedOver Q.scheduled (cell_of self.task.inner.share) self.task.around false) ((a : A) × A.woken a)) (DetachPath (HandedOver Q.scheduled (cell_of self.task.inner.share) self.task.around false)) self.task.inner.party result.party }
+    {
+        let FallibleTask { task } = self;
+        task.discard()
     }
 
     /// The same handle with other surroundings. It makes no step. A cancel and the drop hand their Runnable over with these.
@@ -66,9 +75,11 @@ where
     }
 
     /// Gives the Task up and lets the task go on. An output that nobody claimed is dropped.
-    pub fn detach(self) {
+    pub fn detach(self) -> EndedCall<F, Kept<F>, A>
+        ensures path { (path : List Deed) × DetachPath (HandedOver Q.scheduled (cell_of self.task.inner.share) self.task.around false) path × Did path as_ended self.task.inner.party result.party }
+    {
         let FallibleTask { task } = self;
-        task.detach();
+        task.detach()
     }
 
     /// The same Task, as a handle whose first poll cancels the task. This call makes no step.

@@ -4,23 +4,25 @@ ghost use Rattle.task_cell.specs.Belongs.{cell_of};
 ghost use Rattle.task_steps.specs.declared.table.Deed.{Deed};
 ghost use Rattle.task_steps.specs.Rule.{view, member};
 ghost use Rattle.task_steps.specs.Steps.{saw_over, saw_ended};
-ghost use Rattle.task_cell.specs.TaskPaths.{CancelPath};
+ghost use Rattle.task_cell.specs.TaskPaths.{CancelPath, DetachPath};
 ghost use Rattle.task_cell.specs.Handed.{HandedOver};
 ghost use Rattle.task_cell.specs.PollPaths.{IfOutput};
-ghost use Rattle.async_task.specs.HandlePaths.{FindsFinished, PollsOnce, IfSomeOutput, fallible_answer, is_closed};
-ghost use Rattle.task_cell.specs.Calls.{Goes, deeds, position, holds, limit_of, is_empty};
-ghost use Rattle.task_steps.specs.Standing.{is_task};
+ghost use Rattle.async_task.specs.HandlePaths.{EndsTask, FindsFinished, PollsOnce, IfSomeOutput, fallible_answer, is_closed};
+ghost use Rattle.task_cell.specs.Calls.{Did, deeds, position, places_of, limit_of, is_empty};
+ghost use Rattle.task_steps.specs.Standing.{as_ended, is_task};
 
 use crate::cancel::Cancel;
 use crate::fallible::FallibleTask;
 use crate::parked::ParkedTask;
 use std::alloc::{Allocator, Global};
 use std::sync::Wait;
-use task_cell::{Kept, Party, Runnable, Share};
+use task_cell::{EndedCall, Kept, Party, Runnable, Share};
 use task_core::{Schedule, TaskPoll, Wake, Yields};
+use thiserror::Error;
 
 /// The task is closed, and no output will come.
-#[derive(Clone, Copy, Debug, PartialEq, Eq)]
+#[derive(Clone, Copy, Debug, PartialEq, Eq, Error)]
+#[error("the task is closed")]
 pub struct TaskClosed;
 
 /// A share of a cell, and the party of its Task.
@@ -31,7 +33,7 @@ pub(crate) struct TaskParty<R, F: Yields, Q, M, A, B: Allocator + Copy> {
     ghost limited: { limit_of party ≡ share.block.key },
     ghost placed: { is_task (position party) ≡ true },
     ghost alone: { party.seat.me.0 ≡ view (limit_of party) (member (position party) (deeds party) ∷ []) },
-    ghost free: { is_empty (holds party) ≡ true },
+    ghost free: { is_empty (places_of party) ≡ true },
 }
 
 impl<R: Wait + Drop + Copy, F: Yields, Q: Drop, M: Drop, A: Wake, B: Allocator + Copy> TaskParty<
@@ -72,7 +74,7 @@ impl<R: Wait + Drop + Copy, F: Yields, Q: Drop, M: Drop, A: Wake, B: Allocator +
     pub(crate) fn cancel<X: Copy>(&mut self, around: X)
     where
         Q: Schedule<Runnable<R, F, Q, M, A, X, B>>,
-        ensures path { (path : List Deed) × CancelPath (HandedOver Q.scheduled (cell_of self.old.share) around false) ((a : A) × A.woken a) path × Goes path (position self.old.party) self.old.party self.new.party }
+        ensures path { (path : List Deed) × CancelPath (HandedOver Q.scheduled (cell_of self.old.share) around false) ((a : A) × A.woken a) path × Did path (position self.old.party) self.old.party self.new.party }
         ensures share { self.new.share ≡ self.old.share }
     {
         self.share.cancel(&mut self.party, around);
@@ -80,6 +82,7 @@ impl<R: Wait + Drop + Copy, F: Yields, Q: Drop, M: Drop, A: Wake, B: Allocator +
 }
 
 /// The handle that gets the output. Dropped, it cancels the task.
+#[must_use]
 pub struct Task<
     R: Wait + Drop + Copy,
     F: Yields,
@@ -102,11 +105,7 @@ where
     Q: Schedule<Runnable<R, F, Q, M, A, X, B>>,
 {
     fn drop(self) {
-        let (inner, around) = self.into_parts();
-        let TaskParty { share, mut party } = inner;
-        share.cancel(&mut party, around);
-        share.detach(&mut party, around);
-        party.let_go();
+        self.discard();
     }
 }
 
@@ -145,8 +144,14 @@ where
     }
 
     /// Does what a drop does: cancels the task, and gives the Task up.
-    pub fn discard(self) {
-        drop(self);
+    pub fn discard(self) -> EndedCall<F, Kept<F>, A>
+        ensures path { EndsTask (CancelPath (HandedOver Q.scheduled (cell_of self.inner.share) self.around false) ((a : A) × A.woken a)) (DetachPath (HandedOver Q.scheduled (cell_of self.inner.share) self.around false)) self.inner.party result.party }
+    {
+        let (inner, around) = self.into_parts();
+        let TaskParty { share, mut party } = inner;
+        share.cancel(&mut party, around);
+        share.detach(&mut party, around);
+        party.let_go()
     }
 
     /// The same handle without the surroundings. It makes no step.
@@ -189,11 +194,13 @@ where
     }
 
     /// Gives the Task up and lets the task go on. An output that nobody claimed is dropped.
-    pub fn detach(self) {
+    pub fn detach(self) -> EndedCall<F, Kept<F>, A>
+        ensures path { (path : List Deed) × DetachPath (HandedOver Q.scheduled (cell_of self.inner.share) self.around false) path × Did path as_ended self.inner.party result.party }
+    {
         let (inner, around) = self.into_parts();
         let TaskParty { share, mut party } = inner;
         share.detach(&mut party, around);
-        party.let_go();
+        party.let_go()
     }
 
     /// Whether the task is completed or closed. Once it is, each further answer is true.

@@ -1,49 +1,61 @@
-//! Waiting for a Task on a thread that does nothing else.
-ghost use Rattle.std.specs.Prelude.{◌≡◌, true, IfOk, IsErr};
-ghost use Rattle.task_steps.specs.Steps.{saw_ended};
-ghost use Rattle.task_cell.specs.Calls.{deeds};
+//! Waiting for a Task or a Cancel on a thread that does nothing else.
+ghost use Rattle.std.specs.Prelude.{◌≡◌, ◌≢◌};
+ghost use Rattle.awaiters.specs.Answered.{answer_of};
 
+use crate::awaited::Awaited;
 use crate::mailbox::{Awaiter, Mailbox};
-use async_task::{Runnable, Schedule, Task, TaskPoll, Yields};
-use std::alloc::{Allocator, Global};
+use async_task::TaskPoll;
+use std::alloc::Global;
+use std::io;
 use std::sync::Wait;
+use thiserror::Error;
 
-/// Why `block_on` has no output.
-#[derive(Clone, Copy, Debug, PartialEq, Eq)]
+/// Why a call that waits for a task has no output.
+#[derive(Clone, Copy, Debug, PartialEq, Eq, Error)]
+#[error("{}", self.words())]
 pub enum BlockOnError {
     /// The task is closed: no output will come.
     Closed,
-    /// Memory for the mailbox, or a clone of the awaiter, was refused. The Task is as it was but for its polls, and may be waited for again.
+    /// Memory for the mailbox, or a clone of the awaiter, was refused. The handle is as it was but for its polls, and may be waited for again.
     Refused,
+    /// The pool was shut down before the task was over. `block_on` of this crate, which knows no pool, never answers it.
+    ShutDown,
 }
 
-/// Waits for the output of a task, asleep until the task wakes this thread. Other threads have to run the task.
+impl BlockOnError {
+    fn words(&self) -> &'static str {
+        match self {
+            BlockOnError::Closed => "the task is closed",
+            BlockOnError::Refused => "the awaiter was refused",
+            BlockOnError::ShutDown => "the pool was shut down",
+        }
+    }
+}
+
+impl From<BlockOnError> for io::Error {
+    fn from(error: BlockOnError) -> io::Error {
+        io::Error::other(error.words())
+    }
+}
+
+/// Waits until the task of a Task or a Cancel is over, asleep until it wakes this thread. Other threads have to run the task.
 ///
-/// `rt` is what the thread waits by, `alloc` where the memory of its mailbox comes from. The output meets what the type of the future states.
-pub fn block_on<R, F, Q, M, X, B>(
+/// `rt` is what the thread waits by, `alloc` where the memory of its mailbox comes from. Of a Cancel `Ok(None)` says that the future is gone. After
+/// `Refused` the task of a Cancel may not have been cancelled yet.
+pub fn block_on<R: Wait + Drop + Copy, T: Awaited<Awaiter<R>>>(
     rt: R,
     alloc: Global,
-    task: &mut Task<R, F, Q, M, Awaiter<R>, X, B>,
-) -> Result<F::Output, BlockOnError>
-where
-    R: Wait + Drop + Copy,
-    F: Yields,
-    M: Drop,
-    X: Copy,
-    B: Allocator + Copy,
-    Q: Schedule<Runnable<R, F, Q, M, Awaiter<R>, X, B>> + Drop,
-    ensures meets { IfOk result (λ output. ∥ F.Yields.meets output ∥₁) }
-    ensures closed { result ≡ Err BlockOnError.Closed → saw_ended (deeds task.new.inner.party) ≡ true }
-    ensures ended { saw_ended (deeds task.old.inner.party) ≡ true → IsErr result }
-    ensures cell { task.new.inner.share ≡ task.old.inner.share }
-    ensures around { task.new.around ≡ task.old.around }
+    task: &mut T,
+) -> Result<T::Output, BlockOnError>
+    ensures answer { T.Awaited.answers task.old (answer_of result) task.new }
+    ensures running { result ≢ Err BlockOnError.ShutDown }
 {
     let Ok(mailbox) = Mailbox::new(rt, alloc, 1) else {
         return Err(BlockOnError::Refused);
     };
     let awaiter = Awaiter::new(&mailbox, 0).ok_or(BlockOnError::Refused)?;
     for _ in rt.forever() {
-        match task.poll(&awaiter) {
+        match task.poll_once(&awaiter) {
             TaskPoll::Ready(Ok(output)) => return Ok(output),
             TaskPoll::Ready(Err(_)) => return Err(BlockOnError::Closed),
             TaskPoll::Refused => return Err(BlockOnError::Refused),

@@ -94,7 +94,7 @@ impl<R: Wait + Drop + Copy, L: Listener> Mailbox<R, L> {
 #[derive(Drop)]
 pub struct Awaiter<R: Wait + Drop + Copy> {
     mailbox: Arc<Mailbox<R>>,
-    number: usize,
+    pub(crate) number: usize,
 }
 
 impl<R: Wait + Drop + Copy> Awaiter<R> {

@@ -9,7 +9,7 @@ use std::alloc::{AllocError, Global};
 use std::collections::VecDeque;
 
 /// Numbers that wait to be taken, each at most once, with all memory for them reserved.
-#[derive(Drop)]
+#[derive(Debug, Drop)]
 pub struct Numbers {
     posted: VecDeque<usize>,
     waits: Vec<bool>,

@@ -17,9 +17,6 @@ Measures the operations of the library, and prints a line for each. Without argu
     quick                 .. by 5
     perform NAME COUNT    so many operations of one benchmark, of which nothing is printed
     --help                this text
-
-The names:
-
 ";
 
 // How often each benchmark is measured.
@@ -72,8 +69,8 @@ fn performed(more: &[String]) -> Option<Command> {
 
 /// Has `act` do what the arguments ask for, and answers the status.
 ///
-/// Without arguments nothing is done. The status is 0; 1 where `act` failed, which is told on `err`; and 2, with the usage on `err`, where it is
-/// not known what is asked for.
+/// Without arguments nothing is done. The status is 0; 1 where `act` failed, which is told on `err`; and 2 where it is not known what is asked for:
+/// the usage is told on `err`, and after the word `perform` the names too.
 pub fn answer<D, E: io::Write>(args: &[String], act: &D, err: &mut E) -> u8
 where
     D: Fn(Command) -> Result<(), Failure>,
@@ -82,8 +79,11 @@ where
     ensures nothing { args.now ≡ [] → result ≡ 0 }
 {
     let Some(command) = asked(args) else {
-        let _ = writeln!(err, "{USAGE}");
-        return 2;
+        let status = refuse(err);
+        if args.first().is_some_and(|word| word.as_str() == "perform") {
+            let _ = print_names(err);
+        }
+        return status;
     };
     match command {
         Command::DoNothing => 0,
@@ -91,9 +91,23 @@ where
     }
 }
 
+/// Refuses the arguments by a line on `err`, which tells the usage. The status is 2.
+pub fn refuse<E: io::Write>(err: &mut E) -> u8
+    ensures { result ≡ 2 }
+{
+    let _ = writeln!(err, "{USAGE}");
+    2
+}
+
 /// Prints what may be written: the arguments, and the names of the benchmarks that can be performed.
 pub fn print_help<W: io::Write>(out: &mut W) -> Result<(), Failure> {
     write!(out, "{USAGE}\n{HELP}")?;
+    print_names(out)
+}
+
+// The names of the benchmarks that can be performed.
+fn print_names<W: io::Write>(out: &mut W) -> Result<(), Failure> {
+    write!(out, "\nThe names:\n\n")?;
     for benchmark in Benchmark::ALL {
         print_name(benchmark.name(), out)?;
     }

@@ -89,11 +89,18 @@ where
     ensures unknown { ¬ BeginWithKnownWord args.now → result ≡ 2 }
 {
     let Some(request) = asked(args) else {
-        let _ = writeln!(err, "{USAGE}");
-        return 2;
+        return refuse(err);
     };
     let printed = print(alloc, request, measure, out);
     status_of("executorbench", printed, err)
+}
+
+/// Refuses the arguments by a line on `err`, which tells the usage. The status is 2.
+pub fn refuse<E: io::Write>(err: &mut E) -> u8
+    ensures { result ≡ 2 }
+{
+    let _ = writeln!(err, "{USAGE}");
+    2
 }
 
 fn print<M, O: io::Write>(

@@ -6,6 +6,8 @@ mod counter;
 #[cfg(test)]
 mod granted;
 #[cfg(test)]
+mod joining_all_tests;
+#[cfg(test)]
 mod joining_tests;
 #[cfg(test)]
 mod racing_tests;

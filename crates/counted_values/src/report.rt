@@ -20,8 +20,8 @@ Runs worked rows, and prints a line for each. Without arguments these are the ro
 
 /// Runs the rows that the arguments ask for, by `run`, and prints a line for each and one at the end.
 ///
-/// The status is 0 where all rows agree, and 1 where one does not or a writer fails. After the help it is 0 too. Arguments that ask for neither
-/// are answered by a line on `err` and status 2.
+/// The status is 0 where all rows agree, and 1 where one does not, or where a writer fails, which is told on `err`. After the help it is 0 too.
+/// Arguments that ask for neither are refused.
 pub fn answer<N, W: io::Write, E: io::Write>(
     args: &[String],
     run: &N,
@@ -36,7 +36,34 @@ where
     ensures help { AskForHelp args.now → result ≤ 1 }
     ensures refused { ¬ AskForRows args.now → ¬ AskForHelp args.now → 1 ≤ result }
 {
-    try_answer(args, run, out, err).unwrap_or(1)
+    match try_answer(args, run, out, err) {
+        Ok(status) => status,
+        Err(error) => failed(error, err),
+    }
+}
+
+/// Refuses the arguments by a line on `err`, which tells the usage. The status is 2, or 1 where `err` fails.
+pub fn refuse<E: io::Write>(err: &mut E) -> u8
+    ensures status { (1 ≤ result) × (result ≤ 2) }
+{
+    print_usage(err).unwrap_or(1)
+}
+
+// Tells what failed on `err`: the status.
+fn failed<E: io::Write>(error: io::Error, err: &mut E) -> u8
+    ensures { result ≡ 1 }
+{
+    let _ = writeln!(err, "taskrows: {error}");
+    let _ = err.flush();
+    1
+}
+
+fn print_usage<E: io::Write>(err: &mut E) -> io::Result<u8>
+    ensures { IfOk result (λ status. status ≡ 2) }
+{
+    writeln!(err, "{USAGE}")?;
+    err.flush()?;
+    Ok(2)
 }
 
 // The status, or what a writer answered.
@@ -57,9 +84,7 @@ where
         return print_help(out);
     }
     let Some(asked) = asked_rows(args) else {
-        writeln!(err, "{USAGE}")?;
-        err.flush()?;
-        return Ok(2);
+        return print_usage(err);
     };
     print_rows(asked, run, out)
 }

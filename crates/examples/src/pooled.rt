@@ -116,7 +116,7 @@ fn spawn<R: Wait + Drop + Copy>(
     pool: &JobPool<R>,
     job: Job<R>,
 ) -> Result<JobTask<'_, R>, AllocError> {
-    pool.spawn(job).ok().ok_or(AllocError)
+    Ok(pool.spawn(job)?)
 }
 
 /// Spawns the sum of the numbers from 1 to `summed`, and the average of those from 1 to `averaged`. An error says that there was no memory.

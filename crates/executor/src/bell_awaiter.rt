@@ -3,9 +3,8 @@ ghost use Rattle.std.specs.Prelude.{⊤, ◌≡◌, false, IfSome};
 ghost use Rattle.std.specs.Arc.{arc_value};
 ghost use Rattle.executor.specs.Wakes.{IsForWorker, IsForKept, IsForReader, IsSameWake};
 
-use crate::mail::Mail;
 use crate::pool::Pool;
-use crate::worker_bell::WorkerBell;
+use crate::ringing::{PoolListener, Rings};
 use async_task::{Wake, Yields};
 use awaiters::{Mailbox, Posts};
 use std::alloc::Allocator;
@@ -15,17 +14,15 @@ use work_queues::Bells;
 /// Whom an awaiter of a pool wakes.
 #[derive(Drop)]
 pub(crate) enum Wakes<R: Wait + Drop + Copy> {
-    /// The worker of this number, by the bells.
-    Worker(Arc<Bells>, usize),
-    /// The task whose waker is kept under this number, by the mail and then the bells.
-    Kept(Arc<Bells>, Arc<Mail<R>>, usize),
+    /// A worker, or the task whose waker is kept under a number.
+    Ring(Rings<R>),
     /// Whoever takes this number out of the mailbox.
-    Reader(Arc<Mailbox<R, WorkerBell>>, usize),
+    Reader(Arc<Mailbox<R, PoolListener<R>>>, usize),
 }
 
 /// An awaiter of a pool. Its wake needs no memory. That of `new` and `of_kept` rings a bell: a worker looks once more for what is to be done. That of `of_mailbox` posts a number to a mailbox.
 pub struct BellAwaiter<R: Wait + Drop + Copy> {
-    wakes: Wakes<R>,
+    pub(crate) wakes: Wakes<R>,
 }
 
 impl<R: Wait + Drop + Copy> Drop for BellAwaiter<R> {
@@ -46,7 +43,7 @@ impl<R: Wait + Drop + Copy> BellAwaiter<R> {
     ) -> Option<BellAwaiter<R>>
         ensures wakes { IfSome result (λ awaiter. IsForWorker awaiter.wakes (arc_value pool.now.crew.bells) worker) }
     {
-        BellAwaiter::for_worker(pool.bells(), worker)
+        BellAwaiter::of_rings(Rings::for_worker(pool.bells(), worker)?)
     }
 
     /// An awaiter that has a worker wake the task whose waker is kept under this number, which is that of a key of `place_for_waker` of this pool. Where
@@ -59,33 +56,26 @@ impl<R: Wait + Drop + Copy> BellAwaiter<R> {
     ) -> Option<BellAwaiter<R>>
         ensures wakes { IfSome result (λ awaiter. IsForKept awaiter.wakes (arc_value pool.now.crew.bells) (arc_value pool.now.mail) number) }
     {
-        BellAwaiter::for_kept(pool.bells(), &pool.mail, number)
+        BellAwaiter::of_rings(Rings::for_kept(pool.bells(), &pool.mail, number)?)
     }
 
-    fn for_worker(bells: &Arc<Bells>, worker: usize) -> Option<BellAwaiter<R>>
-        ensures wakes { IfSome result (λ awaiter. IsForWorker awaiter.wakes (arc_value bells.now) worker) }
+    fn of_rings(rings: Rings<R>) -> Option<BellAwaiter<R>>
+        ensures { IfSome result (λ awaiter. awaiter.wakes ≡ Wakes.Ring rings) }
     {
-        let bells = Arc::try_clone(bells).ok()?;
-        let wakes = Wakes::Worker(bells, worker);
-        Some(BellAwaiter { wakes })
-    }
-
-    fn for_kept(bells: &Arc<Bells>, mail: &Arc<Mail<R>>, number: usize) -> Option<BellAwaiter<R>>
-        ensures wakes { IfSome result (λ awaiter. IsForKept awaiter.wakes (arc_value bells.now) (arc_value mail.now) number) }
-    {
-        let bells = Arc::try_clone(bells).ok()?;
-        let mail = Arc::try_clone(mail).ok()?;
-        let wakes = Wakes::Kept(bells, mail, number);
+        let wakes = Wakes::Ring(rings);
         Some(BellAwaiter { wakes })
     }
 }
 
 impl<R: Wait + Drop + Copy> Posts<R> for BellAwaiter<R> {
-    type Listener = WorkerBell;
+    type Listener = PoolListener<R>;
 
     ghost posts = { λ awaiter mailbox number. IsForReader awaiter.wakes mailbox number };
 
-    fn of_mailbox(mailbox: &Arc<Mailbox<R, WorkerBell>>, number: usize) -> Option<BellAwaiter<R>> {
+    fn of_mailbox(
+        mailbox: &Arc<Mailbox<R, PoolListener<R>>>,
+        number: usize,
+    ) -> Option<BellAwaiter<R>> {
         let mailbox = Arc::try_clone(mailbox).ok()?;
         let wakes = Wakes::Reader(mailbox, number);
         Some(BellAwaiter { wakes })
@@ -105,15 +95,9 @@ impl<R: Wait + Drop + Copy> Wake for BellAwaiter<R> {
         self.wake_by_ref();
     }
 
-    // A number that waits already was posted by a thread that interrupts a worker after it.
     fn wake_by_ref(&self) {
         match &self.wakes {
-            Wakes::Worker(bells, worker) => bells.interrupt_worker(*worker),
-            Wakes::Kept(bells, mail, number) => {
-                if mail.post(*number) {
-                    bells.interrupt();
-                }
-            }
+            Wakes::Ring(rings) => rings.ring(),
             Wakes::Reader(mailbox, number) => {
                 mailbox.post(*number);
             }
@@ -122,8 +106,7 @@ impl<R: Wait + Drop + Copy> Wake for BellAwaiter<R> {
 
     fn try_clone(&self) -> Option<BellAwaiter<R>> {
         match &self.wakes {
-            Wakes::Worker(bells, worker) => BellAwaiter::for_worker(bells, *worker),
-            Wakes::Kept(bells, mail, number) => BellAwaiter::for_kept(bells, mail, *number),
+            Wakes::Ring(rings) => BellAwaiter::of_rings(rings.try_clone()?),
             Wakes::Reader(mailbox, number) => BellAwaiter::of_mailbox(mailbox, *number),
         }
     }

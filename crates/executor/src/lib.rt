@@ -1,28 +1,35 @@
 //! A pool of threads that run the tasks of `async_task` and steal from one another.
-//! It stands on `async_task`, on `work_queues`, which has the queues and the sleep of the workers, on `awaiters` and `task_group`, and on the kit's `slab`.
+//! It stands on `async_task`, on `work_queues`, which has the queues and the sleep of the workers, on `awaiters` and `task_group`, and on the kit's `slab` and `thiserror`.
 //! A user calls `Pool`, `Turns` for loops of its own, and the functions of `kept`, and has groups as `PoolGroup`; a future reaches the pool by `waker.around()`, and keeps `Key`s. `Store` also serves other executors.
 //! Nothing is public only to carry a claim; the claims on queues and sleep are those of `work_queues`.
 //! The page is docs/EXECUTOR_POOL.md.
 #![tactic(auto)]
 
 pub mod bell_awaiter;
+mod deadlines;
+mod debug;
+pub mod errors;
 pub mod kept;
+pub mod kept_group;
 mod mail;
 pub mod members;
 mod parts;
 pub mod pool;
 mod posted;
+mod ringing;
 pub mod store;
 pub mod turns;
-mod worker_bell;
 
+pub use awaiters::BlockOnError;
 pub use bell_awaiter::BellAwaiter;
+pub use errors::{NextMemberError, PoolSpawnError, TurnsError};
 pub use kept::{
     KeptTask, KeptWaker, await_kept, collect, keep_task, keep_waker, place_for_task,
     place_for_waker, poll_kept, wake_kept, wake_posted,
 };
-pub use members::{NextMemberError, PoolGroup};
+pub use kept_group::KeptGroup;
+pub use members::PoolGroup;
 pub use pool::{Place, Pool, PoolRunnable, PoolTask, PoolWaker, ToPool};
+pub use ringing::PoolListener;
 pub use store::{Key, Store, Walk};
-pub use turns::{BlockOnError, Turns};
-pub use worker_bell::WorkerBell;
+pub use turns::Turns;

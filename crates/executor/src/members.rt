@@ -4,6 +4,7 @@ ghost use Rattle.slab.specs.Slab.{slab_len};
 ghost use Rattle.task_group.specs.Members.{Leaves, SameMembers, IfNext, is_over};
 
 use crate::bell_awaiter::BellAwaiter;
+use crate::errors::NextMemberError;
 use crate::pool::{Place, PoolWaker, ToPool};
 use crate::turns::{Turns, run_if_any};
 use async_task::{Future, Runnable, Schedule, Yields};
@@ -22,15 +23,6 @@ pub type PoolGroup<'x, R, F, B = Global> = TaskGroup<
     BellAwaiter<R>,
     Place<'x, R, F, BellAwaiter<R>, B>,
 >;
-
-/// Why `Turns::next_member` has no member.
-#[derive(Clone, Copy, Debug, PartialEq, Eq)]
-pub enum NextMemberError {
-    /// The poll of a member was refused its awaiter, or the bells have as many owners as can be counted. A later call goes on.
-    Refused,
-    /// The pool was shut down before a member had ended. Those that the shutdown cancels come out of a later `try_next` or `next_member`.
-    ShutDown,
-}
 
 impl<'x, R: Wait + Drop + Copy, F: Yields, B: Allocator + Copy> Turns<'x, R, F, BellAwaiter<R>, B> {
     /// Is the worker until a member of the group ends, and takes that out, as `TaskGroup::next` does. It sleeps where there is nothing to do. `None` where the group is empty. After an error the group is as it was.

@@ -2,6 +2,7 @@
 ghost use Rattle.std.specs.Prelude.{⊤, ◌≡◌, ◌-◌, ◌+◌, ◌<◌, [], drop, true, false, IfOk, IfErr, OnOk, vec_len, vec_capacity};
 ghost use Rattle.executor.specs.Appends.{Appends};
 
+use crate::errors::PoolSpawnError;
 use crate::kept::{KeptTask, KeptWaker, cancel_kept};
 use crate::mail::Mail;
 use crate::store::Store;
@@ -38,6 +39,7 @@ pub type PoolWaker<'x, R, F, A, B = Global> = TaskWaker<R, F, ToPool, (), A, Pla
 pub(crate) type Queued<R, F, A> = Runnable<R, F, ToPool, (), A, ()>;
 
 /// The queues of a pool of workers. `F` is the one type of its futures, `A` that of the awaiters of their Tasks, and `B` is where its queues take their memory. With the pool the Runnables that are left are dropped, which cancels their tasks.
+#[must_use]
 pub struct Pool<R: Wait + Drop + Copy, F: Yields, A: Wake, B: Allocator = Global> {
     pub(crate) rt: R,
     pub(crate) alloc: Global,
@@ -72,7 +74,7 @@ impl<R: Wait + Drop + Copy, F: Yields, A: Wake, B: Allocator> Drop for Pool<R, F
 }
 
 /// The schedule value of a pool: a Runnable goes to the queue of the worker on which its task was woken, and else to that for what comes from outside.
-#[derive(Drop)]
+#[derive(Debug, Drop)]
 pub struct ToPool;
 
 impl<'x, R: Wait + Drop + Copy, F: Yields, A: Wake, B: Allocator + Copy> Schedule<
@@ -96,7 +98,7 @@ impl<'x, R: Wait + Drop + Copy, F: Yields, A: Wake, B: Allocator + Copy> Schedul
 }
 
 impl<R: Wait + Drop + Copy, F: Yields, A: Wake> Pool<R, F, A> {
-    /// A pool of so many workers, at least one and at most `work_queues::board::MOST_WORKERS`. Its workers do not run yet. `rt` is what its threads wait by, `alloc` where all memory comes from. An error says that there was no memory.
+    /// A pool of so many workers, at least one and at most `work_queues::bells::MOST_WORKERS`. Its workers do not run yet. `rt` is what its threads wait by, `alloc` where all memory comes from. An error says that there was no memory.
     pub fn new(rt: R, alloc: Global, workers: usize) -> Result<Pool<R, F, A>, AllocError> {
         Pool::with_queues_in(rt, alloc, alloc, workers)
     }
@@ -146,24 +148,30 @@ impl<R: Wait + Drop + Copy, F: Yields, A: Wake, B: Allocator + Copy> Pool<R, F, 
         self.tasks.len(&self.rt)
     }
 
-    /// Spawns a task from a thread that is no worker, and schedules it. `Err` has the future back, where there was no memory for the task. Where its queue is refused memory, or the pool was shut down, the answer is `Ok` with a task that is closed.
-    pub fn spawn(&self, future: F) -> Result<PoolTask<'_, R, F, A, B>, F>
-        ensures refused { IfErr result (λ back. back ≡ future) }
+    /// Spawns a task from a thread that is no worker, and schedules it. An error has the future back: there was no memory for the task. Where its queue is refused memory, or the pool was shut down, the answer is `Ok` with a task that is closed.
+    pub fn spawn(&self, future: F) -> Result<PoolTask<'_, R, F, A, B>, PoolSpawnError<F>>
+        ensures refused { IfErr result (λ error. error.future ≡ future) }
     {
         self.spawn_on(self.crew.workers(), future)
     }
 
     /// Spawns a task at the queue of a worker, as that which polls the spawning future: `waker.around().1`. It answers as `spawn` does.
-    pub fn spawn_on(&self, worker: usize, future: F) -> Result<PoolTask<'_, R, F, A, B>, F>
+    pub fn spawn_on(
+        &self,
+        worker: usize,
+        future: F,
+    ) -> Result<PoolTask<'_, R, F, A, B>, PoolSpawnError<F>>
         ensures place { IfOk result (λ task. task.around.1 ≡ worker) }
-        ensures refused { IfErr result (λ back. back ≡ future) }
+        ensures refused { IfErr result (λ error. error.future ≡ future) }
     {
         match spawn(self.rt, self.alloc, future, ToPool, (self, worker)) {
             Ok((runnable, task)) => {
                 runnable.schedule();
                 Ok(task)
             }
-            Err(refused) => Err(refused.maker),
+            Err(refused) => Err(PoolSpawnError {
+                future: refused.maker,
+            }),
         }
     }
 
@@ -209,7 +217,7 @@ impl<R: Wait + Drop + Copy, F: Yields, A: Wake, B: Allocator + Copy> Pool<R, F, 
                 tasks.push_reserved(task);
                 true
             }
-            Err(future) => {
+            Err(PoolSpawnError { future }) => {
                 futures.push_front_reserved(future);
                 false
             }

@@ -41,13 +41,14 @@ impl<H: Drop> Drop for Store<H> {
 }
 
 /// Where a walk over the places of a store stands: `Walk::default()` is its beginning.
-#[derive(Drop, Default)]
+#[derive(Debug, Drop, Default)]
 pub struct Walk {
     part: usize,
     slot: usize,
 }
 
 /// The right to a place of a store. Dropped, it gives the place back, and the store drops what is in it at its next `collect`.
+#[must_use]
 pub struct Key<R: Wait + Drop + Copy> {
     rt: R,
     returned: Arc<Returned>,

@@ -1,25 +1,27 @@
 //! The turns of workers: one worker, what all workers need, and a worker that waits for one Task.
-ghost use Rattle.std.specs.Prelude.{◌≡◌, ℕ, true, IfOk, IfSome, IsErr};
+ghost use Rattle.std.specs.Prelude.{◌≡◌, ◌≤◌, ◌↔◌, ℕ, IfOk, IfSome};
 ghost use Rattle.std.specs.Arc.{arc_value};
 ghost use mathlib.Core.Option.{some};
 ghost use lib.ListN.{get_elem?};
-ghost use Rattle.task_steps.specs.Steps.{saw_ended};
-ghost use Rattle.task_cell.specs.Calls.{deeds};
-ghost use Rattle.task_cell.specs.PollPaths.{IfOutput};
-ghost use Rattle.async_task.specs.HandlePaths.{is_closed};
+ghost use Rattle.awaiters.specs.Answered.{answer_of};
+ghost use Rattle.executor.specs.Wakes.{RingsWorker};
 
 use crate::bell_awaiter::BellAwaiter;
+use crate::errors::TurnsError;
 use crate::kept::{collect, wake_posted};
-use crate::pool::{Place, Pool, PoolRunnable, PoolTask, PoolWaker, Queued};
-use crate::worker_bell::WorkerBell;
+use crate::pool::{Place, Pool, PoolRunnable, PoolWaker, Queued};
+use crate::ringing::{PoolListener, Rings};
 use async_task::{Future, TaskClosed, TaskPoll, Wake, Yields};
-use std::alloc::{AllocError, Allocator, Global};
-use std::sync::{Arc, Wait};
+use awaiters::{Awaited, BlockOnError};
+use std::alloc::{Allocator, Global};
+use std::sync::Wait;
+use std::time::Duration;
 use work_queues::{Bells, Worker};
 
 /// The turns of one worker of a pool: the thread that has them is that worker. No other turns have its number while these live.
 ///
 /// Their drop puts the Runnables in the hands of the worker into the queue for what comes from outside, and has another worker look once more. A Runnable for which that queue has no memory is dropped, which cancels its task.
+#[must_use]
 pub struct Turns<'x, R: Wait + Drop + Copy, F: Yields, A: Wake, B: Allocator = Global> {
     pub(crate) pool: &'x Pool<R, F, A, B>,
     pub(crate) worker: Worker<Queued<R, F, A>, B>,
@@ -27,10 +29,9 @@ pub struct Turns<'x, R: Wait + Drop + Copy, F: Yields, A: Wake, B: Allocator = G
 
 impl<'x, R: Wait + Drop + Copy, F: Yields, A: Wake, B: Allocator> Drop for Turns<'x, R, F, A, B> {
     fn drop(self) {
-        let Turns { pool, mut worker } = self;
+        let Turns { pool, worker } = self;
         let number = worker.number();
-        pool.crew.end_turns(&pool.rt, &mut worker);
-        drop(worker);
+        drop(pool.crew.end_turns(&pool.rt, worker));
         // A shutdown may have passed both queues before this worker moved Runnables there.
         if pool.is_shut_down() {
             pool.cancel_queue(number);
@@ -39,28 +40,23 @@ impl<'x, R: Wait + Drop + Copy, F: Yields, A: Wake, B: Allocator> Drop for Turns
     }
 }
 
-/// Why `Turns::block_on` has no output.
-#[derive(Clone, Copy, Debug, PartialEq, Eq)]
-pub enum BlockOnError {
-    /// The task is closed: no output will come.
-    Closed,
-    /// The poll of the Task was refused its awaiter. The Task may be waited for again.
-    Refused,
-    /// The pool was shut down before the task had ended.
-    ShutDown,
-}
-
 impl<R: Wait + Drop + Copy, F: Yields, A: Wake, B: Allocator + Copy> Pool<R, F, A, B> {
-    /// The turns of the worker of this number. An error says that there was no memory, that there is no such worker, or that there are turns of this number: two threads would sleep where one is woken. Once they are dropped, the number is free again.
-    pub fn turns(&self, worker: usize) -> Result<Turns<'_, R, F, A, B>, AllocError>
-        ensures { IfOk result (λ turns. turns.worker.number ≡ worker) }
+    /// The turns of the worker of this number. Once they are dropped, the number is free again.
+    pub fn turns(&self, worker: usize) -> Result<Turns<'_, R, F, A, B>, TurnsError>
+        ensures worker { IfOk result (λ turns. turns.worker.number ≡ worker) }
+        ensures none { result ≡ Err TurnsError.NoSuchWorker ↔ ((arc_value self.now.crew.bells).workers ≤ worker) }
     {
-        let worker = self.crew.worker(self.items, worker)?;
-        Ok(Turns { pool: self, worker })
+        if worker >= self.crew.workers() {
+            return Err(TurnsError::NoSuchWorker);
+        }
+        match self.crew.worker(self.items, worker) {
+            Ok(worker) => Ok(Turns { pool: self, worker }),
+            Err(_) => Err(TurnsError::Refused),
+        }
     }
 
-    /// The turns of all workers, in the order of their numbers. An error says that there was no memory, or that there are turns of one of them.
-    pub fn all_turns(&self) -> Result<Vec<Turns<'_, R, F, A, B>>, AllocError>
+    /// The turns of all workers, in the order of their numbers. The error is never `NoSuchWorker`.
+    pub fn all_turns(&self) -> Result<Vec<Turns<'_, R, F, A, B>>, TurnsError>
         ensures each { IfOk result (λ all. (i : ℕ) (turns : _) → get_elem? all.items i ≡ some turns → turns.worker.number ≡ i) }
     {
         let mut all = Vec::new(self.alloc);
@@ -71,7 +67,7 @@ impl<R: Wait + Drop + Copy, F: Yields, A: Wake, B: Allocator + Copy> Pool<R, F, 
     }
 
     /// Is the worker of this number until the pool is shut down, as `Turns::work` is. An error is that of `turns`.
-    pub fn run<'x>(&'x self, worker: usize) -> Result<(), AllocError>
+    pub fn run<'x>(&'x self, worker: usize) -> Result<(), TurnsError>
     where
         F: Future<PoolWaker<'x, R, F, A, B>>,
     {
@@ -90,13 +86,11 @@ impl<'x, R: Wait + Drop + Copy, F: Yields, A: Wake, B: Allocator + Copy> Turns<'
     }
 
     /// The bell of this worker: a group that is given it by `listen` has the worker look once more as a member ends. `None` says that the bells have as many owners as can be counted.
-    pub fn bell(&self) -> Option<WorkerBell>
-        ensures bells { IfSome result (λ bell. arc_value bell.bells ≡ arc_value self.now.pool.now.crew.bells) }
-        ensures worker { IfSome result (λ bell. bell.worker ≡ self.now.worker.number) }
+    pub fn bell(&self) -> Option<PoolListener<R>>
+        ensures { IfSome result (λ bell. RingsWorker bell.rings (arc_value self.now.pool.now.crew.bells) self.now.worker.number) }
     {
-        let bells = Arc::try_clone(self.pool.bells()).ok()?;
-        let worker = self.worker.number();
-        Some(WorkerBell { bells, worker })
+        let rings = Rings::for_worker(self.pool.bells(), self.worker.number())?;
+        Some(PoolListener { rings })
     }
 
     /// The next Runnable for this worker: its own, one that came from outside, or one of another worker. `None` where there is none, or only such as this worker leaves to another one that is about to run them. Run it; its drop cancels its task.
@@ -118,17 +112,33 @@ impl<'x, R: Wait + Drop + Copy, F: Yields, A: Wake, B: Allocator + Copy> Turns<'
 
     /// Searches for a while, if no other worker does, and then sleeps, if no queue shows a Runnable, the pool was not shut down, and the bells counted no interruption since `interruptions`. It may also return for no reason. `take_turn` calls it where it is due.
     pub fn rest(&mut self, interruptions: u64) {
+        self.rest_for(interruptions, None);
+    }
+
+    // As `rest`, where a sleep lasts no longer than `most`.
+    fn rest_for(&mut self, interruptions: u64, most: Option<Duration>) {
         // A caller who counted the interruptions after the shutdown would sleep for ever.
         if self.pool.is_shut_down() {
             return;
         }
         self.pool
             .crew
-            .rest(&self.pool.rt, &mut self.worker, interruptions);
+            .rest(&self.pool.rt, &mut self.worker, interruptions, most);
     }
 
     /// A turn but for the run of what it takes: frees what keys left, wakes one task whose number was posted, and takes the next Runnable. Where there is neither it searches and then sleeps, as `rest` says, if the bells counted no interruption since `interruptions`: so ask for them before the last look at what the loop waits for. Run what it answers.
     pub fn take_turn(&mut self, interruptions: u64) -> Option<PoolRunnable<'x, R, F, A, B>>
+        ensures place { IfSome result (λ runnable. runnable.around.1 ≡ self.old.worker.number) }
+    {
+        self.take_turn_for(interruptions, None)
+    }
+
+    // As `take_turn`, where a sleep lasts no longer than `most`.
+    pub(crate) fn take_turn_for(
+        &mut self,
+        interruptions: u64,
+        most: Option<Duration>,
+    ) -> Option<PoolRunnable<'x, R, F, A, B>>
         ensures place { IfSome result (λ runnable. runnable.around.1 ≡ self.old.worker.number) }
     {
         let place = self.place();
@@ -136,7 +146,7 @@ impl<'x, R: Wait + Drop + Copy, F: Yields, A: Wake, B: Allocator + Copy> Turns<'
         let woke = wake_posted(place);
         let next = self.next();
         if next.is_none() && !woke {
-            self.rest(interruptions);
+            self.rest_for(interruptions, most);
         }
         next
     }
@@ -171,25 +181,21 @@ impl<'x, R: Wait + Drop + Copy, F: Yields, A: Wake, B: Allocator + Copy> Turns<'
         }
     }
 
-    // Takes turns until a Task has an answer. `Pending` says that the pool was shut down before.
-    fn await_answer(
+    // Takes turns until a handle has an answer. `Pending` says that the pool was shut down before.
+    fn await_answer<T: Awaited<A>>(
         &mut self,
-        task: &mut PoolTask<'x, R, F, A, B>,
+        task: &mut T,
         awaiter: &A,
-    ) -> TaskPoll<Result<F::Output, TaskClosed>>
+    ) -> TaskPoll<Result<T::Output, TaskClosed>>
     where
         F: Future<PoolWaker<'x, R, F, A, B>>,
-        ensures meets { IfOutput result (λ output. ∥ F.Yields.meets output ∥₁) }
-        ensures closed { is_closed result ≡ true → saw_ended (deeds task.new.inner.party) ≡ true }
-        ensures ended { saw_ended (deeds task.old.inner.party) ≡ true → is_closed result ≡ true }
-        ensures cell { task.new.inner.share ≡ task.old.inner.share }
-        ensures around { task.new.around ≡ task.old.around }
+        ensures { T.Awaited.answers task.old result task.new }
     {
         let pool = self.pool;
         let bells: &Bells = pool.bells();
         for _ in pool.rt.forever() {
             let interruptions = bells.interruptions();
-            let answer = task.poll(awaiter);
+            let answer = task.poll_once(awaiter);
             let ends = self.ends();
             match answer {
                 TaskPoll::Pending if ends => return answer,
@@ -244,40 +250,25 @@ where
 }
 
 impl<'x, R: Wait + Drop + Copy, F: Yields, B: Allocator + Copy> Turns<'x, R, F, BellAwaiter<R>, B> {
-    /// Is the worker until the task of this Task is over, and sleeps where there is nothing to do. Other workers may run meanwhile, or none.
+    /// Is the worker until the task of a Task or a Cancel is over, and sleeps where there is nothing to do. Other workers may run meanwhile, or none.
     ///
-    /// The output meets what the type of the future states.
-    pub fn block_on(
+    /// Of a Cancel `Ok(None)` says that the future is gone. After `Refused` the task of a Cancel may not have been cancelled yet.
+    pub fn block_on<T: Awaited<BellAwaiter<R>>>(
         &mut self,
-        task: &mut PoolTask<'x, R, F, BellAwaiter<R>, B>,
-    ) -> Result<F::Output, BlockOnError>
+        task: &mut T,
+    ) -> Result<T::Output, BlockOnError>
     where
         F: Future<PoolWaker<'x, R, F, BellAwaiter<R>, B>>,
-        ensures meets { IfOk result (λ output. ∥ F.Yields.meets output ∥₁) }
-        ensures closed { result ≡ Err BlockOnError.Closed → saw_ended (deeds task.new.inner.party) ≡ true }
-        ensures ended { saw_ended (deeds task.old.inner.party) ≡ true → IsErr result }
-        ensures cell { task.new.inner.share ≡ task.old.inner.share }
-        ensures around { task.new.around ≡ task.old.around }
+        ensures { T.Awaited.answers task.old (answer_of result) task.new }
     {
-        match BellAwaiter::new(self.pool, self.worker.number()) {
-            Some(awaiter) => output_of::<F>(self.await_answer(task, &awaiter)),
-            None => Err(BlockOnError::Refused),
+        let Some(awaiter) = BellAwaiter::new(self.pool, self.worker.number()) else {
+            return Err(BlockOnError::Refused);
+        };
+        match self.await_answer(task, &awaiter) {
+            TaskPoll::Ready(Ok(output)) => Ok(output),
+            TaskPoll::Ready(Err(_)) => Err(BlockOnError::Closed),
+            TaskPoll::Refused => Err(BlockOnError::Refused),
+            TaskPoll::Pending => Err(BlockOnError::ShutDown),
         }
-    }
-}
-
-// The output that an answer has.
-fn output_of<F: Yields>(
-    answer: TaskPoll<Result<F::Output, TaskClosed>>,
-) -> Result<F::Output, BlockOnError>
-    ensures meets { IfOutput answer (λ output. ∥ F.Yields.meets output ∥₁) → IfOk result (λ output. ∥ F.Yields.meets output ∥₁) }
-    ensures closed { result ≡ Err BlockOnError.Closed → is_closed answer ≡ true }
-    ensures ended { is_closed answer ≡ true → IsErr result }
-{
-    match answer {
-        TaskPoll::Ready(Ok(output)) => Ok(output),
-        TaskPoll::Ready(Err(_)) => Err(BlockOnError::Closed),
-        TaskPoll::Refused => Err(BlockOnError::Refused),
-        TaskPoll::Pending => Err(BlockOnError::ShutDown),
     }
 }

@@ -1,5 +1,5 @@
 //! Tasks that are awaited, by an executor of one queue (`line`): a chain and a ring of tasks that await one another, `block_on`, groups, mailboxes,
-//! awaiters that are refused, and the kit's futures.
+//! awaiters that are refused, the kit's futures, and what is shown of these.
 
 mod blocking_tests;
 mod bridge_tests;
@@ -11,4 +11,5 @@ mod mailbox_tests;
 mod nobody_tests;
 mod number;
 mod refused_tests;
+mod shown_tests;
 mod spawn_tests;

@@ -14,7 +14,7 @@ mod pool_tasks;
 
 use bench_report::failure::Failure;
 use bench_report::lines::{Executor, Line, Size};
-use bench_report::report::answer;
+use bench_report::report::{answer, refuse};
 use bench_report::tally::Measured;
 use on_pool::JobPool;
 use std::process::ExitCode;
@@ -22,12 +22,20 @@ use std::{env, io};
 
 fn main(rt: HostRuntime) -> io::Result<ExitCode> {
     let alloc = rt.alloc();
+    let mut err = rt.stderr();
+    let words = match env::args(&rt) {
+        Ok(words) => words,
+        // An argument is not UTF-8.
+        Err(error) if error.kind() == io::ErrorKind::InvalidData => {
+            return Ok(ExitCode::from(refuse(&mut err)));
+        }
+        Err(error) => return Err(error),
+    };
     let mut args = Vec::new(alloc);
-    for arg in env::args(&rt)?.skip(1) {
+    for arg in words.skip(1) {
         args.push(arg)?;
     }
     let mut out = io::writer(&rt);
-    let mut err = rt.stderr();
     // The workers start here, where the runtime is known.
     let on_pool = |line: Line, size: Size| -> Result<Measured, Failure> {
         let pool = JobPool::new(rt, alloc, size.threads)?;

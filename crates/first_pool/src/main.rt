@@ -5,7 +5,6 @@ ghost use Rattle.std.specs.Prelude.{⊤};
 
 use async_task::{Future, Poll, Wake, Yields};
 use executor::{BellAwaiter, Pool};
-use std::alloc::AllocError;
 use std::{io, thread};
 
 /// A future that adds up the numbers from the next one to the last, one at each poll.
@@ -44,8 +43,8 @@ fn sum_to(last: u64) -> Sum {
 
 fn main(rt: HostRuntime) -> io::Result<()> {
     let pool: Pool<_, Sum, BellAwaiter<_>> = Pool::new(rt, rt.alloc(), 2)?;
-    let mut short = pool.spawn(sum_to(10)).ok().ok_or(AllocError)?;
-    let mut long = pool.spawn(sum_to(100)).ok().ok_or(AllocError)?;
+    let mut short = pool.spawn(sum_to(10))?;
+    let mut long = pool.spawn(sum_to(100))?;
     let mut turns = pool.turns(0)?;
     let (_, sums) = thread::join(
         &rt,

@@ -4,7 +4,6 @@
 ghost use Rattle.std.specs.Prelude.{⊤};
 
 use async_task::{Future, Poll, Schedule, ScheduleInfo, Task, Wake, Yields, spawn};
-use std::alloc::AllocError;
 use std::io;
 
 /// A future that adds two numbers.
@@ -56,8 +55,8 @@ impl Wake for Nobody {
 }
 
 fn main(rt: HostRuntime) -> io::Result<()> {
-    let spawned = spawn(rt, rt.alloc(), Sum(20, 22), Nobody, ());
-    let (runnable, mut task): (_, Task<_, _, _, _, Nobody, ()>) = spawned.ok().ok_or(AllocError)?;
+    let (runnable, mut task): (_, Task<_, _, _, _, Nobody, ()>) =
+        spawn(rt, rt.alloc(), Sum(20, 22), Nobody, ())?;
     runnable.run();
     println!(rt; "{:?}", task.poll(&Nobody))
 }

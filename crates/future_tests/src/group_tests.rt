@@ -1,7 +1,7 @@
 //! Groups of tasks of a pool, some of which await a task of their own: one type of awaiter serves these, the group, and `block_on`.
 use crate::calls::{
-    block_on, drop_both, drop_pool, drop_turns, link_task, new_counts, new_pool, shut_down, tick,
-    turns_of, wakes_posted, work,
+    block_on, collect_all, drop_both, drop_pool, drop_turns, link_task, new_counts, new_pool,
+    places_taken, polls, shut_down, tick, turns_of, wakes_posted, work,
 };
 use crate::granted::granted;
 use crate::link::{Counts, Errand, Link, LinkPool, LinkTurns};
@@ -265,4 +265,21 @@ fn a_wait_for_a_member_ends_with_the_pool(rt: HostRuntime) {
     let left = drop_group(group);
     drop_pool(pool);
     assert!(rt; ran && matches!(ended, Err(NextMemberError::ShutDown)) && left == 1);
+}
+
+// A link awaits a hundred others as a group, on one worker, which then collects: its answer, how often it and the others were polled together, and what places are taken.
+#[test]
+fn a_task_awaits_a_group_in_few_polls(rt: HostRuntime) {
+    let pool = new_pool(rt, rt.alloc(), 1);
+    let counts = new_counts(&pool);
+    let mut task = link_task(&pool, 1, 0, Errand::Group(100), &counts);
+    let mut turns = turns_of(&pool);
+    let answer = block_on(&mut turns, &mut task);
+    drop_both(turns, task);
+    collect_all(&pool);
+    let (_, all) = polls(&counts);
+    let taken = places_taken(&pool);
+    drop_pool(pool);
+    assert!(rt; answer == Ok(100) && taken == (0, 0));
+    assert!(rt; all >= 302 && all < 310);
 }

@@ -3,8 +3,8 @@ ghost use Rattle.std.specs.Prelude.{⊤};
 
 use async_task::{Future, Poll, TaskPoll, Yields};
 use executor::{
-    BellAwaiter, Key, Pool, PoolTask, PoolWaker, Turns, await_kept, keep_task, keep_waker,
-    place_for_task, place_for_waker,
+    BellAwaiter, KeptGroup, Key, Pool, PoolTask, PoolWaker, Turns, await_kept, keep_task,
+    keep_waker, place_for_task, place_for_waker,
 };
 use std::alloc::{AllocError, Global};
 use std::sync::atomic::{AtomicU64, Ordering};
@@ -48,6 +48,8 @@ pub enum Errand {
     Knocks(u64),
     /// Stays pending, and keeps no waker.
     Stay,
+    /// Spawns so many links that give way twice, awaits them as a group, and answers what they do together.
+    Group(u64),
 }
 
 /// The places of a link that waits: of its waker, and of the Tasks that it still awaits.
@@ -67,6 +69,7 @@ pub struct Link<R: Wait + Drop + Copy> {
     places: Option<Places<R>>,
     sum: u64,
     own: Option<Key<R>>,
+    group: Option<KeptGroup<R>>,
     counts: Arc<Counts>,
 }
 
@@ -102,15 +105,10 @@ pub fn spawn_link<'x, R: Wait + Drop + Copy>(
         places: None,
         sum: 0,
         own: None,
+        group: None,
         counts,
     };
-    match pool.spawn_on(worker, link) {
-        Ok(task) => Ok(task),
-        Err(refused) => {
-            drop(refused);
-            Err(AllocError)
-        }
-    }
+    Ok(pool.spawn_on(worker, link)?)
 }
 
 /// Keeps a Task at a place: whether it was kept.
@@ -235,8 +233,54 @@ impl<R: Wait + Drop + Copy> Link<R> {
                 }
             }
             Errand::Stay => Poll::Pending,
+            Errand::Group(links) => self.await_group(waker, links),
         }
     }
+
+    // One poll of a group of so many links, which the first poll spawns.
+    fn await_group<'x>(&mut self, waker: &LinkWaker<'x, R>, links: u64) -> Poll<u64> {
+        if self.group.is_none() {
+            self.group = spawn_group(waker, links, &self.counts);
+        }
+        match &mut self.group {
+            Some(group) => add_ended(group, waker, &mut self.sum),
+            None => Poll::Ready(0),
+        }
+    }
+}
+
+// A group of so many links that give way twice. `None` where one was refused.
+fn spawn_group<'x, R: Wait + Drop + Copy>(
+    waker: &LinkWaker<'x, R>,
+    links: u64,
+    counts: &Arc<Counts>,
+) -> Option<KeptGroup<R>> {
+    let (pool, worker) = waker.around();
+    let mut group = KeptGroup::new(waker.around(), links as usize)?;
+    for _ in 0..links {
+        let task = spawn_link(pool, worker, 0, Errand::GiveWay(2), None, counts).ok()?;
+        group.push(task).ok()?;
+    }
+    Some(group)
+}
+
+// Adds the answers of the members that have ended. Once there is no member, their sum.
+fn add_ended<'x, R: Wait + Drop + Copy>(
+    group: &mut KeptGroup<R>,
+    waker: &LinkWaker<'x, R>,
+    sum: &mut u64,
+) -> Poll<u64> {
+    for _ in 0..=group.len() {
+        match group.next(waker) {
+            TaskPoll::Ready(Some((_, answer))) => {
+                *sum = sum.saturating_add(answer.unwrap_or(0));
+            }
+            TaskPoll::Ready(None) => return Poll::Ready(*sum),
+            TaskPoll::Pending => return Poll::Pending,
+            TaskPoll::Refused => return Poll::Ready(0),
+        }
+    }
+    Poll::Ready(0)
 }
 
 impl<'x, R: Wait + Drop + Copy> Future<LinkWaker<'x, R>> for Link<R> {

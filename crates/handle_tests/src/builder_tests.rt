@@ -20,34 +20,75 @@ use std::sync::{Arc, Wait};
 const SPAWNED: &str =
     " { header: Header { scheduled: true, running: false, completed: false, closed: false, awaiter: false, task: true, ref_count: 1, metadata: () } }";
 
+// .. with one waker.
+const WITH_WAKER: &str =
+    " { header: Header { scheduled: true, running: false, completed: false, closed: false, awaiter: false, task: true, ref_count: 2, metadata: () } }";
+
 // Whether a value shows that text. Stops where there is no memory.
 fn shows<R: Abort, T: fmt::Debug>(rt: &R, alloc: Global, value: &T, expected: &str) -> bool {
     granted(rt, format!(in alloc; "{value:?}")).as_str() == expected
 }
 
-// Whether a handle of that name shows a spawned task.
-fn shows_spawned<R: Abort, T: fmt::Debug>(rt: &R, alloc: Global, handle: &T, name: &str) -> bool {
-    let expected = granted(rt, format!(in alloc; "{name}{SPAWNED}"));
+// Whether a handle of that name shows a task with this header.
+fn shows_as<R: Abort, T: fmt::Debug>(
+    rt: &R,
+    alloc: Global,
+    handle: &T,
+    name: &str,
+    header: &str,
+) -> bool {
+    let expected = granted(rt, format!(in alloc; "{name}{header}"));
     shows(rt, alloc, handle, expected.as_str())
 }
 
-// Spawns a task: whether its Runnable, its Task, and the FallibleTask of that show it.
-fn show_spawned<R: Wait + Abort + Drop + Copy>(fixture: &Fixture<R>, alloc: Global) -> [bool; 3] {
+// Spawns a task: whether its Runnable, its Task, and the FallibleTask and the Cancel of that show it.
+fn show_spawned<R: Wait + Abort + Drop + Copy>(fixture: &Fixture<R>, alloc: Global) -> [bool; 4] {
     let (runnable, task) = calls::spawn(fixture, Behaviour::Pending);
-    let by_runnable = shows_spawned(&fixture.rt, alloc, &runnable, "Runnable");
-    let by_task = shows_spawned(&fixture.rt, alloc, &task, "Task");
+    let by_runnable = shows_as(&fixture.rt, alloc, &runnable, "Runnable", SPAWNED);
+    let by_task = shows_as(&fixture.rt, alloc, &task, "Task", SPAWNED);
     let fallible = task.fallible();
-    let by_fallible = shows_spawned(&fixture.rt, alloc, &fallible, "FallibleTask");
-    drop(fallible);
+    let by_fallible = shows_as(&fixture.rt, alloc, &fallible, "FallibleTask", SPAWNED);
+    let cancel = fallible.cancel();
+    let by_cancel = shows_as(&fixture.rt, alloc, &cancel, "Cancel", SPAWNED);
+    drop(cancel);
     calls::drop_runnable(runnable);
-    [by_runnable, by_task, by_fallible]
+    [by_runnable, by_task, by_fallible, by_cancel]
+}
+
+// Parks a Runnable and a Task: whether they show the task.
+fn show_parked<R: Wait + Abort + Drop + Copy>(fixture: &Fixture<R>, alloc: Global) -> [bool; 2] {
+    let (runnable, task) = calls::spawn(fixture, Behaviour::Pending);
+    let runnable = runnable.park();
+    let task = task.park();
+    let by_runnable = shows_as(&fixture.rt, alloc, &runnable, "ParkedRunnable", SPAWNED);
+    let by_task = shows_as(&fixture.rt, alloc, &task, "ParkedTask", SPAWNED);
+    calls::drop_runnable(runnable.unpark(&fixture.surroundings));
+    calls::drop_task(task.unpark(&fixture.surroundings));
+    [by_runnable, by_task]
+}
+
+// Takes a waker, parks it, and has it stored: whether each form shows the task.
+fn show_wakers<R: Wait + Abort + Drop + Copy>(fixture: &Fixture<R>, alloc: Global) -> [bool; 3] {
+    let (runnable, task) = calls::spawn(fixture, Behaviour::Pending);
+    let waker = calls::waker_of(fixture.rt, &runnable);
+    let by_waker = shows_as(&fixture.rt, alloc, &waker, "TaskWaker", WITH_WAKER);
+    let parked = waker.park();
+    let by_parked = shows_as(&fixture.rt, alloc, &parked, "ParkedWaker", WITH_WAKER);
+    let stored = parked.unpark(&fixture.surroundings).stored();
+    let by_stored = shows_as(&fixture.rt, alloc, &stored, "StoredWaker", WITH_WAKER);
+    drop(stored);
+    calls::drop_task(task);
+    calls::drop_runnable(runnable);
+    [by_waker, by_parked, by_stored]
 }
 
 #[test]
 fn handles_show_the_flags_the_count_and_the_metadata(rt: HostRuntime) {
     let fixture = calls::fixture(rt, rt.alloc());
     let shown = show_spawned(&fixture, rt.alloc());
-    assert!(rt; shown == [true; 3]);
+    let parked = show_parked(&fixture, rt.alloc());
+    let wakers = show_wakers(&fixture, rt.alloc());
+    assert!(rt; (shown, parked, wakers) == ([true; 4], [true; 2], [true; 3]));
 }
 
 // Completes a task: whether its Task shows that text.

@@ -58,9 +58,10 @@ fn a_closing_runnable_may_be_dropped(rt: HostRuntime) {
     assert!(rt; (rescheduled, fixture.counts()) == (false, Counts::new(1, 1, 1, 1)));
 }
 
-// Parks a waker, unparks it and discards it.
+// Parks a waker, unparks it, has it stored and discards it.
 fn park_and_discard<R: Wait + Drop + Copy>(waker: RowWaker<'_, R>, surroundings: &Surroundings<R>) {
-    waker.park().unpark(surroundings).discard();
+    let stored = waker.park().unpark(surroundings).stored();
+    stored.with_around(surroundings).discard();
 }
 
 // Wakes an idle task thrice, by reference and then by value: what was queued after the first wake, and after all.

@@ -13,17 +13,29 @@ use futures::Future;
 use futures::task::{Context, Poll};
 use std::alloc::{Allocator, Global};
 use std::sync::Wait;
+use thiserror::Error;
 
 /// Why an `Awaits` has no output.
-#[derive(Clone, Copy, Debug, PartialEq, Eq)]
+#[derive(Clone, Copy, Debug, PartialEq, Eq, Error)]
 pub enum AwaitError {
     /// The task is closed: no output will come.
+    #[error("the task is closed")]
     Closed,
     /// The awaiter was refused a share of itself, or the kit its lock. The Task is as it was but for its polls, and may be polled again.
+    #[error("the awaiter was refused")]
     Refused,
 }
 
+/// There was no memory for the awaiter of an `Awaits`.
+#[derive(Drop, Error)]
+#[error("no memory for the awaiter")]
+pub struct AwaitsRefused<T> {
+    /// The Task, as it was.
+    pub task: T,
+}
+
 /// A Task as a future of the kit. Dropped, it drops the Task, which cancels the task.
+#[must_use]
 #[derive(Drop)]
 pub struct Awaits<
     R: Wait + Drop + Copy,
@@ -36,7 +48,7 @@ pub struct Awaits<
 where
     Q: Schedule<Runnable<R, F, Q, M, KitAwaiter<B>, X, B>>,
 {
-    task: Task<R, F, Q, M, KitAwaiter<B>, X, B>,
+    pub(crate) task: Task<R, F, Q, M, KitAwaiter<B>, X, B>,
     awaiter: KitAwaiter<B>,
 }
 
@@ -57,13 +69,13 @@ where
     pub fn new(
         alloc: B,
         task: Task<R, F, Q, M, KitAwaiter<B>, X, B>,
-    ) -> Result<Awaits<R, F, Q, M, X, B>, Task<R, F, Q, M, KitAwaiter<B>, X, B>>
+    ) -> Result<Awaits<R, F, Q, M, X, B>, AwaitsRefused<Task<R, F, Q, M, KitAwaiter<B>, X, B>>>
         ensures task { IfOk result (λ awaits. awaits.task ≡ task) }
-        ensures returned { IfErr result (λ refused. refused ≡ task) }
+        ensures returned { IfErr result (λ refused. refused.task ≡ task) }
     {
         match KitAwaiter::new(alloc) {
             Ok(awaiter) => Ok(Awaits { task, awaiter }),
-            Err(_) => Err(task),
+            Err(_) => Err(AwaitsRefused { task }),
         }
     }
 

@@ -1,5 +1,5 @@
 //! A Task as a future of the kit's crate `futures`, which sleeps until the task is over.
-//! It stands on the Task of `async_task`, and on the futures, wakers and spin lock of the kit's `futures`.
+//! It stands on the Task of `async_task`, on the futures, wakers and spin lock of the kit's `futures`, and on its `thiserror`.
 //! A user spawns a task whose type of awaiter is `KitAwaiter`, and wraps its Task in an `Awaits`, which makes that awaiter.
 //! The reverse is left out: a wake of the kit rings a `Doorbell`, a closed type that calls no code of a user.
 //! The page is docs/KIT_BRIDGE.md.
@@ -7,6 +7,7 @@
 
 mod awaiter;
 mod awaits;
+mod debug;
 
 pub use awaiter::KitAwaiter;
-pub use awaits::{AwaitError, Awaits};
+pub use awaits::{AwaitError, Awaits, AwaitsRefused};

@@ -139,13 +139,7 @@ pub fn spawn_guest<'x, R: Wait + Drop + Copy, A: Wake>(
     errand: Errand,
     guests: &Arc<Guests>,
 ) -> Result<PoolTask<'x, R, Guest, A>, AllocError> {
-    match pool.spawn_on(worker, Guest::new(errand, guests)?) {
-        Ok(task) => Ok(task),
-        Err(refused) => {
-            drop(refused);
-            Err(AllocError)
-        }
-    }
+    Ok(pool.spawn_on(worker, Guest::new(errand, guests)?)?)
 }
 
 /// Spawns so many guests that give way ten times, at the queue of a worker.

@@ -6,10 +6,10 @@ use crate::calls::{
 use crate::guest::{Errand, GuestPool, is_closed, output_of, shares_and_polls};
 use async_task::TaskPoll;
 use awaiters::Nobody;
-use executor::{Key, poll_kept, wake_kept};
+use executor::{Key, TurnsError, poll_kept, wake_kept};
 use std::sync::Wait;
 use std::thread;
-use work_queues::board::MOST_WORKERS;
+use work_queues::bells::MOST_WORKERS;
 
 /// How many tasks wait behind the one that never yields.
 const BEHIND: u64 = 100;
@@ -60,16 +60,16 @@ fn a_pool_has_one_worker_at_least_and_has_a_most(rt: HostRuntime) {
     assert!(rt; few == 1 && many == MOST_WORKERS);
 }
 
-// Whether the turns of a number are refused.
-fn refuses_turns<R: Wait + Drop + Copy>(pool: &GuestPool<R>, worker: usize) -> bool {
-    pool.turns(worker).is_err()
+// Why the turns of a number are refused, if they are.
+fn refusal_of<R: Wait + Drop + Copy>(pool: &GuestPool<R>, worker: usize) -> Option<TurnsError> {
+    pool.turns(worker).err()
 }
 
 #[test]
 fn a_worker_that_does_not_exist_is_refused_or_outside(rt: HostRuntime) {
     let guests = new_guests(&rt, rt.alloc(), 1);
     let pool = new_pool(rt, rt.alloc(), 1);
-    let refused = refuses_turns(&pool, 1) && pool.run(1).is_err();
+    let refused = [refusal_of(&pool, 1), pool.run(1).err()];
     let mut task = guest_task(&pool, 99, Errand::GiveWay(0), &guests);
     pool.bells().interrupt_worker(99);
     let mut turns = turns_of(&pool, 0);
@@ -78,14 +78,13 @@ fn a_worker_that_does_not_exist_is_refused_or_outside(rt: HostRuntime) {
     drop_turns(turns);
     drop_task(task);
     drop_pool(pool);
-    assert!(rt; refused && ran && answer == Some(1));
+    assert!(rt; refused == [Some(TurnsError::NoSuchWorker); 2]);
+    assert!(rt; ran && answer == Some(1));
 }
 
-// Whether the turns of a number are to be had: alone, and among those of all workers.
-fn may_have_turns<R: Wait + Drop + Copy>(pool: &GuestPool<R>, worker: usize) -> [bool; 2] {
-    let alone = pool.turns(worker).is_ok();
-    let among_all = pool.all_turns().is_ok();
-    [alone, among_all]
+// Why the turns of a number are refused, if they are: alone, and among those of all workers.
+fn refusals<R: Wait + Drop + Copy>(pool: &GuestPool<R>, worker: usize) -> [Option<TurnsError>; 2] {
+    [refusal_of(pool, worker), pool.all_turns().err()]
 }
 
 // A run of a pool that was shut down ends at once.
@@ -94,15 +93,18 @@ fn no_two_threads_are_one_worker(rt: HostRuntime) {
     let pool = new_pool(rt, rt.alloc(), 2);
     shut_down(&pool);
     let turns = turns_of(&pool, 0);
-    let while_it_lives = may_have_turns(&pool, 0);
-    let runs_beside_it = pool.run(0).is_ok();
-    let the_other = !refuses_turns(&pool, 1);
+    let while_it_lives = refusals(&pool, 0);
+    let beside_it = pool.run(0).err();
+    let of_the_other = refusal_of(&pool, 1);
     drop_turns(turns);
-    let once_dropped = may_have_turns(&pool, 0);
-    let runs_after_it = pool.run(0).is_ok();
+    let once_dropped = refusals(&pool, 0);
+    let after_it = pool.run(0).err();
     drop_pool(pool);
-    assert!(rt; while_it_lives == [false, false] && !runs_beside_it && the_other);
-    assert!(rt; once_dropped == [true, true] && runs_after_it);
+    let refused = Some(TurnsError::Refused);
+    assert!(rt;
+        while_it_lives == [refused, refused] && beside_it == refused && of_the_other.is_none()
+    );
+    assert!(rt; once_dropped == [None, None] && after_it.is_none());
 }
 
 // Whether the Task at the place of a key is pending.

@@ -1,9 +1,11 @@
-//! The tests of the pool itself: its workers, `block_on`, its stores, what it keeps, the order of tasks, storms of wakes, refused memory, and hostile use.
+//! The tests of the pool itself: its workers, `block_on`, its stores, what it keeps, the order of tasks, storms of wakes, refused memory, hostile use, and what is shown.
 //! It stands on `executor`, `work_queues` and `awaiters`. Nothing is public. The page is docs/EXECUTOR_POOL.md.
 #![tactic(auto)]
 
 #[cfg(test)]
 mod calls;
+#[cfg(test)]
+mod deadline_tests;
 #[cfg(test)]
 mod granted;
 #[cfg(test)]
@@ -16,6 +18,8 @@ mod kept_tests;
 mod order_tests;
 #[cfg(test)]
 mod refusal_tests;
+#[cfg(test)]
+mod shown_tests;
 #[cfg(test)]
 mod store_tests;
 #[cfg(test)]

@@ -1,4 +1,4 @@
-//! `block_on` of a pool: alone, beside another worker, for a task that is closed, and after a shutdown.
+//! `block_on` of a pool: alone, beside another worker, for a task that is closed, for a Cancel, and after a shutdown.
 //!
 //! Most calls of the pool and its handles stand in a function of their own, generic in the runtime alone: what such a call asks of their types is shown
 //! there once. Calls that run tasks stand in the tests, where the runtime is known: the prover must see that it outlives the pool.
@@ -125,4 +125,21 @@ fn block_on_leaves_a_task_that_nobody_wakes(rt: HostRuntime) {
     drop_turns(turns);
     drop_pool(pool);
     assert!(rt; ran && answer == Err(BlockOnError::ShutDown) && left == 1);
+}
+
+// The Cancel is there still as the future is gone.
+#[test]
+fn block_on_of_a_cancel_waits_until_the_future_is_gone(rt: HostRuntime) {
+    let guests = new_guests(&rt, rt.alloc(), 1);
+    let pool = new_pool(rt, rt.alloc(), 1);
+    let task = spawned(&pool, 1, Errand::Stay, &guests);
+    let mut turns = turns_of(&pool);
+    let ran = turns.tick();
+    let mut cancel = task.cancel();
+    let answer = turns.block_on(&mut cancel);
+    let (left, _) = shares_and_polls(&guests);
+    drop(cancel);
+    drop_turns(turns);
+    drop_pool(pool);
+    assert!(rt; ran && answer == Ok(None) && left == 1);
 }

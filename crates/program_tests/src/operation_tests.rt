@@ -86,6 +86,20 @@ fn each_status_is_told(rt: HostRuntime) {
     fails(&rt, rt.alloc(), "fast", 2, USAGE);
 }
 
+// After the word `perform` the names are told, as in the help.
+#[test]
+fn a_name_that_is_unknown_is_told_the_names(rt: HostRuntime) {
+    let text = help(&rt, rt.alloc());
+    let names = text
+        .as_str()
+        .split_once("\nThe names:")
+        .unwrap_or(("", ""))
+        .1;
+    let told = format!(in rt.alloc(); "{USAGE}\nThe names:{names}");
+    let told = granted(&rt, told);
+    fails(&rt, rt.alloc(), "perform spin 1", 2, told.as_str());
+}
+
 const ARGUMENTS: [&str; 5] = [
     "\n    check ",
     "\n    run ",

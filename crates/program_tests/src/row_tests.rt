@@ -142,7 +142,9 @@ fn the_help_lists_the_arguments(rt: HostRuntime) {
     }
 }
 
-// The status, where `out` takes so many bytes and then fails, and may fail to flush. Nothing is told of it.
+const FULL: &[u8] = b"taskrows: no storage space\n";
+
+// The status, where `out` takes so many bytes and then fails, and may fail to flush. Stops where that is not told.
 fn limited_status<R: Abort>(
     rt: &R,
     alloc: Global,
@@ -153,7 +155,7 @@ fn limited_status<R: Abort>(
     let mut other = Vec::new(alloc);
     let asked = status_of(alloc, line, End::Agrees, &mut limited, &mut other);
     let status = granted(rt, asked);
-    assert!(rt; other.is_empty());
+    assert!(rt; other.as_slice() == FULL);
     status
 }
 

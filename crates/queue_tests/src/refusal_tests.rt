@@ -1,10 +1,13 @@
 //! Tests of queues that are refused memory: what the items stand in is of a small heap, which is filled. And which queue a worker looks at first.
 
+ghost use Rattle.work_queues.specs.Duties.{IsClaim};
+
 use crate::granted::granted;
 use linked_list_allocator::LocalHeap;
 use std::alloc::{AllocError, Global};
 use std::process::Abort;
-use std::sync::Wait;
+use std::sync::{Arc, Wait};
+use work_queues::bells::Claim;
 use work_queues::{Bells, Board, Crew, Worker};
 
 /// Room for two queues, and for what a worker has in its hands.
@@ -73,18 +76,18 @@ fn a_refused_push_hands_the_item_back(rt: HostRuntime) {
     assert!(rt; heap.used() == 0);
 }
 
-// Pushes an item at the queue for what comes from outside, and rings the bell of the worker that is to be woken.
+// Pushes an item at the queue for what comes from outside: what became of it, and whether a worker was woken.
 fn push_and_ring<R: Wait>(
     rt: &R,
     board: &HeapBoard<'_>,
-    bells: &Bells,
     item: u64,
-) -> Result<(), u64> {
+) -> (Result<(), u64>, bool) {
     let (pushed, woken) = board.push(rt, board.workers(), item);
+    let wakes = woken.is_some();
     if let Some(woken) = woken {
-        woken.ring(bells);
+        board.ring(woken);
     }
-    pushed
+    (pushed, wakes)
 }
 
 // The worker counts as asleep beside a full queue, so the push makes it awake, though the queue is refused memory.
@@ -92,17 +95,40 @@ fn push_and_ring<R: Wait>(
 fn a_refused_push_wakes_a_worker(rt: HostRuntime) {
     let heap = granted(&rt, LocalHeap::new(rt.alloc(), HEAP));
     let bells = granted(&rt, Bells::new(rt.alloc(), 1));
-    let board = granted(&rt, HeapBoard::new(rt.alloc(), &heap, 1, ROOM));
-    let first = push_and_ring(&rt, &board, &bells, 1);
-    let second = push_and_ring(&rt, &board, &bells, 2);
+    let bells = granted(&rt, Arc::new(rt.alloc(), bells));
+    let own = granted(&rt, Arc::try_clone(&bells));
+    let board = granted(&rt, HeapBoard::new(rt.alloc(), &heap, own, ROOM));
+    let claim = granted(&rt, bells.claim(0).ok_or(AllocError));
+    let first = push_and_ring(&rt, &board, 1);
+    let second = push_and_ring(&rt, &board, 2);
     let filling = granted(&rt, fill(rt.alloc(), &heap));
-    let before = bells.shows(0);
-    let sleeper = board.lie_down(0);
-    let third = push_and_ring(&rt, &board, &bells, 3);
-    board.get_up(sleeper);
+    let lies = lie_down_and_push(&rt, &board, &bells, &claim);
+    bells.settle(bells.give_back(claim));
     drop(filling);
-    assert!(rt; first == Ok(()) && second == Ok(()) && third == Err(3));
-    assert!(rt; before == 0 && bells.shows(0) == 1);
+    assert!(rt; first == (Ok(()), false) && second == (Ok(()), false));
+    assert!(rt; lies == Some((Err(3), true)));
+}
+
+// The worker lies down, 3 is pushed, and it gets up.
+fn lie_down_and_push<R: Wait>(
+    rt: &R,
+    board: &HeapBoard<'_>,
+    bells: &Bells,
+    claim: &Claim,
+) -> Option<(Result<(), u64>, bool)>
+    requires { IsClaim bells.now claim.now }
+{
+    match bells.lie_down(rt, bells.look(), claim) {
+        Ok(sleeper) => {
+            let third = push_and_ring(rt, board, 3);
+            bells.settle(bells.get_up(sleeper));
+            Some(third)
+        }
+        Err(look) => {
+            bells.settle(look);
+            None
+        }
+    }
 }
 
 // Pushes 1 to 10 at the queue for what comes from outside: whether all were taken.
@@ -137,19 +163,18 @@ fn a_thief_that_is_refused_memory_loses_nothing(rt: HostRuntime) {
     let filling = granted(&rt, fill(rt.alloc(), &heap));
     let found = find_eleven(&rt, &crew, &mut worker);
     drop(filling);
-    drop(worker);
+    drop(crew.end_turns(&rt, worker));
     drop(crew);
     assert!(rt; taken && found == [1, 4, 5, 2, 3, 6, 7, 8, 9, 10, 0]);
     assert!(rt; heap.used() == 0);
 }
 
-// Whether a queue takes ten items, what a worker finds of them in one look, how many interruptions there are once it has left with 4 and 5 in its hands, and what another one finds
-// then in eleven looks.
+// Whether a queue takes ten items, what a worker finds of them in one look, and what another one finds in eleven looks once the first has left with 4 and 5 in its hands.
 fn leave_and_find<R: Wait + Abort>(
     rt: &R,
     alloc: Global,
     heap: &LocalHeap,
-) -> (bool, Option<u64>, u64, [u64; 11]) {
+) -> (bool, Option<u64>, [u64; 11]) {
     let crew = granted(rt, HeapCrew::new(alloc, heap, 2, ROOM));
     let mut worker = granted(rt, crew.worker(heap, 0));
     let mut other = granted(rt, crew.worker(heap, 1));
@@ -157,20 +182,19 @@ fn leave_and_find<R: Wait + Abort>(
     let filling = granted(rt, fill(alloc, heap));
     let first = crew.find(rt, &mut worker);
     drop(filling);
-    crew.end_turns(rt, &mut worker);
-    drop(worker);
-    let interruptions = crew.bells().interruptions();
+    drop(crew.end_turns(rt, worker));
     let found = find_eleven(rt, &crew, &mut other);
-    (taken, first, interruptions, found)
+    drop(crew.end_turns(rt, other));
+    (taken, first, found)
 }
 
 // Outside stand 6 to 10, and behind these 4 and 5, of which the other worker takes half at a time. Then it takes 2 and 3 out of the first one's queue.
 #[test]
 fn another_worker_finds_what_one_that_leaves_had_in_its_hands(rt: HostRuntime) {
     let heap = granted(&rt, LocalHeap::new(rt.alloc(), 2 * HEAP));
-    let (taken, first, interruptions, found) = leave_and_find(&rt, rt.alloc(), &heap);
+    let (taken, first, found) = leave_and_find(&rt, rt.alloc(), &heap);
     let is_all = found == [6, 7, 8, 9, 10, 4, 5, 2, 3, 0, 0];
-    assert!(rt; taken && first == Some(1) && interruptions == 1 && is_all);
+    assert!(rt; taken && first == Some(1) && is_all);
 }
 
 // Pushes 11 at the queue for what comes from outside until it is refused memory, and takes its first item: then it has room for one.
@@ -205,19 +229,29 @@ fn a_worker_that_leaves_keeps_what_does_not_fit(rt: HostRuntime) {
     let filling = granted(&rt, fill(rt.alloc(), &heap));
     let first = crew.find(&rt, &mut worker);
     let popped = leave_room_for_one(&rt, &crew);
-    crew.end_turns(&rt, &mut worker);
-    let kept = crew.find(&rt, &mut worker);
-    let own = crew.find(&rt, &mut worker);
+    let mut kept = crew.end_turns(&rt, worker);
+    let own = crew.pop(&rt, 0);
     let last = last_outside(&rt, &crew);
     drop(filling);
     let before = (first, popped) == (Some(1), Some(6));
-    let after = (kept, own, last) == (Some(5), Some(2), Some(4));
+    let after = (kept.pop_front(), kept.len(), own, last) == (Some(5), 0, Some(2), Some(4));
     assert!(rt; pushed && before && after);
 }
 
 // Whether a crew of one worker is refused its queues by this heap.
 fn refuses_a_crew(alloc: Global, heap: &LocalHeap) -> bool {
     HeapCrew::new(alloc, heap, 1, ROOM).is_err()
+}
+
+// Whether a worker of this crew is refused its hands by this heap.
+fn refuses_a_worker<'heap, R: Wait>(rt: &R, crew: &HeapCrew<'heap>, heap: &'heap LocalHeap) -> bool {
+    match crew.worker(heap, 0) {
+        Ok(worker) => {
+            drop(crew.end_turns(rt, worker));
+            false
+        }
+        Err(_) => true,
+    }
 }
 
 // Of the heap of one block the first of two queues takes it, and the second is refused.
@@ -227,7 +261,7 @@ fn a_crew_without_memory_is_refused(rt: HostRuntime) {
     let crew = granted(&rt, HeapCrew::new(rt.alloc(), &heap, 1, ROOM));
     let filling = granted(&rt, fill(rt.alloc(), &heap));
     let full = heap.used();
-    let refused = refuses_a_crew(rt.alloc(), &heap) && crew.worker(&heap, 0).is_err();
+    let refused = refuses_a_crew(rt.alloc(), &heap) && refuses_a_worker(&rt, &crew, &heap);
     let left = heap.used();
     drop(filling);
     drop(crew);
@@ -240,21 +274,17 @@ fn a_crew_without_memory_is_refused(rt: HostRuntime) {
     assert!(rt; built && two_blocks.used() == 0);
 }
 
-// At which of so many looks a worker finds an item from outside, which is a 0.
-fn looks_outside<R: Wait>(
-    rt: &R,
-    alloc: Global,
-    crew: &Crew<u64>,
-    looks: u64,
-) -> Result<Vec<u64>, AllocError> {
-    let mut worker = crew.worker(alloc, 0)?;
-    let mut found = Vec::new(alloc);
-    for look in 0..looks {
-        if crew.find(rt, &mut worker) == Some(0) {
-            found.push(look + 1)?;
+// How many zeros, which are items from outside, a worker finds in so many looks, and at which look it found the first and the last one.
+fn looks_outside<R: Wait>(rt: &R, crew: &Crew<u64>, worker: &mut Worker<u64>, looks: u64) -> [u64; 3] {
+    let mut found = [0u64; 3];
+    for look in 1..=looks {
+        if crew.find(rt, worker) == Some(0) {
+            found[0] = found[0].saturating_add(1);
+            found[1] = if found[1] == 0 { look } else { found[1] };
+            found[2] = look;
         }
     }
-    Ok(found)
+    found
 }
 
 // The worker always has items of its own, and two wait outside.
@@ -265,28 +295,29 @@ fn each_61st_look_is_first_for_what_came_from_outside(rt: HostRuntime) {
     for own in 1..201u64 {
         taken = crew.push(&rt, 0, own).is_ok() && taken;
     }
-    let found = granted(&rt, looks_outside(&rt, rt.alloc(), &crew, 150));
-    assert!(rt; taken && found.as_slice() == [61, 122].as_slice());
+    let mut worker = granted(&rt, crew.worker(rt.alloc(), 0));
+    let found = looks_outside(&rt, &crew, &mut worker, 150);
+    drop(crew.end_turns(&rt, worker));
+    assert!(rt; taken && found == [2, 61, 122]);
 }
 
-// How many zeros, which stand in the queues of others, worker 0 finds in so many looks, and how many of them at a 976th look. It always has items of its own.
+// How many zeros, which stand in the queues of others, worker 0 finds in so many looks, and how many of them at a 976th look. It always has items of its own, unless one is refused.
 fn look_beside_others<R: Wait>(
     rt: &R,
-    alloc: Global,
     crew: &Crew<u64>,
+    worker: &mut Worker<u64>,
     looks: u64,
-) -> Result<(u64, u64), AllocError> {
-    let mut worker = crew.worker(alloc, 0)?;
+) -> (u64, u64) {
     let mut found = (0u64, 0u64);
     for look in 1..=looks {
-        if crew.find(rt, &mut worker) == Some(0) {
+        if crew.find(rt, worker) == Some(0) {
             found.0 = found.0.saturating_add(1);
             found.1 = found.1.saturating_add(u64::from(look % 976 == 0));
         } else if crew.push(rt, 0, 1).is_err() {
-            return Err(AllocError);
+            break;
         }
     }
-    Ok(found)
+    found
 }
 
 // Nobody runs workers 1 and 2. At each 976th look the queue of one of the three workers is first, of each in turn.
@@ -295,6 +326,8 @@ fn a_busy_worker_finds_what_stands_in_the_queues_of_others(rt: HostRuntime) {
     let crew = granted(&rt, Crew::new(rt.alloc(), rt.alloc(), 3, ROOM));
     let others = crew.push(&rt, 1, 0).is_ok() && crew.push(&rt, 2, 0).is_ok();
     let own = crew.push(&rt, 0, 1).is_ok();
-    let found = granted(&rt, look_beside_others(&rt, rt.alloc(), &crew, 3 * 976));
+    let mut worker = granted(&rt, crew.worker(rt.alloc(), 0));
+    let found = look_beside_others(&rt, &crew, &mut worker, 3 * 976);
+    drop(crew.end_turns(&rt, worker));
     assert!(rt; others && own && found == (2, 2));
 }

@@ -1,4 +1,5 @@
 pub mod Small
 pub mod Atomic
-pub mod Answers
+pub mod Calls
 pub mod Registered
+pub mod Tables

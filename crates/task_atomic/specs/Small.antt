@@ -1,5 +1,5 @@
--- 1 of 4: a task as its callers see it, and what each call makes of it in one act.
-use Rattle.std.specs.Prelude.{ℕ, ◌+◌, ◌-◌, Bool, true, false, not, ◌||◌, nat_lt, if◌then◌else◌}
+-- 1 of 4: a task as its callers see it, and the acts on it.
+use Rattle.std.specs.Prelude.{ℕ, ◌+◌, ◌-◌, Bool, true, false, not, ◌&&◌, ◌||◌, nat_lt, if◌then◌else◌}
 use Rattle.task_core.specs.Word.{State}
 use Rattle.task_core.specs.Local.{Phase, Idle, Queued, Polled, PolledAndWoken, Done}
 
@@ -56,14 +56,8 @@ cancel s = if is_over s then s else cancelled s.phase
     cancelled _ = record s { closed = true }
 
 -- a Runnable is dropped, an output is taken, or is given up with the Task
-abbrev pub discard : SmallTask → SmallTask
-discard s = record s { closed = true }
-
-abbrev pub claim : SmallTask → SmallTask
-claim s = record s { closed = true }
-
-abbrev pub give_output_up : SmallTask → SmallTask
-give_output_up s = record s { closed = true }
+abbrev pub close : SmallTask → SmallTask
+close s = record s { closed = true }
 
 -- the Task is given up: without another handle a closed task is gone, and an open one is closed
 abbrev pub detach : SmallTask → SmallTask
@@ -89,3 +83,47 @@ end_pending s = if s.closed then record s { phase = Done } else ended s.phase
     ended : Phase → SmallTask
     ended PolledAndWoken = record s { phase = Queued }
     ended _ = idle
+
+-- an act, with what it answers
+pub data SmallAct : Type 0 where
+  Gains : Bool → SmallAct  -- whether a waker was gained
+  Drops Orphans Wakes Discards Cancels Claims GivesOutputUp Detaches Starts EndsUnpolled EndsReady : SmallAct
+  EndsPending : Bool → SmallAct  -- whether the open task was woken meanwhile
+  SeesFinished : Bool → SmallAct  -- whether the task is over
+  SeesPending SeesClosed : SmallAct  -- that it is not done; that it is done without an output
+  NoAct : SmallAct
+
+-- what it makes of the task
+abbrev pub makes : ℕ → SmallAct → SmallTask → SmallTask
+makes limit (Gains gained) s = gain limit s
+makes limit Drops s = drop s
+makes limit Orphans s = orphaned
+makes limit Wakes s = wake s
+makes limit Discards s = close s
+makes limit Cancels s = cancel s
+makes limit Claims s = close s
+makes limit GivesOutputUp s = close s
+makes limit Detaches s = detach s
+makes limit Starts s = start s
+makes limit EndsUnpolled s = end_unpolled s
+makes limit EndsReady s = end_ready s
+makes limit (EndsPending woken) s = end_pending s
+makes limit _ s = s
+
+-- whether what it answers is so
+abbrev pub same : Bool → Bool → Bool
+same true b = b
+same false b = not b
+
+abbrev pub is_woken : Phase → Bool
+is_woken PolledAndWoken = true
+is_woken _ = false
+
+abbrev pub is_so : ℕ → SmallAct → SmallTask → Bool
+is_so limit (Gains gained) s = same gained (nat_lt s.references limit)
+is_so limit Claims s = is_done s.phase && not s.closed
+is_so limit (EndsPending woken) s = same woken (is_woken s.phase && not s.closed)
+is_so limit (SeesFinished finished) s = same finished (is_over s)
+is_so limit SeesPending s = not (is_done s.phase)
+is_so limit SeesClosed s = is_done s.phase && s.closed
+is_so limit _ s = true

@@ -1,6 +1,6 @@
 -- What a step comes to for the places of the party that made it.
 use Rattle.task_cell.proofs.Vocabulary.{◌≡◌, ℕ, Bool, true, false, List, [], ◌∷◌, refl, sym, ap, ◌∙◌, subst, Me, rest, Position, owns_awaiter, Slot, Deed, View, Party, has_work, Works, Awaits}
-use Rattle.task_cell.proofs.Vocabulary.{Carries, Carried, GoesWith}
+use Rattle.task_cell.proofs.Vocabulary.{Carries, Carried, DidWith}
 
 module _ {F T A : Type 0} where
   carries_kept : (a c : Bool) (q : Position) (l l' : List (ℕ × Slot F T A)) → Carries a a c c q l l' → l' ≡ l
@@ -43,8 +43,8 @@ module _ {F T A : Type 0} where
       value z (c ∷ cs) = c.1
 
   -- another value is put into the place in front
-  pub exchanges : (p q r : Party F T A) (path : List Deed) (at : Position) (k : ℕ) (y x new : Slot F T A) (held : List (ℕ × Slot F T A)) → GoesWith path at ((k, y) ∷ held) p q
-      → r.seat.block ≡ q.seat.block → q.seat.me.1 ≡ (k, x) ∷ rest q.seat.me.1 → r.seat.me ≡ (q.seat.me.0, (k, new) ∷ rest q.seat.me.1) → (y ≡ x) × GoesWith path at ((k, new) ∷ held) p r
+  pub exchanges : (p q r : Party F T A) (path : List Deed) (at : Position) (k : ℕ) (y x new : Slot F T A) (held : List (ℕ × Slot F T A)) → DidWith path at ((k, y) ∷ held) p q
+      → r.seat.block ≡ q.seat.block → q.seat.me.1 ≡ (k, x) ∷ rest q.seat.me.1 → r.seat.me ≡ (q.seat.me.0, (k, new) ∷ rest q.seat.me.1) → (y ≡ x) × DidWith path at ((k, new) ∷ held) p r
   exchanges p q r path at k y x new held g cell found left =
       let had : q.seat.me.1 ≡ (k, y) ∷ held = ap (λ (m : Me (Slot F T A) View). m.1) g.is in
       let same = same_value k y x held (rest q.seat.me.1) (sym had ∙ found) in (

@@ -5,13 +5,13 @@ use Rattle.task_cell.proofs.Vocabulary.{IfOk, IfErr, Me, State, number_of, writt
 use Rattle.task_cell.proofs.Vocabulary.{UnusedClone, Registered, TookBack, CloneInHand, Act, Look, CloneAwaiter, StoreAwaiter, FindNotify, BeginRegister, EndRegister, EndRegisterNotified, TakeAwaiter}
 use Rattle.task_cell.proofs.Vocabulary.{ClaimOutput, EndCall, Slots, Outcome, leaves_slots, changes_slots, when, notifies, first_look, after_storing, owns_awaiter, Slot, Deed, View, Party, member}
 use Rattle.task_cell.proofs.Vocabulary.{view, fresh, has_work, Waits, head_of, and_then, spot, held_word, next_of, born_of, leaves_by, noted, acted, output_first, TakesOutput, Carries, Carried, Makes}
-use Rattle.task_cell.proofs.Vocabulary.{saw_ended, position, deeds, limit_of, StandsWith, Stands, GoesWith, Goes, after, row, act, has_output, has_ended, has_to_wait, looking, claiming, looking_again}
+use Rattle.task_cell.proofs.Vocabulary.{saw_ended, position, deeds, limit_of, StandsWith, Stands, DidWith, Did, after, row, act, has_output, has_ended, has_to_wait, looking, claiming, looking_again}
 use Rattle.task_cell.proofs.Vocabulary.{claiming_again, finding_notifier, beginning_register, ending_register, taking_back, ClaimsOutput, Looks, claims_output, sees_none, LooksAgain}
 use Rattle.task_cell.proofs.Vocabulary.{claims_output_now, has_to_wait_on, sees_end, BeginsRegister, begins, finds_one, EndsRegister, ends, finds_notified, as_task, poll_number, Empty, Awaiter}
 use Rattle.task_cell.proofs.Vocabulary.{MayTry, HasChanged, HasEnded, first_free, has_waited, sees_output, looks, looks_again, begins_register, ends_register, takes_back, claims, claims_again}
 use Rattle.task_cell.proofs.Vocabulary.{finds_notifier, fits, not_true, left_true}
 use Rattle.task_core.specs.Rows.{row as row_of}
-use Rattle.task_cell.proofs.Moved.{position_is, held_is, stands, goes_on}
+use Rattle.task_cell.proofs.Moved.{position_is, held_is, stands, did_then}
 use Rattle.task_steps.specs.Shares.{MayBring, never}
 use Rattle.task_cell.proofs.Attempts.{written_if, may_bring_at}
 use Rattle.task_cell.proofs.PollSeen.{not_both}
@@ -32,7 +32,7 @@ module _ {F T A : Type 0} where
   -- the seat after acts that lead to this position, and add no party
   went : (acts : List Act) (w : State) (at at' : Position) (held : List (ℕ × Slot F T A)) (path : List Deed) (p q : Party F T A) → StandsWith at held p → q.seat.block ≡ p.seat.block → (m : Makes acts w p.seat.me q.seat.me)
       → next_of (leaves_by (limit_of p) w m.slots acts at) ≡ at' → born_of (leaves_by (limit_of p) w m.slots acts at) ≡ [] → noted w acts (deeds p) ≡ after path (deeds p)
-      → Carried at at' held q.seat.me.1 × GoesWith path at' q.seat.me.1 p q
+      → Carried at at' held q.seat.me.1 × DidWith path at' q.seat.me.1 p q
   went acts w at at' held path p q s cell m to none is = let viewed = m.viewed ∙ ap (λ x. acted w m.slots acts x.0) s in (
     subst (λ (z : Position × Position × List (ℕ × Slot F T A)). Carried z.0 z.1 z.2 q.seat.me.1)
         (λ i. (ap (λ (x : Me (Slot F T A) View). (head_of x.0.members).at) s i, (ap (λ (v : View). (head_of v.members).at) viewed ∙ to) i, ap (λ (x : Me (Slot F T A) View). x.1) s i)) m.carried,
@@ -46,7 +46,7 @@ module _ {F T A : Type 0} where
   found_one limit i w p q s cell e =
       let path : List Deed = act CloneAwaiter ∷ row FindNotify w ∷ [] in
       let g = went (CloneAwaiter ∷ FindNotify ∷ []) w (Registrar i) (UnusedClone i) [] path p q s cell e.made refl refl refl in
-      finds_one w e.at_end (subst (λ at. Goes path (UnusedClone (poll_number at)) p q) (sym (position_is p (Registrar i) [] s)) (subst (λ l. GoesWith path (UnusedClone i) l p q) g.0 g.1))
+      finds_one w e.at_end (subst (λ at. Did path (UnusedClone (poll_number at)) p q) (sym (position_is p (Registrar i) [] s)) (subst (λ l. DidWith path (UnusedClone i) l p q) g.0 g.1))
 
   -- the slot that is taken, by what stood in it
   carried_slot : (i : ℕ) (hand : Option ℕ) (l' : List (ℕ × Slot F T A)) → Carried (Registrar i) (after_storing i hand) [] l' → (y : Slot F T A) × Waits hand y × (l' ≡ (2, y) ∷ [])
@@ -58,23 +58,23 @@ module _ {F T A : Type 0} where
       let path : List Deed = act CloneAwaiter ∷ row BeginRegister w ∷ act StoreAwaiter ∷ [] in let hand : Option ℕ = m.slots.awaiter in
       let g = went (CloneAwaiter ∷ BeginRegister ∷ StoreAwaiter ∷ []) w (Registrar i) (after_storing i hand) [] path p q s cell m refl refl refl in
       let y = carried_slot i hand q.seat.me.1 g.0 in
-      begins w hand y.0 (not_notifying w.notifying (written BeginRegister w) c.written) y.1 (subst (λ at. GoesWith path (after_storing (poll_number at) hand) ((2, y.0) ∷ []) p q) (sym (position_is p (Registrar i) [] s)) (subst (λ l. GoesWith path (after_storing i hand) l p q) y.2 g.1))
+      begins w hand y.0 (not_notifying w.notifying (written BeginRegister w) c.written) y.1 (subst (λ at. DidWith path (after_storing (poll_number at) hand) ((2, y.0) ∷ []) p q) (sym (position_is p (Registrar i) [] s)) (subst (λ l. DidWith path (after_storing i hand) l p q) y.2 g.1))
 
   -- the slot is given back
   pub ended : (limit i : ℕ) (w : State) (y : Slot F T A) (p q : Party F T A) → StandsWith (Registered i) ((2, y) ∷ []) p → q.seat.block ≡ p.seat.block → HasChanged limit (λ _ w. row_of 0 EndRegister w) ending_register w p.seat.me q.seat.me → EndsRegister p q true
   ended limit i w y p q s cell c = let m = c.made in
       let path : List Deed = row EndRegister w ∷ [] in
       let g = went (EndRegister ∷ []) w (Registered i) (Looking i) ((2, y) ∷ []) path p q s cell m refl refl refl in
-      ends w (not_notifying w.notifying (written EndRegister w) c.written) (subst (λ at. Goes path (Looking (poll_number at)) p q) (sym (position_is p (Registered i) ((2, y) ∷ []) s)) (subst (λ l. GoesWith path (Looking i) l p q) g.0 g.1))
+      ends w (not_notifying w.notifying (written EndRegister w) c.written) (subst (λ at. Did path (Looking (poll_number at)) p q) (sym (position_is p (Registered i) ((2, y) ∷ []) s)) (subst (λ l. DidWith path (Looking i) l p q) g.0 g.1))
 
   -- the slot is given back without the clone, which was taken out of it
-  pub given_back : (i : ℕ) (w : State) (y : Slot F T A) (p q r : Party F T A) → StandsWith (TookBack i) ((2, y) ∷ []) p → GoesWith [] (TookBack i) ((2, Empty) ∷ []) p q → r.seat.block ≡ q.seat.block → Makes (EndRegisterNotified ∷ []) w q.seat.me r.seat.me
-      → (v : State) × (v.notifying ≡ true) × Goes (row EndRegisterNotified v ∷ []) (CloneInHand (poll_number (position p))) p r
+  pub given_back : (i : ℕ) (w : State) (y : Slot F T A) (p q r : Party F T A) → StandsWith (TookBack i) ((2, y) ∷ []) p → DidWith [] (TookBack i) ((2, Empty) ∷ []) p q → r.seat.block ≡ q.seat.block → Makes (EndRegisterNotified ∷ []) w q.seat.me r.seat.me
+      → (v : State) × (v.notifying ≡ true) × Did (row EndRegisterNotified v ∷ []) (CloneInHand (poll_number (position p))) p r
   given_back i w y p q r s took cell m = let path : List Deed = row EndRegisterNotified w ∷ [] in let held : List (ℕ × Slot F T A) = (2, Empty) ∷ [] in
       let g = went (EndRegisterNotified ∷ []) w (TookBack i) (CloneInHand i) held path q r (stands p q [] (TookBack i) held took) cell m refl refl refl in (
         w,
         left_true w.notifying true m.fits,
-        subst (λ at. Goes path (CloneInHand (poll_number at)) p r) (sym (position_is p (TookBack i) ((2, y) ∷ []) s)) (goes_on p q r [] path (TookBack i) (CloneInHand i) held [] took (subst (λ l. GoesWith path (CloneInHand i) l q r) g.0 g.1)),
+        subst (λ at. Did path (CloneInHand (poll_number at)) p r) (sym (position_is p (TookBack i) ((2, y) ∷ []) s)) (did_then p q r [] path (TookBack i) (CloneInHand i) held [] took (subst (λ l. DidWith path (CloneInHand i) l q r) g.0 g.1)),
       )
 
   -- a notifier came meanwhile, and the clone is taken back
@@ -84,7 +84,7 @@ module _ {F T A : Type 0} where
       ap (λ (b : Bool). f (and_then (when b (changes_slots (spot (limit_of p) (held_word (Registered i) w) m.slots) w (record (m.slots) { awaiter = None }) (TookBack i) [])) (λ o. leaves_by (limit_of p) o.word o.slots [] o.next))) e.at_end in
       let none : born_of (leaves_by (limit_of p) w m.slots (TakeAwaiter ∷ []) (Registered i)) ≡ [] = ap (λ (b : Bool). born_of (and_then (when b (changes_slots (spot (limit_of p) (held_word (Registered i) w) m.slots) w (record (m.slots) { awaiter = None }) (TookBack i) [])) (λ o. leaves_by (limit_of p) o.word o.slots [] o.next))) e.at_end in
       let g = went (TakeAwaiter ∷ []) w (Registered i) (TookBack i) held path p q s cell m (to next_of) none refl in
-      finds_notified (subst (λ (z : Position × List (ℕ × Slot F T A)). GoesWith path (TookBack (poll_number z.0)) z.1 p q) (λ j. (sym (position_is p (Registered i) held s) j, sym (held_is p (Registered i) held s) j)) (subst (λ l. GoesWith path (TookBack i) l p q) g.0 g.1))
+      finds_notified (subst (λ (z : Position × List (ℕ × Slot F T A)). DidWith path (TookBack (poll_number z.0)) z.1 p q) (λ j. (sym (position_is p (Registered i) held s) j, sym (held_is p (Registered i) held s) j)) (subst (λ l. DidWith path (TookBack i) l p q) g.0 g.1))
 
   -- the places of the output, once it was claimed
   carried_output : (b : Bool) (i : ℕ) (l : List (ℕ × Slot F T A)) → Carries false (has_work (notifies b (OfClaim i))) false (owns_awaiter (notifies b (OfClaim i))) (notifies b (OfClaim i)) [] l → TakesOutput [] l
@@ -98,7 +98,7 @@ module _ {F T A : Type 0} where
     there = there;
     output = c.0;
     is_output = c.1;
-    goes = subst (λ at. GoesWith path (notifies w.awaiter (OfClaim (poll_number at))) (output_first c.0 []) p q) (sym (position_is p at [] s)) (subst (λ l. GoesWith path (notifies w.awaiter (OfClaim (poll_number at))) l p q) c.2 g.1);
+    did = subst (λ at. DidWith path (notifies w.awaiter (OfClaim (poll_number at))) (output_first c.0 []) p q) (sym (position_is p at [] s)) (subst (λ l. DidWith path (notifies w.awaiter (OfClaim (poll_number at))) l p q) c.2 g.1);
   }
 
   first_holds : (w : State) (n : ℕ) (l : List (ℕ × Slot F T A)) → Carried (as_task n) (first_look w (n + 1)) [] l → l ≡ []
@@ -111,7 +111,7 @@ module _ {F T A : Type 0} where
   looks_so limit n (Err w) p q s cell c e = let m = e.made in let l : ℕ = limit_of p in let path : List Deed = row Look w ∷ [] in
       let left : Bool → Option Outcome = (λ b. and_then (when b (leaves_slots (spot l (held_word (as_task n) w) m.slots) w (first_look (held_word (as_task n) w) (n + 1)) [] (TaskPollBegins (n + 1) ∷ []))) (λ o. leaves_by l o.word o.slots [] o.next)) in
       let g = went (Look ∷ []) w (as_task n) (first_look w (n + 1)) [] path p q s cell m (ap (λ b. next_of (left b)) e.at_end) (ap (λ b. born_of (left b)) e.at_end) refl in
-      sees_none w (not_true (has_output w) e.at_end) (subst (λ at. Goes path (first_look w (poll_number at)) p q) (sym (position_is p (as_task n) [] s)) (subst (λ l. GoesWith path (first_look w (n + 1)) l p q) (first_holds w n q.seat.me.1 g.0) g.1))
+      sees_none w (not_true (has_output w) e.at_end) (subst (λ at. Did path (first_look w (poll_number at)) p q) (sym (position_is p (as_task n) [] s)) (subst (λ l. DidWith path (first_look w (n + 1)) l p q) (first_holds w n q.seat.me.1 g.0) g.1))
 
   -- .. which finds the task ended where one before it did
   pub finds_it_ended : (limit : ℕ) (x : Result State State) (p q : Party F T A) → IfOk x (λ w. HasChanged limit (λ _ w. row_of 0 ClaimOutput w) claiming w p.seat.me q.seat.me) → IfErr x (λ w. HasEnded limit (λ _ w. not (has_output w)) looking w p.seat.me q.seat.me)
@@ -132,10 +132,10 @@ module _ {F T A : Type 0} where
       by : (b : Bool) → has_to_wait w ≡ b → LooksAgain p q (Err w)
       by true f = let m = subst (λ b. Makes (if b then Look ∷ EndCall ∷ [] else Look ∷ []) w p.seat.me q.seat.me) f e.made in let path : List Deed = row Look w ∷ act EndCall ∷ [] in
           let is = has_waited w i f in let g = went (Look ∷ EndCall ∷ []) w (Looking i) (as_task i) [] path p q s cell m (ap (λ at. next_of (left m.slots (EndCall ∷ []) at)) is) (ap (λ at. born_of (left m.slots (EndCall ∷ []) at)) is) refl in
-          has_to_wait_on w f (subst (λ at. Goes path (as_task (poll_number at)) p q) (sym (position_is p (Looking i) [] s)) (subst (λ l. GoesWith path (as_task i) l p q) g.0 g.1))
+          has_to_wait_on w f (subst (λ at. Did path (as_task (poll_number at)) p q) (sym (position_is p (Looking i) [] s)) (subst (λ l. DidWith path (as_task i) l p q) g.0 g.1))
       by false f = let m = subst (λ b. Makes (if b then Look ∷ EndCall ∷ [] else Look ∷ []) w p.seat.me q.seat.me) f e.made in let path : List Deed = row Look w ∷ [] in
           let is = finds_end i w.closed (w.scheduled || w.running) w.completed f (not_true (has_output w) e.at_end) in let g = went (Look ∷ []) w (Looking i) (Notifier (OfPoll i)) [] path p q s cell m (ap (λ at. next_of (left m.slots [] at)) is.0) (ap (λ at. born_of (left m.slots [] at)) is.0) refl in
-          sees_end w f is.1 (subst (λ at. Goes path (Notifier (OfPoll (poll_number at))) p q) (sym (position_is p (Looking i) [] s)) (subst (λ l. GoesWith path (Notifier (OfPoll i)) l p q) g.0 g.1))
+          sees_end w f is.1 (subst (λ at. Did path (Notifier (OfPoll (poll_number at))) p q) (sym (position_is p (Looking i) [] s)) (subst (λ l. DidWith path (Notifier (OfPoll i)) l p q) g.0 g.1))
 
   pub looks_again_so : (limit i : ℕ) (x : Result State State) (p q : Party F T A) → Stands (Looking i) p → q.seat.block ≡ p.seat.block → IfOk x (λ w. HasChanged limit (λ _ w. row_of 0 ClaimOutput w) claiming_again w p.seat.me q.seat.me)
       → IfErr x (λ w. HasEnded limit (λ _ w. not (has_output w)) looking_again w p.seat.me q.seat.me) → LooksAgain p q x

@@ -1,6 +1,6 @@
 -- What a poll has seen of the task's end, and what an earlier poll has seen.
 use Rattle.task_cell.proofs.Vocabulary.{◌≡◌, Bool, true, false, List, [], ◌∷◌, ◌++◌, Option, None, sym, ap, subst, Result, Err, Me, State, TaskPoll, Position, Look, EndCall, Slot, Deed, View, Party}
-use Rattle.task_cell.proofs.Vocabulary.{row, act, after, head_of, leaves_such, saw, saw_ended, has_output, has_ended, deeds, GoesWith, AnswerPath, waits, has_ended_since, has_output_since, PollPath}
+use Rattle.task_cell.proofs.Vocabulary.{row, act, after, head_of, leaves_such, saw, saw_ended, has_output, has_ended, deeds, DidWith, AnswerPath, waits, has_ended_since, has_output_since, PollPath}
 use Rattle.task_cell.proofs.Vocabulary.{finds_output, finds_ended, true_left, true_right, arith}
 use Rattle.task_core.specs.declared.traits.TaskPoll.TheVariants.{Ready}
 use Rattle.task_cell.specs.PollPaths.{is_refused, looks_again}
@@ -16,7 +16,7 @@ looked : (w : State) (path earlier : List Deed) → has_ended w ≡ true → saw
 looked w path earlier e = saw_after has_ended path (row Look w ∷ earlier) (true_left (has_ended w) (saw has_ended earlier) e)
 
 -- the deeds of a party after a path
-pub deeds_after : {F V A : Type 0} (p q : Party F V A) (path : List Deed) (at : Position) → GoesWith path at [] p q → deeds q ≡ after path (deeds p)
+pub deeds_after : {F V A : Type 0} (p q : Party F V A) (path : List Deed) (at : Position) → DidWith path at [] p q → deeds q ≡ after path (deeds p)
 deeds_after {F} {V} {A} p q path at g = ap (λ (m : Me (Slot F V A) View). (head_of m.0.members).deeds) g.is
 
 module _ {A T : Type 0} (cloned : A → Option A → Type 0) (woken woken_by_ref : A → Type 0) (compared : A → A → Bool → Type 0) (awaiter : A) where
@@ -34,7 +34,7 @@ module _ {A T : Type 0} (cloned : A → Option A → Type 0) (woken woken_by_ref
       subst (λ l. saw_ended l ≡ true) (sym (after-append (row Look w ∷ registered) path earlier)) (answer_saw path answer (after (row Look w ∷ registered) earlier) a is)
 
   module _ {F V : Type 0} where
-    pub poll_saw : (p q : Party F V A) (path : List Deed) (at : Position) (answer : TaskPoll (Option T)) → PollPath cloned woken woken_by_ref compared awaiter path answer → GoesWith path at [] p q → answer ≡ Ready None → saw_ended (deeds q) ≡ true
+    pub poll_saw : (p q : Party F V A) (path : List Deed) (at : Position) (answer : TaskPoll (Option T)) → PollPath cloned woken woken_by_ref compared awaiter path answer → DidWith path at [] p q → answer ≡ Ready None → saw_ended (deeds q) ≡ true
     poll_saw p q path at answer h g is = subst (λ l. saw_ended l ≡ true) (sym (deeds_after p q path at g)) (path_saw path answer (deeds p) h is)
 
 -- a word cannot be of a task that has ended and that has its output

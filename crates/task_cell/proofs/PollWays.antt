@@ -1,11 +1,11 @@
 -- The paths of a poll, put together from those of its parts.
 use Rattle.task_cell.proofs.Vocabulary.{◌≡◌, ℕ, Bool, true, false, Option, Some, None, List, [], ◌∷◌, ◌++◌, refl, sym, ap, ◌∙◌, subst, State, Position, NotifyingCall, OfPoll, OfClaim, Notifier}
 use Rattle.task_cell.proofs.Vocabulary.{AwaiterInHand, TookOutput, Answering, HandOutOutput, TakeAwaiter, DropAwaiter, WakeAwaiter, EndCall, BeginNotify, MissNotify, EndNotify, IsClosed, after_waking}
-use Rattle.task_cell.proofs.Vocabulary.{may_drop, notifies, Slot, Deed, Party, Fits, position, holds, StandsWith, Stands, GoesWith, Goes, Notifies, misses, finds_none, takes_awaiter, row, act}
+use Rattle.task_cell.proofs.Vocabulary.{may_drop, notifies, Slot, Deed, Party, Fits, position, places_of, StandsWith, Stands, DidWith, Did, Notifies, misses, finds_none, takes_awaiter, row, act}
 use Rattle.task_cell.proofs.Vocabulary.{as_task, way_of, poll_number, IsOutput, output_first, TakePath, TakePathIf, ClaimsOutput, never}
 use Rattle.task_laws.specs.Table.{after_taking as on_from}
 use Rattle.task_cell.specs.PollPaths as paths
-use Rattle.task_cell.proofs.Moved.{goes_on, stands, position_is, held_is}
+use Rattle.task_cell.proofs.Moved.{did_then, stands, position_is, held_is}
 
 -- the way on of a poll that may drop the awaiter
 some_goes_on : (way : NotifyingCall) (i : ℕ) → may_drop way ≡ true → on_from (Some i) way ≡ AwaiterInHand i way
@@ -33,7 +33,7 @@ took w v = row BeginNotify w ∷ act TakeAwaiter ∷ row EndNotify v ∷ []
 module _ {F T A : Type 0} where
   abbrev Took : Party F T A → Party F T A → Option A → Type 0
   Took p q None = Unit {0}
-  Took p q (Some a) = (w : State) × (v : State) × (i : ℕ) × Fits BeginNotify w × GoesWith (took w v) (on_from (Some i) (way_of (position p))) (holds p) p q
+  Took p q (Some a) = (w : State) × (v : State) × (i : ℕ) × Fits BeginNotify w × DidWith (took w v) (on_from (Some i) (way_of (position p))) (places_of p) p q
 
   took_one : (p q : Party F T A) (x : Option A) → Notifies p q x → Took p q x
   took_one p q None (misses w f g) = tt
@@ -42,7 +42,7 @@ module _ {F T A : Type 0} where
 
   -- .. and where it stands with the awaiter in hand
   abbrev pub InHand : NotifyingCall → List (ℕ × Slot F T A) → Party F T A → Party F T A → Type 0
-  InHand way held p q = (w : State) × (v : State) × (i : ℕ) × Fits BeginNotify w × GoesWith (took w v) (AwaiterInHand i way) held p q
+  InHand way held p q = (w : State) × (v : State) × (i : ℕ) × Fits BeginNotify w × DidWith (took w v) (AwaiterInHand i way) held p q
 
   pub in_hand : (way : NotifyingCall) (held : List (ℕ × Slot F T A)) (p q : Party F T A) (a : A) (x : Option A) → StandsWith (Notifier way) held p → may_drop way ≡ true → Notifies p q x → x ≡ Some a → InHand way held p q
   in_hand way held p q a x s e n is = let g = took_one p q (Some a) (subst (λ y. Notifies p q y) is n) in (
@@ -50,7 +50,7 @@ module _ {F T A : Type 0} where
     g.1,
     g.2,
     g.3,
-    subst (λ (z : Position × List (ℕ × Slot F T A)). GoesWith (took g.0 g.1) z.0 z.1 p q)
+    subst (λ (z : Position × List (ℕ × Slot F T A)). DidWith (took g.0 g.1) z.0 z.1 p q)
         (λ j. ((ap (λ (at : Position). on_from (Some g.2) (way_of at)) (position_is p (Notifier way) held s) ∙ some_goes_on way g.2 e) j, held_is p (Notifier way) held s j)) g.4,
   )
 
@@ -58,34 +58,34 @@ module _ {F T A : Type 0} where
   hand_stands way held p q h = stands p q (took h.0 h.1) (AwaiterInHand h.2 way) held h.4
 
   -- the awaiter is dealt with, and the poll goes on
-  dealt : (way : NotifyingCall) (held : List (ℕ × Slot F T A)) (b : List Deed) (p q r : Party F T A) → StandsWith (Notifier way) held p → (h : InHand way held p q) → GoesWith b (after_waking (way_of (position q))) (holds q) q r
-      → GoesWith (took h.0 h.1 ++ b) (after_waking (way_of (position p))) (holds p) p r
+  dealt : (way : NotifyingCall) (held : List (ℕ × Slot F T A)) (b : List Deed) (p q r : Party F T A) → StandsWith (Notifier way) held p → (h : InHand way held p q) → DidWith b (after_waking (way_of (position q))) (places_of q) q r
+      → DidWith (took h.0 h.1 ++ b) (after_waking (way_of (position p))) (places_of p) p r
   dealt way held b p q r s h g = let t = hand_stands way held p q h in
       let at = position_is q (AwaiterInHand h.2 way) held t in let has = held_is q (AwaiterInHand h.2 way) held t in
-      let whole = goes_on p q r (took h.0 h.1) b (AwaiterInHand h.2 way) (after_waking way) held held h.4
-      (subst (λ (z : Position × List (ℕ × Slot F T A)). GoesWith b (after_waking (way_of z.0)) z.1 q r) (λ j. (at j, has j)) g) in
-      subst (λ (z : Position × List (ℕ × Slot F T A)). GoesWith (took h.0 h.1 ++ b) (after_waking (way_of z.0)) z.1 p r) (λ j. (sym (position_is p (Notifier way) held s) j, sym (held_is p (Notifier way) held s) j)) whole
+      let whole = did_then p q r (took h.0 h.1) b (AwaiterInHand h.2 way) (after_waking way) held held h.4
+      (subst (λ (z : Position × List (ℕ × Slot F T A)). DidWith b (after_waking (way_of z.0)) z.1 q r) (λ j. (at j, has j)) g) in
+      subst (λ (z : Position × List (ℕ × Slot F T A)). DidWith (took h.0 h.1 ++ b) (after_waking (way_of z.0)) z.1 p r) (λ j. (sym (position_is p (Notifier way) held s) j, sym (held_is p (Notifier way) held s) j)) whole
 
   module _ (woken : A → Type 0) (compared : A → A → Bool → Type 0) (awaiter : A) where
     abbrev pub Takes : Party F T A → Party F T A → Type 0
-    Takes p r = (path : List Deed) × TakePath woken compared awaiter path × GoesWith path (after_waking (way_of (position p))) (holds p) p r
+    Takes p r = (path : List Deed) × TakePath woken compared awaiter path × DidWith path (after_waking (way_of (position p))) (places_of p) p r
 
     pub dropped : (way : NotifyingCall) (held : List (ℕ × Slot F T A)) (p q r : Party F T A) (a : A) (x : Option A) → StandsWith (Notifier way) held p → may_drop way ≡ true → Notifies p q x → x ≡ Some a
-        → compared a awaiter true → GoesWith (act DropAwaiter ∷ []) (after_waking (way_of (position q))) (holds q) q r → Takes p r
+        → compared a awaiter true → DidWith (act DropAwaiter ∷ []) (after_waking (way_of (position q))) (places_of q) q r → Takes p r
     dropped way held p q r a x s e n is same g = let h = in_hand way held p q a x s e n is in
         (took h.0 h.1 ++ (act DropAwaiter ∷ []), paths.drops h.0 h.1 a h.3 same, dealt way held (act DropAwaiter ∷ []) p q r s h g)
 
     pub woke : (way : NotifyingCall) (held : List (ℕ × Slot F T A)) (p q r : Party F T A) (a : A) (x : Option A) → StandsWith (Notifier way) held p → may_drop way ≡ true → Notifies p q x → x ≡ Some a
-        → compared a awaiter false → woken a → GoesWith (act WakeAwaiter ∷ []) (after_waking (way_of (position q))) (holds q) q r → Takes p r
+        → compared a awaiter false → woken a → DidWith (act WakeAwaiter ∷ []) (after_waking (way_of (position q))) (places_of q) q r → Takes p r
     woke way held p q r a x s e n is other made g = let h = in_hand way held p q a x s e n is in
         (took h.0 h.1 ++ (act WakeAwaiter ∷ []), paths.wakes h.0 h.1 a h.3 other made, dealt way held (act WakeAwaiter ∷ []) p q r s h g)
 
     took_none : (way : NotifyingCall) (held : List (ℕ × Slot F T A)) (p r : Party F T A) (path : List Deed) → StandsWith (Notifier way) held p → may_drop way ≡ true → TakePath woken compared awaiter path
-        → GoesWith path (on_from None (way_of (position p))) (holds p) p r → Takes p r
+        → DidWith path (on_from None (way_of (position p))) (places_of p) p r → Takes p r
     took_none way held p r path s e t g = (
       path,
       t,
-      subst (λ at. GoesWith path at (holds p) p r)
+      subst (λ at. DidWith path at (places_of p) p r)
           (ap (λ (at : Position). on_from None (way_of at)) (position_is p (Notifier way) held s) ∙ (none_goes_on way e ∙ ap (λ (at : Position). after_waking (way_of at)) (sym (position_is p (Notifier way) held s)))) g,
     )
 
@@ -95,22 +95,22 @@ module _ {F T A : Type 0} where
     nothing way held p r (Some a) s e (takes_awaiter w v i b f g) is = absurd (cc)
 
   -- a path, and then another whose end goes by where the first one ends
-  pub then_goes : (p q r : Party F T A) (a b : List Deed) (at : Position) (held held' : List (ℕ × Slot F T A)) (f : Position → Position) → GoesWith a at held p q → GoesWith b (f (position q)) held' q r → GoesWith (a ++ b) (f at) held' p r
-  then_goes p q r a b at held held' f g h = goes_on p q r a b at (f at) held held' g (subst (λ x. GoesWith b (f x) held' q r) (position_is q at held (stands p q a at held g)) h)
+  pub then_goes : (p q r : Party F T A) (a b : List Deed) (at : Position) (held held' : List (ℕ × Slot F T A)) (f : Position → Position) → DidWith a at held p q → DidWith b (f (position q)) held' q r → DidWith (a ++ b) (f at) held' p r
+  then_goes p q r a b at held held' f g h = did_then p q r a b at (f at) held held' g (subst (λ x. DidWith b (f x) held' q r) (position_is q at held (stands p q a at held g)) h)
 
   -- .. by where the party stood before
-  goes_from : (p q : Party F T A) (path : List Deed) (at : Position) (held held' : List (ℕ × Slot F T A)) (f : Position → Position) → StandsWith at held p → GoesWith path (f at) held' p q → GoesWith path (f (position p)) held' p q
-  goes_from p q path at held held' f s g = subst (λ x. GoesWith path (f x) held' p q) (sym (position_is p at held s)) g
+  goes_from : (p q : Party F T A) (path : List Deed) (at : Position) (held held' : List (ℕ × Slot F T A)) (f : Position → Position) → StandsWith at held p → DidWith path (f at) held' p q → DidWith path (f (position p)) held' p q
+  goes_from p q path at held held' f s g = subst (λ x. DidWith path (f x) held' p q) (sym (position_is p at held s)) g
 
-  goes_by : (p q : Party F T A) (path : List Deed) (at : Position) (held held' : List (ℕ × Slot F T A)) (f : Position → Position) → StandsWith at held p → GoesWith path (f (position p)) held' p q → GoesWith path (f at) held' p q
-  goes_by p q path at held held' f s g = subst (λ x. GoesWith path (f x) held' p q) (position_is p at held s) g
+  goes_by : (p q : Party F T A) (path : List Deed) (at : Position) (held held' : List (ℕ × Slot F T A)) (f : Position → Position) → StandsWith at held p → DidWith path (f (position p)) held' p q → DidWith path (f at) held' p q
+  goes_by p q path at held held' f s g = subst (λ x. DidWith path (f x) held' p q) (position_is p at held s) g
 
   -- a closed task: the awaiter was taken, and the poll ends
-  pub is_answering : (i : ℕ) (path : List Deed) (p q : Party F T A) → Stands (Notifier (OfPoll i)) p → GoesWith path (after_waking (way_of (position p))) (holds p) p q → Goes path (Answering i IsClosed) p q
-  is_answering i path p q s g = subst (λ l. GoesWith path (Answering i IsClosed) l p q) (held_is p (Notifier (OfPoll i)) [] s) (goes_by p q path (Notifier (OfPoll i)) [] (holds p) (λ x. after_waking (way_of x)) s g)
+  pub is_answering : (i : ℕ) (path : List Deed) (p q : Party F T A) → Stands (Notifier (OfPoll i)) p → DidWith path (after_waking (way_of (position p))) (places_of p) p q → Did path (Answering i IsClosed) p q
+  is_answering i path p q s g = subst (λ l. DidWith path (Answering i IsClosed) l p q) (held_is p (Notifier (OfPoll i)) [] s) (goes_by p q path (Notifier (OfPoll i)) [] (places_of p) (λ x. after_waking (way_of x)) s g)
 
-  pub ended_closed : (i : ℕ) (path : List Deed) (p q r : Party F T A) → Stands (Notifier (OfPoll i)) p → GoesWith path (after_waking (way_of (position p))) (holds p) p q → Goes (act EndCall ∷ []) (ends (position q)) q r
-      → Goes (path ++ (act EndCall ∷ [])) (ends (position p)) p r
+  pub ended_closed : (i : ℕ) (path : List Deed) (p q r : Party F T A) → Stands (Notifier (OfPoll i)) p → DidWith path (after_waking (way_of (position p))) (places_of p) p q → Did (act EndCall ∷ []) (ends (position q)) q r
+      → Did (path ++ (act EndCall ∷ [])) (ends (position p)) p r
   ended_closed i path p q r s g h = goes_from p r (path ++ (act EndCall ∷ [])) (Notifier (OfPoll i)) [] [] ends s (then_goes p q r path (act EndCall ∷ []) (Answering i IsClosed) [] [] ends (is_answering i path p q s g) h)
 
   -- the output is claimed: the awaiter is taken where there is one
@@ -118,31 +118,31 @@ module _ {F T A : Type 0} where
   notifies_so i held b p s e = subst (λ (b : Bool). StandsWith (notifies b (OfClaim i)) held p) e s
 
   pub taken_if : (woken : A → Type 0) (compared : A → A → Bool → Type 0) (awaiter : A) (i : ℕ) (held : List (ℕ × Slot F T A)) (b : Bool) (p q : Party F T A) → StandsWith (notifies b (OfClaim i)) held p → b ≡ true
-      → Takes woken compared awaiter p q → (path : List Deed) × TakePathIf woken compared awaiter b path × GoesWith path (TookOutput (poll_number (position p))) (holds p) p q
+      → Takes woken compared awaiter p q → (path : List Deed) × TakePathIf woken compared awaiter b path × DidWith path (TookOutput (poll_number (position p))) (places_of p) p q
   taken_if woken compared awaiter i held b p q s e t = let s' = notifies_so i held b p s e in (
     t.0,
     subst (λ (b : Bool). TakePathIf woken compared awaiter b t.0) (sym e) t.1,
-    goes_from p q t.0 (Notifier (OfClaim i)) held (holds p) (λ x. TookOutput (poll_number x)) s' (goes_by p q t.0 (Notifier (OfClaim i)) held (holds p) (λ x. after_waking (way_of x)) s' t.2),
+    goes_from p q t.0 (Notifier (OfClaim i)) held (places_of p) (λ x. TookOutput (poll_number x)) s' (goes_by p q t.0 (Notifier (OfClaim i)) held (places_of p) (λ x. after_waking (way_of x)) s' t.2),
   )
 
   pub none_taken : (woken : A → Type 0) (compared : A → A → Bool → Type 0) (awaiter : A) (i : ℕ) (held : List (ℕ × Slot F T A)) (b : Bool) (p : Party F T A) → StandsWith (notifies b (OfClaim i)) held p → b ≡ false
-      → (path : List Deed) × TakePathIf woken compared awaiter b path × GoesWith path (TookOutput (poll_number (position p))) (holds p) p p
+      → (path : List Deed) × TakePathIf woken compared awaiter b path × DidWith path (TookOutput (poll_number (position p))) (places_of p) p p
   none_taken woken compared awaiter i held b p s e = let s' = subst (λ (b : Bool). StandsWith (notifies b (OfClaim i)) held p) e s in let path : List Deed = [] in (
     path,
     subst (λ (b : Bool). TakePathIf woken compared awaiter b path) (sym e) (let x : path ≡ [] = refl in x),
-    goes_from p p path (TookOutput i) held (holds p) (λ x. TookOutput (poll_number x)) s' (subst (λ l. GoesWith path (TookOutput i) l p p) (sym (held_is p (TookOutput i) held s')) (record { cell = refl; is = s' })),
+    goes_from p p path (TookOutput i) held (places_of p) (λ x. TookOutput (poll_number x)) s' (subst (λ l. DidWith path (TookOutput i) l p p) (sym (held_is p (TookOutput i) held s')) (record { cell = refl; is = s' })),
   )
 
   -- .. and the output handed out
-  pub handed_out : (taken : List Deed) (p q r : Party F T A) → GoesWith taken (TookOutput (poll_number (position p))) (holds p) p q → Goes (act HandOutOutput ∷ act EndCall ∷ []) (ends (position q)) q r
-      → Goes (taken ++ (act HandOutOutput ∷ act EndCall ∷ [])) (ends (position p)) p r
-  handed_out taken p q r g o = then_goes p q r taken (act HandOutOutput ∷ act EndCall ∷ []) (TookOutput (poll_number (position p))) (holds p) [] ends g o
+  pub handed_out : (taken : List Deed) (p q r : Party F T A) → DidWith taken (TookOutput (poll_number (position p))) (places_of p) p q → Did (act HandOutOutput ∷ act EndCall ∷ []) (ends (position q)) q r
+      → Did (taken ++ (act HandOutOutput ∷ act EndCall ∷ [])) (ends (position p)) p r
+  handed_out taken p q r g o = then_goes p q r taken (act HandOutOutput ∷ act EndCall ∷ []) (TookOutput (poll_number (position p))) (places_of p) [] ends g o
 
   -- a look that has claimed the output stands to take the awaiter
   pub has_claimed : (w : State) (path : List Deed) (p q : Party F T A) → ClaimsOutput w path p q → (i : ℕ) × (z : Slot F T A) × StandsWith (notifies w.awaiter (OfClaim i)) (output_first z []) q × IsOutput z
-  has_claimed w path p q c = let n : ℕ = poll_number (position p) in (n, c.output, stands p q path (notifies w.awaiter (OfClaim n)) (output_first c.output []) c.goes, c.is_output)
+  has_claimed w path p q c = let n : ℕ = poll_number (position p) in (n, c.output, stands p q path (notifies w.awaiter (OfClaim n)) (output_first c.output []) c.did, c.is_output)
 
   -- .. and goes on to the end of its poll
-  pub claimed_out : (w : State) (path rest : List Deed) (p q r : Party F T A) → ClaimsOutput w path p q → Goes rest (ends (position q)) q r → Goes (path ++ rest) (ends (position p)) p r
+  pub claimed_out : (w : State) (path rest : List Deed) (p q r : Party F T A) → ClaimsOutput w path p q → Did rest (ends (position q)) q r → Did (path ++ rest) (ends (position p)) p r
   claimed_out w path rest p q r c o = let n : ℕ = poll_number (position p) in
-      subst (λ k. Goes (path ++ rest) (as_task k) p r) (claimed_number w.awaiter n) (then_goes p q r path rest (notifies w.awaiter (OfClaim n)) (output_first c.output []) [] ends c.goes o)
+      subst (λ k. Did (path ++ rest) (as_task k) p r) (claimed_number w.awaiter n) (then_goes p q r path rest (notifies w.awaiter (OfClaim n)) (output_first c.output []) [] ends c.did o)

@@ -4,7 +4,7 @@ use Rattle.task_cell.proofs.Vocabulary.{◌≡◌, ℕ, Bool, true, false, not, 
 use Rattle.task_cell.proofs.Vocabulary.{Ran, Runnable, Ended, OfRun, ThenEnds, DroppedRunnable, Position, At, Deliverer, GivingUp, Emptier, FutureInHand, Polling, Pending, Ready, PendingFutureDropped}
 use Rattle.task_cell.proofs.Vocabulary.{OutputInHand, Act, GiveUpReference, GiveUpLastReference, EmptySlots, DiscardOpen, DiscardClosed, AnswerReady, AnswerPending, DropFuture, StoreOutput, Complete}
 use Rattle.task_cell.proofs.Vocabulary.{CompleteDetached, DropOutput, EndClosed, Reschedule, EndIdle, EndCall, EndOrphaned, found, written, after_giving_up, notifies, Slot, Empty, Deed, Party, Rescheduled}
-use Rattle.task_cell.proofs.Vocabulary.{Idle, Orphaned, IsFuture, IsOutput, future_first, output_first, Makes, Carried, all_fit, left_true, dropping_output, StandsWith, Stands, GoesWith, Goes}
+use Rattle.task_cell.proofs.Vocabulary.{Idle, Orphaned, IsFuture, IsOutput, future_first, output_first, Makes, Carried, all_fit, left_true, dropping_output, StandsWith, Stands, DidWith, Did}
 use Rattle.task_cell.proofs.Vocabulary.{limit_of, deeds, row, act, DiscardStart, found_open, found_closed, GivesUp, not_last, last, Releases, Completes, keeps, finds_detached, AnswersPending}
 use Rattle.task_cell.proofs.Vocabulary.{stays_pending, clears, EndsPending, is_rescheduled, is_idle, is_orphaned, ending_of, given_work, given_free, due_work, closed_already, completes, ends_pending}
 use Rattle.task_cell.proofs.Vocabulary.{MayTry, HasEnded, never_ends, Steps, arith}
@@ -41,15 +41,15 @@ was_unclosed w e = grind arith
 
 module _ {F T A : Type 0} where
   pub discarded : (p q : Party F T A) (w : State) → Stands (At Runnable) p → q.seat.block ≡ p.seat.block → Makes (discarding w) w p.seat.me q.seat.me
-      → (d : Deed) × (y : Slot F T A) × DiscardStart d × GoesWith (d ∷ []) (FutureInHand DroppedRunnable) (future_first y []) p q × IsFuture y
+      → (d : Deed) × (y : Slot F T A) × DiscardStart d × DidWith (d ∷ []) (FutureInHand DroppedRunnable) (future_first y []) p q × IsFuture y
   discarded p q w s cell made = by w.closed refl made
     where
       by : (b : Bool) → w.closed ≡ b → Makes (if b then DiscardClosed ∷ [] else DiscardOpen ∷ []) w p.seat.me q.seat.me
-          → (d : Deed) × (y : Slot F T A) × DiscardStart d × GoesWith (d ∷ []) (FutureInHand DroppedRunnable) (future_first y []) p q × IsFuture y
+          → (d : Deed) × (y : Slot F T A) × DiscardStart d × DidWith (d ∷ []) (FutureInHand DroppedRunnable) (future_first y []) p q × IsFuture y
       by true h made = let m = moved.moved (DiscardClosed ∷ []) w (At Runnable) [] p q s made in let y = took_work (At Runnable) (FutureInHand DroppedRunnable) [] q.seat.me.1 refl refl m.carried in
-          (row DiscardClosed w, y.0, found_closed w h, moved.goes p q (row DiscardClosed w ∷ []) (FutureInHand DroppedRunnable) (future_first y.0 []) cell m.viewed y.2, y.1)
+          (row DiscardClosed w, y.0, found_closed w h, moved.did p q (row DiscardClosed w ∷ []) (FutureInHand DroppedRunnable) (future_first y.0 []) cell m.viewed y.2, y.1)
       by false h made = let m = moved.moved (DiscardOpen ∷ []) w (At Runnable) [] p q s made in let y = took_work (At Runnable) (FutureInHand DroppedRunnable) [] q.seat.me.1 refl refl m.carried in
-          (row DiscardOpen w, y.0, found_open w h, moved.goes p q (row DiscardOpen w ∷ []) (FutureInHand DroppedRunnable) (future_first y.0 []) cell m.viewed y.2, y.1)
+          (row DiscardOpen w, y.0, found_open w h, moved.did p q (row DiscardOpen w ∷ []) (FutureInHand DroppedRunnable) (future_first y.0 []) cell m.viewed y.2, y.1)
 
   pub gave_up : (hand : Option ℕ) (answer : Answer) (p q : Party F T A) (w : State) → Stands (GivingUp hand answer) p → q.seat.block ≡ p.seat.block → Makes (giving_up w) w p.seat.me q.seat.me
       → GivesUp hand answer p q (not (nat_lt 1 w.references || w.task))
@@ -57,9 +57,9 @@ module _ {F T A : Type 0} where
     where
       by : (b : Bool) → (nat_lt 1 w.references || w.task) ≡ b → Makes (if b then GiveUpReference ∷ [] else GiveUpLastReference ∷ []) w p.seat.me q.seat.me → GivesUp hand answer p q (not b)
       by true is made = let m = moved.moved (GiveUpReference ∷ []) w (GivingUp hand answer) [] p q s made in
-          not_last w is (moved.goes p q (row GiveUpReference w ∷ []) (after_giving_up hand answer) [] cell m.viewed (keeps_places (GivingUp hand answer) (after_giving_up hand answer) [] q.seat.me.1 (given_work hand answer) (given_free hand answer) m.carried))
+          not_last w is (moved.did p q (row GiveUpReference w ∷ []) (after_giving_up hand answer) [] cell m.viewed (keeps_places (GivingUp hand answer) (after_giving_up hand answer) [] q.seat.me.1 (given_work hand answer) (given_free hand answer) m.carried))
       by false is made = let m = moved.moved (GiveUpLastReference ∷ []) w (GivingUp hand answer) [] p q s made in let y = took_awaiter (GivingUp hand answer) (Emptier hand answer) [] q.seat.me.1 refl refl refl m.carried in
-          last w y.0 (alone_fits GiveUpLastReference (limit_of p) w made.fits) (moved.goes p q (row GiveUpLastReference w ∷ []) (Emptier hand answer) ((2, y.0) ∷ []) cell m.viewed y.2)
+          last w y.0 (alone_fits GiveUpLastReference (limit_of p) w made.fits) (moved.did p q (row GiveUpLastReference w ∷ []) (Emptier hand answer) ((2, y.0) ∷ []) cell m.viewed y.2)
 
   pub gives_cell : (hand : Option ℕ) (answer : Answer) (p q : Party F T A) (b : Bool) → GivesUp hand answer p q b → q.seat.block ≡ p.seat.block
   gives_cell hand answer p q true (last w y f g) = g.cell
@@ -70,16 +70,16 @@ module _ {F T A : Type 0} where
   last_stands hand answer p q false (not_last w f g) e = absurd (cc)
 
   pub emptied : (hand : Option ℕ) (answer : Answer) (y : Slot F T A) (p q : Party F T A) (w : State) → StandsWith (Emptier hand answer) ((2, y) ∷ []) p → q.seat.block ≡ p.seat.block → Makes (emptying w) w p.seat.me q.seat.me
-      → Goes (act EmptySlots ∷ []) (after_giving_up hand answer) p q
+      → Did (act EmptySlots ∷ []) (after_giving_up hand answer) p q
   emptied hand answer y p q w s cell made = let m = moved.moved (EmptySlots ∷ []) w (Emptier hand answer) ((2, y) ∷ []) p q s made in
-      moved.goes p q (act EmptySlots ∷ []) (after_giving_up hand answer) [] cell m.viewed (gave_awaiter (Emptier hand answer) (after_giving_up hand answer) ((2, y) ∷ []) q.seat.me.1 (given_work hand answer) refl (given_free hand answer) m.carried)
+      moved.did p q (act EmptySlots ∷ []) (after_giving_up hand answer) [] cell m.viewed (gave_awaiter (Emptier hand answer) (after_giving_up hand answer) ((2, y) ∷ []) q.seat.me.1 (given_work hand answer) refl (given_free hand answer) m.carried)
 
   pub releases_last : (hand : Option ℕ) (answer : Answer) (p q r : Party F T A) (b : Bool) → GivesUp hand answer p q b → b ≡ true
-      → ((y : Slot F T A) → StandsWith (Emptier hand answer) ((2, y) ∷ []) q → Goes (act EmptySlots ∷ []) (after_giving_up hand answer) q r) → Releases hand answer p r
+      → ((y : Slot F T A) → StandsWith (Emptier hand answer) ((2, y) ∷ []) q → Did (act EmptySlots ∷ []) (after_giving_up hand answer) q r) → Releases hand answer p r
   releases_last hand answer p q r true (last w y f g) e ends = (
     row GiveUpLastReference w ∷ act EmptySlots ∷ [],
     leaves_none w f,
-    moved.goes_on p q r (row GiveUpLastReference w ∷ []) (act EmptySlots ∷ []) (Emptier hand answer) (after_giving_up hand answer) ((2, y) ∷ []) [] g (ends y (moved.stands p q (row GiveUpLastReference w ∷ []) (Emptier hand answer) ((2, y) ∷ []) g)),
+    moved.did_then p q r (row GiveUpLastReference w ∷ []) (act EmptySlots ∷ []) (Emptier hand answer) (after_giving_up hand answer) ((2, y) ∷ []) [] g (ends y (moved.stands p q (row GiveUpLastReference w ∷ []) (Emptier hand answer) ((2, y) ∷ []) g)),
   )
   releases_last hand answer p q r false (not_last w f g) e ends = absurd (cc)
 
@@ -87,8 +87,8 @@ module _ {F T A : Type 0} where
   releases_other hand answer p q false (not_last w f g) e = (row GiveUpReference w ∷ [], leaves_others w f, g)
   releases_other hand answer p q true (last w y f g) e = absurd (cc)
 
-  pub answered_ready : (held : List (ℕ × Slot F T A)) (p q : Party F T A) (w : State) → StandsWith Polling held p → q.seat.block ≡ p.seat.block → Makes (answering_ready w) w p.seat.me q.seat.me → GoesWith (act AnswerReady ∷ []) Ready held p q
-  answered_ready held p q w s cell made = let m = moved.moved (AnswerReady ∷ []) w Polling held p q s made in moved.goes p q (act AnswerReady ∷ []) Ready held cell m.viewed (keeps_places Polling Ready held q.seat.me.1 refl refl m.carried)
+  pub answered_ready : (held : List (ℕ × Slot F T A)) (p q : Party F T A) (w : State) → StandsWith Polling held p → q.seat.block ≡ p.seat.block → Makes (answering_ready w) w p.seat.me q.seat.me → DidWith (act AnswerReady ∷ []) Ready held p q
+  answered_ready held p q w s cell made = let m = moved.moved (AnswerReady ∷ []) w Polling held p q s made in moved.did p q (act AnswerReady ∷ []) Ready held cell m.viewed (keeps_places Polling Ready held q.seat.me.1 refl refl m.carried)
 
   -- what is found closed is closed
   at_closed : (acts : List Act) (w : State) (p q : Party F T A) → w.closed ≡ true → Makes acts w p.seat.me q.seat.me → Makes acts (record w { closed = true }) p.seat.me q.seat.me
@@ -99,36 +99,36 @@ module _ {F T A : Type 0} where
     where
       by : (b : Bool) → w.closed ≡ b → Makes (if b then AnswerPending ∷ DropFuture ∷ [] else AnswerPending ∷ []) w p.seat.me q.seat.me → AnswersPending held p q b
       by true h made = let v : State = record w { closed = true } in let m = moved.moved (AnswerPending ∷ DropFuture ∷ []) v Polling held p q s (at_closed (AnswerPending ∷ DropFuture ∷ []) w p q h made) in
-          clears (moved.goes p q (act AnswerPending ∷ act DropFuture ∷ []) PendingFutureDropped held cell m.viewed (keeps_places Polling PendingFutureDropped held q.seat.me.1 refl refl m.carried))
+          clears (moved.did p q (act AnswerPending ∷ act DropFuture ∷ []) PendingFutureDropped held cell m.viewed (keeps_places Polling PendingFutureDropped held q.seat.me.1 refl refl m.carried))
       by false h made = let m = moved.moved (AnswerPending ∷ []) w Polling held p q s made in
-          stays_pending (moved.goes p q (act AnswerPending ∷ []) Pending held cell m.viewed (keeps_places Polling Pending held q.seat.me.1 refl refl m.carried))
+          stays_pending (moved.did p q (act AnswerPending ∷ []) Pending held cell m.viewed (keeps_places Polling Pending held q.seat.me.1 refl refl m.carried))
 
-  pub found_closed_meanwhile : (limit : ℕ) (held : List (ℕ × Slot F T A)) (p q : Party F T A) (w : State) → StandsWith Pending held p → q.seat.block ≡ p.seat.block → HasEnded limit (λ _ w. w.closed) finding_closed w p.seat.me q.seat.me → GoesWith (act DropFuture ∷ []) PendingFutureDropped held p q
+  pub found_closed_meanwhile : (limit : ℕ) (held : List (ℕ × Slot F T A)) (p q : Party F T A) (w : State) → StandsWith Pending held p → q.seat.block ≡ p.seat.block → HasEnded limit (λ _ w. w.closed) finding_closed w p.seat.me q.seat.me → DidWith (act DropFuture ∷ []) PendingFutureDropped held p q
   found_closed_meanwhile limit held p q w s cell e = let v : State = record w { closed = true } in let m = moved.moved (DropFuture ∷ []) v Pending held p q s (at_closed (DropFuture ∷ []) w p q e.at_end e.made) in
-      moved.goes p q (act DropFuture ∷ []) PendingFutureDropped held cell m.viewed (keeps_places Pending PendingFutureDropped held q.seat.me.1 refl refl m.carried)
+      moved.did p q (act DropFuture ∷ []) PendingFutureDropped held cell m.viewed (keeps_places Pending PendingFutureDropped held q.seat.me.1 refl refl m.carried)
 
-  pub ended_closed : (p q : Party F T A) (w : State) → StandsWith PendingFutureDropped (future_first Empty []) p → q.seat.block ≡ p.seat.block → Makes (ending_closed w) w p.seat.me q.seat.me → (w.closed ≡ true) × Goes (row EndClosed w ∷ []) (notifies w.awaiter OfRun) p q
+  pub ended_closed : (p q : Party F T A) (w : State) → StandsWith PendingFutureDropped (future_first Empty []) p → q.seat.block ≡ p.seat.block → Makes (ending_closed w) w p.seat.me q.seat.me → (w.closed ≡ true) × Did (row EndClosed w ∷ []) (notifies w.awaiter OfRun) p q
   ended_closed p q w s cell made = let m = moved.moved (EndClosed ∷ []) w PendingFutureDropped (future_first Empty []) p q s made in
-      (alone_fits EndClosed (limit_of p) w made.fits, moved.goes p q (row EndClosed w ∷ []) (notifies w.awaiter OfRun) [] cell m.viewed (gave_work PendingFutureDropped (notifies w.awaiter OfRun) (future_first Empty []) q.seat.me.1 refl (due_work w.awaiter) m.carried))
+      (alone_fits EndClosed (limit_of p) w made.fits, moved.did p q (row EndClosed w ∷ []) (notifies w.awaiter OfRun) [] cell m.viewed (gave_work PendingFutureDropped (notifies w.awaiter OfRun) (future_first Empty []) q.seat.me.1 refl (due_work w.awaiter) m.carried))
 
-  pub dropped_output : (due : Bool) (p q : Party F T A) (w : State) → StandsWith (OutputInHand due) (output_first Empty []) p → q.seat.block ≡ p.seat.block → Makes (dropping_output w) w p.seat.me q.seat.me → Goes (act DropOutput ∷ []) (notifies due OfRun) p q
+  pub dropped_output : (due : Bool) (p q : Party F T A) (w : State) → StandsWith (OutputInHand due) (output_first Empty []) p → q.seat.block ≡ p.seat.block → Makes (dropping_output w) w p.seat.me q.seat.me → Did (act DropOutput ∷ []) (notifies due OfRun) p q
   dropped_output due p q w s cell made = let m = moved.moved (DropOutput ∷ []) w (OutputInHand due) (output_first Empty []) p q s made in
-      moved.goes p q (act DropOutput ∷ []) (notifies due OfRun) [] cell m.viewed (gave_work (OutputInHand due) (notifies due OfRun) (output_first Empty []) q.seat.me.1 refl (due_work due) m.carried)
+      moved.did p q (act DropOutput ∷ []) (notifies due OfRun) [] cell m.viewed (gave_work (OutputInHand due) (notifies due OfRun) (output_first Empty []) q.seat.me.1 refl (due_work due) m.carried)
 
   pub completed : (z : Slot F T A) (p q : Party F T A) (w : State) → StandsWith Ready (output_first z []) p → q.seat.block ≡ p.seat.block → Makes (completing w) w p.seat.me q.seat.me → Completes p q w
   completed z p q w s cell made = by w.task w.closed refl refl made
     where
       by : (b c : Bool) → w.task ≡ b → w.closed ≡ c → Makes (if b then DropFuture ∷ StoreOutput ∷ Complete ∷ [] else DropFuture ∷ StoreOutput ∷ CompleteDetached ∷ []) w p.seat.me q.seat.me → Completes p q w
       by true true h k made = let m = moved.moved (DropFuture ∷ StoreOutput ∷ Complete ∷ []) w Ready (output_first z []) p q s made in let e : (if w.closed then OutputInHand w.awaiter else notifies w.awaiter OfRun) ≡ OutputInHand w.awaiter = ap (λ b. if b then OutputInHand w.awaiter else notifies w.awaiter OfRun) k in
-          finds_closed z h k (subst (λ (at : Position). GoesWith (act DropFuture ∷ act StoreOutput ∷ row Complete w ∷ []) at (output_first z []) p q) e
-          (moved.goes p q (act DropFuture ∷ act StoreOutput ∷ row Complete w ∷ []) (if w.closed then OutputInHand w.awaiter else notifies w.awaiter OfRun) (output_first z []) cell m.viewed
+          finds_closed z h k (subst (λ (at : Position). DidWith (act DropFuture ∷ act StoreOutput ∷ row Complete w ∷ []) at (output_first z []) p q) e
+          (moved.did p q (act DropFuture ∷ act StoreOutput ∷ row Complete w ∷ []) (if w.closed then OutputInHand w.awaiter else notifies w.awaiter OfRun) (output_first z []) cell m.viewed
           (keeps_places Ready (OutputInHand w.awaiter) (output_first z []) q.seat.me.1 refl refl (subst (λ (at : Position). Carried Ready at (output_first z []) q.seat.me.1) e m.carried))))
       by true false h k made = let m = moved.moved (DropFuture ∷ StoreOutput ∷ Complete ∷ []) w Ready (output_first z []) p q s made in let e : (if w.closed then OutputInHand w.awaiter else notifies w.awaiter OfRun) ≡ notifies w.awaiter OfRun = ap (λ b. if b then OutputInHand w.awaiter else notifies w.awaiter OfRun) k in
-          keeps h k (subst (λ (at : Position). Goes (act DropFuture ∷ act StoreOutput ∷ row Complete w ∷ []) at p q) e
-          (moved.goes p q (act DropFuture ∷ act StoreOutput ∷ row Complete w ∷ []) (if w.closed then OutputInHand w.awaiter else notifies w.awaiter OfRun) [] cell m.viewed
+          keeps h k (subst (λ (at : Position). Did (act DropFuture ∷ act StoreOutput ∷ row Complete w ∷ []) at p q) e
+          (moved.did p q (act DropFuture ∷ act StoreOutput ∷ row Complete w ∷ []) (if w.closed then OutputInHand w.awaiter else notifies w.awaiter OfRun) [] cell m.viewed
           (gave_work Ready (notifies w.awaiter OfRun) (output_first z []) q.seat.me.1 refl (due_work w.awaiter) (subst (λ (at : Position). Carried Ready at (output_first z []) q.seat.me.1) e m.carried))))
       by false c h k made = let m = moved.moved (DropFuture ∷ StoreOutput ∷ CompleteDetached ∷ []) w Ready (output_first z []) p q s made in
-          finds_detached z h (moved.goes p q (act DropFuture ∷ act StoreOutput ∷ row CompleteDetached w ∷ []) (OutputInHand w.awaiter) (output_first z []) cell m.viewed (keeps_places Ready (OutputInHand w.awaiter) (output_first z []) q.seat.me.1 refl refl m.carried))
+          finds_detached z h (moved.did p q (act DropFuture ∷ act StoreOutput ∷ row CompleteDetached w ∷ []) (OutputInHand w.awaiter) (output_first z []) cell m.viewed (keeps_places Ready (OutputInHand w.awaiter) (output_first z []) q.seat.me.1 refl refl m.carried))
 
   pub ended_pending : (y : Slot F T A) (p q : Party F T A) (w : State) → w.closed ≡ false → StandsWith Pending (future_first y []) p → q.seat.block ≡ p.seat.block → Makes (ending_pending w) w p.seat.me q.seat.me → EndsPending (future_first y []) p q (Some (ending_of w))
   ended_pending y p q w unclosed s cell made = by w.scheduled (nat_lt 1 w.references || w.task) refl refl made
@@ -136,24 +136,24 @@ module _ {F T A : Type 0} where
       by : (b d : Bool) → w.scheduled ≡ b → (nat_lt 1 w.references || w.task) ≡ d → Makes (if b then Reschedule ∷ [] else (if d then EndIdle ∷ EndCall ∷ [] else EndOrphaned ∷ [])) w p.seat.me q.seat.me
           → EndsPending (future_first y []) p q (Some (if b then Rescheduled else (if d then Idle else Orphaned)))
       by true d h k made = let m = moved.moved (Reschedule ∷ []) w Pending (future_first y []) p q s made in
-          is_rescheduled w unclosed h (moved.goes p q (row Reschedule w ∷ []) (Deliverer true (ThenEnds (Ran true))) [] cell m.viewed (gave_work Pending (Deliverer true (ThenEnds (Ran true))) (future_first y []) q.seat.me.1 refl refl m.carried))
+          is_rescheduled w unclosed h (moved.did p q (row Reschedule w ∷ []) (Deliverer true (ThenEnds (Ran true))) [] cell m.viewed (gave_work Pending (Deliverer true (ThenEnds (Ran true))) (future_first y []) q.seat.me.1 refl refl m.carried))
       by false true h k made = let m = moved.moved (EndIdle ∷ EndCall ∷ []) w Pending (future_first y []) p q s made in
-          is_idle w unclosed h k (moved.goes p q (row EndIdle w ∷ act EndCall ∷ []) (At Ended) [] cell m.viewed (gave_work Pending (At Ended) (future_first y []) q.seat.me.1 refl refl m.carried))
+          is_idle w unclosed h k (moved.did p q (row EndIdle w ∷ act EndCall ∷ []) (At Ended) [] cell m.viewed (gave_work Pending (At Ended) (future_first y []) q.seat.me.1 refl refl m.carried))
       by false false h k made = let m = moved.moved (EndOrphaned ∷ []) w Pending (future_first y []) p q s made in
-          is_orphaned w unclosed h k (moved.goes p q (row EndOrphaned w ∷ []) (Deliverer false (ThenEnds (Ran false))) [] cell m.viewed (gave_work Pending (Deliverer false (ThenEnds (Ran false))) (future_first y []) q.seat.me.1 refl refl m.carried))
+          is_orphaned w unclosed h k (moved.did p q (row EndOrphaned w ∷ []) (Deliverer false (ThenEnds (Ran false))) [] cell m.viewed (gave_work Pending (Deliverer false (ThenEnds (Ran false))) (future_first y []) q.seat.me.1 refl refl m.carried))
 
   -- nothing was done yet
-  pub at_rest : (at : Position) (held : List (ℕ × Slot F T A)) (p q : Party F T A) → StandsWith at held p → q.seat.block ≡ p.seat.block → q.seat.me ≡ p.seat.me → GoesWith [] at held p q
+  pub at_rest : (at : Position) (held : List (ℕ × Slot F T A)) (p q : Party F T A) → StandsWith at held p → q.seat.block ≡ p.seat.block → q.seat.me ≡ p.seat.me → DidWith [] at held p q
   at_rest at held p q s cell same = record { cell = cell; is = same ∙ s }
 
   -- the place of the output comes before that of the future
-  pub turns : (at : Position) (p q : Party F T A) → StandsWith at (future_first Empty []) p → q.seat.block ≡ p.seat.block → q.seat.me ≡ (p.seat.me.0, turned p.seat.me.1) → GoesWith [] at (output_first Empty []) p q
+  pub turns : (at : Position) (p q : Party F T A) → StandsWith at (future_first Empty []) p → q.seat.block ≡ p.seat.block → q.seat.me ≡ (p.seat.me.0, turned p.seat.me.1) → DidWith [] at (output_first Empty []) p q
   turns at p q s cell turn = record { cell = cell; is = turn ∙ ap (λ m. (m.0, turned m.1)) s }
 
-  pub completes_then : (at : Position) (held : List (ℕ × Slot F T A)) (p q r : Party F T A) (w : State) → GoesWith [] at held p q → Completes q r w → Completes p r w
-  completes_then at held p q r w g (keeps h k x) = keeps h k (moved.goes_on p q r [] (act DropFuture ∷ act StoreOutput ∷ row Complete w ∷ []) at (notifies w.awaiter OfRun) held [] g x)
-  completes_then at held p q r w g (finds_closed z h k x) = finds_closed z h k (moved.goes_on p q r [] (act DropFuture ∷ act StoreOutput ∷ row Complete w ∷ []) at (OutputInHand w.awaiter) held (output_first z []) g x)
-  completes_then at held p q r w g (finds_detached z h x) = finds_detached z h (moved.goes_on p q r [] (act DropFuture ∷ act StoreOutput ∷ row CompleteDetached w ∷ []) at (OutputInHand w.awaiter) held (output_first z []) g x)
+  pub completes_then : (at : Position) (held : List (ℕ × Slot F T A)) (p q r : Party F T A) (w : State) → DidWith [] at held p q → Completes q r w → Completes p r w
+  completes_then at held p q r w g (keeps h k x) = keeps h k (moved.did_then p q r [] (act DropFuture ∷ act StoreOutput ∷ row Complete w ∷ []) at (notifies w.awaiter OfRun) held [] g x)
+  completes_then at held p q r w g (finds_closed z h k x) = finds_closed z h k (moved.did_then p q r [] (act DropFuture ∷ act StoreOutput ∷ row Complete w ∷ []) at (OutputInHand w.awaiter) held (output_first z []) g x)
+  completes_then at held p q r w g (finds_detached z h x) = finds_detached z h (moved.did_then p q r [] (act DropFuture ∷ act StoreOutput ∷ row CompleteDetached w ∷ []) at (OutputInHand w.awaiter) held (output_first z []) g x)
 
 module _ (F T A : Type 0) (limit : ℕ) where
   -- the rule allows a run to end: with its output, and without one

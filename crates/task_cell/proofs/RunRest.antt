@@ -1,7 +1,7 @@
 -- What the calls of a run and of a Runnable's drop come to, step after step.
 use Rattle.task_cell.proofs.Vocabulary.{◌≡◌, ℕ, Bool, true, false, List, [], ◌∷◌, ◌++◌, Option, Some, None, refl, sym, ap, ◌∙◌, subst, State, Rest, Ended, NotifyingCall, OfRun, OfDrop, OfCancel}
 use Rattle.task_cell.proofs.Vocabulary.{DroppedRunnable, Position, At, CallEnding, Notifier, GivingUp, AwaiterInHand, FutureInHand, EndCall, WakeAwaiter, DropFuture, Unschedule, Answer, Ran, Nothing}
-use Rattle.task_cell.proofs.Vocabulary.{after_taking, after_waking, notifies, Slot, Empty, Deed, Party, IsFuture, future_first, position, holds, StandsWith, Stands, GoesWith, Goes, Notifies, misses}
+use Rattle.task_cell.proofs.Vocabulary.{after_taking, after_waking, notifies, Slot, Empty, Deed, Party, IsFuture, future_first, position, places_of, StandsWith, Stands, DidWith, Did, Notifies, misses}
 use Rattle.task_cell.proofs.Vocabulary.{finds_none, takes_awaiter, row, act, closing_way, way_of, rest_of, none_there, taken, nobody, woken, rests, DiscardStart, closed_run, Releases, TakesDue}
 use Rattle.task_cell.proofs.Vocabulary.{takes_none, takes_one, HasTaken, has_none, has_one, Wakes, Rests, Closes, Discards, is_some, after_giving_up, NotifyPath}
 use Rattle.task_laws.specs.declared.positions.WithoutPoll.{WithoutPoll}
@@ -9,8 +9,8 @@ use Rattle.task_cell.specs.RunPaths.{missed, discards}
 use Rattle.task_cell.proofs.Moved as moved
 
 module _ {F T A : Type 0} where
-  pub at_way : (way : NotifyingCall) (hand : Option ℕ) (path : List Deed) (p q : Party F T A) → Stands (Notifier way) p → GoesWith path (after_taking hand (way_of (position p))) (holds p) p q → Goes path (after_taking hand way) p q
-  at_way way hand path p q s g = subst (λ (z : NotifyingCall × List (ℕ × Slot F T A)). GoesWith path (after_taking hand z.0) z.1 p q)
+  pub at_way : (way : NotifyingCall) (hand : Option ℕ) (path : List Deed) (p q : Party F T A) → Stands (Notifier way) p → DidWith path (after_taking hand (way_of (position p))) (places_of p) p q → Did path (after_taking hand way) p q
+  at_way way hand path p q s g = subst (λ (z : NotifyingCall × List (ℕ × Slot F T A)). DidWith path (after_taking hand z.0) z.1 p q)
       (λ i. (ap way_of (moved.position_is p (Notifier way) [] s) i, moved.held_is p (Notifier way) [] s i)) g
 
   pub took_due : (way : NotifyingCall) (p q : Party F T A) (r : Option A) → Stands (Notifier way) p → Notifies p q r
@@ -21,7 +21,7 @@ module _ {F T A : Type 0} where
 
   -- the path of what was taken, and whether an awaiter is in hand after it
   pub due_path : (way : NotifyingCall) (due : Bool) (p q : Party F T A) (r : Option A) → TakesDue way due p q r
-      → (hand : Option ℕ) × (path : List Deed) × NotifyPath due (is_some r) path × Goes path (after_taking hand way) p q
+      → (hand : Option ℕ) × (path : List Deed) × NotifyPath due (is_some r) path × Did path (after_taking hand way) p q
   due_path way due p q r (takes_none path n g) = (None, path, n, g)
   due_path way due p q r (takes_one i a path n g) = (Some i, path, n, g)
 
@@ -30,12 +30,12 @@ module _ {F T A : Type 0} where
 
   -- an awaiter in hand was woken, by what the party has
   pub wakes_has : (Woken : Type 0) (way : NotifyingCall) (a : A) (r : Option A) (p q : Party F T A) → HasTaken way p r → r ≡ Some a → Woken
-      → GoesWith (act WakeAwaiter ∷ []) (after_waking (way_of (position p))) (holds p) p q → Wakes Woken way r p q
+      → DidWith (act WakeAwaiter ∷ []) (after_waking (way_of (position p))) (places_of p) p q → Wakes Woken way r p q
   wakes_has Woken way a r p q (has_none s) e fact g = absurd (cc)
   wakes_has Woken way a r p q (has_one i b s) e fact g = (
     act WakeAwaiter ∷ [],
     woken fact,
-    subst (λ (z : NotifyingCall × List (ℕ × Slot F T A)). GoesWith (act WakeAwaiter ∷ []) (after_waking z.0) z.1 p q)
+    subst (λ (z : NotifyingCall × List (ℕ × Slot F T A)). DidWith (act WakeAwaiter ∷ []) (after_waking z.0) z.1 p q)
         (λ j. (ap way_of (moved.position_is p (AwaiterInHand i way) [] s) j, moved.held_is p (AwaiterInHand i way) [] s j)) g,
   )
 
@@ -48,8 +48,8 @@ module _ {F T A : Type 0} where
   has_hand way a r p (has_none s) e = absurd (cc)
   has_hand way a r p (has_one i b s) e = (i, s)
 
-  pub ended_call : (answer : Answer) (r : Rest) (p q : Party F T A) → Stands (CallEnding answer r) p → Goes (act EndCall ∷ []) (rest_of (position p)) p q → Goes (act EndCall ∷ []) (At r) p q
-  ended_call answer r p q s g = subst (λ (at : Position). Goes (act EndCall ∷ []) at p q) (ap rest_of (moved.position_is p (CallEnding answer r) [] s)) g
+  pub ended_call : (answer : Answer) (r : Rest) (p q : Party F T A) → Stands (CallEnding answer r) p → Did (act EndCall ∷ []) (rest_of (position p)) p q → Did (act EndCall ∷ []) (At r) p q
+  ended_call answer r p q s g = subst (λ (at : Position). Did (act EndCall ∷ []) at p q) (ap rest_of (moved.position_is p (CallEnding answer r) [] s)) g
 
   -- in a run, what was taken is woken after the reference was given up
   pub run_gives_up : (due : Bool) (p q : Party F T A) (r : Option A) → TakesDue OfRun due p q r → (hand : Option ℕ) × Stands (GivingUp hand (Ran false)) q
@@ -63,13 +63,13 @@ module _ {F T A : Type 0} where
   run_has due p q q' r (takes_one i a path n g) rel = let x = rel (Some i) (Ran false) (moved.stands p q path (GivingUp (Some i) (Ran false)) [] g) in has_one i a (moved.stands q q' x.0 (AwaiterInHand i OfRun) [] x.2)
 
   pub rested : (Woken : Type 0) (due : Bool) (p q q' s t : Party F T A) (r : Option A) → TakesDue OfRun due p q r → Released q q' → ((way : NotifyingCall) → HasTaken way q' r → Wakes Woken way r q' s)
-      → (Stands (CallEnding (Ran false) Ended) s → Goes (act EndCall ∷ []) (At Ended) s t) → Rests Woken due p t
+      → (Stands (CallEnding (Ran false) Ended) s → Did (act EndCall ∷ []) (At Ended) s t) → Rests Woken due p t
   rested Woken due p q q' s t r d rel wake ends = let n = due_path OfRun due p q r d in let x = rel n.0 (Ran false) (moved.stands p q n.1 (GivingUp n.0 (Ran false)) [] n.3) in
       let k = wake OfRun (run_has due p q q' r d rel) in let z = ends (moved.stands q' s k.0 (CallEnding (Ran false) Ended) [] k.2) in (
         n.1 ++ (x.0 ++ (k.0 ++ act EndCall ∷ [])),
         rests due (is_some r) n.1 x.0 k.0 n.2 x.1 k.1,
-        moved.goes_on p q t n.1 (x.0 ++ (k.0 ++ act EndCall ∷ [])) (GivingUp n.0 (Ran false)) (At Ended) [] [] n.3
-            (moved.goes_on q q' t x.0 (k.0 ++ act EndCall ∷ []) (after_giving_up n.0 (Ran false)) (At Ended) [] [] x.2 (moved.goes_on q' s t k.0 (act EndCall ∷ []) (CallEnding (Ran false) Ended) (At Ended) [] [] k.2 z)),
+        moved.did_then p q t n.1 (x.0 ++ (k.0 ++ act EndCall ∷ [])) (GivingUp n.0 (Ran false)) (At Ended) [] [] n.3
+            (moved.did_then q q' t x.0 (k.0 ++ act EndCall ∷ []) (after_giving_up n.0 (Ran false)) (At Ended) [] [] x.2 (moved.did_then q' s t k.0 (act EndCall ∷ []) (CallEnding (Ran false) Ended) (At Ended) [] [] k.2 z)),
       )
 
   -- where the awaiter is in hand as soon as it was taken
@@ -80,32 +80,32 @@ module _ {F T A : Type 0} where
   pub cancel_has : (n : ℕ) (due : Bool) (p q : Party F T A) (r : Option A) → TakesDue (OfCancel n) due p q r → HasTaken (OfCancel n) q r
   cancel_has n due p q r d = has_next (OfCancel n) due p q r refl (λ i. refl) d
 
-  discard_rest : (Woken : Type 0) (d : Deed) (w : State) (p o q s t u : Party F T A) (r : Option A) → DiscardStart d → Goes (d ∷ act DropFuture ∷ row Unschedule w ∷ []) (notifies w.awaiter OfDrop) p o → TakesDue OfDrop w.awaiter o q r
-      → Wakes Woken OfDrop r q s → Releases None Nothing s t → Goes (act EndCall ∷ []) (At Ended) t u → Discards Woken p u
+  discard_rest : (Woken : Type 0) (d : Deed) (w : State) (p o q s t u : Party F T A) (r : Option A) → DiscardStart d → Did (d ∷ act DropFuture ∷ row Unschedule w ∷ []) (notifies w.awaiter OfDrop) p o → TakesDue OfDrop w.awaiter o q r
+      → Wakes Woken OfDrop r q s → Releases None Nothing s t → Did (act EndCall ∷ []) (At Ended) t u → Discards Woken p u
   discard_rest Woken d w p o q s t u r start f took k x z = let n = due_path OfDrop w.awaiter o q r took in (
     d ∷ act DropFuture ∷ row Unschedule w ∷ (n.1 ++ (k.0 ++ (x.0 ++ act EndCall ∷ []))),
     discards d w (is_some r) n.1 k.0 x.0 start n.2 k.1 x.1,
-    moved.goes_on p o u (d ∷ act DropFuture ∷ row Unschedule w ∷ []) (n.1 ++ (k.0 ++ (x.0 ++ act EndCall ∷ []))) (notifies w.awaiter OfDrop) (At Ended) [] [] f
-        (moved.goes_on o q u n.1 (k.0 ++ (x.0 ++ act EndCall ∷ [])) (after_taking n.0 OfDrop) (At Ended) [] [] n.3
-        (moved.goes_on q s u k.0 (x.0 ++ act EndCall ∷ []) (GivingUp None Nothing) (At Ended) [] [] k.2 (moved.goes_on s t u x.0 (act EndCall ∷ []) (CallEnding Nothing Ended) (At Ended) [] [] x.2 z))),
+    moved.did_then p o u (d ∷ act DropFuture ∷ row Unschedule w ∷ []) (n.1 ++ (k.0 ++ (x.0 ++ act EndCall ∷ []))) (notifies w.awaiter OfDrop) (At Ended) [] [] f
+        (moved.did_then o q u n.1 (k.0 ++ (x.0 ++ act EndCall ∷ [])) (after_taking n.0 OfDrop) (At Ended) [] [] n.3
+        (moved.did_then q s u k.0 (x.0 ++ act EndCall ∷ []) (GivingUp None Nothing) (At Ended) [] [] k.2 (moved.did_then s t u x.0 (act EndCall ∷ []) (CallEnding Nothing Ended) (At Ended) [] [] x.2 z))),
   )
 
   -- the future was dropped, and SCHEDULED cleared
-  pub unscheduled : (closer : WithoutPoll) (w : State) (held : List (ℕ × Slot F T A)) (p q r : Party F T A) → GoesWith [] (FutureInHand closer) held p q
-      → Goes (act DropFuture ∷ row Unschedule w ∷ []) (notifies w.awaiter (closing_way (position q))) q r → Goes (act DropFuture ∷ row Unschedule w ∷ []) (notifies w.awaiter (closing_way (FutureInHand closer))) p r
-  unscheduled closer w held p q r g h = let way = closing_way (FutureInHand closer) in moved.goes_on p q r [] (act DropFuture ∷ row Unschedule w ∷ []) (FutureInHand closer) (notifies w.awaiter way) held [] g
-      (subst (λ (z : NotifyingCall). Goes (act DropFuture ∷ row Unschedule w ∷ []) (notifies w.awaiter z) q r)
+  pub unscheduled : (closer : WithoutPoll) (w : State) (held : List (ℕ × Slot F T A)) (p q r : Party F T A) → DidWith [] (FutureInHand closer) held p q
+      → Did (act DropFuture ∷ row Unschedule w ∷ []) (notifies w.awaiter (closing_way (position q))) q r → Did (act DropFuture ∷ row Unschedule w ∷ []) (notifies w.awaiter (closing_way (FutureInHand closer))) p r
+  unscheduled closer w held p q r g h = let way = closing_way (FutureInHand closer) in moved.did_then p q r [] (act DropFuture ∷ row Unschedule w ∷ []) (FutureInHand closer) (notifies w.awaiter way) held [] g
+      (subst (λ (z : NotifyingCall). Did (act DropFuture ∷ row Unschedule w ∷ []) (notifies w.awaiter z) q r)
       (ap closing_way (moved.position_is q (FutureInHand closer) held (moved.stands p q [] (FutureInHand closer) held g))) h)
 
   -- a Runnable's drop from p, step after step: to a and b by the drop of the future, to o with SCHEDULED cleared
-  module _ (p a b : Party F T A) (start : (d : Deed) × (y : Slot F T A) × DiscardStart d × GoesWith (d ∷ []) (FutureInHand DroppedRunnable) (future_first y []) p a × IsFuture y)
-      (clear : (at : Position) (y : Slot F T A) (held : List (ℕ × Slot F T A)) → StandsWith at ((0, y) ∷ held) a → GoesWith [] at ((0, Empty) ∷ held) a b) where
-    pub drop_clears : GoesWith [] (FutureInHand DroppedRunnable) (future_first Empty []) a b
+  module _ (p a b : Party F T A) (start : (d : Deed) × (y : Slot F T A) × DiscardStart d × DidWith (d ∷ []) (FutureInHand DroppedRunnable) (future_first y []) p a × IsFuture y)
+      (clear : (at : Position) (y : Slot F T A) (held : List (ℕ × Slot F T A)) → StandsWith at ((0, y) ∷ held) a → DidWith [] at ((0, Empty) ∷ held) a b) where
+    pub drop_clears : DidWith [] (FutureInHand DroppedRunnable) (future_first Empty []) a b
     drop_clears = clear (FutureInHand DroppedRunnable) start.1 ((1, Empty) ∷ []) (moved.stands p a (start.0 ∷ []) (FutureInHand DroppedRunnable) (future_first start.1 []) start.3)
 
-    module _ (o : Party F T A) (w : State) (unschedule : Goes (act DropFuture ∷ row Unschedule w ∷ []) (notifies w.awaiter (closing_way (position b))) b o) (due : Bool) (is : due ≡ w.awaiter) where
-      pub drop_closes : Goes (start.0 ∷ act DropFuture ∷ row Unschedule w ∷ []) (notifies w.awaiter OfDrop) p o
-      drop_closes = moved.goes_on p a o (start.0 ∷ []) (act DropFuture ∷ row Unschedule w ∷ []) (FutureInHand DroppedRunnable) (notifies w.awaiter OfDrop) (future_first start.1 []) [] start.3
+    module _ (o : Party F T A) (w : State) (unschedule : Did (act DropFuture ∷ row Unschedule w ∷ []) (notifies w.awaiter (closing_way (position b))) b o) (due : Bool) (is : due ≡ w.awaiter) where
+      pub drop_closes : Did (start.0 ∷ act DropFuture ∷ row Unschedule w ∷ []) (notifies w.awaiter OfDrop) p o
+      drop_closes = moved.did_then p a o (start.0 ∷ []) (act DropFuture ∷ row Unschedule w ∷ []) (FutureInHand DroppedRunnable) (notifies w.awaiter OfDrop) (future_first start.1 []) [] start.3
           (unscheduled DroppedRunnable w (future_first Empty []) a b o drop_clears unschedule)
 
       pub drop_notifies : Stands (notifies due OfDrop) o
@@ -138,8 +138,8 @@ module _ {F T A : Type 0} where
             pub drop_leaves : Stands (CallEnding Nothing Ended) t
             drop_leaves = moved.stands s t drop_releases.0 (CallEnding Nothing Ended) [] drop_releases.2
 
-            pub drop_ends : (u : Party F T A) → Goes (act EndCall ∷ []) (rest_of (position t)) t u → Discards Woken p u
+            pub drop_ends : (u : Party F T A) → Did (act EndCall ∷ []) (rest_of (position t)) t u → Discards Woken p u
             drop_ends u e = discard_rest Woken start.0 w p o q s t u r start.2 drop_closes drop_takes drop_wakes drop_releases (ended_call Nothing Ended t u drop_leaves e)
 
-  pub close_rest : (Woken : Type 0) (w : State) (p q r : Party F T A) → Goes (act DropFuture ∷ row Unschedule w ∷ []) (notifies w.awaiter OfRun) p q → Rests Woken w.awaiter q r → Closes Woken p r
-  close_rest Woken w p q r g x = (act DropFuture ∷ row Unschedule w ∷ x.0, closed_run w x.0 x.1, moved.goes_on p q r (act DropFuture ∷ row Unschedule w ∷ []) x.0 (notifies w.awaiter OfRun) (At Ended) [] [] g x.2)
+  pub close_rest : (Woken : Type 0) (w : State) (p q r : Party F T A) → Did (act DropFuture ∷ row Unschedule w ∷ []) (notifies w.awaiter OfRun) p q → Rests Woken w.awaiter q r → Closes Woken p r
+  close_rest Woken w p q r g x = (act DropFuture ∷ row Unschedule w ∷ x.0, closed_run w x.0 x.1, moved.did_then p q r (act DropFuture ∷ row Unschedule w ∷ []) x.0 (notifies w.awaiter OfRun) (At Ended) [] [] g x.2)

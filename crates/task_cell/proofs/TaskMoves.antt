@@ -2,7 +2,7 @@
 use Rattle.task_cell.proofs.Vocabulary.{◌≡◌, ℕ, Bool, true, false, not, ◌&&◌, List, [], ◌∷◌, ◌++◌, Option, Some, None, refl, sym, ap, subst, arith, nat_lt, nat_eq, if◌then◌else◌, State, is_open}
 use Rattle.task_cell.proofs.Vocabulary.{number_of, Answer, Nothing, Position, At, Deliverer, Emptier, OutputCloser, Detacher, CallEnding, Rest, Task, Ended, ThenEnds, OfCancel, CancelOver, CancelBusy}
 use Rattle.task_cell.proofs.Vocabulary.{CancelIdle, GiveUpOutput, DropOutput, DetachOrphan, DetachLast, Detach, EndCall, notifies, after_cancelling, owns_awaiter, Slot, Deed, Party, Busy}
-use Rattle.task_cell.proofs.Vocabulary.{Unclaimed, has_work, output_first, Carries, Makes, position, Stands, Goes, deeds, row, act, rest_of, as_task, NotifyPath, none_there, taken, WakePath, nobody}
+use Rattle.task_cell.proofs.Vocabulary.{Unclaimed, has_work, output_first, Carries, Makes, position, Stands, Did, deeds, row, act, rest_of, as_task, NotifyPath, none_there, taken, WakePath, nobody}
 use Rattle.task_cell.proofs.Vocabulary.{woken, TakesDue, Wakes, Notice, not_due, found_none, woke, Cancels, Detaches, GivesTaskUp, closed_by, given_up_by, both, over, busy_fits, none_left, output_left}
 use Rattle.task_cell.proofs.Vocabulary.{closed_claimed, idle_cancel, finds_over, cancels, detaches, is_over, MayTry, HasChanged, HasEnded, never_ends, is_some, after_taking}
 use Rattle.std.proofs.lemmas.Bool.Decides.{nat_tests}
@@ -11,7 +11,7 @@ use Rattle.task_steps.specs.declared.words.Detached.TheVariants.{Shared, Last, O
 use Rattle.task_cell.specs.RunPaths.{not_due as none_due, missed as miss}
 use Rattle.task_steps.specs.TaskScripts.{cancelling, detaching, giving_task_up, finding_cancelled, cancelled, cancelled_word, detached}
 use Rattle.task_cell.specs.TaskPaths.{missed}
-use Rattle.task_cell.proofs.Moved.{moved, goes, goes_on, stands, position_is}
+use Rattle.task_cell.proofs.Moved.{moved, did, did_then, stands, position_is}
 use Rattle.task_core.specs.Rows.{found}
 use Rattle.task_steps.specs.Shares.{MayBring, MayGive, brings_runnable, ends_task}
 use Rattle.task_steps.proofs.Handles.{cancels_task, detaches_task}
@@ -37,7 +37,7 @@ module _ {F T A : Type 0} where
   -- a cancel of a task that is over
   pub looks_over : (limit : ℕ) (p q : Party F T A) (n : ℕ) (w : State) → Stands (as_task n) p → q.seat.block ≡ p.seat.block → HasEnded limit is_over finding_cancelled w p.seat.me q.seat.me → Cancels n p q None
   looks_over limit p q n w s cell e = let x = moved (CancelOver ∷ EndCall ∷ []) w (At (Task n)) [] p q s e.made in
-      (w, e.at_end, goes p q (row CancelOver w ∷ act EndCall ∷ []) (At (Task n)) [] cell x.viewed x.carried)
+      (w, e.at_end, did p q (row CancelOver w ∷ act EndCall ∷ []) (At (Task n)) [] cell x.viewed x.carried)
 
   -- .. and the row of one that closes it
   pub closes : (limit : ℕ) (p q : Party F T A) (n : ℕ) (w : State) → Stands (as_task n) p → q.seat.block ≡ p.seat.block → HasChanged limit cancelled_word cancelling w p.seat.me q.seat.me → Cancels n p q (Some (closed_by w))
@@ -48,9 +48,9 @@ module _ {F T A : Type 0} where
 
       made : (b : Bool) → found 0 CancelIdle w ≡ b → Makes (if b then CancelIdle ∷ [] else CancelBusy ∷ []) w p.seat.me q.seat.me → Cancels n p q (Some (if b then Idle w.awaiter else Busy w.awaiter))
       made true fit m = let x = moved (CancelIdle ∷ []) w (At (Task n)) [] p q s m in
-          (w, refl, fit, goes p q (row CancelIdle w ∷ []) (Deliverer false (after_cancelling w.awaiter n)) [] cell x.viewed x.carried)
+          (w, refl, fit, did p q (row CancelIdle w ∷ []) (Deliverer false (after_cancelling w.awaiter n)) [] cell x.viewed x.carried)
       made false unfit m = let x = moved (CancelBusy ∷ []) w (At (Task n)) [] p q s m in let at : Position = notifies w.awaiter (OfCancel n) in let i = idle_cancel w.awaiter n in
-          (w, refl, busy_fits (is_open w) w.scheduled w.running now unfit, goes p q (row CancelBusy w ∷ []) at [] cell x.viewed (bare (has_work at) (owns_awaiter at) at q.seat.me.1 i.0 i.1 x.carried))
+          (w, refl, busy_fits (is_open w) w.scheduled w.running now unfit, did p q (row CancelBusy w ∷ []) at [] cell x.viewed (bare (has_work at) (owns_awaiter at) at q.seat.me.1 i.0 i.1 x.carried))
 
   -- the row of a detach
   pub gives_up : (limit : ℕ) (p q : Party F T A) (n : ℕ) (w : State) → Stands (as_task n) p → q.seat.block ≡ p.seat.block → HasChanged limit (λ _ w. Some (detached w)) detaching w p.seat.me q.seat.me → Detaches p q (given_up_by w)
@@ -60,16 +60,16 @@ module _ {F T A : Type 0} where
           → Makes (if a then Detach ∷ EndCall ∷ [] else (if b then DetachLast ∷ [] else (if c then DetachOrphan ∷ [] else GiveUpOutput ∷ []))) w p.seat.me q.seat.me
           → Detaches p q (if a then Shared else (if b then Last else (if c then Orphaned else Unclaimed)))
       made true b c fit y z m = let x = moved (Detach ∷ EndCall ∷ []) w (At (Task n)) [] p q s m in
-          (w, fit, goes p q (row Detach w ∷ act EndCall ∷ []) (At Ended) [] cell x.viewed x.carried)
+          (w, fit, did p q (row Detach w ∷ act EndCall ∷ []) (At Ended) [] cell x.viewed x.carried)
       made false true c k fit z m = let x = moved (DetachLast ∷ []) w (At (Task n)) [] p q s m in let y = x.carried in
-          (w, y.0, fit, goes p q (row DetachLast w ∷ []) (Emptier None Nothing) ((2, y.0) ∷ []) cell x.viewed y.2)
+          (w, y.0, fit, did p q (row DetachLast w ∷ []) (Emptier None Nothing) ((2, y.0) ∷ []) cell x.viewed y.2)
       made false false true k l fit m = let x = moved (DetachOrphan ∷ []) w (At (Task n)) [] p q s m in
-          (w, fit, goes p q (row DetachOrphan w ∷ []) (Deliverer false (ThenEnds Nothing)) [] cell x.viewed x.carried)
+          (w, fit, did p q (row DetachOrphan w ∷ []) (Deliverer false (ThenEnds Nothing)) [] cell x.viewed x.carried)
       made false false false k l z m = let x = moved (GiveUpOutput ∷ []) w (At (Task n)) [] p q s m in let y = x.carried in
-          (w, y.0, output_left w.references w.completed w.closed k l z, y.1, goes p q (row GiveUpOutput w ∷ []) OutputCloser (output_first y.0 []) cell x.viewed y.2)
+          (w, y.0, output_left w.references w.completed w.closed k l z, y.1, did p q (row GiveUpOutput w ∷ []) OutputCloser (output_first y.0 []) cell x.viewed y.2)
 
   -- the Task is given up whose output was dropped
-  pub gives_rest : (p q r : Party F T A) (w : State) → Goes (act DropOutput ∷ []) Detacher p q → r.seat.block ≡ q.seat.block → w.closed ≡ true → Makes (giving_task_up w) w q.seat.me r.seat.me → GivesTaskUp p r (nat_eq w.references 0)
+  pub gives_rest : (p q r : Party F T A) (w : State) → Did (act DropOutput ∷ []) Detacher p q → r.seat.block ≡ q.seat.block → w.closed ≡ true → Makes (giving_task_up w) w q.seat.me r.seat.me → GivesTaskUp p r (nat_eq w.references 0)
   gives_rest p q r w g cell closed m = subst (λ b. GivesTaskUp p r b) (tests w.references) (made (nat_lt 0 w.references) refl m)
     where
       tests : (k : ℕ) → not (nat_lt 0 k) ≡ nat_eq k 0
@@ -80,30 +80,30 @@ module _ {F T A : Type 0} where
           let path : List Deed = row Detach w ∷ act EndCall ∷ [] in (
             w,
             both (nat_lt 0 w.references) (not (w.completed && not w.closed)) counted (over (w.completed && not w.closed) (closed_claimed w.completed w.closed closed)),
-            goes_on p q r (act DropOutput ∷ []) path Detacher (At Ended) [] [] g (goes q r path (At Ended) [] cell x.viewed x.carried),
+            did_then p q r (act DropOutput ∷ []) path Detacher (At Ended) [] [] g (did q r path (At Ended) [] cell x.viewed x.carried),
           )
       made false counted m = let x = moved (DetachLast ∷ []) w Detacher [] q r (stands p q (act DropOutput ∷ []) Detacher [] g) m in
           let path : List Deed = row DetachLast w ∷ [] in let at : Position = Emptier None Nothing in let y = x.carried in (
             w,
             y.0,
             both (nat_eq w.references 0) w.closed (none_left w.references counted) closed,
-            goes_on p q r (act DropOutput ∷ []) path Detacher at [] ((2, y.0) ∷ []) g (goes q r path at ((2, y.0) ∷ []) cell x.viewed y.2),
+            did_then p q r (act DropOutput ∷ []) path Detacher at [] ((2, y.0) ∷ []) g (did q r path at ((2, y.0) ∷ []) cell x.viewed y.2),
           )
 
   -- the call ends
-  pub ends : (p q r : Party F T A) (path : List Deed) (answer : Answer) (x : Rest) → Goes path (CallEnding answer x) p q → Goes (act EndCall ∷ []) (rest_of (position q)) q r → Goes (path ++ act EndCall ∷ []) (At x) p r
-  ends p q r path answer x g e = goes_on p q r path (act EndCall ∷ []) (CallEnding answer x) (At x) [] [] g
-      (subst (λ at. Goes (act EndCall ∷ []) (rest_of at) q r) (position_is q (CallEnding answer x) [] (stands p q path (CallEnding answer x) [] g)) e)
+  pub ends : (p q r : Party F T A) (path : List Deed) (answer : Answer) (x : Rest) → Did path (CallEnding answer x) p q → Did (act EndCall ∷ []) (rest_of (position q)) q r → Did (path ++ act EndCall ∷ []) (At x) p r
+  ends p q r path answer x g e = did_then p q r path (act EndCall ∷ []) (CallEnding answer x) (At x) [] [] g
+      (subst (λ at. Did (act EndCall ∷ []) (rest_of at) q r) (position_is q (CallEnding answer x) [] (stands p q path (CallEnding answer x) [] g)) e)
 
   -- how a cancel ends that has closed the task
   abbrev pub Ends : Type 0 → Bool → ℕ → Party F T A → Party F T A → Type 0
-  Ends Woken due n p q = (path : List Deed) × Notice Woken due path × Goes (path ++ act EndCall ∷ []) (as_task n) p q
+  Ends Woken due n p q = (path : List Deed) × Notice Woken due path × Did (path ++ act EndCall ∷ []) (as_task n) p q
 
-  pub ends_noticed : (Woken : Type 0) (p q r t : Party F T A) (n : ℕ) (due : Bool) (x : Option A) → TakesDue (OfCancel n) due p q x → Wakes Woken (OfCancel n) x q r → Goes (act EndCall ∷ []) (rest_of (position r)) r t → Ends Woken due n p t
+  pub ends_noticed : (Woken : Type 0) (p q r t : Party F T A) (n : ℕ) (due : Bool) (x : Option A) → TakesDue (OfCancel n) due p q x → Wakes Woken (OfCancel n) x q r → Did (act EndCall ∷ []) (rest_of (position r)) r t → Ends Woken due n p t
   ends_noticed Woken p q r t n due x d k e = let m = due_path (OfCancel n) due p q x d in (
     m.1 ++ k.0,
     noticed Woken due (is_some x) m.1 k.0 m.2 k.1,
-    ends p r t (m.1 ++ k.0) Nothing (Task n) (goes_on p q r m.1 k.0 (after_taking m.0 (OfCancel n)) (CallEnding Nothing (Task n)) [] [] m.3 k.2) e,
+    ends p r t (m.1 ++ k.0) Nothing (Task n) (did_then p q r m.1 k.0 (after_taking m.0 (OfCancel n)) (CallEnding Nothing (Task n)) [] [] m.3 k.2) e,
   )
 
 module _ (F T A : Type 0) (limit : ℕ) where

@@ -1,14 +1,14 @@
 -- A waker's drop, put together from its steps.
 use Rattle.task_cell.proofs.Vocabulary.{false, List, [], ◌∷◌, ◌++◌, State, Nothing, Deliverer, OrphanHolder, ThenEnds, DropWaker, DropLastWaker, OrphanTask, CloseOrphan, EmptySlots}
-use Rattle.task_cell.proofs.Vocabulary.{EndCall, HandOver, Deed, Party, Shared, Last, Goes, row, act, as_ended, WakerDropPath, leaves_others, leaves_none, leaves_orphan, DropsWaker}
+use Rattle.task_cell.proofs.Vocabulary.{EndCall, HandOver, Deed, Party, Shared, Last, Did, row, act, as_ended, WakerDropPath, leaves_others, leaves_none, leaves_orphan, DropsWaker}
 use Rattle.task_steps.specs.declared.words.Dropped.TheVariants.{Orphaned}
-use Rattle.task_cell.proofs.Moved.{goes_on}
+use Rattle.task_cell.proofs.Moved.{did_then}
 use Rattle.task_cell.proofs.TaskCalls.{Empties, empties}
 
 module _ {F T A : Type 0} where
   -- a waker's drop goes such a path
   abbrev pub DroppingWaker : Type 0 → Party F T A → Party F T A → Type 0
-  DroppingWaker Scheduled p q = (path : List Deed) × WakerDropPath Scheduled path × Goes path as_ended p q
+  DroppingWaker Scheduled p q = (path : List Deed) × WakerDropPath Scheduled path × Did path as_ended p q
 
   pub drops_shared : (Scheduled : Type 0) (p q : Party F T A) → DropsWaker p q Shared → DroppingWaker Scheduled p q
   drops_shared Scheduled p q x = (row DropWaker x.0 ∷ act EndCall ∷ [], leaves_others x.0 x.1, x.2)
@@ -18,10 +18,10 @@ module _ {F T A : Type 0} where
   drops_last Scheduled p q r x e = (row DropLastWaker x.0 ∷ act EmptySlots ∷ act EndCall ∷ [], leaves_none x.0 x.2 x.3, empties p q r (row DropLastWaker x.0 ∷ []) x.1 x.4 e)
 
   -- the last handle of an open task
-  pub orphan_closed : (p q r : Party F T A) (x : DropsWaker p q Orphaned) (y : (v : State) × Goes (row CloseOrphan v ∷ []) (Deliverer false (ThenEnds Nothing)) q r) → Goes (row OrphanTask x.0 ∷ row CloseOrphan y.0 ∷ []) (Deliverer false (ThenEnds Nothing)) p r
-  orphan_closed p q r x y = goes_on p q r (row OrphanTask x.0 ∷ []) (row CloseOrphan y.0 ∷ []) OrphanHolder (Deliverer false (ThenEnds Nothing)) [] [] x.3 y.1
+  pub orphan_closed : (p q r : Party F T A) (x : DropsWaker p q Orphaned) (y : (v : State) × Did (row CloseOrphan v ∷ []) (Deliverer false (ThenEnds Nothing)) q r) → Did (row OrphanTask x.0 ∷ row CloseOrphan y.0 ∷ []) (Deliverer false (ThenEnds Nothing)) p r
+  orphan_closed p q r x y = did_then p q r (row OrphanTask x.0 ∷ []) (row CloseOrphan y.0 ∷ []) OrphanHolder (Deliverer false (ThenEnds Nothing)) [] [] x.3 y.1
 
-  pub drops_orphaned : (Scheduled : Type 0) (p q r t : Party F T A) → DropsWaker p q Orphaned → (v : State) × Goes (row CloseOrphan v ∷ []) (Deliverer false (ThenEnds Nothing)) q r → Scheduled
-      → Goes (act HandOver ∷ act EndCall ∷ []) as_ended r t → DroppingWaker Scheduled p t
+  pub drops_orphaned : (Scheduled : Type 0) (p q r t : Party F T A) → DropsWaker p q Orphaned → (v : State) × Did (row CloseOrphan v ∷ []) (Deliverer false (ThenEnds Nothing)) q r → Scheduled
+      → Did (act HandOver ∷ act EndCall ∷ []) as_ended r t → DroppingWaker Scheduled p t
   drops_orphaned Scheduled p q r t x y fact h = let path : List Deed = row OrphanTask x.0 ∷ row CloseOrphan y.0 ∷ [] in let more : List Deed = act HandOver ∷ act EndCall ∷ [] in
-      (path ++ more, leaves_orphan x.0 y.0 x.1 x.2 fact, goes_on p r t path more (Deliverer false (ThenEnds Nothing)) as_ended [] [] (orphan_closed p q r x y) h)
+      (path ++ more, leaves_orphan x.0 y.0 x.1 x.2 fact, did_then p r t path more (Deliverer false (ThenEnds Nothing)) as_ended [] [] (orphan_closed p q r x y) h)

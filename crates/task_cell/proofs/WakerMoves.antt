@@ -2,7 +2,7 @@
 use Rattle.task_cell.proofs.Vocabulary.{◌≡◌, ℕ, Bool, true, false, List, [], ◌∷◌, Option, Some, None, IfSome, is_some, refl, sym, ap, ◌∙◌, subst, nat_lt, if◌then◌else◌, Me, State, is_open}
 use Rattle.task_cell.proofs.Vocabulary.{number_of, written, Slots, is_held, Nothing, Waker, Lent, Ended, ThenEnds, Position, At, Deliverer, Emptier, OrphanHolder, Act, GainReference, FindLimit}
 use Rattle.task_cell.proofs.Vocabulary.{DropWaker, DropLastWaker, OrphanTask, CloseOrphan, WakeOver, WakeScheduled, WakeRunning, WakeIdle, EndCall, Slot, Deed, Member, View, Party, Shared}
-use Rattle.task_cell.proofs.Vocabulary.{Last, member, view, fresh, head_of, acted, Carried, Makes, deeds, limit_of, IsNew, Sees, Stands, Goes, row, act, after, as_waker, as_deliverer, MayTry, HasChanged}
+use Rattle.task_cell.proofs.Vocabulary.{Last, member, view, fresh, head_of, acted, Carried, Makes, deeds, limit_of, IsNew, Sees, Stands, Did, row, act, after, as_waker, as_deliverer, MayTry, HasChanged}
 use Rattle.task_cell.proofs.Vocabulary.{HasEnded, others_left, gaining, gained_word, at_limit, finding_limit, is_over, finding_over, waking_task, woken_word, woken_if_held}
 use Rattle.task_cell.proofs.Vocabulary.{dropping_waker, closing_orphan, is_gained, finds_limit, is_scheduled, is_running, Gains, gains_none, gains_one, WakesTask}
 use Rattle.task_cell.proofs.Vocabulary.{makes_none, makes_one, DropsWaker, dropped_by, gains, not_true}
@@ -21,7 +21,7 @@ use Rattle.task_steps.proofs.Handles.{gains_handle, wakes_task}
 use Rattle.task_cell.proofs.Attempts.{if_some, written_if, if_is, may_bring_at}
 use Rattle.task_steps.proofs.WakerOwed as owed
 use Rattle.task_cell.proofs.Carried.{keeps_places}
-use Rattle.task_cell.proofs.Moved.{moved, goes, stands}
+use Rattle.task_cell.proofs.Moved.{moved, did, stands}
 
 -- whether the count had room, and the task was open, by the word that was written
 has_room : (limit : ℕ) (w : State) → is_some (gained_word limit w) ≡ true → nat_lt w.references limit ≡ true
@@ -50,10 +50,10 @@ module _ {F T A : Type 0} where
   abbrev MayGo : Party F T A → Type 0
   MayGo q = Stands (At Lent) q × (is_spent q.seat.me.0 ≡ true)
 
-  is_spent_after : (first last : Deed) (p q : Party F T A) → Goes (first ∷ last ∷ []) (At Lent) p q → MayGo q
+  is_spent_after : (first last : Deed) (p q : Party F T A) → Did (first ∷ last ∷ []) (At Lent) p q → MayGo q
   is_spent_after first last p q g = (stands p q (first ∷ last ∷ []) (At Lent) [] g, ap (λ (x : Me (Slot F T A) View). is_spent x.0) g.is)
 
-  spent_by_row : (woken : Bool) (path : List Deed) (p q : Party F T A) → TaskWakePath woken path → Goes path (At Lent) p q → MayGo q
+  spent_by_row : (woken : Bool) (path : List Deed) (p q : Party F T A) → TaskWakePath woken path → Did path (At Lent) p q → MayGo q
   spent_by_row _ _ p q (paths.is_over w f) g = is_spent_after (row WakeOver w) (act EndCall) p q g
   spent_by_row _ _ p q (is_scheduled w f) g = is_spent_after (row WakeScheduled w) (act EndCall) p q g
   spent_by_row _ _ p q (is_running w f) g = is_spent_after (row WakeRunning w) (act EndCall) p q g
@@ -63,7 +63,7 @@ module _ {F T A : Type 0} where
   spent_by_wake p q None (makes_none path w g) = spent_by_row false path p q w g
   spent_by_wake p q (Some d) (makes_one path x w g n) = spent_by_row true path p q w g
 
-  spent_by_count : (limit : ℕ) (gained : Bool) (path : List Deed) (p q : Party F T A) → GainPath limit gained path → Goes path (At Lent) p q → MayGo q
+  spent_by_count : (limit : ℕ) (gained : Bool) (path : List Deed) (p q : Party F T A) → GainPath limit gained path → Did path (At Lent) p q → MayGo q
   spent_by_count limit _ _ p q (is_gained w room) g = is_spent_after (row GainReference w) (act EndCall) p q g
   spent_by_count limit _ _ p q (finds_limit w room) g = is_spent_after (row FindLimit w) (act EndCall) p q g
 
@@ -74,6 +74,24 @@ module _ {F T A : Type 0} where
   -- the deliverer that a wake makes
   pub wake_gives : {X : Type 0} (limit : ℕ) (block : BlockId) (p q : Party F T A) (made : X × Party F T A) → p.seat.block ≡ block → limit_of p ≡ limit → WakesTask p q (second (Some made)) → (made.1.seat.block ≡ block) × (limit_of made.1 ≡ limit) × Stands as_deliverer made.1
   wake_gives limit block p q d cell is (makes_one path x w g n) = (n.cell ∙ cell, ap (λ (m : Me (Slot F T A) View). m.0.limit) n.is ∙ is, fresh_stands as_deliverer (limit_of p) d.1 n.is)
+
+  -- a party of this cell that was lent for a call has done this in it, and nothing else
+  abbrev Made : BlockId → ℕ → List Deed → Party F T A → Type 0
+  Made block limit path p = (p.seat.block ≡ block) × (p.seat.me ≡ (view limit (member (At Lent) (after path []) ∷ []), []))
+
+  did_from_none : (block : BlockId) (limit : ℕ) (path : List Deed) (p q r : Party F T A) → Made block limit [] p → r ≡ q → Did path (At Lent) p q → Made block limit path r
+  did_from_none block limit path p q r m e g = subst (Made block limit path) (sym e)
+      (g.cell ∙ m.0, g.is ∙ ap (λ (x : Me (Slot F T A) View). (view x.0.limit (member (At Lent) (after path (head_of x.0.members).deeds) ∷ []), [])) m.1)
+
+  -- what the record of a call by reference says
+  pub wake_made : (block : BlockId) (limit : ℕ) (p q r : Party F T A) (made : Option (Party F T A)) → Made block limit [] p → r ≡ q → WakesTask p q made → (path : List Deed) × TaskWakePath (is_some made) path × Made block limit path r
+  wake_made block limit p q r None m e (makes_none path w g) = (path, w, did_from_none block limit path p q r m e g)
+  wake_made block limit p q r (Some d) m e (makes_one path deliverer w g n) = (path, w, did_from_none block limit path p q r m e g)
+
+  pub gain_made : {X : Type 0} (block : BlockId) (limit : ℕ) (p q r : Party F T A) (made : Option (X × Party F T A)) → Made block limit [] p → r ≡ q → Gains limit p q (second made)
+      → (path : List Deed) × GainPath limit (is_some made) path × Made block limit path r
+  gain_made block limit p q r None m e (gains_none path w g) = (path, w, did_from_none block limit path p q r m e g)
+  gain_made block limit p q r (Some d) m e (gains_one path waker w g n) = (path, w, did_from_none block limit path p q r m e g)
 
   -- a party has the same limit when it has seen a word
   pub limit_before : (w : State) (p q : Party F T A) → Sees w p q → limit_of p ≡ limit_of q
@@ -89,7 +107,7 @@ module _ {F T A : Type 0} where
   pub beside_waker : (limit : ℕ) (w : State) (p q : Party F T A) → Stands (At Lent) p → HasChanged limit gained_word gaining w p.seat.me q.seat.me → Beside (row GainReference w ∷ act EndCall ∷ []) (fresh (At Waker) ∷ []) p q
   beside_waker limit w p q s x = back w (gaining w) (row GainReference w ∷ act EndCall ∷ []) (fresh (At Waker) ∷ []) p q s (λ slots l ds. refl) x.made
 
-  leaves_newest : (path : List Deed) (n : Member) (p q t : Party F T A) → Beside path (n ∷ []) p q → q.seat.block ≡ p.seat.block → t.seat.block ≡ q.seat.block → t.seat.me ≡ (without_newest q.seat.me.0, q.seat.me.1) → Goes path (At Lent) p t
+  leaves_newest : (path : List Deed) (n : Member) (p q t : Party F T A) → Beside path (n ∷ []) p q → q.seat.block ≡ p.seat.block → t.seat.block ≡ q.seat.block → t.seat.me ≡ (without_newest q.seat.me.0, q.seat.me.1) → Did path (At Lent) p t
   leaves_newest path n p q t b cell there is = record { cell = there ∙ cell; is = is ∙ ap (λ (x : Me (Slot F T A) View). (without_newest x.0, x.1)) b }
 
   is_newest : (path : List Deed) (at : Position) (p q x : Party F T A) → Beside path (fresh at ∷ []) p q → q.seat.block ≡ p.seat.block → x.seat.block ≡ q.seat.block → x.seat.me ≡ (newest q.seat.me.0, []) → IsNew at p x
@@ -139,15 +157,15 @@ module _ {F T A : Type 0} where
       made : (b o : Bool) → others_left w ≡ b → is_open w ≡ o → Makes (if b then DropWaker ∷ EndCall ∷ [] else (if o then OrphanTask ∷ [] else DropLastWaker ∷ [])) w p.seat.me q.seat.me
           → DropsWaker p q (if b then Shared else (if o then Orphaned else Last))
       made true o shared now m = let x = moved (DropWaker ∷ EndCall ∷ []) w (At Waker) [] p q s m in
-          (w, shared, goes p q (row DropWaker w ∷ act EndCall ∷ []) (At Ended) [] cell x.viewed x.carried)
+          (w, shared, did p q (row DropWaker w ∷ act EndCall ∷ []) (At Ended) [] cell x.viewed x.carried)
       made false true shared now m = let x = moved (OrphanTask ∷ []) w (At Waker) [] p q s m in
-          (w, shared, now, goes p q (row OrphanTask w ∷ []) OrphanHolder [] cell x.viewed x.carried)
+          (w, shared, now, did p q (row OrphanTask w ∷ []) OrphanHolder [] cell x.viewed x.carried)
       made false false shared now m = let x = moved (DropLastWaker ∷ []) w (At Waker) [] p q s m in let y = x.carried in
-          (w, y.0, shared, now, goes p q (row DropLastWaker w ∷ []) (Emptier None Nothing) ((2, y.0) ∷ []) cell x.viewed y.2)
+          (w, y.0, shared, now, did p q (row DropLastWaker w ∷ []) (Emptier None Nothing) ((2, y.0) ∷ []) cell x.viewed y.2)
 
   -- the last waker has closed the task
-  pub closes_orphan : (w : State) (p q : Party F T A) → Stands OrphanHolder p → q.seat.block ≡ p.seat.block → Makes (closing_orphan w) w p.seat.me q.seat.me → (v : State) × Goes (row CloseOrphan v ∷ []) (Deliverer false (ThenEnds Nothing)) p q
-  closes_orphan w p q s cell m = let x = moved (CloseOrphan ∷ []) w OrphanHolder [] p q s m in (w, goes p q (row CloseOrphan w ∷ []) (Deliverer false (ThenEnds Nothing)) [] cell x.viewed x.carried)
+  pub closes_orphan : (w : State) (p q : Party F T A) → Stands OrphanHolder p → q.seat.block ≡ p.seat.block → Makes (closing_orphan w) w p.seat.me q.seat.me → (v : State) × Did (row CloseOrphan v ∷ []) (Deliverer false (ThenEnds Nothing)) p q
+  closes_orphan w p q s cell m = let x = moved (CloseOrphan ∷ []) w OrphanHolder [] p q s m in (w, did p q (row CloseOrphan w ∷ []) (Deliverer false (ThenEnds Nothing)) [] cell x.viewed x.carried)
 
 module _ (F T A : Type 0) (limit : ℕ) where
   -- the rule allows a lent waker to gain a reference, and to wake

@@ -1,5 +1,5 @@
 -- Which cell a share, a party and a ledger belong to.
-use Rattle.std.specs.Prelude.{◌≡◌, ℕ, Bool}
+use Rattle.std.specs.Prelude.{◌≡◌, ℕ, Bool, List, [], ◌∷◌}
 use Rattle.task_core.specs.declared.traits.Yields.{Ghosts}
 use Rattle.counted_block.specs.Blocks.{BlockId}
 use Rattle.task_cell.specs.declared.cell.Cell.{Cell}
@@ -7,6 +7,10 @@ use Rattle.task_cell.specs.declared.cell.Party.{Party}
 use Rattle.task_cell.specs.declared.cell.block.Share.{Share}
 use Rattle.task_cell.specs.declared.cell.block.MaybeShare.{MaybeShare}
 use Rattle.task_cell.specs.declared.cell.ledger.Ledger.{Ledger}
+use Rattle.task_steps.specs.declared.table.Deed.{Deed}
+use Rattle.task_steps.specs.Deeds.{after}
+use Rattle.task_steps.specs.Rule.{member, view}
+use Rattle.task_steps.specs.Standing.{as_lent}
 
 module _ {R F Q M A B O : Type 0} {G : Ghosts F O} where
   -- which cell it is, and what lies there beside the word and the places
@@ -24,6 +28,11 @@ module _ {R F Q M A B O T : Type 0} {G : Ghosts F O} where
   -- the party is one of this cell
   abbrev pub IsOf : Share R F Q M A B O G → Party F T A → Type 0
   IsOf share party = party.seat.block ≡ share.block.id
+
+  -- a party of this cell that was lent for a call has done this in it, and nothing else
+  abbrev pub HasMade : Share R F Q M A B O G → List Deed → Party F T A → Type 0
+  HasMade share path party =
+      (party.seat.block ≡ share.block.id) × (party.seat.me ≡ (view share.block.key (member as_lent (after path []) ∷ []), []))
 
   abbrev pub IsBeside : Ledger R F Q M A B O G → Party F T A → Type 0
   IsBeside ledger party = party.seat.block ≡ ledger.ledger.id

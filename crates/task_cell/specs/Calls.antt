@@ -32,8 +32,8 @@ module _ {F T A : Type 0} where
   position p = (head_of p.seat.me.0.members).at
 
   -- the places of the table that the party has, each with its value
-  abbrev pub holds : Party F T A → List (ℕ × Slot F T A)
-  holds p = p.seat.me.1
+  abbrev pub places_of : Party F T A → List (ℕ × Slot F T A)
+  places_of p = p.seat.me.1
 
   abbrev pub limit_of : Party F T A → ℕ
   limit_of p = p.seat.me.0.limit
@@ -62,8 +62,8 @@ module _ {F T A : Type 0} where
   MayNote limit acts p = Notes (RuleHolds {F = F} {T = T} {A = A} limit) p.seat.id p.seat.me
       (λ n me. Makes (acts (state_of n)) (state_of n) p.seat.me me × Knows (deeds p) (state_of n))
 
-  -- q is the party p after this path: it stands here now, and has these places
-  pub record GoesWith (path : List Deed) (at : Position) (held : List (ℕ × Slot F T A)) (p q : Party F T A) : Type 0 where
+  -- p did this path, and is q now: it stands here, and has these places
+  pub record DidWith (path : List Deed) (at : Position) (held : List (ℕ × Slot F T A)) (p q : Party F T A) : Type 0 where
     pub cell : q.seat.block ≡ p.seat.block
     pub is : q.seat.me ≡ (view (limit_of p) (member at (after path (deeds p)) ∷ []), held)
 
@@ -74,8 +74,8 @@ module _ {F T A : Type 0} where
     pub room : w.references < 72057594037927935
     pub seen : HasSeen w p.seat.me q.seat.me
 
-  abbrev pub Goes : List Deed → Position → Party F T A → Party F T A → Type 0
-  Goes path at p q = GoesWith path at [] p q
+  abbrev pub Did : List Deed → Position → Party F T A → Party F T A → Type 0
+  Did path at p q = DidWith path at [] p q
 
 module _ {F T A : Type 0} where
   -- a party of the same cell, of its own, of which no deed is known
@@ -85,13 +85,13 @@ module _ {F T A : Type 0} where
 
   -- a notifier: it finds another party at the awaiter, or takes it out
   pub data Notifies (p q : Party F T A) : Option A → Type 0 where
-    misses : (w : State) → Fits MissNotify w → GoesWith (row MissNotify w ∷ []) (after_taking None (way_of (position p))) (holds p) p q
+    misses : (w : State) → Fits MissNotify w → DidWith (row MissNotify w ∷ []) (after_taking None (way_of (position p))) (places_of p) p q
         → Notifies p q None
     finds_none : (w v : State) → Fits BeginNotify w
-        → GoesWith (row BeginNotify w ∷ act TakeAwaiter ∷ row EndNotify v ∷ []) (after_taking None (way_of (position p))) (holds p) p q
+        → DidWith (row BeginNotify w ∷ act TakeAwaiter ∷ row EndNotify v ∷ []) (after_taking None (way_of (position p))) (places_of p) p q
         → Notifies p q None
     takes_awaiter : (w v : State) (i : ℕ) (a : A) → Fits BeginNotify w
-        → GoesWith (row BeginNotify w ∷ act TakeAwaiter ∷ row EndNotify v ∷ []) (after_taking (Some i) (way_of (position p))) (holds p) p q
+        → DidWith (row BeginNotify w ∷ act TakeAwaiter ∷ row EndNotify v ∷ []) (after_taking (Some i) (way_of (position p))) (places_of p) p q
         → Notifies p q (Some a)
 
 -- the parts of an answer, where there is one

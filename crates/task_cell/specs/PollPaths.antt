@@ -14,7 +14,7 @@ use Rattle.task_steps.specs.declared.table.Deed.{Deed}
 use Rattle.task_cell.specs.declared.cell.Party.{Party}
 use Rattle.task_steps.specs.Rule.{IsOutput, Waits as SlotWaits}
 use Rattle.task_steps.specs.Steps.{output_first}
-use Rattle.task_cell.specs.Calls.{Fits, Goes, GoesWith, holds, position}
+use Rattle.task_cell.specs.Calls.{Fits, Did, DidWith, places_of, position}
 use Rattle.task_steps.specs.Deeds.{row, act}
 use Rattle.task_steps.specs.Standing.{as_task, poll_number}
 use Rattle.task_steps.specs.PollScripts.{has_output, has_ended, has_to_wait}
@@ -92,40 +92,40 @@ module _ {F T A : Type 0} where
     pub there : has_output w ≡ true
     pub output : Slot F T A
     pub is_output : IsOutput output
-    pub goes : GoesWith path (notifies w.awaiter (OfClaim (poll_number (position p)))) (output_first output []) p q
+    pub did : DidWith path (notifies w.awaiter (OfClaim (poll_number (position p)))) (output_first output []) p q
 
   -- the first look of a poll
   pub data Looks (p q : Party F T A) : Result State State → Type 0 where
     claims_output : (w : State) → ClaimsOutput w (row ClaimOutput w ∷ []) p q → Looks p q (Ok w)
-    sees_none : (w : State) → has_output w ≡ false → Goes (row Look w ∷ []) (first_look w (poll_number (position p))) p q
+    sees_none : (w : State) → has_output w ≡ false → Did (row Look w ∷ []) (first_look w (poll_number (position p))) p q
         → Looks p q (Err w)
 
   -- .. and the one after it has registered
   pub data LooksAgain (p q : Party F T A) : Result State State → Type 0 where
     claims_output_now : (w : State) → ClaimsOutput w (row Look w ∷ row ClaimOutput w ∷ []) p q → LooksAgain p q (Ok w)
-    has_to_wait_on : (w : State) → has_to_wait w ≡ true → Goes (row Look w ∷ act EndCall ∷ []) (as_task (poll_number (position p))) p q
+    has_to_wait_on : (w : State) → has_to_wait w ≡ true → Did (row Look w ∷ act EndCall ∷ []) (as_task (poll_number (position p))) p q
         → LooksAgain p q (Err w)
     sees_end : (w : State) → has_to_wait w ≡ false → has_ended w ≡ true
-        → Goes (row Look w ∷ []) (Notifier (OfPoll (poll_number (position p)))) p q → LooksAgain p q (Err w)
+        → Did (row Look w ∷ []) (Notifier (OfPoll (poll_number (position p)))) p q → LooksAgain p q (Err w)
 
   -- the awaiter slot is taken, unless there is a notifier
   pub data BeginsRegister (p q : Party F T A) : Bool → Type 0 where
     begins : (w : State) (hand : Option ℕ) (y : Slot F T A) → w.notifying ≡ false → SlotWaits hand y
-        → GoesWith (act CloneAwaiter ∷ row BeginRegister w ∷ act StoreAwaiter ∷ []) (after_storing (poll_number (position p)) hand)
+        → DidWith (act CloneAwaiter ∷ row BeginRegister w ∷ act StoreAwaiter ∷ []) (after_storing (poll_number (position p)) hand)
         ((2, y) ∷ []) p q → BeginsRegister p q true
     finds_one : (w : State) → w.notifying ≡ true
-        → Goes (act CloneAwaiter ∷ row FindNotify w ∷ []) (UnusedClone (poll_number (position p))) p q → BeginsRegister p q false
+        → Did (act CloneAwaiter ∷ row FindNotify w ∷ []) (UnusedClone (poll_number (position p))) p q → BeginsRegister p q false
 
   -- the awaiter slot is given back with the clone in it, unless there is a notifier by then: then the clone is taken back
   pub data EndsRegister (p q : Party F T A) : Bool → Type 0 where
-    ends : (v : State) → v.notifying ≡ false → Goes (row EndRegister v ∷ []) (Looking (poll_number (position p))) p q
+    ends : (v : State) → v.notifying ≡ false → Did (row EndRegister v ∷ []) (Looking (poll_number (position p))) p q
         → EndsRegister p q true
-    finds_notified : GoesWith (act TakeAwaiter ∷ []) (TookBack (poll_number (position p))) (holds p) p q → EndsRegister p q false
+    finds_notified : DidWith (act TakeAwaiter ∷ []) (TookBack (poll_number (position p))) (places_of p) p q → EndsRegister p q false
 
   -- the caller's awaiter is registered, unless its clone is refused
   pub data Registers (cloned : A → Option A → Type 0) (woken woken_by_ref : A → Type 0) (awaiter : A) (p q : Party F T A) : Bool
       → Type 0 where
     is_registered : (path : List Deed) → RegisterPath cloned woken woken_by_ref awaiter path
-        → Goes path (Looking (poll_number (position p))) p q → Registers cloned woken woken_by_ref awaiter p q true
-    clone_refused : cloned awaiter None → Goes (act RefuseClone ∷ act EndCall ∷ []) (as_task (poll_number (position p))) p q
+        → Did path (Looking (poll_number (position p))) p q → Registers cloned woken woken_by_ref awaiter p q true
+    clone_refused : cloned awaiter None → Did (act RefuseClone ∷ act EndCall ∷ []) (as_task (poll_number (position p))) p q
         → Registers cloned woken woken_by_ref awaiter p q false

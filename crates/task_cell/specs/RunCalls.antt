@@ -21,7 +21,7 @@ use Rattle.task_cell.specs.declared.cell.Party.{Party}
 use Rattle.task_steps.specs.declared.words.PendingEnd.{PendingEnd}
 use Rattle.task_steps.specs.declared.words.PendingEnd.TheVariants.{Rescheduled, Idle, Orphaned}
 use Rattle.task_steps.specs.Steps.{output_first}
-use Rattle.task_cell.specs.Calls.{Fits, Stands, Goes, GoesWith}
+use Rattle.task_cell.specs.Calls.{Fits, Stands, Did, DidWith}
 use Rattle.task_steps.specs.Deeds.{row, act}
 use Rattle.task_cell.specs.RunPaths.{ReleasePath, NotifyPath, WakePath, RestPath, StorePath, ClosedRunPath, ReadyPath, PendingPath}
 use Rattle.task_cell.specs.RunPaths.{DiscardPath}
@@ -39,50 +39,50 @@ keeps_share _ = true
 module _ {F T A : Type 0} where
   -- a reference was given up, and whether it was the last handle
   pub data GivesUp (hand : Option ℕ) (answer : Answer) (p q : Party F T A) : Bool → Type 0 where
-    not_last : (w : State) → Fits GiveUpReference w → Goes (row GiveUpReference w ∷ []) (after_giving_up hand answer) p q
+    not_last : (w : State) → Fits GiveUpReference w → Did (row GiveUpReference w ∷ []) (after_giving_up hand answer) p q
         → GivesUp hand answer p q false
     last : (w : State) (y : Slot F T A) → Fits GiveUpLastReference w
-        → GoesWith (row GiveUpLastReference w ∷ []) (Emptier hand answer) ((2, y) ∷ []) p q → GivesUp hand answer p q true
+        → DidWith (row GiveUpLastReference w ∷ []) (Emptier hand answer) ((2, y) ∷ []) p q → GivesUp hand answer p q true
 
   -- a reference was given up, and the places were emptied where it was the last handle
   abbrev pub Releases : Option ℕ → Answer → Party F T A → Party F T A → Type 0
-  Releases hand answer p q = (path : List Deed) × ReleasePath path × Goes path (after_giving_up hand answer) p q
+  Releases hand answer p q = (path : List Deed) × ReleasePath path × Did path (after_giving_up hand answer) p q
 
   -- a run has ended with its output, which stays where somebody may claim it
   pub data Completes (p q : Party F T A) (w : State) : Type 0 where
-    keeps : w.task ≡ true → w.closed ≡ false → Goes (act DropFuture ∷ act StoreOutput ∷ row Complete w ∷ []) (notifies w.awaiter OfRun) p q
+    keeps : w.task ≡ true → w.closed ≡ false → Did (act DropFuture ∷ act StoreOutput ∷ row Complete w ∷ []) (notifies w.awaiter OfRun) p q
         → Completes p q w
     finds_closed : (z : Slot F T A) → w.task ≡ true → w.closed ≡ true
-        → GoesWith (act DropFuture ∷ act StoreOutput ∷ row Complete w ∷ []) (OutputInHand w.awaiter) (output_first z []) p q
+        → DidWith (act DropFuture ∷ act StoreOutput ∷ row Complete w ∷ []) (OutputInHand w.awaiter) (output_first z []) p q
         → Completes p q w
     finds_detached : (z : Slot F T A) → w.task ≡ false
-        → GoesWith (act DropFuture ∷ act StoreOutput ∷ row CompleteDetached w ∷ []) (OutputInHand w.awaiter) (output_first z []) p q
+        → DidWith (act DropFuture ∷ act StoreOutput ∷ row CompleteDetached w ∷ []) (OutputInHand w.awaiter) (output_first z []) p q
         → Completes p q w
 
   -- the poll has answered Pending, and whether the task was found closed
   pub data AnswersPending (held : List (ℕ × Slot F T A)) (p q : Party F T A) : Bool → Type 0 where
-    stays_pending : GoesWith (act AnswerPending ∷ []) Pending held p q → AnswersPending held p q false
-    clears : GoesWith (act AnswerPending ∷ act DropFuture ∷ []) PendingFutureDropped held p q → AnswersPending held p q true
+    stays_pending : DidWith (act AnswerPending ∷ []) Pending held p q → AnswersPending held p q false
+    clears : DidWith (act AnswerPending ∷ act DropFuture ∷ []) PendingFutureDropped held p q → AnswersPending held p q true
 
   -- what a poll answered was written down, on this word
   pub data NotesAnswer {O : Type 0} (held : List (ℕ × Slot F T A)) (p q : Party F T A) (w : State) : Poll O → Type 0 where
-    notes_ready : (x : O) → GoesWith (act AnswerReady ∷ []) Ready held p q → NotesAnswer held p q w (Answered x)
+    notes_ready : (x : O) → DidWith (act AnswerReady ∷ []) Ready held p q → NotesAnswer held p q w (Answered x)
     notes_pending : w.references < 72057594037927935 → AnswersPending held p q w.closed → NotesAnswer held p q w Unready
 
   -- a run has ended without an output, or has found the task closed
   pub data EndsPending (held : List (ℕ × Slot F T A)) (p q : Party F T A) : Option PendingEnd → Type 0 where
-    is_closed : GoesWith (act DropFuture ∷ []) PendingFutureDropped held p q → EndsPending held p q None
+    is_closed : DidWith (act DropFuture ∷ []) PendingFutureDropped held p q → EndsPending held p q None
     is_rescheduled : (w : State) → w.closed ≡ false → w.scheduled ≡ true
-        → Goes (row Reschedule w ∷ []) (Deliverer true (ThenEnds (Ran true))) p q → EndsPending held p q (Some Rescheduled)
+        → Did (row Reschedule w ∷ []) (Deliverer true (ThenEnds (Ran true))) p q → EndsPending held p q (Some Rescheduled)
     is_idle : (w : State) → w.closed ≡ false → w.scheduled ≡ false → (nat_lt 1 w.references || w.task) ≡ true
-        → Goes (row EndIdle w ∷ act EndCall ∷ []) (At Ended) p q → EndsPending held p q (Some Idle)
+        → Did (row EndIdle w ∷ act EndCall ∷ []) (At Ended) p q → EndsPending held p q (Some Idle)
     is_orphaned : (w : State) → w.closed ≡ false → w.scheduled ≡ false → (nat_lt 1 w.references || w.task) ≡ false
-        → Goes (row EndOrphaned w ∷ []) (Deliverer false (ThenEnds (Ran false))) p q → EndsPending held p q (Some Orphaned)
+        → Did (row EndOrphaned w ∷ []) (Deliverer false (ThenEnds (Ran false))) p q → EndsPending held p q (Some Orphaned)
 
   -- the awaiter was taken that was due
   pub data TakesDue (way : NotifyingCall) (due : Bool) (p q : Party F T A) : Option A → Type 0 where
-    takes_none : (path : List Deed) → NotifyPath due false path → Goes path (after_taking None way) p q → TakesDue way due p q None
-    takes_one : (i : ℕ) (a : A) (path : List Deed) → NotifyPath due true path → Goes path (after_taking (Some i) way) p q
+    takes_none : (path : List Deed) → NotifyPath due false path → Did path (after_taking None way) p q → TakesDue way due p q None
+    takes_one : (i : ℕ) (a : A) (path : List Deed) → NotifyPath due true path → Did path (after_taking (Some i) way) p q
         → TakesDue way due p q (Some a)
 
   -- a party that has what was taken, to be woken
@@ -91,32 +91,32 @@ module _ {F T A : Type 0} where
     has_one : (i : ℕ) (a : A) → Stands (AwaiterInHand i way) p → HasTaken way p (Some a)
 
   abbrev pub Wakes : Type 0 → NotifyingCall → Option A → Party F T A → Party F T A → Type 0
-  Wakes Woken way awaiter p q = (path : List Deed) × WakePath Woken (is_some awaiter) path × Goes path (after_waking way) p q
+  Wakes Woken way awaiter p q = (path : List Deed) × WakePath Woken (is_some awaiter) path × Did path (after_waking way) p q
 
   -- a run has gone from its end step to the end of its call
   abbrev pub Rests : Type 0 → Bool → Party F T A → Party F T A → Type 0
-  Rests Woken due p q = (path : List Deed) × RestPath Woken due path × Goes path (At Ended) p q
+  Rests Woken due p q = (path : List Deed) × RestPath Woken due path × Did path (At Ended) p q
 
   -- a run has ended with its output, which was dropped where nobody will claim it
   abbrev pub Stores : State → Party F T A → Party F T A → Type 0
-  Stores w p q = (path : List Deed) × StorePath w path × Goes path (notifies w.awaiter OfRun) p q
+  Stores w p q = (path : List Deed) × StorePath w path × Did path (notifies w.awaiter OfRun) p q
 
   -- the rest of a run of a closed task whose poll answered Pending
   abbrev pub ClosesPending : Type 0 → Party F T A → Party F T A → Type 0
   ClosesPending Woken p q =
-      (w : State) × (path : List Deed) × (w.closed ≡ true) × RestPath Woken w.awaiter path × Goes (row EndClosed w ∷ path) (At Ended) p q
+      (w : State) × (path : List Deed) × (w.closed ≡ true) × RestPath Woken w.awaiter path × Did (row EndClosed w ∷ path) (At Ended) p q
 
   -- a whole run of a closed task, after its first step
   abbrev pub Closes : Type 0 → Party F T A → Party F T A → Type 0
-  Closes Woken p q = (path : List Deed) × ClosedRunPath Woken path × Goes path (At Ended) p q
+  Closes Woken p q = (path : List Deed) × ClosedRunPath Woken path × Did path (At Ended) p q
 
   -- a whole run after its poll
   abbrev pub EndsReady : Type 0 → Party F T A → Party F T A → Type 0
-  EndsReady Woken p q = (path : List Deed) × ReadyPath Woken path × Goes path (At Ended) p q
+  EndsReady Woken p q = (path : List Deed) × ReadyPath Woken path × Did path (At Ended) p q
 
   abbrev pub EndsUnready : Type 0 → (Bool → Type 0) → Bool → Party F T A → Party F T A → Type 0
-  EndsUnready Woken Scheduled answer p q = (path : List Deed) × PendingPath Woken Scheduled answer path × Goes path (At Ended) p q
+  EndsUnready Woken Scheduled answer p q = (path : List Deed) × PendingPath Woken Scheduled answer path × Did path (At Ended) p q
 
   -- a whole drop of a Runnable
   abbrev pub Discards : Type 0 → Party F T A → Party F T A → Type 0
-  Discards Woken p q = (path : List Deed) × DiscardPath Woken path × Goes path (At Ended) p q
+  Discards Woken p q = (path : List Deed) × DiscardPath Woken path × Did path (At Ended) p q

@@ -8,13 +8,13 @@ use Rattle.task_steps.specs.declared.table.Slot.{Slot}
 use Rattle.task_cell.specs.declared.cell.Party.{Party}
 use Rattle.task_steps.specs.Rule.{IsFuture}
 use Rattle.task_steps.specs.Steps.{future_first}
-use Rattle.task_cell.specs.Calls.{GoesWith}
+use Rattle.task_cell.specs.Calls.{DidWith}
 use Rattle.task_steps.specs.Deeds.{row, act}
 
 module _ {F T A : Type 0} where
   -- the task was closed; or the run has started
   pub data TakesUp (p q : Party F T A) : Bool → Type 0 where
     finds_closed : (w : State) (y : Slot F T A) → w.closed ≡ true → IsFuture y
-        → GoesWith (row TakeUpClosed w ∷ []) (FutureInHand ClosedRun) (future_first y []) p q → TakesUp p q false
+        → DidWith (row TakeUpClosed w ∷ []) (FutureInHand ClosedRun) (future_first y []) p q → TakesUp p q false
     starts : (w : State) (y : Slot F T A) → w.closed ≡ false → IsFuture y
-        → GoesWith (row StartRun w ∷ act StartPoll ∷ []) Polling (future_first y []) p q → TakesUp p q true
+        → DidWith (row StartRun w ∷ act StartPoll ∷ []) Polling (future_first y []) p q → TakesUp p q true

@@ -18,7 +18,7 @@ use Rattle.task_steps.specs.declared.words.Detached.{Detached}
 use Rattle.task_steps.specs.declared.words.Detached.TheVariants.{Unclaimed, Shared, Last, Orphaned}
 use Rattle.task_steps.specs.Rule.{IsOutput}
 use Rattle.task_steps.specs.Steps.{output_first}
-use Rattle.task_cell.specs.Calls.{Fits, GoesWith, Goes}
+use Rattle.task_cell.specs.Calls.{Fits, DidWith, Did}
 use Rattle.task_steps.specs.Deeds.{row, act}
 use Rattle.task_steps.specs.Standing.{as_ended, as_task}
 
@@ -69,25 +69,25 @@ pub data DetachPath (Scheduled : Type 0) : List Deed → Type 0 where
 module _ {F T A : Type 0} where
   -- the row of a cancel, by a Task that has begun n polls
   abbrev pub Cancels : ℕ → Party F T A → Party F T A → Option Cancelled → Type 0
-  Cancels n p q None = (w : State) × Fits CancelOver w × Goes (row CancelOver w ∷ act EndCall ∷ []) (as_task n) p q
+  Cancels n p q None = (w : State) × Fits CancelOver w × Did (row CancelOver w ∷ act EndCall ∷ []) (as_task n) p q
   Cancels n p q (Some (Busy due)) =
-      (w : State) × (w.awaiter ≡ due) × Fits CancelBusy w × Goes (row CancelBusy w ∷ []) (notifies due (OfCancel n)) p q
+      (w : State) × (w.awaiter ≡ due) × Fits CancelBusy w × Did (row CancelBusy w ∷ []) (notifies due (OfCancel n)) p q
   Cancels n p q (Some (Idle due)) =
-      (w : State) × (w.awaiter ≡ due) × Fits CancelIdle w × Goes (row CancelIdle w ∷ []) (Deliverer false (after_cancelling due n)) p q
+      (w : State) × (w.awaiter ≡ due) × Fits CancelIdle w × Did (row CancelIdle w ∷ []) (Deliverer false (after_cancelling due n)) p q
 
   -- the row by which a Task is given up
   abbrev pub Detaches : Party F T A → Party F T A → Detached → Type 0
   Detaches p q Unclaimed =
       (w : State) × (z : Slot F T A) × Fits GiveUpOutput w × IsOutput z
-      × GoesWith (row GiveUpOutput w ∷ []) OutputCloser (output_first z []) p q
-  Detaches p q Shared = (w : State) × Fits Detach w × Goes (row Detach w ∷ act EndCall ∷ []) as_ended p q
+      × DidWith (row GiveUpOutput w ∷ []) OutputCloser (output_first z []) p q
+  Detaches p q Shared = (w : State) × Fits Detach w × Did (row Detach w ∷ act EndCall ∷ []) as_ended p q
   Detaches p q Last =
-      (w : State) × (y : Slot F T A) × Fits DetachLast w × GoesWith (row DetachLast w ∷ []) (Emptier None Nothing) ((2, y) ∷ []) p q
-  Detaches p q Orphaned = (w : State) × Fits DetachOrphan w × Goes (row DetachOrphan w ∷ []) (Deliverer false (ThenEnds Nothing)) p q
+      (w : State) × (y : Slot F T A) × Fits DetachLast w × DidWith (row DetachLast w ∷ []) (Emptier None Nothing) ((2, y) ∷ []) p q
+  Detaches p q Orphaned = (w : State) × Fits DetachOrphan w × Did (row DetachOrphan w ∷ []) (Deliverer false (ThenEnds Nothing)) p q
 
   -- the output that nobody claimed was dropped, and the Task given up; whether the slots are to be emptied
   abbrev pub GivesTaskUp : Party F T A → Party F T A → Bool → Type 0
-  GivesTaskUp p q false = (w : State) × Fits Detach w × Goes (act DropOutput ∷ row Detach w ∷ act EndCall ∷ []) as_ended p q
+  GivesTaskUp p q false = (w : State) × Fits Detach w × Did (act DropOutput ∷ row Detach w ∷ act EndCall ∷ []) as_ended p q
   GivesTaskUp p q true =
       (w : State) × (y : Slot F T A) × Fits DetachLast w
-      × GoesWith (act DropOutput ∷ row DetachLast w ∷ []) (Emptier None Nothing) ((2, y) ∷ []) p q
+      × DidWith (act DropOutput ∷ row DetachLast w ∷ []) (Emptier None Nothing) ((2, y) ∷ []) p q

@@ -12,7 +12,7 @@ use Rattle.task_steps.specs.declared.table.Deed.{Deed}
 use Rattle.task_cell.specs.declared.cell.Party.{Party}
 use Rattle.task_steps.specs.declared.words.Dropped.{Dropped}
 use Rattle.task_steps.specs.declared.words.Dropped.TheVariants.{Shared, Last, Orphaned}
-use Rattle.task_cell.specs.Calls.{Fits, IsNew, Goes, GoesWith}
+use Rattle.task_cell.specs.Calls.{Fits, IsNew, Did, DidWith}
 use Rattle.task_steps.specs.Deeds.{row, act}
 use Rattle.task_steps.specs.Standing.{as_waker, as_lent, as_ended, as_deliverer}
 use Rattle.task_steps.specs.WakerScripts.{others_left}
@@ -28,6 +28,11 @@ pub data TaskWakePath : Bool → List Deed → Type 0 where
   is_scheduled : (w : State) → Fits WakeScheduled w → TaskWakePath false (row WakeScheduled w ∷ act EndCall ∷ [])
   is_running : (w : State) → Fits WakeRunning w → TaskWakePath false (row WakeRunning w ∷ act EndCall ∷ [])
   is_idle : (w : State) → Fits WakeIdle w → TaskWakePath true (row WakeIdle w ∷ act EndCall ∷ [])
+
+-- a wake by a waker: the Runnable of a task that was idle was handed over
+pub data WakeCallPath (Scheduled : Type 0) : List Deed → Type 0 where
+  hands_none : (path : List Deed) → TaskWakePath false path → WakeCallPath Scheduled path
+  hands_one : (path : List Deed) → TaskWakePath true path → Scheduled → WakeCallPath Scheduled path
 
 -- a waker's drop: the last one of a task that is over empties the slots, and that of an open task closes it and hands a Runnable over
 pub data WakerDropPath (Scheduled : Type 0) : List Deed → Type 0 where
@@ -45,20 +50,20 @@ keeps_waker _ = true
 module _ {F T A : Type 0} where
   -- a gain, and the new waker
   pub data Gains (limit : ℕ) (p q : Party F T A) : Option (Party F T A) → Type 0 where
-    gains_none : (path : List Deed) → GainPath limit false path → Goes path as_lent p q → Gains limit p q None
-    gains_one : (path : List Deed) (waker : Party F T A) → GainPath limit true path → Goes path as_lent p q → IsNew as_waker p waker
+    gains_none : (path : List Deed) → GainPath limit false path → Did path as_lent p q → Gains limit p q None
+    gains_one : (path : List Deed) (waker : Party F T A) → GainPath limit true path → Did path as_lent p q → IsNew as_waker p waker
         → Gains limit p q (Some waker)
 
   -- a wake, and the deliverer that is to hand the Runnable over
   pub data WakesTask (p q : Party F T A) : Option (Party F T A) → Type 0 where
-    makes_none : (path : List Deed) → TaskWakePath false path → Goes path as_lent p q → WakesTask p q None
-    makes_one : (path : List Deed) (deliverer : Party F T A) → TaskWakePath true path → Goes path as_lent p q
+    makes_none : (path : List Deed) → TaskWakePath false path → Did path as_lent p q → WakesTask p q None
+    makes_one : (path : List Deed) (deliverer : Party F T A) → TaskWakePath true path → Did path as_lent p q
         → IsNew as_deliverer p deliverer → WakesTask p q (Some deliverer)
 
   -- the row of a waker's drop
   abbrev pub DropsWaker : Party F T A → Party F T A → Dropped → Type 0
-  DropsWaker p q Shared = (w : State) × (others_left w ≡ true) × Goes (row DropWaker w ∷ act EndCall ∷ []) as_ended p q
+  DropsWaker p q Shared = (w : State) × (others_left w ≡ true) × Did (row DropWaker w ∷ act EndCall ∷ []) as_ended p q
   DropsWaker p q Last =
       (w : State) × (y : Slot F T A) × (others_left w ≡ false) × (is_open w ≡ false)
-      × GoesWith (row DropLastWaker w ∷ []) (Emptier None Nothing) ((2, y) ∷ []) p q
-  DropsWaker p q Orphaned = (w : State) × (others_left w ≡ false) × (is_open w ≡ true) × Goes (row OrphanTask w ∷ []) OrphanHolder p q
+      × DidWith (row DropLastWaker w ∷ []) (Emptier None Nothing) ((2, y) ∷ []) p q
+  DropsWaker p q Orphaned = (w : State) × (others_left w ≡ false) × (is_open w ≡ true) × Did (row OrphanTask w ∷ []) OrphanHolder p q

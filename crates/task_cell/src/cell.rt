@@ -26,19 +26,34 @@ pub struct Party<F, T, A> {
 }
 
 impl<F, T, A> Party<F, T, A> {
-    /// Lets an ended party go, which is alone on its seat.
-    pub fn let_go(self)
+    /// The record of the call by which this party has ended, which is alone on its seat.
+    pub fn let_go(self) -> EndedCall<F, T, A>
         requires { Stands as_ended self }
+        ensures { result.party ≡ self }
     {
-        let Party { seat } = self;
-        discard(seat);
+        EndedCall { party: self }
     }
 
-    // Lets the party of a call by reference go, which has made the call, and is alone on its seat.
-    pub(crate) fn give_back(self)
+    // The record of a call by reference, of the party that has made it, and is alone on its seat.
+    pub(crate) fn give_back(self) -> EndedCall<F, T, A>
         requires { Stands as_lent self × (is_spent self.seat.me.0 ≡ true) }
+        ensures { result.party ≡ self }
     {
-        let Party { seat } = self;
+        EndedCall { party: self }
+    }
+}
+
+/// The record of a call that was made: its party, which nobody needs any more. By it a contract says what the call did. It has no bytes, and may be dropped.
+pub struct EndedCall<F, T, A> {
+    pub(crate) party: Party<F, T, A>,
+    ghost spent: { is_spent party.seat.me.0 ≡ true },
+    ghost free: { party.seat.me.1 ≡ [] },
+}
+
+impl<F, T, A> Drop for EndedCall<F, T, A> {
+    fn drop(self) {
+        let EndedCall { party } = self;
+        let Party { seat } = party;
         discard(seat);
     }
 }
@@ -74,6 +89,7 @@ impl<R: Wait + Drop + Copy, F: Yields, Q: Drop, M: Drop, A: Wake, B: Allocator +
     // The share of the cell, and the party, which will step.
     pub(crate) fn into_party(self) -> (Share<R, F, Q, M, A, B>, Party<F, Kept<F>, A>)
         ensures share { result.0 ≡ self.share }
+        ensures is { result.1 ≡ self.party }
         ensures cell { (result.1.seat.block ≡ result.0.block.id) × (limit_of result.1 ≡ result.0.block.key) }
         ensures party { Stands as_runnable result.1 × (deeds result.1 ≡ []) }
     {
@@ -83,6 +99,7 @@ impl<R: Wait + Drop + Copy, F: Yields, Q: Drop, M: Drop, A: Wake, B: Allocator +
 }
 
 /// A task that is due: whoever has it runs it, schedules it, or drops it, which cancels the task.
+#[must_use]
 pub struct Runnable<
     R: Wait + Drop + Copy,
     F: Yields,
@@ -99,10 +116,7 @@ pub struct Runnable<
 impl<R: Wait + Drop + Copy, F: Yields, Q: Drop, M: Drop, A: Wake, X: Copy, B: Allocator + Copy> Drop
     for Runnable<R, F, Q, M, A, X, B> {
     fn drop(self) {
-        let (inner, _) = self.into_parts();
-        let (share, mut party) = inner.into_party();
-        share.discard_runnable(&mut party);
-        party.let_go();
+        self.discard();
     }
 }
 

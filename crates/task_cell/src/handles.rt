@@ -3,6 +3,8 @@
 mod debug;
 pub mod parked;
 pub mod runnable;
+pub mod stored;
 pub mod waker;
 
 pub use parked::{ParkedRunnable, ParkedWaker};
+pub use stored::StoredWaker;

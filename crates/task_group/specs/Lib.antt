@@ -1,1 +1,2 @@
+pub mod Cancelled
 pub mod Members

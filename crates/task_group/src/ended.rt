@@ -5,6 +5,7 @@ ghost use Rattle.std.proofs.Props.{props};
 use async_task::{TaskClosed, Yields};
 
 /// A member that has ended, and what its Task answered. An output meets what the type of the future states.
+#[must_use]
 #[derive(Drop)]
 pub struct Ended<F: Yields> {
     /// The number that `push` or `spawn` gave the member.

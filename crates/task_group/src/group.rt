@@ -2,31 +2,23 @@
 ghost use Rattle.std.specs.Prelude.{◌≡◌, ◌↔◌, ◌≤◌, ◌<◌, true, false, IsTrue, IsErr, IfOk, IfErr, IfSome, OnErr, OnOk};
 ghost use Rattle.std.specs.Arc.{arc_value};
 ghost use Rattle.slab.specs.Slab.{slab_len};
-ghost use Rattle.task_group.specs.Members.{Joins, Leaves, SameMembers, IfNext, came_out, is_over};
+ghost use Rattle.slab.specs.Slab.{get};
+ghost use Rattle.task_cell.specs.PollPaths.{IfOutput};
+ghost use Rattle.async_task.specs.HandlePaths.{IfSomeOutput};
+ghost use Rattle.task_group.specs.Members.{Joins, Leaves, SameMembers, IfNext, came_out, is_over, is_member};
+ghost use Rattle.task_group.specs.Cancelled.{IsCancel, WasCancelled};
 
 use crate::ended::Ended;
-use async_task::{Runnable, Schedule, SpawnError, Task, TaskPoll, Yields, spawn};
+use crate::errors::{AwaiterRefused, GroupFull, GroupSpawnError};
+use async_task::{
+    Cancel, Runnable, Schedule, SpawnError, Task, TaskClosed, TaskPoll, Yields, spawn,
+};
 use awaiters::{Mailbox, Posts};
 use slab::Slab;
 use std::alloc::{AllocError, Allocator, Global};
 use std::sync::{Arc, Wait};
 
-/// A poll of a member was refused its awaiter. The member is still in the group, and a later call of `next` polls it again.
-#[derive(Clone, Copy, Debug, PartialEq, Eq)]
-pub struct AwaiterRefused;
-
-/// A spawn was refused: the group was full, or there was no memory for the task. The group is as it was, and no task was made.
-#[derive(Drop)]
-pub struct GroupSpawnError<F, Q> {
-    /// Whether the group was full.
-    pub is_full: bool,
-    /// The future that was not spawned.
-    pub future: F,
-    /// The schedule value that came with it.
-    pub schedule: Q,
-}
-
-// A member: its Task, or the answer that the Task gave as it was pushed.
+// A member: its Task, that as a Cancel which was polled, or the answer that the handle gave as it was pushed or cancelled.
 #[derive(Drop)]
 enum Member<
     R: Wait + Drop + Copy,
@@ -41,6 +33,7 @@ where
     Q: Schedule<Runnable<R, F, Q, M, A, X, B>>,
 {
     Runs(Task<R, F, Q, M, A, X, B>),
+    Cancelled(Cancel<R, F, Q, M, A, X, B>),
     HasEnded(Ended<F>),
 }
 
@@ -62,7 +55,45 @@ where
     refused: bool,
 }
 
+impl<
+    R: Wait + Drop + Copy,
+    F: Yields,
+    Q: Drop,
+    M: Drop,
+    A: Posts<R>,
+    X: Copy,
+    B: Allocator + Copy,
+> Member<R, F, Q, M, A, X, B>
+where
+    Q: Schedule<Runnable<R, F, Q, M, A, X, B>>,
+{
+    // The same member, whose next poll cancels it.
+    fn cancel(self) -> Member<R, F, Q, M, A, X, B>
+        ensures { IsCancel result }
+    {
+        match self {
+            Member::Runs(task) => Member::Cancelled(task.cancel()),
+            other => other,
+        }
+    }
+}
+
+// The answer of a poll of a Cancel, as that of a Task.
+fn closed_where_none<F: Yields>(
+    answer: TaskPoll<Option<F::Output>>,
+) -> TaskPoll<Result<F::Output, TaskClosed>>
+    ensures { IfSomeOutput answer (λ output. ∥ F.Yields.meets output ∥₁) → IfOutput result (λ output. ∥ F.Yields.meets output ∥₁) }
+{
+    match answer {
+        TaskPoll::Ready(Some(output)) => TaskPoll::Ready(Ok(output)),
+        TaskPoll::Ready(None) => TaskPoll::Ready(Err(TaskClosed)),
+        TaskPoll::Pending => TaskPoll::Pending,
+        TaskPoll::Refused => TaskPoll::Refused,
+    }
+}
+
 /// Tasks, each under a number, with room for a fixed number of them. Dropped, it cancels those that are left.
+#[must_use]
 #[derive(Drop)]
 pub struct TaskGroup<
     R: Wait + Drop + Copy,
@@ -141,15 +172,15 @@ where
     pub fn push(
         &mut self,
         task: Task<R, F, Q, M, A, X, B>,
-    ) -> Result<usize, Task<R, F, Q, M, A, X, B>>
+    ) -> Result<usize, GroupFull<Task<R, F, Q, M, A, X, B>>>
         ensures full { IsErr result ↔ (slab_len self.old.members ≡ self.old.members.capacity) }
-        ensures returned { IfErr result (λ refused. refused ≡ task) }
+        ensures returned { IfErr result (λ refused. refused.task ≡ task) }
         ensures unchanged { OnErr result (self.new ≡ self.old) }
         ensures joins { IfOk result (λ number. Joins self.old.members self.new.members number) }
         ensures room { self.new.members.capacity ≡ self.old.members.capacity }
     {
         if self.is_full() {
-            return Err(task);
+            return Err(GroupFull { task });
         }
         Ok(self.join(task))
     }
@@ -161,7 +192,7 @@ where
         ensures room { self.new.members.capacity ≡ self.old.members.capacity }
     {
         let number = self.members.vacant_key();
-        let member = self.first_look(number, task);
+        let member = self.first_look(number, Member::Runs(task)).member;
         self.members.insert_reserved(member)
     }
 
@@ -246,22 +277,46 @@ where
         }
     }
 
-    // Polls a member of this number. Where the poll is refused its awaiter, the number is posted, so that `next` polls the member again.
+    // Polls a member of this number.
     fn poll_member(
         &self,
         number: usize,
         member: Member<R, F, Q, M, A, X, B>,
     ) -> Result<Ended<F>, Stays<R, F, Q, M, A, X, B>>
-        ensures { IfOk result (λ ended. ended.number ≡ number) }
+        ensures number { IfOk result (λ ended. ended.number ≡ number) }
+        ensures cancelled { IfErr result (λ stays. IsCancel member → stays.refused ≡ false → WasCancelled stays.member) }
     {
-        let mut task = match member {
-            Member::Runs(task) => task,
-            Member::HasEnded(ended) => return Ok(ended.numbered(number)),
-        };
-        let polled = match self.awaiter_of(number) {
-            Some(awaiter) => task.poll(&awaiter),
-            None => TaskPoll::Refused,
-        };
+        match member {
+            Member::Runs(mut task) => {
+                let polled = match self.awaiter_of(number) {
+                    Some(awaiter) => task.poll(&awaiter),
+                    None => TaskPoll::Refused,
+                };
+                self.settle(number, polled, Member::Runs(task))
+            }
+            Member::Cancelled(mut cancel) => {
+                let polled = match self.awaiter_of(number) {
+                    Some(awaiter) => closed_where_none::<F>(cancel.poll(&awaiter)),
+                    None => TaskPoll::Refused,
+                };
+                self.settle(number, polled, Member::Cancelled(cancel))
+            }
+            Member::HasEnded(ended) => Ok(ended.numbered(number)),
+        }
+    }
+
+    // What becomes of a member by the answer of its poll. Where that was refused its awaiter, the number is posted, so that `next` polls the member again.
+    fn settle(
+        &self,
+        number: usize,
+        polled: TaskPoll<Result<F::Output, TaskClosed>>,
+        member: Member<R, F, Q, M, A, X, B>,
+    ) -> Result<Ended<F>, Stays<R, F, Q, M, A, X, B>>
+        requires { IfOutput polled (λ output. ∥ F.Yields.meets output ∥₁) }
+        ensures number { IfOk result (λ ended. ended.number ≡ number) }
+        ensures member { IfErr result (λ stays. stays.member ≡ member) }
+        ensures pending { IfErr result (λ stays. stays.refused ≡ false → polled ≡ TaskPoll.Pending) }
+    {
         let refused = match polled {
             TaskPoll::Ready(answer) => return Ok(Ended { number, answer }),
             TaskPoll::Pending => false,
@@ -270,7 +325,6 @@ where
                 true
             }
         };
-        let member = Member::Runs(task);
         Err(Stays { member, refused })
     }
 
@@ -281,25 +335,65 @@ where
         A::of_mailbox(&self.mailbox, number)
     }
 
-    // The member that a task becomes under this number, once polled.
+    // What a member becomes under this number, once polled, and whether that poll was refused its awaiter.
     fn first_look(
         &self,
         number: usize,
-        task: Task<R, F, Q, M, A, X, B>,
-    ) -> Member<R, F, Q, M, A, X, B> {
-        match self.poll_member(number, Member::Runs(task)) {
+        member: Member<R, F, Q, M, A, X, B>,
+    ) -> Stays<R, F, Q, M, A, X, B>
+        ensures cancelled { IsCancel member → result.refused ≡ false → WasCancelled result.member }
+    {
+        match self.poll_member(number, member) {
             Ok(ended) => {
                 self.mailbox.post(number);
-                Member::HasEnded(ended)
+                Stays {
+                    member: Member::HasEnded(ended),
+                    refused: false,
+                }
             }
-            Err(stays) => {
-                let Stays { member, refused: _ } = stays;
-                member
-            }
+            Err(stays) => stays,
         }
     }
 
-    /// Takes all members out and drops their Tasks, which cancels those that have not ended.
+    /// Cancels the member of this number. It stays in the group until its future is gone, and comes out then: closed, or with the output of a task that was completed before. `Ok(false)` where there is no such member.
+    ///
+    /// An `Err` says that the poll which cancels was refused its awaiter: a later call of `next` polls again, and cancels the member if this call did not.
+    pub fn cancel(&mut self, number: usize) -> Result<bool, AwaiterRefused>
+        ensures found { result ≡ Ok false ↔ (is_member self.old.members number ≡ false) }
+        ensures cancelled { result ≡ Ok true → IfSome (get self.new.members number) WasCancelled }
+        ensures stays { SameMembers self.old.members self.new.members }
+        ensures len { slab_len self.new.members ≡ slab_len self.old.members }
+        ensures room { self.new.members.capacity ≡ self.old.members.capacity }
+    {
+        let Some(member) = self.members.try_remove(number) else {
+            return Ok(false);
+        };
+        let looked_at = self.first_look(number, member.cancel());
+        self.members.insert_reserved(looked_at.member);
+        if looked_at.refused {
+            return Err(AwaiterRefused);
+        }
+        Ok(true)
+    }
+
+    /// Cancels all members, as `cancel` does. Call `next` until the group is empty to wait until all futures are gone.
+    ///
+    /// An `Err` is that of `cancel`, of one member or several; the others are cancelled.
+    pub fn cancel_all(&mut self) -> Result<(), AwaiterRefused>
+        ensures stays { SameMembers self.old.members self.new.members }
+        ensures len { slab_len self.new.members ≡ slab_len self.old.members }
+        ensures room { self.new.members.capacity ≡ self.old.members.capacity }
+    {
+        let mut answer = Ok(());
+        for number in 0..self.members.capacity() {
+            if let Err(refused) = self.cancel(number) {
+                answer = Err(refused);
+            }
+        }
+        answer
+    }
+
+    /// Takes all members out and drops their Tasks, which cancels those that have not ended. It does not wait until their futures are gone.
     pub fn abort_all(&mut self)
         ensures empty { slab_len self.new.members ≡ 0 }
         ensures room { self.new.members.capacity ≡ self.old.members.capacity }
@@ -307,7 +401,7 @@ where
         self.members.clear();
     }
 
-    /// Takes all members out and lets their tasks go on. An output that nobody took is dropped.
+    /// Takes all members out and lets their tasks go on, but for those that were cancelled. An output that nobody took is dropped.
     pub fn detach_all(&mut self)
         ensures empty { slab_len self.new.members ≡ 0 }
         ensures room { self.new.members.capacity ≡ self.old.members.capacity }

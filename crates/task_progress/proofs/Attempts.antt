@@ -5,7 +5,7 @@ use Rattle.std.proofs.lemmas.Bool.Decides.{nat_tests}
 use Rattle.task_progress.proofs.Vocabulary.{State, bit, number_of, written, Position, Act, GainReference, Outcome, rule, Machine, Step, scene, after, moves, step, run_from, rule_word}
 use Rattle.task_core.specs.Rows.{writes_word}
 use Rattle.task_progress.specs.StepsLeft.{writes_in}
-use Rattle.task_progress.specs.Attempts.{Attempt, Looks, Makes, Misses, WithSeen, is_same_word, sees, makes, unless_seen, misses, attempts_from, made, misses_of, writes_by_others, is_stale, misses_below, LockFree}
+use Rattle.task_progress.specs.Attempts.{Attempt, Looks, Makes, Misses, WithSeen, is_same_word, sees, makes, unless_seen, misses, attempts_from, made, misses_of, writes_by_others, is_stale, misses_below, LockFree, MissesAfterLook}
 use Rattle.task_progress.proofs.Sums.{open_calls_bound_steps}
 
 -- a word just seen is not stale
@@ -160,3 +160,13 @@ lock_free c attempts now e =
       missed = λ i. omega (arith, one_more i c attempts now e, bound.writes);
       all_missed = λ n. below n (writes_in (made attempts)) attempts (λ i. one_more i c attempts now e);
     }
+
+same_party : (i : ℕ) → nat_eq i i ≡ true
+same_party i = grind (arith, nat_tests)
+
+just_seen : (c : WithSeen) (i : ℕ) → is_stale (sees c.seen i c.machine.word i) c.machine.word ≡ 0
+just_seen c i = ap (λ b. is_stale (if b then Some c.machine.word else c.seen i) c.machine.word) (same_party i) ∙ fresh c.machine.word
+
+pub misses_after_look : MissesAfterLook
+misses_after_look c i attempts now e =
+    let next : WithSeen = record { machine = c.machine; seen = sees c.seen i c.machine.word } in omega (arith, (counted i next attempts now e).each, just_seen c i)

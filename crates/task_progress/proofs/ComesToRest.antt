@@ -6,7 +6,7 @@ use Rattle.task_progress.proofs.Vocabulary.{TakeUpClosed, StartRun, StartPoll, O
 use Rattle.task_progress.proofs.Vocabulary.{awaiting, Holds, HandshakeHolds, others, split, split_awaiting}
 use Rattle.task_progress.specs.StepsLeft.{total, in_call, steps_left}
 use Rattle.task_progress.specs.Ending.{NoCallInProgress}
-use Rattle.task_progress.specs.AtRest.{is_runnable, IsAtRest, PollsNext, ComesToRest, AllComeToRest, DueWakesStay, has_runnable, ClosedMakesNoRunnable, RunsLeadToRest, ClosedLeadsToRest}
+use Rattle.task_progress.specs.AtRest.{is_runnable, runs_in, IsAtRest, PollsNext, ComesToRest, AllComeToRest, DueWakesStay, has_runnable, ClosedMakesNoRunnable, RunsLeadToRest, ClosedLeadsToRest}
 use Rattle.task_progress.proofs.Sums.{total_put, told, open_steps}
 use Rattle.task_progress.proofs.Waits.{InOrder, StaysInOrder, step_in_order, run_in_order, around, always_in_order}
 use Rattle.task_progress.proofs.Ending.{Place, Rests, Works, place, get_put, end_calls}
@@ -132,24 +132,31 @@ length_both : (a b : List Step) → length (a ++ b) ≡ length a + length b
 length_both [] b = omega arith
 length_both (s ∷ a) b = omega (arith, length_both a b)
 
--- no call in progress and no Runnable, after so many steps and so many calls
+runs_both : (a b : List Step) → runs_in (a ++ b) ≡ runs_in a + runs_in b
+runs_both [] b = omega arith
+runs_both (s ∷ a) b = omega (arith, runs_both a b)
+
+-- no call in progress and no Runnable, after so many steps and so many calls, which are runs
 pub record Reaches (m : Machine) (most calls : ℕ) : Type 0 where
   pub steps : List Step
   pub now : Machine
   pub leads : run_from (Some m) steps ≡ Some now
   pub short : length steps ≤ most
   pub begun : how_often Event.CallBegins now.trace ≤ how_often Event.CallBegins m.trace + calls
+  pub only_runs : how_often Event.CallBegins now.trace ≤ how_often Event.CallBegins m.trace + runs_in steps
   pub none_in_progress : NoCallInProgress now
   pub no_runnable : how_many is_runnable now.parties ≡ 0
 
 reaches_then : (m m1 : Machine) (a : List Step) (x y u v : ℕ) → run_from (Some m) a ≡ Some m1 → length a ≤ x
-    → how_often Event.CallBegins m1.trace ≤ how_often Event.CallBegins m.trace + u → Reaches m1 y v → Reaches m (x + y) (u + v)
-reaches_then m m1 a x y u v e short begun r = record {
+    → how_often Event.CallBegins m1.trace ≤ how_often Event.CallBegins m.trace + u → how_often Event.CallBegins m1.trace ≤ how_often Event.CallBegins m.trace + runs_in a
+    → Reaches m1 y v → Reaches m (x + y) (u + v)
+reaches_then m m1 a x y u v e short begun only_runs r = record {
   steps = a ++ r.steps;
   now = r.now;
   leads = leads_on m m1 r.now a r.steps e r.leads;
   short = omega (arith, length_both a r.steps, short, r.short);
   begun = omega (arith, begun, r.begun);
+  only_runs = omega (arith, runs_both a r.steps, only_runs, r.only_runs);
   none_in_progress = r.none_in_progress;
   no_runnable = r.no_runnable;
 }
@@ -179,6 +186,7 @@ closed_run m h none_in_progress closed i e =
       leads = ap (λ x. run_from x s.steps) one ∙ s.leads;
       short = omega (arith, s.short, left);
       begun = omega (arith, s.begun);
+      only_runs = omega (arith, s.begun);
       none_in_progress = s.none_in_progress;
       no_runnable = omega (arith, runnables s.now s.none_in_progress, queued_all s.now.parties, (on.closed closed).1, between);
     }
@@ -190,6 +198,7 @@ to_no_runnable m none_in_progress no_runnable n k = record {
   leads = refl;
   short = omega arith;
   begun = omega arith;
+  only_runs = omega arith;
   none_in_progress = none_in_progress;
   no_runnable = no_runnable;
 }
@@ -201,6 +210,7 @@ more m n k n1 k1 a b r = record {
   leads = r.leads;
   short = omega (arith, r.short, a);
   begun = omega (arith, r.begun, b);
+  only_runs = r.only_runs;
   none_in_progress = r.none_in_progress;
   no_runnable = r.no_runnable;
 }
@@ -233,6 +243,7 @@ pub record Runs (m : Machine) : Type 0 where
   pub leads : run_from (Some m) steps ≡ Some polled
   pub short : length steps ≤ 2
   pub begun : how_often Event.CallBegins polled.trace ≤ how_often Event.CallBegins m.trace + 1
+  pub only_runs : how_often Event.CallBegins polled.trace ≤ how_often Event.CallBegins m.trace + runs_in steps
   pub starts : how_often Event.FuturePollBegins polled.trace ≡ how_often Event.FuturePollBegins m.trace + 1
   pub rest : Reaches polled 22 1
 
@@ -261,8 +272,9 @@ open_run m h none_in_progress opened i e =
       leads = leads;
       short = omega arith;
       begun = omega arith;
+      only_runs = omega arith;
       starts = omega arith;
-      rest = reaches_then m2 s.now s.steps 12 10 0 1 s.leads short same (after_run s.now h3 s.none_in_progress (on.idle s.begun (inl refl)) (find_runnable s.now.parties));
+      rest = reaches_then m2 s.now s.steps 12 10 0 1 s.leads short same (omega (arith, s.begun)) (after_run s.now h3 s.none_in_progress (on.idle s.begun (inl refl)) (find_runnable s.now.parties));
     }
 
 -- from a machine with no call in progress
@@ -284,6 +296,7 @@ with_run m h r h1 =
         leads = leads_on m r.polled e.now r.steps e.steps r.leads e.leads;
         short = omega (arith, length_both r.steps e.steps, r.short, e.short);
         begun = omega (arith, r.begun, e.begun);
+        only_runs = omega (arith, runs_both r.steps e.steps, r.only_runs, e.only_runs);
         none_in_progress = e.none_in_progress;
         no_runnable = e.no_runnable;
       };
@@ -308,11 +321,11 @@ from_no_call m h none_in_progress (NoneFound none) = record {
 }
 from_no_call m h none_in_progress (Found i e) = by_closed m h none_in_progress i e m.word.closed refl
 
-due_after : (m s now : Machine) → Onward s now → how_often Event.FuturePollBegins m.trace ≤ how_often Event.FuturePollBegins s.trace → IsDue s.word s.trace
+due_after : (m s now : Machine) → how_often Event.FuturePollBegins m.trace ≤ how_often Event.FuturePollBegins s.trace → IsDue s.word s.trace
     → (wake_is_due s.trace ≡ true → how_often Event.FuturePollBegins s.trace + 1 ≤ how_often Event.FuturePollBegins now.trace)
-    → (how_often Event.FuturePollBegins m.trace + 1 ≤ how_often Event.FuturePollBegins now.trace) ⊎ (is_open now.word ≡ false)
-due_after m s now on starts (inl due) polled = inl (omega (arith, polled due, starts))
-due_after m s now on starts (inr over) polled = inr (on.over over)
+    → (how_often Event.FuturePollBegins m.trace + 1 ≤ how_often Event.FuturePollBegins now.trace) ⊎ (is_open s.word ≡ false)
+due_after m s now starts (inl due) polled = inl (omega (arith, polled due, starts))
+due_after m s now starts (inr over) polled = inr over
 
 pub comes : (m : Machine) → InOrder m → ComesToRest m
 comes m h =
@@ -322,17 +335,18 @@ comes m h =
     let f = from_no_call s.now h1 s.none_in_progress (find_runnable s.now.parties) in
     let r = f.reaches in
     let h2 : InOrder r.now = in_order s.now r.steps r.now h1 r.leads in
-    let on1 = onward s.now r.steps r.now h1 r.leads in
     record {
-      steps = s.steps ++ r.steps;
+      ending = s;
+      runs = r.steps;
       now = r.now;
-      leads = leads_on m s.now r.now s.steps r.steps s.leads r.leads;
-      short = omega (arith, length_both s.steps r.steps, s.short, r.short);
+      leads = r.leads;
+      short = r.short;
       begun = omega (arith, r.begun, s.begun);
+      only_runs = omega (arith, r.only_runs, s.begun);
       none_in_progress = r.none_in_progress;
       no_runnable = r.no_runnable;
       at_rest = is_at_rest r.now h2.holds r.none_in_progress r.no_runnable;
-      polled = λ due. due_after m s.now r.now on1 on.starts (on.due s.begun (inl due)) f.polled;
+      polled = λ due. due_after m s.now r.now on.starts (on.due s.begun (inl due)) f.polled;
     }
 
 pub all_come_to_rest : AllComeToRest

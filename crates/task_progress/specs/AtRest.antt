@@ -1,18 +1,18 @@
 -- Where calls lead: a due wake to a poll, and every task to rest, where no call is in progress and no Runnable exists.
 use Rattle.std.specs.Prelude.{◌≡◌, ℕ, ◌+◌, ◌≤◌, ◌⊎◌, Bool, true, false, List, [], ◌∷◌, length, Some, slice_get}
-use Rattle.task_core.specs.Word.{is_open}
+use Rattle.task_core.specs.Word.{bit, is_open}
 use Rattle.task_laws.specs.Event.{FuturePollBegins, TakenUp, CallBegins}
 use Rattle.task_laws.specs.declared.positions.Rest.TheVariants.{Runnable}
 use Rattle.task_laws.specs.declared.positions.Position.{Position}
 use Rattle.task_laws.specs.declared.positions.Position.TheVariants.{At, CallEnding, Deliverer}
-use Rattle.task_core.specs.declared.acts.Act.TheVariants.{StartRun, StartPoll}
+use Rattle.task_core.specs.declared.acts.Act.{Act}
+use Rattle.task_core.specs.declared.acts.Act.TheVariants.{StartRun, TakeUpClosed, StartPoll}
 use Rattle.task_laws.specs.Machine.{Machine, Step, run_from, run, how_many}
 use Rattle.task_laws.specs.Event.{Event}
 use Rattle.task_laws.specs.Laws.{how_often, count, is_output_end, wake_is_due}
 use Rattle.task_laws.specs.Laws.{pending_poll, was_woken}
 use Rattle.task_laws.specs.Holders.{is_waker}
-use Rattle.task_progress.specs.StepsLeft.{total, steps_left}
-use Rattle.task_progress.specs.Ending.{NoCallInProgress}
+use Rattle.task_progress.specs.Ending.{NoCallInProgress, CallsEnd}
 
 -- a Runnable between two calls
 abbrev pub is_runnable : Position → Bool
@@ -55,19 +55,32 @@ DueWakesArePolled =
     (limit : ℕ) (steps : List Step) (m : Machine) → run limit steps ≡ Some m → NoCallInProgress m → wake_is_due m.trace ≡ true
     → (how_many is_runnable m.parties ≡ 1) × PollsNext m
 
--- Steps that lead to rest: the calls in progress end, and at most two more are made.
+-- how many runs these steps start
+abbrev pub is_run_start : Act → Bool
+is_run_start StartRun = true
+is_run_start TakeUpClosed = true
+is_run_start _ = false
+
+abbrev pub runs_in : List Step → ℕ
+runs_in [] = 0
+runs_in (s ∷ steps) = bit (is_run_start s.act) + runs_in steps
+
+-- Steps that lead to rest: the calls in progress end, and at most two runs follow.
 pub record ComesToRest (m : Machine) : Type 0 where
-  pub steps : List Step
+  pub ending : CallsEnd m
+  pub runs : List Step
   pub now : Machine
-  pub leads : run_from (Some m) steps ≡ Some now
-  pub short : length steps ≤ total steps_left m.parties + 24
+  pub leads : run_from (Some ending.now) runs ≡ Some now
+  pub short : length runs ≤ 24
   pub begun : how_often Event.CallBegins now.trace ≤ how_often Event.CallBegins m.trace + 2
+  -- no other call begins
+  pub only_runs : how_often Event.CallBegins now.trace ≤ how_often Event.CallBegins m.trace + runs_in runs
   pub none_in_progress : NoCallInProgress now
   pub no_runnable : how_many is_runnable now.parties ≡ 0
   pub at_rest : IsAtRest now
-  -- a wake that was due is followed by a poll, or the task is over
+  -- a wake that was due is followed by a poll, or the task was over once the calls in progress had ended
   pub polled : wake_is_due m.trace ≡ true
-      → (how_often Event.FuturePollBegins m.trace + 1 ≤ how_often Event.FuturePollBegins now.trace) ⊎ (is_open now.word ≡ false)
+      → (how_often Event.FuturePollBegins m.trace + 1 ≤ how_often Event.FuturePollBegins now.trace) ⊎ (is_open ending.now.word ≡ false)
 
 -- after every list of steps
 abbrev pub AllComeToRest : Type 0

@@ -1,12 +1,12 @@
 -- A due wake is carried: by one party, whose own steps lead to a poll, and no other party's step holds it up.
-use Rattle.std.specs.Prelude.{◌≡◌, ℕ, ◌+◌, ◌≤◌, ◌⊎◌, Bool, true, false, not, ◌&&◌, List, Some, slice_get, nat_lt}
+use Rattle.std.specs.Prelude.{◌≡◌, ℕ, ◌+◌, ◌≤◌, ◌⊎◌, Bool, true, false, not, ◌&&◌, List, [], ◌∷◌, Option, Some, None, slice_get, nat_lt}
 use Rattle.task_core.specs.Word.{bit, is_open}
 use Rattle.task_core.specs.declared.acts.Act.{Act}
 use Rattle.task_core.specs.declared.acts.Act.TheVariants.{StartPoll, HandOver, GainReference, FindLimit, RefuseGain, EndCall}
 use Rattle.task_laws.specs.declared.positions.Position.{Position}
 use Rattle.task_laws.specs.declared.positions.Position.TheVariants.{At, CallEnding, Deliverer, Starting, Polling, Pending, Ready, ReadyFutureDropped, OutputStored}
 use Rattle.task_laws.specs.declared.positions.Rest.TheVariants.{Runnable}
-use Rattle.task_laws.specs.Machine.{Machine, Step, run, step, how_many}
+use Rattle.task_laws.specs.Machine.{Machine, Step, run, run_from, step, how_many}
 use Rattle.task_laws.specs.Laws.{wake_is_due}
 use Rattle.task_progress.specs.StepsLeft.{total}
 
@@ -55,3 +55,24 @@ DueWakesAreCarried =
     → (how_many carries m.parties ≡ 1)
     × ((s : Step) (p : Position) (now : Machine) → slice_get m.parties s.party ≡ Some p → step m s ≡ Some now → is_start_poll s.act ≡ false → is_open now.word ≡ true
     → IsOwed now × (total distance now.parties + bit (carries p && not (is_aside s.act p)) ≤ total distance m.parties))
+
+-- whether no poll begins by these steps
+abbrev pub starts_none : List Step → Bool
+starts_none [] = true
+starts_none (s ∷ steps) = not (is_start_poll s.act) && starts_none steps
+
+-- how often the party that carries it steps, but not aside
+abbrev pub is_carried : Option Position → Act → ℕ
+is_carried None act = 0
+is_carried (Some p) act = bit (carries p && not (is_aside act p))
+
+abbrev pub carried : Option Machine → List Step → ℕ
+carried None steps = 0
+carried (Some m) [] = 0
+carried (Some m) (s ∷ steps) = is_carried (slice_get m.parties s.party) s.act + carried (step m s) steps
+
+-- so whatever is done, as long as no poll begins and the task is open: a poll is owed, and these steps are four at most
+abbrev pub DueWakesLeadToPolls : Type 0
+DueWakesLeadToPolls =
+    (limit : ℕ) (steps : List Step) (m : Machine) → run limit steps ≡ Some m → IsOwed m → (later : List Step) (now : Machine)
+    → run_from (Some m) later ≡ Some now → starts_none later ≡ true → is_open now.word ≡ true → IsOwed now × (carried (Some m) later ≤ 4)

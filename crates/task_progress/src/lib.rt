@@ -7,8 +7,8 @@
 
 ghost use Rattle.task_progress.specs.StepsLeft.{OpenCallsBoundSteps, StepsAreBounded};
 ghost use Rattle.task_progress.specs.OwnSteps.{EachPartyIsBounded};
-ghost use Rattle.task_progress.specs.Attempts.{LockFree};
-ghost use Rattle.task_progress.specs.Carried.{DueWakesAreCarried};
+ghost use Rattle.task_progress.specs.Attempts.{LockFree, MissesAfterLook};
+ghost use Rattle.task_progress.specs.Carried.{DueWakesAreCarried, DueWakesLeadToPolls};
 ghost use Rattle.task_progress.specs.Waiting.{NoCallWaits, WhatTaskSawStays};
 ghost use Rattle.task_progress.specs.Ending.{AllCallsEnd, EachEndsAlone, NeverStuck};
 ghost use Rattle.task_progress.specs.AtRest.{AllComeToRest, DueWakesArePolled, DueWakesStay, WithoutWorkAtRest};
@@ -21,17 +21,19 @@ ghost use Rattle.task_laws.specs.Table.{rule};
 /// - Each call makes at most 16 steps, of which at most five write the word (`steps`), and each party makes no more than that for each of its calls
 ///   (`own_steps`). In a stretch in which no call ends, all steps are those of the calls that are open at its end (`open_calls`).
 /// - An exchange of one party misses at most once for each write of another party. So in a stretch in which no call ends, the calls that are open bound
-///   the misses as well as the steps (`lock_free`).
+///   the misses as well as the steps (`lock_free`). From a look of a party on, it misses at most as often as others write the word (`call_misses`).
 /// - Each party in a call may step now, wherever the others stand (`may_step`), and its call ends by its own steps alone while all others stand still
 ///   (`ends_alone`). What the Task has seen and goes on by, no other party takes back (`task_saw`).
 /// - All calls in progress can end without a new one (`calls_end`), and a run without new calls never sticks before they have (`never_stuck`).
 /// - A wake that is due stays due while no call begins, or the task is over (`wake_stays_due`). Where no call is in progress, one Runnable exists, and
 ///   its run polls (`wake_is_polled`).
-/// - While a wake is due, also while calls go on beginning, one party carries it: its own steps lead to a poll, and no step of another party takes it
-///   further from one (`wake_is_carried`).
-/// - After every list of steps, the rest of the calls in progress and at most two more lead to rest, and a due wake to a poll, or the task is over
-///   (`comes_to_rest`). Once a run has started, calls that end lead to rest, or to a closed task (`run_leads_to_rest`). A closed task makes no
-///   Runnable more (`closed_makes_none`), and without one it is at rest whenever no call is in progress (`closed_leads_to_rest`).
+/// - While a wake is due, also while calls go on beginning, one party carries it: no step takes it further from a poll, and each of its own brings it
+///   closer, but those that pass the Runnable on or take a waker of it (`wake_is_carried`). At most four such steps are made before a poll begins, or
+///   the task is over (`wake_leads_to_poll`).
+/// - After every list of steps, the rest of the calls in progress and at most two runs more lead to rest, and a due wake to a poll, unless the task was
+///   over once those calls had ended (`comes_to_rest`). Once a run has started, calls that end lead to rest, or to a closed task
+///   (`run_leads_to_rest`). A closed task makes no Runnable more (`closed_makes_none`), and without one it is at rest whenever no call is in progress
+///   (`closed_leads_to_rest`).
 /// - Where no call is in progress and no Runnable exists, an open task has a waker or its Task. One that is over has dropped its future once, has woken
 ///   the awaiter of a pending poll, and has ended its output, unless the Task may still claim it (`at_rest`).
 pub fn progress()
@@ -39,6 +41,7 @@ pub fn progress()
     ensures own_steps { EachPartyIsBounded }
     ensures open_calls { OpenCallsBoundSteps }
     ensures lock_free { LockFree }
+    ensures call_misses { MissesAfterLook }
     ensures may_step { NoCallWaits }
     ensures ends_alone { EachEndsAlone }
     ensures task_saw { WhatTaskSawStays }
@@ -47,6 +50,7 @@ pub fn progress()
     ensures wake_stays_due { DueWakesStay }
     ensures wake_is_polled { DueWakesArePolled }
     ensures wake_is_carried { DueWakesAreCarried }
+    ensures wake_leads_to_poll { DueWakesLeadToPolls }
     ensures comes_to_rest { AllComeToRest }
     ensures run_leads_to_rest { RunsLeadToRest }
     ensures closed_makes_none { ClosedMakesNoRunnable }

@@ -1,6 +1,7 @@
 -- One act more: the interleaving, and what each seat knows of it.
 use Rattle.std.proofs.Common.{◌≡◌, ℕ, zero, suc, ◌+◌, ◌-◌, ◌<◌, ◌≤◌, ◌≢◌, Bool, cond, eqb, false, Option, Some, None, List, [], ◌∷◌, ◌++◌, length, map, set, sym, refl, ap, ◌∙◌, subst, ⊎_elim, ◌⊎◌, inl, inr, arith, length-set, length-append, eq-eqb, ne_eqb}
-use Rattle.std.specs.Prelude.{slice_get}
+use Rattle.std.specs.Prelude.{◌||◌, nat_lt, not, slice_get}
+use Rattle.std.proofs.lemmas.Bool.{lt-ltb}
 use mathlib.Core.Option.{some, some-injective, some-ne-none}
 use native.Mathlib.Decide.{dec_le}
 use lib.ListN.{get_elem?}
@@ -113,7 +114,7 @@ module _ (limit : ℕ) (log : List Entry) (m : Machine) (h : ℕ → ℕ × ℕ)
   Q = length m.parties
 
   abbrev E : Entry
-  E = record { party = k; deed = deed a (found_by a m.word) }
+  E = record { party = k; deed = deed a (found_by a m.word); parties = length m.parties }
 
   abbrev M : Machine
   M = next_machine m k p o
@@ -122,9 +123,10 @@ module _ (limit : ℕ) (log : List Entry) (m : Machine) (h : ℕ → ℕ × ℕ)
   H = renamed h Q seat n
 
   -- what another party has seen may be stale after the act only if the act writes
-  tried_still : (t : Option Tries) (l : ℕ) → eqb k l ≡ false → Tried l log m.word t → Tried l (E ∷ log) M.word t
-  tried_still None l ne h = tt
-  tried_still (Some t) l ne h = subst (λ (z : Bool × State). t.misses + bit (differ t.seen z.1) ≤ cond z.0 0 (bit (writes a (found_by a m.word)) + written_since l log)) (λ i. (sym ne i, sym wrote i)) (omega (arith, stale_by t.seen m.word a))
+  tried_still : (t : Option Tries) (l : ℕ) → eqb k l ≡ false → l < Q → Tried l log m.word t → Tried l (E ∷ log) M.word t
+  tried_still None l ne lt h = tt
+  tried_still (Some t) l ne lt h = let older : (eqb k l || not (nat_lt l Q)) ≡ false = λ i. ne i || not (lt-ltb l Q lt i) in
+      subst (λ (z : Bool × State). t.misses + bit (differ t.seen z.1) ≤ cond z.0 0 (bit (writes a (found_by a m.word)) + written_since l log)) (λ i. (sym older i, sym wrote i)) (omega (arith, stale_by t.seen m.word a))
 
   other : (s j : ℕ) (x : Member) (l : ℕ) → l ≢ k → IsParty m log h s j x l → IsParty M (E ∷ log) H s j x l
   other s j x l ne f = record {
@@ -132,7 +134,7 @@ module _ (limit : ℕ) (log : List Entry) (m : Machine) (h : ℕ → ℕ × ℕ)
     apart = f.apart;
     at = at_longer (set m.parties k o.next) o.born l x.at (set_else m.parties k l o.next ne ∙ f.at);
     did = subst (λ b. Newest (noted_if b (deed a (found_by a m.word)) (deeds_of l log)) x.deeds) (sym (ne_eqb k l (λ e. ne (sym e)))) f.did;
-    tried = tried_still x.tries l (ne_eqb k l (λ e. ne (sym e))) f.tried;
+    tried = tried_still x.tries l (ne_eqb k l (λ e. ne (sym e))) (inside m.parties l x.at f.at) f.tried;
   }
 
   own : (i : ℕ) (u : Member) → IsParty m log h seat i u k → IsParty M (E ∷ log) H seat i (member o.next (deed a (found_by a m.word) ∷ u.deeds)) k
@@ -162,7 +164,7 @@ pub tells : (limit : ℕ) (views : List View) (seat : ℕ) (v : View) (i : ℕ) 
     → get_elem? v.members i ≡ some u → rule (scene m) a u.at ≡ Some o
     → (k : ℕ) × (get_elem? m.parties k ≡ some u.at) × (e : Entry) × Explains limit (set views seat (grown v i a m u o)) (e ∷ log) (next_machine m k u.at o)
 tells limit views seat v i u a o log m t lt is allowed = let wrote = rule_word (scene m) a u.at o allowed in let here = set_here views seat v lt in let mine = t.each seat i v u here is in let k : ℕ = mine.0 in let n : ℕ = length v.members in
-    let w : View = grown v i a m u o in let e : Entry = record { party = k; deed = deed a (found_by a m.word) } in let M : Machine = next_machine m k u.at o in
+    let w : View = grown v i a m u o in let e : Entry = record { party = k; deed = deed a (found_by a m.word); parties = length m.parties } in let M : Machine = next_machine m k u.at o in
     let H = renamed t.holder (length m.parties) seat n in
     let keep : (s j : ℕ) (x : Member) → ((s, j) ≢ (seat, i)) → ((l : ℕ) × IsParty m log t.holder s j x l) → (l : ℕ) × IsParty M (e ∷ log) H s j x l =
     (λ s j x ne f. (f.0, other limit log m t.holder t.reaches t.lends k seat n a u.at o wrote s j x f.0 (λ z. ne (sym f.1.seated ∙ (ap t.holder z ∙ mine.1.seated))) f.1)) in
@@ -182,7 +184,7 @@ tells limit views seat v i u a o log m t lt is allowed = let wrote = rule_word (
       e,
       record {
         holder = H;
-        reaches = (m, t.reaches, refl, step_is m k a u.at o mine.1.at allowed);
+        reaches = (m, t.reaches, refl, step_is m k a u.at o mine.1.at allowed, refl);
         lends = still_lent m k u.at o t.lends mine.1.apart;
         limited = λ s j x y f g. ⊎_elim (λ (z : (s ≡ seat) × (w ≡ x)). sym (ap (λ (q : View). q.limit) z.1) ∙ t.limited seat i v u here is) (λ (z : (s ≢ seat) × (get_elem? views s ≡ some x)). t.limited s j x y (set_else views seat s v z.0 ∙ z.1) g) (at_set views seat s w x f);
         each = λ s j x y f g. ⊎_elim
@@ -194,11 +196,11 @@ tells limit views seat v i u a o log m t lt is allowed = let wrote = rule_word (
 
 -- an act of the lender by which it comes back to where it stood: what it adds is a new seat's
 pub joined_by : (limit : ℕ) (views : List View) (log : List Entry) (m : Machine) (a : Act) (born : Position) (o : Outcome) → Explains limit views log m → rule (scene m) a (At Lent) ≡ Some o → o.next ≡ At Lent → o.born ≡ born ∷ []
-    → Explains limit (views ++ view limit (fresh born ∷ []) ∷ []) (record { party = lender; deed = deed a (found_by a m.word) } ∷ log) (next_machine m lender (At Lent) o)
-joined_by limit views log m a b o t allowed back one = let wrote = rule_word (scene m) a (At Lent) o allowed in let e : Entry = record { party = lender; deed = deed a (found_by a m.word) } in let M : Machine = next_machine m lender (At Lent) o in let seat : ℕ = length views in
+    → Explains limit (views ++ view limit (fresh born ∷ []) ∷ []) (record { party = lender; deed = deed a (found_by a m.word); parties = length m.parties } ∷ log) (next_machine m lender (At Lent) o)
+joined_by limit views log m a b o t allowed back one = let wrote = rule_word (scene m) a (At Lent) o allowed in let e : Entry = record { party = lender; deed = deed a (found_by a m.word); parties = length m.parties } in let M : Machine = next_machine m lender (At Lent) o in let seat : ℕ = length views in
     let w : View = view limit (fresh b ∷ []) in let H = renamed t.holder (length m.parties) seat 0 in record {
       holder = H;
-      reaches = (m, t.reaches, refl, step_is m lender a (At Lent) o t.lends allowed);
+      reaches = (m, t.reaches, refl, step_is m lender a (At Lent) o t.lends allowed, refl);
       lends = at_longer (set m.parties lender o.next) o.born lender (At Lent) (set_here m.parties lender o.next (inside m.parties lender (At Lent) t.lends) ∙ ap (λ p. some p) back);
       limited = λ s j x y f g. ⊎_elim (λ (z : get_elem? views s ≡ some x). t.limited s j x y z g) (λ (z : (n : ℕ) × (s ≡ length views + n) × (get_elem? (w ∷ []) n ≡ some x)). sym (ap (λ (q : View). q.limit) (only w z.0 x z.2).1)) (at_append views (w ∷ []) s x f);
       each = λ s j x y f g. ⊎_elim

@@ -36,7 +36,7 @@ module _ (F T A : Type 0) (limit : ℕ) where
   pub enters : (slots : ℕ) → Enters Rule slots 0 (λ n w. (came w ≡ came (view limit (fresh (At Lent) ∷ []))) × ((state_of n).references < 72057594037927935))
   enters slots s r homes fits = let run = r.running in let m : Machine = run.machine in let w : View = view limit (fresh (At Lent) ∷ []) in let N : Machine = next_machine m lender (At Lent) (lent_by m) in (
     w,
-    retold F T A limit s r.capped run (s.views ++ w ∷ []) (record { party = lender; deed = deed Look (found_by Look m.word) } ∷ run.log) N
+    retold F T A limit s r.capped run (s.views ++ w ∷ []) (record { party = lender; deed = deed Look (found_by Look m.word); parties = length m.parties } ∷ run.log) N
         (joined_by limit s.views run.log m Look (At Lent) (lent_by m) run.told refl refl refl) refl run.limited (still_housed run.filled m s.homes run.told.lends run.housed)
         (λ early. let first = (run.unfilled early).first in at_longer s.views (w ∷ []) 0 (opening_at (run.unfilled early).stage limit) first ∙ sym first)
         (λ j v ne e. ⊎_elim (λ (h : get_elem? s.views j ≡ some v). run.staged j v ne h)

@@ -1,5 +1,5 @@
 -- The rule of the table: an interleaving of the machine ends in the present word, and each party of a seat did in it what the seat knows.
-use Rattle.std.specs.Prelude.{◌⊎◌, ◌≡◌, ◌≢◌, ℕ, ◌+◌, ◌<◌, ◌≤◌, Bool, true, false, not, ◌&&◌, cond, eqb, is_none, List, [], ◌∷◌, ◌++◌, length, slice_index}
+use Rattle.std.specs.Prelude.{◌⊎◌, ◌≡◌, ◌≢◌, ℕ, ◌+◌, ◌<◌, ◌≤◌, Bool, true, false, not, ◌&&◌, ◌||◌, cond, eqb, nat_lt, is_none, List, [], ◌∷◌, ◌++◌, length, slice_index}
 use Rattle.std.specs.Prelude.{Option, Some, None}
 use mathlib.Core.Option.{some}
 use mathlib.Core.Option as maybe
@@ -74,17 +74,18 @@ is_private act = is_none (row_of act) && not (is_load act)
 abbrev pub found_by : Act → State → Option State
 found_by a w = cond (is_private a) None (Some w)
 
--- one step of an interleaving: who made it, and what it did
+-- one step of an interleaving: who made it, what it did, and how many parties there were before it
 pub record Entry : Type 0 where
   pub party : ℕ
   pub deed : Deed
+  pub parties : ℕ
 
 -- an interleaving of the machine, the newest step first, that ends in m
 abbrev pub Reaches : ℕ → List Entry → Machine → Type 0
 Reaches limit [] m = m ≡ opening limit
 Reaches limit (e ∷ earlier) m =
     (n : Machine) × Reaches limit earlier n × (e.deed.found ≡ found_by e.deed.act n.word)
-    × (step n (record { party = e.party; act = e.deed.act }) ≡ Some m)
+    × (step n (record { party = e.party; act = e.deed.act }) ≡ Some m) × (e.parties ≡ length n.parties)
 
 -- .. and its steps, the oldest first
 abbrev pub steps_of : List Entry → List Step
@@ -113,12 +114,12 @@ abbrev pub writes : Act → Option State → Bool
 writes a None = false
 writes a (Some w) = differ w (written a w)
 
--- how often others have written since the last act of party k
+-- how often others have written since the last act of party k, or since the step that made it
 abbrev pub written_since : ℕ → List Entry → ℕ
 written_since k [] = 0
-written_since k (e ∷ earlier) = cond (eqb e.party k) 0 (bit (writes e.deed.act e.deed.found) + written_since k earlier)
+written_since k (e ∷ earlier) = cond (eqb e.party k || not (nat_lt k e.parties)) 0 (bit (writes e.deed.act e.deed.found) + written_since k earlier)
 
--- each miss of party k since its last act has met another write of another party
+-- each miss of party k since its last act, or since it was made, has met another write of another party
 abbrev pub Tried : ℕ → List Entry → State → Option Tries → Type 0
 Tried k log w None = Unit {0}
 Tried k log w (Some t) = t.misses + bit (differ t.seen w) ≤ written_since k log

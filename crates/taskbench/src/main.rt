@@ -14,14 +14,23 @@ mod requests;
 mod slot;
 
 use bench_report::failure::Failure;
-use bench_report::operations::{Command, answer};
+use bench_report::operations::{Command, answer, refuse};
 use std::process::ExitCode;
 use std::{env, io};
 
 fn main(rt: HostRuntime) -> io::Result<ExitCode> {
     let alloc = rt.alloc();
+    let mut err = rt.stderr();
+    let words = match env::args(&rt) {
+        Ok(words) => words,
+        // An argument is not UTF-8.
+        Err(error) if error.kind() == io::ErrorKind::InvalidData => {
+            return Ok(ExitCode::from(refuse(&mut err)));
+        }
+        Err(error) => return Err(error),
+    };
     let mut args = Vec::new(alloc);
-    for arg in env::args(&rt)?.skip(1) {
+    for arg in words.skip(1) {
         args.push(arg)?;
     }
     let act = |command: Command| -> Result<(), Failure> {
@@ -29,7 +38,6 @@ fn main(rt: HostRuntime) -> io::Result<ExitCode> {
         let mut err = rt.stderr();
         report::act(rt, alloc, command, &mut out, &mut err)
     };
-    let mut err = rt.stderr();
     let status = answer(args.as_slice(), &act, &mut err);
     Ok(ExitCode::from(status))
 }

@@ -4,7 +4,7 @@
 //! The page is docs/ROWS.md.
 #![tactic(auto)]
 
-use counted_values::report::answer;
+use counted_values::report::{answer, refuse};
 use counted_values::row::Row;
 use row_table::table;
 use std::process::ExitCode;
@@ -12,12 +12,20 @@ use std::{env, io};
 
 fn main(rt: HostRuntime) -> io::Result<ExitCode> {
     let alloc = rt.alloc();
+    let mut err = rt.stderr();
+    let words = match env::args(&rt) {
+        Ok(words) => words,
+        // An argument is not UTF-8.
+        Err(error) if error.kind() == io::ErrorKind::InvalidData => {
+            return Ok(ExitCode::from(refuse(&mut err)));
+        }
+        Err(error) => return Err(error),
+    };
     let mut args = Vec::new(alloc);
-    for arg in env::args(&rt)?.skip(1) {
+    for arg in words.skip(1) {
         args.push(arg)?;
     }
     let mut out = io::writer(&rt);
-    let mut err = rt.stderr();
     let run = |row: Row| table::run(row, rt, alloc);
     let status = answer(args.as_slice(), &run, &mut out, &mut err);
     Ok(ExitCode::from(status))

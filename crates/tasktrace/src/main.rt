@@ -7,16 +7,24 @@
 use std::io::{BufReader, BufWriter};
 use std::process::ExitCode;
 use std::{env, io};
-use trace_printer::arguments::answer;
+use trace_printer::arguments::{answer, refuse};
 
 fn main(rt: HostRuntime) -> io::Result<ExitCode> {
+    let mut err = rt.stderr();
+    let words = match env::args(&rt) {
+        Ok(words) => words,
+        // An argument is not UTF-8.
+        Err(error) if error.kind() == io::ErrorKind::InvalidData => {
+            return Ok(ExitCode::from(refuse(&mut err)));
+        }
+        Err(error) => return Err(error),
+    };
     let mut args = Vec::new(rt.alloc());
-    for arg in env::args(&rt)?.skip(1) {
+    for arg in words.skip(1) {
         args.push(arg)?;
     }
     let input = BufReader::new(rt.alloc(), rt.reader())?;
     let mut out = BufWriter::new(rt.alloc(), io::writer(&rt))?;
-    let mut err = rt.stderr();
     let status = answer(rt.alloc(), args.as_slice(), input, &mut out, &mut err);
     Ok(ExitCode::from(status))
 }

@@ -5,7 +5,7 @@ ghost use Rattle.trace_printer.specs.declared.arguments.Request.TheVariants.{Hel
 ghost use Rattle.trace_printer.specs.declared.row.Shown.TheVariants.{Changed, All, Progress};
 
 use crate::row::Shown;
-use crate::trace::trace;
+use crate::trace::{failed, trace};
 use std::alloc::Global;
 use std::io;
 use task_core::acts::NAMES;
@@ -37,8 +37,7 @@ Each party that a step adds takes the next number.
 
 /// Does what the arguments ask for.
 ///
-/// The status is that of `trace`. After the help it is 0, or 1 where `out` fails. Other arguments are answered by a line on `err`, which tells the usage,
-/// and status 2, or 1 where `err` fails.
+/// The status is that of `trace`. After the help it is 0, or 1 where `out` fails, which is told on `err`. Other arguments are refused.
 pub fn answer<R: io::BufRead + Drop, W: io::Write, E: io::Write>(
     alloc: Global,
     args: &[String],
@@ -52,9 +51,19 @@ pub fn answer<R: io::BufRead + Drop, W: io::Write, E: io::Write>(
 {
     match asked(args) {
         Some(Request::Trace(shown)) => trace(alloc, shown, input, out, err),
-        Some(Request::Help) => print_help(out).unwrap_or(1),
-        None => print_usage(err).unwrap_or(1),
+        Some(Request::Help) => match print_help(out) {
+            Ok(status) => status,
+            Err(error) => failed(error, err),
+        },
+        None => refuse(err),
     }
+}
+
+/// Refuses the arguments by a line on `err`, which tells the usage. The status is 2, or 1 where `err` fails.
+pub fn refuse<E: io::Write>(err: &mut E) -> u8
+    ensures status { (1 ≤ result) × (result ≤ 2) }
+{
+    print_usage(err).unwrap_or(1)
 }
 
 /// What the arguments ask for, or `None` where that is not known.

@@ -39,19 +39,66 @@ impl fmt::Display for Holder {
     }
 }
 
-/// Who holds that slot.
-pub fn held_by<A: Allocator>(machine: &Machine<A>, slot: Slot) -> Holder {
-    if !is_full(machine, slot) {
-        return Holder::Empty;
-    }
-    for party in 0..machine.parties() as u64 {
-        if let Some(position) = machine.position(party) {
-            if owns(slot, position) {
-                return Holder::Party(party);
-            }
+/// Which party of a machine may touch what lies in each slot, as far as it was told of the steps.
+#[derive(Clone, Copy)]
+pub struct Holders {
+    future: Option<u64>,
+    output: Option<u64>,
+    awaiter: Option<u64>,
+}
+
+impl Holders {
+    /// After the spawn no party holds a slot.
+    pub fn new() -> Holders {
+        Holders {
+            future: None,
+            output: None,
+            awaiter: None,
         }
     }
-    Holder::Cell
+
+    /// Is told of a step, by which only its party has moved. There were so many parties before it.
+    pub fn note<A: Allocator>(&mut self, machine: &Machine<A>, party: u64, before: usize) {
+        self.note_party(machine, party);
+        for added in before as u64..machine.parties() as u64 {
+            self.note_party(machine, added);
+        }
+    }
+
+    // Is told of where a party stands that has moved, or was added.
+    fn note_party<A: Allocator>(&mut self, machine: &Machine<A>, party: u64) {
+        self.future = moved(machine, Slot::Future, self.future, party);
+        self.output = moved(machine, Slot::Output, self.output, party);
+        self.awaiter = moved(machine, Slot::Awaiter, self.awaiter, party);
+    }
+
+    /// Who holds that slot.
+    pub fn held_by<A: Allocator>(&self, machine: &Machine<A>, slot: Slot) -> Holder {
+        let party = match slot {
+            Slot::Future => self.future,
+            Slot::Output => self.output,
+            Slot::Awaiter => self.awaiter,
+        };
+        match party {
+            _ if !is_full(machine, slot) => Holder::Empty,
+            Some(party) => Holder::Party(party),
+            None => Holder::Cell,
+        }
+    }
+}
+
+// Which party may touch what lies in the slot, where it was `holder` before that one has moved.
+fn moved<A: Allocator>(
+    machine: &Machine<A>,
+    slot: Slot,
+    holder: Option<u64>,
+    party: u64,
+) -> Option<u64> {
+    match machine.position(party) {
+        Some(position) if owns(slot, position) => Some(party),
+        _ if holder == Some(party) => None,
+        _ => holder,
+    }
 }
 
 fn is_full<A: Allocator>(machine: &Machine<A>, slot: Slot) -> bool {

@@ -97,19 +97,35 @@ fn step_of(party: &str, act: &str) -> Result<Step, Expected>
     Ok(Step { party, act })
 }
 
-/// What was expected in that line, in words. A word that names no act is told too, with the act that is nearest, or where all acts are listed.
+// So many bytes of a word are quoted at most.
+const QUOTED: usize = 60;
+
+/// What was expected in that line, in words. Of a word that names no act the beginning is told too, with the act that is nearest, or where all acts
+/// are listed.
 pub fn expectation(alloc: Global, expected: Expected, content: &str) -> Result<String, AllocError> {
     let mut words = content.split_ascii_whitespace().skip(1);
     match (expected, words.next()) {
-        (Expected::Act, Some(word)) => match nearest(alloc, word)? {
-            Some(act) => {
-                let act = name(act);
-                format!(in alloc; "{expected} in place of {word:?}: `{act}` is the nearest")
-            }
-            None => {
-                format!(in alloc; "{expected} in place of {word:?}: `tasktrace --help` lists them")
-            }
-        },
+        (Expected::Act, Some(word)) => in_place_of(alloc, expected, word),
         _ => format!(in alloc; "{expected}"),
+    }
+}
+
+fn in_place_of(alloc: Global, expected: Expected, word: &str) -> Result<String, AllocError> {
+    let (quoted, rest) = word.split_at(word.floor_char_boundary(QUOTED));
+    let which = if rest.is_empty() {
+        ""
+    } else {
+        "a word that begins with "
+    };
+    match nearest(alloc, word)? {
+        Some(act) => {
+            let act = name(act);
+            format!(in alloc; "{expected} in place of {which}{quoted:?}: `{act}` is the nearest")
+        }
+        None => {
+            format!(in alloc;
+                "{expected} in place of {which}{quoted:?}: `tasktrace --help` lists them"
+            )
+        }
     }
 }

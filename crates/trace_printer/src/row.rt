@@ -1,6 +1,6 @@
 //! A row of the table: how the task stands after a step. The table is one of Markdown, so that a page can show it as it is.
 
-use crate::holders::{Slot, held_by};
+use crate::holders::{Holders, Slot};
 use crate::names::name;
 use crate::progress::{next_act, steps_left};
 use std::alloc::Global;
@@ -43,10 +43,19 @@ pub fn print_head<W: io::Write>(out: &mut W) -> io::Result<()> {
     writeln!(out, "{HEAD}")
 }
 
+/// A machine that is played, and who holds the slots of its task.
+#[derive(Drop)]
+pub struct Trace {
+    /// The player of the machine.
+    pub player: Player<Global>,
+    /// Who holds the slots. It is told of each step that the player has made.
+    pub holders: Holders,
+}
+
 /// Prints how the machine stands after the spawn.
-pub fn print_spawn<W: io::Write>(player: &Player<Global>, out: &mut W) -> io::Result<()> {
+pub fn print_spawn<W: io::Write>(trace: &Trace, out: &mut W) -> io::Result<()> {
     let columns = Columns {
-        player,
+        trace,
         party: 0,
         before: 0,
         shown: Shown::All,
@@ -56,16 +65,16 @@ pub fn print_spawn<W: io::Write>(player: &Player<Global>, out: &mut W) -> io::Re
 
 /// Prints how the machine stands after that step. There were so many parties before it.
 pub fn print_row<W: io::Write>(
-    player: &Player<Global>,
+    trace: &Trace,
     step: Step,
     before: usize,
     shown: Shown,
     out: &mut W,
 ) -> io::Result<()> {
-    let number = player.steps();
+    let number = trace.player.steps();
     let act = ShownStep(step);
     let columns = Columns {
-        player,
+        trace,
         party: step.party,
         before,
         shown,
@@ -88,7 +97,7 @@ impl fmt::Display for ShownStep {
 // The columns of a row behind its act. They are written by `fmt`, whose error holds nothing, so that no way out has anything to drop.
 #[derive(Clone, Copy)]
 struct Columns<'a> {
-    player: &'a Player<Global>,
+    trace: &'a Trace,
     // Whose step it was.
     party: u64,
     // How many parties there were before it.
@@ -98,13 +107,14 @@ struct Columns<'a> {
 
 impl<'a> fmt::Display for Columns<'a> {
     fn fmt<W: fmt::Write>(&self, f: &mut fmt::Formatter<W>) -> fmt::Result {
-        let machine = self.player.machine();
+        let player = &self.trace.player;
+        let machine = player.machine();
         write_word(machine.word(), f)?;
-        write_slots(machine, f)?;
+        write_slots(machine, self.trace.holders, f)?;
         match self.shown {
             Shown::Changed => write_changed(machine, self.party, self.before, f),
-            Shown::All => write_all(self.player, false, f),
-            Shown::Progress => write_all(self.player, true, f),
+            Shown::All => write_all(player, false, f),
+            Shown::Progress => write_all(player, true, f),
         }
     }
 }
@@ -121,10 +131,14 @@ fn write_word<W: fmt::Write>(word: Word, f: &mut fmt::Formatter<W>) -> fmt::Resu
     write!(f, " | {count} | ")
 }
 
-fn write_slots<W: fmt::Write>(machine: &Machine<Global>, f: &mut fmt::Formatter<W>) -> fmt::Result {
-    let future = held_by(machine, Slot::Future);
-    let output = held_by(machine, Slot::Output);
-    let awaiter = held_by(machine, Slot::Awaiter);
+fn write_slots<W: fmt::Write>(
+    machine: &Machine<Global>,
+    holders: Holders,
+    f: &mut fmt::Formatter<W>,
+) -> fmt::Result {
+    let future = holders.held_by(machine, Slot::Future);
+    let output = holders.held_by(machine, Slot::Output);
+    let awaiter = holders.held_by(machine, Slot::Awaiter);
     write!(f, "{future} | {output} | {awaiter}")?;
     match machine.slots().awaiter {
         Some(poll) => write!(f, ", of poll {poll} |"),

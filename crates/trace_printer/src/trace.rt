@@ -1,9 +1,10 @@
 //! The trace: the lines that are read, and what is printed of each.
 ghost use Rattle.std.specs.Prelude.{◌≡◌, ◌≤◌, IfOk};
 
+use crate::holders::Holders;
 use crate::line::{Expected, content, expectation, is_blank, read_limit, read_step};
 use crate::reason::print_refusal;
-use crate::row::{Shown, print_head, print_row, print_spawn};
+use crate::row::{Shown, Trace, print_head, print_row, print_spawn};
 use std::alloc::{AllocError, Global};
 use std::io;
 use task_replay::machine::Step;
@@ -37,11 +38,18 @@ pub fn trace<R: io::BufRead + Drop, W: io::Write, E: io::Write>(
         Ok(status) => status,
         Err(error) => {
             let _ = out.flush();
-            let _ = writeln!(err, "{error}");
-            let _ = err.flush();
-            1
+            failed(error, err)
         }
     }
+}
+
+/// Tells what failed on `err`: the status.
+pub(crate) fn failed<E: io::Write>(error: io::Error, err: &mut E) -> u8
+    ensures { result ≡ 1 }
+{
+    let _ = writeln!(err, "tasktrace: {error}");
+    let _ = err.flush();
+    1
 }
 
 // The status, or what failed.
@@ -71,15 +79,15 @@ fn end_of<R: io::BufRead + Drop, W: io::Write>(
     number: &mut u64,
     out: &mut W,
 ) -> io::Result<Next> {
-    let mut player = None;
+    let mut trace = None;
     for line in input.lines(alloc) {
         *number = number.saturating_add(1);
-        match next_of(alloc, shown, &mut player, line, out) {
+        match next_of(alloc, shown, &mut trace, line, out) {
             Ok(Next::Line) => {}
             end => return end,
         }
     }
-    if player.is_none() {
+    if trace.is_none() {
         *number = number.saturating_add(1);
         return expects(alloc, Expected::Limit, "");
     }
@@ -118,7 +126,7 @@ fn unread<W: io::Write, E: io::Write>(
 fn next_of<W: io::Write>(
     alloc: Global,
     shown: Shown,
-    player: &mut Option<Player<Global>>,
+    trace: &mut Option<Trace>,
     line: io::Result<String<Global>>,
     out: &mut W,
 ) -> io::Result<Next> {
@@ -133,31 +141,34 @@ fn next_of<W: io::Write>(
     if is_blank(content) {
         return Ok(Next::Line);
     }
-    match player {
-        None => begin(alloc, player, content, out),
-        Some(player) => go_on(alloc, shown, player, content, out),
+    match trace {
+        None => begin(alloc, trace, content, out),
+        Some(trace) => go_on(alloc, shown, trace, content, out),
     }
 }
 
 // The first line gives the limit.
 fn begin<W: io::Write>(
     alloc: Global,
-    player: &mut Option<Player<Global>>,
+    trace: &mut Option<Trace>,
     content: &str,
     out: &mut W,
 ) -> io::Result<Next> {
     match read_limit(content) {
         Ok(limit) => {
-            let opened = Player::new(alloc, limit)?;
+            let opened = Trace {
+                player: Player::new(alloc, limit)?,
+                holders: Holders::new(),
+            };
             print_start(&opened, out)?;
-            *player = Some(opened);
+            *trace = Some(opened);
             Ok(Next::Line)
         }
         Err(expected) => expects(alloc, expected, content),
     }
 }
 
-fn print_start<W: io::Write>(opened: &Player<Global>, out: &mut W) -> io::Result<()> {
+fn print_start<W: io::Write>(opened: &Trace, out: &mut W) -> io::Result<()> {
     print_head(out)?;
     print_spawn(opened, out)
 }
@@ -166,12 +177,12 @@ fn print_start<W: io::Write>(opened: &Player<Global>, out: &mut W) -> io::Result
 fn go_on<W: io::Write>(
     alloc: Global,
     shown: Shown,
-    player: &mut Player<Global>,
+    trace: &mut Trace,
     content: &str,
     out: &mut W,
 ) -> io::Result<Next> {
     match read_step(content) {
-        Ok(step) => play_step(shown, player, step, out),
+        Ok(step) => play_step(shown, trace, step, out),
         Err(expected) => expects(alloc, expected, content),
     }
 }
@@ -183,17 +194,22 @@ fn expects(alloc: Global, expected: Expected, content: &str) -> io::Result<Next>
 
 fn play_step<W: io::Write>(
     shown: Shown,
-    player: &mut Player<Global>,
+    trace: &mut Trace,
     step: Step,
     out: &mut W,
 ) -> io::Result<Next> {
-    let before = player.machine().parties();
-    let played = player.play(step);
+    let before = trace.player.machine().parties();
+    let played = trace.player.play(step);
     match played {
-        Ok(()) => print_row(player, step, before, shown, out),
+        Ok(()) => {
+            trace
+                .holders
+                .note(trace.player.machine(), step.party, before);
+            print_row(trace, step, before, shown, out)
+        }
         Err(PlayError::NoMemory) => Err(io::Error::from(AllocError)),
         Err(PlayError::Exhausted) => writeln!(out, "\nThe trace has made its last step."),
-        Err(PlayError::NotAllowed) => print_refusal(player, step, out),
+        Err(PlayError::NotAllowed) => print_refusal(&trace.player, step, out),
     }?;
     match played {
         Ok(()) => Ok(Next::Line),

@@ -1,2 +1,2 @@
-pub mod Orders
-pub mod Slots
+pub mod Locking
+pub mod Sleeping

@@ -1,3 +1,4 @@
 pub mod Board
-pub mod Search
+pub mod Duties
+pub mod Shelf
 pub mod Sleep

@@ -1,7 +1,141 @@
--- A worker that has lain down at a board.
-use Rattle.std.specs.Prelude.{◌≡◌, ◌<◌}
-use Rattle.work_queues.specs.declared.board.Board.{Board}
-use Rattle.work_queues.specs.declared.sleeping.Sleeper.{Sleeper}
+-- The rule of sleep of n workers, and what each step on it tells.
+-- Words are counted in steps of `padding`: at step i up to n is the flag of queue i, at n + 1 that of interruptions, at n + 2 + j the word of worker j, at 2 n + 2 that of the searcher, at 2 n + 3 how many workers count as sleepers.
+-- A flag: 0 nothing is shown, 1 something is, 4 nobody has it yet. A worker: 0 awake, 1 asleep, 2 awake with an interruption of its own, 3 woken, 4 no thread has it.
+use Rattle.std.specs.Prelude.{◌≡◌, ◌≢◌, ℕ, zero, suc, ◌+◌, ◌*◌, ◌<◌, ◌≤◌, ◌⊎◌, List, [], ◌∷◌, length, slice_index, Bool, true, false}
+use mathlib.Core.Option.{Option, some}
+use lib.ListN.{get_elem?}
+use Rattle.atomic_table.specs.Table.{State, Me, Step}
+use Rattle.work_queues.specs.declared.view.View.{View}
 
-abbrev pub IsAsleep : {T A : Type 0} → Board T A → Sleeper T A → Type 0
-IsAsleep board sleeper = (sleeper.visit.seat.table_id ≡ board.table.shared.table_id) × (sleeper.worker < board.workers)
+-- how many words a step has: one that is used, and others that give it a cache line of its own
+abbrev pub padding : ℕ
+padding = 16
+
+abbrev pub view : ℕ → ℕ → ℕ → ℕ → ℕ → ℕ → ℕ → View
+view right value owes seen from searching asleep = record { right = right; value = value; owes = owes; seen = seen; from = from; searching = searching; asleep = asleep }
+
+abbrev pub blank : View
+blank = view 0 0 0 0 0 0 0
+
+-- the right to the word of this number: a flag that shows so much, or a worker
+abbrev pub has_right : ℕ → ℕ → View
+has_right word value = view (suc word) value 0 0 0 0 0
+
+-- a look is owed at each flag and at each worker
+abbrev pub owing : View → View
+owing v = view v.right v.value 1 0 0 v.searching v.asleep
+
+abbrev pub paid : View → View
+paid v = view v.right v.value 0 0 0 v.searching v.asleep
+
+-- still owed: a look at the flags from the first of these on, for the workers from the second on
+abbrev pub left_of : View → ℕ → ℕ → View
+left_of v seen from = view v.right v.value 1 seen from v.searching v.asleep
+
+abbrev pub searches : View → ℕ → View
+searches v searching = view v.right v.value v.owes v.seen v.from searching v.asleep
+
+abbrev pub sleeps : View → ℕ → View
+sleeps v asleep = view v.right v.value v.owes v.seen v.from v.searching asleep
+
+-- 1 for a seat that counts as a sleeper
+abbrev pub one : ℕ → ℕ
+one zero = 0
+one (suc k) = 1
+
+abbrev pub sleepers : List View → ℕ
+sleepers [] = 0
+sleepers (v ∷ vs) = one v.asleep + sleepers vs
+
+-- some seat is such
+abbrev pub AnySeat : (View → Type 0) → List View → Type 0
+AnySeat P views = (port : ℕ) × (v : View) × (get_elem? views port ≡ some v) × P v
+
+-- it owes this flag a look for this worker
+abbrev pub Owes : ℕ → ℕ → View → Type 0
+Owes i j v = (v.owes ≡ 1) × (v.seen ≤ i) × (v.from ≤ j)
+
+-- a wake is on its way to a worker
+abbrev pub IsWoken : ℕ → List ℕ → Type 0
+IsWoken n words = (k : ℕ) × (k < n) × (slice_index words (padding * (n + 2 + k)) ≡ 3)
+
+module _ {S : Type 0} where
+  pub record Watch (n : ℕ) (s : State S View) : Type 0 where
+    pub sized : length s.words ≡ padding * (n + n + 4)
+    -- nobody has the right to a word that shows so
+    pub free : (x port : ℕ) (v : View) → x < padding * (n + n + 2) → slice_index s.words x ≡ 4 → get_elem? s.views port ≡ some v → v.right ≢ suc x
+    -- no two have the right to one word
+    pub alone : (x port other : ℕ) (v w : View) → get_elem? s.views port ≡ some v → get_elem? s.views other ≡ some w → v.right ≡ suc x → w.right ≡ suc x → port ≡ other
+    -- who has the right to the flag of a queue knows what it shows
+    pub known : (i port : ℕ) (v : View) → i ≤ n → get_elem? s.views port ≡ some v → v.right ≡ suc (padding * i) → slice_index s.words (padding * i) ≡ v.value
+    pub named : slice_index s.words (padding * (n + n + 2)) ≢ 0 → AnySeat (λ v. v.searching ≡ 1) s.views
+    pub counted : sleepers s.views ≡ slice_index s.words (padding * (n + n + 3))
+    pub lain : (j : ℕ) → j < n → slice_index s.words (padding * (n + 2 + j)) ≡ 1 → AnySeat (λ v. v.asleep ≡ suc (padding * (n + 2 + j))) s.views
+    -- while a queue shows an item, or an interruption is due, and a worker sleeps: a wake is on its way to a worker, or one searches, or somebody owes that flag a look for the sleeper
+    pub watched : (i j : ℕ) → i ≤ suc n → j < n → slice_index s.words (padding * i) ≡ 1 → slice_index s.words (padding * (n + 2 + j)) ≡ 1
+        → IsWoken n s.words ⊎ (AnySeat (λ v. v.searching ≡ 1) s.views ⊎ AnySeat (Owes i j) s.views)
+
+  -- a load or an exchange that changes the seat only where it found this number
+  abbrev pub Finds : ℕ → (View → View) → (View → View) → Me S View → ℕ → Me S View → Type 0
+  Finds sought hit miss before found after = (found ≡ sought → after ≡ (hit before.0, before.1)) × (found ≢ sought → after ≡ (miss before.0, before.1))
+
+  abbrev pub Enters : Step S → Me S View → ℕ → Me S View → Type 0
+  Enters step before found after = after ≡ (blank, [])
+
+  abbrev pub EntersOwing : Step S → Me S View → ℕ → Me S View → Type 0
+  EntersOwing step before found after = after ≡ (owing blank, [])
+
+  abbrev pub Takes : Step S → Me S View → ℕ → Me S View → Type 0
+  Takes step before found after = Finds step.first (λ v. has_right step.word 0) (λ v. v) before found after
+
+  abbrev pub GivesBack : Step S → Me S View → ℕ → Me S View → Type 0
+  GivesBack step before found after = after ≡ (owing blank, before.1)
+
+  abbrev pub Shows : Step S → Me S View → ℕ → Me S View → Type 0
+  Shows step before found after = after ≡ (owing (has_right step.word 1), before.1)
+
+  abbrev pub Hides : Step S → Me S View → ℕ → Me S View → Type 0
+  Hides step before found after = after ≡ (has_right step.word 0, before.1)
+
+  abbrev pub Interrupts : Step S → Me S View → ℕ → Me S View → Type 0
+  Interrupts step before found after = after ≡ (owing before.0, before.1)
+
+  abbrev pub TellsNothing : Step S → Me S View → ℕ → Me S View → Type 0
+  TellsNothing step before found after = after ≡ before
+
+  abbrev pub LooksForSleepers : Step S → Me S View → ℕ → Me S View → Type 0
+  LooksForSleepers step before found after = Finds 0 paid owing before found after
+
+  abbrev pub LooksForSearcher : Step S → Me S View → ℕ → Me S View → Type 0
+  LooksForSearcher step before found after = (found ≡ 0 → after ≡ before) × (found ≢ 0 → after ≡ (paid before.0, before.1))
+
+  abbrev pub LooksAtWorker : Step S → Me S View → ℕ → Me S View → Type 0
+  LooksAtWorker step before found after = Finds 1 (λ v. v) (λ v. left_of v v.seen (suc v.from)) before found after
+
+  abbrev pub Wakes : Step S → Me S View → ℕ → Me S View → Type 0
+  Wakes step before found after = Finds 1 paid (λ v. left_of v v.seen (suc v.from)) before found after
+
+  abbrev pub LooksAtFlag : Step S → Me S View → ℕ → Me S View → Type 0
+  LooksAtFlag step before found after = Finds 1 (λ v. v) (λ v. left_of v (suc v.seen) v.from) before found after
+
+  -- all looks that were owed are done
+  abbrev pub Settles : Step S → Me S View → ℕ → Me S View → Type 0
+  Settles step before found after = after ≡ (paid before.0, before.1)
+
+  abbrev pub BeginsSearch : Step S → Me S View → ℕ → Me S View → Type 0
+  BeginsSearch step before found after = Finds 0 (λ v. searches v 1) (λ v. v) before found after
+
+  abbrev pub EndsSearch : Step S → Me S View → ℕ → Me S View → Type 0
+  EndsSearch step before found after = after ≡ (owing (searches before.0 0), before.1)
+
+  abbrev pub Counts : Step S → Me S View → ℕ → Me S View → Type 0
+  Counts step before found after = Finds step.first (λ v. sleeps v 1) (λ v. v) before found after
+
+  abbrev pub LiesDown : Step S → Me S View → ℕ → Me S View → Type 0
+  LiesDown step before found after = Finds 0 (λ v. owing (sleeps v (suc step.word))) (λ v. v) before found after
+
+  abbrev pub GetsUp : Step S → Me S View → ℕ → Me S View → Type 0
+  GetsUp step before found after = after ≡ (owing (sleeps before.0 1), before.1)
+
+  abbrev pub CountsNot : Step S → Me S View → ℕ → Me S View → Type 0
+  CountsNot step before found after = after ≡ (sleeps before.0 0, before.1)

@@ -1,117 +1,204 @@
-//! The bells by which workers sleep and are woken. They name no item, so an awaiter can hold them.
-ghost use Rattle.std.specs.Prelude.{◌≡◌, IfOk, length};
+//! The bells of the workers: who sleeps, who searches, which queues show items, and the duties that follow. They name no item, so an awaiter can hold them.
+//!
+//! Each duty is a value without `Drop`. A seat that may owe a look ends in `leave`, which asks that it owes none.
+//!
+//! | value | made by | ended by |
+//! |---|---|---|
+//! | `Claim` | `claim` | `give_back` |
+//! | `Search` | `begin_search` | `end_search` |
+//! | `Sleeper` | `lie_down` | `get_up` |
+//! | `Look` | `end_search`, `get_up`, `give_back` | `pay`, or the next search or sleep |
+//! | `Woken` | a step by which a worker is no more asleep | `ring` |
+//! | `Heard` | `hear` | `answer`, `pass_on` |
+ghost use Rattle.std.specs.Prelude.{◌≡◌, ◌≢◌, ℕ, ◌+◌, ◌*◌, ◌<◌, ◌≤◌, [], IfOk, length, slice_index, min, max};
+ghost use Rattle.work_queues.specs.Sleep.{padding, blank, owing, searches};
 
+mod calling;
+mod claims;
+mod flags;
+mod interruptions;
+mod resting;
+
+use crate::view::View;
+use crate::watch::{Enter, Sleep};
+use atomic_table::Table;
 use std::alloc::{AllocError, Global};
-use std::sync::Wait;
-use std::sync::atomic::{AtomicU64, Ordering};
+use std::sync::atomic::AtomicU64;
 
-/// A bell for each worker, whether a thread has it, and a count of interruptions.
-#[derive(Drop)]
-pub struct Bells {
-    bells: Vec<AtomicU64>,
-    resting: Vec<AtomicU64>,
-    taken: Vec<AtomicU64>,
-    interruptions: AtomicU64,
+/// The most workers of a pool.
+pub const MOST_WORKERS: usize = 1024;
+
+// How far apart the words are, so that no cache line has two. It is 128 bytes, since some processors fetch lines of 64 bytes in pairs.
+pub(crate) const PADDING: usize = 16;
+
+const HIDDEN: u64 = 0;
+
+const SHOWN: u64 = 1;
+
+const AWAKE: u64 = 0;
+
+const ASLEEP: u64 = 1;
+
+const INTERRUPTED: u64 = 2;
+
+const WOKEN: u64 = 3;
+
+// Nobody has the right to a word that shows so.
+const FREE: u64 = 4;
+
+// More sleepers are not counted, so the count never wraps.
+const MOST_SLEEPERS: u64 = 1 << 32;
+
+type Seat = atomic_table::Seat<(), View>;
+
+// A seat that may owe looks. It has no `Drop`, so it ends in `leave`, which asks that it owes none.
+struct Place {
+    seat: Seat,
 }
 
-fn zeros(alloc: Global, count: usize) -> Result<Vec<AtomicU64>, AllocError> {
-    let mut zeros = Vec::new(alloc);
-    for _ in 0..count {
-        zeros.push(AtomicU64::new(0))?;
+/// Who sleeps, who searches, which queues show items, whether an interruption is due, and which workers a thread has.
+#[derive(Drop)]
+pub struct Bells {
+    table: Table<(), View, usize, Sleep, Global>,
+    workers: usize,
+    // How many interruptions there were.
+    interruptions: AtomicU64,
+    ghost sized: { (table.shared.table_id.words ≡ padding * (workers + workers + 4)) × (table.shared.key ≡ workers) × (0 < workers) × (workers ≤ 1024) },
+}
+
+/// The right to the flag of a queue. It lies beside the queue.
+#[derive(Drop)]
+pub struct Flag {
+    queue: usize,
+    shows: bool,
+    seat: Seat,
+}
+
+/// The right to be the worker of a number, which no other claim has until this one is given back.
+pub struct Claim {
+    number: usize,
+    place: Place,
+}
+
+/// Looks that are owed, at the flag of each queue.
+pub struct Look {
+    place: Place,
+    ghost is: { place.seat.me ≡ (owing blank, []) },
+}
+
+/// A search that has begun.
+pub struct Search {
+    place: Place,
+    ghost is: { place.seat.me ≡ (searches (owing blank) 1, []) },
+}
+
+/// A worker that has lain down.
+pub struct Sleeper {
+    worker: usize,
+    place: Place,
+}
+
+/// An interruption that a worker has heard: it looks once more.
+pub struct Heard(());
+
+/// A worker that a step has woken, until its thread is.
+pub struct Woken {
+    worker: usize,
+}
+
+// What a word of this number shows at first: flags of queues and workers are free.
+fn first_word(number: usize, workers: usize) -> u64
+    requires { workers ≤ 1024 }
+    ensures { (result ≢ 1) × (padding * (workers + workers + 2) ≤ number → result ≡ 0) }
+{
+    if number < PADDING * (workers + workers + 2) && number != PADDING * (workers + 1) {
+        FREE
+    } else {
+        HIDDEN
     }
-    Ok(zeros)
+}
+
+fn first_words(alloc: Global, workers: usize) -> Result<Vec<u64>, AllocError>
+    requires { workers ≤ 1024 }
+    ensures { IfOk result (λ words. (length words.items ≡ padding * (workers + workers + 4)) × ((i : ℕ) → slice_index words.items i ≢ 1) × ((i : ℕ) → padding * (workers + workers + 2) ≤ i → slice_index words.items i ≡ 0)) }
+{
+    let mut words = Vec::new(alloc);
+    for number in 0..PADDING * (workers + workers + 4) {
+        words.push(first_word(number, workers))?;
+    }
+    Ok(words)
+}
+
+fn leave(place: Place)
+    requires { (place.seat.me.0.owes ≡ 0) × (place.seat.me.0.right ≡ 0) × (place.seat.me.0.searching ≡ 0) × (place.seat.me.0.asleep ≡ 0) }
+{
+    let Place { seat } = place;
+    drop(seat);
 }
 
 impl Bells {
-    /// Bells for so many workers. An error says that there was no memory.
-    pub fn new(alloc: Global, workers: usize) -> Result<Bells, AllocError> {
+    /// The bells of at least one worker and at most `MOST_WORKERS`, whatever `workers` is. No worker is asleep, and no thread has one. An error says that there was no memory.
+    pub fn new(alloc: Global, workers: usize) -> Result<Bells, AllocError>
+        ensures { IfOk result (λ bells. bells.workers ≡ min (max workers 1) 1024) }
+    {
+        let workers = workers.max(1).min(MOST_WORKERS);
+        let words = first_words(alloc, workers)?;
+        let (table, _seat) = Table::of_words(alloc, &words, &workers)?;
         Ok(Bells {
-            bells: zeros(alloc, workers)?,
-            resting: zeros(alloc, workers)?,
-            taken: zeros(alloc, workers)?,
+            table,
+            workers,
             interruptions: AtomicU64::new(0),
         })
     }
 
-    // Takes the number of a worker, where there is one and no thread has it.
-    pub(crate) fn take(&self, worker: usize) -> bool {
-        match self.taken.get(worker) {
-            Some(taken) => taken.swap(1, Ordering::SeqCst) == 0,
-            None => false,
-        }
+    /// How many workers it has.
+    pub fn workers(&self) -> usize
+        ensures { result ≡ self.now.workers }
+    {
+        self.workers
     }
 
-    // Gives the number of a worker back, which another thread may take from here on.
-    pub(crate) fn give_back(&self, worker: usize) {
-        if let Some(taken) = self.taken.get(worker) {
-            taken.store(0, Ordering::SeqCst);
-        }
+    // The word of a flag: those of queues have the numbers of these, and that of interruptions the next one.
+    fn flag_word(&self, flag: usize) -> usize
+        requires { flag ≤ self.now.workers + 1 }
+        ensures { result ≡ padding * flag }
+    {
+        PADDING * flag
     }
 
-    /// Wakes this worker, if there is one of this number.
-    pub fn ring(&self, worker: usize) {
-        if let Some(bell) = self.bells.get(worker) {
-            bell.fetch_add(1, Ordering::SeqCst);
-            bell.wake_one();
-        }
+    fn worker_word(&self, worker: usize) -> usize
+        requires { worker < self.now.workers }
+        ensures { result ≡ padding * (self.now.workers + 2 + worker) }
+    {
+        PADDING * (self.workers + 2 + worker)
     }
 
-    /// Has one worker look once more for what is to be done, though no queue has anything: a sleeping one, if one sleeps.
-    pub fn interrupt(&self) {
-        self.interruptions.fetch_add(1, Ordering::SeqCst);
-        for (worker, resting) in self.resting.iter().enumerate() {
-            if resting.swap(0, Ordering::SeqCst) != 0 {
-                self.ring(worker);
-                return;
-            }
-        }
+    fn searcher_word(&self) -> usize
+        ensures { result ≡ padding * (self.now.workers + self.now.workers + 2) }
+    {
+        PADDING * (self.workers + self.workers + 2)
     }
 
-    /// Has the worker of this number look once more, if there is one.
-    pub fn interrupt_worker(&self, worker: usize) {
-        self.interruptions.fetch_add(1, Ordering::SeqCst);
-        self.ring(worker);
+    fn sleepers_word(&self) -> usize
+        ensures { result ≡ padding * (self.now.workers + self.now.workers + 3) }
+    {
+        PADDING * (self.workers + self.workers + 3)
     }
 
-    /// Has all workers look once more.
-    pub fn interrupt_all(&self) {
-        self.interruptions.fetch_add(1, Ordering::SeqCst);
-        for worker in 0..self.bells.len() {
-            self.ring(worker);
-        }
+    fn enter(&self) -> Place
+        ensures { (result.seat.table_id ≡ self.now.table.shared.table_id) × (result.seat.me ≡ (blank, [])) }
+    {
+        let word = self.sleepers_word();
+        let seat = self.table.shared.load_new_seat::<Enter>(word).1;
+        Place { seat }
     }
+}
 
-    /// How many interruptions there were.
-    pub fn interruptions(&self) -> u64 {
-        self.interruptions.load(Ordering::SeqCst)
-    }
-
-    /// What this worker's bell shows. It is asked for before the looks that decide on a sleep.
-    pub fn shows(&self, worker: usize) -> u32 {
-        match self.bells.get(worker) {
-            Some(bell) => (bell.load(Ordering::SeqCst) % (1 << 32)) as u32,
-            None => 0,
-        }
-    }
-
-    // From here on an interruption rings this worker's bell.
-    pub(crate) fn rests(&self, worker: usize) {
-        if let Some(resting) = self.resting.get(worker) {
-            resting.store(1, Ordering::SeqCst);
-        }
-    }
-
-    // An interruption rings another worker's bell again.
-    pub(crate) fn works(&self, worker: usize) {
-        if let Some(resting) = self.resting.get(worker) {
-            resting.store(0, Ordering::SeqCst);
-        }
-    }
-
-    // Sleeps until the worker's bell rings, if it still shows `shown`. It may also return for no reason.
-    pub(crate) fn sleep<R: Wait>(&self, rt: &R, worker: usize, shown: u32) {
-        if let Some(bell) = self.bells.get(worker) {
-            bell.park(rt, shown);
-        }
+impl Woken {
+    /// The number of the worker.
+    pub fn worker(&self) -> usize
+        ensures { result ≡ self.now.worker }
+    {
+        self.worker
     }
 }

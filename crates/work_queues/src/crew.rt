@@ -1,16 +1,16 @@
 //! What the workers of a pool share, and what each does with it: push, find, and rest.
-ghost use Rattle.std.specs.Prelude.{◌≡◌, ◌<◌, IfErr, IfOk};
+ghost use Rattle.std.specs.Prelude.{◌≡◌, ◌<◌, IfErr, IfOk, IfSome, IsSome};
 ghost use Rattle.std.specs.Arc.{arc_value};
+ghost use Rattle.std.proofs.Props.{props};
+ghost use Rattle.work_queues.specs.Duties.{IsClaim};
 
-use crate::bells::Bells;
-use crate::board::Board;
-use crate::claim::Claim;
-use crate::searching::pause;
-use crate::woken::Woken;
+use crate::bells::{Bells, Claim, Heard, Look, Woken};
+use crate::board::{Board, pause};
 use std::alloc::{AllocError, Allocator, Global};
 use std::collections::VecDeque;
-use std::sync::atomic::{AtomicU64, Ordering};
+use std::mem;
 use std::sync::{Arc, Wait};
+use std::time::Duration;
 
 /// How many items a worker takes from another queue at once, at most.
 const BATCH: usize = 256;
@@ -31,32 +31,31 @@ const LOOKS_A_ROUND: usize = 128;
 pub struct Crew<T, A: Allocator = Global> {
     board: Board<T, A>,
     bells: Arc<Bells>,
-    // How often items came from outside.
-    arrivals: AtomicU64,
+    ghost same: { arc_value board.bells ≡ arc_value bells },
 }
 
 impl<T: Drop, A: Allocator> Drop for Crew<T, A> {
     // As a derived drop, which would stand field by field in each function that drops a crew.
     fn drop(self) {
-        let Crew {
-            board,
-            bells,
-            arrivals,
-        } = self;
+        let Crew { board, bells } = self;
         drop(board);
         drop(bells);
-        drop(arrivals);
     }
 }
 
-/// What one worker keeps for itself. While it lives, no other one has its number.
-#[derive(Drop)]
+/// What one worker keeps for itself. While it lives, no other one has its number. It has no `Drop`, so it ends in `Crew::end_turns`.
 pub struct Worker<T, A: Allocator = Global> {
     number: usize,
     looks: u64,
     batch: VecDeque<T, A>,
+    bells: Arc<Bells>,
     claim: Claim,
-    ghost claimed: { claim.number ≡ number },
+    // Looks that it owes until it has found an item: it was woken, or pushes have left theirs to its search.
+    owed: Option<Look>,
+    // An interruption that it has heard and not yet answered.
+    heard: Option<Heard>,
+    ghost claimed: { IsClaim (arc_value bells) claim × (claim.number ≡ number) },
+    ghost owes: { IfSome owed (λ look. look.place.seat.table_id ≡ (arc_value bells).table.shared.table_id) } by { Prim.hlevel props },
 }
 
 impl<T, A: Allocator> Worker<T, A> {
@@ -65,6 +64,51 @@ impl<T, A: Allocator> Worker<T, A> {
         ensures { result ≡ self.now.number }
     {
         self.number
+    }
+
+    // Ends the looks that it owes: it has found an item, or finds none any more.
+    fn settle(&mut self) {
+        if let Some(look) = self.owed.take() {
+            self.bells.settle(look);
+        }
+    }
+
+    // Lies down, looks at each flag, and sleeps if none shows anything.
+    fn sleep<R: Wait>(&self, rt: &R, look: Look, interruptions: u64, most: Option<Duration>) -> Look
+        requires { look.place.seat.table_id ≡ (arc_value self.now.bells).table.shared.table_id }
+        ensures { result.place.seat.table_id ≡ (arc_value self.now.bells).table.shared.table_id }
+    {
+        match self.bells.lie_down(rt, look, &self.claim) {
+            Ok(mut sleeper) => {
+                if !self.bells.sees_something(&mut sleeper)
+                    && self.bells.interruptions() == interruptions
+                {
+                    self.bells.sleep(rt, &sleeper, most);
+                }
+                self.bells.get_up(sleeper)
+            }
+            Err(look) => look,
+        }
+    }
+
+    // It owes these looks until it has found an item.
+    fn owe(&mut self, look: Look)
+        requires { look.place.seat.table_id ≡ (arc_value self.old.bells).table.shared.table_id }
+        ensures { IsSome self.new.owed }
+    {
+        if let Some(before) = mem::replace(&mut self.owed, Some(look)) {
+            self.bells.settle(before);
+        }
+    }
+
+    // It has looked once more for what it has heard, and hears what is due now.
+    fn hear(&mut self)
+        ensures { self.new.owed ≡ self.old.owed }
+    {
+        let due = self.bells.hear();
+        if let Some(before) = mem::replace(&mut self.heard, due) {
+            self.bells.answer(before);
+        }
     }
 }
 
@@ -76,29 +120,26 @@ impl<T: Drop, A: Allocator + Copy> Crew<T, A> {
         workers: usize,
         room: usize,
     ) -> Result<Crew<T, A>, AllocError> {
-        let board = Board::new(alloc, items, workers, room)?;
-        let bells = Bells::new(alloc, board.workers())?;
-        Ok(Crew {
-            board,
-            bells: Arc::new(alloc, bells)?,
-            arrivals: AtomicU64::new(0),
-        })
+        let bells = Arc::new(alloc, Bells::new(alloc, workers)?)?;
+        let board = Board::new(alloc, items, Arc::try_clone(&bells)?, room)?;
+        Ok(Crew { board, bells })
     }
 
     /// What the worker of this number keeps: its hands take their memory of `items`. An error says that there was no memory, that there is no such worker, or that another `Worker` has this number.
     pub fn worker(&self, items: A, number: usize) -> Result<Worker<T, A>, AllocError>
-        ensures { IfOk result (λ worker. (worker.number ≡ number) × (number < self.now.board.workers)) }
+        ensures { IfOk result (λ worker. (worker.number ≡ number) × (number < (arc_value self.now.bells).workers)) }
     {
-        if number >= self.board.workers() {
-            return Err(AllocError);
-        }
-        let claim = Claim::new(Arc::try_clone(&self.bells)?, number).ok_or(AllocError)?;
         let batch = VecDeque::with_capacity(items, BATCH)?;
+        let bells = Arc::try_clone(&self.bells)?;
+        let claim = bells.claim(number).ok_or(AllocError)?;
         Ok(Worker {
             number,
             looks: 0,
             batch,
+            bells,
             claim,
+            owed: None,
+            heard: None,
         })
     }
 }
@@ -106,7 +147,7 @@ impl<T: Drop, A: Allocator + Copy> Crew<T, A> {
 impl<T, A: Allocator> Crew<T, A> {
     /// How many workers it has.
     pub fn workers(&self) -> usize
-        ensures { result ≡ self.now.board.workers }
+        ensures { result ≡ (arc_value self.now.bells).workers }
     {
         self.board.workers()
     }
@@ -118,9 +159,11 @@ impl<T, A: Allocator> Crew<T, A> {
         &self.bells
     }
 
-    fn ring(&self, woken: Option<Woken>) {
+    fn ring(&self, woken: Option<Woken>)
+        requires { IfSome woken (λ woken. woken.worker < (arc_value self.now.bells).workers) }
+    {
         if let Some(woken) = woken {
-            woken.ring(&self.bells);
+            self.board.ring(woken);
         }
     }
 
@@ -130,9 +173,6 @@ impl<T, A: Allocator> Crew<T, A> {
     {
         let queue = worker.min(self.board.workers());
         let (pushed, woken) = self.board.push(rt, queue, item);
-        if queue == self.board.workers() {
-            self.arrivals.fetch_add(1, Ordering::SeqCst);
-        }
         self.ring(woken);
         pushed
     }
@@ -153,7 +193,7 @@ impl<T, A: Allocator> Crew<T, A> {
         let first = worker.batch.pop_front();
         if !worker.batch.is_empty() {
             let own = worker.number.min(self.board.workers());
-            let woken = self.board.put_all(rt, own, &mut worker.batch);
+            let (_, woken) = self.board.put_all(rt, own, &mut worker.batch);
             self.ring(woken);
         }
         first
@@ -180,21 +220,9 @@ impl<T, A: Allocator> Crew<T, A> {
     }
 
     // Looks for a while, as the one worker that searches. True where there is something to do.
-    fn search(&self, worker: usize, interruptions: u64) -> bool {
-        let Some(search) = self.board.begin_search(worker) else {
-            return false;
-        };
-        let finds = self.sees_work(worker, interruptions);
-        self.board.end_search(search, &self.bells);
-        finds
-    }
-
     fn sees_work(&self, worker: usize, interruptions: u64) -> bool {
-        let arrivals = self.arrivals.load(Ordering::SeqCst);
         for look in 0..LOOKS {
-            if self.bells.interruptions() != interruptions
-                || self.arrivals.load(Ordering::SeqCst) != arrivals
-            {
+            if self.has_news(interruptions) {
                 return true;
             }
             if look % LOOKS_A_ROUND == 0 && self.board.has_some_for(worker) {
@@ -203,6 +231,13 @@ impl<T, A: Allocator> Crew<T, A> {
             pause();
         }
         false
+    }
+
+    // Whether something came from outside, or an interruption.
+    fn has_news(&self, interruptions: u64) -> bool {
+        let bells = &self.bells;
+        let is_interrupted = bells.is_due() || bells.interruptions() != interruptions;
+        is_interrupted || !self.board.is_empty(self.board.workers())
     }
 
     // What a worker that always has items of its own would never come to: half of the next other worker's queue, if it is the turn of that, or what came from outside.
@@ -221,6 +256,14 @@ impl<T, A: Allocator> Crew<T, A> {
 
     /// The next item for this worker: what a batch left in its hands, then that at the front of its queue, then half of what came from outside or of another worker's queue. Once in 61 looks what came from outside is first, and once in 976 looks the queue of another worker, of each in turn. `None` also where another worker's queue shows items that this one leaves to it.
     pub fn find<R: Wait>(&self, rt: &R, worker: &mut Worker<T, A>) -> Option<T> {
+        let item = self.find_next(rt, worker);
+        if item.is_some() {
+            worker.settle();
+        }
+        item
+    }
+
+    fn find_next<R: Wait>(&self, rt: &R, worker: &mut Worker<T, A>) -> Option<T> {
         if let Some(item) = worker.batch.pop_front() {
             return Some(item);
         }
@@ -236,28 +279,59 @@ impl<T, A: Allocator> Crew<T, A> {
         self.find_elsewhere(rt, worker)
     }
 
-    /// Ends the turns of this worker: what it has in its hands goes to the back of the queue for what comes from outside, as far as that has room, and another worker looks once more, since a wake may have gone to this one. Drop the worker then, and what it still has.
-    pub fn end_turns<R: Wait>(&self, rt: &R, worker: &mut Worker<T, A>) {
-        if !worker.batch.is_empty() {
-            let woken = self
-                .board
-                .put_all(rt, self.board.workers(), &mut worker.batch);
-            self.arrivals.fetch_add(1, Ordering::SeqCst);
+    /// Ends the turns of this worker, whose number another thread may have from here on. What it has in its hands goes to the back of the queue for what comes from outside, as far as that has room. What it was to look for, another worker does. The answer is what there was no room for.
+    pub fn end_turns<R: Wait>(&self, rt: &R, worker: Worker<T, A>) -> VecDeque<T, A> {
+        let Worker {
+            number: _,
+            looks: _,
+            mut batch,
+            bells,
+            claim,
+            owed,
+            heard,
+        } = worker;
+        if !batch.is_empty() {
+            let (_, woken) = self.board.put_all(rt, self.board.workers(), &mut batch);
             self.ring(woken);
         }
-        self.bells.interrupt();
+        if let Some(look) = owed {
+            bells.settle(look);
+        }
+        bells.settle(bells.give_back(claim));
+        if let Some(heard) = heard {
+            bells.pass_on(heard);
+        }
+        drop(bells);
+        batch
     }
 
-    /// Searches for a while, and then sleeps, if no queue has an item and there was no interruption since `interruptions` were counted. It may also return for no reason.
-    pub fn rest<R: Wait>(&self, rt: &R, worker: &mut Worker<T, A>, interruptions: u64) {
-        let number = worker.number;
-        if number >= self.board.workers() || self.search(number, interruptions) {
-            return;
-        }
-        let mut sleeper = self.board.lie_down(number);
-        if !self.board.has_items(&mut sleeper) {
-            self.board.sleep(rt, &sleeper, &self.bells, interruptions);
-        }
-        self.board.get_up(sleeper);
+    /// Searches for a while, if no other worker does, and then sleeps, for `most` or without an end, if no queue has an item and there was no interruption since `interruptions` were counted. It may also return for no reason.
+    pub fn rest<R: Wait>(
+        &self,
+        rt: &R,
+        worker: &mut Worker<T, A>,
+        interruptions: u64,
+        most: Option<Duration>,
+    )
+        ensures { IsSome worker.new.owed }
+    {
+        let look = match worker.owed.take() {
+            Some(look) => look,
+            None => worker.bells.look(),
+        };
+        let look = match worker.bells.begin_search(look) {
+            Ok(search) => {
+                let sees = self.sees_work(worker.number, interruptions);
+                let look = worker.bells.end_search(search);
+                if sees {
+                    look
+                } else {
+                    worker.sleep(rt, look, interruptions, most)
+                }
+            }
+            Err(look) => worker.sleep(rt, look, interruptions, most),
+        };
+        worker.owe(look);
+        worker.hear();
     }
 }

@@ -1,4 +1,4 @@
-//! `block_on`, of a task that has ended, of one that another thread runs, and of one that is closed.
+//! `block_on`, of a task that has ended, of one that another thread runs, of one that is closed, and of a Cancel.
 use super::line::{Errand, Line, LineTask};
 use awaiters::{BlockOnError, block_on};
 use std::alloc::Global;
@@ -57,4 +57,32 @@ fn wait_for_other<R: Wait + Abort + Threads + Drop + Copy + Send + Sync>(
 fn block_on_sleeps_until_another_thread_has_run_the_task(rt: HostRuntime) {
     let answer = wait_for_other(rt, rt.alloc());
     assert!(rt; answer == Ok(9));
+}
+
+type Cancelled = [Result<Option<u64>, BlockOnError>; 2];
+
+// Waits twice for a Cancel of a task.
+fn cancel_twice<R: Wait + Drop + Copy>(rt: R, alloc: Global, task: LineTask<'_, R>) -> Cancelled {
+    let mut cancel = task.cancel();
+    let first = block_on(rt, alloc, &mut cancel);
+    [first, block_on(rt, alloc, &mut cancel)]
+}
+
+// Cancels a task that was completed before, and one whose Runnable was dropped.
+fn cancel_both<R: Wait + Abort + Drop + Copy>(rt: R, alloc: Global) -> [Cancelled; 2] {
+    let line = Line::new(rt, alloc, 2);
+    let completed = line.spawn(0, Errand::Answer(7));
+    line.run();
+    let closed = line.spawn(1, Errand::Answer(8));
+    line.drop_next();
+    [
+        cancel_twice(rt, alloc, completed),
+        cancel_twice(rt, alloc, closed),
+    ]
+}
+
+#[test]
+fn block_on_of_a_cancel_gives_an_output_once(rt: HostRuntime) {
+    let answers = cancel_both(rt, rt.alloc());
+    assert!(rt; answers == [[Ok(Some(7)), Ok(None)], [Ok(None), Ok(None)]]);
 }

@@ -207,7 +207,7 @@ fn wrap_in_full_heap<'heap, R: Wait + Abort + Drop + Copy>(
     drop(filling);
     match wrapped {
         Ok(awaits) => (false, awaits.into_task()),
-        Err(task) => (true, task),
+        Err(refused) => (true, refused.task),
     }
 }
 

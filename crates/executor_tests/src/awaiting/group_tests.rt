@@ -205,3 +205,39 @@ fn a_group_that_no_memory_can_hold_is_refused(rt: HostRuntime) {
     );
     assert!(rt; group.is_err());
 }
+
+// Cancels a member of a group by its number, a number of no member, and then all members: what the calls answer.
+fn cancel_members<R: Wait + Drop + Copy>(group: &mut LineGroup<'_, R>) -> bool {
+    group.cancel(0) == Ok(true) && group.cancel(3) == Ok(false) && group.cancel_all().is_ok()
+}
+
+// Cancels three members, of which the second has answered before: whether that was granted, and how they come out once a thread has run what is queued.
+fn cancel_three<R: Wait + Abort + Drop + Copy>(rt: R, alloc: Global) -> (bool, [CameOut; 4]) {
+    let line = Line::new(rt, alloc, 1);
+    let mut group = group_of(rt, alloc, 3);
+    push(&line, &mut group, Errand::Stay);
+    push(&line, &mut group, Errand::Answer(41));
+    push(&line, &mut group, Errand::Stay);
+    line.run();
+    let cancelled = cancel_members(&mut group);
+    line.run();
+    let out = [
+        next_of(&mut group),
+        next_of(&mut group),
+        next_of(&mut group),
+        last_of(group),
+    ];
+    (cancelled, out)
+}
+
+#[test]
+fn members_that_are_cancelled_come_out_once_their_futures_are_gone(rt: HostRuntime) {
+    let seen = cancel_three(rt, rt.alloc());
+    let out = [
+        Some((1, Ok(41))),
+        Some((0, Err(TaskClosed))),
+        Some((2, Err(TaskClosed))),
+        None,
+    ];
+    assert!(rt; seen == (true, out));
+}

@@ -254,7 +254,7 @@ fn a_lent_waker_is_refused_where_no_handle_is_left(rt: HostRuntime) {
     ends_refused(&rt, rt.alloc(), DROPPED, NOT_GAINED);
 }
 
-const UNREAD: [(&[u8], &str); 10] = [
+const UNREAD: [(&[u8], &str); 12] = [
     (b"", "line 1: expected `limit` and a number below 2^64\n"),
     (
         b"# nothing\n\n",
@@ -280,6 +280,15 @@ const UNREAD: [(&[u8], &str); 10] = [
     (
         b"limit 4\n1 spin\n",
         "line 2: expected the name of an act in place of \"spin\": `tasktrace --help` lists them\n",
+    ),
+    // Of a long word the beginning is told: here 60 bytes, and 59 where the 60th is inside of a letter.
+    (
+        b"limit 4\n1 1234567890123456789012345678901234567890123456789012345678901\n",
+        "line 2: expected the name of an act in place of a word that begins with \"123456789012345678901234567890123456789012345678901234567890\": `tasktrace --help` lists them\n",
+    ),
+    (
+        b"limit 4\n1 12345678901234567890123456789012345678901234567890123456789\xC3\xA41\n",
+        "line 2: expected the name of an act in place of a word that begins with \"12345678901234567890123456789012345678901234567890123456789\": `tasktrace --help` lists them\n",
     ),
     (
         b"limit 4\n1 look now\n",

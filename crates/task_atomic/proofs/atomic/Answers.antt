@@ -1,15 +1,7 @@
-use Rattle.task_atomic.proofs.Atoms.{steps_are_atomic, answers_are_true}
+use Rattle.task_atomic.proofs.Atoms.{steps_are_atomic}
+use Rattle.task_atomic.proofs.Calls.{calls_make_their_acts, calls_end_by_answers}
 use Rattle.task_atomic.proofs.Looks.{pending_is_registered, open_task_keeps_awaiter}
 use Rattle.task_atomic.proofs.atomic.Goals as goal
 
-pub returns-clause-steps : goal.returns-clause-steps
-returns-clause-steps c = steps_are_atomic
-
-pub returns-clause-answers : goal.returns-clause-answers
-returns-clause-answers c = answers_are_true
-
-pub returns-clause-pending : goal.returns-clause-pending
-returns-clause-pending c = pending_is_registered
-
-pub returns-clause-kept : goal.returns-clause-kept
-returns-clause-kept c = open_task_keeps_awaiter
+pub returns : goal.returns
+returns c = record { steps = steps_are_atomic; calls = calls_make_their_acts; ends = calls_end_by_answers; pending = pending_is_registered; kept = open_task_keeps_awaiter }

@@ -6,7 +6,7 @@ ghost use Rattle.task_core.specs.declared.acts.Act.TheVariants.{EndCall};
 ghost use Rattle.task_steps.specs.declared.table.Deed.{Deed};
 ghost use Rattle.task_cell.specs.TaskPaths.{Cancels, Notice, CancelPath, brings_share};
 ghost use Rattle.task_cell.specs.Handed.{HandedOver};
-ghost use Rattle.task_cell.specs.Calls.{Stands, Goes, first, position, limit_of};
+ghost use Rattle.task_cell.specs.Calls.{Stands, Did, first, position, limit_of};
 ghost use Rattle.task_steps.specs.Deeds.{act};
 ghost use Rattle.task_steps.specs.Standing.{as_task};
 ghost use Rattle.task_cell.specs.Belongs.{IsOf, Leaves, cell_of, limit_in};
@@ -33,7 +33,7 @@ impl<R: Wait + Drop + Copy, F: Yields, Q: Drop, M: Drop, A: Wake, B: Allocator +
         Q: Schedule<Runnable<R, F, Q, M, A, X, B>>,
         requires cell { IsOf self.now party.old × (limit_of party.old ≡ limit_in self.now) }
         requires party { (n : ℕ) × Stands (as_task n) party.old }
-        ensures path { (path : List Deed) × CancelPath (HandedOver Q.scheduled (cell_of self.now) around false) ((a : A) × A.woken a) path × Goes path (position party.old) party.old party.new }
+        ensures path { (path : List Deed) × CancelPath (HandedOver Q.scheduled (cell_of self.now) around false) ((a : A) × A.woken a) path × Did path (position party.old) party.old party.new }
     {
         let Some(closed) = self.close_task(party) else {
             return;
@@ -70,7 +70,7 @@ impl<R: Wait + Drop + Copy, F: Yields, Q: Drop, M: Drop, A: Wake, B: Allocator +
     fn leave_closed(&self, party: &mut Party<F, Kept<F>, A>, due: bool)
         requires cell { IsOf self.now party.old }
         requires party { (n : ℕ) × Stands (notifies due (OfCancel n)) party.old }
-        ensures { (n : ℕ) → Stands (notifies due (OfCancel n)) party.old → (path : List Deed) × Notice ((a : A) × A.woken a) due path × Goes (path ++ act EndCall ∷ []) (as_task n) party.old party.new }
+        ensures { (n : ℕ) → Stands (notifies due (OfCancel n)) party.old → (path : List Deed) × Notice ((a : A) × A.woken a) due path × Did (path ++ act EndCall ∷ []) (as_task n) party.old party.new }
     {
         let awaiter = self.take_due(party, due);
         let ledger = self.ledger();

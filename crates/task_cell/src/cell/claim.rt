@@ -11,7 +11,7 @@ ghost use Rattle.task_steps.specs.Rule.{IsOutput};
 ghost use Rattle.task_steps.specs.Steps.{output_first};
 ghost use Rattle.task_cell.specs.PollPaths.{TakePath, TakePathIf};
 ghost use Rattle.task_steps.specs.Standing.{poll_number, way_of, as_task};
-ghost use Rattle.task_cell.specs.Calls.{StandsWith, Goes, GoesWith, position, holds};
+ghost use Rattle.task_cell.specs.Calls.{StandsWith, Did, DidWith, position, places_of};
 ghost use Rattle.task_steps.specs.Deeds.{act};
 ghost use Rattle.task_cell.specs.Belongs.{IsOf};
 
@@ -36,7 +36,7 @@ impl<R: Wait + Drop + Copy, F: Yields, Q: Drop, M: Drop, A: Drop, B: Allocator +
     fn hand_out(&self, party: &mut Party<F, Kept<F>, A>) -> Held<Kept<F>>
         requires cell { IsOf self.now party.old }
         requires party { (i : ℕ) × (z : Slot F _ A) × StandsWith (TookOutput i) (output_first z []) party.old × IsOutput z }
-        ensures { Goes (act HandOutOutput ∷ act EndCall ∷ []) (as_task (poll_number (position party.old))) party.old party.new }
+        ensures { Did (act HandOutOutput ∷ act EndCall ∷ []) (as_task (poll_number (position party.old))) party.old party.new }
     {
         let output = take_out(&self.block, &mut party.seat, 1).into_output();
         self.load::<HandingOut>(party);
@@ -56,7 +56,7 @@ impl<R: Wait + Drop + Copy, F: Yields, Q: Drop, M: Drop, A: Wake, B: Allocator +
     pub(crate) fn take_awaiter(&self, party: &mut Party<F, Kept<F>, A>, awaiter: &A)
         requires cell { IsOf self.now party.old }
         requires party { (way : NotifyingCall) × (held : List (ℕ × Slot F _ A)) × StandsWith (Notifier way) held party.old × (may_drop way ≡ true) }
-        ensures { (path : List Deed) × TakePath A.woken A.compared awaiter.now path × GoesWith path (after_waking (way_of (position party.old))) (holds party.old) party.old party.new }
+        ensures { (path : List Deed) × TakePath A.woken A.compared awaiter.now path × DidWith path (after_waking (way_of (position party.old))) (places_of party.old) party.old party.new }
     {
         if let Some(taken) = self.notify(party) {
             if taken.will_wake(awaiter) {
@@ -73,7 +73,7 @@ impl<R: Wait + Drop + Copy, F: Yields, Q: Drop, M: Drop, A: Wake, B: Allocator +
     fn take_awaiter_of(&self, party: &mut Party<F, Kept<F>, A>, awaiter: &A, found: Word)
         requires cell { IsOf self.now party.old }
         requires party { (i : ℕ) × (held : List (ℕ × Slot F _ A)) × StandsWith (notifies found.awaiter (OfClaim i)) held party.old }
-        ensures { (path : List Deed) × TakePathIf A.woken A.compared awaiter.now found.awaiter path × GoesWith path (TookOutput (poll_number (position party.old))) (holds party.old) party.old party.new }
+        ensures { (path : List Deed) × TakePathIf A.woken A.compared awaiter.now found.awaiter path × DidWith path (TookOutput (poll_number (position party.old))) (places_of party.old) party.old party.new }
     {
         if found.awaiter() {
             self.take_awaiter(party, awaiter);
@@ -89,7 +89,7 @@ impl<R: Wait + Drop + Copy, F: Yields, Q: Drop, M: Drop, A: Wake, B: Allocator +
     ) -> Held<Kept<F>>
         requires cell { IsOf self.now party.old }
         requires party { (i : ℕ) × (z : Slot F _ A) × StandsWith (notifies found.awaiter (OfClaim i)) (output_first z []) party.old × IsOutput z }
-        ensures { (taken : List Deed) × TakePathIf A.woken A.compared awaiter.now found.awaiter taken × Goes (taken ++ (act HandOutOutput ∷ act EndCall ∷ [])) (as_task (poll_number (position party.old))) party.old party.new }
+        ensures { (taken : List Deed) × TakePathIf A.woken A.compared awaiter.now found.awaiter taken × Did (taken ++ (act HandOutOutput ∷ act EndCall ∷ [])) (as_task (poll_number (position party.old))) party.old party.new }
     {
         self.take_awaiter_of(party, awaiter, found);
         self.hand_out(party)

@@ -6,7 +6,7 @@ ghost use Rattle.task_laws.specs.declared.positions.Position.{Position};
 ghost use Rattle.task_laws.specs.declared.positions.Position.TheVariants.{Deliverer};
 ghost use Rattle.task_core.specs.declared.acts.Act.TheVariants.{HandOver, EndCall};
 ghost use Rattle.task_cell.specs.Handed.{HandedOver};
-ghost use Rattle.task_cell.specs.Calls.{Stands, Goes, IsNew, position, limit_of};
+ghost use Rattle.task_cell.specs.Calls.{Stands, Did, IsNew, position, limit_of};
 ghost use Rattle.task_steps.specs.Deeds.{act};
 ghost use Rattle.task_steps.specs.Standing.{hands_over, handed_over, as_runnable, as_ended, as_deliverer};
 ghost use Rattle.task_cell.specs.Belongs.{IsBeside, IsOf, cell_of, limit_in};
@@ -31,7 +31,7 @@ impl<R: Wait + Drop + Copy, F: Yields, Q: Drop, M: Drop, A: Drop, B: Allocator +
     fn hand_over(&self, party: &mut Party<F, Kept<F>, A>) -> Party<F, Kept<F>, A>
         requires cell { IsOf self.now party.old }
         requires party { (at : Position) × (hands_over at ≡ true) × Stands at party.old }
-        ensures path { Goes (act HandOver ∷ []) (handed_over (position party.old)) party.old party.new }
+        ensures path { Did (act HandOver ∷ []) (handed_over (position party.old)) party.old party.new }
         ensures runnable { IsNew as_runnable party.old result }
     {
         let seat = self.block.split_seat::<HandingOver>(&mut party.seat);
@@ -59,7 +59,7 @@ impl<R: Wait + Drop + Copy, F: Yields, Q: Drop, M: Drop, A: Wake, B: Allocator +
         requires cell { IsOf self.now party.old × (limit_of party.old ≡ limit_in self.now) }
         requires share { cell_of share ≡ cell_of self.now }
         requires party { (at : Position) × (hands_over at ≡ true) × Stands at party.old }
-        ensures path { Goes (act HandOver ∷ []) (handed_over (position party.old)) party.old party.new }
+        ensures path { Did (act HandOver ∷ []) (handed_over (position party.old)) party.old party.new }
         ensures fact { HandedOver Q.scheduled (cell_of self.now) around false }
     {
         let runnable = Runnable::new(share, self.hand_over(party), around);
@@ -80,7 +80,7 @@ impl<R: Wait + Drop + Copy, F: Yields, Q: Drop, M: Drop, A: Wake, B: Allocator +
         Q: Schedule<Runnable<R, F, Q, M, A, X, B>>,
         requires cell { IsOf self party.old × (limit_of party.old ≡ limit_in self) }
         requires party { (at : Position) × (hands_over at ≡ true) × Stands at party.old }
-        ensures path { Goes (act HandOver ∷ []) (handed_over (position party.old)) party.old party.new }
+        ensures path { Did (act HandOver ∷ []) (handed_over (position party.old)) party.old party.new }
         ensures fact { HandedOver Q.scheduled (cell_of self) around woken_while_running }
         ensures ledger { IsBeside result party.new }
     {
@@ -102,7 +102,7 @@ impl<R: Wait + Drop + Copy, F: Yields, Q: Drop, M: Drop, A: Wake, B: Allocator +
         Q: Schedule<Runnable<R, F, Q, M, A, X, B>>,
         requires cell { IsOf self party.old × (limit_of party.old ≡ limit_in self) }
         requires party { (answer : Answer) × Stands (Deliverer woken (ThenEnds answer)) party.old }
-        ensures path { (answer : Answer) → Stands (Deliverer woken (ThenEnds answer)) party.old → Goes (act HandOver ∷ act EndCall ∷ []) as_ended party.old party.new }
+        ensures path { (answer : Answer) → Stands (Deliverer woken (ThenEnds answer)) party.old → Did (act HandOver ∷ act EndCall ∷ []) as_ended party.old party.new }
         ensures fact { HandedOver Q.scheduled (cell_of self) around woken }
     {
         let ledger = self.deliver(party, around, woken);
@@ -115,7 +115,7 @@ impl<R: Wait + Drop + Copy, F: Yields, Q: Drop, M: Drop, A: Wake, B: Allocator +
         Q: Schedule<Runnable<R, F, Q, M, A, X, B>>,
         requires cell { IsOf self party.old × (limit_of party.old ≡ limit_in self) }
         requires party { Stands as_runnable party.old }
-        ensures path { Goes (act HandOver ∷ act EndCall ∷ []) as_ended party.old party.new }
+        ensures path { Did (act HandOver ∷ act EndCall ∷ []) as_ended party.old party.new }
         ensures fact { HandedOver Q.scheduled (cell_of self) around false }
     {
         let ledger = self.deliver(party, around, false);

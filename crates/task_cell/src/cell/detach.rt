@@ -8,7 +8,7 @@ ghost use Rattle.task_steps.specs.declared.table.Slot.TheVariants.{Empty};
 ghost use Rattle.task_steps.specs.Steps.{saw_closed, output_first};
 ghost use Rattle.task_cell.specs.TaskPaths.{Detaches, GivesTaskUp, DetachPath, UnclaimedPath, keeps_task};
 ghost use Rattle.task_cell.specs.Handed.{HandedOver};
-ghost use Rattle.task_cell.specs.Calls.{Stands, StandsWith, Goes, deeds, limit_of};
+ghost use Rattle.task_cell.specs.Calls.{Stands, StandsWith, Did, deeds, limit_of};
 ghost use Rattle.task_steps.specs.Deeds.{act};
 ghost use Rattle.task_steps.specs.Standing.{as_task, as_ended};
 ghost use Rattle.task_cell.specs.Belongs.{IsOf, Leaves, cell_of, limit_in};
@@ -35,7 +35,7 @@ impl<R: Wait + Drop + Copy, F: Yields, Q: Drop, M: Drop, A: Drop, B: Allocator +
     fn note_output_dropped(&self, party: &mut Party<F, Kept<F>, A>)
         requires cell { IsOf self.now party.old }
         requires party { StandsWith OutputCloser (output_first Empty []) party.old }
-        ensures { Goes (act DropOutput ∷ []) Detacher party.old party.new }
+        ensures { Did (act DropOutput ∷ []) Detacher party.old party.new }
     {
         self.load::<DroppingOutput>(party);
     }
@@ -83,7 +83,7 @@ impl<R: Wait + Drop + Copy, F: Yields, Q: Drop, M: Drop, A: Wake, B: Allocator +
     fn leave_unclaimed(self, party: &mut Party<F, Kept<F>, A>)
         requires cell { IsOf self party.old }
         requires party { (z : Slot F _ A) × StandsWith OutputCloser (output_first z []) party.old × (saw_closed (deeds party.old) ≡ true) }
-        ensures { (path : List Deed) × UnclaimedPath path × Goes path as_ended party.old party.new }
+        ensures { (path : List Deed) × UnclaimedPath path × Did path as_ended party.old party.new }
     {
         let (last, maybe) = self.drop_unclaimed(party);
         if last {
@@ -99,7 +99,7 @@ impl<R: Wait + Drop + Copy, F: Yields, Q: Drop, M: Drop, A: Wake, B: Allocator +
         Q: Schedule<Runnable<R, F, Q, M, A, X, B>>,
         requires cell { IsOf self party.old × (limit_of party.old ≡ limit_in self) }
         requires party { (n : ℕ) × Stands (as_task n) party.old }
-        ensures path { (path : List Deed) × DetachPath (HandedOver Q.scheduled (cell_of self) around false) path × Goes path as_ended party.old party.new }
+        ensures path { (path : List Deed) × DetachPath (HandedOver Q.scheduled (cell_of self) around false) path × Did path as_ended party.old party.new }
     {
         let (found, maybe) = self.give_task_up(party);
         match found {

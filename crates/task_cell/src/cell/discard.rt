@@ -4,7 +4,7 @@ ghost use Rattle.task_laws.specs.declared.positions.Position.TheVariants.{Future
 ghost use Rattle.task_laws.specs.declared.positions.WithoutPoll.TheVariants.{DroppedRunnable};
 ghost use Rattle.task_steps.specs.declared.table.Slot.{Slot};
 ghost use Rattle.task_steps.specs.declared.table.Deed.{Deed};
-ghost use Rattle.task_cell.specs.Calls.{Stands, GoesWith};
+ghost use Rattle.task_cell.specs.Calls.{Stands, DidWith};
 ghost use Rattle.task_steps.specs.Standing.{as_runnable};
 ghost use Rattle.task_steps.specs.Rule.{IsFuture};
 ghost use Rattle.task_steps.specs.Steps.{future_first};
@@ -32,7 +32,7 @@ impl<R: Wait + Drop + Copy, F: Yields, Q: Drop, M: Drop, A: Drop, B: Allocator +
     pub(crate) fn discard_start(&self, party: &mut Party<F, Kept<F>, A>)
         requires cell { IsOf self.now party.old }
         requires party { Stands as_runnable party.old }
-        ensures { (d : Deed) × (y : Slot F _ A) × DiscardStart d × GoesWith (d ∷ []) (FutureInHand DroppedRunnable) (future_first y []) party.old party.new × IsFuture y }
+        ensures { (d : Deed) × (y : Slot F _ A) × DiscardStart d × DidWith (d ∷ []) (FutureInHand DroppedRunnable) (future_first y []) party.old party.new × IsFuture y }
     {
         self.fetch_or::<Discarding>(party, CLOSED);
     }

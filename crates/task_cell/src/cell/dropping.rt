@@ -5,7 +5,7 @@ ghost use Rattle.task_laws.specs.declared.positions.Position.TheVariants.{Orphan
 ghost use Rattle.task_core.specs.declared.acts.Act.TheVariants.{CloseOrphan};
 ghost use Rattle.task_steps.specs.declared.table.Deed.{Deed};
 ghost use Rattle.task_cell.specs.Handed.{HandedOver};
-ghost use Rattle.task_cell.specs.Calls.{Stands, Goes, limit_of};
+ghost use Rattle.task_cell.specs.Calls.{Stands, Did, limit_of};
 ghost use Rattle.task_steps.specs.Deeds.{row};
 ghost use Rattle.task_steps.specs.Standing.{as_ended, as_waker, as_deliverer};
 ghost use Rattle.task_cell.specs.WakerPaths.{DropsWaker, WakerDropPath, keeps_waker};
@@ -50,7 +50,7 @@ impl<R: Wait + Drop + Copy, F: Yields, Q: Drop, M: Drop, A: Drop, B: Allocator +
     fn close_orphan(&self, party: &mut Party<F, Kept<F>, A>)
         requires cell { IsOf self.now party.old }
         requires party { Stands OrphanHolder party.old }
-        ensures { (v : State) × Goes (row CloseOrphan v ∷ []) as_deliverer party.old party.new }
+        ensures { (v : State) × Did (row CloseOrphan v ∷ []) as_deliverer party.old party.new }
     {
         self.block
             .swap::<Knowing<ClosingOrphan>>(&mut party.seat, ORPHAN);
@@ -71,7 +71,7 @@ impl<R: Wait + Drop + Copy, F: Yields, Q: Drop, M: Drop, A: Wake, B: Allocator +
         Q: Schedule<Runnable<R, F, Q, M, A, X, B>>,
         requires cell { IsOf self party.old × (limit_of party.old ≡ limit_in self) }
         requires party { Stands as_waker party.old }
-        ensures path { (path : List Deed) × WakerDropPath (HandedOver Q.scheduled (cell_of self) around false) path × Goes path as_ended party.old party.new }
+        ensures path { (path : List Deed) × WakerDropPath (HandedOver Q.scheduled (cell_of self) around false) path × Did path as_ended party.old party.new }
     {
         let (found, maybe) = self.drop_reference(party);
         match found {

@@ -6,7 +6,7 @@ ghost use Rattle.task_core.specs.declared.acts.Act.TheVariants.{AnswerReady, Dro
 ghost use Rattle.task_laws.specs.Table.{notifies};
 ghost use Rattle.task_steps.specs.declared.table.Slot.{Slot};
 ghost use Rattle.task_steps.specs.declared.table.Slot.TheVariants.{Empty};
-ghost use Rattle.task_cell.specs.Calls.{StandsWith, Goes, GoesWith, limit_of};
+ghost use Rattle.task_cell.specs.Calls.{StandsWith, Did, DidWith, limit_of};
 ghost use Rattle.task_steps.specs.Deeds.{row, act};
 ghost use Rattle.task_steps.specs.Rule.{IsFuture};
 ghost use Rattle.task_steps.specs.Steps.{future_first, output_first};
@@ -36,7 +36,7 @@ impl<R: Wait + Drop + Copy, F: Yields, Q: Drop, M: Drop, A: Drop, B: Allocator +
     pub(crate) fn answer_ready(&self, party: &mut Party<F, Kept<F>, A>) -> Word
         requires cell { IsOf self.now party.old }
         requires party { (held : List (ℕ × Slot F _ A)) × StandsWith Polling held party.old }
-        ensures { (held : List (ℕ × Slot F _ A)) → StandsWith Polling held party.old → GoesWith (act AnswerReady ∷ []) Ready held party.old party.new }
+        ensures { (held : List (ℕ × Slot F _ A)) → StandsWith Polling held party.old → DidWith (act AnswerReady ∷ []) Ready held party.old party.new }
     {
         self.load::<AnsweringReady>(party)
     }
@@ -55,7 +55,7 @@ impl<R: Wait + Drop + Copy, F: Yields, Q: Drop, M: Drop, A: Drop, B: Allocator +
     pub(crate) fn drop_output(&self, party: &mut Party<F, Kept<F>, A>)
         requires cell { IsOf self.now party.old }
         requires party { (due : Bool) × (z : Slot F _ A) × StandsWith (OutputInHand due) (output_first z []) party.old }
-        ensures { (due : Bool) (z : Slot F _ A) → StandsWith (OutputInHand due) (output_first z []) party.old → Goes (act DropOutput ∷ []) (notifies due OfRun) party.old party.new }
+        ensures { (due : Bool) (z : Slot F _ A) → StandsWith (OutputInHand due) (output_first z []) party.old → Did (act DropOutput ∷ []) (notifies due OfRun) party.old party.new }
     {
         self.clear(party, 1);
         self.load::<DroppingOutput>(party);
@@ -65,7 +65,7 @@ impl<R: Wait + Drop + Copy, F: Yields, Q: Drop, M: Drop, A: Drop, B: Allocator +
     pub(crate) fn end_closed(&self, party: &mut Party<F, Kept<F>, A>) -> Word
         requires cell { IsOf self.now party.old }
         requires party { (y : Slot F _ A) × StandsWith PendingFutureDropped (future_first y []) party.old }
-        ensures { (result.closed ≡ true) × Goes (row EndClosed result ∷ []) (notifies result.awaiter OfRun) party.old party.new }
+        ensures { (result.closed ≡ true) × Did (row EndClosed result ∷ []) (notifies result.awaiter OfRun) party.old party.new }
     {
         self.clear(party, 0);
         self.fetch_and::<EndingClosed>(party, !(SCHEDULED | RUNNING))

@@ -13,7 +13,7 @@ ghost use Rattle.task_steps.specs.Held.{held};
 ghost use Rattle.task_steps.specs.Standing.{rest_of, way_of};
 ghost use Rattle.task_steps.specs.Steps.{Makes};
 ghost use Rattle.task_cell.specs.Belongs.{IsBeside};
-ghost use Rattle.task_cell.specs.Calls.{Goes, GoesWith, MayNote, Stands, StandsWith, holds, position};
+ghost use Rattle.task_cell.specs.Calls.{Did, DidWith, MayNote, Stands, StandsWith, places_of, position};
 ghost use Rattle.task_cell.specs.RunCalls.{HasTaken, Wakes};
 
 use super::{Cell, Party};
@@ -46,7 +46,7 @@ impl<R, F: Yields, Q, M, A, B: Allocator> Ledger<R, F, Q, M, A, B> {
     pub(crate) fn end(&self, party: &mut Party<F, Kept<F>, A>)
         requires cell { IsBeside self.now party.old }
         requires party { (answer : Answer) × (r : Rest) × Stands (CallEnding answer r) party.old }
-        ensures { Goes (act EndCall ∷ []) (rest_of (position party.old)) party.old party.new }
+        ensures { Did (act EndCall ∷ []) (rest_of (position party.old)) party.old party.new }
     {
         self.note::<Ending>(party);
     }
@@ -55,7 +55,7 @@ impl<R, F: Yields, Q, M, A, B: Allocator> Ledger<R, F, Q, M, A, B> {
     pub(crate) fn note_woken(&self, party: &mut Party<F, Kept<F>, A>)
         requires cell { IsBeside self.now party.old }
         requires party { (i : ℕ) × (way : NotifyingCall) × (held : List (ℕ × Slot F _ A)) × StandsWith (AwaiterInHand i way) held party.old }
-        ensures { GoesWith (act WakeAwaiter ∷ []) (after_waking (way_of (position party.old))) (holds party.old) party.old party.new }
+        ensures { DidWith (act WakeAwaiter ∷ []) (after_waking (way_of (position party.old))) (places_of party.old) party.old party.new }
     {
         self.note::<Waking>(party);
     }
@@ -64,7 +64,7 @@ impl<R, F: Yields, Q, M, A, B: Allocator> Ledger<R, F, Q, M, A, B> {
     pub(crate) fn note_dropped(&self, party: &mut Party<F, Kept<F>, A>)
         requires cell { IsBeside self.now party.old }
         requires party { (i : ℕ) × (way : NotifyingCall) × (held : List (ℕ × Slot F _ A)) × StandsWith (AwaiterInHand i way) held party.old × (may_drop way ≡ true) }
-        ensures { GoesWith (act DropAwaiter ∷ []) (after_waking (way_of (position party.old))) (holds party.old) party.old party.new }
+        ensures { DidWith (act DropAwaiter ∷ []) (after_waking (way_of (position party.old))) (places_of party.old) party.old party.new }
     {
         self.note::<Dropping>(party);
     }

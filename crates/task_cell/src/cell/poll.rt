@@ -10,7 +10,7 @@ ghost use Rattle.task_cell.specs.PollPaths.{PollPath, AnswerPath, TakePath, Look
 ghost use Rattle.task_steps.specs.Standing.{poll_number, as_task};
 ghost use Rattle.task_steps.specs.PollScripts.{has_ended as has_ended_word};
 ghost use Rattle.task_steps.specs.Steps.{saw_ended};
-ghost use Rattle.task_cell.specs.Calls.{Stands, Goes, position, deeds};
+ghost use Rattle.task_cell.specs.Calls.{Stands, Did, position, deeds};
 ghost use Rattle.task_steps.specs.Deeds.{act};
 ghost use Rattle.task_cell.specs.Belongs.{IsOf};
 
@@ -36,7 +36,7 @@ impl<R: Wait + Drop + Copy, F: Yields, Q: Drop, M: Drop, A: Drop, B: Allocator +
     fn end_poll(&self, party: &mut Party<F, Kept<F>, A>)
         requires cell { IsOf self.now party.old }
         requires party { (i : ℕ) × (answer : PollAnswer) × Stands (Answering i answer) party.old }
-        ensures { Goes (act EndCall ∷ []) (as_task (poll_number (position party.old))) party.old party.new }
+        ensures { Did (act EndCall ∷ []) (as_task (poll_number (position party.old))) party.old party.new }
     {
         self.ledger().note::<Ending>(party);
     }
@@ -82,7 +82,7 @@ impl<R: Wait + Drop + Copy, F: Yields, Q: Drop, M: Drop, A: Wake, B: Allocator +
     fn answer_closed(&self, party: &mut Party<F, Kept<F>, A>, awaiter: &A)
         requires cell { IsOf self.now party.old }
         requires party { (i : ℕ) × Stands (Notifier (OfPoll i)) party.old }
-        ensures { (taken : List Deed) × TakePath A.woken A.compared awaiter.now taken × Goes (taken ++ (act EndCall ∷ [])) (as_task (poll_number (position party.old))) party.old party.new }
+        ensures { (taken : List Deed) × TakePath A.woken A.compared awaiter.now taken × Did (taken ++ (act EndCall ∷ [])) (as_task (poll_number (position party.old))) party.old party.new }
     {
         self.take_awaiter(party, awaiter);
         self.end_poll(party);
@@ -92,7 +92,7 @@ impl<R: Wait + Drop + Copy, F: Yields, Q: Drop, M: Drop, A: Wake, B: Allocator +
     fn answer(&self, party: &mut Party<F, Kept<F>, A>, awaiter: &A) -> TaskPoll<Option<Kept<F>>>
         requires cell { IsOf self.now party.old }
         requires party { (i : ℕ) × Stands (LookingAt i) party.old }
-        ensures { (path : List Deed) × AnswerPath A.woken A.compared awaiter.now path result × Goes path (as_task (poll_number (position party.old))) party.old party.new }
+        ensures { (path : List Deed) × AnswerPath A.woken A.compared awaiter.now path result × Did path (as_task (poll_number (position party.old))) party.old party.new }
     {
         match self.look_again(party) {
             Ok(found) => {
@@ -118,7 +118,7 @@ impl<R: Wait + Drop + Copy, F: Yields, Q: Drop, M: Drop, A: Wake, B: Allocator +
     pub fn poll(&self, party: &mut Party<F, Kept<F>, A>, awaiter: &A) -> TaskPoll<Option<Kept<F>>>
         requires cell { IsOf self.now party.old }
         requires party { (n : ℕ) × Stands (as_task n) party.old }
-        ensures path { (path : List Deed) × PollPath A.cloned A.woken A.woken_by_ref A.compared awaiter.now path result × Goes path (as_task (poll_number (position party.old))) party.old party.new }
+        ensures path { (path : List Deed) × PollPath A.cloned A.woken A.woken_by_ref A.compared awaiter.now path result × Did path (as_task (poll_number (position party.old))) party.old party.new }
         ensures ended { saw_ended (deeds party.old) ≡ true → result ≡ TaskPoll.Ready None }
         ensures closed { result ≡ TaskPoll.Ready None → saw_ended (deeds party.new) ≡ true }
     {

@@ -10,7 +10,7 @@ ghost use Rattle.task_laws.specs.Table.{after_giving_up, notifies};
 ghost use Rattle.task_laws.specs.declared.positions.NotifyingCall.TheVariants.{OfRun};
 ghost use Rattle.task_steps.specs.declared.table.Slot.{Slot};
 ghost use Rattle.task_steps.specs.declared.table.Slot.TheVariants.{Empty};
-ghost use Rattle.task_cell.specs.Calls.{Stands, StandsWith, Goes, GoesWith};
+ghost use Rattle.task_cell.specs.Calls.{Stands, StandsWith, Did, DidWith};
 ghost use Rattle.task_steps.specs.Deeds.{act};
 ghost use Rattle.task_cell.specs.RunCalls.{GivesUp, Releases, Rests};
 ghost use Rattle.task_cell.specs.Belongs.{IsBeside, IsOf, Leaves};
@@ -39,7 +39,7 @@ impl<R: Wait + Drop + Copy, F: Yields, Q: Drop, M: Drop, A: Drop, B: Allocator +
         requires place { place < 3 }
         requires cell { IsOf self.now party.old }
         requires party { (at : Position) × (y : Slot F _ A) × (held : List (ℕ × Slot F _ A)) × StandsWith at ((place, y) ∷ held) party.old }
-        ensures { (at : Position) (y : Slot F _ A) (held : List (ℕ × Slot F _ A)) → StandsWith at ((place, y) ∷ held) party.old → GoesWith [] at ((place, Empty) ∷ held) party.old party.new }
+        ensures { (at : Position) (y : Slot F _ A) (held : List (ℕ × Slot F _ A)) → StandsWith at ((place, y) ∷ held) party.old → DidWith [] at ((place, Empty) ∷ held) party.old party.new }
     {
         take_out(&self.block, &mut party.seat, place).discard();
     }
@@ -62,7 +62,7 @@ impl<R: Wait + Drop + Copy, F: Yields, Q: Drop, M: Drop, A: Drop, B: Allocator +
     pub(crate) fn empty(self, party: &mut Party<F, Kept<F>, A>) -> Ledger<R, F, Q, M, A, B>
         requires cell { IsOf self party.old }
         requires party { (hand : Option ℕ) × (answer : Answer) × (y : Slot F _ A) × StandsWith (Emptier hand answer) ((2, y) ∷ []) party.old }
-        ensures path { (hand : Option ℕ) (answer : Answer) (y : Slot F _ A) → StandsWith (Emptier hand answer) ((2, y) ∷ []) party.old → Goes (act EmptySlots ∷ []) (after_giving_up hand answer) party.old party.new }
+        ensures path { (hand : Option ℕ) (answer : Answer) (y : Slot F _ A) → StandsWith (Emptier hand answer) ((2, y) ∷ []) party.old → Did (act EmptySlots ∷ []) (after_giving_up hand answer) party.old party.new }
         ensures ledger { IsBeside result party.new }
     {
         self.clear(party, 2);
@@ -76,7 +76,7 @@ impl<R: Wait + Drop + Copy, F: Yields, Q: Drop, M: Drop, A: Drop, B: Allocator +
     pub(crate) fn empty_at_end(self, party: &mut Party<F, Kept<F>, A>)
         requires cell { IsOf self party.old }
         requires party { (y : Slot F _ A) × StandsWith (Emptier None Nothing) ((2, y) ∷ []) party.old }
-        ensures { Goes (act EmptySlots ∷ act EndCall ∷ []) as_ended party.old party.new }
+        ensures { Did (act EmptySlots ∷ act EndCall ∷ []) as_ended party.old party.new }
     {
         let ledger = self.empty(party);
         ledger.end(party);

@@ -10,7 +10,7 @@ ghost use Rattle.task_steps.specs.declared.table.Deed.{Deed};
 ghost use Rattle.task_steps.specs.Rule.{Waits};
 ghost use Rattle.task_cell.specs.PollPaths.{RegisterPath, Registers, BeginsRegister, EndsRegister, dropped_if};
 ghost use Rattle.task_steps.specs.Standing.{poll_number, as_task};
-ghost use Rattle.task_cell.specs.Calls.{Stands, StandsWith, Goes, GoesWith, position, holds};
+ghost use Rattle.task_cell.specs.Calls.{Stands, StandsWith, Did, DidWith, position, places_of};
 ghost use Rattle.task_steps.specs.Deeds.{row, act};
 ghost use Rattle.task_cell.specs.Belongs.{IsOf};
 
@@ -36,7 +36,7 @@ impl<R: Wait + Drop + Copy, F: Yields, Q: Drop, M: Drop, A: Drop, B: Allocator +
     fn note_refused(&self, party: &mut Party<F, Kept<F>, A>)
         requires cell { IsOf self.now party.old }
         requires party { (i : ℕ) × Stands (Registrar i) party.old }
-        ensures { Goes (act RefuseClone ∷ act EndCall ∷ []) (as_task (poll_number (position party.old))) party.old party.new }
+        ensures { Did (act RefuseClone ∷ act EndCall ∷ []) (as_task (poll_number (position party.old))) party.old party.new }
     {
         self.ledger().note::<Refusing>(party);
     }
@@ -45,7 +45,7 @@ impl<R: Wait + Drop + Copy, F: Yields, Q: Drop, M: Drop, A: Drop, B: Allocator +
     fn note_clone_dropped(&self, party: &mut Party<F, Kept<F>, A>)
         requires cell { IsOf self.now party.old }
         requires party { (i : ℕ) × Stands (UnusedClone i) party.old }
-        ensures { Goes (act DropAwaiter ∷ []) (Looking (poll_number (position party.old))) party.old party.new }
+        ensures { Did (act DropAwaiter ∷ []) (Looking (poll_number (position party.old))) party.old party.new }
     {
         self.ledger().note::<Dropping>(party);
     }
@@ -54,7 +54,7 @@ impl<R: Wait + Drop + Copy, F: Yields, Q: Drop, M: Drop, A: Drop, B: Allocator +
     fn note_clone_woken(&self, party: &mut Party<F, Kept<F>, A>)
         requires cell { IsOf self.now party.old }
         requires party { (i : ℕ) × Stands (CloneInHand i) party.old }
-        ensures { Goes (act WakeAwaiter ∷ []) (Looking (poll_number (position party.old))) party.old party.new }
+        ensures { Did (act WakeAwaiter ∷ []) (Looking (poll_number (position party.old))) party.old party.new }
     {
         self.ledger().note::<Waking>(party);
     }
@@ -63,7 +63,7 @@ impl<R: Wait + Drop + Copy, F: Yields, Q: Drop, M: Drop, A: Drop, B: Allocator +
     fn store(&self, party: &mut Party<F, Kept<F>, A>, clone: Held<A>)
         requires cell { IsOf self.now party.old }
         requires party { (i : ℕ) × (hand : Option ℕ) × (y : Slot F _ A) × StandsWith (after_storing i hand) ((2, y) ∷ []) party.old × Waits hand y }
-        ensures { (stood : Bool) × GoesWith (dropped_if stood) (Registered (poll_number (position party.old))) ((2, Awaiter clone.value) ∷ []) party.old party.new }
+        ensures { (stood : Bool) × DidWith (dropped_if stood) (Registered (poll_number (position party.old))) ((2, Awaiter clone.value) ∷ []) party.old party.new }
     {
         let old = put_awaiter(&self.block, &mut party.seat, clone).into_awaiter();
         if let Some(old) = old {
@@ -76,8 +76,8 @@ impl<R: Wait + Drop + Copy, F: Yields, Q: Drop, M: Drop, A: Drop, B: Allocator +
     fn take_back(&self, party: &mut Party<F, Kept<F>, A>) -> Held<A>
         requires cell { IsOf self.now party.old }
         requires party { (i : ℕ) × (clone : A) × StandsWith (TookBack i) ((2, Awaiter clone) ∷ []) party.old }
-        ensures same { holds party.old ≡ (2, Awaiter result.value) ∷ [] }
-        ensures path { (v : State) × (v.notifying ≡ true) × Goes (row EndRegisterNotified v ∷ []) (CloneInHand (poll_number (position party.old))) party.old party.new }
+        ensures same { places_of party.old ≡ (2, Awaiter result.value) ∷ [] }
+        ensures path { (v : State) × (v.notifying ≡ true) × Did (row EndRegisterNotified v ∷ []) (CloneInHand (poll_number (position party.old))) party.old party.new }
     {
         let Some(clone) = take_out(&self.block, &mut party.seat, 2).into_awaiter() else {
             unreachable!()
@@ -124,7 +124,7 @@ impl<R: Wait + Drop + Copy, F: Yields, Q: Drop, M: Drop, A: Wake, B: Allocator +
         requires cell { IsOf self.now party.old }
         requires party { (i : ℕ) × Stands (Registrar i) party.old }
         requires cloned { A.cloned awaiter.now (Some clone.value) }
-        ensures { (path : List Deed) × RegisterPath A.cloned A.woken A.woken_by_ref awaiter.now path × Goes path (Looking (poll_number (position party.old))) party.old party.new }
+        ensures { (path : List Deed) × RegisterPath A.cloned A.woken A.woken_by_ref awaiter.now path × Did path (Looking (poll_number (position party.old))) party.old party.new }
     {
         if !self.begin_register(party) {
             awaiter.wake_by_ref();

@@ -8,7 +8,7 @@ ghost use Rattle.task_laws.specs.Table.{notifies};
 ghost use Rattle.task_steps.specs.declared.table.Slot.{Slot};
 ghost use Rattle.task_steps.specs.declared.table.Slot.TheVariants.{Empty};
 ghost use Rattle.task_cell.specs.Handed.{HandedOver};
-ghost use Rattle.task_cell.specs.Calls.{StandsWith, Goes, GoesWith, position, limit_of};
+ghost use Rattle.task_cell.specs.Calls.{StandsWith, Did, DidWith, position, limit_of};
 ghost use Rattle.task_steps.specs.Deeds.{row, act};
 ghost use Rattle.task_steps.specs.Standing.{closing_way};
 ghost use Rattle.task_steps.specs.Rule.{IsFuture};
@@ -38,7 +38,7 @@ impl<R: Wait + Drop + Copy, F: Yields, Q: Drop, M: Drop, A: Drop, B: Allocator +
     pub(crate) fn unschedule(&self, party: &mut Party<F, Kept<F>, A>) -> Word
         requires cell { IsOf self.now party.old }
         requires party { (closer : WithoutPoll) × StandsWith (FutureInHand closer) (future_first Empty []) party.old }
-        ensures { Goes (act DropFuture ∷ row Unschedule result ∷ []) (notifies result.awaiter (closing_way (position party.old))) party.old party.new }
+        ensures { Did (act DropFuture ∷ row Unschedule result ∷ []) (notifies result.awaiter (closing_way (position party.old))) party.old party.new }
     {
         self.fetch_and::<Unscheduling>(party, !SCHEDULED)
     }
@@ -113,7 +113,7 @@ impl<R: Wait + Drop + Copy, F: Yields, Q: Drop, M: Drop, A: Wake, B: Allocator +
     pub(crate) fn finish_ready(self, party: &mut Party<F, Kept<F>, A>, output: Held<Kept<F>>)
         requires cell { IsOf self party.old }
         requires party { (y : Slot F _ A) × StandsWith Ready (future_first y []) party.old }
-        ensures { (p : _) (y : Slot F _ A) → GoesWith (act AnswerReady ∷ []) Ready (future_first y []) p party.old → EndsReady ((a : A) × A.woken a) p party.new }
+        ensures { (p : _) (y : Slot F _ A) → DidWith (act AnswerReady ∷ []) Ready (future_first y []) p party.old → EndsReady ((a : A) × A.woken a) p party.new }
     {
         self.clear(party, 0);
         let found = self.store_output(party, output);

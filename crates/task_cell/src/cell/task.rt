@@ -3,7 +3,7 @@ ghost use Rattle.std.specs.Prelude.{◌≡◌, ℕ, ◌∷◌, [], not, true};
 ghost use Rattle.task_core.specs.Word.{State, is_open};
 ghost use Rattle.task_core.specs.declared.acts.Act.TheVariants.{LookFinished, EndCall};
 ghost use Rattle.task_steps.specs.Steps.{saw_over};
-ghost use Rattle.task_cell.specs.Calls.{Stands, Goes, position, deeds};
+ghost use Rattle.task_cell.specs.Calls.{Stands, Did, position, deeds};
 ghost use Rattle.task_steps.specs.Deeds.{row, act};
 ghost use Rattle.task_steps.specs.Standing.{as_task};
 ghost use Rattle.task_cell.specs.Belongs.{IsOf};
@@ -20,7 +20,7 @@ impl<R: Drop, F: Yields, Q: Drop, M: Drop, A: Drop, B: Allocator + Copy> Share<R
     pub fn is_finished(&self, party: &mut Party<F, Kept<F>, A>) -> bool
         requires cell { IsOf self.now party.old }
         requires party { (n : ℕ) × Stands (as_task n) party.old }
-        ensures path { (w : State) × Goes (row LookFinished w ∷ act EndCall ∷ []) (position party.old) party.old party.new × (result ≡ not (is_open w)) }
+        ensures path { (w : State) × Did (row LookFinished w ∷ act EndCall ∷ []) (position party.old) party.old party.new × (result ≡ not (is_open w)) }
         ensures seen { saw_over (deeds party.old) ≡ true → result ≡ true }
     {
         !self.load::<LookingFinished>(party).is_open()

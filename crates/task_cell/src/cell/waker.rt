@@ -102,7 +102,7 @@ impl<R: Wait + Drop + Copy, F: Yields, Q: Drop, M: Drop, A: Wake, B: Allocator +
     pub(crate) fn gain(&self) -> Option<WakerSeat<R, F, Q, M, A, B>>
         ensures { IfSome result (λ gained. cell_of gained.share ≡ cell_of self.now.share) }
     {
-        let (share, party) = self.share.gain_by_reference()?;
+        let (share, party) = self.share.gain_by_reference().0?;
         Some(WakerSeat::owned(share, party))
     }
 }
@@ -110,6 +110,7 @@ impl<R: Wait + Drop + Copy, F: Yields, Q: Drop, M: Drop, A: Wake, B: Allocator +
 /// What wakes a task: a future keeps one, a clone of that which its poll is lent, and wakes it once a further poll can help. It holds a reference.
 ///
 /// The waker that a poll is lent holds none, and is taken back when the poll has answered. No call on a waker waits for another thread.
+#[must_use]
 pub struct TaskWaker<
     R: Wait + Drop + Copy,
     F: Yields,

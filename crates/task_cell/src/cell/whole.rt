@@ -7,7 +7,7 @@ ghost use Rattle.task_steps.specs.declared.table.Slot.{Slot};
 ghost use Rattle.task_steps.specs.Rule.{IsFuture};
 ghost use Rattle.task_steps.specs.Steps.{future_first};
 ghost use Rattle.task_cell.specs.Handed.{HandedOver, PolledOnce};
-ghost use Rattle.task_cell.specs.Calls.{Stands, StandsWith, Goes, GoesWith, limit_of};
+ghost use Rattle.task_cell.specs.Calls.{Stands, StandsWith, Did, DidWith, limit_of};
 ghost use Rattle.task_core.specs.declared.acts.Act.TheVariants.{AnswerReady};
 ghost use Rattle.task_steps.specs.Deeds.{act};
 ghost use Rattle.task_steps.specs.Standing.{as_runnable, as_ended};
@@ -45,7 +45,7 @@ impl<R: Wait + Drop + Copy, F: Yields, Q: Drop, M: Drop, A: Wake, B: Allocator +
         Q: Schedule<Runnable<R, F, Q, M, A, X, B>>,
         requires cell { IsOf self party × (limit_of party ≡ limit_in self) }
         requires party { Stands as_runnable party }
-        ensures path { (path : List Deed) × RunPath (PolledOnce F.polled (cell_of self) around) ((a : A) × A.woken a) (HandedOver Q.scheduled (cell_of self) around) result.1 path × Goes path as_ended party result.0 }
+        ensures path { (path : List Deed) × RunPath (PolledOnce F.polled (cell_of self) around) ((a : A) × A.woken a) (HandedOver Q.scheduled (cell_of self) around) result.1 path × Did path as_ended party result.0 }
     {
         let (party, started) = self.begin_run(party);
         if !started {
@@ -96,7 +96,7 @@ impl<R: Wait + Drop + Copy, F: Yields, Q: Drop, M: Drop, A: Wake, B: Allocator +
     ) -> Party<F, Kept<F>, A>
         requires cell { IsOf self party }
         requires party { (y : Slot F _ A) × StandsWith Ready (future_first y []) party }
-        ensures { (p : _) (y : Slot F _ A) → GoesWith (act AnswerReady ∷ []) Ready (future_first y []) p party → EndsReady ((a : A) × A.woken a) p result }
+        ensures { (p : _) (y : Slot F _ A) → DidWith (act AnswerReady ∷ []) Ready (future_first y []) p party → EndsReady ((a : A) × A.woken a) p result }
     {
         self.finish_ready(&mut party, output);
         party

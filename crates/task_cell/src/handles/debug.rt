@@ -1,10 +1,12 @@
-//! How a task is shown, and a Runnable.
-use crate::cell::{Runnable, Share};
+//! How a task is shown, and each handle of the cell.
+use super::parked::{ParkedRunnable, ParkedWaker};
+use super::stored::StoredWaker;
+use crate::cell::{EndedCall, Runnable, Share, TaskWaker};
 use std::alloc::Allocator;
 use std::fmt;
 use std::sync::Wait;
 use task_core::word::Word;
-use task_core::{Wake, Yields};
+use task_core::{Schedule, Wake, Yields};
 
 // What is shown of a task: its word, as one load finds it, and its metadata.
 #[derive(Drop)]
@@ -58,5 +60,74 @@ impl<
 > fmt::Debug for Runnable<R, F, Q, M, A, X, B> {
     fn fmt<W: fmt::Write>(&self, f: &mut fmt::Formatter<W>) -> fmt::Result {
         self.inner.share.show(f, "Runnable")
+    }
+}
+
+/// Shows the word as one load finds it, and the metadata. No party notes that load.
+impl<
+    R: Wait + Drop + Copy,
+    F: Yields,
+    Q: Drop,
+    M: Drop + fmt::Debug,
+    A: Wake,
+    X: Copy,
+    B: Allocator + Copy,
+> fmt::Debug for TaskWaker<R, F, Q, M, A, X, B>
+where
+    Q: Schedule<Runnable<R, F, Q, M, A, X, B>>,
+{
+    fn fmt<W: fmt::Write>(&self, f: &mut fmt::Formatter<W>) -> fmt::Result {
+        self.inner.share.show(f, "TaskWaker")
+    }
+}
+
+/// Shows the word as one load finds it, and the metadata. No party notes that load.
+impl<
+    R: Wait + Drop + Copy,
+    F: Yields,
+    Q: Drop,
+    M: Drop + fmt::Debug,
+    A: Wake,
+    B: Allocator + Copy,
+> fmt::Debug for StoredWaker<R, F, Q, M, A, B>
+where
+    Q: Schedule<Runnable<R, F, Q, M, A, (), B>>,
+{
+    fn fmt<W: fmt::Write>(&self, f: &mut fmt::Formatter<W>) -> fmt::Result {
+        self.waker.inner.share.show(f, "StoredWaker")
+    }
+}
+
+/// Shows the word as one load finds it, and the metadata. No party notes that load.
+impl<
+    R: Wait + Drop + Copy,
+    F: Yields,
+    Q: Drop,
+    M: Drop + fmt::Debug,
+    A: Wake,
+    B: Allocator + Copy,
+> fmt::Debug for ParkedRunnable<R, F, Q, M, A, B> {
+    fn fmt<W: fmt::Write>(&self, f: &mut fmt::Formatter<W>) -> fmt::Result {
+        self.inner.share.show(f, "ParkedRunnable")
+    }
+}
+
+/// Shows the word as one load finds it, and the metadata. No party notes that load.
+impl<
+    R: Wait + Drop + Copy,
+    F: Yields,
+    Q: Drop,
+    M: Drop + fmt::Debug,
+    A: Wake,
+    B: Allocator + Copy,
+> fmt::Debug for ParkedWaker<R, F, Q, M, A, B> {
+    fn fmt<W: fmt::Write>(&self, f: &mut fmt::Formatter<W>) -> fmt::Result {
+        self.inner.share.show(f, "ParkedWaker")
+    }
+}
+
+impl<F, T, A> fmt::Debug for EndedCall<F, T, A> {
+    fn fmt<W: fmt::Write>(&self, f: &mut fmt::Formatter<W>) -> fmt::Result {
+        f.write_str("EndedCall")
     }
 }

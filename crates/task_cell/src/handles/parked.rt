@@ -11,6 +11,7 @@ use std::sync::Wait;
 use task_core::{Schedule, Wake, Yields};
 
 /// A Runnable without the surroundings. It counts as the Runnable, and can't be dropped: it is unparked.
+#[must_use]
 pub struct ParkedRunnable<R, F: Yields, Q, M, A, B: Allocator + Copy = Global> {
     pub(crate) inner: RunnableSeat<R, F, Q, M, A, B>,
 }
@@ -41,6 +42,7 @@ impl<
 }
 
 /// A waker without the surroundings. It counts as the waker, and can't be dropped: it is unparked.
+#[must_use]
 pub struct ParkedWaker<R, F: Yields, Q, M, A, B: Allocator + Copy = Global> {
     pub(crate) inner: WakerSeat<R, F, Q, M, A, B>,
 }

@@ -2,15 +2,17 @@
 ghost use Rattle.std.specs.Prelude.{◌≡◌, IfSome, List, false};
 ghost use Rattle.task_steps.specs.declared.table.Deed.{Deed};
 ghost use Rattle.task_cell.specs.Handed.{HandedOver, PolledOnce};
+ghost use Rattle.task_cell.specs.RunCalls.{Discards};
 ghost use Rattle.task_cell.specs.RunPaths.{RunPath};
 ghost use Rattle.task_cell.specs.Belongs.{cell_of};
 
 use super::parked::ParkedRunnable;
 use crate::cell::waker::WakerSeat;
-use crate::cell::{Runnable, TaskWaker};
+use crate::cell::{EndedCall, Runnable, TaskWaker};
 use std::alloc::Allocator;
 use std::sync::Wait;
 use task_core::{Future, Schedule, Wake, Yields};
+use task_steps::table::Kept;
 
 impl<
     R: Wait + Drop + Copy,
@@ -42,7 +44,7 @@ impl<
         ensures cell { IfSome result (λ waker. cell_of waker.inner.share ≡ cell_of self.now.inner.share) }
         ensures around { IfSome result (λ waker. waker.around ≡ self.now.around) }
     {
-        let (share, party) = self.inner.share.gain_by_reference()?;
+        let (share, party) = self.inner.share.gain_by_reference().0?;
         Some(TaskWaker {
             inner: WakerSeat::owned(share, party),
             around: self.around,
@@ -50,8 +52,13 @@ impl<
     }
 
     /// Does what a drop does: the task is closed, its future is dropped, and an awaiter that waits is woken.
-    pub fn discard(self) {
-        drop(self);
+    pub fn discard(self) -> EndedCall<F, Kept<F>, A>
+        ensures path { Discards ((a : A) × A.woken a) self.inner.party result.party }
+    {
+        let (inner, _) = self.into_parts();
+        let (share, mut party) = inner.into_party();
+        share.discard_runnable(&mut party);
+        party.let_go()
     }
 
     /// The same handle without the surroundings. It makes no step.

@@ -1,11 +1,14 @@
 //! The calls of a waker.
-ghost use Rattle.std.specs.Prelude.{◌≡◌, ⊤, false, IfSome};
-ghost use Rattle.task_steps.specs.Standing.{as_lent};
-ghost use Rattle.task_cell.specs.Belongs.{IsOf, cell_of, limit_in};
-ghost use Rattle.task_cell.specs.Calls.{Sees, Stands, limit_of};
+ghost use Rattle.std.specs.Prelude.{◌≡◌, ⊤, List, [], false, IfSome};
+ghost use Rattle.task_steps.specs.declared.table.Deed.{Deed};
+ghost use Rattle.task_cell.specs.Belongs.{HasMade, IsOf, cell_of, limit_in};
+ghost use Rattle.task_cell.specs.Calls.{Sees, limit_of, second};
+ghost use Rattle.task_cell.specs.Handed.{HandedOver};
+ghost use Rattle.task_cell.specs.WakerPaths.{WakeCallPath, WakesTask};
 
 use super::parked::ParkedWaker;
-use crate::cell::{Party, Runnable, TaskWaker};
+use super::stored::StoredWaker;
+use crate::cell::{EndedCall, Party, Runnable, Share, TaskWaker};
 use std::alloc::Allocator;
 use std::sync::Wait;
 use task_core::word::Word;
@@ -25,21 +28,22 @@ where
     Q: Schedule<Runnable<R, F, Q, M, A, X, B>>,
 {
     /// Wakes the task, and gives the waker up: `wake_by_ref`, and then a drop. By a waker whose surroundings are `()` it cancels the task where the schedule value drops Runnables without an executor.
-    pub fn wake(self) {
-        self.wake_by_ref();
+    pub fn wake(self) -> EndedCall<F, Kept<F>, A>
+        ensures path { (path : List Deed) × WakeCallPath (HandedOver Q.scheduled (cell_of self.inner.share) self.around false) path × HasMade self.inner.share path result.party }
+    {
+        let woken = self.wake_by_ref();
         drop(self);
+        woken
     }
 
     /// Wakes the task. A task that is over stays as it is; one that is scheduled will be polled after this call; one that runs is scheduled once more by its run; and of one that is idle, a Runnable is handed to the schedule value, with `woken_while_running` false and the surroundings of this waker. Where these are `()`, and the schedule value drops such Runnables, the task is cancelled.
-    pub fn wake_by_ref(&self) {
+    pub fn wake_by_ref(&self) -> EndedCall<F, Kept<F>, A>
+        ensures path { (path : List Deed) × WakeCallPath (HandedOver Q.scheduled (cell_of self.now.inner.share) self.now.around false) path × HasMade self.now.inner.share path result.party }
+    {
         let share = &self.inner.share;
         let (word, mut party) = share.borrow();
         match share.try_wake(&mut party, word) {
-            Ok(None) => party.give_back(),
-            Ok(Some(woken)) => {
-                party.give_back();
-                share.finish_wake(woken.0, woken.1, self.around);
-            }
+            Ok(woken) => self.end_wake(party, woken),
             Err(found) => self.wake_again(party, found),
         }
     }
@@ -47,15 +51,32 @@ where
     // A wake whose first try has missed, and has left this word. It stands apart, so that a wake that is made at once calls nothing that may wait, but the schedule value.
     #[cold]
     #[inline(never)]
-    fn wake_again(&self, mut party: Party<F, Kept<F>, A>, word: Word)
+    fn wake_again(&self, mut party: Party<F, Kept<F>, A>, word: Word) -> EndedCall<F, Kept<F>, A>
         requires cell { IsOf self.now.inner.share party × (limit_of party ≡ limit_in self.now.inner.share) }
-        requires party { (p : _) × Stands as_lent p × Sees word p party }
+        requires party { (p : _) × HasMade self.now.inner.share [] p × Sees word p party }
+        ensures path { (path : List Deed) × WakeCallPath (HandedOver Q.scheduled (cell_of self.now.inner.share) self.now.around false) path × HasMade self.now.inner.share path result.party }
     {
-        let share = &self.inner.share;
-        let woken = share.wake_again(&mut party, word);
-        party.give_back();
-        if let Some(woken) = woken {
-            share.finish_wake(woken.0, woken.1, self.around);
+        let woken = self.inner.share.wake_again(&mut party, word);
+        self.end_wake(party, woken)
+    }
+
+    // What a wake leaves to be done, after its step: the Runnable of a task that was idle goes to the schedule value.
+    #[inline(always)]
+    fn end_wake(
+        &self,
+        party: Party<F, Kept<F>, A>,
+        woken: Option<(Share<R, F, Q, M, A, B>, Party<F, Kept<F>, A>)>,
+    ) -> EndedCall<F, Kept<F>, A>
+        requires party { (p : _) × HasMade self.now.inner.share [] p × WakesTask p party (second woken) }
+        requires share { IfSome woken (λ made. cell_of made.0 ≡ cell_of self.now.inner.share) }
+        ensures path { (path : List Deed) × WakeCallPath (HandedOver Q.scheduled (cell_of self.now.inner.share) self.now.around false) path × HasMade self.now.inner.share path result.party }
+    {
+        match woken {
+            None => party.give_back(),
+            Some((share, deliverer)) => {
+                self.inner.share.finish_wake(share, deliverer, self.around);
+                party.give_back()
+            }
         }
     }
 
@@ -99,10 +120,19 @@ where
         ParkedWaker { inner }
     }
 
+    /// The same waker as a store keeps it, which cannot wake. It makes no step.
+    pub fn stored(self) -> StoredWaker<R, F, Q, M, A, B>
+    where
+        Q: Schedule<Runnable<R, F, Q, M, A, (), B>>,
+        ensures { result.waker.inner ≡ self.inner }
+    {
+        StoredWaker::new(self.with_around(()))
+    }
+
     /// The same waker with other surroundings. It makes no step.
     ///
     /// A wake by it, and the drop of the last waker, hand their Runnable over with these surroundings. With `()` any container holds the waker, but the schedule value then has no executor at hand:
-    /// where it drops such Runnables, a wake cancels the task. So give a waker its executor again before you wake it.
+    /// where it drops such Runnables, a wake cancels the task: a store keeps `stored`, which cannot wake.
     pub fn with_around<Y: Copy>(self, around: Y) -> TaskWaker<R, F, Q, M, A, Y, B>
     where
         Q: Schedule<Runnable<R, F, Q, M, A, Y, B>>,

@@ -1,6 +1,10 @@
 use Rattle.std.proofs.Common.{rules}
-use Rattle.work_queues.proofs.Slots.{still_has}
+use Rattle.work_queues.specs.Shelf.{IsShelved}
+use Rattle.work_queues.proofs.Locking.{lends, shelves_again}
 use Rattle.work_queues.proofs.board.Board.take_half.Goals as goal
 
-pub give_back-requires-clause-queue : goal.give_back-requires-clause-queue
-give_back-requires-clause-queue g c = (search rules, still_has _ _ _ _ c.take_half_at.ensures.order c.lock-visit.ensures.1)
+pub slot_mut-held-requires : goal.slot_mut-held-requires
+slot_mut-held-requires g c = (search rules, lends _ _ _ c.lock-visit.ensures.2)
+
+pub unlock-requires-clause-held : goal.unlock-requires-clause-held
+unlock-requires-clause-held g c = shelves_again IsShelved _ _ _ _ c.publish-woken.new.self c.lock-visit.ensures.2 (search rules)

@@ -2,7 +2,7 @@ use Rattle.task_cell.proofs.Vocabulary.{◌∷◌, [], refl, ◌∙◌, OutputIn
 use Rattle.task_steps.proofs.RunOwed.{drops_output}
 use Rattle.task_cell.proofs.Steps.{may_make}
 use Rattle.task_cell.proofs.RunGoes.{dropped_output}
-use Rattle.task_cell.proofs.Moved.{stands, goes_on}
+use Rattle.task_cell.proofs.Moved.{stands, did_then}
 use Rattle.task_cell.proofs.cell.block.Share.drop_output.Goals as goal
 
 pub load-requires-clause-cell : goal.load-requires-clause-cell
@@ -14,5 +14,5 @@ load-requires-clause-allowed g c = let s = c.requires.party in let x = c.clear.e
 
 pub returns : goal.returns
 returns g c = λ due z s. let x = c.clear.ensures (OutputInHand due) z ((0, Empty) ∷ []) s in
-    goes_on c.args.party.now c.clear.new.party c.load.new.party [] (act DropOutput ∷ []) (OutputInHand due) (notifies due OfRun) (output_first Empty []) [] x
+    did_then c.args.party.now c.clear.new.party c.load.new.party [] (act DropOutput ∷ []) (OutputInHand due) (notifies due OfRun) (output_first Empty []) [] x
     (dropped_output due c.clear.new.party c.load.new.party c.load.result (stands c.args.party.now c.clear.new.party [] (OutputInHand due) (output_first Empty []) x) c.load.ensures.cell c.load.ensures.made)

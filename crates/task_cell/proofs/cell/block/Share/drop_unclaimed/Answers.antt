@@ -3,7 +3,7 @@ use Rattle.task_cell.proofs.Vocabulary.{gives_task_up}
 use Rattle.task_cell.proofs.Steps.{may_give_up}
 use Rattle.task_steps.proofs.Handles.{gives_task}
 use Rattle.task_cell.proofs.Sharing.{left_by_last}
-use Rattle.task_cell.proofs.Moved.{stands, goes_on}
+use Rattle.task_cell.proofs.Moved.{stands, did_then}
 use Rattle.task_cell.proofs.TaskMoves.{gives_rest}
 use Rattle.task_cell.proofs.cell.block.Share.drop_unclaimed.Goals as goal
 
@@ -19,12 +19,12 @@ give-found-requires-clause-cell g c = let s = c.requires.party in c.note_output_
 
 pub give-found-requires-clause-allowed : goal.give-found-requires-clause-allowed
 give-found-requires-clause-allowed g c = let s = c.requires.party in let put = c.clear.ensures OutputCloser s.0 ((0, Empty) ∷ []) s.1 in
-    let d = goes_on c.args.party.now c.clear.new.party c.note_output_dropped.new.party [] (act DropOutput ∷ []) OutputCloser Detacher (output_first Empty []) [] put c.note_output_dropped.ensures in
+    let d = did_then c.args.party.now c.clear.new.party c.note_output_dropped.new.party [] (act DropOutput ∷ []) OutputCloser Detacher (output_first Empty []) [] put c.note_output_dropped.ensures in
     may_give_up _ c.note_output_dropped.new.party Detacher [] _ _ _ (stands c.args.party.now c.note_output_dropped.new.party (act DropOutput ∷ []) Detacher [] d) (gives_task_up _ _ _ _ _ _ _ (ap (λ m. saw_closed (head_of m.0.members).deeds) d.is ∙ s.2)) (gives_task _ _ _)
 
 pub returns-clause-path : goal.returns-clause-path
 returns-clause-path g c = let s = c.requires.party in let put = c.clear.ensures OutputCloser s.0 ((0, Empty) ∷ []) s.1 in let given = c.give-found.ensures in
-    let d = goes_on c.args.party.now c.clear.new.party c.note_output_dropped.new.party [] (act DropOutput ∷ []) OutputCloser Detacher (output_first Empty []) [] put c.note_output_dropped.ensures in
+    let d = did_then c.args.party.now c.clear.new.party c.note_output_dropped.new.party [] (act DropOutput ∷ []) OutputCloser Detacher (output_first Empty []) [] put c.note_output_dropped.ensures in
     subst (λ k. GivesTaskUp c.args.party.now c.give-found.new.party (nat_eq k 0)) (sym c.references.ensures)
     (gives_rest c.args.party.now c.note_output_dropped.new.party c.give-found.new.party _ d given.cell (given.knows.closed (ap (λ m. saw_closed (head_of m.0.members).deeds) d.is ∙ s.2)) given.made)
 

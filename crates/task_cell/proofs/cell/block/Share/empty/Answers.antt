@@ -2,7 +2,7 @@ use Rattle.task_cell.proofs.Vocabulary.{◌∷◌, [], refl, ap, sym, ◌∙◌,
 use Rattle.task_steps.specs.Shares.{has_emptied}
 use Rattle.task_cell.proofs.Steps.{may_make}
 use Rattle.task_cell.proofs.RunGoes.{emptied}
-use Rattle.task_cell.proofs.Moved.{stands, goes_on}
+use Rattle.task_cell.proofs.Moved.{stands, did_then}
 use Rattle.task_cell.proofs.cell.block.Share.empty.Goals as goal
 
 pub load-requires-clause-cell : goal.load-requires-clause-cell
@@ -25,7 +25,7 @@ close-requires-clause-last g c = let s = c.requires.party in let x = c.clear.ens
 
 pub returns-clause-path : goal.returns-clause-path
 returns-clause-path g c = λ hand answer y s. let x = c.clear.ensures (Emptier hand answer) y [] s in let p = c.close.ensures.party in
-    let z = goes_on c.args.party.now c.clear.new.party c.load.new.party [] (act EmptySlots ∷ []) (Emptier hand answer) (after_giving_up hand answer) ((2, Empty) ∷ []) [] x
+    let z = did_then c.args.party.now c.clear.new.party c.load.new.party [] (act EmptySlots ∷ []) (Emptier hand answer) (after_giving_up hand answer) ((2, Empty) ∷ []) [] x
     (emptied hand answer Empty c.clear.new.party c.load.new.party c.load.result (stands c.args.party.now c.clear.new.party [] (Emptier hand answer) ((2, Empty) ∷ []) x) c.load.ensures.cell c.load.ensures.made) in
     record { cell = p.0 ∙ z.cell; is = p.1 ∙ z.is }
 

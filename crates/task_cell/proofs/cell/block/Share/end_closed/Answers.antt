@@ -1,7 +1,7 @@
 use Rattle.task_cell.proofs.Vocabulary.{◌∙◌, ◌∷◌, [], refl, OfRun, PendingFutureDropped, EndClosed, Empty, notifies, row, future_first, ends_closed}
 use Rattle.task_cell.proofs.Steps.{may_make}
 use Rattle.task_cell.proofs.RunGoes.{ended_closed}
-use Rattle.task_cell.proofs.Moved.{stands, goes_on}
+use Rattle.task_cell.proofs.Moved.{stands, did_then}
 use Rattle.task_cell.proofs.cell.block.Share.end_closed.Goals as goal
 
 pub fetch_and-requires-clause-cell : goal.fetch_and-requires-clause-cell
@@ -14,4 +14,4 @@ fetch_and-requires-clause-allowed g c = let s = c.requires.party in let x = c.cl
 pub returns : goal.returns
 returns g c = let s = c.requires.party in let x = c.clear.ensures PendingFutureDropped s.0 ((1, Empty) ∷ []) s.1 in let w = c.fetch_and.result in
     let e = ended_closed c.clear.new.party c.fetch_and.new.party w (stands c.args.party.now c.clear.new.party [] PendingFutureDropped (future_first Empty []) x) c.fetch_and.ensures.cell c.fetch_and.ensures.made in
-    (e.0, goes_on c.args.party.now c.clear.new.party c.fetch_and.new.party [] (row EndClosed w ∷ []) PendingFutureDropped (notifies w.awaiter OfRun) (future_first Empty []) [] x e.1)
+    (e.0, did_then c.args.party.now c.clear.new.party c.fetch_and.new.party [] (row EndClosed w ∷ []) PendingFutureDropped (notifies w.awaiter OfRun) (future_first Empty []) [] x e.1)

@@ -5,11 +5,11 @@ use Rattle.task_cell.proofs.Running.{shut, started, noted_cell, noted_limit, not
 use Rattle.task_cell.proofs.cell.block.Share.run.Goals as goal
 
 pub end_closed_run-requires-clause-cell : goal.end_closed_run-requires-clause-cell
-end_closed_run-requires-clause-cell g c = let s = shut c.args.party c.begin_run-party.result.0 c.begin_run-party.result.1 c.begin_run-party.ensures c.if-not-started.true in s.goes.cell ∙ c.requires.cell.0
+end_closed_run-requires-clause-cell g c = let s = shut c.args.party c.begin_run-party.result.0 c.begin_run-party.result.1 c.begin_run-party.ensures c.if-not-started.true in s.did.cell ∙ c.requires.cell.0
 
 pub end_closed_run-requires-clause-party : goal.end_closed_run-requires-clause-party
 end_closed_run-requires-clause-party g c = let s = shut c.args.party c.begin_run-party.result.0 c.begin_run-party.result.1 c.begin_run-party.ensures c.if-not-started.true in
-    (s.place, stands c.args.party c.begin_run-party.result.0 _ _ _ s.goes)
+    (s.place, stands c.args.party c.begin_run-party.result.0 _ _ _ s.did)
 
 pub returns-then-not-started : goal.returns-then-not-started
 returns-then-not-started g c = let s = shut c.args.party c.begin_run-party.result.0 c.begin_run-party.result.1 c.begin_run-party.ensures c.if-not-started.true in
@@ -17,19 +17,19 @@ returns-then-not-started g c = let s = shut c.args.party c.begin_run-party.resul
 
 pub poll_future-share-requires-clause-cell : goal.poll_future-share-requires-clause-cell
 poll_future-share-requires-clause-cell g c = let s = started c.args.party c.begin_run-party.result.0 c.begin_run-party.result.1 c.begin_run-party.ensures c.if-not-started.false in
-    s.goes.cell ∙ c.requires.cell.0
+    s.did.cell ∙ c.requires.cell.0
 
 pub poll_future-share-requires-clause-limit : goal.poll_future-share-requires-clause-limit
 poll_future-share-requires-clause-limit g c = let s = started c.args.party c.begin_run-party.result.0 c.begin_run-party.result.1 c.begin_run-party.ensures c.if-not-started.false in
-    limit_is _ _ _ _ _ s.goes ∙ c.requires.cell.1
+    limit_is _ _ _ _ _ s.did ∙ c.requires.cell.1
 
 pub poll_future-share-requires-clause-party : goal.poll_future-share-requires-clause-party
 poll_future-share-requires-clause-party g c = let s = started c.args.party c.begin_run-party.result.0 c.begin_run-party.result.1 c.begin_run-party.ensures c.if-not-started.false in
-    (s.place, stands c.args.party c.begin_run-party.result.0 _ _ _ s.goes, s.future)
+    (s.place, stands c.args.party c.begin_run-party.result.0 _ _ _ s.did, s.future)
 
 pub end_ready_run-ended-requires-clause-cell : goal.end_ready_run-ended-requires-clause-cell
 end_ready_run-ended-requires-clause-cell g c = let s = started c.args.party c.begin_run-party.result.0 c.begin_run-party.result.1 c.begin_run-party.ensures c.if-not-started.false in let p = c.poll_future-share.ensures in
-    noted_cell _ _ _ _ _ p.once.3 ∙ (s.goes.cell ∙ (c.requires.cell.0 ∙ ap (λ z. z.block.id) (sym p.share)))
+    noted_cell _ _ _ _ _ p.once.3 ∙ (s.did.cell ∙ (c.requires.cell.0 ∙ ap (λ z. z.block.id) (sym p.share)))
 
 pub end_ready_run-ended-requires-clause-party : goal.end_ready_run-ended-requires-clause-party
 end_ready_run-ended-requires-clause-party g c = let p = c.poll_future-share.ensures in
@@ -44,7 +44,7 @@ returns-in-Ready g c = let s = started c.args.party c.begin_run-party.result.0 c
 
 pub end_pending_run-requires-clause-cell : goal.end_pending_run-requires-clause-cell
 end_pending_run-requires-clause-cell g c = let s = started c.args.party c.begin_run-party.result.0 c.begin_run-party.result.1 c.begin_run-party.ensures c.if-not-started.false in let p = c.poll_future-share.ensures in
-    (noted_cell _ _ _ _ _ p.once.3 ∙ (s.goes.cell ∙ (c.requires.cell.0 ∙ ap (λ z. z.block.id) (sym p.share))), noted_limit _ _ _ _ _ p.once.3 ∙ (limit_is _ _ _ _ _ s.goes ∙ (c.requires.cell.1 ∙ ap (λ z. z.block.key) (sym p.share))))
+    (noted_cell _ _ _ _ _ p.once.3 ∙ (s.did.cell ∙ (c.requires.cell.0 ∙ ap (λ z. z.block.id) (sym p.share))), noted_limit _ _ _ _ _ p.once.3 ∙ (limit_is _ _ _ _ _ s.did ∙ (c.requires.cell.1 ∙ ap (λ z. z.block.key) (sym p.share))))
 
 pub end_pending_run-requires-clause-room : goal.end_pending_run-requires-clause-room
 end_pending_run-requires-clause-room g c = (noted_pending _ _ _ _ _ c.poll_future-share.ensures.once.3 c.in-Pending.is).0

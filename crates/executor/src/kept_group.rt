@@ -1,0 +1,188 @@
+//! A group that a future keeps: its task awaits the next member that ends, in one call.
+ghost use Rattle.std.specs.Prelude.{◌≡◌, ◌↔◌, IfOk, IfErr, IsTrue, OnErr, None};
+ghost use Rattle.slab.specs.Slab.{slab_len};
+ghost use Rattle.task_cell.specs.PollPaths.{IfOutput};
+ghost use Rattle.async_task.specs.HandlePaths.{IfSomeOutput};
+ghost use Rattle.awaiters.specs.Answered.{GivesNone};
+ghost use Rattle.task_group.specs.Members.{Joins, Leaves, SameMembers};
+ghost use Rattle.executor.specs.Looks.{HasNone, IsReady};
+
+use crate::bell_awaiter::BellAwaiter;
+use crate::kept::{keep_task, keep_waker, place_for_task, place_for_waker, poll_kept};
+use crate::pool::{Place, PoolTask, PoolWaker};
+use crate::ringing::{PoolListener, Rings};
+use crate::store::Key;
+use async_task::{TaskClosed, TaskPoll, Wake, Yields};
+use awaiters::{Mailbox, Posts};
+use slab::Slab;
+use std::alloc::Allocator;
+use std::sync::{Arc, Wait};
+use task_group::GroupFull;
+
+/// Tasks of a pool that a task of it awaits, each under a number. The pool keeps the Tasks, so a future of the pool may have this in a field. Dropped, it gives its places back: the tasks that are left are cancelled once a worker collects.
+#[must_use]
+#[derive(Drop)]
+pub struct KeptGroup<R: Wait + Drop + Copy> {
+    own: Key<R>,
+    mailbox: Arc<Mailbox<R, PoolListener<R>>>,
+    members: Slab<()>,
+    // The places of the Tasks, by the numbers of the members.
+    keys: Vec<Key<R>>,
+}
+
+impl<R: Wait + Drop + Copy> KeptGroup<R> {
+    /// An empty group with room for `room` members at a time, or a few more. All its memory and its places are taken here. `place` is `waker.around()` in a poll of the task that awaits. `None` where there was no memory.
+    pub fn new<'x, F: Yields, A: Wake, B: Allocator + Copy>(
+        place: Place<'x, R, F, A, B>,
+        room: usize,
+    ) -> Option<KeptGroup<R>> {
+        let pool = place.0;
+        let members = Slab::with_capacity(pool.alloc(), room).ok()?;
+        let mailbox = Mailbox::new(pool.rt(), pool.alloc(), members.capacity()).ok()?;
+        let mut keys = Vec::new(pool.alloc());
+        for _ in 0..members.capacity() {
+            keys.push(place_for_task(place)?).ok()?;
+        }
+        Some(KeptGroup {
+            own: place_for_waker(place)?,
+            mailbox,
+            members,
+            keys,
+        })
+    }
+
+    /// How many members there are.
+    pub fn len(&self) -> usize
+        ensures { result ≡ slab_len self.now.members }
+    {
+        self.members.len()
+    }
+
+    /// Whether there is no member.
+    pub fn is_empty(&self) -> bool
+        ensures { IsTrue result ↔ (slab_len self.now.members ≡ 0) }
+    {
+        self.members.is_empty()
+    }
+
+    /// Puts a Task in, under a number that no other member has. It asks for no memory. The first `next` after it polls the Task.
+    ///
+    /// An `Err` hands the Task back: the group is full, or of another pool.
+    pub fn push<'x, F: Yields, B: Allocator + Copy>(
+        &mut self,
+        task: PoolTask<'x, R, F, BellAwaiter<R>, B>,
+    ) -> Result<usize, GroupFull<PoolTask<'x, R, F, BellAwaiter<R>, B>>>
+        ensures joins { IfOk result (λ number. Joins self.old.members self.new.members number) }
+        ensures unchanged { OnErr result (self.new.members ≡ self.old.members) }
+        ensures refused { IfErr result (λ error. (error.task.inner ≡ task.entry.inner) × (error.task.around ≡ task.entry.around)) }
+    {
+        if self.members.len() == self.members.capacity() {
+            return Err(GroupFull { task });
+        }
+        let kept = match self.keys.get(self.members.vacant_key()) {
+            Some(key) => keep_task(task, key),
+            None => Err(task),
+        };
+        match kept {
+            Ok(()) => {
+                let number = self.members.insert_reserved(());
+                self.mailbox.post(number);
+                Ok(number)
+            }
+            Err(task) => Err(GroupFull { task }),
+        }
+    }
+
+    /// Takes the next member that has ended out of the group, on behalf of the task of this waker: its number, and what its Task answered. `Ready(None)` where the group is empty. Where it is pending, the task is woken by the next end of a member, and only the members that have ended, or were pushed, since the last call are polled.
+    ///
+    /// `Refused` says that the waker was not kept, or an awaiter was refused: a later call goes on. After a shutdown a member is closed.
+    pub fn next<'x, F: Yields, B: Allocator + Copy>(
+        &mut self,
+        waker: &PoolWaker<'x, R, F, BellAwaiter<R>, B>,
+    ) -> TaskPoll<Option<(usize, Result<F::Output, TaskClosed>)>>
+        ensures meets { IfSomeOutput result (λ ended. IfOk ended.1 (λ output. ∥ F.Yields.meets output ∥₁)) }
+        ensures empty { result ≡ TaskPoll.Ready None ↔ (slab_len self.old.members ≡ 0) }
+        ensures leaves { IfSomeOutput result (λ ended. Leaves self.old.members self.new.members ended.0) }
+        ensures stays { GivesNone result → SameMembers self.old.members self.new.members }
+    {
+        if self.members.is_empty() {
+            return TaskPoll::Ready(None);
+        }
+        if !self.listens(waker) {
+            return TaskPoll::Refused;
+        }
+        for _ in 0..self.members.capacity() {
+            let Some(number) = self.mailbox.take() else {
+                return TaskPoll::Pending;
+            };
+            match self.look(waker.around(), number) {
+                TaskPoll::Ready(answer) => return TaskPoll::Ready(Some((number, answer))),
+                TaskPoll::Refused => return TaskPoll::Refused,
+                TaskPoll::Pending => {}
+            }
+        }
+        TaskPoll::Pending
+    }
+
+    // Keeps the waker, and has the next post wake its task: what was posted before is found by a look after this.
+    fn listens<'x, F: Yields, B: Allocator + Copy>(
+        &self,
+        waker: &PoolWaker<'x, R, F, BellAwaiter<R>, B>,
+    ) -> bool {
+        let pool = waker.around().0;
+        let Some(rings) = Rings::for_kept(pool.bells(), &pool.mail, self.own.number()) else {
+            return false;
+        };
+        if !keep_waker(waker, &self.own) {
+            return false;
+        }
+        self.mailbox.listen(PoolListener { rings });
+        true
+    }
+
+    // Polls the member of this number, if there is one, and takes it out where it has ended. Where the poll is refused, a later call polls it again.
+    fn look<'x, F: Yields, B: Allocator + Copy>(
+        &mut self,
+        place: Place<'x, R, F, BellAwaiter<R>, B>,
+        number: usize,
+    ) -> TaskPoll<Result<F::Output, TaskClosed>>
+        ensures meets { IfOutput result (λ output. ∥ F.Yields.meets output ∥₁) }
+        ensures leaves { IsReady result → Leaves self.old.members self.new.members number }
+        ensures stays { HasNone result → SameMembers self.old.members self.new.members }
+        ensures room { self.new.members.capacity ≡ self.old.members.capacity }
+        ensures len { HasNone result → slab_len self.new.members ≡ slab_len self.old.members }
+    {
+        if self.members.try_remove(number).is_none() {
+            return TaskPoll::Pending;
+        }
+        let polled = self.poll_member(place, number);
+        if matches!(polled, TaskPoll::Ready(_)) {
+            return polled;
+        }
+        self.members.insert_reserved(());
+        if matches!(polled, TaskPoll::Refused) {
+            self.mailbox.post(number);
+        }
+        polled
+    }
+
+    // Polls the Task at the place of this number. Where there is none, a shutdown has dropped it.
+    fn poll_member<'x, F: Yields, B: Allocator + Copy>(
+        &self,
+        place: Place<'x, R, F, BellAwaiter<R>, B>,
+        number: usize,
+    ) -> TaskPoll<Result<F::Output, TaskClosed>>
+        ensures meets { IfOutput result (λ output. ∥ F.Yields.meets output ∥₁) }
+    {
+        let Some(key) = self.keys.get(number) else {
+            return TaskPoll::Refused;
+        };
+        let Some(awaiter) = BellAwaiter::of_mailbox(&self.mailbox, number) else {
+            return TaskPoll::Refused;
+        };
+        match poll_kept(place, key, &awaiter) {
+            Some(answer) => answer,
+            None => TaskPoll::Ready(Err(TaskClosed)),
+        }
+    }
+}

@@ -1,0 +1,119 @@
+//! A notification without a value.
+ghost use Rattle.std.specs.Prelude.{◌≡◌, ⊤, None, true, is_none};
+
+use crate::due::Step;
+use crate::line::Place;
+use crate::notices::Notices;
+use crate::permits::Answer;
+use std::alloc::{AllocError, Global};
+use std::sync::{Arc, Mutex, Wait};
+use task_core::{Future, Poll, Wake, Yields};
+
+/// A handle by which tasks notify each other. All clones notify the same waiters. `W` is the waker of the futures that wait.
+#[derive(Drop)]
+pub struct Notify<R: Wait + Drop + Copy, W: Wake> {
+    rt: R,
+    state: Arc<Mutex<Notices<W>>>,
+}
+
+impl<R: Wait + Drop + Copy, W: Wake> Notify<R, W> {
+    /// A `Notify` without a notification. `rt` is what its calls take the lock by, `alloc` where its memory comes from. So many waiters as `room` says need no memory.
+    ///
+    /// An error says that memory was refused.
+    pub fn new(rt: R, alloc: Global, room: usize) -> Result<Notify<R, W>, AllocError> {
+        let state = Arc::new(alloc, Mutex::new(Notices::new(alloc, room)?))?;
+        Ok(Notify { rt, state })
+    }
+
+    /// A second handle to the same. It asks for no memory. `None` says that there are as many as can be counted.
+    pub fn try_clone(&self) -> Option<Notify<R, W>> {
+        let state = Arc::try_clone(&self.state).ok()?;
+        Some(Notify { rt: self.rt, state })
+    }
+
+    /// Notifies the future that has waited longest. Where none waits, the notification is kept for the next one, unless one is kept already.
+    pub fn notify_one(&self) {
+        let due = self.state.lock(&self.rt).notify_one();
+        due.wake();
+    }
+
+    /// Notifies all futures that wait now: those that were polled. Nothing is kept for later ones.
+    pub fn notify_waiters(&self) {
+        let mut notice = self.state.lock(&self.rt).notify_waiters();
+        for _ in self.rt.forever() {
+            let step = self.state.lock(&self.rt).tell(notice);
+            match step {
+                Step::Next(due, rest) => {
+                    due.wake();
+                    notice = rest;
+                }
+                Step::Done => return,
+            }
+        }
+        unreachable!()
+    }
+
+    /// A future that waits for a notification. It stands in the line from its first poll on.
+    ///
+    /// Where it is dropped after it was notified and before it answered, the notification goes to the next one, as that of `notify_one` does, whichever call it was.
+    pub fn notified(self) -> Notified<R, W> {
+        Notified {
+            rt: self.rt,
+            state: Some(self.state),
+            place: Place::outside(),
+        }
+    }
+}
+
+/// The future of `notified`. Its output is the handle that it was made of.
+pub struct Notified<R: Wait + Drop + Copy, W: Wake> {
+    rt: R,
+    // None once it has answered.
+    state: Option<Arc<Mutex<Notices<W>>>>,
+    place: Place,
+    ghost ended: { is_none state ≡ true → place.number ≡ None },
+}
+
+impl<R: Wait + Drop + Copy, W: Wake> Drop for Notified<R, W> {
+    fn drop(self) {
+        let Notified { rt, state, place } = self;
+        match state {
+            Some(state) => {
+                let (due, spare) = state.lock(&rt).leave(place);
+                due.wake();
+                drop(spare);
+            }
+            None => {
+                place.end();
+            }
+        }
+    }
+}
+
+impl<R: Wait + Drop + Copy, W: Wake> Yields for Notified<R, W> {
+    type Output = Notify<R, W>;
+}
+
+impl<R: Wait + Drop + Copy, W: Wake> Future<W> for Notified<R, W> {
+    ghost polled = { λ _ _ _ _. ⊤ };
+
+    fn poll(&mut self, waker: &W) -> Poll<Notify<R, W>> {
+        let Some(state) = &self.state else {
+            return Poll::Pending;
+        };
+        let own = waker.try_clone();
+        let asked = state.lock(&self.rt).poll_take(&mut self.place, own);
+        match asked.answer {
+            Answer::Taken => {}
+            Answer::Closed | Answer::Waits => return Poll::Pending,
+            Answer::Refused => {
+                waker.wake_by_ref();
+                return Poll::Pending;
+            }
+        }
+        match self.state.take() {
+            Some(state) => Poll::Ready(Notify { rt: self.rt, state }),
+            None => unreachable!(),
+        }
+    }
+}

@@ -1,0 +1,101 @@
+//! A channel for one value.
+ghost use Rattle.std.specs.Prelude.{◌≡◌, ⊤, IfErr};
+
+use crate::due::{ReceiverEnd, SenderEnd, first_ends};
+use crate::single::{Found, Single};
+use std::alloc::{AllocError, Global};
+use std::sync::{Arc, Mutex, Wait};
+use task_core::{Future, Poll, Wake, Yields};
+
+/// The two ends of a oneshot. `rt` is what its calls take the lock by, `alloc` where its memory comes from: one block, made here. `W` is the waker of the future that waits.
+///
+/// An error says that memory was refused.
+pub fn oneshot<R: Wait + Drop + Copy, T: Drop, W: Wake>(
+    rt: R,
+    alloc: Global,
+) -> Result<(OneSender<R, T, W>, OneReceiver<R, T, W>), AllocError> {
+    let state = Arc::new(alloc, Mutex::new(Single::new()))?;
+    let other = Arc::try_clone(&state)?;
+    let (sending, receiving) = first_ends();
+    let sender = OneSender {
+        rt,
+        state,
+        end: Some(sending),
+    };
+    let receiver = OneReceiver {
+        rt,
+        state: other,
+        end: receiving,
+    };
+    Ok((sender, receiver))
+}
+
+/// Sends the value. Where it is dropped without, the receiver is answered `None`.
+pub struct OneSender<R: Wait + Drop + Copy, T: Drop, W: Wake> {
+    rt: R,
+    state: Arc<Mutex<Single<T, W>>>,
+    // None once the value was sent.
+    end: Option<SenderEnd>,
+}
+
+impl<R: Wait + Drop + Copy, T: Drop, W: Wake> OneSender<R, T, W> {
+    /// Sends the value, and wakes who waits for it. It asks for no memory. An error hands the value back, where the receiver is gone.
+    pub fn send(mut self, value: T) -> Result<(), T>
+        ensures { IfErr result (λ back. back ≡ value) }
+    {
+        let Some(end) = self.end.take() else {
+            return Err(value);
+        };
+        let due = self.state.lock(&self.rt).send(end, value)?;
+        due.wake();
+        Ok(())
+    }
+}
+
+impl<R: Wait + Drop + Copy, T: Drop, W: Wake> Drop for OneSender<R, T, W> {
+    fn drop(self) {
+        let OneSender { rt, state, end } = self;
+        if let Some(end) = end {
+            let due = state.lock(&rt).sender_gone(end);
+            due.wake();
+        }
+    }
+}
+
+/// The future of the value: its output is `None` where the sender is gone without it. Where it is dropped, a value that was sent is dropped with it.
+pub struct OneReceiver<R: Wait + Drop + Copy, T: Drop, W: Wake> {
+    rt: R,
+    state: Arc<Mutex<Single<T, W>>>,
+    end: ReceiverEnd,
+}
+
+impl<R: Wait + Drop + Copy, T: Drop, W: Wake> Drop for OneReceiver<R, T, W> {
+    fn drop(self) {
+        let OneReceiver { rt, state, end } = self;
+        let left = state.lock(&rt).receiver_gone(end);
+        drop(left);
+    }
+}
+
+impl<R: Wait + Drop + Copy, T: Drop, W: Wake> Yields for OneReceiver<R, T, W> {
+    type Output = Option<T>;
+}
+
+impl<R: Wait + Drop + Copy, T: Drop, W: Wake> Future<W> for OneReceiver<R, T, W> {
+    ghost polled = { λ _ _ _ _. ⊤ };
+
+    fn poll(&mut self, waker: &W) -> Poll<Option<T>> {
+        let own = waker.try_clone();
+        let (found, spare) = self.state.lock(&self.rt).poll(own);
+        drop(spare);
+        match found {
+            Found::Value(value) => Poll::Ready(Some(value)),
+            Found::Closed => Poll::Ready(None),
+            Found::Waits => Poll::Pending,
+            Found::Refused => {
+                waker.wake_by_ref();
+                Poll::Pending
+            }
+        }
+    }
+}

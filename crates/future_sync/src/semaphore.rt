@@ -1,0 +1,128 @@
+//! A semaphore: permits for so many at a time, and a line for those who wait.
+ghost use Rattle.std.specs.Prelude.{◌≡◌, ⊤, None, true, is_none, IfErr};
+
+use crate::due::Lease;
+use crate::lent::Lent;
+use crate::line::Place;
+use crate::permits::Answer;
+use std::alloc::{AllocError, Global};
+use std::sync::{Arc, Mutex, Wait};
+use task_core::{Future, Poll, Wake, Yields};
+
+/// A handle to a semaphore. All clones share its permits. `W` is the waker of the futures that wait.
+#[derive(Drop)]
+pub struct Semaphore<R: Wait + Drop + Copy, W: Wake> {
+    rt: R,
+    state: Arc<Mutex<Lent<W>>>,
+}
+
+impl<R: Wait + Drop + Copy, W: Wake> Semaphore<R, W> {
+    /// A semaphore with so many permits. `rt` is what its calls take the lock by, `alloc` where its memory comes from. Waiters up to `room` need no memory.
+    ///
+    /// An error says that memory was refused.
+    pub fn new(
+        rt: R,
+        alloc: Global,
+        permits: usize,
+        room: usize,
+    ) -> Result<Semaphore<R, W>, AllocError> {
+        let state = Arc::new(alloc, Mutex::new(Lent::new(alloc, permits, room)?))?;
+        Ok(Semaphore { rt, state })
+    }
+
+    /// A second handle to the same semaphore. It asks for no memory. `None` says that there are as many as can be counted.
+    pub fn try_clone(&self) -> Option<Semaphore<R, W>> {
+        let state = Arc::try_clone(&self.state).ok()?;
+        Some(Semaphore { rt: self.rt, state })
+    }
+
+    /// Takes a permit, if one is free. An error hands the handle back: none is, or others wait.
+    pub fn try_acquire(self) -> Result<Permit<R, W>, Semaphore<R, W>>
+        ensures { IfErr result (λ back. back ≡ self) }
+    {
+        let taken = self.state.lock(&self.rt).try_take();
+        match taken {
+            Some(lease) => Ok(Permit {
+                semaphore: self,
+                lease,
+            }),
+            None => Err(self),
+        }
+    }
+
+    /// A future that waits for a permit. Who waits longest has the next one.
+    pub fn acquire(self) -> Acquire<R, W> {
+        Acquire {
+            rt: self.rt,
+            state: Some(self.state),
+            place: Place::outside(),
+        }
+    }
+}
+
+/// A permit. Its drop gives it back.
+pub struct Permit<R: Wait + Drop + Copy, W: Wake> {
+    semaphore: Semaphore<R, W>,
+    lease: Lease,
+}
+
+impl<R: Wait + Drop + Copy, W: Wake> Drop for Permit<R, W> {
+    fn drop(self) {
+        let Permit { semaphore, lease } = self;
+        let due = semaphore.state.lock(&semaphore.rt).give_back(lease);
+        due.wake();
+    }
+}
+
+/// The future of `acquire`.
+pub struct Acquire<R: Wait + Drop + Copy, W: Wake> {
+    rt: R,
+    state: Option<Arc<Mutex<Lent<W>>>>,
+    place: Place,
+    ghost ended: { is_none state ≡ true → place.number ≡ None },
+}
+
+impl<R: Wait + Drop + Copy, W: Wake> Drop for Acquire<R, W> {
+    fn drop(self) {
+        let Acquire { rt, state, place } = self;
+        match state {
+            Some(state) => {
+                let (due, spare) = state.lock(&rt).leave(place);
+                due.wake();
+                drop(spare);
+            }
+            None => {
+                place.end();
+            }
+        }
+    }
+}
+
+impl<R: Wait + Drop + Copy, W: Wake> Yields for Acquire<R, W> {
+    type Output = Permit<R, W>;
+}
+
+impl<R: Wait + Drop + Copy, W: Wake> Future<W> for Acquire<R, W> {
+    ghost polled = { λ _ _ _ _. ⊤ };
+
+    fn poll(&mut self, waker: &W) -> Poll<Permit<R, W>> {
+        let Some(state) = &self.state else {
+            return Poll::Pending;
+        };
+        let own = waker.try_clone();
+        let (asked, taken) = state.lock(&self.rt).poll_take(&mut self.place, own);
+        if asked.answer == Answer::Refused {
+            waker.wake_by_ref();
+        }
+        let Some(lease) = taken else {
+            return Poll::Pending;
+        };
+        match self.state.take() {
+            Some(state) => Poll::Ready(Permit {
+                semaphore: Semaphore { rt: self.rt, state },
+                lease,
+            }),
+            None => unreachable!(),
+        }
+    }
+}

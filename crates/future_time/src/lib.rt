@@ -1,0 +1,23 @@
+//! Timers for futures of every executor: `sleep`, `sleep_until`, `interval` and `timeout`.
+//! It stands on the traits of `task_core`, on the wheel of the kit's `futures`, and on `slab`.
+//! A user makes `Timers`, has a thread drive them by `run` or calls `fire`, and makes the futures by their methods.
+//! `TimerTable` with what it hands out, `Ticks` and `Waited` are public only to carry the claims.
+//! The page is README.md.
+#![tactic(auto)]
+
+mod entry;
+mod interval;
+mod order;
+mod sleep;
+mod table;
+mod ticks;
+mod timeout;
+mod timers;
+
+pub use entry::{Closing, Due, Elapsed, Entry, Look, Notice, TimerKey};
+pub use interval::{Interval, Tick};
+pub use sleep::{Closed, Sleep};
+pub use table::TimerTable;
+pub use ticks::Ticks;
+pub use timeout::{Refused, Timeout, TimeoutError, Waited};
+pub use timers::{TimerError, Timers};

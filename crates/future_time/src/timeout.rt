@@ -1,0 +1,101 @@
+//! A future that is awaited for so long at most.
+ghost use Rattle.std.specs.Prelude.{◌≡◌, IfOk, IfErr};
+ghost use Rattle.task_core.specs.Poll.{IfReady};
+ghost use Rattle.future_time.specs.Timeouts.{BothPolled, TimeoutPolled};
+
+use crate::entry::Elapsed;
+use crate::sleep::{Closed, Sleep};
+use crate::timers::{TimerError, Timers};
+use std::sync::Wait;
+use std::time::{Clock, Duration};
+use task_core::{Future, Poll, Wake, Yields};
+
+/// Why a timeout has no output of its future.
+#[derive(Clone, Copy, Debug, PartialEq, Eq)]
+pub enum TimeoutError {
+    /// The time is over.
+    Elapsed(Elapsed),
+    /// The timers were closed before.
+    Closed,
+}
+
+/// A future for which there is no timer, handed back.
+#[derive(Drop)]
+pub struct Refused<F> {
+    /// The future, which was not polled.
+    pub future: F,
+    /// Why there is no timer.
+    pub error: TimerError,
+}
+
+// What a timeout has until it is over.
+#[derive(Drop)]
+pub struct Waited<F, S> {
+    pub(crate) future: F,
+    pub(crate) sleep: S,
+}
+
+/// The future of `Timers::timeout`.
+#[derive(Drop)]
+pub struct Timeout<R: Wait + Clock + Drop + Copy, W: Wake, F: Yields> {
+    pub(crate) waited: Option<Waited<F, Sleep<R, W>>>,
+}
+
+impl<R: Wait + Clock + Drop + Copy, W: Wake> Timers<R, W> {
+    /// A future that answers the output of `future`, or an error once so long a time is over, counted from this call. Each poll polls `future` first. At the end the future and the timer are dropped at once.
+    ///
+    /// Its memory is asked for here. Where there is no timer the future is handed back.
+    pub fn timeout<F: Yields>(
+        &self,
+        duration: Duration,
+        future: F,
+    ) -> Result<Timeout<R, W, F>, Refused<F>>
+        ensures future { IfErr result (λ refused. refused.future ≡ future) }
+    {
+        match self.sleep(duration) {
+            Ok(sleep) => Ok(Timeout {
+                waited: Some(Waited { future, sleep }),
+            }),
+            Err(error) => Err(Refused { future, error }),
+        }
+    }
+}
+
+impl<R: Wait + Clock + Drop + Copy, W: Wake, F: Yields> Yields for Timeout<R, W, F> {
+    type Output = Result<F::Output, TimeoutError>;
+
+    ghost meets = { λ output. IfOk output (λ it. ∥ F.Yields.meets it ∥₁) };
+}
+
+// Polls the future, and the timer where that is pending.
+fn poll_both<R: Wait + Clock + Drop + Copy, W: Wake, F: Future<W>>(
+    waited: &mut Waited<F, Sleep<R, W>>,
+    waker: &W,
+) -> Poll<Result<F::Output, TimeoutError>>
+    ensures meets { IfReady result (λ output. IfOk output (λ it. ∥ F.Yields.meets it ∥₁)) }
+    ensures polled { BothPolled F.polled W.cloned W.woken_by_ref waited.old waker.now result waited.new }
+{
+    if let Poll::Ready(output) = waited.future.poll(waker) {
+        return Poll::Ready(Ok(output));
+    }
+    match waited.sleep.poll(waker) {
+        Poll::Ready(Ok(elapsed)) => Poll::Ready(Err(TimeoutError::Elapsed(elapsed))),
+        Poll::Ready(Err(Closed)) => Poll::Ready(Err(TimeoutError::Closed)),
+        Poll::Pending => Poll::Pending,
+    }
+}
+
+impl<R: Wait + Clock + Drop + Copy, W: Wake, F: Future<W>> Future<W> for Timeout<R, W, F> {
+    ghost polled = { λ old waker answer new. TimeoutPolled F.polled W.cloned W.woken_by_ref old.waited waker answer new.waited };
+
+    fn poll(&mut self, waker: &W) -> Poll<Result<F::Output, TimeoutError>> {
+        let Some(waited) = &mut self.waited else {
+            return Poll::Pending;
+        };
+        let answer = poll_both(waited, waker);
+        if let Poll::Ready(_) = answer {
+            self.waited = None;
+        }
+        answer
+    }
+}

@@ -1,0 +1,173 @@
+//! The timers that threads share, and how they are driven.
+ghost use Rattle.std.specs.Prelude.{◌≡◌, ◌+◌, ◌*◌, ◌<◌, ◌≤◌, IfOk, IfSome};
+ghost use Rattle.std.specs.Arc.{arc_value};
+ghost use Rattle.std.specs.Time.{instant_nanos};
+
+use crate::entry::{Due, TimerKey};
+use crate::table::TimerTable;
+use crate::ticks::Ticks;
+use std::alloc::{AllocError, Global};
+use std::sync::{Arc, Condvar, Mutex, Wait};
+use std::time::{Clock, Instant};
+use task_core::Wake;
+
+/// Why there is no timer.
+#[derive(Clone, Copy, Debug, PartialEq, Eq)]
+pub enum TimerError {
+    /// Memory was refused, or the timers have as many owners as can be counted.
+    Refused,
+    /// The clock could not be read, or ends before that time.
+    Clock,
+}
+
+impl From<AllocError> for TimerError {
+    ghost use Rattle.future_time.specs.declared.timers.TimerError.{TimerError};
+
+    ghost from_gives = { λ _ error. error ≡ TimerError.Refused };
+
+    fn from(_: AllocError) -> TimerError {
+        TimerError::Refused
+    }
+}
+
+// What the timers, their futures and their drivers have in common.
+#[derive(Drop)]
+pub(crate) struct Shared<R: Wait + Clock + Drop + Copy, W: Wake> {
+    pub(crate) rt: R,
+    pub(crate) ticks: Ticks,
+    pub(crate) table: Mutex<TimerTable<W>>,
+    pub(crate) earlier: Condvar,
+}
+
+/// Timers for futures that are polled by wakers of type `W`. All owners share one table, under one lock.
+///
+/// They fire only while they are driven: by a thread in `run`, or by a worker that calls `fire`. A tick is a millisecond.
+#[derive(Drop)]
+pub struct Timers<R: Wait + Clock + Drop + Copy, W: Wake> {
+    pub(crate) shared: Arc<Shared<R, W>>,
+}
+
+impl<R: Wait + Clock + Drop + Copy, W: Wake> Timers<R, W> {
+    /// No timers yet. `rt` is what their calls wait by and their clock, `alloc` where their memory comes from.
+    pub fn new(rt: R, alloc: Global) -> Result<Timers<R, W>, TimerError> {
+        let start = Instant::now(&rt).ok().ok_or(TimerError::Clock)?;
+        let table = TimerTable::new(alloc)?;
+        let shared = Shared {
+            rt,
+            ticks: Ticks { start },
+            table: Mutex::new(table),
+            earlier: Condvar::new(),
+        };
+        let shared = Arc::new(alloc, shared).ok().ok_or(TimerError::Refused)?;
+        Ok(Timers { shared })
+    }
+
+    /// One more owner of the same timers. `None` says that there are as many as can be counted.
+    pub fn try_clone(&self) -> Option<Timers<R, W>>
+        ensures { IfSome result (λ other. arc_value other.shared ≡ arc_value self.now.shared) }
+    {
+        let shared = Arc::try_clone(&self.shared).ok()?;
+        Some(Timers { shared })
+    }
+
+    // The time on the clock.
+    pub(crate) fn now(&self) -> Result<Instant, TimerError> {
+        Instant::now(&self.shared.rt).ok().ok_or(TimerError::Clock)
+    }
+
+    // A timer that is due at this tick, and the key of it.
+    pub(crate) fn add(&self, when: u64) -> Result<TimerKey, TimerError>
+        ensures { IfOk result (λ key. key.when ≡ when) }
+    {
+        let made = self.shared.table.lock(&self.shared.rt).add(when);
+        let (key, notice) = made?;
+        notice.tell(&self.shared.earlier);
+        Ok(key)
+    }
+
+    // Ends a timer, and drops the waker that it had.
+    pub(crate) fn remove(&self, key: TimerKey) {
+        let waker = self.shared.table.lock(&self.shared.rt).remove(key);
+        drop(waker);
+    }
+
+    // Wakes the future of each timer that is due at this tick.
+    fn fire_due(&self, now: u64) {
+        for _ in self.shared.rt.forever() {
+            let due = self.shared.table.lock(&self.shared.rt).fire(now);
+            let Some(due) = due else {
+                return;
+            };
+            due.wake();
+        }
+    }
+
+    /// Fires each timer that is due at `now`, in the order of their ticks, and answers the instant at which to call this next: no timer is due before it. `None` where no timer waits.
+    ///
+    /// A timer that is made after this call may be due sooner.
+    pub fn fire(&self, now: Instant) -> Option<Instant> {
+        self.fire_due(self.shared.ticks.tick_at(now));
+        self.next_deadline()
+    }
+
+    /// The instant at which to call `fire` next: no timer is due before it. `None` where no timer waits.
+    pub fn next_deadline(&self) -> Option<Instant> {
+        let next = self.shared.table.lock(&self.shared.rt).next_deadline();
+        self.shared.ticks.instant_of(next?)
+    }
+
+    /// Drives the timers on this thread until they are closed: sleeps until the next deadline, or until a timer is made that is due sooner.
+    ///
+    /// An error says that the clock could not be read: these timers are not driven by this call any more.
+    pub fn run(&self) -> Result<(), TimerError> {
+        for _ in self.shared.rt.forever() {
+            let now = self.now()?;
+            self.fire_due(self.shared.ticks.tick_at(now));
+            if self.rest(now) {
+                return Ok(());
+            }
+        }
+        unreachable!()
+    }
+
+    // Sleeps until the next deadline, or until it is told of an earlier one. True says that the timers are closed.
+    fn rest(&self, now: Instant) -> bool {
+        let mut table = self.shared.table.lock(&self.shared.rt);
+        if table.is_closed() {
+            return true;
+        }
+        match table.rest() {
+            Some(next) => {
+                let left = self.shared.ticks.until(next, now);
+                self.shared
+                    .earlier
+                    .wait_timeout(&self.shared.rt, table, left);
+            }
+            None => {
+                self.shared.earlier.wait(&self.shared.rt, table);
+            }
+        }
+        false
+    }
+
+    /// Closes the timers: each future that still awaits one is woken, and answers `Closed`, as do those that are made from now on. `run` returns.
+    pub fn close(&self) {
+        let (closing, notice) = self.shared.table.lock(&self.shared.rt).close();
+        notice.tell(&self.shared.earlier);
+        let mut closing = closing;
+        for _ in self.shared.rt.forever() {
+            let released = self.shared.table.lock(&self.shared.rt).release(closing);
+            let Some((due, rest)) = released else {
+                return;
+            };
+            due.wake();
+            closing = rest;
+        }
+        unreachable!()
+    }
+
+    /// How many timers there are: one for each future of these timers that is there.
+    pub fn len(&self) -> usize {
+        self.shared.table.lock(&self.shared.rt).len()
+    }
+}

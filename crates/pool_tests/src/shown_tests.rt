@@ -1,0 +1,97 @@
+//! How a pool and what it gives are shown, and what its errors say.
+use crate::calls::{drop_pool, drop_turns, new_guests, new_pool, turns_of};
+use crate::granted::granted;
+use crate::guest::{Errand, Guest, GuestPool};
+use executor::{BellAwaiter, PoolSpawnError, Store, TurnsError, place_for_waker};
+use std::alloc::{AllocError, Global};
+use std::error::Error;
+use std::fmt::Debug;
+use std::io;
+use std::process::Abort;
+use std::sync::Wait;
+
+fn shown<R: Abort, T: Debug>(rt: &R, alloc: Global, value: &T) -> String {
+    granted(rt, format!(in alloc; "{value:?}"))
+}
+
+// The text of an error, and that of its `io::Error`.
+fn told<R: Abort, E: Error>(rt: &R, alloc: Global, error: E) -> [String; 2]
+where
+    io::Error: From<E>,
+{
+    let text = granted(rt, format!(in alloc; "{error}"));
+    [
+        text,
+        granted(rt, format!(in alloc; "{}", io::Error::from(error))),
+    ]
+}
+
+// A pool of two workers, and the turns of the first.
+fn show_pool<R: Wait + Abort + Drop + Copy>(rt: R, alloc: Global) -> [String; 2] {
+    let pool = new_pool(rt, alloc, 2);
+    let turns = turns_of(&pool, 0);
+    let texts = [shown(&rt, alloc, &pool), shown(&rt, alloc, &turns)];
+    drop_turns(turns);
+    drop_pool(pool);
+    texts
+}
+
+#[test]
+fn a_pool_and_its_turns_are_shown(rt: HostRuntime) {
+    let [pool, turns] = show_pool(rt, rt.alloc());
+    assert!(rt; pool.as_str() == "Pool { workers: 2, is_shut_down: false, .. }");
+    assert!(rt; turns.as_str() == "Turns { worker: 0, .. }");
+}
+
+// An awaiter and the bell of a worker.
+fn show_bells<R: Wait + Abort + Drop + Copy>(
+    rt: R,
+    alloc: Global,
+    pool: &GuestPool<R>,
+) -> [String; 2] {
+    let awaiter: BellAwaiter<R> = granted(&rt, BellAwaiter::new(pool, 1).ok_or(AllocError));
+    let turns = turns_of(pool, 0);
+    let bell = granted(&rt, turns.bell().ok_or(AllocError));
+    drop_turns(turns);
+    [shown(&rt, alloc, &awaiter), shown(&rt, alloc, &bell)]
+}
+
+// A key, and a store.
+fn show_places<R: Wait + Abort + Drop + Copy>(
+    rt: R,
+    alloc: Global,
+    pool: &GuestPool<R>,
+) -> [String; 2] {
+    let key = granted(&rt, place_for_waker((pool, 1)).ok_or(AllocError));
+    let store: Store<u64> = granted(&rt, Store::new(alloc));
+    [shown(&rt, alloc, &key), shown(&rt, alloc, &store)]
+}
+
+#[test]
+fn handles_of_a_pool_are_shown(rt: HostRuntime) {
+    let pool = new_pool(rt, rt.alloc(), 2);
+    let [awaiter, bell] = show_bells(rt, rt.alloc(), &pool);
+    let [key, store] = show_places(rt, rt.alloc(), &pool);
+    drop_pool(pool);
+    assert!(rt; awaiter.as_str() == "BellAwaiter { wakes: Worker(1) }");
+    assert!(rt; bell.as_str() == "PoolListener { tells: Worker(0) }");
+    assert!(rt; key.as_str() == "Key { number: 1, .. }" && store.as_str() == "Store { .. }");
+}
+
+// The refusal of a spawn: how it is shown, what it says, and what it says of itself as an `io::Error`.
+fn refused_spawn<R: Wait + Abort + Drop + Copy>(rt: R, alloc: Global) -> (String, [String; 2]) {
+    let guests = new_guests(&rt, alloc, 1);
+    let error = PoolSpawnError {
+        future: granted(&rt, Guest::new(Errand::Stay, &guests)),
+    };
+    (shown(&rt, alloc, &error), told(&rt, alloc, error))
+}
+
+#[test]
+fn errors_of_a_pool_say_why(rt: HostRuntime) {
+    let (shown, [spawn, converted]) = refused_spawn(rt, rt.alloc());
+    let [turns, of_turns] = told(&rt, rt.alloc(), TurnsError::NoSuchWorker);
+    assert!(rt; shown.as_str() == "PoolSpawnError" && spawn.as_str() == "no memory for the task");
+    assert!(rt; converted.as_str() == "out of memory" && of_turns == turns);
+    assert!(rt; turns.as_str() == "the pool has no worker of this number");
+}

@@ -1,0 +1,73 @@
+//! The scripts that are read, and what is printed of each.
+ghost use Rattle.std.specs.Prelude.{◌≤◌, IfOk};
+
+use crate::handles::Handles;
+use crate::log::Log;
+use crate::script::Script;
+use std::alloc::{AllocError, Global};
+use std::io;
+use std::rc::Rc;
+use std::sync::Wait;
+
+/// Plays the scripts that are read from `input`, one a line, and prints a line of what happened in each.
+///
+/// The status is 0 where all were played, 2 where a line is no script, which is told on `err` by its number, and 1 where memory, the reader or a
+/// writer fails, which is told there too.
+pub fn answer<R: Wait + Drop + Copy, I: io::BufRead + Drop, W: io::Write, E: io::Write>(
+    rt: R,
+    alloc: Global,
+    input: I,
+    out: &mut W,
+    err: &mut E,
+) -> u8
+    ensures { result ≤ 2 }
+{
+    match play_lines(rt, alloc, input, out, err) {
+        Ok(status) => status,
+        Err(error) => {
+            let _ = writeln!(err, "replay_calls: {error}");
+            let _ = err.flush();
+            1
+        }
+    }
+}
+
+fn play_lines<R: Wait + Drop + Copy, I: io::BufRead + Drop, W: io::Write, E: io::Write>(
+    rt: R,
+    alloc: Global,
+    input: I,
+    out: &mut W,
+    err: &mut E,
+) -> io::Result<u8>
+    ensures { IfOk result (λ status. status ≤ 2) }
+{
+    let mut number = 0u64;
+    for line in input.lines(alloc) {
+        number = number.saturating_add(1);
+        let line = line?;
+        let Some(script) = Script::read(alloc, line.as_str())? else {
+            out.flush()?;
+            writeln!(err, "line {number}: no script")?;
+            err.flush()?;
+            return Ok(2);
+        };
+        let played = play(rt, alloc, script)?;
+        let played = played.as_str().trim_end();
+        writeln!(out, "{played}")?;
+    }
+    out.flush()?;
+    Ok(0)
+}
+
+// What happens in a script.
+fn play<R: Wait + Drop + Copy>(rt: R, alloc: Global, script: Script) -> Result<String, AllocError> {
+    let Script { way, polls, calls } = script;
+    let log = Rc::new(alloc, Log::new(alloc))?;
+    let handles = Handles::new(alloc, log.clone()?, way, polls)?;
+    handles.spawn(rt)?;
+    for call in calls.iter() {
+        handles.call_outside(*call);
+    }
+    handles.end();
+    log.take()
+}

@@ -1,0 +1,50 @@
+//! What a group refuses.
+use std::fmt;
+use thiserror::Error;
+
+/// A poll of a member was refused its awaiter. The member is still in the group, and a later call of `next` polls it again.
+#[derive(Clone, Copy, Debug, PartialEq, Eq, Error)]
+#[error("the poll of a member was refused its awaiter")]
+pub struct AwaiterRefused;
+
+/// A push was refused, since the group was full. The group is as it was.
+#[derive(Drop, Error)]
+#[error("the group is full")]
+pub struct GroupFull<T> {
+    /// The Task that was not put in.
+    pub task: T,
+}
+
+impl<T> fmt::Debug for GroupFull<T> {
+    fn fmt<W: fmt::Write>(&self, f: &mut fmt::Formatter<W>) -> fmt::Result {
+        f.write_str("GroupFull")
+    }
+}
+
+/// A spawn was refused: the group was full, or there was no memory for the task. The group is as it was, and no task was made.
+#[derive(Drop, Error)]
+#[error("{}", reason(.is_full))]
+pub struct GroupSpawnError<F, Q> {
+    /// Whether the group was full.
+    pub is_full: bool,
+    /// The future that was not spawned.
+    pub future: F,
+    /// The schedule value that came with it.
+    pub schedule: Q,
+}
+
+fn reason(is_full: &bool) -> &'static str {
+    if *is_full {
+        "the group is full"
+    } else {
+        "no memory for the task"
+    }
+}
+
+impl<F, Q> fmt::Debug for GroupSpawnError<F, Q> {
+    fn fmt<W: fmt::Write>(&self, f: &mut fmt::Formatter<W>) -> fmt::Result {
+        f.debug_struct("GroupSpawnError")
+            .field("is_full", &self.is_full)
+            .finish_non_exhaustive()
+    }
+}

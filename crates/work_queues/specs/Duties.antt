@@ -1,0 +1,24 @@
+-- Rights and duties at the bells.
+use Rattle.std.specs.Prelude.{◌≡◌, ℕ, ◌+◌, ◌*◌, ◌<◌, [], if◌then◌else◌}
+use Rattle.atomic_table.specs.Seated.{TableId}
+use Rattle.work_queues.specs.declared.bells.Bells.{Bells}
+use Rattle.work_queues.specs.declared.bells.Flag.{Flag}
+use Rattle.work_queues.specs.declared.bells.Claim.{Claim}
+use Rattle.work_queues.specs.declared.bells.Sleeper.{Sleeper}
+use Rattle.work_queues.specs.Sleep.{padding, has_right}
+
+-- it is the right to the flag of its queue at the bells of this table, which shows what it says, and owes no look
+abbrev pub IsFlagAt : TableId → Flag → Type 0
+IsFlagAt bells flag = (flag.seat.table_id ≡ bells) × (flag.seat.me ≡ (has_right (padding * flag.queue) (if flag.shows then 1 else 0), []))
+
+abbrev pub IsFlag : Bells → Flag → Type 0
+IsFlag bells flag = IsFlagAt bells.table.shared.table_id flag
+
+-- it is the right to be its worker at these bells
+abbrev pub IsClaim : Bells → Claim → Type 0
+IsClaim bells claim = (claim.place.seat.table_id ≡ bells.table.shared.table_id) × (claim.number < bells.workers) × (claim.place.seat.me ≡ (has_right (padding * (bells.workers + 2 + claim.number)) 0, []))
+
+-- it is asleep at these bells
+abbrev pub IsAsleep : Bells → Sleeper → Type 0
+IsAsleep bells sleeper = (sleeper.place.seat.table_id ≡ bells.table.shared.table_id) × (sleeper.worker < bells.workers) × (sleeper.place.seat.me.1 ≡ [])
+    × (sleeper.place.seat.me.0.right ≡ 0) × (sleeper.place.seat.me.0.value ≡ 0) × (sleeper.place.seat.me.0.searching ≡ 0) × (sleeper.place.seat.me.0.asleep ≡ padding * (bells.workers + 2 + sleeper.worker) + 1)

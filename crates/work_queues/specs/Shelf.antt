@@ -1,0 +1,9 @@
+-- What a queue is while it lies in its slot.
+use Rattle.std.specs.Prelude.{◌≡◌, ℕ, ◌*◌, [], false, if◌then◌else◌}
+use Rattle.atomic_table.specs.Seated.{TableId}
+use Rattle.work_queues.specs.declared.queue.Queue.{Queue}
+use Rattle.work_queues.specs.Duties.{IsFlagAt}
+
+-- it has the right to its flag, and is empty if that shows no item
+abbrev pub IsShelved : {T A : Type 0} → TableId → ℕ → Queue T A → Type 0
+IsShelved bells i queue = IsFlagAt bells queue.flag × (queue.flag.queue ≡ i) × (queue.flag.shows ≡ false → queue.items.items ≡ [])

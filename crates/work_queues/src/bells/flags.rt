@@ -1,0 +1,58 @@
+//! The flags of queues.
+ghost use Rattle.std.specs.Prelude.{◌≡◌, ◌≤◌, ◌<◌, false, IfSome};
+ghost use Rattle.work_queues.specs.Duties.{IsFlag};
+
+use super::{Bells, FREE, Flag, HIDDEN, Place, SHOWN, Woken, leave};
+use crate::watch::{Hide, Show, Take};
+
+impl Bells {
+    // The right to the flag of a queue, which shows nothing. `None` where somebody has it.
+    pub(crate) fn take_flag(&self, queue: usize) -> Option<Flag>
+        requires { queue ≤ self.now.workers }
+        ensures { IfSome result (λ flag. IsFlag self.now flag × (flag.queue ≡ queue) × (flag.shows ≡ false)) }
+    {
+        let mut place = self.enter();
+        let word = self.flag_word(queue);
+        let shared = &self.table.shared;
+        if shared.compare_exchange::<Take>(&mut place.seat, word, FREE, HIDDEN) != FREE {
+            leave(place);
+            return None;
+        }
+        let Place { seat } = place;
+        Some(Flag {
+            queue,
+            shows: false,
+            seat,
+        })
+    }
+
+    // The flag shows whether its queue has items. Where it has, a worker is woken, if one sleeps and none searches.
+    pub(crate) fn publish(&self, flag: &mut Flag, has_items: bool) -> Option<Woken>
+        requires { IsFlag self.now flag.old × (flag.old.queue ≤ self.now.workers) }
+        ensures flag { IsFlag self.now flag.new × (flag.new.queue ≡ flag.old.queue) }
+        ensures shows { flag.new.shows ≡ has_items }
+        ensures woken { IfSome result (λ woken. woken.worker < self.now.workers) }
+    {
+        let word = self.flag_word(flag.queue);
+        let shared = &self.table.shared;
+        if has_items {
+            if !flag.shows {
+                shared.store::<Show>(&mut flag.seat, word, SHOWN);
+                flag.shows = true;
+            }
+            return self.call(&mut flag.seat);
+        }
+        if flag.shows {
+            shared.store::<Hide>(&mut flag.seat, word, HIDDEN);
+            flag.shows = false;
+        }
+        None
+    }
+
+    /// Whether the flag of a queue shows items. No seat is needed for a look that nothing is claimed of.
+    pub fn shows(&self, queue: usize) -> bool
+        requires { queue ≤ self.now.workers }
+    {
+        self.table.shared.peek(self.flag_word(queue)) == SHOWN
+    }
+}

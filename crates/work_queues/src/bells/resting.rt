@@ -1,0 +1,135 @@
+//! The search of a worker that found nothing, and its sleep.
+ghost use Rattle.std.specs.Prelude.{◌≡◌, ◌+◌, ◌*◌, ◌<◌, ◌⊎◌, [], true, false, MatchResult};
+ghost use Rattle.work_queues.specs.Duties.{IsClaim, IsAsleep};
+ghost use Rattle.work_queues.specs.Sleep.{padding, owing, sleeps};
+
+use super::{ASLEEP, AWAKE, Bells, Claim, Look, MOST_SLEEPERS, Place, Search, Seat, Sleeper};
+use crate::watch::{BeginSearch, Count, CountNot, EndSearch, GetUp, LieDown};
+use std::sync::Wait;
+use std::time::Duration;
+
+impl Bells {
+    /// Begins a search. `Err` has the looks back, where a worker searches already.
+    pub fn begin_search(&self, look: Look) -> Result<Search, Look>
+        requires { look.place.seat.table_id ≡ self.now.table.shared.table_id }
+        ensures { MatchResult result (λ search. search.place.seat.table_id ≡ self.now.table.shared.table_id) (λ look. look.place.seat.table_id ≡ self.now.table.shared.table_id) }
+    {
+        let Look { mut place } = look;
+        let word = self.searcher_word();
+        let shared = &self.table.shared;
+        if shared.peek(word) != 0 {
+            return Err(Look { place });
+        }
+        if shared.compare_exchange::<BeginSearch>(&mut place.seat, word, 0, 1) != 0 {
+            return Err(Look { place });
+        }
+        Ok(Search { place })
+    }
+
+    /// Ends the search. What was pushed meanwhile woke nobody, so a look is owed.
+    pub fn end_search(&self, search: Search) -> Look
+        requires { search.place.seat.table_id ≡ self.now.table.shared.table_id }
+        ensures { result.place.seat.table_id ≡ self.now.table.shared.table_id }
+    {
+        let Search { mut place } = search;
+        let word = self.searcher_word();
+        self.table
+            .shared
+            .store::<EndSearch>(&mut place.seat, word, 0);
+        Look { place }
+    }
+
+    // Counts the worker as a sleeper. False where no more are counted.
+    fn count<R: Wait>(&self, rt: &R, seat: &mut Seat) -> bool
+        requires { (seat.old.table_id ≡ self.now.table.shared.table_id) × (seat.old.me.0.asleep ≡ 0) }
+        ensures id { seat.new.table_id ≡ seat.old.table_id }
+        ensures counted { result ≡ true → seat.new.me ≡ (sleeps seat.old.me.0 1, seat.old.me.1) }
+        ensures refused { result ≡ false → seat.new.me ≡ seat.old.me }
+    {
+        let word = self.sleepers_word();
+        let shared = &self.table.shared;
+        for _ in rt.forever() {
+            let seen = shared.peek(word);
+            if seen >= MOST_SLEEPERS {
+                return false;
+            }
+            if shared.compare_exchange::<Count>(seat, word, seen, seen + 1) == seen {
+                return true;
+            }
+        }
+        unreachable!()
+    }
+
+    /// How many workers count as sleepers.
+    pub fn sleepers(&self) -> u64 {
+        self.table.shared.peek(self.sleepers_word())
+    }
+
+    /// The worker is asleep from here on, and looks at each flag before it sleeps: `sees_something`. `Err` where an interruption was meant for it, which it has heard.
+    pub fn lie_down<R: Wait>(&self, rt: &R, look: Look, claim: &Claim) -> Result<Sleeper, Look>
+        requires { (look.place.seat.table_id ≡ self.now.table.shared.table_id) × IsClaim self.now claim.now }
+        ensures { MatchResult result (λ sleeper. IsAsleep self.now sleeper × (sleeper.place.seat.me ≡ (owing sleeper.place.seat.me.0, sleeper.place.seat.me.1))) (λ look. look.place.seat.table_id ≡ self.now.table.shared.table_id) }
+    {
+        let Look { mut place } = look;
+        if !self.count(rt, &mut place.seat) {
+            return Err(Look { place });
+        }
+        let worker = claim.number;
+        let word = self.worker_word(worker);
+        let shared = &self.table.shared;
+        if shared.compare_exchange::<LieDown>(&mut place.seat, word, AWAKE, ASLEEP) == AWAKE {
+            return Ok(Sleeper { worker, place });
+        }
+        Err(self.rise(place, worker))
+    }
+
+    // The worker is awake, and counts as no sleeper. It looks once more.
+    fn rise(&self, mut place: Place, worker: usize) -> Look
+        requires at { (place.seat.table_id ≡ self.now.table.shared.table_id) × (worker < self.now.workers) }
+        requires seat { (place.seat.me.1 ≡ []) × (place.seat.me.0.right ≡ 0) × (place.seat.me.0.value ≡ 0) × (place.seat.me.0.searching ≡ 0) }
+        requires asleep { (place.seat.me.0.asleep ≡ 1) ⊎ (place.seat.me.0.asleep ≡ padding * (self.now.workers + 2 + worker) + 1) }
+        ensures { result.place.seat.table_id ≡ self.now.table.shared.table_id }
+    {
+        let word = self.worker_word(worker);
+        self.table
+            .shared
+            .swap::<GetUp>(&mut place.seat, word, AWAKE);
+        let word = self.sleepers_word();
+        self.table
+            .shared
+            .fetch_sub::<CountNot>(&mut place.seat, word, 1);
+        Look { place }
+    }
+
+    /// Looks at each flag, until one shows something.
+    pub fn sees_something(&self, sleeper: &mut Sleeper) -> bool
+        requires { IsAsleep self.now sleeper.old × (sleeper.old.place.seat.me ≡ (owing sleeper.old.place.seat.me.0, sleeper.old.place.seat.me.1)) }
+        ensures same { IsAsleep self.now sleeper.new }
+        ensures none { result ≡ false → sleeper.new.place.seat.me.0.owes ≡ 0 }
+    {
+        self.sees_flag(&mut sleeper.place.seat)
+    }
+
+    /// Sleeps until the worker is woken, or for so long. Only a worker that owes no look may call it. It may also return for no reason.
+    pub fn sleep<R: Wait>(&self, rt: &R, sleeper: &Sleeper, most: Option<Duration>)
+        requires { IsAsleep self.now sleeper.now × (sleeper.now.place.seat.me.0.owes ≡ 0) }
+    {
+        let word = self.worker_word(sleeper.worker);
+        match most {
+            Some(most) => self
+                .table
+                .shared
+                .park_timeout(rt, word, ASLEEP as u32, most),
+            None => self.table.shared.park(rt, word, ASLEEP as u32),
+        }
+    }
+
+    /// Ends the sleep: the worker is awake, and looks once more.
+    pub fn get_up(&self, sleeper: Sleeper) -> Look
+        requires { IsAsleep self.now sleeper }
+        ensures { result.place.seat.table_id ≡ self.now.table.shared.table_id }
+    {
+        let Sleeper { worker, place } = sleeper;
+        self.rise(place, worker)
+    }
+}
