@@ -1,4 +1,4 @@
-//! What the programs `executorbench` and `taskbench` are asked for, what they count, and what they print, without the tasks that they measure;
+//! What the programs `bench_pool` and `bench_task` are asked for, what they count, and what they print, without the tasks that they measure;
 //! and an allocator that counts.
 //! It stands on no other crate.
 //! A user calls nothing of it. The two programs call `report::answer` and `operations::answer`; tests use `counting`.

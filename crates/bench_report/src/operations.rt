@@ -1,4 +1,4 @@
-//! What `taskbench` is asked for, and its answer.
+//! What `bench_task` is asked for, and its answer.
 ghost use Rattle.std.specs.Prelude.{◌≡◌, ◌≤◌, [], IsSome, IfSome};
 ghost use Rattle.bench_report.specs.declared.operations.Command.TheVariants.{DoNothing};
 
@@ -7,7 +7,7 @@ use crate::failure::{Failure, status_of};
 use crate::report::print_name;
 use std::io;
 
-const USAGE: &str = "usage: taskbench [check | run | quick | perform NAME COUNT]";
+const USAGE: &str = "usage: bench_task [check | run | quick | perform NAME COUNT]";
 
 const HELP: &str = "
 Measures the operations of the library, and prints a line for each. Without arguments it does nothing.
@@ -87,7 +87,7 @@ where
     };
     match command {
         Command::DoNothing => 0,
-        _ => status_of("taskbench", act(command), err),
+        _ => status_of("bench_task", act(command), err),
     }
 }
 

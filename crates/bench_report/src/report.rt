@@ -1,4 +1,4 @@
-//! What `executorbench` answers to its arguments, and what it prints.
+//! What `bench_pool` answers to its arguments, and what it prints.
 ghost use Rattle.std.specs.Prelude.{◌≡◌, ◌≤◌};
 ghost use Rattle.bench_report.specs.Arguments.{BeginWithKnownWord};
 
@@ -11,7 +11,7 @@ use std::alloc::Global;
 use std::{fmt, io};
 
 const USAGE: &str =
-    "usage: executorbench [check | run [COUNT] | grow | one EXECUTOR LINE THREADS COUNT]";
+    "usage: bench_pool [check | run [COUNT] | grow | one EXECUTOR LINE THREADS COUNT]";
 
 const HELP: &str = "
 Measures the pool beside the kit's futures: tasks a second, and bytes a task.
@@ -92,7 +92,7 @@ where
         return refuse(err);
     };
     let printed = print(alloc, request, measure, out);
-    status_of("executorbench", printed, err)
+    status_of("bench_pool", printed, err)
 }
 
 /// Refuses the arguments by a line on `err`, which tells the usage. The status is 2.

@@ -1,0 +1,223 @@
+//! Calls of handles of the rows, each in a function of its own that answers plain data. A test sees all that it looks at
+//! by these while its handles live, lets them go, and compares at its end.
+
+use crate::granted::granted;
+use async_task::{Cancel, TaskClosed, TaskPoll};
+use rows_fixtures::fixture::Fixture;
+use rows_fixtures::future::RowFuture;
+use rows_fixtures::surroundings::{RowRunnable, RowTask, RowWaker, Scheduler, Surroundings};
+use rows_values::behaviour::Behaviour;
+use rows_values::flag::Flag;
+use rows_values::output::is_ready_with;
+use std::alloc::Global;
+use std::process::Abort;
+use std::sync::Wait;
+
+/// A Cancel of the rows.
+pub type RowCancel<'x, R> = Cancel<R, RowFuture, Scheduler, (), Flag, &'x Surroundings<R>>;
+
+/// Surroundings of a test's own. Stops where there is no memory.
+pub fn fixture<R: Wait + Abort + Drop + Copy>(rt: R, alloc: Global) -> Fixture<R> {
+    granted(&rt, Fixture::new(rt, alloc))
+}
+
+/// An awaiter of that number. Stops where there is no memory.
+pub fn flag<R: Wait + Abort + Drop + Copy>(fixture: &Fixture<R>, number: u64) -> Flag {
+    granted(&fixture.rt, fixture.flag(number))
+}
+
+/// How often a flag was cloned and woken, and how many of its clones were dropped unwoken.
+pub fn ends_of(flag: &Flag) -> (u64, u64, u64) {
+    (flag.clones(), flag.wakes(), flag.drops())
+}
+
+/// Spawns a task whose future behaves like that. Stops where there is no memory.
+pub fn spawn<'x, R: Wait + Abort + Drop + Copy>(
+    fixture: &'x Fixture<R>,
+    behaviour: Behaviour,
+) -> (RowRunnable<'x, R>, RowTask<'x, R>) {
+    granted(&fixture.rt, fixture.spawn(behaviour))
+}
+
+/// Spawns a task that may have that many references. Stops where there is no memory.
+pub fn spawn_limited<'x, R: Wait + Abort + Drop + Copy>(
+    fixture: &'x Fixture<R>,
+    references: u64,
+) -> (RowRunnable<'x, R>, RowTask<'x, R>) {
+    granted(
+        &fixture.rt,
+        fixture.spawn_limited(Behaviour::Pending, references),
+    )
+}
+
+/// Runs: what the run answers.
+pub fn run<R: Wait + Drop + Copy>(runnable: RowRunnable<'_, R>) -> bool {
+    runnable.run()
+}
+
+/// Runs the Runnable that has waited longest: whether it showed the flags and the count of that word, and what the run answered. Stops where there is none.
+pub fn run_received<R: Wait + Abort + Drop + Copy>(
+    fixture: &Fixture<R>,
+    word: u64,
+) -> (bool, bool) {
+    match fixture.surroundings.receive() {
+        Some(received) => {
+            let shown = runnable_shows(fixture, &received, word);
+            (shown, run(received))
+        }
+        None => panic!(fixture.rt; "nothing was queued"),
+    }
+}
+
+/// Spawns a task whose future behaves like that, and runs it: what the run answered, and its Task. Stops where there is no memory.
+pub fn spawn_and_run<'x, R: Wait + Abort + Drop + Copy>(
+    fixture: &'x Fixture<R>,
+    behaviour: Behaviour,
+) -> (bool, RowTask<'x, R>) {
+    let (runnable, task) = spawn(fixture, behaviour);
+    (run(runnable), task)
+}
+
+/// Runs a pending task: what the run answered, its Task, and a waker.
+pub fn go_idle<'x, R: Wait + Abort + Drop + Copy>(
+    fixture: &'x Fixture<R>,
+) -> (bool, RowTask<'x, R>, RowWaker<'x, R>) {
+    let (runnable, task) = spawn(fixture, Behaviour::Pending);
+    let waker = waker_of(fixture.rt, &runnable);
+    (run(runnable), task, waker)
+}
+
+/// Drops a Runnable.
+pub fn drop_runnable<R: Wait + Drop + Copy>(runnable: RowRunnable<'_, R>) {
+    drop(runnable);
+}
+
+/// Whether a Runnable shows the flags and the count of that word.
+pub fn runnable_shows<R: Wait + Drop + Copy>(
+    fixture: &Fixture<R>,
+    runnable: &RowRunnable<'_, R>,
+    word: u64,
+) -> bool {
+    matches!(fixture.shows(runnable, word), Ok(true))
+}
+
+/// Polls a Task: whether it is pending.
+pub fn is_pending<R: Wait + Drop + Copy>(task: &mut RowTask<'_, R>, awaiter: &Flag) -> bool {
+    matches!(task.poll(awaiter), TaskPoll::Pending)
+}
+
+/// Polls a Task: whether it is ready with that number.
+pub fn is_ready<R: Wait + Drop + Copy>(
+    task: &mut RowTask<'_, R>,
+    awaiter: &Flag,
+    number: u64,
+) -> bool {
+    is_ready_with(&task.poll(awaiter), number)
+}
+
+/// Polls a Task: whether it is closed.
+pub fn is_closed<R: Wait + Drop + Copy>(task: &mut RowTask<'_, R>, awaiter: &Flag) -> bool {
+    matches!(task.poll(awaiter), TaskPoll::Ready(Err(TaskClosed)))
+}
+
+/// Whether the task of a Task is finished.
+pub fn is_finished<R: Wait + Drop + Copy>(task: &mut RowTask<'_, R>) -> bool {
+    task.is_finished()
+}
+
+/// Drops a Task.
+pub fn drop_task<R: Wait + Drop + Copy>(task: RowTask<'_, R>) {
+    drop(task);
+}
+
+/// Detaches a Task.
+pub fn detach<R: Wait + Drop + Copy>(task: RowTask<'_, R>) {
+    task.detach();
+}
+
+/// Discards a Task, or a FallibleTask made of it.
+pub fn discard<R: Wait + Drop + Copy>(task: RowTask<'_, R>, is_fallible: bool) {
+    if is_fallible {
+        task.fallible().discard();
+    } else {
+        task.discard();
+    }
+}
+
+/// Whether a Task shows the flags and the count of that word.
+pub fn task_shows<R: Wait + Drop + Copy>(
+    fixture: &Fixture<R>,
+    task: &RowTask<'_, R>,
+    word: u64,
+) -> bool {
+    matches!(fixture.shows(task, word), Ok(true))
+}
+
+/// Polls a Cancel: whether it is pending, and whether it is ready without an output.
+pub fn poll_cancel<R: Wait + Drop + Copy>(
+    cancel: &mut RowCancel<'_, R>,
+    awaiter: &Flag,
+) -> (bool, bool) {
+    let polled = cancel.poll(awaiter);
+    (
+        matches!(&polled, TaskPoll::Pending),
+        matches!(&polled, TaskPoll::Ready(None)),
+    )
+}
+
+/// Drops a Cancel.
+pub fn drop_cancel<R: Wait + Drop + Copy>(cancel: RowCancel<'_, R>) {
+    drop(cancel);
+}
+
+/// A waker of a Runnable. Stops where it is refused.
+pub fn waker_of<'x, R: Wait + Abort + Drop + Copy>(
+    rt: R,
+    runnable: &RowRunnable<'x, R>,
+) -> RowWaker<'x, R> {
+    match runnable.waker() {
+        Some(waker) => waker,
+        None => panic!(rt; "a waker was refused"),
+    }
+}
+
+/// Whether a Runnable is refused a waker. One that is given is dropped.
+pub fn refuses_waker<R: Wait + Drop + Copy>(runnable: &RowRunnable<'_, R>) -> bool {
+    !drop_given(runnable.waker())
+}
+
+/// A clone of a waker. Stops where it is refused.
+pub fn clone_of<'x, R: Wait + Abort + Drop + Copy>(
+    rt: R,
+    waker: &RowWaker<'x, R>,
+) -> RowWaker<'x, R> {
+    match waker.try_clone() {
+        Some(clone) => clone,
+        None => panic!(rt; "a clone of a waker was refused"),
+    }
+}
+
+/// Whether a waker is refused a clone. One that is given is dropped.
+pub fn refuses_clone<R: Wait + Drop + Copy>(waker: &RowWaker<'_, R>) -> bool {
+    !drop_given(waker.try_clone())
+}
+
+/// Drops a waker, if one was given: whether it was.
+pub fn drop_given<R: Wait + Drop + Copy>(given: Option<RowWaker<'_, R>>) -> bool {
+    given.is_some()
+}
+
+/// Wakes by value.
+pub fn wake<R: Wait + Drop + Copy>(waker: RowWaker<'_, R>) {
+    waker.wake();
+}
+
+/// Wakes by reference.
+pub fn wake_by_ref<R: Wait + Drop + Copy>(waker: &RowWaker<'_, R>) {
+    waker.wake_by_ref();
+}
+
+/// Drops a waker.
+pub fn drop_waker<R: Wait + Drop + Copy>(waker: RowWaker<'_, R>) {
+    drop(waker);
+}

@@ -1,0 +1,32 @@
+//! The tests of the machine as a program (lives of a task, replayed, and each reason to refuse a step), and of what programs are asked for, count and print.
+//! It stands on `replay_printer`, `task_replay`, `bench_report` and `rows_values`. Nothing is public. The page is docs/PROOFS.md.
+#![tactic(auto)]
+
+#[cfg(test)]
+mod count_tests;
+#[cfg(test)]
+mod crowd;
+#[cfg(test)]
+mod execution_tests;
+#[cfg(test)]
+mod limited;
+#[cfg(test)]
+mod lives;
+#[cfg(test)]
+mod operation_tests;
+#[cfg(test)]
+mod player;
+#[cfg(test)]
+mod refusals;
+#[cfg(test)]
+mod replay;
+#[cfg(test)]
+mod row_tests;
+#[cfg(test)]
+mod stops;
+#[cfg(test)]
+mod trace;
+#[cfg(test)]
+mod turns;
+#[cfg(test)]
+mod words;

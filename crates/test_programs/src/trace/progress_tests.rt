@@ -1,0 +1,183 @@
+//! How far each party is in its call: how many steps it has left at most, and an act that it may make now.
+
+use crate::stops::holds;
+use crate::trace::trace_tests::{READY, prints};
+use replay_printer::progress::{act_there, steps_left};
+use replay_printer::row::Shown;
+use task_core::acts::Act;
+use task_core::acts::Act::*;
+use task_core::word::Word;
+use task_laws::positions::Answer::*;
+use task_laws::positions::NotifyingCall::*;
+use task_laws::positions::OnceDelivered::*;
+use task_laws::positions::PollAnswer::*;
+use task_laws::positions::Position::*;
+use task_laws::positions::WithoutPoll::*;
+use task_laws::positions::{Position, Rest};
+
+// The rows of a run whose poll answers Ready, and of the Task that drops afterwards.
+const READY_ROWS: &str = "\
+| 1 | 0 start-run | 0x112 | RUNNING TASK | 1 | party 0 | empty | empty | 0 Starting (13 left, may start-poll), 1 At(Task(0)), 2 At(Lent) |
+| 2 | 0 start-poll | 0x112 | RUNNING TASK | 1 | party 0 | empty | empty | 0 Polling (12 left, may answer-pending), 1 At(Task(0)), 2 At(Lent) |
+| 3 | 0 answer-ready | 0x112 | RUNNING TASK | 1 | party 0 | empty | empty | 0 Ready (11 left, may drop-future), 1 At(Task(0)), 2 At(Lent) |
+| 4 | 0 drop-future | 0x112 | RUNNING TASK | 1 | empty | empty | empty | 0 ReadyFutureDropped (10 left, may store-output), 1 At(Task(0)), 2 At(Lent) |
+| 5 | 0 store-output | 0x112 | RUNNING TASK | 1 | empty | party 0 | empty | 0 OutputStored (9 left, may complete), 1 At(Task(0)), 2 At(Lent) |
+| 6 | 0 complete | 0x114 | COMPLETED TASK | 1 | empty | cell | empty | 0 GivingUp(None, Ran(false)) (3 left, may give-up-reference), 1 At(Task(0)), 2 At(Lent) |
+| 7 | 0 give-up-reference | 0x014 | COMPLETED TASK | 0 | empty | cell | empty | 0 CallEnding(Ran(false), Ended) (1 left, may end-call), 1 At(Task(0)), 2 At(Lent) |
+| 8 | 0 end-call | 0x014 | COMPLETED TASK | 0 | empty | cell | empty | 1 At(Task(0)), 2 At(Lent) |
+| 9 | 1 claim-output | 0x01C | COMPLETED CLOSED TASK | 0 | empty | party 1 | empty | 1 TookOutput(1) (2 left, may hand-out-output), 2 At(Lent) |
+";
+
+// A second poll registers while the Runnable is dropped: the notifier goes on, and the Task takes its clone back.
+const DROPPED: &str = "limit 4
+1 look
+1 clone-awaiter
+1 begin-register
+1 store-awaiter
+1 end-register
+1 look
+1 end-call
+1 look
+1 clone-awaiter
+1 begin-register
+0 discard-open
+0 drop-future
+0 unschedule
+0 miss-notify
+1 store-awaiter
+1 drop-awaiter
+";
+
+const DROPPED_ROWS: &str = "\
+| 1 | 1 look | 0x111 | SCHEDULED TASK | 1 | cell | empty | empty | 0 At(Runnable), 1 Registrar(1) (15 left, may clone-awaiter), 2 At(Lent) |
+| 2 | 1 clone-awaiter | 0x111 | SCHEDULED TASK | 1 | cell | empty | empty | 0 At(Runnable), 1 HasClone(1) (14 left, may begin-register), 2 At(Lent) |
+| 3 | 1 begin-register | 0x151 | SCHEDULED TASK REGISTERING | 1 | cell | empty | empty | 0 At(Runnable), 1 Storing(1) (13 left, may store-awaiter), 2 At(Lent) |
+| 4 | 1 store-awaiter | 0x151 | SCHEDULED TASK REGISTERING | 1 | cell | empty | party 1, of poll 1 | 0 At(Runnable), 1 Registered(1) (11 left, may end-register), 2 At(Lent) |
+| 5 | 1 end-register | 0x131 | SCHEDULED TASK AWAITER | 1 | cell | empty | cell, of poll 1 | 0 At(Runnable), 1 Looking(1) (8 left, may look), 2 At(Lent) |
+| 6 | 1 look | 0x131 | SCHEDULED TASK AWAITER | 1 | cell | empty | cell, of poll 1 | 0 At(Runnable), 1 Answering(1, IsPending) (1 left, may end-call), 2 At(Lent) |
+| 7 | 1 end-call | 0x131 | SCHEDULED TASK AWAITER | 1 | cell | empty | cell, of poll 1 | 0 At(Runnable), 1 At(Task(1)), 2 At(Lent) |
+| 8 | 1 look | 0x131 | SCHEDULED TASK AWAITER | 1 | cell | empty | cell, of poll 1 | 0 At(Runnable), 1 Registrar(2) (15 left, may clone-awaiter), 2 At(Lent) |
+| 9 | 1 clone-awaiter | 0x131 | SCHEDULED TASK AWAITER | 1 | cell | empty | cell, of poll 1 | 0 At(Runnable), 1 HasClone(2) (14 left, may begin-register), 2 At(Lent) |
+| 10 | 1 begin-register | 0x171 | SCHEDULED TASK AWAITER REGISTERING | 1 | cell | empty | party 1, of poll 1 | 0 At(Runnable), 1 Storing(2) (13 left, may store-awaiter), 2 At(Lent) |
+| 11 | 0 discard-open | 0x179 | SCHEDULED CLOSED TASK AWAITER REGISTERING | 1 | party 0 | empty | party 1, of poll 1 | 0 FutureInHand(DroppedRunnable) (9 left, may drop-future), 1 Storing(2) (13 left, may store-awaiter), 2 At(Lent) |
+| 12 | 0 drop-future | 0x179 | SCHEDULED CLOSED TASK AWAITER REGISTERING | 1 | empty | empty | party 1, of poll 1 | 0 FutureGone(DroppedRunnable) (8 left, may unschedule), 1 Storing(2) (13 left, may store-awaiter), 2 At(Lent) |
+| 13 | 0 unschedule | 0x178 | CLOSED TASK AWAITER REGISTERING | 1 | empty | empty | party 1, of poll 1 | 0 Notifier(OfDrop) (7 left, may miss-notify), 1 Storing(2) (13 left, may store-awaiter), 2 At(Lent) |
+| 14 | 0 miss-notify | 0x1F8 | CLOSED TASK AWAITER REGISTERING NOTIFYING | 1 | empty | empty | party 1, of poll 1 | 0 GivingUp(None, Nothing) (3 left, may give-up-reference), 1 Storing(2) (13 left, may store-awaiter), 2 At(Lent) |
+| 15 | 1 store-awaiter | 0x1F8 | CLOSED TASK AWAITER REGISTERING NOTIFYING | 1 | empty | empty | party 1, of poll 2 | 0 GivingUp(None, Nothing) (3 left, may give-up-reference), 1 OldAwaiterInHand(2, 1) (12 left, may drop-awaiter), 2 At(Lent) |
+| 16 | 1 drop-awaiter | 0x1F8 | CLOSED TASK AWAITER REGISTERING NOTIFYING | 1 | empty | empty | party 1, of poll 2 | 0 GivingUp(None, Nothing) (3 left, may give-up-reference), 1 Registered(2) (11 left, may take-awaiter), 2 At(Lent) |
+";
+
+#[test]
+fn a_row_shows_how_far_each_party_is(rt: HostRuntime) {
+    prints(&rt, rt.alloc(), Shown::Progress, READY, READY_ROWS);
+    prints(&rt, rt.alloc(), Shown::Progress, DROPPED, DROPPED_ROWS);
+}
+
+// What the table of steps left tells of each position, with and without an awaiter in hand, and of each way.
+const LEFT: [(Position, u64); 52] = [
+    (At(Rest::Runnable), 0),
+    (At(Rest::Task(1)), 0),
+    (CallEnding(Nothing, Rest::Waker), 1),
+    (Deliverer(false, ThenNotifies(1)), 6),
+    (Deliverer(true, ThenEnds(Ran(true))), 2),
+    (Deliverer(false, ThenTask(1)), 2),
+    (Starting, 13),
+    (Polling, 12),
+    (Ready, 11),
+    (ReadyFutureDropped, 10),
+    (OutputStored, 9),
+    (Pending, 9),
+    (PendingFutureDropped, 8),
+    (FutureInHand(ClosedRun), 9),
+    (FutureGone(DroppedRunnable), 8),
+    (OutputInHand(true), 8),
+    (GivingUp(None, Nothing), 3),
+    (GivingUp(Some(1), Ran(false)), 4),
+    (Emptier(None, Nothing), 2),
+    (Emptier(Some(1), Ran(false)), 3),
+    (Notifier(OfRun), 7),
+    (Notifier(OfDrop), 7),
+    (Notifier(OfCancel(1)), 5),
+    (Notifier(OfPoll(1)), 5),
+    (Notifier(OfClaim(1)), 6),
+    (Taker(OfRun), 6),
+    (Taker(OfDrop), 6),
+    (Taker(OfPoll(1)), 4),
+    (Taker(OfClaim(1)), 5),
+    (Releaser(None, OfRun), 4),
+    (Releaser(Some(1), OfDrop), 5),
+    (Releaser(Some(1), OfCancel(1)), 3),
+    (AwaiterInHand(1, OfRun), 2),
+    (AwaiterInHand(1, OfDrop), 4),
+    (AwaiterInHand(1, OfPoll(2)), 2),
+    (AwaiterInHand(1, OfClaim(2)), 3),
+    (OrphanHolder, 3),
+    (Registrar(1), 15),
+    (HasClone(1), 14),
+    (Storing(1), 13),
+    (OldAwaiterInHand(2, 1), 12),
+    (Registered(1), 11),
+    (TookBack(1), 10),
+    (UnusedClone(1), 9),
+    (CloneInHand(1), 9),
+    (Looking(1), 8),
+    (SawOutput(1), 7),
+    (TookOutput(1), 2),
+    (Answering(1, IsPending), 1),
+    (OutputCloser, 4),
+    (Detacher, 3),
+    (At(Rest::Ended), 0),
+];
+
+#[test]
+fn each_position_has_its_steps_left(rt: HostRuntime) {
+    for &(position, left) in &LEFT {
+        holds(&rt, steps_left(position) == left, &position);
+    }
+}
+
+// A word, where a party stands, and its act: each row asks for such a word.
+const ACTS: [(u64, Position, Act); 30] = [
+    (0x112, CallEnding(Nothing, Rest::Waker), EndCall),
+    (0x112, Starting, StartPoll),
+    (0x112, Polling, AnswerPending),
+    (0x11A, Pending, DropFuture),
+    (0x113, Pending, Reschedule),
+    (0x112, Pending, EndIdle),
+    (0x202, Pending, EndIdle),
+    (0x102, Pending, EndOrphaned),
+    (0x112, OutputStored, Complete),
+    (0x102, OutputStored, CompleteDetached),
+    (0x11A, PendingFutureDropped, EndClosed),
+    (0x119, FutureInHand(ClosedRun), DropFuture),
+    (0x119, FutureGone(ClosedRun), Unschedule),
+    (0x114, OutputInHand(false), DropOutput),
+    (0x118, GivingUp(None, Nothing), GiveUpReference),
+    (0x208, GivingUp(None, Nothing), GiveUpReference),
+    (0x108, GivingUp(None, Nothing), GiveUpLastReference),
+    (0x138, Notifier(OfRun), BeginNotify),
+    (0x178, Notifier(OfRun), MissNotify),
+    (0x1B8, Notifier(OfPoll(1)), MissNotify),
+    (0x1B8, Taker(OfRun), TakeAwaiter),
+    (0x131, HasClone(2), BeginRegister),
+    (0x1B8, HasClone(2), FindNotify),
+    (0x171, Registered(2), EndRegister),
+    (0x1F8, Registered(2), TakeAwaiter),
+    (0x1F8, TookBack(2), EndRegisterNotified),
+    (0x114, SawOutput(1), ClaimOutput),
+    (0x118, Detacher, Detach),
+    (0x018, Detacher, DetachLast),
+    (0x109, Deliverer(false, ThenEnds(Nothing)), HandOver),
+];
+
+#[test]
+fn each_party_in_a_call_has_an_act(rt: HostRuntime) {
+    for &(bits, position, act) in &ACTS {
+        let found = act_there(Word::from_bits(bits), position);
+        holds(&rt, found == Some(act), &(bits, position));
+    }
+    for &rest in &[Rest::Runnable, Rest::Task(0), Rest::Lent, Rest::Ended] {
+        let found = act_there(Word::from_bits(0x111), At(rest));
+        holds(&rt, found.is_none(), &rest);
+    }
+}

@@ -1,0 +1,300 @@
+//! Tests of the search and the sleep of workers: one searches at a time, whom a push then wakes, what a worker sees and finds of the queues, and that a sleep ends.
+ghost use Rattle.std.specs.Prelude.{◌≡◌};
+ghost use Rattle.std.specs.Arc.{arc_value};
+
+use crate::granted::granted;
+use std::alloc::{AllocError, Global};
+use std::process::Abort;
+use std::sync::{Arc, Wait};
+use std::thread;
+use std::thread::yield_now;
+use std::time::{Clock, Duration, Instant};
+use work_queues::bells::Look;
+use work_queues::{Bells, Board, Crew, Worker};
+
+/// How many items each queue has room for.
+const ROOM: usize = 2;
+
+/// No worker was woken.
+const NOBODY: usize = 9;
+
+/// How many seconds are longer than any wake takes, and shorter than a test may run.
+const LONG: u64 = 20;
+
+fn bells_of<R: Abort>(rt: &R, alloc: Global, workers: usize) -> Arc<Bells> {
+    let bells = granted(rt, Bells::new(alloc, workers));
+    granted(rt, Arc::new(alloc, bells))
+}
+
+fn board_of<R: Abort>(rt: &R, alloc: Global, bells: &Arc<Bells>) -> Board<u64>
+    ensures { arc_value result.bells ≡ arc_value bells.now }
+{
+    let own = granted(rt, Arc::try_clone(bells));
+    granted(rt, Board::new(alloc, alloc, own, ROOM))
+}
+
+// Pushes an item at a queue, and wakes whom it wakes, which is the answer.
+fn push<R: Wait>(rt: &R, board: &Board<u64>, queue: usize) -> usize {
+    match board.push(rt, queue.min(board.workers()), 7).1 {
+        Some(woken) => {
+            let worker = woken.worker();
+            board.ring(woken);
+            worker
+        }
+        None => NOBODY,
+    }
+}
+
+// Takes the item of a queue.
+fn pop<R: Wait>(rt: &R, board: &Board<u64>, queue: usize) -> Option<u64> {
+    let (item, woken) = board.pop(rt, queue.min(board.workers()));
+    if let Some(woken) = woken {
+        board.ring(woken);
+    }
+    item
+}
+
+// Ends looks, and wakes whom they wake, which is the answer.
+fn pay(bells: &Bells, look: Look) -> usize
+    requires { look.place.seat.table_id ≡ bells.now.table.shared.table_id }
+{
+    match bells.pay(look) {
+        Some(woken) => {
+            let worker = woken.worker();
+            bells.ring(woken);
+            worker
+        }
+        None => NOBODY,
+    }
+}
+
+// Whether a worker may begin a search. It ends at once.
+fn may_search(bells: &Bells) -> bool {
+    match bells.begin_search(bells.look()) {
+        Ok(search) => {
+            bells.settle(bells.end_search(search));
+            true
+        }
+        Err(look) => {
+            bells.settle(look);
+            false
+        }
+    }
+}
+
+#[test]
+fn one_worker_searches_at_a_time(rt: HostRuntime) {
+    let bells = bells_of(&rt, rt.alloc(), 2);
+    let search = granted(&rt, bells.begin_search(bells.look()));
+    let beside = may_search(&bells);
+    bells.settle(bells.end_search(search));
+    let after = may_search(&bells);
+    assert!(rt; !beside && after);
+}
+
+// Worker 1 sleeps while another one searches, which takes the first item. It is woken for the second one as the search ends.
+#[test]
+fn a_push_wakes_nobody_while_one_searches(rt: HostRuntime) {
+    let bells = bells_of(&rt, rt.alloc(), 2);
+    let board = board_of(&rt, rt.alloc(), &bells);
+    let claim = granted(&rt, bells.claim(1).ok_or(AllocError));
+    let sleeper = granted(&rt, bells.lie_down(&rt, bells.look(), &claim));
+    let search = granted(&rt, bells.begin_search(bells.look()));
+    let during = push(&rt, &board, 2);
+    let taken = pop(&rt, &board, 2);
+    let ended = pay(&bells, bells.end_search(search));
+    let search = granted(&rt, bells.begin_search(bells.look()));
+    let again = push(&rt, &board, 0);
+    let left = pay(&bells, bells.end_search(search));
+    bells.settle(bells.get_up(sleeper));
+    bells.settle(bells.give_back(claim));
+    assert!(rt; during == NOBODY && taken == Some(7) && ended == NOBODY);
+    assert!(rt; again == NOBODY && left == 1);
+}
+
+// Workers 0 and 1 sleep. Each push wakes one, until none is left.
+#[test]
+fn each_push_wakes_one_of_two_sleepers(rt: HostRuntime) {
+    let bells = bells_of(&rt, rt.alloc(), 2);
+    let board = board_of(&rt, rt.alloc(), &bells);
+    let first = granted(&rt, bells.claim(0).ok_or(AllocError));
+    let second = granted(&rt, bells.claim(1).ok_or(AllocError));
+    let one = granted(&rt, bells.lie_down(&rt, bells.look(), &first));
+    let other = granted(&rt, bells.lie_down(&rt, bells.look(), &second));
+    let woken = (
+        push(&rt, &board, 2),
+        push(&rt, &board, 2),
+        push(&rt, &board, 2),
+    );
+    bells.settle(bells.get_up(one));
+    bells.settle(bells.get_up(other));
+    bells.settle(bells.give_back(first));
+    bells.settle(bells.give_back(second));
+    assert!(rt; woken == (0, 1, NOBODY));
+}
+
+// Two interruptions wake two workers, or are heard by one.
+#[test]
+fn an_interruption_is_due_until_it_is_heard(rt: HostRuntime) {
+    let bells = bells_of(&rt, rt.alloc(), 2);
+    let claim = granted(&rt, bells.claim(0).ok_or(AllocError));
+    bells.interrupt();
+    let mut sleeper = granted(&rt, bells.lie_down(&rt, bells.look(), &claim));
+    let sees = bells.sees_something(&mut sleeper);
+    bells.settle(bells.get_up(sleeper));
+    bells.interrupt_worker(0);
+    let lies = match bells.lie_down(&rt, bells.look(), &claim) {
+        Ok(sleeper) => {
+            bells.settle(bells.get_up(sleeper));
+            true
+        }
+        Err(look) => {
+            bells.settle(look);
+            false
+        }
+    };
+    bells.settle(bells.give_back(claim));
+    assert!(rt; sees && !lies && bells.interruptions() == 2);
+}
+
+// Two threads are never one worker.
+#[test]
+fn a_number_is_claimed_once_until_it_is_given_back(rt: HostRuntime) {
+    let crew = granted(&rt, Crew::<u64>::new(rt.alloc(), rt.alloc(), 1, ROOM));
+    let worker = granted(&rt, crew.worker(rt.alloc(), 0));
+    let taken = is_claimed(&rt, rt.alloc(), &crew, 0);
+    drop(crew.end_turns(&rt, worker));
+    let free = is_claimed(&rt, rt.alloc(), &crew, 0);
+    let missing = is_claimed(&rt, rt.alloc(), &crew, 1);
+    assert!(rt; taken && !free && missing);
+}
+
+// Whether there is no worker of this number to be had.
+fn is_claimed<R: Wait>(rt: &R, alloc: Global, crew: &Crew<u64>, number: usize) -> bool {
+    match crew.worker(alloc, number) {
+        Ok(worker) => {
+            drop(crew.end_turns(rt, worker));
+            false
+        }
+        Err(_) => true,
+    }
+}
+
+// Whether worker 0 and worker 1 see something to take.
+fn seen(board: &Board<u64>) -> (bool, bool) {
+    (board.has_some_for(0), board.has_some_for(1))
+}
+
+// All workers are awake, so none is woken.
+#[test]
+fn a_worker_sees_what_it_can_take(rt: HostRuntime) {
+    let bells = bells_of(&rt, rt.alloc(), 2);
+    let board = board_of(&rt, rt.alloc(), &bells);
+    let nothing = seen(&board);
+    let woken = push(&rt, &board, 0);
+    let of_the_first = seen(&board);
+    let taken = pop(&rt, &board, 0);
+    let nothing_again = seen(&board);
+    let woken_again = push(&rt, &board, 2);
+    let from_outside = seen(&board);
+    assert!(rt; nothing == (false, false) && nothing_again == (false, false));
+    assert!(rt; of_the_first == (true, true) && from_outside == (true, true));
+    assert!(rt; taken == Some(7) && woken == NOBODY && woken_again == NOBODY);
+}
+
+// What a worker leaves in its queue is found by another one, which does not sleep beside it.
+#[test]
+fn what_a_worker_leaves_is_found(rt: HostRuntime) {
+    let crew = granted(&rt, Crew::new(rt.alloc(), rt.alloc(), 2, ROOM));
+    let mut thief = granted(&rt, crew.worker(rt.alloc(), 1));
+    let pushed = crew.push(&rt, 0, 5u64).is_ok();
+    crew.rest(&rt, &mut thief, crew.bells().interruptions(), None);
+    let found = crew.find(&rt, &mut thief);
+    let nothing = crew.find(&rt, &mut thief);
+    drop(crew.end_turns(&rt, thief));
+    assert!(rt; pushed && found == Some(5) && nothing.is_none());
+}
+
+// The second crew has no worker of the thief's number, which sleeps by the bells of its own.
+#[test]
+fn a_worker_of_another_crew_finds_what_is_there(rt: HostRuntime) {
+    let crew = granted(&rt, Crew::<u64>::new(rt.alloc(), rt.alloc(), 2, ROOM));
+    let other = granted(&rt, Crew::new(rt.alloc(), rt.alloc(), 1, ROOM));
+    let mut thief = granted(&rt, crew.worker(rt.alloc(), 1));
+    let pushed = other.push(&rt, 0, 5u64).is_ok();
+    let found = other.find(&rt, &mut thief);
+    let most = Some(Duration::from_millis(1));
+    other.rest(&rt, &mut thief, other.bells().interruptions(), most);
+    drop(other.end_turns(&rt, thief));
+    assert!(rt; pushed && found == Some(5));
+}
+
+// How many seconds a worker rests that finds nothing and may sleep for `LONG`.
+fn rest_of<R: Wait + Clock>(rt: &R, crew: &Crew<u64>, worker: &mut Worker<u64>) -> u64 {
+    let Ok(begin) = Instant::now(rt) else {
+        return LONG;
+    };
+    let most = Some(Duration::from_secs(LONG));
+    crew.rest(rt, worker, crew.bells().interruptions(), most);
+    match begin.elapsed(rt) {
+        Ok(rested) => rested.as_secs(),
+        Err(_) => LONG,
+    }
+}
+
+// Waits until a worker counts as asleep. False where none does for so many looks.
+fn awaits_a_sleeper(bells: &Bells) -> bool {
+    for _ in 0..100_000_000u64 {
+        if bells.sleepers() != 0 {
+            return true;
+        }
+        yield_now();
+    }
+    false
+}
+
+// A worker sleeps, and is woken by a push. What it then finds, and whether that took less time than it would have slept.
+#[test]
+fn a_push_ends_a_sleep(rt: HostRuntime) {
+    let crew = granted(&rt, Crew::new(rt.alloc(), rt.alloc(), 2, ROOM));
+    let mut worker = granted(&rt, crew.worker(rt.alloc(), 0));
+    let (rested, pushed) = thread::join(
+        &rt,
+        || rest_of(&rt, &crew, &mut worker),
+        || awaits_a_sleeper(crew.bells()) && crew.push(&rt, 2, 5u64).is_ok(),
+    );
+    let found = crew.find(&rt, &mut worker);
+    drop(crew.end_turns(&rt, worker));
+    assert!(rt; pushed && found == Some(5) && rested < LONG);
+}
+
+// The same by an interruption that is meant for the worker.
+#[test]
+fn an_interruption_ends_a_sleep(rt: HostRuntime) {
+    let crew = granted(&rt, Crew::<u64>::new(rt.alloc(), rt.alloc(), 2, ROOM));
+    let mut worker = granted(&rt, crew.worker(rt.alloc(), 1));
+    let (rested, slept) = thread::join(
+        &rt,
+        || rest_of(&rt, &crew, &mut worker),
+        || {
+            let slept = awaits_a_sleeper(crew.bells());
+            crew.bells().interrupt_worker(1);
+            slept
+        },
+    );
+    drop(crew.end_turns(&rt, worker));
+    assert!(rt; slept && rested < LONG);
+}
+
+// A worker that has nothing to do sleeps as long as it may, and no longer.
+#[test]
+fn a_sleep_ends_at_its_time(rt: HostRuntime) {
+    let crew = granted(&rt, Crew::<u64>::new(rt.alloc(), rt.alloc(), 1, ROOM));
+    let mut worker = granted(&rt, crew.worker(rt.alloc(), 0));
+    let begin = granted(&rt, Instant::now(&rt));
+    let most = Some(Duration::from_millis(20));
+    crew.rest(&rt, &mut worker, crew.bells().interruptions(), most);
+    let rested = granted(&rt, begin.elapsed(&rt));
+    drop(crew.end_turns(&rt, worker));
+    assert!(rt; Duration::from_millis(20) <= rested && rested.as_secs() < LONG);
+}
