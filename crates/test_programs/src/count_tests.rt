@@ -1,4 +1,5 @@
 //! What the counting allocator counts, and the rates, times and bytes that the benchmarks print.
+//! Of what is only tested (docs/PROOFS.md): Memory and limits.
 
 use crate::stops::granted;
 use bench_report::counting::Counting;

@@ -1,4 +1,5 @@
 //! What `bench_pool` prints: the table of all lines, and a line that lost a task.
+//! Of what is only tested (docs/PROOFS.md): Programs.
 
 use crate::stops::{granted, holds};
 use crate::words::{Told, words_of};

@@ -1,4 +1,5 @@
 //! Replays and players answer if there is memory, and say so if there is none.
+//! Of what is only tested (docs/PROOFS.md): Programs.
 
 use crate::stops::granted;
 use crate::turns::{END, GAIN};

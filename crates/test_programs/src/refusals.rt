@@ -6,6 +6,7 @@
 //!
 //! What no run reaches has no case: COMPLETED beside SCHEDULED or RUNNING, and a word that does not fit EndClosed or EndRegisterNotified where a party is
 //! to make them. CloseOrphan, Unschedule and EndNotify ask for nothing. These five are refused by the position alone.
+//! Of what is only tested (docs/PROOFS.md): Programs.
 
 use crate::stops::{granted, holds};
 use crate::turns::{halves, is_refused_at, player_after, step_of, steps_of, word_of};

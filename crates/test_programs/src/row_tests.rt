@@ -1,4 +1,5 @@
 //! What `rows_program` prints of each end of a row, and a writer that fails.
+//! Of what is only tested (docs/PROOFS.md): Programs.
 
 use crate::limited::Limited;
 use crate::stops::{granted, holds};
