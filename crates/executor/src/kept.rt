@@ -158,19 +158,22 @@ pub fn await_kept<'x, R: Wait + Drop + Copy, F: Yields, B: Allocator + Copy>(
     }
 }
 
-/// Drops what is left at the places of keys that were dropped: wakers, and Tasks, whose tasks are cancelled. Each worker does it between its turns.
+/// Drops what is left at the places of keys that were dropped: wakers, and Tasks, whose tasks are cancelled. False where nothing was. Each worker does it at its first turn, at each 64th one after it, and before it rests.
 pub fn collect<'x, R: Wait + Drop + Copy, F: Yields, A: Wake, B: Allocator + Copy>(
     place: Place<'x, R, F, A, B>,
-) {
+) -> bool {
     let pool = place.0;
+    let mut drops = false;
     for _ in pool.rt.forever() {
         // A Task, or else a waker, that is left at the place of a key that was dropped.
         if !drop_task(place, pool.tasks.collect(&pool.rt))
             && !drop_waker(place, pool.wakers.collect(&pool.rt))
         {
-            return;
+            return drops;
         }
+        drops = true;
     }
+    unreachable!()
 }
 
 // Drops this Task, where there is one, which cancels its task. False where there is none.

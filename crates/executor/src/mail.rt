@@ -58,7 +58,9 @@ impl<R: Wait + Drop + Copy> Mail<R> {
         for step in 0..PARTS {
             let at = part_of(first.wrapping_add(step));
             if let Some(slot) = self.parts.get(at)?.take(&self.rt) {
-                self.first.store(at.wrapping_add(1), Ordering::SeqCst);
+                if first != at.wrapping_add(1) {
+                    self.first.store(at.wrapping_add(1), Ordering::SeqCst);
+                }
                 return Some(number_of(at, slot));
             }
         }

@@ -18,6 +18,9 @@ use std::sync::Wait;
 use std::time::Duration;
 use work_queues::{Bells, Worker};
 
+/// A worker frees what keys left once in so many turns.
+const COLLECTS: u64 = 64;
+
 /// The turns of one worker of a pool: the thread that has them is that worker. No other turns have its number while these live.
 ///
 /// Their drop puts the Runnables in the hands of the worker into the queue for what comes from outside, and has another worker look once more. A Runnable for which that queue has no memory is dropped, which cancels its task.
@@ -25,11 +28,16 @@ use work_queues::{Bells, Worker};
 pub struct Turns<'x, R: Wait + Drop + Copy, F: Yields, A: Wake, B: Allocator = Global> {
     pub(crate) pool: &'x Pool<R, F, A, B>,
     pub(crate) worker: Worker<Queued<R, F, A>, B>,
+    count: u64,
 }
 
 impl<'x, R: Wait + Drop + Copy, F: Yields, A: Wake, B: Allocator> Drop for Turns<'x, R, F, A, B> {
     fn drop(self) {
-        let Turns { pool, worker } = self;
+        let Turns {
+            pool,
+            worker,
+            count: _,
+        } = self;
         let number = worker.number();
         drop(pool.crew.end_turns(&pool.rt, worker));
         // A shutdown may have passed both queues before this worker moved Runnables there.
@@ -50,7 +58,11 @@ impl<R: Wait + Drop + Copy, F: Yields, A: Wake, B: Allocator + Copy> Pool<R, F, 
             return Err(TurnsError::NoSuchWorker);
         }
         match self.crew.worker(self.items, worker) {
-            Ok(worker) => Ok(Turns { pool: self, worker }),
+            Ok(worker) => Ok(Turns {
+                pool: self,
+                worker,
+                count: 0,
+            }),
             Err(_) => Err(TurnsError::Refused),
         }
     }
@@ -126,7 +138,7 @@ impl<'x, R: Wait + Drop + Copy, F: Yields, A: Wake, B: Allocator + Copy> Turns<'
             .rest(&self.pool.rt, &mut self.worker, interruptions, most);
     }
 
-    /// A turn but for the run of what it takes: frees what keys left, wakes one task whose number was posted, and takes the next Runnable. Where there is neither it searches and then sleeps, as `rest` says, if the bells counted no interruption since `interruptions`: so ask for them before the last look at what the loop waits for. Run what it answers.
+    /// A turn but for the run of what it takes: wakes one task whose number was posted, and takes the next Runnable. At the first and each 64th turn, and where there is none, it frees what keys left. Where there is neither it searches and then sleeps, as `rest` says, if the bells counted no interruption since `interruptions`: so ask for them before the last look at what the loop waits for. Run what it answers.
     pub fn take_turn(&mut self, interruptions: u64) -> Option<PoolRunnable<'x, R, F, A, B>>
         ensures place { IfSome result (λ runnable. runnable.around.1 ≡ self.old.worker.number) }
     {
@@ -142,10 +154,13 @@ impl<'x, R: Wait + Drop + Copy, F: Yields, A: Wake, B: Allocator + Copy> Turns<'
         ensures place { IfSome result (λ runnable. runnable.around.1 ≡ self.old.worker.number) }
     {
         let place = self.place();
-        collect(place);
+        if self.count % COLLECTS == 0 {
+            collect(place);
+        }
+        self.count = self.count.wrapping_add(1);
         let woke = wake_posted(place);
         let next = self.next();
-        if next.is_none() && !woke {
+        if next.is_none() && !woke && !collect(place) {
             self.rest_for(interruptions, most);
         }
         next

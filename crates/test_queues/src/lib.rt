@@ -8,3 +8,5 @@ mod granted;
 mod refusal_tests;
 #[cfg(test)]
 mod search_tests;
+#[cfg(test)]
+mod unclaimed_tests;

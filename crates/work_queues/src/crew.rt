@@ -107,7 +107,7 @@ impl<T, A: Allocator> Worker<T, A> {
     {
         let due = self.bells.hear();
         if let Some(before) = mem::replace(&mut self.heard, due) {
-            self.bells.answer(before);
+            self.bells.answer(before, &self.claim);
         }
     }
 }
@@ -180,6 +180,9 @@ impl<T, A: Allocator> Crew<T, A> {
     /// Takes the item at the front of a worker's queue, or, where there is no worker of this number, of the queue for what comes from outside. `None` where it is empty.
     pub fn pop<R: Wait>(&self, rt: &R, queue: usize) -> Option<T> {
         let queue = queue.min(self.board.workers());
+        if self.board.is_empty(queue) {
+            return None;
+        }
         let (item, woken) = self.board.pop(rt, queue);
         self.ring(woken);
         item
@@ -190,6 +193,11 @@ impl<T, A: Allocator> Crew<T, A> {
         let from = from.min(self.board.workers());
         let woken = self.board.take_half(rt, from, &mut worker.batch);
         self.ring(woken);
+        self.keep_batch(rt, worker)
+    }
+
+    // The first item of the batch in its hands. The others go into its own queue.
+    fn keep_batch<R: Wait>(&self, rt: &R, worker: &mut Worker<T, A>) -> Option<T> {
         let first = worker.batch.pop_front();
         if !worker.batch.is_empty() {
             let own = worker.number.min(self.board.workers());
