@@ -7,6 +7,7 @@
 
 mod awaited;
 mod blocking;
+mod deadline;
 mod debug;
 mod listener;
 mod mailbox;
@@ -16,6 +17,7 @@ mod posts;
 
 pub use awaited::Awaited;
 pub use blocking::{BlockOnError, block_on};
+pub use deadline::left_until;
 pub use listener::Listener;
 pub use mailbox::{Awaiter, Mailbox};
 pub use nobody::Nobody;
