@@ -2,7 +2,7 @@
 //! It stands on the mailbox of `awaiters`, the Task of `async_task`, and the kit's `slab` and `thiserror`.
 //! A user makes a `TaskGroup` and calls `spawn`, `push`, `next`, `next_until`, `try_next`, `listen`, `cancel`, `cancel_all`, `abort_all` and `detach_all`; what comes out is an `Ended`.
 //! Else only its errors are public. `Ended` has a ghost field by which its output meets what its future's type states.
-//! The page is docs/EXECUTORS.md.
+//! The page is README.md, beside the code.
 #![tactic(auto)]
 
 mod debug;
