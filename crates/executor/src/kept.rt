@@ -181,13 +181,7 @@ fn drop_task<'x, R: Wait + Drop + Copy, F: Yields, A: Wake, B: Allocator + Copy>
     place: Place<'x, R, F, A, B>,
     task: Option<KeptTask<R, F, A>>,
 ) -> bool {
-    match task {
-        Some(task) => {
-            drop(task.with_around(place));
-            true
-        }
-        None => false,
-    }
+    task.map(|task| drop(task.with_around(place))).is_some()
 }
 
 // Drops this waker, where there is one. False where there is none.
@@ -195,13 +189,7 @@ fn drop_waker<'x, R: Wait + Drop + Copy, F: Yields, A: Wake, B: Allocator + Copy
     place: Place<'x, R, F, A, B>,
     waker: Option<KeptWaker<R, F, A>>,
 ) -> bool {
-    match waker {
-        Some(waker) => {
-            drop(waker.with_around(place));
-            true
-        }
-        None => false,
-    }
+    waker.map(|waker| drop(waker.with_around(place))).is_some()
 }
 
 // Wakes the task of this waker, where there is one. False where there is none.
@@ -209,13 +197,7 @@ fn wake_taken<'x, R: Wait + Drop + Copy, F: Yields, A: Wake, B: Allocator + Copy
     place: Place<'x, R, F, A, B>,
     waker: Option<KeptWaker<R, F, A>>,
 ) -> bool {
-    match waker {
-        Some(waker) => {
-            waker.with_around(place).wake();
-            true
-        }
-        None => false,
-    }
+    waker.map(|waker| waker.with_around(place).wake()).is_some()
 }
 
 // Cancels what is kept, after the shutdown: all wakers are woken, and then all Tasks are dropped.

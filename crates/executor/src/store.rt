@@ -135,20 +135,16 @@ impl<H: Drop> Part<H> {
         }
         let mut places = self.places.lock(rt);
         let mut numbers = self.returned.slots.lock(rt);
-        for _ in rt.forever() {
-            match numbers.take() {
-                Some(slot) => {
-                    if let Some(handle) = places.try_remove(slot).flatten() {
-                        return Some(handle);
-                    }
-                }
-                None => {
-                    self.returned.slots.none_waits();
-                    return None;
-                }
+        for _ in 0..=numbers.room() {
+            let Some(slot) = numbers.take() else {
+                break;
+            };
+            if let Some(handle) = places.try_remove(slot).flatten() {
+                return Some(handle);
             }
         }
-        unreachable!()
+        self.returned.slots.none_waits();
+        None
     }
 }
 

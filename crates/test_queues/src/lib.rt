@@ -9,4 +9,6 @@ mod refusal_tests;
 #[cfg(test)]
 mod search_tests;
 #[cfg(test)]
+mod storm_tests;
+#[cfg(test)]
 mod unclaimed_tests;

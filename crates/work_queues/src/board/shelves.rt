@@ -18,16 +18,6 @@ use std::collections::VecDeque;
 use std::sync::{Arc, Wait};
 use std::thread::yield_now;
 
-fn words(alloc: Global, count: usize) -> Result<Vec<u64>, AllocError>
-    ensures { IfOk result (λ words. length words.items ≡ count) }
-{
-    let mut words = Vec::new(alloc);
-    for _ in 0..count {
-        words.push(UNLOCKED)?;
-    }
-    Ok(words)
-}
-
 // Empty queues with room for `room` items each, and the rights to their flags.
 fn queues<T: Drop, A: Allocator + Copy>(
     alloc: Global,
@@ -58,7 +48,7 @@ impl<T: Drop, A: Allocator + Copy> Board<T, A> {
     {
         let shared: &Bells = &bells;
         let queues = queues(alloc, items, shared, room)?;
-        let words = words(alloc, PADDING * (shared.workers() + 1))?;
+        let words = vec![in alloc; UNLOCKED; PADDING * (shared.workers() + 1)]?;
         match Table::new(alloc, &words, queues, shared) {
             Ok((table, _seat)) => Ok(Board { table, bells }),
             Err(Refused { slots: _ }) => Err(AllocError),
