@@ -6,13 +6,13 @@ use crate::bell_awaiter::BellAwaiter;
 use crate::pool::{Place, PoolTask, PoolWaker, ToPool};
 use crate::store::{Key, Walk};
 use async_task::{
-    Runnable, Schedule, ScheduleInfo, Task, TaskClosed, TaskPoll, TaskWaker, Wake, Yields,
+    Runnable, Schedule, ScheduleInfo, StoredWaker, Task, TaskClosed, TaskPoll, Wake, Yields,
 };
 use std::alloc::Allocator;
 use std::sync::Wait;
 
-/// A waker as the pool keeps it.
-pub type KeptWaker<R, F, A> = TaskWaker<R, F, ToPool, (), A, ()>;
+/// A waker as the pool keeps it. It cannot wake, before it gets a place back.
+pub type KeptWaker<R, F, A> = StoredWaker<R, F, ToPool, (), A>;
 
 /// A Task as the pool keeps it.
 pub type KeptTask<R, F, A> = Task<R, F, ToPool, (), A, ()>;
@@ -50,7 +50,7 @@ pub fn keep_waker<'x, R: Wait + Drop + Copy, F: Yields, A: Wake, B: Allocator + 
     let Some(clone) = waker.try_clone() else {
         return false;
     };
-    match pool.wakers.put(&pool.rt, key, clone.with_around(())) {
+    match pool.wakers.put(&pool.rt, key, clone.stored()) {
         Ok(before) => {
             drop_waker(place, before);
             if pool.is_shut_down() {

@@ -49,9 +49,14 @@ impl<R: Wait + Drop + Copy> Mail<R> {
         }
     }
 
+    // Whether a number may wait.
+    pub(crate) fn is_due(&self) -> bool {
+        self.due.load(Ordering::SeqCst) != 0
+    }
+
     // Takes out a number: that which has waited longest in its part.
     pub(crate) fn take(&self) -> Option<usize> {
-        if self.due.load(Ordering::SeqCst) == 0 {
+        if !self.is_due() {
             return None;
         }
         let first = self.first.load(Ordering::SeqCst);

@@ -151,7 +151,7 @@ impl<T, A: Allocator> Board<T, A> {
         None
     }
 
-    fn lock<R: Wait>(&self, rt: &R, queue: usize) -> Visit<T, A>
+    pub(super) fn lock<R: Wait>(&self, rt: &R, queue: usize) -> Visit<T, A>
         requires { queue ≤ (arc_value self.now.bells).workers }
         ensures { (result.seat.table_id ≡ self.now.table.shared.table_id) × (held : _) × HasQueue queue result.seat.me held × IsShelved (arc_value self.now.bells).table.shared.table_id queue held }
     {
@@ -165,7 +165,7 @@ impl<T, A: Allocator> Board<T, A> {
     }
 
     // Gives the queue back, whose flag shows whether it has items.
-    fn unlock(&self, visit: Visit<T, A>, queue: usize)
+    pub(super) fn unlock(&self, visit: Visit<T, A>, queue: usize)
         requires id { visit.seat.table_id ≡ self.now.table.shared.table_id }
         requires queue { queue ≤ (arc_value self.now.bells).workers }
         requires held { (held : _) × HasQueue queue visit.seat.me held × IsShelved (arc_value self.now.bells).table.shared.table_id queue held }
