@@ -1,4 +1,4 @@
-//! Tasks that the kit's `block_on` and `select` wait for, a bridge that is dropped, and refused memory. Of what is only tested: the page of `kit_bridge`.
+//! Tasks that the kit's `block_on`, `join` and `select` wait for, a bridge that is dropped, and refused memory. Of what is only tested: the page of `kit_bridge`.
 ghost use Rattle.std.specs.Prelude.{⊤};
 
 use super::number::Nowhere;
@@ -6,7 +6,7 @@ use crate::granted::granted;
 use crate::tray::{HEAP, fill};
 use async_task::{Future, Poll, Runnable, Task, Wake, Yields, spawn};
 use futures::executor::block_on;
-use futures::future::{Either, ready, select};
+use futures::future::{Either, join, ready, select};
 use kit_bridge::{AwaitError, Awaits, KitAwaiter};
 use linked_list_allocator::LocalHeap;
 use std::alloc::{AllocGlobal, Global};
@@ -116,6 +116,19 @@ fn the_kit_waits_for_a_task_that_another_thread_runs(rt: HostRuntime) {
     let (_, answer) = thread::join(&rt, move || run(runnable), move || wait_for(rt, awaits));
     assert!(rt; answer == Ok(7));
     assert!(rt; dropped.load(Ordering::SeqCst) == 1);
+}
+
+#[test]
+fn the_kit_joins_two_tasks(rt: HostRuntime) {
+    let dropped = none_dropped(rt, rt.alloc());
+    let (first, left) = bridged(rt, rt.alloc(), 1, &dropped);
+    let (second, right) = bridged(rt, rt.alloc(), 2, &dropped);
+    let run_both = move || {
+        run(first);
+        run(second)
+    };
+    let (_, answers) = thread::join(&rt, run_both, move || block_on(&rt, join(left, right)));
+    assert!(rt; granted(&rt, answers) == (Ok(1), Ok(2)));
 }
 
 #[test]
