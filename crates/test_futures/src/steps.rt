@@ -1,7 +1,6 @@
 //! A future that is ready after so many polls, counts them, and has a share of a token as long as it is there.
 ghost use Rattle.std.specs.Prelude.{⊤};
 
-use crate::counter::Counter;
 use crate::granted::granted;
 use std::alloc::Global;
 use std::process::Abort;
@@ -37,11 +36,6 @@ pub fn seen(polls: &Arc<AtomicU64>) -> (u64, usize) {
         polls.load(Ordering::SeqCst),
         Arc::strong_count(polls).saturating_sub(1),
     )
-}
-
-/// A poll of a future, by the counting waker.
-pub fn poll<F: Future<Counter>>(future: &mut F, waker: &Counter) -> Poll<F::Output> {
-    future.poll(waker)
 }
 
 impl Yields for Steps {

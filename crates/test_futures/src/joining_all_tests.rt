@@ -1,7 +1,7 @@
-//! `join_all`: all outputs in order, what is polled meanwhile, and what a drop leaves.
-use crate::counter::Counter;
+//! `join_all`: when a part is dropped, what is polled and woken until then, and that a drop leaves nothing.
+use crate::counter::{Counter, poll};
 use crate::granted::granted;
-use crate::steps::{Steps, after_polls, no_polls, poll, seen};
+use crate::steps::{Steps, after_polls, no_polls, seen};
 use combinators::{JoinAll, join_all};
 use std::alloc::Global;
 use std::collections::VecDeque;
@@ -60,14 +60,4 @@ fn a_join_all_that_is_dropped_half_way_leaves_nothing(rt: HostRuntime) {
     drop(all);
     assert!(rt; answer == None);
     assert!(rt; (halfway, seen(&polls)) == ((3, 2), (3, 0)));
-}
-
-#[test]
-fn a_join_of_no_futures_is_ready_once(rt: HostRuntime) {
-    let waker = Counter::new(&rt, rt.alloc());
-    let polls = no_polls(&rt, rt.alloc());
-    let mut all = join_steps(&rt, rt.alloc(), &[], &polls);
-    let first = outputs(poll(&mut all, &waker));
-    let second = outputs(poll(&mut all, &waker));
-    assert!(rt; first.is_some_and(|all| all.is_empty()) && second == None);
 }

@@ -2,10 +2,10 @@
 ghost use Rattle.std.specs.Prelude.{⊤};
 
 use crate::granted::granted;
-use async_task::{Future, Poll, Wake, Yields};
 use std::alloc::Global;
 use std::process::Abort;
 use std::sync::{Arc, Mutex, Wait};
+use task_core::{Future, Poll, Wake, Yields};
 
 #[derive(Drop)]
 struct Waiting<W: Wake> {

@@ -1,6 +1,6 @@
-//! `race`: which one wins, what is polled, and what a drop leaves.
-use crate::counter::Counter;
-use crate::steps::{after_polls, no_polls, poll, seen};
+//! `race`: when a part is dropped, what is polled until then, and that a drop leaves nothing.
+use crate::counter::{Counter, poll};
+use crate::steps::{after_polls, no_polls, seen};
 use combinators::{Raced, join, pending, race, ready};
 use task_core::Poll;
 
@@ -20,17 +20,6 @@ fn the_first_one_of_a_race_has_the_precedence(rt: HostRuntime) {
     assert!(rt; answers == (Poll::Pending, Poll::Ready(Raced::First(10))));
     assert!(rt; halfway == ((2, 1), (1, 1)));
     assert!(rt; (seen(&first), seen(&second)) == ((2, 0), (1, 0)));
-}
-
-#[test]
-fn the_second_one_wins_where_the_first_one_is_pending(rt: HostRuntime) {
-    let waker = Counter::new(&rt, rt.alloc());
-    let polls = no_polls(&rt, rt.alloc());
-    let mut either = race(after_polls(&rt, 5, 10, &polls), ready(true));
-    let answer = poll(&mut either, &waker);
-    drop(either);
-    assert!(rt; answer == Poll::Ready(Raced::Second(true)));
-    assert!(rt; seen(&polls) == (1, 0));
 }
 
 // A race that is over is dropped by the join that awaits it, and the loser with it.

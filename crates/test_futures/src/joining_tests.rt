@@ -1,6 +1,6 @@
-//! `join`: both outputs, what is polled meanwhile, and what a drop leaves.
-use crate::counter::Counter;
-use crate::steps::{after_polls, no_polls, poll, seen};
+//! `join`: when a part is dropped, what is polled and woken until then, and that a drop leaves nothing.
+use crate::counter::{Counter, poll};
+use crate::steps::{after_polls, no_polls, seen};
 use combinators::{join, ready, yield_now};
 use task_core::Poll;
 
@@ -23,18 +23,6 @@ fn join_answers_both_outputs_and_drops_the_one_that_is_ready(rt: HostRuntime) {
     assert!(rt; late == (Poll::Pending, Poll::Ready((10, 20))));
     assert!(rt; after == ((2, 0), (4, 0)));
     assert!(rt; waker.wakes() == 4);
-}
-
-// The second one is ready first: the outputs keep their order.
-#[test]
-fn join_keeps_the_order_of_its_futures(rt: HostRuntime) {
-    let waker = Counter::new(&rt, rt.alloc());
-    let polls = no_polls(&rt, rt.alloc());
-    let mut both = join(after_polls(&rt, 1, 10, &polls), ready(true));
-    let answers = (poll(&mut both, &waker), poll(&mut both, &waker));
-    assert!(rt; answers == (Poll::Pending, Poll::Ready((10, true))));
-    let after = poll(&mut both, &waker);
-    assert!(rt; after == Poll::Pending);
 }
 
 // One of its futures has ended, and the other one has not.

@@ -32,10 +32,15 @@ impl Counter {
         }
     }
 
-    /// How often it and its clones were woken, and how many clones are there.
+    /// How often it and its clones were woken.
+    pub fn wakes(&self) -> u64 {
+        self.wakes.load(Ordering::SeqCst)
+    }
+
+    /// .. and how many clones are there.
     pub fn seen(&self) -> (u64, usize) {
         (
-            self.wakes.load(Ordering::SeqCst),
+            self.wakes(),
             Arc::strong_count(&self.wakes).saturating_sub(1),
         )
     }
