@@ -60,7 +60,7 @@ TESTS = {
 }
 COUNTS = {"Adds": "count + 1", "Takes": "count − 1", "Orphans": "0x109"}
 # the lines between which the rows stand in MACHINE.md
-TABLE_HEAD, TABLE_END = "| Row | Finds | Writes |\n|---|---|---|\n", "\n\n"
+TABLE_HEAD, TABLE_END = "Row | Finds | Writes\n--- | --- | ---\n", "\n\n"
 
 
 def chain_of(items, end=("[]",)):
@@ -127,7 +127,7 @@ def row_lines():
         finds = [{"Is": "", "Not": "no "}[test[0]] + flag_of(test) if len(test) > 1 else TESTS[test[0]] for test in tests if test != ("Always",)]
         writes = [{"Sets": "+ ", "Clears": "− "}[edit[0]] + flag_of(edit) for edit in edits if edit != ("Keeps",)]
         writes += [COUNTS[count[0]]] if count != ("Stays",) else []
-        yield f"| {act} | {', '.join(finds) or 'any word'} | {', '.join(writes) or 'nothing'} |"
+        yield f"{act} | {', '.join(finds) or 'any word'} | {', '.join(writes) or 'nothing'}"
 
 
 def machine_page():

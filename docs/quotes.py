@@ -21,7 +21,7 @@ CRATES = ("awaiters", "task_group", "kit_bridge", "combinators", "shared_waker",
 EXCERPTS = ("docs/EXECUTOR_POOL.md",) + tuple(f"crates/{name}/README.md" for name in CRATES)
 # the pages that name hardly anything but what this repository has, and what they name of the kit
 NAMING = WHOLE + EXCERPTS + (
-    "docs/API.md", "docs/ARCHITECTURE.md", "docs/DEVELOPING.md", "docs/EXAMPLES.md", "docs/EXECUTORS.md", "docs/FUTURES.md",
+    "docs/API.md", "docs/ARCHITECTURE.md", "docs/DEVELOPING.md", "docs/EXAMPLES.md",
     "docs/KIT_BRIDGE.md", "docs/MACHINE.md", "docs/PROOFS.md", "docs/ROWS.md", "docs/RULES.md", "docs/TRACES.md")
 OF_THE_KIT = {"from_event_fd", "from_raw_fd", "get_mut", "pop_front"}
 # a definition of Rust or of a spec, a clause of a contract, a variable; or a field, a parameter or a constructor

@@ -2,6 +2,7 @@
 ghost use Rattle.std.specs.Prelude.{⊤, ◌≡◌, false, IfSome};
 ghost use Rattle.std.specs.Arc.{arc_value};
 
+use crate::deadline::left_until;
 use crate::listener::Listener;
 use crate::nobody::Nobody;
 use crate::numbers::Numbers;
@@ -9,6 +10,7 @@ use crate::posts::Posts;
 use async_task::Wake;
 use std::alloc::{AllocError, Global};
 use std::sync::{Arc, Condvar, Mutex, Wait};
+use std::time::{Clock, Instant};
 
 // What is under the lock of a mailbox.
 #[derive(Drop)]
@@ -85,6 +87,24 @@ impl<R: Wait + Drop + Copy, L: Listener> Mailbox<R, L> {
                 return number;
             }
             contents = self.posted.wait(&self.rt, contents);
+        }
+        unreachable!()
+    }
+}
+
+impl<R: Wait + Clock + Drop + Copy, L: Listener> Mailbox<R, L> {
+    /// As `wait`, but `None` at the deadline, if no number waits then. Where the clock of the runtime has no answer, it does not sleep.
+    pub fn wait_until(&self, deadline: Instant) -> Option<usize> {
+        let mut contents = self.contents.lock(&self.rt);
+        for _ in self.rt.forever() {
+            if let Some(number) = contents.numbers.take() {
+                return Some(number);
+            }
+            let left = left_until(&self.rt, deadline);
+            if left.is_zero() {
+                return None;
+            }
+            contents = self.posted.wait_timeout(&self.rt, contents, left).0;
         }
         unreachable!()
     }

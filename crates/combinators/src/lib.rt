@@ -2,7 +2,7 @@
 //! It stands on the traits of `task_core`.
 //! A user makes them by the functions of these names, and gives them to an executor, or polls them in a future of its own.
 //! `Half` and `Kept`, what a `join` has of its futures, are public only to carry the claims on it.
-//! The page is docs/FUTURES.md.
+//! The page is README.md, beside the code.
 #![tactic(auto)]
 
 mod half;

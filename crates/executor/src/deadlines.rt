@@ -45,7 +45,11 @@ impl<'x, R: Wait + Clock + Drop + Copy, F: Yields, A: Wake, B: Allocator + Copy>
             if self.ends() {
                 return None;
             }
-            if let Some(runnable) = self.take_turn_until(interruptions, deadline) {
+            if pool.stage.is_finishing() {
+                if let Some(last) = self.take_last_turn() {
+                    return last;
+                }
+            } else if let Some(runnable) = self.take_turn_until(interruptions, deadline) {
                 return Some(runnable);
             }
             if left_until(&pool.rt, deadline).is_zero() {

@@ -9,7 +9,9 @@ use thiserror::Error;
 pub enum TurnsError {
     /// The pool has no worker of this number.
     NoSuchWorker,
-    /// There was no memory, or there are turns of this number: two threads would sleep where one is woken.
+    /// There are turns of this number: two threads would sleep where one is woken. Once those are dropped, the number is free.
+    Taken,
+    /// There was no memory, or the bells have as many owners as can be counted.
     Refused,
 }
 
@@ -17,7 +19,8 @@ impl TurnsError {
     fn words(&self) -> &'static str {
         match self {
             TurnsError::NoSuchWorker => "the pool has no worker of this number",
-            TurnsError::Refused => "there is no memory for the turns, or the worker has some",
+            TurnsError::Taken => "there are turns of this worker",
+            TurnsError::Refused => "no memory for the turns",
         }
     }
 }
@@ -34,20 +37,59 @@ impl From<TurnsError> for io::Error {
     }
 }
 
-/// A spawn was refused, since there was no memory for the task.
+/// Why a pool has not spawned a future.
+#[derive(Clone, Copy, Debug, PartialEq, Eq, Error)]
+#[error("{}", self.words())]
+pub enum SpawnRefusal {
+    /// There was no memory for the task, or none for its Runnable in the queue. A later spawn may find some.
+    NoMemory,
+    /// The pool takes no more tasks: `Pool::finish` or `Pool::shutdown` was called.
+    Stopped,
+}
+
+impl SpawnRefusal {
+    fn words(&self) -> &'static str {
+        match self {
+            SpawnRefusal::NoMemory => "no memory for the task",
+            SpawnRefusal::Stopped => "the pool takes no more tasks",
+        }
+    }
+}
+
+impl From<AllocError> for SpawnRefusal {
+    fn from(_error: AllocError) -> SpawnRefusal {
+        SpawnRefusal::NoMemory
+    }
+}
+
+impl From<SpawnRefusal> for io::Error {
+    fn from(refusal: SpawnRefusal) -> io::Error {
+        match refusal {
+            SpawnRefusal::NoMemory => io::Error::from(AllocError),
+            SpawnRefusal::Stopped => io::Error::other(refusal.words()),
+        }
+    }
+}
+
+/// A spawn was refused. No task was made.
 #[derive(Drop, Error)]
-#[error("no memory for the task")]
+#[error("{}", self.reason.words())]
 pub struct PoolSpawnError<F> {
     /// The future that was not spawned.
     pub future: F,
+    /// Why it was not.
+    pub reason: SpawnRefusal,
 }
 
 impl<F> fmt::Debug for PoolSpawnError<F> {
     fn fmt<W: fmt::Write>(&self, f: &mut fmt::Formatter<W>) -> fmt::Result {
-        f.write_str("PoolSpawnError")
+        f.debug_struct("PoolSpawnError")
+            .field("reason", &self.reason)
+            .finish_non_exhaustive()
     }
 }
 
+/// The reason is lost: keep it where a pool may be stopped meanwhile.
 impl<F: Drop> From<PoolSpawnError<F>> for AllocError {
     fn from(_error: PoolSpawnError<F>) -> AllocError {
         AllocError
@@ -55,8 +97,8 @@ impl<F: Drop> From<PoolSpawnError<F>> for AllocError {
 }
 
 impl<F: Drop> From<PoolSpawnError<F>> for io::Error {
-    fn from(_error: PoolSpawnError<F>) -> io::Error {
-        io::Error::from(AllocError)
+    fn from(error: PoolSpawnError<F>) -> io::Error {
+        io::Error::from(error.reason)
     }
 }
 

@@ -6,13 +6,13 @@ use crate::bell_awaiter::BellAwaiter;
 use crate::pool::{Place, PoolTask, PoolWaker, ToPool};
 use crate::store::{Key, Walk};
 use async_task::{
-    Runnable, Schedule, ScheduleInfo, Task, TaskClosed, TaskPoll, TaskWaker, Wake, Yields,
+    Runnable, Schedule, ScheduleInfo, StoredWaker, Task, TaskClosed, TaskPoll, Wake, Yields,
 };
 use std::alloc::Allocator;
 use std::sync::Wait;
 
-/// A waker as the pool keeps it.
-pub type KeptWaker<R, F, A> = TaskWaker<R, F, ToPool, (), A, ()>;
+/// A waker as the pool keeps it. It cannot wake, before it gets a place back.
+pub type KeptWaker<R, F, A> = StoredWaker<R, F, ToPool, (), A>;
 
 /// A Task as the pool keeps it.
 pub type KeptTask<R, F, A> = Task<R, F, ToPool, (), A, ()>;
@@ -50,7 +50,7 @@ pub fn keep_waker<'x, R: Wait + Drop + Copy, F: Yields, A: Wake, B: Allocator + 
     let Some(clone) = waker.try_clone() else {
         return false;
     };
-    match pool.wakers.put(&pool.rt, key, clone.with_around(())) {
+    match pool.wakers.put(&pool.rt, key, clone.stored()) {
         Ok(before) => {
             drop_waker(place, before);
             if pool.is_shut_down() {
@@ -158,19 +158,22 @@ pub fn await_kept<'x, R: Wait + Drop + Copy, F: Yields, B: Allocator + Copy>(
     }
 }
 
-/// Drops what is left at the places of keys that were dropped: wakers, and Tasks, whose tasks are cancelled. Each worker does it between its turns.
+/// Drops what is left at the places of keys that were dropped: wakers, and Tasks, whose tasks are cancelled. False where nothing was. Each worker does it at its first turn, at each 64th one after it, and before it rests.
 pub fn collect<'x, R: Wait + Drop + Copy, F: Yields, A: Wake, B: Allocator + Copy>(
     place: Place<'x, R, F, A, B>,
-) {
+) -> bool {
     let pool = place.0;
+    let mut drops = false;
     for _ in pool.rt.forever() {
         // A Task, or else a waker, that is left at the place of a key that was dropped.
         if !drop_task(place, pool.tasks.collect(&pool.rt))
             && !drop_waker(place, pool.wakers.collect(&pool.rt))
         {
-            return;
+            return drops;
         }
+        drops = true;
     }
+    unreachable!()
 }
 
 // Drops this Task, where there is one, which cancels its task. False where there is none.
@@ -178,13 +181,7 @@ fn drop_task<'x, R: Wait + Drop + Copy, F: Yields, A: Wake, B: Allocator + Copy>
     place: Place<'x, R, F, A, B>,
     task: Option<KeptTask<R, F, A>>,
 ) -> bool {
-    match task {
-        Some(task) => {
-            drop(task.with_around(place));
-            true
-        }
-        None => false,
-    }
+    task.map(|task| drop(task.with_around(place))).is_some()
 }
 
 // Drops this waker, where there is one. False where there is none.
@@ -192,13 +189,7 @@ fn drop_waker<'x, R: Wait + Drop + Copy, F: Yields, A: Wake, B: Allocator + Copy
     place: Place<'x, R, F, A, B>,
     waker: Option<KeptWaker<R, F, A>>,
 ) -> bool {
-    match waker {
-        Some(waker) => {
-            drop(waker.with_around(place));
-            true
-        }
-        None => false,
-    }
+    waker.map(|waker| drop(waker.with_around(place))).is_some()
 }
 
 // Wakes the task of this waker, where there is one. False where there is none.
@@ -206,13 +197,7 @@ fn wake_taken<'x, R: Wait + Drop + Copy, F: Yields, A: Wake, B: Allocator + Copy
     place: Place<'x, R, F, A, B>,
     waker: Option<KeptWaker<R, F, A>>,
 ) -> bool {
-    match waker {
-        Some(waker) => {
-            waker.with_around(place).wake();
-            true
-        }
-        None => false,
-    }
+    waker.map(|waker| waker.with_around(place).wake()).is_some()
 }
 
 // Cancels what is kept, after the shutdown: all wakers are woken, and then all Tasks are dropped.

@@ -8,6 +8,7 @@
 pub mod bell_awaiter;
 mod deadlines;
 mod debug;
+mod ending;
 pub mod errors;
 pub mod kept;
 pub mod kept_group;
@@ -17,12 +18,15 @@ mod parts;
 pub mod pool;
 mod posted;
 mod ringing;
+pub mod shared;
+mod spawning;
+mod stage;
 pub mod store;
 pub mod turns;
 
 pub use awaiters::BlockOnError;
 pub use bell_awaiter::BellAwaiter;
-pub use errors::{NextMemberError, PoolSpawnError, TurnsError};
+pub use errors::{NextMemberError, PoolSpawnError, SpawnRefusal, TurnsError};
 pub use kept::{
     KeptTask, KeptWaker, await_kept, collect, keep_task, keep_waker, place_for_task,
     place_for_waker, poll_kept, wake_kept, wake_posted,
@@ -31,5 +35,7 @@ pub use kept_group::KeptGroup;
 pub use members::PoolGroup;
 pub use pool::{Place, Pool, PoolRunnable, PoolTask, PoolWaker, ToPool};
 pub use ringing::PoolListener;
+pub use shared::WithShared;
 pub use store::{Key, Store, Walk};
 pub use turns::Turns;
+pub use work_queues::{Settings, WorkerCounts};

@@ -49,16 +49,23 @@ impl<R: Wait + Drop + Copy> Mail<R> {
         }
     }
 
+    // Whether a number may wait.
+    pub(crate) fn is_due(&self) -> bool {
+        self.due.load(Ordering::SeqCst) != 0
+    }
+
     // Takes out a number: that which has waited longest in its part.
     pub(crate) fn take(&self) -> Option<usize> {
-        if self.due.load(Ordering::SeqCst) == 0 {
+        if !self.is_due() {
             return None;
         }
         let first = self.first.load(Ordering::SeqCst);
         for step in 0..PARTS {
             let at = part_of(first.wrapping_add(step));
             if let Some(slot) = self.parts.get(at)?.take(&self.rt) {
-                self.first.store(at.wrapping_add(1), Ordering::SeqCst);
+                if first != at.wrapping_add(1) {
+                    self.first.store(at.wrapping_add(1), Ordering::SeqCst);
+                }
                 return Some(number_of(at, slot));
             }
         }

@@ -1,20 +1,14 @@
-//! The pool: spawn, and the shutdown.
-ghost use Rattle.std.specs.Prelude.{⊤, ◌≡◌, ◌-◌, ◌+◌, ◌<◌, [], drop, true, false, IfOk, IfErr, OnOk, vec_len, vec_capacity};
-ghost use Rattle.executor.specs.Appends.{Appends};
+//! The pool: how it is made, and what it tells.
+ghost use Rattle.std.specs.Prelude.{⊤, ◌≡◌};
 
-use crate::errors::PoolSpawnError;
-use crate::kept::{KeptTask, KeptWaker, cancel_kept};
+use crate::kept::{KeptTask, KeptWaker};
 use crate::mail::Mail;
+use crate::stage::Stage;
 use crate::store::Store;
-use async_task::{Runnable, Schedule, ScheduleInfo, Task, TaskWaker, Wake, Yields, spawn};
+use async_task::{Runnable, Schedule, ScheduleInfo, Task, TaskWaker, Wake, Yields};
 use std::alloc::{AllocError, Allocator, Global};
-use std::collections::VecDeque;
-use std::sync::atomic::{AtomicBool, Ordering};
 use std::sync::{Arc, Wait};
-use work_queues::{Bells, Crew};
-
-/// How many Runnables each queue has room for, before it asks for more memory.
-const ROOM: usize = 64;
+use work_queues::{Bells, Crew, Settings};
 
 /// What the handles of a pool carry: the pool, and the number of the worker on which they were made or woken. It stands for a thread local. A thread that is no worker has the number of workers, or any above it.
 pub type Place<'x, R, F, A, B = Global> = (&'x Pool<R, F, A, B>, usize);
@@ -45,7 +39,7 @@ pub struct Pool<R: Wait + Drop + Copy, F: Yields, A: Wake, B: Allocator = Global
     pub(crate) alloc: Global,
     pub(crate) items: B,
     pub(crate) crew: Crew<Queued<R, F, A>, B>,
-    stopped: AtomicBool,
+    pub(crate) stage: Stage,
     pub(crate) wakers: Store<KeptWaker<R, F, A>>,
     pub(crate) tasks: Store<KeptTask<R, F, A>>,
     pub(crate) mail: Arc<Mail<R>>,
@@ -59,14 +53,14 @@ impl<R: Wait + Drop + Copy, F: Yields, A: Wake, B: Allocator> Drop for Pool<R, F
             alloc: _,
             items,
             crew,
-            stopped,
+            stage,
             wakers,
             tasks,
             mail,
         } = self;
         drop(items);
         drop(crew);
-        drop(stopped);
+        drop(stage);
         drop(wakers);
         drop(tasks);
         drop(mail);
@@ -112,12 +106,23 @@ impl<R: Wait + Drop + Copy, F: Yields, A: Wake, B: Allocator + Copy> Pool<R, F, 
         items: B,
         workers: usize,
     ) -> Result<Pool<R, F, A, B>, AllocError> {
+        Pool::with_settings(rt, alloc, items, workers, Settings::new())
+    }
+
+    /// A pool as `with_queues_in` makes it, where the room of a queue, the size of a batch, and how often a worker looks where, are those of `settings`.
+    pub fn with_settings(
+        rt: R,
+        alloc: Global,
+        items: B,
+        workers: usize,
+        settings: Settings,
+    ) -> Result<Pool<R, F, A, B>, AllocError> {
         Ok(Pool {
             rt,
             alloc,
             items,
-            crew: Crew::new(alloc, items, workers, ROOM)?,
-            stopped: AtomicBool::new(false),
+            crew: Crew::with_settings(alloc, items, workers, settings)?,
+            stage: Stage::new(),
             wakers: Store::new(alloc)?,
             tasks: Store::new(alloc)?,
             mail: Mail::new(rt, alloc)?,
@@ -148,92 +153,6 @@ impl<R: Wait + Drop + Copy, F: Yields, A: Wake, B: Allocator + Copy> Pool<R, F, 
         self.tasks.len(&self.rt)
     }
 
-    /// Spawns a task from a thread that is no worker, and schedules it. An error has the future back: there was no memory for the task. Where its queue is refused memory, or the pool was shut down, the answer is `Ok` with a task that is closed.
-    pub fn spawn(&self, future: F) -> Result<PoolTask<'_, R, F, A, B>, PoolSpawnError<F>>
-        ensures refused { IfErr result (λ error. error.future ≡ future) }
-    {
-        self.spawn_on(self.crew.workers(), future)
-    }
-
-    /// Spawns a task at the queue of a worker, as that which polls the spawning future: `waker.around().1`. It answers as `spawn` does.
-    pub fn spawn_on(
-        &self,
-        worker: usize,
-        future: F,
-    ) -> Result<PoolTask<'_, R, F, A, B>, PoolSpawnError<F>>
-        ensures place { IfOk result (λ task. task.around.1 ≡ worker) }
-        ensures refused { IfErr result (λ error. error.future ≡ future) }
-    {
-        match spawn(self.rt, self.alloc, future, ToPool, (self, worker)) {
-            Ok((runnable, task)) => {
-                runnable.schedule();
-                Ok(task)
-            }
-            Err(refused) => Err(PoolSpawnError {
-                future: refused.maker,
-            }),
-        }
-    }
-
-    /// Spawns futures from the front of `futures`, in their order, at the queue of a worker or, where there is no worker of this number, from outside. Their Tasks go to the back of `tasks`, in the same order.
-    ///
-    /// An error says that there was no memory: what was not spawned is still in `futures`, and a later call may go on with it.
-    pub fn spawn_many<'x>(
-        &'x self,
-        worker: usize,
-        futures: &mut VecDeque<F>,
-        tasks: &mut Vec<PoolTask<'x, R, F, A, B>>,
-    ) -> Result<(), AllocError>
-        ensures all { OnOk result (futures.new.items ≡ []) }
-        ensures left { futures.new.items ≡ drop (vec_len tasks.new - vec_len tasks.old) futures.old.items }
-        ensures added { Appends (λ task. task.around.1 ≡ worker) tasks.old.items tasks.new.items }
-    {
-        tasks.reserve(futures.len())?;
-        for _ in 0..futures.len() {
-            if !self.spawn_first(worker, futures, tasks) {
-                return Err(AllocError);
-            }
-        }
-        Ok(())
-    }
-
-    // Spawns the future at the front, for whose Task there is room. False where there was no memory: it is at the front again.
-    fn spawn_first<'x>(
-        &'x self,
-        worker: usize,
-        futures: &mut VecDeque<F>,
-        tasks: &mut Vec<PoolTask<'x, R, F, A, B>>,
-    ) -> bool
-        requires { vec_len tasks.old < vec_capacity tasks.old }
-        ensures spawned { result ≡ true → (futures.new.items ≡ drop 1 futures.old.items) × (vec_len tasks.new ≡ vec_len tasks.old + 1) × (vec_capacity tasks.new ≡ vec_capacity tasks.old) }
-        ensures added { result ≡ true → Appends (λ task. task.around.1 ≡ worker) tasks.old.items tasks.new.items }
-        ensures refused { result ≡ false → (futures.new.items ≡ futures.old.items) × (tasks.new.items ≡ tasks.old.items) }
-    {
-        let Some(future) = futures.pop_front() else {
-            return false;
-        };
-        match self.spawn_on(worker, future) {
-            Ok(task) => {
-                tasks.push_reserved(task);
-                true
-            }
-            Err(PoolSpawnError { future }) => {
-                futures.push_front_reserved(future);
-                false
-            }
-        }
-    }
-
-    /// Ends the pool: each worker ends after the turn that it has. From here on a task is cancelled where its Runnable is queued, or its waker or its Task is kept, and any other by its next wake.
-    pub fn shutdown(&self) {
-        self.stopped.store(true, Ordering::SeqCst);
-        self.crew.bells().interrupt_all();
-        cancel_kept((self, self.workers()));
-        for queue in 0..=self.workers() {
-            self.cancel_queue(queue);
-        }
-    }
-
     /// The bells of the workers. An awaiter may hold them, to have a sleeping worker look once more.
     pub fn bells(&self) -> &Arc<Bells>
         ensures { result.now ≡ self.now.crew.bells }
@@ -248,18 +167,8 @@ impl<R: Wait + Drop + Copy, F: Yields, A: Wake, B: Allocator> Pool<R, F, A, B> {
         self.crew.workers()
     }
 
-    /// Whether the pool was shut down.
-    pub fn is_shut_down(&self) -> bool {
-        self.stopped.load(Ordering::SeqCst)
-    }
-
-    // Drops the Runnables of a queue, which cancels their tasks.
-    pub(crate) fn cancel_queue(&self, queue: usize) {
-        for _ in self.rt.forever() {
-            match self.crew.pop(&self.rt, queue) {
-                Some(runnable) => drop(runnable),
-                None => return,
-            }
-        }
+    /// How many Runnables the queues have now, each queue counted for itself. It takes the lock of each, so a thread that only watches asks seldom.
+    pub fn queued(&self) -> usize {
+        self.crew.len(&self.rt)
     }
 }

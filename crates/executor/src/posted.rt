@@ -5,7 +5,7 @@ ghost use Rattle.awaiters.specs.Posted.{room_of};
 use awaiters::Numbers;
 use std::alloc::{AllocError, Global};
 use std::sync::atomic::{AtomicU64, AtomicUsize, Ordering};
-use std::sync::{Arc, Mutex, Wait};
+use std::sync::{Arc, Mutex, MutexGuard, Wait};
 
 /// Numbers of one part that wait, each at most once, in the order in which they were posted. Room for a number is taken with its place, so a post needs no memory.
 #[derive(Drop)]
@@ -58,7 +58,7 @@ impl Posted {
         if number < self.room.load(Ordering::SeqCst) {
             return Ok(());
         }
-        let mut numbers = self.numbers.lock(rt);
+        let mut numbers = self.lock(rt);
         widen(&mut *numbers, self.alloc, number.saturating_add(1))?;
         self.room.store(numbers.room(), Ordering::SeqCst);
         Ok(())
@@ -66,7 +66,7 @@ impl Posted {
 
     // Posts a number. True where it joins the others: it did not wait yet, and there is room for it.
     pub(crate) fn post<R: Wait>(&self, rt: &R, number: usize) -> bool {
-        let mut numbers = self.numbers.lock(rt);
+        let mut numbers = self.lock(rt);
         let joins = number < numbers.room() && numbers.post(number);
         if joins && !self.may_wait() {
             self.due.fetch_or(self.bit, Ordering::SeqCst);
@@ -79,15 +79,24 @@ impl Posted {
         if !self.may_wait() {
             return None;
         }
-        let mut numbers = self.numbers.lock(rt);
+        let mut numbers = self.lock(rt);
         let taken = numbers.take();
         if numbers.is_empty() {
-            self.due.fetch_and(!self.bit, Ordering::SeqCst);
+            self.none_waits();
         }
         taken
     }
 
-    fn may_wait(&self) -> bool {
+    // The numbers that wait. Who has taken the last says so by `none_waits`, before another thread has them.
+    pub(crate) fn lock<R: Wait>(&self, rt: &R) -> MutexGuard<'_, Numbers> {
+        self.numbers.lock(rt)
+    }
+
+    pub(crate) fn none_waits(&self) {
+        self.due.fetch_and(!self.bit, Ordering::SeqCst);
+    }
+
+    pub(crate) fn may_wait(&self) -> bool {
         self.due.load(Ordering::SeqCst) & self.bit != 0
     }
 }

@@ -128,9 +128,23 @@ impl<H: Drop> Part<H> {
         }
     }
 
-    // Frees a slot, and answers the handle that was in it.
-    fn free<R: Wait>(&self, rt: &R, slot: usize) -> Option<H> {
-        self.places.lock(rt).try_remove(slot).flatten()
+    // Frees the places of keys that were dropped, under one lock, up to one that has a handle, and answers that.
+    fn collect<R: Wait>(&self, rt: &R) -> Option<H> {
+        if !self.returned.slots.may_wait() {
+            return None;
+        }
+        let mut places = self.places.lock(rt);
+        let mut numbers = self.returned.slots.lock(rt);
+        for _ in 0..=numbers.room() {
+            let Some(slot) = numbers.take() else {
+                break;
+            };
+            if let Some(handle) = places.try_remove(slot).flatten() {
+                return Some(handle);
+            }
+        }
+        self.returned.slots.none_waits();
+        None
     }
 }
 
@@ -195,22 +209,12 @@ impl<H: Drop> Store<H> {
 
     /// Frees the places of keys that were dropped, up to one that has a handle, and answers that handle. `None` where no such key is left.
     pub fn collect<R: Wait>(&self, rt: &R) -> Option<H> {
-        for _ in rt.forever() {
-            if let Some(handle) = self.free_next(rt)? {
-                return Some(handle);
-            }
-        }
-        unreachable!()
-    }
-
-    // Frees the place of one key that was dropped. `None` where there is no such key, and `Some(None)` where the place was empty.
-    fn free_next<R: Wait>(&self, rt: &R) -> Option<Option<H>> {
         if self.due.load(Ordering::SeqCst) == 0 {
             return None;
         }
         for part in self.parts.iter() {
-            if let Some(slot) = part.returned.slots.take(rt) {
-                return Some(part.free(rt, slot));
+            if let Some(handle) = part.collect(rt) {
+                return Some(handle);
             }
         }
         None
@@ -226,18 +230,19 @@ impl<H: Drop> Store<H> {
         unreachable!()
     }
 
-    // Takes what is in the place at which a walk stands, and goes on to the next one. `None` where the walk is over, and `Some(None)` where the place was empty.
+    // Takes the next handle of the part at which a walk stands, under one lock. `None` where the walk is over, and `Some(None)` where the part has no more.
     fn take_at<R: Wait>(&self, rt: &R, walk: &mut Walk) -> Option<Option<H>> {
         let part = self.parts.get(walk.part)?;
         let mut places = part.places.lock(rt);
-        if walk.slot >= places.capacity() {
-            walk.part = walk.part.saturating_add(1);
-            walk.slot = 0;
-            return Some(None);
+        for slot in walk.slot..places.capacity() {
+            if let Some(handle) = take_out(&mut *places, slot) {
+                walk.slot = slot.saturating_add(1);
+                return Some(Some(handle));
+            }
         }
-        let slot = walk.slot;
-        walk.slot = slot.saturating_add(1);
-        Some(take_out(&mut *places, slot))
+        walk.part = walk.part.saturating_add(1);
+        walk.slot = 0;
+        Some(None)
     }
 
     /// How many places have a key, or are not collected yet.

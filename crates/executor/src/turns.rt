@@ -16,7 +16,10 @@ use awaiters::{Awaited, BlockOnError};
 use std::alloc::{Allocator, Global};
 use std::sync::Wait;
 use std::time::Duration;
-use work_queues::{Bells, Worker};
+use work_queues::{Bells, Worker, WorkerCounts, WorkerError};
+
+/// A worker frees what keys left once in so many turns.
+const COLLECTS: u64 = 64;
 
 /// The turns of one worker of a pool: the thread that has them is that worker. No other turns have its number while these live.
 ///
@@ -25,11 +28,16 @@ use work_queues::{Bells, Worker};
 pub struct Turns<'x, R: Wait + Drop + Copy, F: Yields, A: Wake, B: Allocator = Global> {
     pub(crate) pool: &'x Pool<R, F, A, B>,
     pub(crate) worker: Worker<Queued<R, F, A>, B>,
+    count: u64,
 }
 
 impl<'x, R: Wait + Drop + Copy, F: Yields, A: Wake, B: Allocator> Drop for Turns<'x, R, F, A, B> {
     fn drop(self) {
-        let Turns { pool, worker } = self;
+        let Turns {
+            pool,
+            worker,
+            count: _,
+        } = self;
         let number = worker.number();
         drop(pool.crew.end_turns(&pool.rt, worker));
         // A shutdown may have passed both queues before this worker moved Runnables there.
@@ -46,12 +54,15 @@ impl<R: Wait + Drop + Copy, F: Yields, A: Wake, B: Allocator + Copy> Pool<R, F, 
         ensures worker { IfOk result (λ turns. turns.worker.number ≡ worker) }
         ensures none { result ≡ Err TurnsError.NoSuchWorker ↔ ((arc_value self.now.crew.bells).workers ≤ worker) }
     {
-        if worker >= self.crew.workers() {
-            return Err(TurnsError::NoSuchWorker);
-        }
         match self.crew.worker(self.items, worker) {
-            Ok(worker) => Ok(Turns { pool: self, worker }),
-            Err(_) => Err(TurnsError::Refused),
+            Ok(worker) => Ok(Turns {
+                pool: self,
+                worker,
+                count: 0,
+            }),
+            Err(WorkerError::NoSuchWorker) => Err(TurnsError::NoSuchWorker),
+            Err(WorkerError::Taken) => Err(TurnsError::Taken),
+            Err(WorkerError::NoMemory) => Err(TurnsError::Refused),
         }
     }
 
@@ -66,7 +77,7 @@ impl<R: Wait + Drop + Copy, F: Yields, A: Wake, B: Allocator + Copy> Pool<R, F, 
         Ok(all)
     }
 
-    /// Is the worker of this number until the pool is shut down, as `Turns::work` is. An error is that of `turns`.
+    /// Is the worker of this number until the pool is shut down, or has finished, as `Turns::work` is. An error is that of `turns`.
     pub fn run<'x>(&'x self, worker: usize) -> Result<(), TurnsError>
     where
         F: Future<PoolWaker<'x, R, F, A, B>>,
@@ -83,6 +94,13 @@ impl<'x, R: Wait + Drop + Copy, F: Yields, A: Wake, B: Allocator + Copy> Turns<'
         ensures { result.1 ≡ self.now.worker.number }
     {
         (self.pool, self.worker.number())
+    }
+
+    /// What this worker has done since these turns were made: the Runnables that it took, those that it took from other workers, and how often it slept.
+    pub fn counts(&self) -> WorkerCounts
+        ensures { result ≡ self.now.worker.counts }
+    {
+        self.worker.counts()
     }
 
     /// The bell of this worker: a group that is given it by `listen` has the worker look once more as a member ends. `None` says that the bells have as many owners as can be counted.
@@ -126,7 +144,7 @@ impl<'x, R: Wait + Drop + Copy, F: Yields, A: Wake, B: Allocator + Copy> Turns<'
             .rest(&self.pool.rt, &mut self.worker, interruptions, most);
     }
 
-    /// A turn but for the run of what it takes: frees what keys left, wakes one task whose number was posted, and takes the next Runnable. Where there is neither it searches and then sleeps, as `rest` says, if the bells counted no interruption since `interruptions`: so ask for them before the last look at what the loop waits for. Run what it answers.
+    /// A turn but for the run of what it takes: wakes one task whose number was posted, and takes the next Runnable. At the first and each 64th turn, and where there is none, it frees what keys left. Where there is neither it searches and then sleeps, as `rest` says, if the bells counted no interruption since `interruptions`: so ask for them before the last look at what the loop waits for. Run what it answers.
     pub fn take_turn(&mut self, interruptions: u64) -> Option<PoolRunnable<'x, R, F, A, B>>
         ensures place { IfSome result (λ runnable. runnable.around.1 ≡ self.old.worker.number) }
     {
@@ -142,16 +160,19 @@ impl<'x, R: Wait + Drop + Copy, F: Yields, A: Wake, B: Allocator + Copy> Turns<'
         ensures place { IfSome result (λ runnable. runnable.around.1 ≡ self.old.worker.number) }
     {
         let place = self.place();
-        collect(place);
+        if self.count % COLLECTS == 0 {
+            collect(place);
+        }
+        self.count = self.count.wrapping_add(1);
         let woke = wake_posted(place);
         let next = self.next();
-        if next.is_none() && !woke {
+        if next.is_none() && !woke && !collect(place) {
             self.rest_for(interruptions, most);
         }
         next
     }
 
-    /// The next Runnable for this worker, for which it searches and sleeps where `next` answers `None`. Run it. `None` once the pool is shut down: then no Runnable is left that this worker can find.
+    /// The next Runnable for this worker, for which it searches and sleeps where `next` answers `None`. Run it. `None` once the pool is shut down, or has finished: then no Runnable is left that this worker can find.
     pub fn await_next(&mut self) -> Option<PoolRunnable<'x, R, F, A, B>> {
         let pool = self.pool;
         let bells: &Bells = pool.bells();
@@ -161,14 +182,18 @@ impl<'x, R: Wait + Drop + Copy, F: Yields, A: Wake, B: Allocator + Copy> Turns<'
                 collect(self.place());
                 return None;
             }
-            if let Some(runnable) = self.take_turn(interruptions) {
+            if pool.stage.is_finishing() {
+                if let Some(last) = self.take_last_turn() {
+                    return last;
+                }
+            } else if let Some(runnable) = self.take_turn(interruptions) {
                 return Some(runnable);
             }
         }
         unreachable!()
     }
 
-    /// Is the worker until the pool is shut down: runs each Runnable that `await_next` answers.
+    /// Is the worker until the pool is shut down, or has finished: runs each Runnable that `await_next` answers.
     pub fn work(&mut self)
     where
         F: Future<PoolWaker<'x, R, F, A, B>>,

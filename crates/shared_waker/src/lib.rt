@@ -2,7 +2,7 @@
 //! It stands on the pool and the store of `executor`, on the mailbox of `awaiters`, and on `async_task`.
 //! A user gives an executor `Sharing::new(future)` for a future that is written over `W: Wake`, or calls `block_on` with it. An executor of one's own has a `Desk`, and says so by `HasDesk`.
 //! Nothing is public only to carry a claim.
-//! The page is docs/FUTURES.md.
+//! The page is README.md, beside the code.
 #![tactic(auto)]
 
 mod blocking;

@@ -1,7 +1,8 @@
 -- Each call makes its acts, and no other.
-use Rattle.std.proofs.Common.{◌≡◌, ℕ, zero, suc, Bool, true, false, List, [], ◌∷◌, ◌++◌, Option, Some, None, refl, sym, ap, ◌∙◌, subst}
-use Rattle.std.specs.Prelude.{slice_get, slice_set, nat_eq, if◌then◌else◌}
+use Rattle.std.proofs.Common.{◌≡◌, ℕ, zero, suc, Bool, true, false, List, [], ◌∷◌, ◌++◌, Option, Some, None, refl, sym, ap, ◌∙◌, subst, ◌⊎◌, inl, inr}
+use Rattle.std.specs.Prelude.{option_and_then, slice_get, slice_set, nat_eq, if◌then◌else◌}
 use Rattle.task_core.specs.declared.acts.Act.{Act}
+use Rattle.task_core.specs.declared.acts.Act.TheVariants.{EndCall}
 use Rattle.task_laws.specs.declared.positions.Position.{Position}
 use Rattle.task_laws.specs.declared.positions.Position.TheVariants.{At, CallEnding, Deliverer, Starting, Polling, Pending, Ready, ReadyFutureDropped}
 use Rattle.task_laws.specs.declared.positions.Position.TheVariants.{OutputStored, PendingFutureDropped, FutureInHand, FutureGone, OutputInHand, GivingUp}
@@ -15,6 +16,7 @@ use Rattle.task_laws.specs.declared.positions.Answer.TheVariants.{Nothing, Ran}
 use Rattle.task_laws.specs.Abstract.{Run, DropRunnable, Poll}
 use Rattle.task_laws.specs.Machine.{Machine, Step, opening, scene, after}
 use Rattle.task_laws.specs.Table.{Outcome, Scene, rule}
+use Rattle.task_laws.specs.declared.positions.Rest.TheVariants.{Ended, Lent, Task}
 use Rattle.task_laws.specs.Whole.{is_at_rest}
 use Rattle.task_laws.proofs.Cuts.{get_append, get_other, get_put}
 use Rattle.task_laws.proofs.Rows.{Row, starts_run, Shows, by_rows}
@@ -22,7 +24,7 @@ use Rattle.task_laws.proofs.Scenes.{InEach, rules}
 use Rattle.task_laws.proofs.WholeRuns.{same_number}
 use Rattle.task_progress.specs.Tables.{moves_by, step_by, run_from_by}
 use Rattle.task_atomic.specs.Small.{SmallAct, Drops, Orphans, Claims, Detaches, Starts, Discards, SeesClosed}
-use Rattle.task_atomic.specs.Calls.{InCall, are_acts_of, are_acts_of_poll, goes_on, where_is, follows, has_done, is_answering, CallsMakeTheirActs, CallsEndByAnswers}
+use Rattle.task_atomic.specs.Calls.{InCall, are_acts_of, goes_on, follows, CallsMakeTheirActs, CallsEndByAnswers}
 
 -- the acts that are still to come make those of the call
 abbrev polls : ℕ → List SmallAct → InCall → Type 0
@@ -30,10 +32,10 @@ polls i acts c = c ≡ record { call = Some (Poll i); acts = acts }
 
 abbrev Does : Position → InCall → Type 0
 Does (At r) c = Unit {0}
-Does (CallEnding answer r) c = are_acts_of c.call answer c.acts ≡ true
-Does (Deliverer woken (ThenEnds answer)) c = are_acts_of c.call answer c.acts ≡ true
-Does (Deliverer woken (ThenTask n)) c = are_acts_of c.call Nothing c.acts ≡ true
-Does (Deliverer woken (ThenNotifies n)) c = are_acts_of c.call Nothing c.acts ≡ true
+Does (CallEnding answer r) c = are_acts_of c.call (CallEnding answer r) c.acts ≡ true
+Does (Deliverer woken (ThenEnds answer)) c = are_acts_of c.call (CallEnding answer Ended) c.acts ≡ true
+Does (Deliverer woken (ThenTask n)) c = are_acts_of c.call (CallEnding Nothing (Task n)) c.acts ≡ true
+Does (Deliverer woken (ThenNotifies n)) c = are_acts_of c.call (CallEnding Nothing (Task n)) c.acts ≡ true
 Does Starting c = c ≡ record { call = Some Run; acts = Starts ∷ [] }
 Does Polling c = c ≡ record { call = Some Run; acts = Starts ∷ [] }
 Does Pending c = c ≡ record { call = Some Run; acts = Starts ∷ [] }
@@ -45,23 +47,23 @@ Does (FutureInHand ClosedRun) c = c ≡ record { call = Some Run; acts = Starts 
 Does (FutureInHand DroppedRunnable) c = c ≡ record { call = Some DropRunnable; acts = Discards ∷ [] }
 Does (FutureGone ClosedRun) c = c ≡ record { call = Some Run; acts = Starts ∷ [] }
 Does (FutureGone DroppedRunnable) c = c ≡ record { call = Some DropRunnable; acts = Discards ∷ [] }
-Does (OutputInHand due) c = are_acts_of c.call (Ran false) (Drops ∷ c.acts) ≡ true
-Does (GivingUp None answer) c = are_acts_of c.call answer (Drops ∷ c.acts) ≡ true
-Does (GivingUp (Some i) answer) c = are_acts_of c.call (Ran false) (Drops ∷ c.acts) ≡ true
-Does (Emptier None answer) c = are_acts_of c.call answer c.acts ≡ true
-Does (Emptier (Some i) answer) c = are_acts_of c.call (Ran false) c.acts ≡ true
-Does (Notifier OfRun) c = are_acts_of c.call (Ran false) (Drops ∷ c.acts) ≡ true
-Does (Taker OfRun) c = are_acts_of c.call (Ran false) (Drops ∷ c.acts) ≡ true
-Does (Releaser hand OfRun) c = are_acts_of c.call (Ran false) (Drops ∷ c.acts) ≡ true
-Does (AwaiterInHand i OfRun) c = are_acts_of c.call (Ran false) c.acts ≡ true
-Does (Notifier OfDrop) c = are_acts_of c.call Nothing (Drops ∷ c.acts) ≡ true
-Does (Taker OfDrop) c = are_acts_of c.call Nothing (Drops ∷ c.acts) ≡ true
-Does (Releaser hand OfDrop) c = are_acts_of c.call Nothing (Drops ∷ c.acts) ≡ true
-Does (AwaiterInHand i OfDrop) c = are_acts_of c.call Nothing (Drops ∷ c.acts) ≡ true
-Does (Notifier (OfCancel n)) c = are_acts_of c.call Nothing c.acts ≡ true
-Does (Taker (OfCancel n)) c = are_acts_of c.call Nothing c.acts ≡ true
-Does (Releaser hand (OfCancel n)) c = are_acts_of c.call Nothing c.acts ≡ true
-Does (AwaiterInHand i (OfCancel n)) c = are_acts_of c.call Nothing c.acts ≡ true
+Does (OutputInHand due) c = are_acts_of c.call (CallEnding (Ran false) Ended) (Drops ∷ c.acts) ≡ true
+Does (GivingUp None answer) c = are_acts_of c.call (CallEnding answer Ended) (Drops ∷ c.acts) ≡ true
+Does (GivingUp (Some i) answer) c = are_acts_of c.call (CallEnding (Ran false) Ended) (Drops ∷ c.acts) ≡ true
+Does (Emptier None answer) c = are_acts_of c.call (CallEnding answer Ended) c.acts ≡ true
+Does (Emptier (Some i) answer) c = are_acts_of c.call (CallEnding (Ran false) Ended) c.acts ≡ true
+Does (Notifier OfRun) c = are_acts_of c.call (CallEnding (Ran false) Ended) (Drops ∷ c.acts) ≡ true
+Does (Taker OfRun) c = are_acts_of c.call (CallEnding (Ran false) Ended) (Drops ∷ c.acts) ≡ true
+Does (Releaser hand OfRun) c = are_acts_of c.call (CallEnding (Ran false) Ended) (Drops ∷ c.acts) ≡ true
+Does (AwaiterInHand i OfRun) c = are_acts_of c.call (CallEnding (Ran false) Ended) c.acts ≡ true
+Does (Notifier OfDrop) c = are_acts_of c.call (CallEnding Nothing Ended) (Drops ∷ c.acts) ≡ true
+Does (Taker OfDrop) c = are_acts_of c.call (CallEnding Nothing Ended) (Drops ∷ c.acts) ≡ true
+Does (Releaser hand OfDrop) c = are_acts_of c.call (CallEnding Nothing Ended) (Drops ∷ c.acts) ≡ true
+Does (AwaiterInHand i OfDrop) c = are_acts_of c.call (CallEnding Nothing Ended) (Drops ∷ c.acts) ≡ true
+Does (Notifier (OfCancel n)) c = are_acts_of c.call (CallEnding Nothing (Task n)) c.acts ≡ true
+Does (Taker (OfCancel n)) c = are_acts_of c.call (CallEnding Nothing (Task n)) c.acts ≡ true
+Does (Releaser hand (OfCancel n)) c = are_acts_of c.call (CallEnding Nothing (Task n)) c.acts ≡ true
+Does (AwaiterInHand i (OfCancel n)) c = are_acts_of c.call (CallEnding Nothing (Task n)) c.acts ≡ true
 Does (Notifier (OfPoll n)) c = polls n (SeesClosed ∷ []) c
 Does (Taker (OfPoll n)) c = polls n (SeesClosed ∷ []) c
 Does (Releaser hand (OfPoll n)) c = polls n (SeesClosed ∷ []) c
@@ -71,10 +73,10 @@ Does (Taker (OfClaim n)) c = polls n (Claims ∷ []) c
 Does (Releaser hand (OfClaim n)) c = polls n (Claims ∷ []) c
 Does (AwaiterInHand i (OfClaim n)) c = polls n (Claims ∷ []) c
 Does (TookOutput n) c = polls n (Claims ∷ []) c
-Does OrphanHolder c = are_acts_of c.call Nothing (Orphans ∷ c.acts) ≡ true
-Does OutputCloser c = are_acts_of c.call Nothing (Detaches ∷ c.acts) ≡ true
-Does Detacher c = are_acts_of c.call Nothing (Detaches ∷ c.acts) ≡ true
-Does (Answering i answer) c = are_acts_of_poll i c.call answer c.acts ≡ true
+Does OrphanHolder c = are_acts_of c.call (CallEnding Nothing Ended) (Orphans ∷ c.acts) ≡ true
+Does OutputCloser c = are_acts_of c.call (CallEnding Nothing Ended) (Detaches ∷ c.acts) ≡ true
+Does Detacher c = are_acts_of c.call (CallEnding Nothing Ended) (Detaches ∷ c.acts) ≡ true
+Does (Answering i answer) c = are_acts_of c.call (Answering i answer) c.acts ≡ true
 Does (Registrar i) c = polls i [] c
 Does (HasClone i) c = polls i [] c
 Does (UnusedClone i) c = polls i [] c
@@ -122,6 +124,9 @@ born_row act p put row = grind rules
 
 born_by_rule : (act : Act) (p : Position) (scene : Scene) → BornTo (rule scene act p)
 born_by_rule = by_rows BornDo (λ act p scene. tt) born_row
+
+abbrev where_is : ℕ → Option Machine → Option Position
+where_is i m = option_and_then (λ (now : Machine). slice_get now.parties i) m
 
 -- a party that is not there yet has done nothing
 abbrev Fits : Option Position → InCall → Type 0
@@ -177,28 +182,38 @@ run_fits i (Some m) (s ∷ steps) c fits =
 opens_fits : (limit i : ℕ) → Fits (slice_get (opening limit).parties i) nothing
 opens_fits limit i = born_fits (opening limit).parties i (tt, (tt, (tt, tt)))
 
-at_end : (p : Position) (c : InCall) → Does p c → has_done p c ≡ true
-at_end (CallEnding answer r) c does = does
-at_end (Answering i answer) c does = does
-at_end p c does = refl
+at_end : (p : Position) (s : Scene) (left : Outcome) (c : InCall) → rule s EndCall p ≡ Some left → Does p c → are_acts_of c.call p c.acts ≡ true
+at_end (CallEnding answer r) s left c ends does = does
+at_end (Answering i answer) s left c ends does = does
+at_end p s left c ends does = absurd (cc)
 
 pub calls_make_their_acts : CallsMakeTheirActs rule
-calls_make_their_acts limit steps m e i p at =
+calls_make_their_acts limit steps m e i p at left ends =
     let c = follows rule i (Some (opening limit)) steps nothing in
     let fits : FitsTo i (Some m) c = subst (λ (o : Option Machine). FitsTo i o c) e (run_fits i (Some (opening limit)) steps nothing (opens_fits limit i)) in
-    at_end p c (subst (λ (q : Option Position). Fits q c) at fits)
+    at_end p (scene m) left c ends (subst (λ (q : Option Position). Fits q c) at fits)
 
--- it comes to rest from its answer
-abbrev EndsTo : Position → Option Outcome → Type 0
-EndsTo p None = Unit {0}
-EndsTo p (Some left) = is_at_rest left.next ≡ true → is_answering p ≡ true
+-- it comes to rest by the end of a call, or is the lent waker
+abbrev is_end : Act → Position → Bool
+is_end EndCall p = true
+is_end act (At Lent) = true
+is_end act p = false
+
+ends_so : (act : Act) (p : Position) → is_end act p ≡ true → (act ≡ EndCall) ⊎ (p ≡ At Lent)
+ends_so EndCall p so = inl refl
+ends_so act (At Lent) so = inr refl
+ends_so act p so = absurd (cc)
+
+abbrev EndsTo : Act → Position → Option Outcome → Type 0
+EndsTo act p None = Unit {0}
+EndsTo act p (Some left) = is_at_rest left.next ≡ true → is_end act p ≡ true
 
 abbrev Ends : Act → Position → Scene → Option Outcome → Type 0
-Ends act p scene left = EndsTo p left
+Ends act p scene left = EndsTo act p left
 
 ends_row : (act : Act) (p : Position) (put : Scene → Scene) → Row act p put → InEach (λ scene. Shows Ends act p (put scene))
 ends_row _ _ _ starts_run = grind rules
 ends_row act p put row = grind rules
 
 pub calls_end_by_answers : CallsEndByAnswers
-calls_end_by_answers s act p left is = subst (EndsTo p) is (by_rows Ends (λ act p scene. tt) ends_row act p s)
+calls_end_by_answers s act p left is rests = ends_so act p (subst (EndsTo act p) is (by_rows Ends (λ act p scene. tt) ends_row act p s) rests)

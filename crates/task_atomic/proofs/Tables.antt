@@ -3,13 +3,13 @@ use Rattle.std.proofs.Common.{◌≡◌, ℕ, zero, suc, Bool, true, false, List
 use Rattle.std.specs.Prelude.{slice_get, slice_set}
 use Rattle.task_core.specs.Rows.{found}
 use Rattle.task_core.specs.declared.acts.Act.{Act}
-use Rattle.task_core.specs.declared.acts.Act.TheVariants.{CancelOver, CancelBusy}
+use Rattle.task_core.specs.declared.acts.Act.TheVariants.{CancelOver, CancelBusy, EndCall}
 use Rattle.task_laws.specs.declared.positions.Position.{Position}
-use Rattle.task_laws.specs.declared.positions.Position.TheVariants.{CallEnding}
+use Rattle.task_laws.specs.declared.positions.Position.TheVariants.{At, CallEnding}
 use Rattle.task_laws.specs.declared.positions.Answer.TheVariants.{Nothing}
-use Rattle.task_laws.specs.declared.positions.Rest.TheVariants.{Task}
+use Rattle.task_laws.specs.declared.positions.Rest.TheVariants.{Ended, Task}
 use Rattle.task_laws.specs.Machine.{Machine, Step, opening, scene, after}
-use Rattle.task_laws.specs.Table.{when, rule}
+use Rattle.task_laws.specs.Table.{Outcome, when, rule}
 use Rattle.task_laws.proofs.Runs.{Invariant, Stays, moves_stays, opens}
 use Rattle.task_laws.proofs.Theorem.{laws_of}
 use Rattle.task_progress.specs.Tables.{DiffersIn, moves_by, step_by, run_from_by, run_by}
@@ -55,8 +55,15 @@ abbrev known : Option Machine → Machine
 known None = opening 0
 known (Some m) = m
 
+abbrev left_of : Option Outcome → Outcome
+left_of None = record { word = (opening 0).word; slots = (opening 0).slots; next = At Ended; born = []; told = [] }
+left_of (Some left) = left
+
 is_refused : ¬ (CallsMakeTheirActs cancels_again)
-is_refused claim = let once = claim 0 twice (known (run_by cancels_again 0 twice)) refl 1 (CallEnding Nothing (Task 0)) refl in absurd (cc)
+is_refused claim =
+    let m : Machine = known (run_by cancels_again 0 twice) in
+    let once = claim 0 twice m refl 1 (CallEnding Nothing (Task 0)) refl (left_of (cancels_again (scene m) EndCall (CallEnding Nothing (Task 0)))) refl in
+    absurd (cc)
 
 pub cancels_again_refused : CancelsAgain
 cancels_again_refused = record {

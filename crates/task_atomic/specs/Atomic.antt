@@ -1,5 +1,7 @@
 -- 2 of 4: each step of the machine is an act on the small task, which makes of it what the step makes, and answers what is so; or it is none.
-use Rattle.std.specs.Prelude.{◌≡◌, ℕ, true, false, List, Some, slice_get}
+use Rattle.std.specs.Prelude.{◌≡◌, ℕ, Bool, true, false, List, [], ◌∷◌, Some, is_some, unwrap_or, option_map, slice_get}
+use Rattle.std.specs.List.{find}
+use Rattle.task_core.specs.contracts.acts.ActPartialEq.TheImpl as act_eq
 use Rattle.task_core.specs.declared.acts.Act.{Act}
 use Rattle.task_core.specs.declared.acts.Act.TheVariants.{GainReference, FindLimit, DropWaker, DropLastWaker, OrphanTask, CloseOrphan}
 use Rattle.task_core.specs.declared.acts.Act.TheVariants.{GiveUpReference, GiveUpLastReference, WakeOver, WakeScheduled, WakeRunning}
@@ -17,44 +19,26 @@ use Rattle.task_laws.specs.Table.{Outcome, rule}
 use Rattle.task_atomic.specs.Small.{small_task, SmallAct, Gains, Drops, Orphans, Wakes, Discards, Cancels, Claims, GivesOutputUp}
 use Rattle.task_atomic.specs.Small.{Detaches, Starts, EndsUnpolled, EndsReady, EndsPending, SeesFinished, SeesPending, SeesClosed, NoAct, makes, is_so}
 
--- which act a step is, by its row and the position that it leads to: whichever of its rows a wake makes, it is a wake
+-- the rows of each act: whichever of them a call makes, it is that act
+abbrev pub rows : List (SmallAct × List Act)
+rows =
+    (Gains true, GainReference ∷ []) ∷ (Gains false, FindLimit ∷ []) ∷ (Orphans, CloseOrphan ∷ [])
+    ∷ (Drops, DropWaker ∷ DropLastWaker ∷ OrphanTask ∷ GiveUpReference ∷ GiveUpLastReference ∷ [])
+    ∷ (Wakes, WakeOver ∷ WakeScheduled ∷ WakeRunning ∷ WakeIdle ∷ []) ∷ (Discards, DiscardOpen ∷ DiscardClosed ∷ [])
+    ∷ (Cancels, CancelOver ∷ CancelBusy ∷ CancelIdle ∷ []) ∷ (Claims, ClaimOutput ∷ []) ∷ (GivesOutputUp, GiveUpOutput ∷ [])
+    ∷ (Detaches, DetachOrphan ∷ DetachLast ∷ Detach ∷ []) ∷ (Starts, TakeUpClosed ∷ StartRun ∷ []) ∷ (EndsUnpolled, Unschedule ∷ [])
+    ∷ (EndsReady, Complete ∷ CompleteDetached ∷ []) ∷ (EndsPending true, Reschedule ∷ [])
+    ∷ (EndsPending false, EndClosed ∷ EndIdle ∷ EndOrphaned ∷ []) ∷ []
+
+abbrev pub is_row : Act → SmallAct × List Act → Bool
+is_row act row = is_some (find (act_eq.ghosts.eq act) row.1)
+
+-- which act a step is, by its row, and of a look by the position that it leads to; any other look or row, and a private act, is none
 abbrev pub act_of : Act → Position → SmallAct
-act_of GainReference p = Gains true
-act_of FindLimit p = Gains false
-act_of DropWaker p = Drops
-act_of DropLastWaker p = Drops
-act_of OrphanTask p = Drops
-act_of CloseOrphan p = Orphans
-act_of GiveUpReference p = Drops
-act_of GiveUpLastReference p = Drops
-act_of WakeOver p = Wakes
-act_of WakeScheduled p = Wakes
-act_of WakeRunning p = Wakes
-act_of WakeIdle p = Wakes
-act_of DiscardOpen p = Discards
-act_of DiscardClosed p = Discards
-act_of CancelOver p = Cancels
-act_of CancelBusy p = Cancels
-act_of CancelIdle p = Cancels
-act_of ClaimOutput p = Claims
-act_of GiveUpOutput p = GivesOutputUp
-act_of DetachOrphan p = Detaches
-act_of DetachLast p = Detaches
-act_of Detach p = Detaches
-act_of TakeUpClosed p = Starts
-act_of StartRun p = Starts
-act_of Unschedule p = EndsUnpolled
-act_of Complete p = EndsReady
-act_of CompleteDetached p = EndsReady
-act_of EndClosed p = EndsPending false
-act_of Reschedule p = EndsPending true
-act_of EndIdle p = EndsPending false
-act_of EndOrphaned p = EndsPending false
 act_of LookFinished (CallEnding (Finished finished) r) = SeesFinished finished
 act_of Look (Answering i IsPending) = SeesPending
 act_of Look (Notifier (OfPoll i)) = SeesClosed
--- any other look, a row of the handshake, a private act
-act_of act p = NoAct
+act_of act p = unwrap_or (option_map (λ (row : SmallAct × List Act). row.0) (find (is_row act) rows)) NoAct
 
 -- what a step leaves of the task, and what it answers
 pub record IsAtomic (m : Machine) (act : Act) (left : Outcome) : Type 0 where

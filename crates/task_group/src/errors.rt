@@ -7,6 +7,17 @@ use thiserror::Error;
 #[error("the poll of a member was refused its awaiter")]
 pub struct AwaiterRefused;
 
+/// Why `next_until` has no member.
+#[derive(Clone, Copy, Debug, PartialEq, Eq, Error)]
+pub enum NextUntilError {
+    /// A poll of a member was refused its awaiter. The member is still in the group, and a later call polls it again.
+    #[error("the poll of a member was refused its awaiter")]
+    Refused,
+    /// No member had ended at the deadline.
+    #[error("no member had ended at the deadline")]
+    Elapsed,
+}
+
 /// A push was refused, since the group was full. The group is as it was.
 #[derive(Drop, Error)]
 #[error("the group is full")]

@@ -9,7 +9,7 @@ ghost use Rattle.task_group.specs.Members.{Joins, Leaves, SameMembers, IfNext, c
 ghost use Rattle.task_group.specs.Cancelled.{IsCancel, WasCancelled};
 
 use crate::ended::Ended;
-use crate::errors::{AwaiterRefused, GroupFull, GroupSpawnError};
+use crate::errors::{AwaiterRefused, GroupFull, GroupSpawnError, NextUntilError};
 use async_task::{
     Cancel, Runnable, Schedule, SpawnError, Task, TaskClosed, TaskPoll, Yields, spawn,
 };
@@ -17,6 +17,7 @@ use awaiters::{Mailbox, Posts};
 use slab::Slab;
 use std::alloc::{AllocError, Allocator, Global};
 use std::sync::{Arc, Wait};
+use std::time::{Clock, Instant};
 
 // A member: its Task, that as a Cancel which was polled, or the answer that the handle gave as it was pushed or cancelled.
 #[derive(Drop)]
@@ -412,6 +413,46 @@ where
             }
         }
         self.members.clear();
+    }
+}
+
+impl<
+    R: Wait + Clock + Drop + Copy,
+    F: Yields,
+    Q: Drop,
+    M: Drop,
+    A: Posts<R>,
+    X: Copy,
+    B: Allocator + Copy,
+> TaskGroup<R, F, Q, M, A, X, B>
+where
+    Q: Schedule<Runnable<R, F, Q, M, A, X, B>>,
+{
+    /// As `next`, but `Elapsed` at the deadline, if no member has ended then. It looks at least once, so a deadline that has passed makes it a `try_next` that tells a group without members from one that waits.
+    ///
+    /// After an error the group is as it was. Where the clock of the runtime has no answer, the call does not sleep, and answers `Elapsed`.
+    pub fn next_until(&mut self, deadline: Instant) -> Result<Option<Ended<F>>, NextUntilError>
+        ensures over { is_over result ≡ true → slab_len self.old.members ≡ 0 }
+        ensures empty { slab_len self.old.members ≡ 0 → is_over result ≡ true }
+        ensures leaves { IfNext result (λ ended. Leaves self.old.members self.new.members ended.number) }
+        ensures refused { OnErr result (SameMembers self.old.members self.new.members) }
+        ensures room { self.new.members.capacity ≡ self.old.members.capacity }
+    {
+        let rt = self.rt;
+        for _ in rt.forever() {
+            if self.members.is_empty() {
+                return Ok(None);
+            }
+            let Some(number) = self.mailbox.wait_until(deadline) else {
+                return Err(NextUntilError::Elapsed);
+            };
+            match self.look(number) {
+                Ok(member) => return Ok(Some(member)),
+                Err(true) => return Err(NextUntilError::Refused),
+                Err(false) => {}
+            }
+        }
+        unreachable!()
     }
 }
 

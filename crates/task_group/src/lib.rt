@@ -1,8 +1,8 @@
 //! A group of tasks: Tasks are put in, and come out with their answers in the order in which their tasks end.
 //! It stands on the mailbox of `awaiters`, the Task of `async_task`, and the kit's `slab` and `thiserror`.
-//! A user makes a `TaskGroup` and calls `spawn`, `push`, `next`, `try_next`, `listen`, `cancel`, `cancel_all`, `abort_all` and `detach_all`; what comes out is an `Ended`.
+//! A user makes a `TaskGroup` and calls `spawn`, `push`, `next`, `next_until`, `try_next`, `listen`, `cancel`, `cancel_all`, `abort_all` and `detach_all`; what comes out is an `Ended`.
 //! Else only its errors are public. `Ended` has a ghost field by which its output meets what its future's type states.
-//! The page is docs/EXECUTORS.md.
+//! The page is README.md, beside the code.
 #![tactic(auto)]
 
 mod debug;
@@ -11,5 +11,5 @@ mod errors;
 mod group;
 
 pub use ended::Ended;
-pub use errors::{AwaiterRefused, GroupFull, GroupSpawnError};
+pub use errors::{AwaiterRefused, GroupFull, GroupSpawnError, NextUntilError};
 pub use group::TaskGroup;

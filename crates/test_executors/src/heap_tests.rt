@@ -1,4 +1,5 @@
 //! Tests over full heaps: the calls that ask for no memory.
+//! Of what is only tested (docs/PROOFS.md): Memory and limits.
 
 use crate::tray::Tray;
 use crate::{calls, tray};

@@ -1,4 +1,5 @@
 //! Tests of what is refused: a spawn its one request for memory, and wakers at the limit of references.
+//! Of what is only tested (docs/PROOFS.md): Memory and limits.
 ghost use Rattle.std.specs.Prelude.{⊤};
 
 use crate::calls;

@@ -1,4 +1,5 @@
 //! A test of a waker that two threads share by reference.
+//! Of what is only tested (docs/PROOFS.md): Threads.
 ghost use Rattle.std.specs.Prelude.{⊤};
 
 use crate::granted::granted;

@@ -1,4 +1,5 @@
 //! A test of wakes by four threads while a fifth one runs the task.
+//! Of what is only tested (docs/PROOFS.md): Threads.
 
 use crate::calls;
 use crate::granted::granted;

@@ -1,4 +1,5 @@
 //! Tests of stored awaiters: which one a task keeps, and how each clone ends.
+//! Of what is only tested (docs/PROOFS.md): Drops.
 
 use crate::calls;
 use crate::calls::ends_of;

@@ -1,4 +1,5 @@
 //! Tests of the builder, and of what handles and builders show.
+//! Of what is only tested (docs/PROOFS.md): Handles.
 
 use crate::calls;
 use crate::granted::granted;

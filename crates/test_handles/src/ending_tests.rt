@@ -1,4 +1,5 @@
 //! Tests of the ways in which a task ends: in which order its parts are dropped, and that its block is given back with the last handle.
+//! Of what is only tested (docs/PROOFS.md): Drops.
 ghost use Rattle.std.specs.Prelude.{⊤};
 
 use crate::granted::granted;

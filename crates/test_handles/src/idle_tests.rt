@@ -1,4 +1,5 @@
 //! Tests of a Task that is let go while its task is idle and has a waker.
+//! Of what is only tested (docs/PROOFS.md): Paths.
 
 use crate::calls;
 use rows_fixtures::fixture::Fixture;

@@ -15,6 +15,8 @@ mod granted;
 #[cfg(test)]
 mod idle_tests;
 #[cfg(test)]
+mod lent_tests;
+#[cfg(test)]
 mod limit_tests;
 #[cfg(test)]
 mod metadata_tests;

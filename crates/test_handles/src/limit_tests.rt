@@ -1,4 +1,5 @@
 //! Tests of the limit of references: which waker is refused, and what a refusal leaves.
+//! Of what is only tested (docs/PROOFS.md): Memory and limits.
 
 use crate::calls;
 use rows_fixtures::fixture::Fixture;

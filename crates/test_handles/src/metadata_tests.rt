@@ -1,4 +1,5 @@
 //! A test of the metadata that a parked handle shows.
+//! Of what is only tested (docs/PROOFS.md): Drops.
 ghost use Rattle.std.specs.Prelude.{⊤};
 
 use crate::granted::granted;

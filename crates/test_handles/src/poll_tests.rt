@@ -1,4 +1,5 @@
 //! Tests of calls that a second thread makes while the future is polled.
+//! Of what is only tested (docs/PROOFS.md): Threads.
 
 use crate::calls;
 use crate::calls::RowCancel;

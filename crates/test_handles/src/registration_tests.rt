@@ -1,4 +1,5 @@
 //! Tests of what is done while a Task registers: the drop of the older awaiter is the one place for it.
+//! Of what is only tested (docs/PROOFS.md): Threads.
 
 use crate::calls;
 use crate::granted::granted;

@@ -1,4 +1,5 @@
 //! Tests of a Task, of a FallibleTask and of a Cancel.
+//! Of what is only tested (docs/PROOFS.md): Drops, Paths.
 
 use crate::calls;
 use async_task::{FallibleTask, TaskClosed, TaskPoll};

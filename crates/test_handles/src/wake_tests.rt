@@ -1,4 +1,5 @@
 //! Tests of wakes: how many Runnables they queue, and what a run answers of them.
+//! Of what is only tested (docs/PROOFS.md): Paths.
 
 use crate::calls;
 use async_task::Wake;

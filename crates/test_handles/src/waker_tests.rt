@@ -1,4 +1,5 @@
 //! Tests of wakers and of an awaiter, and of tasks that end without a run that completes.
+//! Of what is only tested (docs/PROOFS.md): Handles.
 
 use crate::calls;
 use crate::granted::granted;

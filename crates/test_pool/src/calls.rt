@@ -2,9 +2,11 @@
 //! there once, and not in each test.
 
 use crate::granted::granted;
-use crate::guest::{Errand, GuestPool, GuestTask, GuestTurns, Guests, spawn_guest, spawn_guests};
+use crate::guest::{
+    Errand, Guest, GuestPool, GuestTask, GuestTurns, Guests, spawn_guest, spawn_guests,
+};
 use awaiters::Nobody;
-use executor::{Key, keep_task, place_for_task, poll_kept};
+use executor::{Key, PoolSpawnError, SpawnRefusal, keep_task, place_for_task, poll_kept};
 use std::alloc::{AllocError, Global};
 use std::process::Abort;
 use std::sync::{Arc, Wait};
@@ -41,6 +43,21 @@ pub fn guest_tasks<'x, R: Wait + Abort + Drop + Copy>(
     guests: &Arc<Guests>,
 ) -> Vec<GuestTask<'x, R>> {
     granted(&pool.rt(), spawn_guests(pool, worker, count, guests))
+}
+
+/// Why the spawn of a guest that gives way seven times is refused. `None` where it is not, or its future is not what the error has.
+pub fn refusal_of_spawn<R: Wait + Abort + Drop + Copy>(
+    pool: &GuestPool<R>,
+    worker: usize,
+    guests: &Arc<Guests>,
+) -> Option<SpawnRefusal> {
+    let guest = granted(&pool.rt(), Guest::new(Errand::GiveWay(7), guests));
+    match pool.spawn_on(worker, guest) {
+        Ok(_) => None,
+        Err(PoolSpawnError { future, reason }) => {
+            (future.errand == Errand::GiveWay(7)).then_some(reason)
+        }
+    }
 }
 
 /// The turns of a worker. Stops where they are refused.

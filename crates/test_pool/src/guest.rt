@@ -154,8 +154,10 @@ pub fn spawn_guests<'x, R: Wait + Drop + Copy>(
         futures.push_back(Guest::new(Errand::GiveWay(10), guests)?)?;
     }
     let mut tasks = Vec::new(pool.alloc());
-    pool.spawn_many(worker, &mut futures, &mut tasks)?;
-    Ok(tasks)
+    match pool.spawn_many(worker, &mut futures, &mut tasks) {
+        Ok(()) => Ok(tasks),
+        Err(_) => Err(AllocError),
+    }
 }
 
 /// The output of a guest that has answered.

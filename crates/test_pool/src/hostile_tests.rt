@@ -1,12 +1,13 @@
 //! Hostile use of a pool: a future that never yields, wakes after a shutdown, and calls that make no sense.
 use crate::calls::{
     all_turns, drop_all, drop_pool, drop_task, drop_tasks, drop_turns, guest_task, guest_tasks,
-    is_empty, keep, new_guests, new_pool, place_of_task, shut_down, tick, turns_of,
+    is_empty, keep, new_guests, new_pool, place_of_task, refusal_of_spawn, shut_down, tick,
+    turns_of,
 };
 use crate::guest::{Errand, GuestPool, is_closed, output_of, shares_and_polls};
 use async_task::TaskPoll;
 use awaiters::Nobody;
-use executor::{Key, TurnsError, poll_kept, wake_kept};
+use executor::{Key, SpawnRefusal, TurnsError, poll_kept, wake_kept};
 use std::sync::Wait;
 use std::thread;
 use work_queues::bells::MOST_WORKERS;
@@ -100,7 +101,7 @@ fn no_two_threads_are_one_worker(rt: HostRuntime) {
     let once_dropped = refusals(&pool, 0);
     let after_it = pool.run(0).err();
     drop_pool(pool);
-    let refused = Some(TurnsError::Refused);
+    let refused = Some(TurnsError::Taken);
     assert!(rt;
         while_it_lives == [refused, refused] && beside_it == refused && of_the_other.is_none()
     );
@@ -165,22 +166,21 @@ fn a_rest_after_the_shutdown_returns(rt: HostRuntime) {
 
 // Also a second shutdown, and no futures to spawn.
 #[test]
-fn a_pool_that_was_shut_down_cancels_what_comes(rt: HostRuntime) {
+fn a_pool_that_was_shut_down_refuses_what_comes(rt: HostRuntime) {
     let guests = new_guests(&rt, rt.alloc(), 1);
     let pool = new_pool(rt, rt.alloc(), 2);
     shut_down(&pool);
     shut_down(&pool);
-    let mut task = guest_task(&pool, 2, Errand::GiveWay(0), &guests);
+    let refused = refusal_of_spawn(&pool, 2, &guests);
     let mut all = all_turns(&pool);
     thread::for_each_mut(&rt, &mut all, 2, &|_, turns| turns.work());
     drop_all(all);
     let mut turns = turns_of(&pool, 1);
     let ran = tick(&mut turns);
-    let closed = is_closed(&mut task);
     let none = drop_tasks(guest_tasks(&pool, 0, 0, &guests));
-    let (_, polls) = shares_and_polls(&guests);
+    let left = shares_and_polls(&guests);
     drop_turns(turns);
-    drop_task(task);
     drop_pool(pool);
-    assert!(rt; !ran && closed && none == 0 && polls == 0);
+    assert!(rt; refused == Some(SpawnRefusal::Stopped));
+    assert!(rt; !ran && none == 0 && left == (1, 0));
 }

@@ -1,4 +1,4 @@
-//! The tests of the pool itself: its workers, `block_on`, its stores, what it keeps, the order of tasks, storms of wakes, refused memory, hostile use, and what is shown.
+//! The tests of the pool itself: its workers, `block_on`, its stores, what it keeps, the order of tasks, storms of wakes, its ends, what it is made with, refused memory, hostile use, and what is shown.
 //! It stands on `executor`, `work_queues` and `awaiters`. Nothing is public. The page is docs/EXECUTOR_POOL.md.
 #![tactic(auto)]
 
@@ -6,6 +6,8 @@
 mod calls;
 #[cfg(test)]
 mod deadline_tests;
+#[cfg(test)]
+mod ending_tests;
 #[cfg(test)]
 mod granted;
 #[cfg(test)]
@@ -18,6 +20,8 @@ mod kept_tests;
 mod order_tests;
 #[cfg(test)]
 mod refusal_tests;
+#[cfg(test)]
+mod setting_tests;
 #[cfg(test)]
 mod shown_tests;
 #[cfg(test)]

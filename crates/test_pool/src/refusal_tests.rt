@@ -5,7 +5,7 @@ use crate::granted::granted;
 use crate::guest::{Guests, shares_and_polls};
 use async_task::{Future, Poll, TaskPoll, Yields};
 use awaiters::Nobody;
-use executor::{Pool, PoolTask, Turns};
+use executor::{Pool, PoolRunnable, PoolSpawnError, PoolTask, SpawnRefusal, Turns};
 use linked_list_allocator::LocalHeap;
 use std::alloc::{AllocError, Global};
 use std::process::Abort;
@@ -18,8 +18,8 @@ const POOL_HEAP: usize = 32_768;
 /// The most blocks that a heap of twice that room hands out.
 const BLOCKS: usize = 4096;
 
-/// How many tasks are spawned: one more than a queue of a pool has room for.
-const TASKS: usize = 65;
+/// How many Runnables a queue of a pool has room for at first.
+const ROOM: usize = 64;
 
 // What fills a heap.
 type Filling<'heap> = Vec<Vec<u8, &'heap LocalHeap>>;
@@ -76,25 +76,42 @@ fn turns_of<'x, 'heap, R: Wait + Abort + Drop + Copy>(
     granted(&pool.rt(), pool.turns(0))
 }
 
-// Spawns one task from outside.
+// Spawns one task at the queue of a worker, or from outside.
 fn spawn_prompt<'x, 'heap, R: Wait + Abort + Drop + Copy>(
     pool: &'x HeapPool<'heap, R>,
+    worker: usize,
     guests: &Arc<Guests>,
 ) -> HeapTask<'x, 'heap, R> {
     let guests = granted(&pool.rt(), Arc::try_clone(guests));
-    granted(&pool.rt(), pool.spawn(Prompt { guests }))
+    granted(&pool.rt(), pool.spawn_on(worker, Prompt { guests }))
 }
 
-// Spawns so many tasks from outside.
+// Why one more is refused at the queue of the worker. `None` where it is not, or the error has not its future.
+fn refusal_of<R: Wait + Abort + Drop + Copy>(
+    pool: &HeapPool<'_, R>,
+    guests: &Arc<Guests>,
+) -> Option<SpawnRefusal> {
+    let before = Arc::strong_count(guests);
+    let guests = granted(&pool.rt(), Arc::try_clone(guests));
+    match pool.spawn_on(0, Prompt { guests }) {
+        Ok(_) => None,
+        Err(PoolSpawnError { future, reason }) => {
+            (Arc::strong_count(&future.guests) == before + 1).then_some(reason)
+        }
+    }
+}
+
+// Spawns so many tasks.
 fn spawn_prompts<'x, 'heap, R: Wait + Abort + Drop + Copy>(
     pool: &'x HeapPool<'heap, R>,
+    worker: usize,
     guests: &Arc<Guests>,
     count: usize,
 ) -> Vec<HeapTask<'x, 'heap, R>> {
     let rt = pool.rt();
     let mut tasks = Vec::new(pool.alloc());
     for _ in 0..count {
-        granted(&rt, tasks.push(spawn_prompt(pool, guests)));
+        granted(&rt, tasks.push(spawn_prompt(pool, worker, guests)));
     }
     tasks
 }
@@ -151,41 +168,64 @@ fn run_one_more<'x, 'heap, R: Wait + Abort + Drop + Copy>(
     turns: &mut HeapTurns<'x, 'heap, R>,
     guests: &Arc<Guests>,
 ) -> (bool, bool) {
-    let mut later = spawn_prompt(pool, guests);
+    let mut later = spawn_prompt(pool, 1, guests);
     let ran = tick(turns);
     let answered = matches!(later.poll(&Nobody), TaskPoll::Ready(Ok(1)));
     (ran, answered)
 }
 
-// What a pool comes to whose queues are of a heap that is full, and then has room again: how many tasks ran, answered and were closed; and whether one
-// more ran and answered.
+// Takes the next Runnable.
+fn next<'x, 'heap, R: Wait + Drop + Copy>(
+    turns: &mut HeapTurns<'x, 'heap, R>,
+) -> Option<PoolRunnable<'x, R, Prompt, Nobody, &'heap LocalHeap>> {
+    turns.next()
+}
+
+// Schedules a Runnable, if there is one.
+fn schedule<'x, 'heap, R: Wait + Drop + Copy>(
+    runnable: Option<PoolRunnable<'x, R, Prompt, Nobody, &'heap LocalHeap>>,
+) {
+    if let Some(runnable) = runnable {
+        runnable.schedule();
+    }
+}
+
+// What a pool comes to whose worker's queue is full while its heap is, and then has room again: why one more spawn was refused; how many tasks ran,
+// answered and were closed, among them one whose Runnable the queue refused; and whether one more ran and answered.
 fn fill_and_spawn<R: Wait + Abort + Drop + Copy>(
     rt: R,
     alloc: Global,
     heap: &LocalHeap,
     guests: &Arc<Guests>,
-) -> (usize, (usize, usize), (bool, bool)) {
+) -> (Option<SpawnRefusal>, usize, (usize, usize), (bool, bool)) {
     let pool = new_pool(rt, alloc, heap);
     let mut turns = turns_of(&pool);
+    let mut tasks = spawn_prompts(&pool, 0, guests, 1);
+    let runnable = next(&mut turns);
     let filling = granted(&rt, fill(alloc, heap));
-    let mut tasks = spawn_prompts(&pool, guests, TASKS);
-    let ran = run_prompts(&mut turns, TASKS);
+    let mut others = spawn_prompts(&pool, 0, guests, ROOM);
+    let refused = refusal_of(&pool, guests);
+    schedule(runnable);
+    granted(&rt, tasks.append(&mut others));
+    let ran = run_prompts(&mut turns, ROOM + 1);
     let ends = count_ends(&mut tasks);
     drop(filling);
     let later = run_one_more(&pool, &mut turns, guests);
     drop_turns(turns);
     drop_tasks(tasks);
+    drop_tasks(others);
     drop_pool(pool);
-    (ran, ends, later)
+    (refused, ran, ends, later)
 }
 
-// The queue has room for 64 Runnables. The 65th is dropped, which closes its task, and nothing else is lost.
+// The queue has room for 64 Runnables. A spawn that finds none has its future back; the Runnable of a wake that finds none is dropped, which closes its task. Nothing else is lost.
 #[test]
-fn a_pool_goes_on_past_a_runnable_that_its_queue_drops(rt: HostRuntime) {
+fn a_pool_goes_on_past_what_its_queue_refuses(rt: HostRuntime) {
     let heap = granted(&rt, LocalHeap::new(rt.alloc(), POOL_HEAP));
     let guests = granted(&rt, Guests::new(rt.alloc(), 0));
-    let (ran, ends, later) = fill_and_spawn(rt, rt.alloc(), &heap, &guests);
+    let (refused, ran, ends, later) = fill_and_spawn(rt, rt.alloc(), &heap, &guests);
     let left = shares_and_polls(&guests);
+    assert!(rt; refused == Some(SpawnRefusal::NoMemory));
     assert!(rt; (ran, ends, later) == (64, (64, 1), (true, true)));
     assert!(rt; left == (1, 65));
     assert!(rt; heap.used() == 0);
@@ -202,7 +242,7 @@ fn shut_down_beside_full_hands<R: Wait + Abort + Drop + Copy>(
 ) -> ((usize, usize), (usize, usize)) {
     let pool = new_pool(rt, alloc, heap);
     let mut turns = turns_of(&pool);
-    let mut tasks = spawn_prompts(&pool, guests, 200);
+    let mut tasks = spawn_prompts(&pool, 1, guests, 200);
     let filling = granted(&rt, fill(alloc, heap));
     tick(&mut turns);
     pool.shutdown();
@@ -250,7 +290,7 @@ fn drop_turns_with_full_hands<R: Wait + Abort + Drop + Copy>(
 ) -> (usize, (usize, usize)) {
     let pool = new_pool(rt, alloc, heap);
     let mut turns = turns_of(&pool);
-    let mut tasks = spawn_prompts(&pool, guests, 200);
+    let mut tasks = spawn_prompts(&pool, 1, guests, 200);
     let filling = granted(&rt, fill(alloc, heap));
     tick(&mut turns);
     drop(filling);

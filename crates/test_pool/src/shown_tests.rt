@@ -2,7 +2,7 @@
 use crate::calls::{drop_pool, drop_turns, new_guests, new_pool, turns_of};
 use crate::granted::granted;
 use crate::guest::{Errand, Guest, GuestPool};
-use executor::{BellAwaiter, PoolSpawnError, Store, TurnsError, place_for_waker};
+use executor::{BellAwaiter, PoolSpawnError, SpawnRefusal, Store, TurnsError, place_for_waker};
 use std::alloc::{AllocError, Global};
 use std::error::Error;
 use std::fmt::Debug;
@@ -79,19 +79,28 @@ fn handles_of_a_pool_are_shown(rt: HostRuntime) {
 }
 
 // The refusal of a spawn: how it is shown, what it says, and what it says of itself as an `io::Error`.
-fn refused_spawn<R: Wait + Abort + Drop + Copy>(rt: R, alloc: Global) -> (String, [String; 2]) {
+fn refused_spawn<R: Wait + Abort + Drop + Copy>(
+    rt: R,
+    alloc: Global,
+    reason: SpawnRefusal,
+) -> (String, [String; 2]) {
     let guests = new_guests(&rt, alloc, 1);
     let error = PoolSpawnError {
         future: granted(&rt, Guest::new(Errand::Stay, &guests)),
+        reason,
     };
     (shown(&rt, alloc, &error), told(&rt, alloc, error))
 }
 
 #[test]
 fn errors_of_a_pool_say_why(rt: HostRuntime) {
-    let (shown, [spawn, converted]) = refused_spawn(rt, rt.alloc());
+    let (shown, memory) = refused_spawn(rt, rt.alloc(), SpawnRefusal::NoMemory);
+    let (_, stopped) = refused_spawn(rt, rt.alloc(), SpawnRefusal::Stopped);
     let [turns, of_turns] = told(&rt, rt.alloc(), TurnsError::NoSuchWorker);
-    assert!(rt; shown.as_str() == "PoolSpawnError" && spawn.as_str() == "no memory for the task");
-    assert!(rt; converted.as_str() == "out of memory" && of_turns == turns);
-    assert!(rt; turns.as_str() == "the pool has no worker of this number");
+    assert!(rt; shown.as_str() == "PoolSpawnError { reason: NoMemory, .. }");
+    assert!(rt;
+        memory[0].as_str() == "no memory for the task" && memory[1].as_str() == "out of memory"
+    );
+    assert!(rt; stopped[0].as_str() == "the pool takes no more tasks" && stopped[1] == stopped[0]);
+    assert!(rt; turns.as_str() == "the pool has no worker of this number" && of_turns == turns);
 }

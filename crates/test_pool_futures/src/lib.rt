@@ -1,5 +1,5 @@
-//! The tests of what futures do in a pool: futures that await tasks, keep wakers and children, post wakes and stand in groups, that borrow, are of two
-//! types or in boxes. It stands on `executor`, `task_group` and `awaiters`. Nothing is public. The page is docs/EXECUTOR_POOL.md.
+//! The tests of what futures do in a pool: futures that await tasks, keep wakers and children, post wakes and stand in groups, that borrow, or are in
+//! boxes. It stands on `executor`, `task_group` and `awaiters`. Nothing is public. The page is docs/EXECUTOR_POOL.md.
 #![tactic(auto)]
 
 #[cfg(test)]
@@ -18,8 +18,6 @@ mod granted;
 mod group_tests;
 #[cfg(test)]
 mod kept_tests;
-#[cfg(test)]
-mod kind_tests;
 #[cfg(test)]
 mod link;
 #[cfg(test)]

@@ -1,59 +1,12 @@
-//! Tests of what is counted: tasks, blocks, times and failures.
+//! What the counting allocator counts, and the rates, times and bytes that the benchmarks print.
+//! Of what is only tested (docs/PROOFS.md): Memory and limits.
 
-use crate::stops::{granted, holds};
+use crate::stops::granted;
 use bench_report::counting::Counting;
-use bench_report::failure::Failure;
 use bench_report::memory::resident_of;
-use bench_report::tally::{Measured, Tally};
 use bench_report::times::{Hundredths, hundredths_of_one, per_second, summarize};
-use std::alloc::{AllocError, AllocFailed, Allocator, Global};
-use std::fmt::Display;
-use std::io;
-use std::process::Abort;
+use std::alloc::{AllocError, Allocator};
 use std::time::Duration;
-
-#[test]
-fn a_lost_task_is_told(rt: HostRuntime) {
-    let tally = granted(&rt, Tally::new(rt.alloc(), 2));
-    let is_last = tally.count();
-    let few = Measured::new(&tally, Duration::from_millis(1), None);
-    let lost = matches!(few, Err(Failure::Lost(1, 2)));
-    let was_last = tally.count();
-    let all = granted(&rt, Measured::new(&tally, Duration::from_millis(1), None));
-    assert!(rt; !is_last && lost && was_last && all.ended == 2);
-}
-
-// The text that is shown of a value.
-fn text_of<R: Abort, T: Display>(rt: &R, alloc: Global, value: &T) -> String {
-    granted(rt, format!(in alloc; "{value}"))
-}
-
-// Stops where another text is told of a failure.
-fn tells<R: Abort>(rt: &R, alloc: Global, failure: Failure, wanted: &str) {
-    let told = text_of(rt, alloc, &failure);
-    holds(rt, told.as_str() == wanted, &wanted);
-}
-
-#[test]
-fn failures_are_told(rt: HostRuntime) {
-    let alloc = rt.alloc();
-    tells(&rt, alloc, Failure::from(AllocError), "no memory");
-    let refused = AllocFailed { value: 1u8 };
-    tells(&rt, alloc, Failure::from(refused), "no memory");
-    tells(&rt, alloc, Failure::Lost(3, 4), "3 of 4 tasks ended");
-    let unanswered = "a group answered for 1 of 2 tasks";
-    tells(&rt, alloc, Failure::Unanswered(1, 2), unanswered);
-    let unexpected = "a call did not do what is to be measured";
-    tells(&rt, alloc, Failure::Unexpected, unexpected);
-    tells(&rt, alloc, Failure::NoThread, "no thread could be started");
-}
-
-#[test]
-fn failures_of_a_writer_are_told(rt: HostRuntime) {
-    let broken = io::Error::from(io::ErrorKind::BrokenPipe);
-    let text = text_of(&rt, rt.alloc(), &broken);
-    tells(&rt, rt.alloc(), Failure::from(broken), text.as_str());
-}
 
 const STATUS: &str = "Name:\tbench\nVmHWM:\t 900 kB\nVmRSS:\t 812 kB\nThreads:\t1\n";
 
@@ -69,7 +22,7 @@ fn memory_and_rates_are_read(rt: HostRuntime) {
 #[test]
 fn times_are_shown_in_nanoseconds(rt: HostRuntime) {
     let time = Hundredths(hundredths_of_one(Duration::from_nanos(1207), 100));
-    let shown = text_of(&rt, rt.alloc(), &time);
+    let shown = granted(&rt, format!(in rt.alloc(); "{time}"));
     assert!(rt; shown.as_str() == "12.07");
 }
 

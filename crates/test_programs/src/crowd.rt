@@ -1,4 +1,5 @@
 //! A player with many parties: each step takes the same time, however many there are.
+//! Of what is only tested (docs/PROOFS.md): Programs.
 
 use crate::stops::granted;
 use task_core::acts::Act;

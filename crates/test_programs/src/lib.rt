@@ -1,4 +1,4 @@
-//! The tests of the machine as a program (lives of a task, replayed, and each reason to refuse a step), and of what programs are asked for, count and print.
+//! The tests of the machine as a program (lives of a task, replayed, and each reason to refuse a step), and of what programs print and count.
 //! It stands on `replay_printer`, `task_replay`, `bench_report` and `rows_values`. Nothing is public. The page is docs/PROOFS.md.
 #![tactic(auto)]
 
@@ -13,13 +13,9 @@ mod limited;
 #[cfg(test)]
 mod lives;
 #[cfg(test)]
-mod operation_tests;
-#[cfg(test)]
-mod player;
+mod memory;
 #[cfg(test)]
 mod refusals;
-#[cfg(test)]
-mod replay;
 #[cfg(test)]
 mod row_tests;
 #[cfg(test)]

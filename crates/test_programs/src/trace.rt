@@ -1,6 +1,6 @@
-//! What the program `replay_trace` is asked for, the lines that it reads, and what it prints: whole inputs, how far each party is, and writers that fail.
+//! The lines that `replay_trace` reads, and what it prints: whole inputs, how far each party is, and writers that fail.
+//! Of what is only tested (docs/PROOFS.md): Programs.
 
-mod argument_tests;
 mod line_tests;
 mod progress_tests;
 mod trace_tests;

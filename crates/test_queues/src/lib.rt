@@ -8,3 +8,7 @@ mod granted;
 mod refusal_tests;
 #[cfg(test)]
 mod search_tests;
+#[cfg(test)]
+mod storm_tests;
+#[cfg(test)]
+mod unclaimed_tests;

@@ -1,12 +1,17 @@
-//! The tests of timers: by a counting waker and times that the test gives, and by `block_on` and threads. It stands on `future_time`, `shared_waker` and `combinators`. Nothing is public. The page is the README of `future_time`.
+//! The tests of timers, by a counting waker and times that the test gives, and by `block_on` and threads; and of that `block_on`.
+//! It stands on `future_time`, `shared_waker` and `combinators`. Nothing is public. The pages are the READMEs of the first two.
 #![tactic(auto)]
 
+#[cfg(test)]
+mod blocking_tests;
 #[cfg(test)]
 mod calls;
 #[cfg(test)]
 mod closed_tests;
 #[cfg(test)]
 mod counter;
+#[cfg(test)]
+mod gate;
 #[cfg(test)]
 mod granted;
 #[cfg(test)]

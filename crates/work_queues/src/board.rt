@@ -7,6 +7,7 @@ ghost use lib.ListN.{get_elem?};
 ghost use Rattle.work_queues.specs.Sleep.{padding};
 
 mod looks;
+mod rooms;
 mod shelves;
 
 use crate::bells::{Bells, PADDING};
@@ -15,6 +16,7 @@ use crate::room::Room;
 use crate::rule::Order;
 use atomic_table::Table;
 pub(crate) use looks::pause;
+pub use rooms::Reserved;
 use std::alloc::{Allocator, Global};
 use std::sync::Arc;
 

@@ -1,52 +1,76 @@
 //! What the workers of a pool share, and what each does with it: push, find, and rest.
-ghost use Rattle.std.specs.Prelude.{◌≡◌, ◌<◌, IfErr, IfOk, IfSome, IsSome};
+ghost use Rattle.std.specs.Prelude.{◌≡◌, ◌<◌, ◌≤◌, ◌↔◌, IfErr, IfOk, IfSome, IsSome};
 ghost use Rattle.std.specs.Arc.{arc_value};
 ghost use Rattle.std.proofs.Props.{props};
 ghost use Rattle.work_queues.specs.Duties.{IsClaim};
 
+mod sharing;
+
 use crate::bells::{Bells, Claim, Heard, Look, Woken};
 use crate::board::{Board, pause};
+use crate::settings::Settings;
 use std::alloc::{AllocError, Allocator, Global};
 use std::collections::VecDeque;
 use std::mem;
 use std::sync::{Arc, Wait};
 use std::time::Duration;
 
-/// How many items a worker takes from another queue at once, at most.
-const BATCH: usize = 256;
+/// A worker looks at the queue of the next other worker first, once in so many times that it looks first at that for what comes from outside. The thread of that one may be in a long poll, or gone.
+const OTHERS_EVERY: u64 = 16;
 
-/// A worker looks at the queue for what comes from outside first, once in so many looks.
-const OUTSIDE_FIRST: u64 = 61;
-
-/// A worker looks at the queue of the next other worker first, once in so many looks. The thread of that one may be in a long poll, or gone.
-const OTHERS_FIRST: u64 = 16 * OUTSIDE_FIRST;
-
-/// How often a worker that found nothing looks again before it lies down. How long that takes depends on the processor, as its `spin_loop` does: from 70 microseconds to 1 millisecond.
-const LOOKS: usize = 2048;
-
-/// It looks at all queues once in so many looks, and else only at counts that no worker writes for its own items. In a round `Board::is_left` may look 128 times at a queue of another worker, so beside queues that fill and empty a search has up to `LOOKS` more for each of them.
+/// It looks at all queues once in so many looks, and else only at counts that no worker writes for its own items. In a round `Board::is_left` may look 128 times at a queue of another worker, so beside queues that fill and empty a search has up to as many looks more for each of them as a search has.
 const LOOKS_A_ROUND: usize = 128;
 
 /// The board of a pool and its bells. `A` is where the queues take their memory. The items that are left are dropped with it.
 pub struct Crew<T, A: Allocator = Global> {
     board: Board<T, A>,
     bells: Arc<Bells>,
+    settings: Settings,
     ghost same: { arc_value board.bells ≡ arc_value bells },
 }
 
 impl<T: Drop, A: Allocator> Drop for Crew<T, A> {
     // As a derived drop, which would stand field by field in each function that drops a crew.
     fn drop(self) {
-        let Crew { board, bells } = self;
+        let Crew {
+            board,
+            bells,
+            settings: _,
+        } = self;
         drop(board);
         drop(bells);
     }
 }
 
+/// Why there is no worker of a number.
+#[derive(Clone, Copy, Debug, PartialEq, Eq)]
+pub enum WorkerError {
+    /// The crew has no worker of this number.
+    NoSuchWorker,
+    /// Another `Worker` has this number.
+    Taken,
+    /// There was no memory, or the bells have as many owners as can be counted.
+    NoMemory,
+}
+
+/// What a worker has done since it was made. Each number wraps.
+#[derive(Clone, Copy, Debug, Default, PartialEq, Eq)]
+pub struct WorkerCounts {
+    /// How many items `find` has answered.
+    pub found: u64,
+    /// How many items it has moved out of the queues of other workers.
+    pub stolen: u64,
+    /// How often it lay down to sleep.
+    pub sleeps: u64,
+}
+
 /// What one worker keeps for itself. While it lives, no other one has its number. It has no `Drop`, so it ends in `Crew::end_turns`.
 pub struct Worker<T, A: Allocator = Global> {
     number: usize,
+    // How often it has looked since it last looked at the queue for what comes from outside first, and how often it has done that.
     looks: u64,
+    visits: u64,
+    counts: WorkerCounts,
     batch: VecDeque<T, A>,
     bells: Arc<Bells>,
     claim: Claim,
@@ -64,6 +88,13 @@ impl<T, A: Allocator> Worker<T, A> {
         ensures { result ≡ self.now.number }
     {
         self.number
+    }
+
+    /// What it has done.
+    pub fn counts(&self) -> WorkerCounts
+        ensures { result ≡ self.now.counts }
+    {
+        self.counts
     }
 
     // Ends the looks that it owes: it has found an item, or finds none any more.
@@ -91,6 +122,22 @@ impl<T, A: Allocator> Worker<T, A> {
         }
     }
 
+    // Counts that it lies down, and does so.
+    fn lie_down<R: Wait>(
+        &mut self,
+        rt: &R,
+        look: Look,
+        interruptions: u64,
+        most: Option<Duration>,
+    ) -> Look
+        requires { look.place.seat.table_id ≡ (arc_value self.old.bells).table.shared.table_id }
+        ensures look { result.place.seat.table_id ≡ (arc_value self.old.bells).table.shared.table_id }
+        ensures kept { (self.new.bells ≡ self.old.bells) × (self.new.owed ≡ self.old.owed) }
+    {
+        self.counts.sleeps = self.counts.sleeps.wrapping_add(1);
+        self.sleep(rt, look, interruptions, most)
+    }
+
     // It owes these looks until it has found an item.
     fn owe(&mut self, look: Look)
         requires { look.place.seat.table_id ≡ (arc_value self.old.bells).table.shared.table_id }
@@ -107,7 +154,7 @@ impl<T, A: Allocator> Worker<T, A> {
     {
         let due = self.bells.hear();
         if let Some(before) = mem::replace(&mut self.heard, due) {
-            self.bells.answer(before);
+            self.bells.answer(before, &self.claim);
         }
     }
 }
@@ -120,21 +167,49 @@ impl<T: Drop, A: Allocator + Copy> Crew<T, A> {
         workers: usize,
         room: usize,
     ) -> Result<Crew<T, A>, AllocError> {
-        let bells = Arc::new(alloc, Bells::new(alloc, workers)?)?;
-        let board = Board::new(alloc, items, Arc::try_clone(&bells)?, room)?;
-        Ok(Crew { board, bells })
+        Crew::with_settings(alloc, items, workers, Settings::new().room(room))
     }
 
-    /// What the worker of this number keeps: its hands take their memory of `items`. An error says that there was no memory, that there is no such worker, or that another `Worker` has this number.
-    pub fn worker(&self, items: A, number: usize) -> Result<Worker<T, A>, AllocError>
-        ensures { IfOk result (λ worker. (worker.number ≡ number) × (number < (arc_value self.now.bells).workers)) }
+    /// Empty queues as `new` makes them, with these numbers.
+    pub fn with_settings(
+        alloc: Global,
+        items: A,
+        workers: usize,
+        settings: Settings,
+    ) -> Result<Crew<T, A>, AllocError>
+        ensures { IfOk result (λ crew. crew.settings ≡ settings) }
     {
-        let batch = VecDeque::with_capacity(items, BATCH)?;
-        let bells = Arc::try_clone(&self.bells)?;
-        let claim = bells.claim(number).ok_or(AllocError)?;
+        let bells = Arc::new(alloc, Bells::new(alloc, workers)?)?;
+        let board = Board::new(alloc, items, Arc::try_clone(&bells)?, settings.room)?;
+        Ok(Crew {
+            board,
+            bells,
+            settings,
+        })
+    }
+
+    /// What the worker of this number keeps: its hands take their memory of `items`. After an error nothing has changed.
+    pub fn worker(&self, items: A, number: usize) -> Result<Worker<T, A>, WorkerError>
+        ensures worker { IfOk result (λ worker. (worker.number ≡ number) × (number < (arc_value self.now.bells).workers)) }
+        ensures none { result ≡ Err WorkerError.NoSuchWorker ↔ ((arc_value self.now.bells).workers ≤ number) }
+    {
+        if number >= self.workers() {
+            return Err(WorkerError::NoSuchWorker);
+        }
+        let Ok(batch) = VecDeque::with_capacity(items, self.settings.batch) else {
+            return Err(WorkerError::NoMemory);
+        };
+        let Ok(bells) = Arc::try_clone(&self.bells) else {
+            return Err(WorkerError::NoMemory);
+        };
+        let Some(claim) = bells.claim(number) else {
+            return Err(WorkerError::Taken);
+        };
         Ok(Worker {
             number,
             looks: 0,
+            visits: 0,
+            counts: WorkerCounts::default(),
             batch,
             bells,
             claim,
@@ -180,6 +255,9 @@ impl<T, A: Allocator> Crew<T, A> {
     /// Takes the item at the front of a worker's queue, or, where there is no worker of this number, of the queue for what comes from outside. `None` where it is empty.
     pub fn pop<R: Wait>(&self, rt: &R, queue: usize) -> Option<T> {
         let queue = queue.min(self.board.workers());
+        if self.board.is_empty(queue) {
+            return None;
+        }
         let (item, woken) = self.board.pop(rt, queue);
         self.ring(woken);
         item
@@ -190,6 +268,15 @@ impl<T, A: Allocator> Crew<T, A> {
         let from = from.min(self.board.workers());
         let woken = self.board.take_half(rt, from, &mut worker.batch);
         self.ring(woken);
+        if from != self.board.workers() {
+            let moved = worker.batch.len() as u64;
+            worker.counts.stolen = worker.counts.stolen.wrapping_add(moved);
+        }
+        self.keep_batch(rt, worker)
+    }
+
+    // The first item of the batch in its hands. The others go into its own queue.
+    fn keep_batch<R: Wait>(&self, rt: &R, worker: &mut Worker<T, A>) -> Option<T> {
         let first = worker.batch.pop_front();
         if !worker.batch.is_empty() {
             let own = worker.number.min(self.board.workers());
@@ -221,7 +308,7 @@ impl<T, A: Allocator> Crew<T, A> {
 
     // Looks for a while, as the one worker that searches. True where there is something to do.
     fn sees_work(&self, worker: usize, interruptions: u64) -> bool {
-        for look in 0..LOOKS {
+        for look in 0..self.settings.search_looks {
             if self.has_news(interruptions) {
                 return true;
             }
@@ -243,8 +330,8 @@ impl<T, A: Allocator> Crew<T, A> {
     // What a worker that always has items of its own would never come to: half of the next other worker's queue, if it is the turn of that, or what came from outside.
     fn find_overdue<R: Wait>(&self, rt: &R, worker: &mut Worker<T, A>) -> Option<T> {
         let workers = self.board.workers();
-        if worker.looks % OTHERS_FIRST == 0 {
-            let from = (worker.looks / OTHERS_FIRST) as usize % workers;
+        if worker.visits % OTHERS_EVERY == 0 {
+            let from = (worker.visits / OTHERS_EVERY) as usize % workers;
             if from != worker.number && !self.board.is_empty(from) {
                 if let Some(item) = self.steal(rt, worker, from) {
                     return Some(item);
@@ -254,10 +341,11 @@ impl<T, A: Allocator> Crew<T, A> {
         self.pop(rt, workers)
     }
 
-    /// The next item for this worker: what a batch left in its hands, then that at the front of its queue, then half of what came from outside or of another worker's queue. Once in 61 looks what came from outside is first, and once in 976 looks the queue of another worker, of each in turn. `None` also where another worker's queue shows items that this one leaves to it.
+    /// The next item for this worker: what a batch left in its hands, then that at the front of its queue, then half of what came from outside or of another worker's queue. Once in 61 looks what came from outside is first, and once in 976 looks the queue of another worker, of each in turn, but for other `Settings`. `None` also where another worker's queue shows items that this one leaves to it.
     pub fn find<R: Wait>(&self, rt: &R, worker: &mut Worker<T, A>) -> Option<T> {
         let item = self.find_next(rt, worker);
         if item.is_some() {
+            worker.counts.found = worker.counts.found.wrapping_add(1);
             worker.settle();
         }
         item
@@ -268,7 +356,9 @@ impl<T, A: Allocator> Crew<T, A> {
             return Some(item);
         }
         worker.looks = worker.looks.wrapping_add(1);
-        if worker.looks % OUTSIDE_FIRST == 0 {
+        if worker.looks >= self.settings.outside_every {
+            worker.looks = 0;
+            worker.visits = worker.visits.wrapping_add(1);
             if let Some(item) = self.find_overdue(rt, worker) {
                 return Some(item);
             }
@@ -284,6 +374,8 @@ impl<T, A: Allocator> Crew<T, A> {
         let Worker {
             number: _,
             looks: _,
+            visits: _,
+            counts: _,
             mut batch,
             bells,
             claim,
@@ -326,10 +418,10 @@ impl<T, A: Allocator> Crew<T, A> {
                 if sees {
                     look
                 } else {
-                    worker.sleep(rt, look, interruptions, most)
+                    worker.lie_down(rt, look, interruptions, most)
                 }
             }
-            Err(look) => worker.sleep(rt, look, interruptions, most),
+            Err(look) => worker.lie_down(rt, look, interruptions, most),
         };
         worker.owe(look);
         worker.hear();

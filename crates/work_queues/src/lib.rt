@@ -12,10 +12,12 @@ pub mod moving;
 pub mod queue;
 pub mod room;
 pub mod rule;
+pub mod settings;
 pub mod view;
 pub mod watch;
 
 pub use bells::Bells;
 pub use board::Board;
-pub use crew::{Crew, Worker};
+pub use crew::{Crew, Worker, WorkerCounts, WorkerError};
 pub use moving::shift;
+pub use settings::Settings;

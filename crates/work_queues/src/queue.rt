@@ -31,6 +31,13 @@ impl<T, A: Allocator> Queue<T, A> {
         }
     }
 
+    /// How many items it has.
+    pub fn len(&self) -> usize
+        ensures { result ≡ deque_len self.now.items }
+    {
+        self.items.len()
+    }
+
     /// Puts an item at the back. `Err` hands it back, where there was no memory.
     pub fn push(&mut self, item: T) -> Result<(), T>
         ensures items { self.new.items.items ≡ (if is_ok result then self.old.items.items ++ item ∷ [] else self.old.items.items) }
@@ -41,6 +48,24 @@ impl<T, A: Allocator> Queue<T, A> {
             Ok(()) => Ok(()),
             Err(AllocFailed { value }) => Err(value),
         }
+    }
+
+    /// Has room for one item more. An error says that there was no memory for it: the queue is as it was.
+    pub fn reserve(&mut self) -> Result<(), AllocError>
+        ensures room { OnOk result (deque_len self.new.items < deque_capacity self.new.items) }
+        ensures items { self.new.items.items ≡ self.old.items.items }
+        ensures flag { self.new.flag ≡ self.old.flag }
+    {
+        self.items.reserve(1)
+    }
+
+    /// Puts an item at the back, for which there is room.
+    pub fn push_reserved(&mut self, item: T)
+        requires { deque_len self.old.items < deque_capacity self.old.items }
+        ensures items { self.new.items.items ≡ self.old.items.items ++ item ∷ [] }
+        ensures flag { self.new.flag ≡ self.old.flag }
+    {
+        self.items.push_back_reserved(item);
     }
 
     /// Takes the item at the front, if there is one.

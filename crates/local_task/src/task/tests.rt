@@ -1,4 +1,5 @@
-//! Each call in each of its cases, with the answers that the table of the calls gives. The future is 7, its output 3.
+//! What no clause of a call says: whole lives of a task, what each call does to awaiters, and an executor over such tasks. The future is 7, its
+//! output 3. It shows what the page of this crate lists as only tested.
 
 use super::*;
 use std::process::Abort;
@@ -6,9 +7,6 @@ use std::process::Abort;
 mod awaiter;
 mod counted;
 mod executor;
-mod executor_calls;
-mod task_calls;
-mod waker_calls;
 mod whole_lives;
 
 use awaiter::Awaiter;
@@ -177,53 +175,13 @@ const QUEUED_AGAIN: Left = Left {
     ..NOTHING
 };
 
-// The future is dropped, and the awaiter 1 woken.
-const ENDS_AND_WAKES: Left = Left {
-    wake: Some(1),
-    ..ENDS
-};
-
 // The future is dropped, and nobody is left.
 const ENDS_EMPTIED: Left = Left {
     emptied: true,
     ..ENDS
 };
 
-// .. and the awaiter 1 is dropped.
-const ENDS_FORGETTING: Left = Left {
-    dropped: Some(1),
-    ..ENDS_EMPTIED
-};
-
-// Future and output are dropped.
-const GIVES_UP: Left = Left {
-    output: true,
-    ..ENDS
-};
-
-const WAKES: Left = Left {
-    wake: Some(1),
-    ..NOTHING
-};
-
 const EMPTIED: Left = Left {
     emptied: true,
     ..NOTHING
 };
-
-// The future has answered Pending once.
-const ONCE: [(Call, Answer); 2] = [(Start, Polls), (Pending, Leaves(NOTHING))];
-
-// A task that is idle, with an awaiter.
-const AWAITED: [(Call, Answer); 3] = [
-    (Poll(1), Pends(NOTHING)),
-    (Start, Polls),
-    (Pending, Leaves(NOTHING)),
-];
-
-// .. of a task with these calls behind it.
-fn lives_on(rt: &impl Abort, before: &[(Call, Answer)], calls: &[(Call, Answer)]) {
-    let mut task = LocalTask::new("metadata", FUTURE);
-    answers(rt, &mut task, before);
-    answers(rt, &mut task, calls);
-}

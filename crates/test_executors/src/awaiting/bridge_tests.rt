@@ -1,4 +1,4 @@
-//! Tasks that the kit's `block_on`, `join` and `select` wait for, a bridge that is dropped, and refused memory.
+//! Tasks that the kit's `block_on`, `join` and `select` wait for, a bridge that is dropped, and refused memory. Of what is only tested: the page of `kit_bridge`.
 ghost use Rattle.std.specs.Prelude.{⊤};
 
 use super::number::Nowhere;
@@ -143,15 +143,6 @@ fn the_loser_of_a_select_is_cancelled(rt: HostRuntime) {
 }
 
 #[test]
-fn a_closed_task_answers_closed(rt: HostRuntime) {
-    let dropped = none_dropped(rt, rt.alloc());
-    let (runnable, awaits) = bridged(rt, rt.alloc(), 1, &dropped);
-    drop(runnable);
-    let answer = wait_for(rt, awaits);
-    assert!(rt; answer == Err(AwaitError::Closed) && dropped.load(Ordering::SeqCst) == 1);
-}
-
-#[test]
 fn a_dropped_bridge_cancels_its_task_and_leaves_nothing(rt: HostRuntime) {
     let dropped = none_dropped(rt, rt.alloc());
     let (runnable, awaits) = bridged(rt, rt.alloc(), 1, &dropped);
@@ -160,16 +151,6 @@ fn a_dropped_bridge_cancels_its_task_and_leaves_nothing(rt: HostRuntime) {
     let futures = dropped.load(Ordering::SeqCst);
     let alone = Arc::try_unwrap(dropped).is_ok();
     assert!(rt; !woken && futures == 1 && alone);
-}
-
-#[test]
-fn a_task_that_is_given_back_goes_on(rt: HostRuntime) {
-    let dropped = none_dropped(rt, rt.alloc());
-    let (runnable, awaits) = bridged(rt, rt.alloc(), 5, &dropped);
-    let again = granted(&rt, Awaits::new(rt.alloc(), awaits.into_task()));
-    run(runnable);
-    let answer = wait_for(rt, again);
-    assert!(rt; answer == Ok(5));
 }
 
 // The handles of a task whose memory, with that of its awaiter, is of a heap.

@@ -1,4 +1,5 @@
 //! The awaiter that wakes nobody.
+//! Of what is only tested (docs/PROOFS.md): Whose.
 use super::number::{Nowhere, Number};
 use crate::granted::granted;
 use async_task::{Task, TaskPoll, Wake, spawn};

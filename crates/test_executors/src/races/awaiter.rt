@@ -101,10 +101,10 @@ impl RaceAwaiter {
         ]
     }
 
-    /// Whether all clones have ended: were woken by value, or dropped.
+    /// Whether all clones have ended: were woken by value, or dropped. For each wake by reference a clone was dropped.
     pub fn all_ended(&self) -> bool {
-        let [clones, wakes, drops, _] = self.counts();
-        clones == wakes.wrapping_add(drops)
+        let [clones, wakes, drops, reference_wakes] = self.counts();
+        clones == wakes.wrapping_add(drops) && reference_wakes <= drops
     }
 
     /// Whether it was woken, by value or by reference.

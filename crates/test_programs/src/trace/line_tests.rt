@@ -2,20 +2,9 @@
 
 use crate::stops::{granted, holds};
 use replay_printer::line::{Expected, content, is_blank, read_limit, read_step};
-use replay_printer::names::name;
 use replay_printer::nearest::nearest;
-use task_core::acts::{Act, NAMES};
+use task_core::acts::Act;
 use task_replay::machine::Step;
-
-#[test]
-fn each_act_is_read_by_its_name(rt: HostRuntime) {
-    for &(act, _) in &NAMES {
-        let text = name(act);
-        let line = granted(&rt, format!(in rt.alloc(); "7 {text}"));
-        let is_read = read_step(line.as_str()) == Ok(Step { party: 7, act });
-        holds(&rt, is_read, &text);
-    }
-}
 
 const STEPS: [(&str, u64, Act); 4] = [
     ("0 start-run", 0, Act::StartRun),

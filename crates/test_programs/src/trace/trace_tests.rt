@@ -334,15 +334,6 @@ fn a_writer_that_fails_gives_status_one(rt: HostRuntime) {
     }
 }
 
-#[test]
-fn another_writer_that_fails_gives_status_one(rt: HostRuntime) {
-    let mut full = Limited::full();
-    let mut out = Vec::new(rt.alloc());
-    let input = b"0 look\n".as_slice();
-    let status = trace(rt.alloc(), Shown::All, input, &mut out, &mut full);
-    assert!(rt; status == 1);
-}
-
 // What was printed of the steps before is flushed also where the trace ends early: where that fails it is told, and the status is 1.
 #[test]
 fn a_trace_that_ends_early_is_flushed(rt: HostRuntime) {

@@ -1,7 +1,8 @@
 //! Interruptions: a worker looks once more, though no queue shows an item.
 ghost use Rattle.std.specs.Prelude.{◌≡◌, ◌<◌, IfSome};
+ghost use Rattle.work_queues.specs.Duties.{IsClaim};
 
-use super::{ASLEEP, AWAKE, Bells, HIDDEN, Heard, INTERRUPTED, SHOWN, WOKEN, Woken, leave};
+use super::{ASLEEP, AWAKE, Bells, Claim, HIDDEN, Heard, INTERRUPTED, SHOWN, WOKEN, Woken, leave};
 use crate::watch::{Interrupt, Plain};
 use std::sync::atomic::Ordering;
 
@@ -24,11 +25,11 @@ impl Bells {
 
     /// Has one worker look once more for what is to be done, though no queue has anything: a sleeping one, if one sleeps.
     pub fn interrupt(&self) {
-        self.interruptions.fetch_add(1, Ordering::SeqCst);
         // Where one is due already, the worker that hears it looks after this one, too.
         if self.is_due() {
             return;
         }
+        self.interruptions.fetch_add(1, Ordering::SeqCst);
         let word = self.flag_word(self.workers + 1);
         let mut place = self.enter();
         self.table
@@ -64,7 +65,7 @@ impl Bells {
         }
     }
 
-    /// How many interruptions there were.
+    /// How many interruptions there were, but for those that found one due.
     pub fn interruptions(&self) -> u64 {
         self.interruptions.load(Ordering::SeqCst)
     }
@@ -83,8 +84,10 @@ impl Bells {
         Some(Heard(()))
     }
 
-    // The worker that has heard the interruption has looked once more.
-    pub(crate) fn answer(&self, heard: Heard) {
+    // The worker that has heard the interruption has looked once more, which only one that goes on says.
+    pub(crate) fn answer(&self, heard: Heard, claim: &Claim)
+        requires { IsClaim self.now claim.now }
+    {
         let Heard(()) = heard;
     }
 

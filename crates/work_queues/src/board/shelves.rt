@@ -18,16 +18,6 @@ use std::collections::VecDeque;
 use std::sync::{Arc, Wait};
 use std::thread::yield_now;
 
-fn words(alloc: Global, count: usize) -> Result<Vec<u64>, AllocError>
-    ensures { IfOk result (λ words. length words.items ≡ count) }
-{
-    let mut words = Vec::new(alloc);
-    for _ in 0..count {
-        words.push(UNLOCKED)?;
-    }
-    Ok(words)
-}
-
 // Empty queues with room for `room` items each, and the rights to their flags.
 fn queues<T: Drop, A: Allocator + Copy>(
     alloc: Global,
@@ -58,7 +48,7 @@ impl<T: Drop, A: Allocator + Copy> Board<T, A> {
     {
         let shared: &Bells = &bells;
         let queues = queues(alloc, items, shared, room)?;
-        let words = words(alloc, PADDING * (shared.workers() + 1))?;
+        let words = vec![in alloc; UNLOCKED; PADDING * (shared.workers() + 1)]?;
         match Table::new(alloc, &words, queues, shared) {
             Ok((table, _seat)) => Ok(Board { table, bells }),
             Err(Refused { slots: _ }) => Err(AllocError),
@@ -161,7 +151,7 @@ impl<T, A: Allocator> Board<T, A> {
         None
     }
 
-    fn lock<R: Wait>(&self, rt: &R, queue: usize) -> Visit<T, A>
+    pub(super) fn lock<R: Wait>(&self, rt: &R, queue: usize) -> Visit<T, A>
         requires { queue ≤ (arc_value self.now.bells).workers }
         ensures { (result.seat.table_id ≡ self.now.table.shared.table_id) × (held : _) × HasQueue queue result.seat.me held × IsShelved (arc_value self.now.bells).table.shared.table_id queue held }
     {
@@ -175,7 +165,7 @@ impl<T, A: Allocator> Board<T, A> {
     }
 
     // Gives the queue back, whose flag shows whether it has items.
-    fn unlock(&self, visit: Visit<T, A>, queue: usize)
+    pub(super) fn unlock(&self, visit: Visit<T, A>, queue: usize)
         requires id { visit.seat.table_id ≡ self.now.table.shared.table_id }
         requires queue { queue ≤ (arc_value self.now.bells).workers }
         requires held { (held : _) × HasQueue queue visit.seat.me held × IsShelved (arc_value self.now.bells).table.shared.table_id queue held }

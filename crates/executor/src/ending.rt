@@ -1,0 +1,78 @@
+//! The two ends of a pool: it finishes what is queued, or it is shut down.
+ghost use Rattle.std.specs.Prelude.{◌≡◌, IfSome};
+
+use crate::kept::{cancel_kept, collect, wake_posted};
+use crate::pool::{Pool, PoolRunnable};
+use crate::turns::Turns;
+use async_task::{Wake, Yields};
+use std::alloc::Allocator;
+use std::sync::Wait;
+
+impl<R: Wait + Drop + Copy, F: Yields, A: Wake, B: Allocator + Copy> Pool<R, F, A, B> {
+    /// Takes no more tasks, and ends each worker, as `run`, `work` or `await_next`, once it finds nothing queued. What a task that still runs queues, its worker runs before it ends. It does not wait for that: join the threads of the workers.
+    ///
+    /// A task that waits for something is not waited for: what wakes it once all workers have ended leaves it queued, until `shutdown`, the drop of the pool, or other turns. `block_on` and `next_member` go on until they have an answer. A second call, and one after `shutdown`, do nothing.
+    pub fn finish(&self) {
+        if !self.stage.close() {
+            return;
+        }
+        self.crew.pass(&self.rt);
+        self.stage.finish();
+        self.crew.bells().interrupt_all();
+    }
+
+    /// Ends the pool: each worker ends after the turn that it has. The answer is how many Runnables were in the queues, whose tasks it has cancelled: those in the hands of workers, and what is kept, are not counted. From here on nothing is spawned, and a task is cancelled where its Runnable is queued, or its waker or its Task is kept, and any other by its next wake.
+    pub fn shutdown(&self) -> usize {
+        self.stage.shut_down();
+        // A spawn that came before has its Runnable in a queue afterwards.
+        self.crew.pass(&self.rt);
+        self.crew.bells().interrupt_all();
+        cancel_kept((self, self.workers()));
+        let mut cancelled = 0usize;
+        for queue in 0..=self.workers() {
+            cancelled = cancelled.saturating_add(self.cancel_queue(queue));
+        }
+        cancelled
+    }
+}
+
+impl<R: Wait + Drop + Copy, F: Yields, A: Wake, B: Allocator> Pool<R, F, A, B> {
+    /// Whether the pool was shut down.
+    pub fn is_shut_down(&self) -> bool {
+        self.stage.is_shut_down()
+    }
+
+    // Whether a worker ends that has found nothing: no task is taken any more, and nothing is queued or posted.
+    pub(crate) fn is_finished(&self) -> bool {
+        self.stage.is_finishing() && !self.crew.shows_any() && !self.mail.is_due()
+    }
+
+    // Drops the Runnables of a queue, which cancels their tasks: how many there were.
+    pub(crate) fn cancel_queue(&self, queue: usize) -> usize {
+        let mut cancelled = 0usize;
+        for _ in self.rt.forever() {
+            match self.crew.pop(&self.rt, queue) {
+                Some(runnable) => {
+                    drop(runnable);
+                    cancelled = cancelled.saturating_add(1);
+                }
+                None => return cancelled,
+            }
+        }
+        unreachable!()
+    }
+}
+
+impl<'x, R: Wait + Drop + Copy, F: Yields, A: Wake, B: Allocator + Copy> Turns<'x, R, F, A, B> {
+    // As `take_turn` of a pool that finishes, where a worker never sleeps. `Some(None)` where it ends.
+    pub(crate) fn take_last_turn(&mut self) -> Option<Option<PoolRunnable<'x, R, F, A, B>>> {
+        let place = self.place();
+        collect(place);
+        wake_posted(place);
+        match self.next() {
+            Some(runnable) => Some(Some(runnable)),
+            None if place.0.is_finished() => Some(None),
+            None => None,
+        }
+    }
+}

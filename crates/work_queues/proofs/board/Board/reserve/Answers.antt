@@ -1,0 +1,20 @@
+use Rattle.std.proofs.Common.{rules}
+use Rattle.work_queues.specs.Shelf.{IsShelved}
+use Rattle.work_queues.proofs.Locking.{lends, shelves_again}
+use Rattle.work_queues.proofs.board.Board.reserve.Goals as goal
+
+pub slot_mut-held-requires : goal.slot_mut-held-requires
+slot_mut-held-requires g c = (search rules, lends _ _ _ c.lock-visit.ensures.2)
+
+pub unlock-requires-clause-held : goal.unlock-requires-clause-held
+unlock-requires-clause-held g c = shelves_again IsShelved _ _ _ _ c.reserve.new.self c.lock-visit.ensures.2 (search rules)
+
+pub returns-in-Ok : goal.returns-in-Ok
+returns-in-Ok g c = (
+  search rules,
+  search rules,
+  (shelves_again IsShelved _ _ _ _ c.reserve.new.self c.lock-visit.ensures.2 (search rules)).0,
+  (shelves_again IsShelved _ _ _ _ c.reserve.new.self c.lock-visit.ensures.2 (search rules)).1,
+  (shelves_again IsShelved _ _ _ _ c.reserve.new.self c.lock-visit.ensures.2 (search rules)).2,
+  search rules,
+)

@@ -1,0 +1,65 @@
+//! Room for one item in a queue, which stays locked until that is put there.
+ghost use Rattle.std.specs.Prelude.{◌≡◌, ◌<◌, ◌≤◌, IfOk, IfSome};
+ghost use Rattle.std.specs.Arc.{arc_value};
+ghost use Rattle.work_queues.specs.Rooms.{HasRoom};
+
+use super::{Board, Visit};
+use crate::bells::Woken;
+use std::alloc::{AllocError, Allocator};
+use std::sync::Wait;
+
+/// Room for one item at the back of a queue. The queue is locked meanwhile. It has no `Drop`, so it ends in `put` or `release`.
+pub struct Reserved<T, A: Allocator> {
+    visit: Visit<T, A>,
+    queue: usize,
+}
+
+impl<T, A: Allocator> Board<T, A> {
+    /// Locks a queue, and has room there for one item more. An error says that there was no memory for it: the queue is as it was, and not locked.
+    pub fn reserve<R: Wait>(&self, rt: &R, queue: usize) -> Result<Reserved<T, A>, AllocError>
+        requires { queue ≤ (arc_value self.now.bells).workers }
+        ensures { IfOk result (λ reserved. HasRoom self.now reserved) }
+    {
+        let mut visit = self.lock(rt, queue);
+        let held = visit.seat.slot_mut(&self.table.shared, queue);
+        match held.reserve() {
+            Ok(()) => Ok(Reserved { visit, queue }),
+            Err(refused) => {
+                self.unlock(visit, queue);
+                Err(refused)
+            }
+        }
+    }
+
+    /// Puts an item where there is room for it, unlocks that queue, and answers the worker that is to be woken.
+    pub fn put(&self, reserved: Reserved<T, A>, item: T) -> Option<Woken>
+        requires { HasRoom self.now reserved }
+        ensures { IfSome result (λ woken. woken.worker < (arc_value self.now.bells).workers) }
+    {
+        let Reserved { mut visit, queue } = reserved;
+        let held = visit.seat.slot_mut(&self.table.shared, queue);
+        held.push_reserved(item);
+        let woken = held.publish(&self.bells);
+        self.unlock(visit, queue);
+        woken
+    }
+
+    /// Unlocks the queue, to which nothing is added.
+    pub fn release(&self, reserved: Reserved<T, A>)
+        requires { HasRoom self.now reserved }
+    {
+        let Reserved { visit, queue } = reserved;
+        self.unlock(visit, queue);
+    }
+
+    /// How many items a queue has.
+    pub fn len<R: Wait>(&self, rt: &R, queue: usize) -> usize
+        requires { queue ≤ (arc_value self.now.bells).workers }
+    {
+        let mut visit = self.lock(rt, queue);
+        let held = visit.seat.slot_mut(&self.table.shared, queue);
+        let items = held.len();
+        self.unlock(visit, queue);
+        items
+    }
+}
