@@ -4,18 +4,11 @@ ghost use Rattle.std.specs.Prelude.{◌≡◌, IfSome};
 use crate::pool::PoolRunnable;
 use crate::turns::Turns;
 use async_task::{Wake, Yields};
+use awaiters::left_until;
 use std::alloc::Allocator;
 use std::sync::Wait;
-use std::time::{Clock, Duration, Instant};
+use std::time::{Clock, Instant};
 use work_queues::Bells;
-
-// How long it is until the deadline, by the clock of the runtime. Nothing, where that has no answer.
-fn left_until<R: Clock>(rt: &R, deadline: Instant) -> Duration {
-    match Instant::now(rt) {
-        Ok(now) => deadline.saturating_duration_since(now),
-        Err(_) => Duration::from_secs(0),
-    }
-}
 
 impl<'x, R: Wait + Clock + Drop + Copy, F: Yields, A: Wake, B: Allocator + Copy> Turns<
     'x,

@@ -102,7 +102,7 @@ impl<F: Drop> From<PoolSpawnError<F>> for io::Error {
     }
 }
 
-/// Why `Turns::next_member` has no member.
+/// Why `Turns::next_member` or `next_member_until` has no member.
 #[derive(Clone, Copy, Debug, PartialEq, Eq, Error)]
 pub enum NextMemberError {
     /// The poll of a member was refused its awaiter, or the bells have as many owners as can be counted. A later call goes on.
@@ -111,4 +111,7 @@ pub enum NextMemberError {
     /// The pool was shut down before a member had ended. Those that the shutdown cancels come out of a later `try_next` or `next_member`.
     #[error("the pool was shut down")]
     ShutDown,
+    /// No member had ended at the deadline. `next_member` never answers it.
+    #[error("no member had ended at the deadline")]
+    Elapsed,
 }

@@ -1,5 +1,5 @@
 //! Groups of tasks of a pool: a worker that waits for the next member that ends.
-ghost use Rattle.std.specs.Prelude.{◌≡◌, true, false, IfSome, IsNone, OnErr};
+ghost use Rattle.std.specs.Prelude.{◌≡◌, ◌≢◌, true, false, IfSome, IsNone, OnErr};
 ghost use Rattle.slab.specs.Slab.{slab_len};
 ghost use Rattle.task_group.specs.Members.{Leaves, SameMembers, IfNext, is_over};
 
@@ -8,9 +8,10 @@ use crate::errors::NextMemberError;
 use crate::pool::{Place, PoolWaker, ToPool};
 use crate::turns::{Turns, run_if_any};
 use async_task::{Future, Runnable, Schedule, Yields};
-use awaiters::Posts;
+use awaiters::{Posts, left_until};
 use std::alloc::{Allocator, Global};
 use std::sync::Wait;
+use std::time::{Clock, Instant};
 use task_group::{Ended, TaskGroup};
 use work_queues::Bells;
 
@@ -36,6 +37,7 @@ impl<'x, R: Wait + Drop + Copy, F: Yields, B: Allocator + Copy> Turns<'x, R, F, 
         ensures empty { slab_len group.old.members ≡ 0 → is_over result ≡ true }
         ensures leaves { IfNext result (λ ended. Leaves group.old.members group.new.members ended.number) }
         ensures refused { OnErr result (SameMembers group.old.members group.new.members) }
+        ensures no_deadline { result ≢ Err NextMemberError.Elapsed }
         ensures room { group.new.members.capacity ≡ group.old.members.capacity }
     {
         if group.is_empty() {
@@ -55,6 +57,50 @@ impl<'x, R: Wait + Drop + Copy, F: Yields, B: Allocator + Copy> Turns<'x, R, F, 
     }
 }
 
+impl<'x, R: Wait + Clock + Drop + Copy, F: Yields, B: Allocator + Copy> Turns<
+    'x,
+    R,
+    F,
+    BellAwaiter<R>,
+    B,
+> {
+    /// As `next_member`, but `Elapsed` at the deadline, if no member has ended then. It looks at least once, also where the deadline has passed. A poll that lasts beyond the deadline is waited for. Where the clock of the runtime has no answer, the call does not sleep, and answers `Elapsed`.
+    pub fn next_member_until(
+        &mut self,
+        group: &mut PoolGroup<'x, R, F, B>,
+        deadline: Instant,
+    ) -> Result<Option<Ended<F>>, NextMemberError>
+    where
+        F: Future<PoolWaker<'x, R, F, BellAwaiter<R>, B>>,
+        ensures over { is_over result ≡ true → slab_len group.old.members ≡ 0 }
+        ensures empty { slab_len group.old.members ≡ 0 → is_over result ≡ true }
+        ensures leaves { IfNext result (λ ended. Leaves group.old.members group.new.members ended.number) }
+        ensures refused { OnErr result (SameMembers group.old.members group.new.members) }
+        ensures room { group.new.members.capacity ≡ group.old.members.capacity }
+    {
+        if group.is_empty() {
+            return Ok(None);
+        }
+        let pool = self.pool;
+        let bells: &Bells = pool.bells();
+        for _ in pool.rt.forever() {
+            let interruptions = bells.interruptions();
+            let ends = self.ends();
+            if let Some(next) = look(group, self.bell(), bells, ends) {
+                return next;
+            }
+            let left = left_until(&pool.rt, deadline);
+            if left.is_zero() {
+                // As in `look`: another worker may have to run what woke this one.
+                bells.interrupt();
+                return Err(NextMemberError::Elapsed);
+            }
+            run_if_any(self.take_turn_for(interruptions, Some(left)));
+        }
+        unreachable!()
+    }
+}
+
 // Takes the next member that has ended out of a group, as `TaskGroup::try_next` does, and has the next end of one ring this bell; without a bell it refuses. `None` where none has ended yet, unless the pool ends.
 fn look<R: Wait + Drop + Copy, F: Yields, Q: Drop, M: Drop, A: Posts<R>, X: Copy>(
     group: &mut TaskGroup<R, F, Q, M, A, X>,
@@ -67,6 +113,7 @@ where
     ensures found { IfSome result (λ next. is_over next ≡ false) }
     ensures leaves { IfSome result (λ next. IfNext next (λ ended. Leaves group.old.members group.new.members ended.number)) }
     ensures refused { IfSome result (λ next. OnErr next (SameMembers group.old.members group.new.members)) }
+    ensures no_deadline { IfSome result (λ next. next ≢ Err NextMemberError.Elapsed) }
     ensures stays { IsNone result → SameMembers group.old.members group.new.members }
     ensures len { IsNone result → slab_len group.new.members ≡ slab_len group.old.members }
     ensures room { group.new.members.capacity ≡ group.old.members.capacity }

@@ -1,2 +1,3 @@
 pub mod Cancelled
+pub mod Handles
 pub mod Members

@@ -1,15 +1,17 @@
 //! The group: its members by number, and the mailbox that their awaiters post to.
-ghost use Rattle.std.specs.Prelude.{◌≡◌, ◌↔◌, ◌≤◌, ◌<◌, true, false, IsTrue, IsErr, IfOk, IfErr, IfSome, OnErr, OnOk};
+ghost use Rattle.std.specs.Prelude.{◌≡◌, ◌↔◌, ◌≤◌, ◌<◌, ◌+◌, ◌^◌, true, false, Some, IsTrue, IsNone, IsErr, IfOk, IfErr, IfSome, OnErr, OnOk};
 ghost use Rattle.std.specs.Arc.{arc_value};
 ghost use Rattle.slab.specs.Slab.{slab_len};
 ghost use Rattle.slab.specs.Slab.{get};
 ghost use Rattle.task_cell.specs.PollPaths.{IfOutput};
 ghost use Rattle.async_task.specs.HandlePaths.{IfSomeOutput};
 ghost use Rattle.task_group.specs.Members.{Joins, Leaves, SameMembers, IfNext, came_out, is_over, is_member};
+ghost use Rattle.task_group.specs.Handles.{IsNobody, SameGenerations, StaySpent, generation_at};
 ghost use Rattle.task_group.specs.Cancelled.{IsCancel, WasCancelled};
 
 use crate::ended::Ended;
 use crate::errors::{AwaiterRefused, GroupFull, GroupSpawnError, NextUntilError};
+use crate::handle::{AbortHandle, Entry};
 use async_task::{
     Cancel, Runnable, Schedule, SpawnError, Task, TaskClosed, TaskPoll, Yields, spawn,
 };
@@ -79,6 +81,14 @@ where
     }
 }
 
+// A count after one more. The highest that there is stays.
+fn counted(count: u64) -> u64
+    ensures more { count ≤ result }
+    ensures one { count + 1 < 2 ^ 64 → result ≡ count + 1 }
+{
+    count.saturating_add(1)
+}
+
 // The answer of a poll of a Cancel, as that of a Task.
 fn closed_where_none<F: Yields>(
     answer: TaskPoll<Option<F::Output>>,
@@ -110,7 +120,9 @@ where
 {
     rt: R,
     mailbox: Arc<Mailbox<R, A::Listener>>,
-    members: Slab<Member<R, F, Q, M, A, X, B>>,
+    members: Slab<Entry<Member<R, F, Q, M, A, X, B>>>,
+    // How many have joined.
+    joined: u64,
 }
 
 impl<
@@ -142,6 +154,7 @@ where
             rt,
             mailbox,
             members,
+            joined: 0,
         })
     }
 
@@ -178,6 +191,9 @@ where
         ensures returned { IfErr result (λ refused. refused.task ≡ task) }
         ensures unchanged { OnErr result (self.new ≡ self.old) }
         ensures joins { IfOk result (λ number. Joins self.old.members self.new.members number) }
+        ensures member { IfOk result (λ number. generation_at self.new.members number ≡ Some self.old.joined) }
+        ensures joined { OnOk result (self.old.joined + 1 < 2 ^ 64 → self.new.joined ≡ self.old.joined + 1) }
+        ensures spent { StaySpent self.old.joined self.old.members self.new.joined self.new.members }
         ensures room { self.new.members.capacity ≡ self.old.members.capacity }
     {
         if self.is_full() {
@@ -190,11 +206,27 @@ where
     fn join(&mut self, task: Task<R, F, Q, M, A, X, B>) -> usize
         requires { slab_len self.old.members < self.old.members.capacity }
         ensures joins { Joins self.old.members self.new.members result }
+        ensures member { generation_at self.new.members result ≡ Some self.old.joined }
+        ensures joined { self.old.joined + 1 < 2 ^ 64 → self.new.joined ≡ self.old.joined + 1 }
+        ensures spent { StaySpent self.old.joined self.old.members self.new.joined self.new.members }
         ensures room { self.new.members.capacity ≡ self.old.members.capacity }
     {
         let number = self.members.vacant_key();
+        let generation = self.joined;
         let member = self.first_look(number, Member::Runs(task)).member;
-        self.members.insert_reserved(member)
+        let joined = counted(generation);
+        self.joined = joined;
+        self.members.insert_reserved(Entry { generation, member })
+    }
+
+    /// The handle of the member that has this number now. `None` where there is none.
+    pub fn handle(&self, number: usize) -> Option<AbortHandle>
+        ensures none { IsNone result ↔ (is_member self.now.members number ≡ false) }
+        ensures number { IfSome result (λ handle. handle.number ≡ number) }
+        ensures member { IfSome result (λ handle. generation_at self.now.members number ≡ Some handle.generation) }
+    {
+        let generation = self.members.get(number)?.generation;
+        Some(AbortHandle { number, generation })
     }
 
     /// Waits for the next member that ends, and takes it out of the group. `None` where the group is empty.
@@ -206,6 +238,7 @@ where
         ensures empty { slab_len self.old.members ≡ 0 → is_over result ≡ true }
         ensures leaves { IfNext result (λ ended. Leaves self.old.members self.new.members ended.number) }
         ensures refused { OnErr result (SameMembers self.old.members self.new.members) }
+        ensures spent { StaySpent self.old.joined self.old.members self.new.joined self.new.members }
         ensures room { self.new.members.capacity ≡ self.old.members.capacity }
     {
         let rt = self.rt;
@@ -239,6 +272,7 @@ where
         ensures leaves { IfNext result (λ ended. Leaves self.old.members self.new.members ended.number) }
         ensures stays { came_out result ≡ false → SameMembers self.old.members self.new.members }
         ensures len { came_out result ≡ false → slab_len self.new.members ≡ slab_len self.old.members }
+        ensures spent { StaySpent self.old.joined self.old.members self.new.joined self.new.members }
         ensures room { self.new.members.capacity ≡ self.old.members.capacity }
     {
         if self.members.is_empty() {
@@ -262,17 +296,21 @@ where
         ensures leaves { IfOk result (λ ended. Leaves self.old.members self.new.members ended.number) }
         ensures stays { OnErr result (SameMembers self.old.members self.new.members) }
         ensures len { OnErr result (slab_len self.new.members ≡ slab_len self.old.members) }
+        ensures same { OnErr result (SameGenerations self.old.members self.new.members) }
+        ensures joined { self.new.joined ≡ self.old.joined }
+        ensures spent { StaySpent self.old.joined self.old.members self.new.joined self.new.members }
         ensures room { self.new.members.capacity ≡ self.old.members.capacity }
     {
-        let Some(member) = self.members.try_remove(number) else {
+        let Some(entry) = self.members.try_remove(number) else {
             return Err(false);
         };
+        let Entry { generation, member } = entry;
         let polled = self.poll_member(number, member);
         match polled {
             Ok(ended) => Ok(ended),
             Err(stays) => {
                 let Stays { member, refused } = stays;
-                self.members.insert_reserved(member);
+                self.members.insert_reserved(Entry { generation, member });
                 Err(refused)
             }
         }
@@ -356,21 +394,48 @@ where
         }
     }
 
-    /// Cancels the member of this number. It stays in the group until its future is gone, and comes out then: closed, or with the output of a task that was completed before. `Ok(false)` where there is no such member.
+    /// Cancels the member of this handle. It stays in the group until its future is gone, and comes out then: closed, or with the output of a task that was completed before. `Ok(false)` where the handle refers to nobody, as once its member has come out: nothing has changed then.
     ///
     /// An `Err` says that the poll which cancels was refused its awaiter: a later call of `next` polls again, and cancels the member if this call did not.
-    pub fn cancel(&mut self, number: usize) -> Result<bool, AwaiterRefused>
-        ensures found { result ≡ Ok false ↔ (is_member self.old.members number ≡ false) }
-        ensures cancelled { result ≡ Ok true → IfSome (get self.new.members number) WasCancelled }
+    pub fn cancel(&mut self, handle: AbortHandle) -> Result<bool, AwaiterRefused>
+        ensures found { result ≡ Ok false ↔ IsNobody self.old.members handle }
+        ensures nobody { IsNobody self.old.members handle → self.new ≡ self.old }
+        ensures cancelled { result ≡ Ok true → IfSome (get self.new.members handle.number) (λ entry. WasCancelled entry.member) }
         ensures stays { SameMembers self.old.members self.new.members }
+        ensures spent { StaySpent self.old.joined self.old.members self.new.joined self.new.members }
         ensures len { slab_len self.new.members ≡ slab_len self.old.members }
         ensures room { self.new.members.capacity ≡ self.old.members.capacity }
     {
-        let Some(member) = self.members.try_remove(number) else {
+        let generation = match self.members.get(handle.number) {
+            Some(entry) => entry.generation,
+            None => return Ok(false),
+        };
+        if generation != handle.generation {
+            return Ok(false);
+        }
+        self.cancel_number(handle.number)
+    }
+
+    // Cancels the member of this number, if there is one.
+    fn cancel_number(&mut self, number: usize) -> Result<bool, AwaiterRefused>
+        ensures found { result ≡ Ok false ↔ (is_member self.old.members number ≡ false) }
+        ensures cancelled { result ≡ Ok true → IfSome (get self.new.members number) (λ entry. WasCancelled entry.member) }
+        ensures stays { SameMembers self.old.members self.new.members }
+        ensures same { SameGenerations self.old.members self.new.members }
+        ensures joined { self.new.joined ≡ self.old.joined }
+        ensures len { slab_len self.new.members ≡ slab_len self.old.members }
+        ensures room { self.new.members.capacity ≡ self.old.members.capacity }
+    {
+        let Some(entry) = self.members.try_remove(number) else {
             return Ok(false);
         };
+        let Entry { generation, member } = entry;
         let looked_at = self.first_look(number, member.cancel());
-        self.members.insert_reserved(looked_at.member);
+        let kept = Entry {
+            generation,
+            member: looked_at.member,
+        };
+        self.members.insert_reserved(kept);
         if looked_at.refused {
             return Err(AwaiterRefused);
         }
@@ -383,11 +448,12 @@ where
     pub fn cancel_all(&mut self) -> Result<(), AwaiterRefused>
         ensures stays { SameMembers self.old.members self.new.members }
         ensures len { slab_len self.new.members ≡ slab_len self.old.members }
+        ensures spent { StaySpent self.old.joined self.old.members self.new.joined self.new.members }
         ensures room { self.new.members.capacity ≡ self.old.members.capacity }
     {
         let mut answer = Ok(());
         for number in 0..self.members.capacity() {
-            if let Err(refused) = self.cancel(number) {
+            if let Err(refused) = self.cancel_number(number) {
                 answer = Err(refused);
             }
         }
@@ -397,6 +463,7 @@ where
     /// Takes all members out and drops their Tasks, which cancels those that have not ended. It does not wait until their futures are gone.
     pub fn abort_all(&mut self)
         ensures empty { slab_len self.new.members ≡ 0 }
+        ensures spent { StaySpent self.old.joined self.old.members self.new.joined self.new.members }
         ensures room { self.new.members.capacity ≡ self.old.members.capacity }
     {
         self.members.clear();
@@ -405,11 +472,18 @@ where
     /// Takes all members out and lets their tasks go on, but for those that were cancelled. An output that nobody took is dropped.
     pub fn detach_all(&mut self)
         ensures empty { slab_len self.new.members ≡ 0 }
+        ensures spent { StaySpent self.old.joined self.old.members self.new.joined self.new.members }
         ensures room { self.new.members.capacity ≡ self.old.members.capacity }
     {
         for number in 0..self.members.capacity() {
-            if let Some(Member::Runs(task)) = self.members.try_remove(number) {
-                task.detach();
+            let Some(entry) = self.members.try_remove(number) else {
+                continue;
+            };
+            match entry.member {
+                Member::Runs(task) => {
+                    task.detach();
+                }
+                other => drop(other),
             }
         }
         self.members.clear();
@@ -436,6 +510,7 @@ where
         ensures empty { slab_len self.old.members ≡ 0 → is_over result ≡ true }
         ensures leaves { IfNext result (λ ended. Leaves self.old.members self.new.members ended.number) }
         ensures refused { OnErr result (SameMembers self.old.members self.new.members) }
+        ensures spent { StaySpent self.old.joined self.old.members self.new.joined self.new.members }
         ensures room { self.new.members.capacity ≡ self.old.members.capacity }
     {
         let rt = self.rt;
@@ -483,6 +558,9 @@ where
         ensures returned { IfErr result (λ refused. (refused.future ≡ future) × (refused.schedule ≡ schedule)) }
         ensures unchanged { OnErr result (self.new ≡ self.old) }
         ensures joins { IfOk result (λ number. Joins self.old.members self.new.members number) }
+        ensures member { IfOk result (λ number. generation_at self.new.members number ≡ Some self.old.joined) }
+        ensures joined { OnOk result (self.old.joined + 1 < 2 ^ 64 → self.new.joined ≡ self.old.joined + 1) }
+        ensures spent { StaySpent self.old.joined self.old.members self.new.joined self.new.members }
         ensures room { self.new.members.capacity ≡ self.old.members.capacity }
     {
         let is_full = self.is_full();

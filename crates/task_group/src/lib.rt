@@ -1,6 +1,6 @@
 //! A group of tasks: Tasks are put in, and come out with their answers in the order in which their tasks end.
 //! It stands on the mailbox of `awaiters`, the Task of `async_task`, and the kit's `slab` and `thiserror`.
-//! A user makes a `TaskGroup` and calls `spawn`, `push`, `next`, `next_until`, `try_next`, `listen`, `cancel`, `cancel_all`, `abort_all` and `detach_all`; what comes out is an `Ended`.
+//! A user makes a `TaskGroup` and calls `spawn`, `push`, `next`, `next_until`, `try_next`, `listen`, `handle`, `cancel`, `cancel_all`, `abort_all` and `detach_all`; what comes out is an `Ended`.
 //! Else only its errors are public. `Ended` has a ghost field by which its output meets what its future's type states.
 //! The page is README.md, beside the code.
 #![tactic(auto)]
@@ -9,7 +9,9 @@ mod debug;
 mod ended;
 mod errors;
 mod group;
+mod handle;
 
 pub use ended::Ended;
 pub use errors::{AwaiterRefused, GroupFull, GroupSpawnError, NextUntilError};
 pub use group::TaskGroup;
+pub use handle::AbortHandle;

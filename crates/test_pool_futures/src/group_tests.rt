@@ -5,11 +5,13 @@ use crate::calls::{
 };
 use crate::granted::granted;
 use crate::link::{Counts, Errand, Link, LinkPool, LinkTurns};
+use awaiters::left_until;
 use executor::{NextMemberError, PoolGroup};
+use std::alloc::AllocError;
 use std::process::Abort;
 use std::sync::{Arc, Wait};
 use std::thread::{self, Threads};
-use std::time::Duration;
+use std::time::{Clock, Duration, Instant};
 use task_group::TaskGroup;
 
 // The most turns that anything takes.
@@ -265,6 +267,50 @@ fn a_wait_for_a_member_ends_with_the_pool(rt: HostRuntime) {
     let left = drop_group(group);
     drop_pool(pool);
     assert!(rt; ran && matches!(ended, Err(NextMemberError::ShutDown)) && left == 1);
+}
+
+// Waits for the next member of a group, as `Turns::next_member_until` does, for so many milliseconds: its output, 0 where its task is closed, and whether
+// the deadline has passed then.
+fn output_within<'x, R: Wait + Clock + Abort + Drop + Copy + 'static>(
+    turns: &mut LinkTurns<'x, R>,
+    group: &mut LinkGroup<'x, R>,
+    millis: u64,
+) -> (Result<Option<u64>, NextMemberError>, bool) {
+    let rt = turns.place().0.rt();
+    let begin = granted(&rt, Instant::now(&rt));
+    let deadline = begin.checked_add(Duration::from_millis(millis));
+    let deadline = granted(&rt, deadline.ok_or(AllocError));
+    let output = output_until(turns, group, deadline);
+    (output, left_until(&rt, deadline).is_zero())
+}
+
+fn output_until<'x, R: Wait + Clock + Drop + Copy + 'static>(
+    turns: &mut LinkTurns<'x, R>,
+    group: &mut LinkGroup<'x, R>,
+    deadline: Instant,
+) -> Result<Option<u64>, NextMemberError> {
+    match turns.next_member_until(group, deadline) {
+        Ok(Some(ended)) => Ok(Some(ended.answer.unwrap_or(0))),
+        Ok(None) => Ok(None),
+        Err(error) => Err(error),
+    }
+}
+
+// The only worker waits for a member that gives way, and then for one that stays pending, which stays in the group.
+#[test]
+fn a_wait_for_a_member_elapses_at_its_deadline(rt: HostRuntime) {
+    let pool = new_pool(rt, rt.alloc(), 1);
+    let counts = new_counts(&pool);
+    let mut ending = new_lone(&pool, 0, Errand::GiveWay(2), &counts);
+    let mut staying = new_lone(&pool, 0, Errand::Stay, &counts);
+    let mut turns = turns_of(&pool);
+    let (output, _) = output_within(&mut turns, &mut ending, 60000);
+    let (elapsed, passed) = output_within(&mut turns, &mut staying, 20);
+    drop_turns(turns);
+    let left = (drop_group(ending), drop_group(staying));
+    drop_pool(pool);
+    assert!(rt; output == Ok(Some(1)) && elapsed == Err(NextMemberError::Elapsed));
+    assert!(rt; passed && left == (0, 1));
 }
 
 // A link awaits a hundred others as a group, on one worker, which then collects: its answer, how often it and the others were polled together, and what places are taken.

@@ -2,11 +2,13 @@
 use super::line::{Errand, Line, LineGroup, LineTask};
 use crate::granted::granted;
 use async_task::TaskClosed;
+use awaiters::left_until;
 use std::alloc::{AllocError, Global};
 use std::process::Abort;
 use std::sync::Wait;
 use std::sync::atomic::Ordering;
-use task_group::TaskGroup;
+use std::time::{Clock, Duration, Instant};
+use task_group::{AbortHandle, AwaiterRefused, NextUntilError, TaskGroup};
 
 // The number and the answer of a member that came out.
 type CameOut = Option<(usize, Result<u64, TaskClosed>)>;
@@ -206,9 +208,83 @@ fn a_group_that_no_memory_can_hold_is_refused(rt: HostRuntime) {
     assert!(rt; group.is_err());
 }
 
-// Cancels a member of a group by its number, a number of no member, and then all members: what the calls answer.
-fn cancel_members<R: Wait + Drop + Copy>(group: &mut LineGroup<'_, R>) -> bool {
-    group.cancel(0) == Ok(true) && group.cancel(3) == Ok(false) && group.cancel_all().is_ok()
+// Waits until a deadline for the next member, and answers whether none had ended then.
+fn has_elapsed<R: Wait + Clock + Drop + Copy>(
+    group: &mut LineGroup<'_, R>,
+    deadline: Instant,
+) -> bool {
+    matches!(group.next_until(deadline), Err(NextUntilError::Elapsed))
+}
+
+// What comes out of a group until a deadline. The group is dropped.
+fn last_until<R: Wait + Clock + Drop + Copy>(
+    mut group: LineGroup<'_, R>,
+    deadline: Instant,
+) -> CameOut {
+    match group.next_until(deadline) {
+        Ok(Some(ended)) => Some((ended.number, ended.answer)),
+        _ => None,
+    }
+}
+
+// Waits until a deadline for a member that nobody runs, and with the same deadline once it was run: whether the first wait elapsed, and no sooner than
+// the deadline, and what comes out of the second.
+fn wait_twice<R: Wait + Clock + Abort + Drop + Copy>(rt: R, alloc: Global) -> ([bool; 2], CameOut) {
+    let line = Line::new(rt, alloc, 1);
+    let mut group = group_of(rt, alloc, 1);
+    push(&line, &mut group, Errand::GiveWay(50));
+    let begin = granted(&rt, Instant::now(&rt));
+    let deadline = begin.checked_add(Duration::from_millis(20));
+    let deadline = granted(&rt, deadline.ok_or(AllocError));
+    let elapsed = has_elapsed(&mut group, deadline);
+    let passed = left_until(&rt, deadline).is_zero();
+    line.run();
+    ([elapsed, passed], last_until(group, deadline))
+}
+
+#[test]
+fn a_wait_for_a_member_elapses_at_its_deadline(rt: HostRuntime) {
+    let seen = wait_twice(rt, rt.alloc());
+    assert!(rt; seen == ([true, true], Some((0, Ok(50)))));
+}
+
+// The handle of the member of this number. Stops where there is none.
+fn handle_of<R: Wait + Abort + Drop + Copy>(
+    rt: R,
+    group: &LineGroup<'_, R>,
+    number: usize,
+) -> AbortHandle {
+    granted(&rt, group.handle(number).ok_or(()))
+}
+
+// Cancels a member of a group by its handle, and then all members: what the calls answer.
+fn cancel_members<R: Wait + Abort + Drop + Copy>(rt: R, group: &mut LineGroup<'_, R>) -> bool {
+    let first = handle_of(rt, group, 0);
+    group.cancel(first) == Ok(true) && group.cancel_all().is_ok()
+}
+
+// Cancels by the handle of a member that has come out, while another one has its number: what came out before, what the cancel answers, and what comes
+// out then.
+fn cancel_too_late<R: Wait + Abort + Drop + Copy>(
+    rt: R,
+    alloc: Global,
+) -> (CameOut, Result<bool, AwaiterRefused>, CameOut) {
+    let line = Line::new(rt, alloc, 1);
+    let mut group = group_of(rt, alloc, 1);
+    push(&line, &mut group, Errand::Answer(44));
+    let handle = handle_of(rt, &group, 0);
+    line.run();
+    let first = next_of(&mut group);
+    push(&line, &mut group, Errand::GiveWay(45));
+    let late = group.cancel(handle);
+    line.run();
+    (first, late, last_of(group))
+}
+
+#[test]
+fn a_handle_of_a_member_that_came_out_cancels_nobody(rt: HostRuntime) {
+    let seen = cancel_too_late(rt, rt.alloc());
+    assert!(rt; seen == (Some((0, Ok(44))), Ok(false), Some((0, Ok(45)))));
 }
 
 // Cancels three members, of which the second has answered before: whether that was granted, and how they come out once a thread has run what is queued.
@@ -219,7 +295,7 @@ fn cancel_three<R: Wait + Abort + Drop + Copy>(rt: R, alloc: Global) -> (bool, [
     push(&line, &mut group, Errand::Answer(41));
     push(&line, &mut group, Errand::Stay);
     line.run();
-    let cancelled = cancel_members(&mut group);
+    let cancelled = cancel_members(rt, &mut group);
     line.run();
     let out = [
         next_of(&mut group),

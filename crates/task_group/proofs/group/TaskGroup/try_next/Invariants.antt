@@ -1,5 +1,6 @@
 use Rattle.std.proofs.Common.{◌≡◌}
 use Rattle.slab.specs.Slab.{slab_len}
+use Rattle.task_group.specs.Handles.{StaySpent}
 use Rattle.task_group.specs.Members.{SameMembers}
 use Rattle.task_group.proofs.group.TaskGroup.try_next.Given as goal
 
@@ -7,5 +8,6 @@ abbrev pub invariant-loop : goal.invariant-loop
 invariant-loop g l = record {
   same : SameMembers l.fn.self.members l.self.members;
   len : slab_len l.self.members ≡ slab_len l.fn.self.members;
+  spent : StaySpent l.fn.self.joined l.fn.self.members l.self.joined l.self.members;
   room : l.self.members.capacity ≡ l.fn.self.members.capacity;
 }

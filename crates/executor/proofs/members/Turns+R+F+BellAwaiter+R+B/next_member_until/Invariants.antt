@@ -1,0 +1,13 @@
+use Rattle.std.proofs.Common.{◌≡◌}
+use Rattle.slab.specs.Slab.{slab_len}
+use Rattle.task_group.specs.Members.{SameMembers}
+use Rattle.executor.proofs.members.Turns+R+F+BellAwaiter+R+B.next_member_until.Given as goal
+
+abbrev pub invariant-loop : goal.invariant-loop
+invariant-loop g l = record {
+  can_next : (goal.iterator-loop g).can_next l.iterator';
+  is_finite : (goal.iterator-loop g).is_finite l.iterator';
+  same : SameMembers l.fn.group.members l.group.members;
+  len : slab_len l.group.members ≡ slab_len l.fn.group.members;
+  room : l.group.members.capacity ≡ l.fn.group.members.capacity;
+}
