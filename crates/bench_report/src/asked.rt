@@ -1,14 +1,12 @@
 //! What the arguments ask for.
-ghost use Rattle.std.specs.Prelude.{◌≡◌, ◌≤◌, IsSome, IfSome};
-ghost use Rattle.bench_report.specs.Arguments.{BeginWithKnownWord};
 
 use crate::lines::{Executor, Line, Size};
 
 // How many tasks the line `spawn` has where the arguments do not say it.
 const TASKS: u64 = 10_000;
 
-/// The greatest number of threads that may be asked for.
-pub const MOST_THREADS: usize = 64;
+// The greatest number of threads that may be asked for.
+const MOST_THREADS: usize = 64;
 
 /// What the arguments ask for.
 #[derive(Clone, Copy, Debug, PartialEq, Eq)]
@@ -19,21 +17,16 @@ pub enum Request {
     Check,
     /// All lines; `spawn` has so many tasks, and the others a tenth.
     Run(u64),
-    /// How `spawn` and `group` grow with the number of tasks.
-    Grow,
     /// One measurement.
     One(Executor, Line, Size),
 }
 
 /// What the arguments ask for, or `None` where that is not known.
-pub fn asked(args: &[String]) -> Option<Request>
-    ensures known { IsSome result → BeginWithKnownWord args.now }
-{
+pub fn asked(args: &[String]) -> Option<Request> {
     let (word, more) = args.split_first()?;
     match word.as_str() {
         "--help" if more.is_empty() => Some(Request::Help),
         "check" if more.is_empty() => Some(Request::Check),
-        "grow" if more.is_empty() => Some(Request::Grow),
         "run" => run(more),
         "one" => one(more),
         _ => None,
@@ -65,17 +58,13 @@ fn one(more: &[String]) -> Option<Request> {
 }
 
 // A number of tasks, which is not 0.
-fn tasks_of(word: &str) -> Option<u64>
-    ensures { IfSome result (λ tasks. 1 ≤ tasks) }
-{
+fn tasks_of(word: &str) -> Option<u64> {
     let tasks = word.parse::<u64>().ok()?;
     if tasks == 0 { None } else { Some(tasks) }
 }
 
 // A number of threads, from 1 on.
-fn threads_of(word: &str) -> Option<usize>
-    ensures { IfSome result (λ threads. (1 ≤ threads) × (threads ≤ 64)) }
-{
+fn threads_of(word: &str) -> Option<usize> {
     let threads = word.parse::<usize>().ok()?;
     if threads == 0 || threads > MOST_THREADS {
         None

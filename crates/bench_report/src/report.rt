@@ -1,6 +1,5 @@
 //! What `bench_pool` answers to its arguments, and what it prints.
 ghost use Rattle.std.specs.Prelude.{◌≡◌, ◌≤◌};
-ghost use Rattle.bench_report.specs.Arguments.{BeginWithKnownWord};
 
 use crate::asked::{Request, asked};
 use crate::failure::{Failure, status_of};
@@ -10,15 +9,13 @@ use crate::times::per_second;
 use std::alloc::Global;
 use std::{fmt, io};
 
-const USAGE: &str =
-    "usage: bench_pool [check | run [COUNT] | grow | one EXECUTOR LINE THREADS COUNT]";
+const USAGE: &str = "usage: bench_pool [check | run [COUNT] | one EXECUTOR LINE THREADS COUNT]";
 
 const HELP: &str = "
 Measures the pool beside the kit's futures: tasks a second, and bytes a task.
 
     check                               few tasks for each line, and no times: the tasks that ended
     run [COUNT]                         all lines on 1, 2 and 4 threads: COUNT tasks in spawn, or 10000, and a tenth in the others
-    grow                                spawn and group with 10000, 100000 and 1000000 tasks
     one EXECUTOR LINE THREADS COUNT     one measurement
     --help                              this text
 
@@ -35,16 +32,6 @@ const THREADS: [usize; 3] = [1, 2, 4];
 
 // How many tasks `check` has, and on how many threads: also one alone.
 const CHECKED: [(u64, usize); 5] = [(1, 1), (500, 1), (500, 2), (500, 3), (500, 4)];
-
-// The lines that grow, and how many tasks they have.
-const GROWING: [(Line, u64); 6] = [
-    (Line::Spawn, 10_000),
-    (Line::Spawn, 100_000),
-    (Line::Spawn, 1_000_000),
-    (Line::Group, 10_000),
-    (Line::Group, 100_000),
-    (Line::Group, 1_000_000),
-];
 
 // How often each line is measured for a table.
 const REPETITIONS: u32 = 5;
@@ -86,7 +73,6 @@ where
     M: Fn(Executor, Line, Size) -> Result<Measured, Failure>,
     requires { M.IsAlwaysCallable measure.now }
     ensures status { result ≤ 2 }
-    ensures unknown { ¬ BeginWithKnownWord args.now → result ≡ 2 }
 {
     let Some(request) = asked(args) else {
         return refuse(err);
@@ -117,7 +103,6 @@ where
         Request::Help => print_help(out),
         Request::Check => print_check(measure, out),
         Request::Run(tasks) => print_run(alloc, tasks, measure, out),
-        Request::Grow => print_growth(alloc, measure, out),
         Request::One(executor, line, size) => print_one(executor, line, size, measure, out),
     };
     printed?;
@@ -179,19 +164,6 @@ fn tasks_in(line: Line, tasks: u64) -> u64 {
     } else {
         (tasks / 10).max(1)
     }
-}
-
-// The table of what grows.
-fn print_growth<M, O: io::Write>(alloc: Global, measure: &M, out: &mut O) -> Result<(), Failure>
-where
-    M: Fn(Executor, Line, Size) -> Result<Measured, Failure>,
-    requires { M.IsAlwaysCallable measure.now }
-{
-    writeln!(out, "{HEAD}")?;
-    for (line, tasks) in GROWING {
-        print_rows(alloc, line, tasks, measure, out)?;
-    }
-    Ok(())
 }
 
 // A line of a table for each number of threads.
