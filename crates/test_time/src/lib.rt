@@ -1,5 +1,5 @@
 //! The tests of timers, by a counting waker and times that the test gives, and by `block_on` and threads; and of that `block_on`.
-//! It stands on `future_time`, `shared_waker` and `combinators`. Nothing is public. The pages are the READMEs of the first two.
+//! It stands on `future_time`, `shared_waker`, `future_sync` and `combinators`. Nothing is public. The pages are the READMEs of the first two.
 #![tactic(auto)]
 
 #[cfg(test)]
@@ -17,6 +17,8 @@ mod granted;
 #[cfg(test)]
 mod interval_tests;
 #[cfg(test)]
+mod mark;
+#[cfg(test)]
 mod refusal_tests;
 #[cfg(test)]
 mod sleep_tests;
@@ -24,5 +26,7 @@ mod sleep_tests;
 mod storm_tests;
 #[cfg(test)]
 mod thread_tests;
+#[cfg(test)]
+mod timed_send_tests;
 #[cfg(test)]
 mod timeout_tests;

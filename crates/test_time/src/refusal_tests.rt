@@ -1,46 +1,15 @@
 //! Memory that is refused: whichever request it is, no timer that was made is lost. Run them with each request failing in turn.
-ghost use Rattle.std.specs.Prelude.{⊤};
-
 use crate::calls::{after, now};
+use crate::mark::Mark;
 use future_time::{Sleep, TimerError, Timers};
 use std::alloc::Global;
 use std::process::Abort;
 use std::sync::Wait;
 use std::sync::atomic::{AtomicU64, Ordering};
 use std::time::{Clock, Instant};
-use task_core::{Future, Poll, Wake};
+use task_core::{Future, Poll};
 
 const SLEEPS: usize = 40;
-
-// A waker that needs no memory: it adds one to a count.
-#[derive(Clone, Copy)]
-struct Mark<'a>(&'a AtomicU64);
-
-impl<'a> Wake for Mark<'a> {
-    ghost woken = { λ _. ⊤ };
-
-    ghost woken_by_ref = { λ _. ⊤ };
-
-    ghost cloned = { λ _ _. ⊤ };
-
-    ghost compared = { λ _ _ _. ⊤ };
-
-    fn wake(self) {
-        self.wake_by_ref();
-    }
-
-    fn wake_by_ref(&self) {
-        self.0.fetch_add(1, Ordering::SeqCst);
-    }
-
-    fn try_clone(&self) -> Option<Mark<'a>> {
-        Some(*self)
-    }
-
-    fn will_wake(&self, _other: &Mark<'a>) -> bool {
-        false
-    }
-}
 
 // Sleeps that were polled once: as many as are granted. `None` where one is refused for another reason than memory.
 fn sleeps<'a, R: Wait + Clock + Abort + Drop + Copy>(
