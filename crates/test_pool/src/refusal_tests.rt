@@ -96,7 +96,7 @@ fn refusal_of<R: Wait + Abort + Drop + Copy>(
     match pool.spawn_on(0, Prompt { guests }) {
         Ok(_) => None,
         Err(PoolSpawnError { future, reason }) => {
-            (Arc::strong_count(&future.guests) == before + 1).then_some(reason)
+            (Arc::strong_count(&future.guests).saturating_sub(before) == 1).then_some(reason)
         }
     }
 }
