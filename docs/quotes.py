@@ -17,12 +17,13 @@ PATH = re.compile(r"`(crates/[\w./]+|crates\.txt)`")
 FENCED = re.compile(r"^```\w*\n(.*?)^```\n", re.MULTILINE | re.DOTALL)
 WHOLE = ("README.md", "docs/GUIDE.md")
 # crates with a page of their own, which is looked at as the other pages are
-CRATES = ("awaiters", "task_group", "kit_bridge", "combinators", "shared_waker", "local_task", "priority_heap", "executor", "async_task")
+CRATES = ("task_core", "task_replay", "awaiters", "task_group", "kit_bridge", "combinators", "shared_waker", "local_task", "priority_heap", "executor", "async_task")
 EXCERPTS = ("docs/EXECUTOR_POOL.md",) + tuple(f"crates/{name}/README.md" for name in CRATES)
 # the pages that name hardly anything but what this repository has, and what they name of the kit
 NAMING = WHOLE + EXCERPTS + (
     "docs/API.md", "docs/ARCHITECTURE.md", "docs/DEVELOPING.md", "docs/EXAMPLES.md",
-    "docs/KIT_BRIDGE.md", "docs/MACHINE.md", "docs/PROOFS.md", "docs/ROWS.md", "docs/RULES.md", "docs/TRACES.md")
+    "docs/MACHINE.md", "docs/PROOFS.md", "docs/RULES.md", "crates/rows_program/README.md",
+    "crates/replay_trace/README.md")
 OF_THE_KIT = {"from_event_fd", "from_raw_fd", "get_mut", "pop_front"}
 # a definition of Rust or of a spec, a clause of a contract, a variable; or a field, a parameter or a constructor
 DEFINED = re.compile(

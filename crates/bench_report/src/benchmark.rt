@@ -1,4 +1,4 @@
-//! The benchmarks of `bench_task`, by what one operation of each is, and their names.
+//! The benchmarks of `bench_tasks`, by what one operation of each is, and their names.
 
 /// A benchmark of one thread, by what one operation of it is.
 #[derive(Clone, Copy, Debug, PartialEq, Eq)]

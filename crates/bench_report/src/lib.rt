@@ -1,11 +1,12 @@
-//! What the programs `bench_pool` and `bench_task` are asked for, what they count, and what they print, without the tasks that they measure;
+//! What the program `bench_tasks` is asked for, what it counts, and what it prints, without the tasks that it measures;
 //! and an allocator that counts.
 //! It stands on no other crate.
-//! A user calls nothing of it. The two programs call `report::answer` and `operations::answer`; tests use `counting`.
+//! A user calls nothing of it. The program calls `arguments::answer`; tests call it too, and use `counting`.
 //! Nothing is public only to carry a claim.
 //! The page is docs/PERFORMANCE.md.
 #![tactic(auto)]
 
+pub mod arguments;
 pub mod asked;
 pub mod benchmark;
 pub mod counting;

@@ -1,4 +1,4 @@
-//! What `bench_task` is asked for, and its answer.
+//! What `bench_tasks` is asked for of the operations, and its answer.
 ghost use Rattle.std.specs.Prelude.{◌≡◌, ◌≤◌};
 
 use crate::benchmark::Benchmark;
@@ -6,15 +6,16 @@ use crate::failure::{Failure, status_of};
 use crate::report::print_name;
 use std::io;
 
-const USAGE: &str = "usage: bench_task [check | run | quick | perform NAME COUNT]";
+const USAGE: &str = "usage: bench_tasks [check | run | quick | perform NAME COUNT | pool ..]";
 
 const HELP: &str = "
 Measures the operations of the library, and prints a line for each. Without arguments it does nothing.
 
-    check                 few operations of each benchmark, and no times: how many it did, and what a spawn and a clone allocate
+    check                 few operations of each benchmark, and no times: how many it did, and what a spawn and a clone allocate; then `pool check`
     run                   each benchmark, by 15 repetitions
     quick                 .. by 5
     perform NAME COUNT    so many operations of one benchmark, of which nothing is printed
+    pool ..               the lines of the pool, of which `pool --help` tells
     --help                this text
 ";
 
@@ -82,7 +83,7 @@ where
     };
     match command {
         Command::DoNothing => 0,
-        _ => status_of("bench_task", act(command), err),
+        _ => status_of("bench_tasks", act(command), err),
     }
 }
 

@@ -1,4 +1,4 @@
-//! What `bench_pool` answers to its arguments, and what it prints.
+//! What `bench_tasks` answers to the arguments after the word `pool`, and what it prints.
 ghost use Rattle.std.specs.Prelude.{◌≡◌, ◌≤◌};
 
 use crate::asked::{Request, asked};
@@ -9,7 +9,8 @@ use crate::times::per_second;
 use std::alloc::Global;
 use std::{fmt, io};
 
-const USAGE: &str = "usage: bench_pool [check | run [COUNT] | one EXECUTOR LINE THREADS COUNT]";
+const USAGE: &str =
+    "usage: bench_tasks pool [check | run [COUNT] | one EXECUTOR LINE THREADS COUNT]";
 
 const HELP: &str = "
 Measures the pool beside the kit's futures: tasks a second, and bytes a task.
@@ -78,7 +79,7 @@ where
         return refuse(err);
     };
     let printed = print(alloc, request, measure, out);
-    status_of("bench_pool", printed, err)
+    status_of("bench_tasks", printed, err)
 }
 
 /// Refuses the arguments by a line on `err`, which tells the usage. The status is 2.

@@ -28,7 +28,7 @@ use std::io::{self, Print};
 use std::random::RandomSource;
 use std::rc::Rc;
 use std::sync::Wait;
-use std::thread::{self, Threads};
+use std::thread::Threads;
 use two_kinds::Kind;
 
 // Prints the line of an example: its name, and what it answers.
@@ -107,17 +107,10 @@ fn main(rt: HostRuntime) -> io::Result<()> {
     print_wakes(rt, alloc)?;
     // A pool of two workers: this thread is one, and waits for two tasks.
     let pool = JobPool::new(rt, alloc, 2)?;
-    let mut turns = pool.turns(0)?;
     let (mut sum, mut average) = pooled::spawn_both(&pool, 100, 9)?;
-    let (_, answers) = thread::join(
+    let answers = pool.team()?.start(
         &rt,
-        || pool.run(1).is_ok(),
-        || {
-            let sum = turns.block_on(&mut sum);
-            let average = turns.block_on(&mut average);
-            pool.shutdown();
-            (sum, average)
-        },
+        |turns| (turns.block_on(&mut sum), turns.block_on(&mut average)),
     );
     print(rt, "pooled", answers)
 }

@@ -21,6 +21,7 @@ mod ringing;
 pub mod shared;
 mod spawning;
 mod stage;
+pub mod start;
 pub mod store;
 pub mod turns;
 
@@ -36,6 +37,7 @@ pub use members::PoolGroup;
 pub use pool::{Place, Pool, PoolRunnable, PoolTask, PoolWaker, ToPool};
 pub use ringing::PoolListener;
 pub use shared::WithShared;
+pub use start::{Team, Works};
 pub use store::{Key, Store, Walk};
 pub use turns::Turns;
 pub use work_queues::{Settings, WorkerCounts};

@@ -2,7 +2,7 @@
 //! It stands on the Task of `async_task`, on the futures, wakers and spin lock of the kit's `futures`, and on its `thiserror`.
 //! A user spawns a task whose type of awaiter is `KitAwaiter`, and wraps its Task in an `Awaits`, which makes that awaiter.
 //! The reverse is left out: a wake of the kit rings a `Doorbell`, a closed type that calls no code of a user.
-//! The page is docs/KIT_BRIDGE.md.
+//! The page is README.md, beside the code.
 #![tactic(auto)]
 
 mod awaiter;

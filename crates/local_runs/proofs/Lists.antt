@@ -19,10 +19,10 @@ use Rattle.local_runs.specs.Runs.{tells_start, or_none, tells_call, tells_at, al
 use Rattle.local_runs.proofs.Tokens.{plain_started, same_starts, same_discards, same_wakes, same_gains, same_drops, same_cancels, same_detaches, same_ready, same_pending, same_claims, same_registers}
 
 -- the moves by which a call goes on until it has ended
-abbrev goes : SegmentEnd → Option Frame → List Bool → List Move → List Move
-goes l None answers moves = moves
-goes l (Some f) [] moves = moves
-goes l (Some f) (b ∷ bs) moves = goes (to_next l (Some f) b) (to_next l (Some f) b).frame bs (Go b ∷ moves)
+abbrev continued : SegmentEnd → Option Frame → List Bool → List Move → List Move
+continued l None answers moves = moves
+continued l (Some f) [] moves = moves
+continued l (Some f) (b ∷ bs) moves = continued (to_next l (Some f) b) (to_next l (Some f) b).frame bs (Go b ∷ moves)
 
 ended_alone : (l : SegmentEnd) (answers : List Bool) → l.frame ≡ None → alone l answers ≡ l
 ended_alone l [] e = refl
@@ -36,7 +36,7 @@ goes_one limit l f b moves frames told is e =
     ∙ ap (λ (events : List Event). Some (record { cell = next.cell; frames = put next.frame frames; told = events })) (sym (append_assoc next.told l.told told)))
 
 goes_leads : (limit : ℕ) (l : SegmentEnd) (frame : Option Frame) (answers : List Bool) (moves : List Move) (frames : List Frame) (told : List Event) → l.frame ≡ frame
-    → all_moved limit moves ≡ Some (follow l frames told) → all_moved limit (goes l frame answers moves) ≡ Some (follow (alone l answers) frames told)
+    → all_moved limit moves ≡ Some (follow l frames told) → all_moved limit (continued l frame answers moves) ≡ Some (follow (alone l answers) frames told)
 goes_leads limit l None answers moves frames told is e = e ∙ ap (λ (x : SegmentEnd). Some (follow x frames told)) (sym (ended_alone l answers is))
 goes_leads limit l (Some f) [] moves frames told is e = e
 goes_leads limit l (Some f) (b ∷ bs) moves frames told is e =
@@ -67,7 +67,7 @@ module _ {F T A : Type 0} (number : A → ℕ) (limit : ℕ) where
       let first = begin limit (cell_of (plain t)) call in
       let frames = open_run t.phase in
       record {
-        moves = goes first first.frame (in_order a) (Begin call ∷ r.moves);
+        moves = continued first first.frame (in_order a) (Begin call ∷ r.moves);
         leads = goes_leads limit first first.frame (in_order a) (Begin call ∷ r.moves) frames told refl (ap (λ (x : Option Abstract). then_moved limit x (Begin call)) r.leads)
             ∙ (ap (λ (l : SegmentEnd). Some (follow l frames told)) row
             ∙ ap (λ (b : Bool). Some (record { cell = cell_of (plain u); frames = (if b then InPoll ∷ [] else []); told = events ++ told })) same);
@@ -81,7 +81,7 @@ module _ {F T A : Type 0} (number : A → ℕ) (limit : ℕ) where
       let there : all_moved limit r.moves ≡ Some (record { cell = cell_of (plain t); frames = InPoll ∷ []; told = told }) =
       r.leads ∙ ap (λ (s : Bool). Some (record { cell = cell_of (plain t); frames = (if s then InPoll ∷ [] else []); told = told })) started in
       record {
-        moves = goes first first.frame (in_order a) (Go b ∷ r.moves);
+        moves = continued first first.frame (in_order a) (Go b ∷ r.moves);
         leads = goes_leads limit first first.frame (in_order a) (Go b ∷ r.moves) [] told refl (ap (λ (x : Option Abstract). then_moved limit x (Go b)) there)
             ∙ (ap (λ (l : SegmentEnd). Some (follow l [] told)) row
             ∙ ap (λ (s : Bool). Some (record { cell = cell_of (plain u); frames = (if s then InPoll ∷ [] else []); told = events ++ told })) (sym ended));

@@ -2,7 +2,7 @@
 //! It stands on `task_replay`, on `task_progress` for the steps that are left, and on the kit's `strsim`.
 //! A user calls nothing of it. The program calls `arguments::answer`; tests use the other modules too.
 //! Nothing is public only to carry a claim.
-//! The page is docs/TRACES.md.
+//! The page is that of `replay_trace`.
 #![tactic(auto)]
 
 pub mod arguments;

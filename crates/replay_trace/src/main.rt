@@ -1,7 +1,7 @@
 //! The program that plays the steps that it reads from standard input, and prints how the task stands after each.
 //! It stands on `replay_printer`, which reads the arguments and the steps, and prints the rows.
 //! A user runs it. Nothing is public only to carry a claim.
-//! The page is docs/TRACES.md.
+//! The page is README.md, beside the code.
 #![tactic(auto)]
 
 use replay_printer::arguments::{answer, refuse};

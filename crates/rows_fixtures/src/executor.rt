@@ -1,11 +1,11 @@
 //! An executor by priority: a queue of Runnables as the surroundings of tasks, from which the one of greatest priority is run first.
 ghost use Rattle.std.specs.Prelude.{⊤, ◌≡◌};
 
+use crate::flag::Flag;
 use crate::future::RowFuture;
 use crate::surroundings::Scheduler;
 use async_task::{Runnable, Schedule, ScheduleInfo, Task, TaskWaker};
 use priority_heap::PriorityHeap;
-use rows_values::flag::Flag;
 use std::alloc::{AllocError, Global};
 use std::sync::{Mutex, Wait};
 

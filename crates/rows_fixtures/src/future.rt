@@ -2,12 +2,12 @@
 ghost use Rattle.std.specs.Prelude.{◌≡◌, false};
 ghost use Rattle.task_core.specs.Poll.{IfReady};
 
+use crate::behaviour::Behaviour;
+use crate::counters::Counters;
 use crate::executor::PriorityWaker;
+use crate::output::Output;
 use crate::surroundings::{RowWaker, Scheduler};
 use async_task::{Future, Poll, TaskWaker, Wake, Yields};
-use rows_values::behaviour::Behaviour;
-use rows_values::counters::Counters;
-use rows_values::output::Output;
 use std::mem;
 use std::sync::{Arc, Wait};
 
@@ -20,7 +20,7 @@ pub struct RowFuture {
 }
 
 impl RowFuture {
-    ghost use Rattle.rows_values.specs.Behaviour.{IsPolled};
+    ghost use Rattle.rows_fixtures.specs.Behaviour.{IsPolled};
 
     /// A future that does this and counts here.
     pub fn new(behaviour: Behaviour, counters: Arc<Counters>) -> RowFuture
@@ -84,7 +84,7 @@ impl Yields for RowFuture {
 }
 
 impl<'x, R: Wait + Drop + Copy> Future<RowWaker<'x, R>> for RowFuture {
-    ghost use Rattle.rows_values.specs.Behaviour.{IsPolled};
+    ghost use Rattle.rows_fixtures.specs.Behaviour.{IsPolled};
 
     ghost polled = { λ old _ answer new. IsPolled old.behaviour answer new.behaviour };
 
@@ -108,7 +108,7 @@ impl<'x, R: Wait + Drop + Copy> Future<RowWaker<'x, R>> for RowFuture {
 }
 
 impl<'x, R: Wait + Drop + Copy> Future<PriorityWaker<'x, R>> for RowFuture {
-    ghost use Rattle.rows_values.specs.Behaviour.{IsPolled};
+    ghost use Rattle.rows_fixtures.specs.Behaviour.{IsPolled};
 
     ghost polled = { λ old _ answer new. IsPolled old.behaviour answer new.behaviour };
 
@@ -126,7 +126,7 @@ impl<'x, R: Wait + Drop + Copy> Future<PriorityWaker<'x, R>> for RowFuture {
 
 impl<R: Wait + Drop + Copy, A: Wake> Future<TaskWaker<R, RowFuture, Scheduler, (), A, ()>>
     for RowFuture {
-    ghost use Rattle.rows_values.specs.Behaviour.{IsPolled};
+    ghost use Rattle.rows_fixtures.specs.Behaviour.{IsPolled};
 
     ghost polled = { λ old _ answer new. IsPolled old.behaviour answer new.behaviour };
 

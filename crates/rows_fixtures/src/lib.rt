@@ -1,13 +1,22 @@
-//! What rows and tests stand on: futures and schedule values that count what happens to them, a queue, and stores of handles.
-//! It stands on `async_task`, `priority_heap` and `rows_values`.
+//! What rows and tests stand on: futures and schedule values that count what happens to them, a queue, and stores of handles;
+//! what they look at afterwards, as counters, an awaiter, outputs and how a row ended;
+//! and the names of the rows, with what `rows_program` prints of them.
+//! It stands on `async_task` and `priority_heap`.
 //! A user calls nothing of it; rows and tests do.
 //! Nothing is public only to carry a claim.
-//! The page is docs/ROWS.md.
+//! The page is that of `rows_program`.
 #![tactic(auto)]
 
+pub mod behaviour;
+pub mod counters;
 pub mod executor;
 pub mod fixture;
+pub mod flag;
 pub mod future;
+pub mod outcome;
+pub mod output;
 pub mod rendezvous;
+pub mod report;
+pub mod row;
 mod shown;
 pub mod surroundings;

@@ -1,11 +1,11 @@
 //! The surroundings of a row's task: the queue of its Runnables, the stores of a waker and of a Task, and the schedule value that pushes to the queue.
 ghost use Rattle.std.specs.Prelude.{⊤, ◌≡◌};
 
+use crate::counters::Counters;
+use crate::flag::Flag;
 use crate::future::RowFuture;
 use crate::rendezvous::Rendezvous;
 use async_task::{Runnable, Schedule, ScheduleInfo, Task, TaskWaker, Wake};
-use rows_values::counters::Counters;
-use rows_values::flag::Flag;
 use std::alloc::{AllocError, Allocator, Global};
 use std::collections::VecDeque;
 use std::mem;

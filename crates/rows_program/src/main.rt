@@ -1,12 +1,25 @@
-//! The program that runs the worked rows.
-//! It stands on `rows_table`, and on `rows_values` for the arguments and what is printed.
+//! The worked rows, and the program that runs them: short sequences of calls whose counters and answers are known.
+//! It stands on `rows_fixtures`, also for the arguments and what is printed, on `async_task`, and on `local_task` for one row.
 //! A user runs it. Nothing is public only to carry a claim.
-//! The page is docs/ROWS.md.
+//! The page is README.md, beside the code.
+//!
+//! A row asks by `let .. else`, since a `?` is two calls at the types of the handles that it asks for,
+//! and joins what it saw by `&`, which makes no branch: both are far shorter to prove.
 #![tactic(auto)]
 
-use rows_table::table;
-use rows_values::report::{answer, refuse};
-use rows_values::row::Row;
+mod awaiting;
+mod calls;
+mod cancelling;
+mod detaching;
+mod local;
+mod priority;
+mod racing;
+mod scheduling;
+mod table;
+mod waking;
+
+use rows_fixtures::report::{answer, refuse};
+use rows_fixtures::row::Row;
 use std::process::ExitCode;
 use std::{env, io};
 

@@ -1,14 +1,24 @@
-//! What each call does to a task, as its callers see it: atomic acts on a small task, whatever other calls do meanwhile.
-//! It stands on `task_laws`, and takes from `task_progress` how a table of moves is run.
+//! What each call does to a task, as its callers see it: atomic acts on a small task, whatever other calls do meanwhile; and that the paths which the
+//! contracts of the public calls promise are these acts.
+//! It stands on `task_laws` and `async_task`, and takes from `task_progress` how a table of moves is run.
+//! A user calls nothing of it: the contracts of `atomic` and `calls` are the theorems.
 //! `wrong_table` is public to show that a table which meets the laws, and by which a call acts twice, is refused.
 //! The page is docs/PROOFS.md.
 #![tactic(auto)]
 
 ghost use Rattle.task_atomic.specs.Atomic.{StepsAreAtomic};
 ghost use Rattle.task_atomic.specs.Calls.{CallsEndByAnswers, CallsMakeTheirActs};
+ghost use Rattle.task_atomic.specs.Deeds.{DeedsAreSteps};
+ghost use Rattle.task_atomic.specs.Paths.{PathsAreActs};
 ghost use Rattle.task_atomic.specs.Registered.{OpenTaskKeepsAwaiter, PendingIsRegistered};
 ghost use Rattle.task_atomic.specs.Tables.{CancelsAgain};
+ghost use Rattle.task_cell.specs.Handed.{HandedOver, PolledOnce};
 ghost use Rattle.task_laws.specs.Table.{rule};
+
+use std::alloc::Allocator;
+use std::sync::Wait;
+use task_cell::{Runnable, TaskWaker};
+use task_core::{Future, Schedule, Wake, Yields};
 
 /// What holds of every interleaving of the machine, for every limit of references and any number of parties. It has no body: the contract is the claim.
 pub fn atomic()
@@ -23,4 +33,22 @@ pub fn atomic()
 /// `calls` of [`atomic`].
 pub fn wrong_table()
     ensures cancels_again { CancelsAgain }
+{}
+
+/// Each path that a call on a task may take is these acts on the small task, in this order, with the call's answer (`paths`): for every cell and all
+/// surroundings, and for the facts that the contracts of `async_task` and `task_cell` state. The act of a deed is that of the machine's step (`deeds`).
+pub fn calls<
+    R: Wait + Drop + Copy,
+    F: Yields,
+    Q: Drop,
+    M: Drop,
+    A: Wake,
+    X: Copy,
+    B: Allocator + Copy,
+>()
+where
+    Q: Schedule<Runnable<R, F, Q, M, A, X, B>>,
+    F: Future<TaskWaker<R, F, Q, M, A, X, B>>,
+    ensures deeds { DeedsAreSteps }
+    ensures paths { (cell : _) (around : _) → PathsAreActs (HandedOver Q.scheduled cell around) (PolledOnce F.polled cell around) ((a : A) × A.woken a) A.cloned A.woken A.woken_by_ref A.compared }
 {}

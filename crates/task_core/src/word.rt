@@ -4,28 +4,28 @@ ghost use Rattle.task_core.specs.Word.{State, state_of, number_of, is_open, orph
 
 use std::marker::Model;
 
-/// A Runnable exists, or is due when the run ends.
+/// A Runnable exists, or is due when the run ends. Set by the spawn and by a wake of an open task, and as an idle task is cancelled or loses its last handle, since a Runnable then drops the future. It can stand beside `RUNNING`, and beside `CLOSED` until the Runnable of a cancelled task is run or dropped, never beside `COMPLETED`.
 pub const SCHEDULED: u64 = 0x01;
 
-/// A run is polling the future.
+/// A run is polling the future. It can stand beside `SCHEDULED`, if a wake came during the poll, and beside `CLOSED`, if a cancel did, never beside `COMPLETED`.
 pub const RUNNING: u64 = 0x02;
 
-/// The future has answered `Poll::Ready`.
+/// The future has answered `Poll::Ready`. Never cleared. Until `CLOSED` stands too, the output is there.
 pub const COMPLETED: u64 = 0x04;
 
-/// The task was cancelled, or its output was claimed or given up.
+/// The task was cancelled, or its output was claimed or given up. Never cleared: no poll of the future begins any more, and a wake changes nothing.
 pub const CLOSED: u64 = 0x08;
 
-/// The Task exists.
+/// The Task exists. It stands from the spawn on, and is never set again once it was detached.
 pub const TASK: u64 = 0x10;
 
-/// An awaiter is stored that must be woken.
+/// An awaiter is stored that must be woken. Only a poll of the Task sets it, as it ends its registering; who takes the awaiter clears it.
 pub const AWAITER: u64 = 0x20;
 
-/// The Task is storing an awaiter.
+/// The Task is storing an awaiter. It stands within one poll of the Task. Beside `NOTIFYING` it says that a notifier came meanwhile: the poll takes the awaiter in its place.
 pub const REGISTERING: u64 = 0x40;
 
-/// A party is taking the awaiter.
+/// A party is taking the awaiter, or came while the Task was storing one. It stands until that party or that poll has taken it: who finds it leaves the awaiter to them.
 pub const NOTIFYING: u64 = 0x80;
 
 /// One reference: Runnables, runs and wakers are counted above the flags.

@@ -1,19 +1,18 @@
--- What calls do to handles that are spent.
-use Rattle.std.proofs.Common.{◌≡◌, ◌≢◌, ◌≤◌, ◌<◌, ℕ, Option, Some, None, inl, inr, ap, sym, ◌∙◌, arith, is_some, refl}
+-- What calls do to ids that are spent.
+use Rattle.std.proofs.Common.{◌≡◌, ◌≤◌, ℕ, Option, Some, None, inl, inr, ap, sym, ◌∙◌, arith, is_some, refl}
 use Rattle.std.specs.Prelude.{option_map}
 use Rattle.task_group.specs.Members.{SameMembers}
 use Rattle.std.proofs.lemmas.Bool.{cases_eq}
 use Rattle.slab.specs.Slab.{Slab, Updates, get}
-use Rattle.task_group.specs.Handles.{SameGenerations, IsNobody, IsSpent, StaySpent, generation_at}
-use Rattle.task_group.specs.declared.handle.AbortHandle.{AbortHandle}
-use Rattle.task_group.specs.declared.handle.Entry.{Entry}
+use Rattle.task_group.specs.Generations.{SameGenerations, StaySpent, generation_at}
+use Rattle.task_group.specs.declared.id.Entry.{Entry}
 
 module _ {T : Type 0} where
-  -- where the members are the same, the same handles are spent
+  -- where the members are the same, the same ids are spent
   pub same-spent : (joined : ℕ) (old new : Slab (Entry T)) → SameGenerations old new → StaySpent joined old joined new
-  same-spent joined old new same handle spent = record {
+  same-spent joined old new same id spent = record {
     given = spent.given;
-    nobody = λ found. spent.nobody (sym (same handle.number) ∙ found);
+    nobody = λ found. spent.nobody (sym (same id.number) ∙ found);
   }
 
   abbrev generation : Option (Entry T) → Option ℕ
@@ -29,11 +28,11 @@ module _ {T : Type 0} where
 
   -- a member leaves
   pub leaves-spent : (joined : ℕ) (old new : Slab (Entry T)) (number : ℕ) → Updates old new number None → StaySpent joined old joined new
-  leaves-spent joined old new number left handle spent = record {
+  leaves-spent joined old new number left id spent = record {
     given = spent.given;
-    nobody = elim (cases_eq handle.number number) [
+    nobody = elim (cases_eq id.number number) [
       | inl same ↦ λ found. grind (arith, found, ap (generation_at new) same, ap generation left.changed)
-      | inr differs ↦ λ found. spent.nobody (sym (ap generation (left.others handle.number differs)) ∙ found)
+      | inr differs ↦ λ found. spent.nobody (sym (ap generation (left.others id.number differs)) ∙ found)
     ];
   }
 
@@ -44,12 +43,12 @@ module _ {T : Type 0} where
     | inr differs ↦ ap generation (put.others other differs) ∙ ap generation (taken.others other (λ e. differs (e ∙ sym again)))
   ]
 
-  -- one joins whose generation no spent handle has
+  -- one joins whose generation no spent id has
   pub joins-spent : (had_joined have_joined : ℕ) (old new : Slab (Entry T)) (number : ℕ) (entry : Entry T) → Updates old new number (Some entry) → entry.generation ≡ had_joined → had_joined ≤ have_joined → StaySpent had_joined old have_joined new
-  joins-spent had_joined have_joined old new number entry put is more handle spent = record {
+  joins-spent had_joined have_joined old new number entry put is more id spent = record {
     given = let given = spent.given in omega (arith, given, more);
-    nobody = elim (cases_eq handle.number number) [
-      | inl same ↦ λ found. let found' : Some entry.generation ≡ Some handle.generation = sym (ap generation put.changed) ∙ sym (ap (generation_at new) same) ∙ found in let given = spent.given in grind (arith, found', given, is)
-      | inr differs ↦ λ found. spent.nobody (sym (ap generation (put.others handle.number differs)) ∙ found)
+    nobody = elim (cases_eq id.number number) [
+      | inl same ↦ λ found. let found' : Some entry.generation ≡ Some id.generation = sym (ap generation put.changed) ∙ sym (ap (generation_at new) same) ∙ found in let given = spent.given in grind (arith, found', given, is)
+      | inr differs ↦ λ found. spent.nobody (sym (ap generation (put.others id.number differs)) ∙ found)
     ];
   }

@@ -1,3 +1,5 @@
 pub mod Cancelled
-pub mod Handles
+pub mod Generations
 pub mod Members
+pub mod Next
+pub mod Requested

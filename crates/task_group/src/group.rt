@@ -1,21 +1,24 @@
 //! The group: its members by number, and the mailbox that their awaiters post to.
-ghost use Rattle.std.specs.Prelude.{◌≡◌, ◌↔◌, ◌≤◌, ◌<◌, ◌+◌, ◌^◌, true, false, Some, IsTrue, IsNone, IsErr, IfOk, IfErr, IfSome, OnErr, OnOk};
+ghost use Rattle.std.specs.Prelude.{◌≡◌, ◌≢◌, ◌↔◌, ◌≤◌, ◌<◌, ◌+◌, ◌^◌, true, false, Some, IsTrue, IsNone, IsErr, IfOk, IfErr, IfSome, OnErr, OnOk};
 ghost use Rattle.std.specs.Arc.{arc_value};
 ghost use Rattle.slab.specs.Slab.{slab_len};
 ghost use Rattle.slab.specs.Slab.{get};
 ghost use Rattle.task_cell.specs.PollPaths.{IfOutput};
 ghost use Rattle.async_task.specs.HandlePaths.{IfSomeOutput};
-ghost use Rattle.task_group.specs.Members.{Joins, Leaves, SameMembers, IfNext, came_out, is_over, is_member};
-ghost use Rattle.task_group.specs.Handles.{IsNobody, SameGenerations, StaySpent, generation_at};
+ghost use Rattle.task_group.specs.Members.{Joins, Leaves, SameMembers, is_over, is_member};
+ghost use Rattle.task_group.specs.Generations.{IsNobody, SameGenerations, StaySpent, generation_at};
+ghost use Rattle.task_group.specs.Next.{TakesNext};
 ghost use Rattle.task_group.specs.Cancelled.{IsCancel, WasCancelled};
 
+use crate::abort_handle::AbortHandle;
 use crate::ended::Ended;
 use crate::errors::{AwaiterRefused, GroupFull, GroupSpawnError, NextUntilError};
-use crate::handle::{AbortHandle, Entry};
+use crate::id::{Entry, MemberId};
+use crate::shared::Shared;
 use async_task::{
     Cancel, Runnable, Schedule, SpawnError, Task, TaskClosed, TaskPoll, Yields, spawn,
 };
-use awaiters::{Mailbox, Posts};
+use awaiters::Posts;
 use slab::Slab;
 use std::alloc::{AllocError, Allocator, Global};
 use std::sync::{Arc, Wait};
@@ -119,7 +122,7 @@ where
     Q: Schedule<Runnable<R, F, Q, M, A, X, B>>,
 {
     rt: R,
-    mailbox: Arc<Mailbox<R, A::Listener>>,
+    shared: Arc<Shared<R, A::Listener>>,
     members: Slab<Entry<Member<R, F, Q, M, A, X, B>>>,
     // How many have joined.
     joined: u64,
@@ -149,10 +152,10 @@ where
         ensures room { IfOk result (λ group. room ≤ group.members.capacity) }
     {
         let members = Slab::with_capacity(alloc, room)?;
-        let mailbox = Mailbox::new(rt, alloc, members.capacity())?;
+        let shared = Shared::new(rt, alloc, members.capacity())?;
         Ok(TaskGroup {
             rt,
-            mailbox,
+            shared,
             members,
             joined: 0,
         })
@@ -219,34 +222,43 @@ where
         self.members.insert_reserved(Entry { generation, member })
     }
 
-    /// The handle of the member that has this number now. `None` where there is none.
-    pub fn handle(&self, number: usize) -> Option<AbortHandle>
+    /// The member that has this number now. `None` where there is none.
+    pub fn id(&self, number: usize) -> Option<MemberId>
         ensures none { IsNone result ↔ (is_member self.now.members number ≡ false) }
-        ensures number { IfSome result (λ handle. handle.number ≡ number) }
-        ensures member { IfSome result (λ handle. generation_at self.now.members number ≡ Some handle.generation) }
+        ensures number { IfSome result (λ id. id.number ≡ number) }
+        ensures member { IfSome result (λ id. generation_at self.now.members number ≡ Some id.generation) }
     {
         let generation = self.members.get(number)?.generation;
-        Some(AbortHandle { number, generation })
+        Some(MemberId { number, generation })
+    }
+
+    /// The handle by which any thread may abort the member that has this number now. It asks for no memory.
+    ///
+    /// `None` where there is none, or where there are as many handles as can be counted.
+    pub fn abort_handle(&self, number: usize) -> Option<AbortHandle<R, A::Listener>>
+        ensures none { is_member self.now.members number ≡ false → IsNone result }
+        ensures shared { IfSome result (λ handle. arc_value handle.shared ≡ arc_value self.now.shared) }
+        ensures number { IfSome result (λ handle. handle.id.number ≡ number) }
+        ensures member { IfSome result (λ handle. generation_at self.now.members number ≡ Some handle.id.generation) }
+    {
+        let id = self.id(number)?;
+        AbortHandle::new(&self.shared, id)
     }
 
     /// Waits for the next member that ends, and takes it out of the group. `None` where the group is empty.
     ///
-    /// Members come out in the order in which their tasks ended, but for a number that an earlier member had: its late wake may give the new one an earlier place. An `Err` says that the poll of a member was refused its awaiter:
+    /// Members come out in the order in which their tasks ended, but for a number that an earlier member had: its late wake may give the new one an earlier place, and so may an abort. An `Err` says that the poll of a member was refused its awaiter:
     /// the group is as it was, and a later call polls that member again.
     pub fn next(&mut self) -> Result<Option<Ended<F>>, AwaiterRefused>
         ensures over { is_over result ≡ true → slab_len self.old.members ≡ 0 }
-        ensures empty { slab_len self.old.members ≡ 0 → is_over result ≡ true }
-        ensures leaves { IfNext result (λ ended. Leaves self.old.members self.new.members ended.number) }
-        ensures refused { OnErr result (SameMembers self.old.members self.new.members) }
-        ensures spent { StaySpent self.old.joined self.old.members self.new.joined self.new.members }
-        ensures room { self.new.members.capacity ≡ self.old.members.capacity }
+        ensures next { TakesNext (λ ended. ended.number) self.old.joined self.old.members result self.new.joined self.new.members }
     {
         let rt = self.rt;
         for _ in rt.forever() {
             if self.members.is_empty() {
                 return Ok(None);
             }
-            let number = self.mailbox.wait();
+            let number = self.shared.mailbox.wait();
             match self.look(number) {
                 Ok(ended) => return Ok(Some(ended)),
                 Err(refused) => {
@@ -259,27 +271,22 @@ where
         unreachable!()
     }
 
-    /// Has the next end of a member tell this listener, in place of the one before. Call it before a `try_next` after which you may sleep elsewhere.
+    /// Has the next end or abort of a member tell this listener, in place of the one before. Call it before a `try_next` after which you may sleep elsewhere.
     pub fn listen(&self, listener: A::Listener) {
-        self.mailbox.listen(listener);
+        self.shared.mailbox.listen(listener);
     }
 
     /// Takes the next member that has ended out of the group, and never sleeps. `None` where none has ended yet, and where the group is empty.
     ///
     /// It looks at what had ended as it was called, in the order of `next`, so a later call may have what this one has not. An `Err` is as that of `next`.
     pub fn try_next(&mut self) -> Result<Option<Ended<F>>, AwaiterRefused>
-        ensures empty { slab_len self.old.members ≡ 0 → is_over result ≡ true }
-        ensures leaves { IfNext result (λ ended. Leaves self.old.members self.new.members ended.number) }
-        ensures stays { came_out result ≡ false → SameMembers self.old.members self.new.members }
-        ensures len { came_out result ≡ false → slab_len self.new.members ≡ slab_len self.old.members }
-        ensures spent { StaySpent self.old.joined self.old.members self.new.joined self.new.members }
-        ensures room { self.new.members.capacity ≡ self.old.members.capacity }
+        ensures next { TakesNext (λ ended. ended.number) self.old.joined self.old.members result self.new.joined self.new.members }
     {
         if self.members.is_empty() {
             return Ok(None);
         }
         for _ in 0..self.members.capacity() {
-            let Some(number) = self.mailbox.take() else {
+            let Some(number) = self.shared.mailbox.take() else {
                 return Ok(None);
             };
             match self.look(number) {
@@ -305,7 +312,8 @@ where
             return Err(false);
         };
         let Entry { generation, member } = entry;
-        let polled = self.poll_member(number, member);
+        let asked = self.shared.asked(number);
+        let polled = self.poll_asked(number, generation, member, asked);
         match polled {
             Ok(ended) => Ok(ended),
             Err(stays) => {
@@ -316,6 +324,26 @@ where
         }
     }
 
+    // Polls a member of this number, and cancels it by that if its abort was asked for.
+    fn poll_asked(
+        &self,
+        number: usize,
+        generation: u64,
+        member: Member<R, F, Q, M, A, X, B>,
+        asked: Option<u64>,
+    ) -> Result<Ended<F>, Stays<R, F, Q, M, A, X, B>>
+        ensures number { IfOk result (λ ended. ended.number ≡ number) }
+        ensures asked { asked ≡ Some generation → IfErr result (λ stays. stays.refused ≡ false → WasCancelled stays.member) }
+        ensures of_another { asked ≢ Some generation → IfErr result (λ stays. IsCancel stays.member → IsCancel member) }
+    {
+        let member = if asked == Some(generation) {
+            member.cancel()
+        } else {
+            member
+        };
+        self.poll_member(number, member)
+    }
+
     // Polls a member of this number.
     fn poll_member(
         &self,
@@ -324,6 +352,7 @@ where
     ) -> Result<Ended<F>, Stays<R, F, Q, M, A, X, B>>
         ensures number { IfOk result (λ ended. ended.number ≡ number) }
         ensures cancelled { IfErr result (λ stays. IsCancel member → stays.refused ≡ false → WasCancelled stays.member) }
+        ensures runs { IfErr result (λ stays. IsCancel stays.member → IsCancel member) }
     {
         match member {
             Member::Runs(mut task) => {
@@ -360,7 +389,7 @@ where
             TaskPoll::Ready(answer) => return Ok(Ended { number, answer }),
             TaskPoll::Pending => false,
             TaskPoll::Refused => {
-                self.mailbox.post(number);
+                self.shared.mailbox.post(number);
                 true
             }
         };
@@ -369,9 +398,9 @@ where
 
     // An awaiter that posts this number to the mailbox of the group.
     fn awaiter_of(&self, number: usize) -> Option<A>
-        ensures { IfSome result (λ awaiter. A.Posts.posts awaiter (arc_value self.now.mailbox) number) }
+        ensures { IfSome result (λ awaiter. A.Posts.posts awaiter (arc_value (arc_value self.now.shared).mailbox) number) }
     {
-        A::of_mailbox(&self.mailbox, number)
+        A::of_mailbox(&self.shared.mailbox, number)
     }
 
     // What a member becomes under this number, once polled, and whether that poll was refused its awaiter.
@@ -384,7 +413,7 @@ where
     {
         match self.poll_member(number, member) {
             Ok(ended) => {
-                self.mailbox.post(number);
+                self.shared.mailbox.post(number);
                 Stays {
                     member: Member::HasEnded(ended),
                     refused: false,
@@ -394,26 +423,26 @@ where
         }
     }
 
-    /// Cancels the member of this handle. It stays in the group until its future is gone, and comes out then: closed, or with the output of a task that was completed before. `Ok(false)` where the handle refers to nobody, as once its member has come out: nothing has changed then.
+    /// Cancels this member. It stays in the group until its future is gone, and comes out then: closed, or with the output of a task that was completed before. `Ok(false)` where `id` refers to nobody, as once the member has come out: nothing has changed then.
     ///
     /// An `Err` says that the poll which cancels was refused its awaiter: a later call of `next` polls again, and cancels the member if this call did not.
-    pub fn cancel(&mut self, handle: AbortHandle) -> Result<bool, AwaiterRefused>
-        ensures found { result ≡ Ok false ↔ IsNobody self.old.members handle }
-        ensures nobody { IsNobody self.old.members handle → self.new ≡ self.old }
-        ensures cancelled { result ≡ Ok true → IfSome (get self.new.members handle.number) (λ entry. WasCancelled entry.member) }
+    pub fn cancel(&mut self, id: MemberId) -> Result<bool, AwaiterRefused>
+        ensures found { result ≡ Ok false ↔ IsNobody self.old.members id }
+        ensures nobody { IsNobody self.old.members id → self.new ≡ self.old }
+        ensures cancelled { result ≡ Ok true → IfSome (get self.new.members id.number) (λ entry. WasCancelled entry.member) }
         ensures stays { SameMembers self.old.members self.new.members }
         ensures spent { StaySpent self.old.joined self.old.members self.new.joined self.new.members }
         ensures len { slab_len self.new.members ≡ slab_len self.old.members }
         ensures room { self.new.members.capacity ≡ self.old.members.capacity }
     {
-        let generation = match self.members.get(handle.number) {
+        let generation = match self.members.get(id.number) {
             Some(entry) => entry.generation,
             None => return Ok(false),
         };
-        if generation != handle.generation {
+        if generation != id.generation {
             return Ok(false);
         }
-        self.cancel_number(handle.number)
+        self.cancel_number(id.number)
     }
 
     // Cancels the member of this number, if there is one.
@@ -507,18 +536,14 @@ where
     /// After an error the group is as it was. Where the clock of the runtime has no answer, the call does not sleep, and answers `Elapsed`.
     pub fn next_until(&mut self, deadline: Instant) -> Result<Option<Ended<F>>, NextUntilError>
         ensures over { is_over result ≡ true → slab_len self.old.members ≡ 0 }
-        ensures empty { slab_len self.old.members ≡ 0 → is_over result ≡ true }
-        ensures leaves { IfNext result (λ ended. Leaves self.old.members self.new.members ended.number) }
-        ensures refused { OnErr result (SameMembers self.old.members self.new.members) }
-        ensures spent { StaySpent self.old.joined self.old.members self.new.joined self.new.members }
-        ensures room { self.new.members.capacity ≡ self.old.members.capacity }
+        ensures next { TakesNext (λ ended. ended.number) self.old.joined self.old.members result self.new.joined self.new.members }
     {
         let rt = self.rt;
         for _ in rt.forever() {
             if self.members.is_empty() {
                 return Ok(None);
             }
-            let Some(number) = self.mailbox.wait_until(deadline) else {
+            let Some(number) = self.shared.mailbox.wait_until(deadline) else {
                 return Err(NextUntilError::Elapsed);
             };
             match self.look(number) {

@@ -1,6 +1,6 @@
 -- Each row leaves what its segment will leave. Three rows are shown part by part.
 use Rattle.std.proofs.Common.{ℕ, ◌≡◌, ◌+◌, ◌≤◌, true, false, Some, None, refl}
-use Rattle.task_laws.proofs.Vocabulary.{is_open, Position, Act, At, Waker, Task, ClosedRun, FutureGone, OutputStored, DropLastWaker, OrphanTask, CancelIdle, GiveUpOutput, DetachOrphan, DetachLast, Unschedule, Complete, Notifier, OfRun, OfDrop, OfCancel, ThenEnds, Detacher, PendingFutureDropped, Pending, HasClone, Registered, DropWaker, Detach, BeginNotify, EndClosed, EndIdle, EndOrphaned, MissNotify, BeginRegister, EndRegister, found, written, Scene, goes, rule}
+use Rattle.task_laws.proofs.Vocabulary.{is_open, Position, Act, At, Waker, Task, ClosedRun, FutureGone, OutputStored, DropLastWaker, OrphanTask, CancelIdle, GiveUpOutput, DetachOrphan, DetachLast, Unschedule, Complete, Notifier, OfRun, OfDrop, OfCancel, ThenEnds, Detacher, PendingFutureDropped, Pending, HasClone, Registered, DropWaker, Detach, BeginNotify, EndClosed, EndIdle, EndOrphaned, MissNotify, BeginRegister, EndRegister, found, written, Scene, outcome_at, rule}
 use Rattle.task_laws.proofs.Census.{Census, plus, weigh}
 use Rattle.task_laws.proofs.Scenes.{rules, InEach, closed, completed, scheduled, running, task, awaiter, registering, notifying, by_flag}
 use Rattle.task_laws.proofs.Ahead.{Landed, holders}
@@ -8,7 +8,7 @@ use Rattle.task_laws.proofs.Rows.{as_found, Row, drops_waker, detacher_leaves, b
 use Rattle.task_laws.proofs.Calm.{Tracks, by_counts}
 
 drop_waker : (scene : Scene) (rest : Census) → scene.word.references ≡ holders (plus (weigh (At Waker)) rest) + (plus (weigh (At Waker)) rest).wakers → holders (plus (weigh (At Waker)) rest) ≤ 1 → (is_open scene.word ≡ true → scene.word.scheduled ≡ false → scene.word.running ≡ false → holders (plus (weigh (At Waker)) rest) ≡ 0) → found scene.limit DropWaker scene.word ≡ true
-    → Landed scene rest (At Waker) DropWaker (goes scene (written DropWaker scene.word) DropWaker (At Waker))
+    → Landed scene rest (At Waker) DropWaker (outcome_at scene (written DropWaker scene.word) DropWaker (At Waker))
 drop_waker scene rest references one idle is_found = record {
   phase = grind rules;
   closed = grind rules;
@@ -25,7 +25,7 @@ drop_waker scene rest references one idle is_found = record {
 }
 
 detach : (scene : Scene) (rest : Census) → scene.word.references ≡ holders (plus (weigh (Detacher)) rest) + (plus (weigh (Detacher)) rest).wakers → holders (plus (weigh (Detacher)) rest) ≤ 1 → (is_open scene.word ≡ true → scene.word.scheduled ≡ false → scene.word.running ≡ false → holders (plus (weigh (Detacher)) rest) ≡ 0) → (scene.word.completed ≡ true → (scene.word.running ≡ false) × (scene.word.scheduled ≡ false)) → found scene.limit Detach scene.word ≡ true
-    → Landed scene rest (Detacher) Detach (goes scene (written Detach scene.word) Detach (Detacher))
+    → Landed scene rest (Detacher) Detach (outcome_at scene (written Detach scene.word) Detach (Detacher))
 detach scene rest references one idle completed is_found = record {
   phase = grind rules;
   closed = grind rules;
@@ -42,7 +42,7 @@ detach scene rest references one idle completed is_found = record {
 }
 
 begin_notify : (scene : Scene) (rest : Census) → (scene.word.notifying ≡ true → scene.word.registering ≡ true) → (scene.word.awaiter ≡ false → scene.slots.awaiter ≡ None) → (scene.word.awaiter ≡ true → scene.slots.awaiter ≡ None → (scene.word.references ≡ 0) × (scene.word.task ≡ false)) → scene.word.references ≡ holders (plus (weigh (Notifier OfRun)) rest) + (plus (weigh (Notifier OfRun)) rest).wakers → found scene.limit BeginNotify scene.word ≡ true
-    → Landed scene rest (Notifier OfRun) BeginNotify (goes scene (written BeginNotify scene.word) BeginNotify (Notifier OfRun))
+    → Landed scene rest (Notifier OfRun) BeginNotify (outcome_at scene (written BeginNotify scene.word) BeginNotify (Notifier OfRun))
 begin_notify scene rest notifying wanted stored references is_found = record {
   phase = grind rules;
   closed = grind rules;

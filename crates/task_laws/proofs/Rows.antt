@@ -11,7 +11,7 @@ use Rattle.task_laws.proofs.Vocabulary.{TakeUpClosed, StartRun, Unschedule, Comp
 use Rattle.task_laws.proofs.Vocabulary.{BeginNotify, MissNotify, FindNotify, BeginRegister, EndNotify, EndRegister, EndRegisterNotified, Look, LookFinished}
 use Rattle.task_laws.proofs.Vocabulary.{StartPoll, AnswerPending, AnswerReady, DropFuture, StoreOutput, DropOutput, HandOutOutput, CloneAwaiter, RefuseClone}
 use Rattle.task_laws.proofs.Vocabulary.{StoreAwaiter, TakeAwaiter, WakeAwaiter, DropAwaiter, HandOver, EmptySlots, RefuseGain, EndCall}
-use Rattle.task_laws.proofs.Vocabulary.{Position, Act, OfPoll, OfClaim, Scene, Outcome, where_found, goes, rule}
+use Rattle.task_laws.proofs.Vocabulary.{Position, Act, OfPoll, OfClaim, Scene, Outcome, where_found, outcome_at, rule}
 use Rattle.task_laws.specs.declared.positions.PollAnswer.{PollAnswer}
 use Rattle.task_laws.proofs.Scenes.{InEach, scheduled, running, completed, closed, awaiter, notifying, by_flag, with_awaiter, by_slot}
 
@@ -148,7 +148,7 @@ pub data Row : Act → Position → (Scene → Scene) → Type 0 where
 
 -- what a row has to show: the claim of what it leaves, in a scene where it is found
 abbrev pub Shows : (Act → Position → Scene → Option Outcome → Type 0) → Act → Position → Scene → Type 0
-Shows Claim act p scene = found scene.limit act scene.word ≡ true → Claim act p scene (goes scene (written act scene.word) act p)
+Shows Claim act p scene = found scene.limit act scene.word ≡ true → Claim act p scene (outcome_at scene (written act scene.word) act p)
 
 -- what each row shows, where the table has none there is nothing to show
 at_rows : (Claim : Act → Position → Scene → Option Outcome → Type 0) → ((act : Act) (p : Position) (scene : Scene) → Claim act p scene None)
@@ -254,4 +254,4 @@ pub by_rows : (Claim : Act → Position → Scene → Option Outcome → Type 0)
     → ((act : Act) (p : Position) (put : Scene → Scene) → Row act p put → InEach (λ scene. Shows Claim act p (put scene)))
     → (act : Act) (p : Position) (scene : Scene) → Claim act p scene (rule scene act p)
 by_rows Claim none shown act p scene =
-    if_found (Claim act p scene) (none act p scene) (found scene.limit act scene.word) (goes scene (written act scene.word) act p) ((at_rows Claim none shown act p).at scene)
+    if_found (Claim act p scene) (none act p scene) (found scene.limit act scene.word) (outcome_at scene (written act scene.word) act p) ((at_rows Claim none shown act p).at scene)

@@ -26,7 +26,7 @@ pub use Rattle.task_laws.specs.Position.{Polling, Position, Ready, ReadyFutureDr
 pub use Rattle.task_laws.specs.Position.{Rest, Runnable, SawOutput, StartPoll, StartRun, Starting, StoreAwaiter, StoreOutput, Storing, TakeAwaiter}
 pub use Rattle.task_laws.specs.Position.{TakeUpClosed, Taker, Task, ThenEnds, ThenNotifies, ThenTask, TookBack, TookOutput, Unschedule, UnusedClone}
 pub use Rattle.task_laws.specs.Position.{WakeAwaiter, WakeIdle, WakeOver, WakeRunning, WakeScheduled, Waker}
-pub use Rattle.task_laws.specs.Table.{Outcome, Scene, Slots, after_handing_over, goes, is_held, notifies, rule, where_found}
+pub use Rattle.task_laws.specs.Table.{Outcome, Scene, Slots, after_handing_over, outcome_at, is_held, notifies, rule, where_found}
 pub use Rattle.task_laws.specs.Theorem.{ChangesItsOwn, Laws, LawsHold, OwnersAct}
 pub use Rattle.task_laws.specs.Whole.{Whole, WholeRunsAgree, after_step, asks_foreign, awaiter_of, call_of, closed, frame_at, frame_of, frames, innermost}
 pub use Rattle.task_laws.specs.Whole.{is_at_rest, is_cut, is_deliverer, is_foreign, is_home, is_innermost, is_polling, is_queued, is_seen, may_step, move_of}

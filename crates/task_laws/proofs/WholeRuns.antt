@@ -134,11 +134,11 @@ abbrev pub moved_on : Machine → ℕ → Position → Outcome → Machine
 moved_on m i p o = record { limit = m.limit; word = o.word; slots = o.slots; parties = slice_set m.parties i o.next ++ o.born; trace = o.told ++ (begins p ++ m.trace) }
 
 -- One step of party i from p, before which the moves have made what the segment leaves.
-goes : (limit : ℕ) (m : Machine) (i : ℕ) (p : Position) (act : Act) (stack : List ℕ) (moves : List Move) (o : Outcome) → slice_get m.parties i ≡ Some p → queues act ≡ false → IsAnother i stack → OpenCallsStand m.word.completed m.parties stack
+outcome_stands : (limit : ℕ) (m : Machine) (i : ℕ) (p : Position) (act : Act) (stack : List ℕ) (moves : List Move) (o : Outcome) → slice_get m.parties i ≡ Some p → queues act ≡ false → IsAnother i stack → OpenCallsStand m.word.completed m.parties stack
     → all_moved limit moves ≡ Some (follow (before m.limit (cell_of m) m.slots p act) (frames m.parties stack) (seen m.trace))
     → Landed (scene m) (census (others m.parties i)) p act (Some o) → StaysCalm act (Some o) → (m.word.completed ≡ true → o.word.completed ≡ true)
     → Goes limit (moved_on m i p o) i act o.next stack moves
-goes limit m i p act stack moves o e u fresh good a landed calm done =
+outcome_stands limit m i p act stack moves o e u fresh good a landed calm done =
     let rest = census (others m.parties i) in
     let was : cell_of m ≡ cell_at m.word m.slots (plus (weigh p) rest) = ap (cell_at m.word m.slots) (split m.parties i p e) in
     let new : census (slice_set m.parties i o.next ++ o.born) ≡ plus (census (o.next ∷ o.born)) rest = put_born m.parties i p o.next o.born e in
@@ -266,16 +266,16 @@ abbrev pub GoesAfter : ℕ → Machine → ℕ → Position → Act → List ℕ
 GoesAfter limit m i p act stack moves None = Unit {0}
 GoesAfter limit m i p act stack moves (Some o) = Goes limit (moved_on m i p o) i act o.next stack moves
 
-goes_after : (limit : ℕ) (m : Machine) (i : ℕ) (p : Position) (act : Act) (stack : List ℕ) (moves : List Move) (o : Option Outcome) → slice_get m.parties i ≡ Some p → queues act ≡ false → IsAnother i stack → OpenCallsStand m.word.completed m.parties stack → Invariant m
+outcome_stands_after : (limit : ℕ) (m : Machine) (i : ℕ) (p : Position) (act : Act) (stack : List ℕ) (moves : List Move) (o : Option Outcome) → slice_get m.parties i ≡ Some p → queues act ≡ false → IsAnother i stack → OpenCallsStand m.word.completed m.parties stack → Invariant m
     → all_moved limit moves ≡ Some (follow (before m.limit (cell_of m) m.slots p act) (frames m.parties stack) (seen m.trace))
     → Landed (scene m) (census (others m.parties i)) p act o → StaysCalm act o → Stays (after m i p o) → GoesAfter limit m i p act stack moves o
-goes_after limit m i p act stack moves None e u f g h a l c stays = tt
-goes_after limit m i p act stack moves (Some o) e u f g h a l c stays = goes limit m i p act stack moves o e u f g a l c (stays_completed m i p o h stays)
+outcome_stands_after limit m i p act stack moves None e u f g h a l c stays = tt
+outcome_stands_after limit m i p act stack moves (Some o) e u f g h a l c stays = outcome_stands limit m i p act stack moves o e u f g a l c (stays_completed m i p o h stays)
 
 step_goes : (limit : ℕ) (m : Machine) (i : ℕ) (p : Position) (act : Act) (stack : List ℕ) (moves : List Move) (cut : Bool) → slice_get m.parties i ≡ Some p → queues act ≡ false → Invariant m → Calm m.word m.slots cut p → IsAnother i stack → OpenCallsStand m.word.completed m.parties stack
     → all_moved limit moves ≡ Some (follow (before m.limit (cell_of m) m.slots p act) (frames m.parties stack) (seen m.trace)) → GoesAfter limit m i p act stack moves (rule (scene m) act p)
 step_goes limit m i p act stack moves cut e u h k f g a =
-    goes_after limit m i p act stack moves (rule (scene m) act p) e u f g h a (tracked_here m i p act cut e h k) (calm_here m i p act cut e h k) (moves_stays m i act (Some p) e h)
+    outcome_stands_after limit m i p act stack moves (rule (scene m) act p) e u f g h a (tracked_here m i p act cut e h k) (calm_here m i p act cut e h k) (moves_stays m i act (Some p) e h)
 
 -- a call begins
 pub begins_here : (limit : ℕ) (m : Machine) (i : ℕ) (r : Rest) (act : Act) (stack : List ℕ) (moves : List Move) → m.limit ≡ limit → slice_get m.parties i ≡ Some (At r) → queues act ≡ false → Invariant m → AtCut limit m stack moves

@@ -20,7 +20,7 @@ pub data SlotEdit : Type 0 where
 
 -- where the party goes: to a position, or to one that hangs on what it finds
 pub data Next : Type 0 where
-  GoesTo : Position → Next
+  MovesTo : Position → Next
   Notifies : NotifyingCall → Next
   EndsRun EndsDetached : Next
   Delivers Answers LooksFirst LooksAgain StoresOver : ℕ → Next
@@ -57,7 +57,7 @@ edited EmptiesAwaiter slots = record slots { awaiter = None }
 edited (StoresAwaiter i) slots = record slots { awaiter = Some i }
 
 abbrev pub next_of : Scene → Next → Position
-next_of s (GoesTo p) = p
+next_of s (MovesTo p) = p
 next_of s (Notifies way) = notifies s.word.awaiter way
 next_of s EndsRun = let w = s.word in if w.closed then OutputInHand w.awaiter else notifies w.awaiter OfRun
 next_of s EndsDetached = OutputInHand s.word.awaiter
@@ -85,7 +85,7 @@ leaves s v (Some l) = when (holds s l.guard)
 
 -- the party goes on
 abbrev pub moves_to : Position → List Event → Line
-moves_to p told = record { guard = Always; slots = KeepsSlots; next = GoesTo p; born = []; told = told; also = NothingElse }
+moves_to p told = record { guard = Always; slots = KeepsSlots; next = MovesTo p; born = []; told = told; also = NothingElse }
 
 -- .. to a position that hangs on what it finds
 abbrev pub moves_on : Next → List Event → Line
@@ -93,8 +93,8 @@ moves_on next told = record { guard = Always; slots = KeepsSlots; next = next; b
 
 -- .. and adds a party
 abbrev pub adds : Position → Position → List Event → Line
-adds p born told = record { guard = Always; slots = KeepsSlots; next = GoesTo p; born = born ∷ []; told = told; also = NothingElse }
+adds p born told = record { guard = Always; slots = KeepsSlots; next = MovesTo p; born = born ∷ []; told = told; also = NothingElse }
 
 -- .. and changes a slot
 abbrev pub changes : SlotEdit → Position → List Event → Line
-changes edit p told = record { guard = Always; slots = edit; next = GoesTo p; born = []; told = told; also = NothingElse }
+changes edit p told = record { guard = Always; slots = edit; next = MovesTo p; born = []; told = told; also = NothingElse }

@@ -21,7 +21,7 @@ use Rattle.task_laws.specs.Position.{TakeAwaiter, WakeAwaiter, DropAwaiter, Hand
 use Rattle.task_laws.specs.Onward.{after_taking, after_waking, after_giving_up, after_handing_over, notifies}
 use Rattle.task_laws.specs.Line.{Line, Always, IsClaimed, IsClosed, IsNotified, MayAsk, MayGain, MayWake, MayDrop, KeepsSlots, DropsFuture}
 use Rattle.task_laws.specs.Line.{StoresOutput}
-use Rattle.task_laws.specs.Line.{EndsOutput, EmptiesAwaiter, StoresAwaiter, GoesTo, Notifies, EndsRun, EndsDetached, Delivers, Answers, LooksFirst}
+use Rattle.task_laws.specs.Line.{EndsOutput, EmptiesAwaiter, StoresAwaiter, MovesTo, Notifies, EndsRun, EndsDetached, Delivers, Answers, LooksFirst}
 use Rattle.task_laws.specs.Line.{LooksAgain, StoresOver, Releases, NothingElse, ClosesIfOpen, EndsClone, moves_to, moves_on, adds, changes}
 
 abbrev pub line : Act → Position → Option Line

@@ -10,8 +10,8 @@ pub use Rattle.task_laws.specs.Line.{ended_clone, leaves}
 use Rattle.task_laws.specs.Lines.{line}
 
 -- The table: what the party may do, act by act, where v is the word that it writes; None where it may not.
-abbrev pub goes : Scene → State → Act → Position → Option Outcome
-goes s v act p = leaves s v (line act p)
+abbrev pub outcome_at : Scene → State → Act → Position → Option Outcome
+outcome_at s v act p = leaves s v (line act p)
 
 -- .. where the word found is the row's
 abbrev pub where_found : Bool → Option Outcome → Option Outcome
@@ -19,4 +19,4 @@ where_found b None = None
 where_found b (Some o) = when b o
 
 abbrev pub rule : Scene → Act → Position → Option Outcome
-rule s act p = where_found (found s.limit act s.word) (goes s (written act s.word) act p)
+rule s act p = where_found (found s.limit act s.word) (outcome_at s (written act s.word) act p)

@@ -8,7 +8,7 @@ use Rattle.task_laws.specs.declared.positions.Position.{Position}
 use Rattle.task_core.specs.declared.acts.Act.{Act}
 use Rattle.task_laws.specs.Line.{Line, Guard, holds, leaves}
 use Rattle.task_laws.specs.Lines.{line}
-use Rattle.task_laws.specs.Table.{Slots, Scene, Outcome, where_found, goes, rule}
+use Rattle.task_laws.specs.Table.{Slots, Scene, Outcome, where_found, outcome_at, rule}
 use Rattle.task_laws.specs.Machine.{Step, moves, step}
 use Rattle.task_replay.specs.Line.{bare}
 use Rattle.task_replay.specs.Replay.{Standing, stands, scene_at, untold, outcome_of, StepsTo}
@@ -28,7 +28,7 @@ pub ruled : (s : Scene) (act : Act) (p : Position) (l : Line) (v : State) → ba
 ruled s act p l v = by_line s (found s.limit act s.word) (written act s.word) v (line act p) l
 
 pub no_row : (s : Scene) (act : Act) (p : Position) → row s.limit act s.word ≡ None → untold (rule s act p) ≡ None
-no_row s act p = by_not_found (found s.limit act s.word) (written act s.word) (goes s (written act s.word) act p)
+no_row s act p = by_not_found (found s.limit act s.word) (written act s.word) (outcome_at s (written act s.word) act p)
 
 pub no_line : (s : Scene) (act : Act) (p : Position) → bare (line act p) ≡ None → rule s act p ≡ None
 no_line s act p = none_left (line act p)

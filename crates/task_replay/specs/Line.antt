@@ -38,7 +38,7 @@ edit_of (edit.StoresAwaiter i) = table.StoresAwaiter i
 
 -- where the party goes
 abbrev pub next_of : Next → table.Next
-next_of (next.GoesTo p) = table.GoesTo p
+next_of (next.MovesTo p) = table.MovesTo p
 next_of (next.Notifies way) = table.Notifies way
 next_of next.EndsRun = table.EndsRun
 next_of next.EndsDetached = table.EndsDetached

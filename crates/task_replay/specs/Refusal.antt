@@ -3,13 +3,13 @@ use Rattle.std.specs.Prelude.{◌≡◌, Option, Some, None, IsSome, IfSome}
 use Rattle.task_core.specs.Word.{State}
 use Rattle.task_laws.specs.declared.positions.Position.{Position}
 use Rattle.task_core.specs.declared.acts.Act.{Act}
-use Rattle.task_laws.specs.Table.{Scene, goes, rule}
+use Rattle.task_laws.specs.Table.{Scene, outcome_at, rule}
 use Rattle.task_replay.specs.declared.refusal.Refusal.{Refusal}
 use Rattle.task_replay.specs.declared.refusal.Refusal.TheVariants.{NoParty, NeverThere, UnfitWord}
 
 -- the table has a line for the act at this position, for some scene and word written
 abbrev pub IsMade : Act → Position → Type 0
-IsMade act p = (s : Scene) × ((written : State) × IsSome (goes s written act p))
+IsMade act p = (s : Scene) × ((written : State) × IsSome (outcome_at s written act p))
 
 -- the act is refused at this position, whatever is found there
 abbrev pub IsNeverMade : Act → Position → Type 0

@@ -2,7 +2,7 @@
 //! It stands on `task_laws`, whose machine its contracts name.
 //! A user calls `replay`, or steps a `player` and asks `refusal` for the reason.
 //! Nothing is public only to carry a claim.
-//! The page is docs/TRACES.md.
+//! The page is that of `replay_trace`.
 #![tactic(auto)]
 
 mod line;

@@ -48,7 +48,7 @@ pub(crate) enum SlotEdit {
 /// Where the party goes.
 #[derive(Clone, Copy)]
 pub(crate) enum Next {
-    GoesTo(Position),
+    MovesTo(Position),
     Notifies(NotifyingCall),
     EndsRun,
     EndsDetached,
@@ -72,7 +72,7 @@ pub(crate) fn line_of(act: Act, position: Position) -> Option<Line>
 {
     let line = match (act, position) {
         // references
-        (GainReference, At(r)) => Line(MayGain(r), KeepsSlots, GoesTo(CallEnding(Gained(true), r)), Some(At(Waker))),
+        (GainReference, At(r)) => Line(MayGain(r), KeepsSlots, MovesTo(CallEnding(Gained(true), r)), Some(At(Waker))),
         (FindLimit, At(r)) => asks(MayAsk(r), CallEnding(Gained(false), r)),
         (RefuseGain, At(r)) => asks(MayAsk(r), CallEnding(Gained(false), r)),
         (DropWaker, At(Waker)) => moves_to(CallEnding(Nothing, Ended)),
@@ -85,7 +85,7 @@ pub(crate) fn line_of(act: Act, position: Position) -> Option<Line>
         (WakeOver, At(r)) => asks(MayWake(r), CallEnding(Nothing, r)),
         (WakeScheduled, At(r)) => asks(MayWake(r), CallEnding(Nothing, r)),
         (WakeRunning, At(r)) => asks(MayWake(r), CallEnding(Nothing, r)),
-        (WakeIdle, At(r)) => Line(MayWake(r), KeepsSlots, GoesTo(CallEnding(Nothing, r)), Some(Deliverer(false, ThenEnds(Nothing)))),
+        (WakeIdle, At(r)) => Line(MayWake(r), KeepsSlots, MovesTo(CallEnding(Nothing, r)), Some(Deliverer(false, ThenEnds(Nothing)))),
         // closes
         (DiscardOpen, At(Runnable)) => moves_to(FutureInHand(DroppedRunnable)),
         (DiscardClosed, At(Runnable)) => moves_to(FutureInHand(DroppedRunnable)),
@@ -118,7 +118,7 @@ pub(crate) fn line_of(act: Act, position: Position) -> Option<Line>
         (EndRegister, Registered(i)) => moves_to(Looking(i)),
         (EndRegisterNotified, TookBack(i)) => moves_to(CloneInHand(i)),
         // loads
-        (Look, At(Lent)) => Line(Always, KeepsSlots, GoesTo(At(Lent)), Some(At(Lent))),
+        (Look, At(Lent)) => Line(Always, KeepsSlots, MovesTo(At(Lent)), Some(At(Lent))),
         (Look, At(Task(n))) => Line(IsClaimed, KeepsSlots, LooksFirst(n + 1), None),
         (Look, Looking(i)) => moves_on(LooksAgain(i)),
         (LookFinished, At(Task(n))) => moves_on(Answers(n)),
@@ -127,7 +127,7 @@ pub(crate) fn line_of(act: Act, position: Position) -> Option<Line>
         (AnswerPending, Polling) => moves_to(Pending),
         (AnswerReady, Polling) => moves_to(Ready),
         (DropFuture, Ready) => changes(DropsFuture, ReadyFutureDropped),
-        (DropFuture, Pending) => Line(IsClosed, DropsFuture, GoesTo(PendingFutureDropped), None),
+        (DropFuture, Pending) => Line(IsClosed, DropsFuture, MovesTo(PendingFutureDropped), None),
         (DropFuture, FutureInHand(closer)) => changes(DropsFuture, FutureGone(closer)),
         (StoreOutput, ReadyFutureDropped) => changes(StoresOutput, OutputStored),
         (DropOutput, OutputInHand(due)) => changes(EndsOutput, notifies(due, OfRun)),
@@ -137,7 +137,7 @@ pub(crate) fn line_of(act: Act, position: Position) -> Option<Line>
         (CloneAwaiter, Registrar(i)) => moves_to(HasClone(i)),
         (RefuseClone, Registrar(i)) => moves_to(Answering(i, IsRefused)),
         (StoreAwaiter, Storing(i)) => Line(Always, StoresAwaiter(i), StoresOver(i), None),
-        (TakeAwaiter, Registered(i)) => Line(IsNotified, EmptiesAwaiter, GoesTo(TookBack(i)), None),
+        (TakeAwaiter, Registered(i)) => Line(IsNotified, EmptiesAwaiter, MovesTo(TookBack(i)), None),
         (TakeAwaiter, Taker(way)) => Line(Always, EmptiesAwaiter, Releases(way), None),
         (WakeAwaiter, CloneInHand(i)) => moves_to(Looking(i)),
         (WakeAwaiter, AwaiterInHand(_, way)) => moves_to(after_waking(way)),
@@ -145,8 +145,8 @@ pub(crate) fn line_of(act: Act, position: Position) -> Option<Line>
         (DropAwaiter, UnusedClone(i)) => moves_to(Looking(i)),
         (DropAwaiter, AwaiterInHand(_, way)) => asks(MayDrop(way), after_waking(way)),
         // ends
-        (HandOver, At(Runnable)) => Line(Always, KeepsSlots, GoesTo(CallEnding(Nothing, Ended)), Some(At(Runnable))),
-        (HandOver, Deliverer(_, next)) => Line(Always, KeepsSlots, GoesTo(after_handing_over(next)), Some(At(Runnable))),
+        (HandOver, At(Runnable)) => Line(Always, KeepsSlots, MovesTo(CallEnding(Nothing, Ended)), Some(At(Runnable))),
+        (HandOver, Deliverer(_, next)) => Line(Always, KeepsSlots, MovesTo(after_handing_over(next)), Some(At(Runnable))),
         (EmptySlots, Emptier(hand, answer)) => changes(EmptiesAwaiter, after_giving_up(hand, answer)),
         (EndCall, CallEnding(_, rest)) => moves_to(At(rest)),
         (EndCall, Answering(i, _)) => moves_to(At(Task(i))),
@@ -159,7 +159,7 @@ pub(crate) fn line_of(act: Act, position: Position) -> Option<Line>
 fn moves_to(position: Position) -> Line
     ensures { line_of result ≡ table.moves_to position [] }
 {
-    moves_on(GoesTo(position))
+    moves_on(MovesTo(position))
 }
 
 // .. to a position that hangs on what it finds.
@@ -173,12 +173,12 @@ fn moves_on(next: Next) -> Line
 fn asks(guard: Guard, position: Position) -> Line
     ensures { line_of result ≡ record (table.moves_to position []) { guard = guard_of guard } }
 {
-    Line(guard, KeepsSlots, GoesTo(position), None)
+    Line(guard, KeepsSlots, MovesTo(position), None)
 }
 
 // .. and changes a slot.
 fn changes(edit: SlotEdit, position: Position) -> Line
     ensures { line_of result ≡ table.changes (edit_of edit) position [] }
 {
-    Line(Always, edit, GoesTo(position), None)
+    Line(Always, edit, MovesTo(position), None)
 }

@@ -121,7 +121,7 @@ fn next_of(scene: &Scene, next: Next) -> Position
 {
     let word = scene.word;
     match next {
-        GoesTo(position) => position,
+        MovesTo(position) => position,
         Notifies(way) => notifies(word.awaiter(), way),
         EndsRun if word.closed() => OutputInHand(word.awaiter()),
         EndsRun => notifies(word.awaiter(), OfRun),

@@ -1,7 +1,7 @@
 -- Acts of one party in a row, with nothing of another party between.
 use Rattle.std.proofs.Common.{◌≡◌, ℕ, ◌+◌, ◌<◌, Bool, true, false, not, ◌&&◌, ◌||◌, cond, Option, Some, None, List, [], ◌∷◌, ◌++◌, length, map, set, sym, refl, ap, ◌∙◌, subst, arith, append-nil, append_assoc}
 use Rattle.task_steps.proofs.Vocabulary.{State, bit, is_open, Position, Act, GainReference, WakeIdle, WakeOver, WakeRunning, WakeScheduled, At, Lent, found, written, row, Slots, Scene, Outcome, when, is_held, leaves_slots}
-use Rattle.task_steps.proofs.Vocabulary.{goes, rule, Machine, scene, how_many, rule_word, Deed, Member, View}
+use Rattle.task_steps.proofs.Vocabulary.{outcome_at, rule, Machine, scene, how_many, rule_word, Deed, Member, View}
 use Rattle.task_steps.specs.Rule.{deed, member, view, fresh, found_by, Entry, Explains}
 use Rattle.task_steps.specs.Steps.{then_leaves, and_then, spot, is_lent, held_word, leaves_by, all_fit, noted}
 use Rattle.task_steps.proofs.Explains.{tells, next_machine}
@@ -22,20 +22,20 @@ lent_is (At Lent) e = refl
 lent_is _ e = absurd (cc)
 
 -- a lent waker leaves the same of a task that is known to have a handle
-goes_held : (limit : ℕ) (w : State) (slots : Slots) (v : State) (a : Act) (o : Outcome) → goes (spot limit w slots) v a (At Lent) ≡ Some o → goes (spot limit (held_word (At Lent) w) slots) v a (At Lent) ≡ Some o
-goes_held limit w slots v GainReference o e = when_so (is_held w) _ o e
-goes_held limit w slots v WakeOver o e = when_so (is_held w || not (is_open w)) _ o e
-goes_held limit w slots v WakeScheduled o e = when_so (is_held w || not (is_open w)) _ o e
-goes_held limit w slots v WakeRunning o e = when_so (is_held w || not (is_open w)) _ o e
-goes_held limit w slots v WakeIdle o e = when_so (is_held w || not (is_open w)) _ o e
-goes_held limit w slots v a o e = e
+outcome_held : (limit : ℕ) (w : State) (slots : Slots) (v : State) (a : Act) (o : Outcome) → outcome_at (spot limit w slots) v a (At Lent) ≡ Some o → outcome_at (spot limit (held_word (At Lent) w) slots) v a (At Lent) ≡ Some o
+outcome_held limit w slots v GainReference o e = when_so (is_held w) _ o e
+outcome_held limit w slots v WakeOver o e = when_so (is_held w || not (is_open w)) _ o e
+outcome_held limit w slots v WakeScheduled o e = when_so (is_held w || not (is_open w)) _ o e
+outcome_held limit w slots v WakeRunning o e = when_so (is_held w || not (is_open w)) _ o e
+outcome_held limit w slots v WakeIdle o e = when_so (is_held w || not (is_open w)) _ o e
+outcome_held limit w slots v a o e = e
 
-goes_spot : (limit : ℕ) (w : State) (slots : Slots) (v : State) (a : Act) (p : Position) (o : Outcome) → goes (spot limit w slots) v a p ≡ Some o → goes (spot limit (held_word p w) slots) v a p ≡ Some o
-goes_spot limit w slots v a p o e = by (is_lent p) refl
+outcome_spot : (limit : ℕ) (w : State) (slots : Slots) (v : State) (a : Act) (p : Position) (o : Outcome) → outcome_at (spot limit w slots) v a p ≡ Some o → outcome_at (spot limit (held_word p w) slots) v a p ≡ Some o
+outcome_spot limit w slots v a p o e = by (is_lent p) refl
   where
-    by : (b : Bool) → is_lent p ≡ b → goes (spot limit (held_word p w) slots) v a p ≡ Some o
-    by true is = let at = lent_is p is in subst (λ (q : Position). goes (spot limit (held_word q w) slots) v a q ≡ Some o) (sym at) (goes_held limit w slots v a o (subst (λ (q : Position). goes (spot limit w slots) v a q ≡ Some o) at e))
-    by false is = subst (λ (b : Bool). goes (spot limit (record w { task = b || w.task }) slots) v a p ≡ Some o) (sym is) e
+    by : (b : Bool) → is_lent p ≡ b → outcome_at (spot limit (held_word p w) slots) v a p ≡ Some o
+    by true is = let at = lent_is p is in subst (λ (q : Position). outcome_at (spot limit (held_word q w) slots) v a q ≡ Some o) (sym at) (outcome_held limit w slots v a o (subst (λ (q : Position). outcome_at (spot limit w slots) v a q ≡ Some o) at e))
+    by false is = subst (λ (b : Bool). outcome_at (spot limit (record w { task = b || w.task }) slots) v a p ≡ Some o) (sym is) e
 
 -- both halves of acts in a row
 pub record Joined (x : Option Outcome) (f : Outcome → Option Outcome) (o : Outcome) : Type 0 where
@@ -68,8 +68,8 @@ row_found limit a w v e = row_if (found limit a w) v (written a w) e
 pub leads_leave : (limit : ℕ) (w : State) (slots : Slots) (acts : List Act) (p : Position) (o : Outcome) → leads (spot limit w slots) acts p ≡ Some o → leaves_by limit w slots acts p ≡ Some o
 leads_leave limit w slots [] p o e = e
 leads_leave limit w slots (a ∷ more) p o e = let s : Scene = spot limit w slots in let j = joined (rule s a p) (λ o. leads (spot limit o.word o.slots) more o.next) o e in
-    joins (goes (spot limit (held_word p w) slots) (written a w) a p) (λ o. leaves_by limit o.word o.slots more o.next) j.first j.second o
-    (goes_spot limit w slots (written a w) a p j.first (found_is (found limit a w) (goes s (written a w) a p) j.first j.one).1)
+    joins (outcome_at (spot limit (held_word p w) slots) (written a w) a p) (λ o. leaves_by limit o.word o.slots more o.next) j.first j.second o
+    (outcome_spot limit w slots (written a w) a p j.first (found_is (found limit a w) (outcome_at s (written a w) a p) j.first j.one).1)
     (leads_leave limit j.first.word j.first.slots more j.first.next j.second j.two) j.is
 
 pub both : (a b : Bool) → a ≡ true → b ≡ true → (a && b) ≡ true
@@ -80,7 +80,7 @@ both false b e f = e
 pub leads_fit : (s : Scene) (acts : List Act) (p : Position) (o : Outcome) → leads s acts p ≡ Some o → all_fit s.limit s.word acts ≡ true
 leads_fit s [] p o e = refl
 leads_fit s (a ∷ more) p o e = let j = joined (rule s a p) (λ o. leads (spot s.limit o.word o.slots) more o.next) o e in
-    both (found s.limit a s.word) (all_fit s.limit (written a s.word) more) (found_is (found s.limit a s.word) (goes s (written a s.word) a p) j.first j.one).0
+    both (found s.limit a s.word) (all_fit s.limit (written a s.word) more) (found_is (found s.limit a s.word) (outcome_at s (written a s.word) a p) j.first j.one).0
     (subst (λ (w : State). all_fit s.limit w more ≡ true) (rule_word s a p j.first j.one) (leads_fit (spot s.limit j.first.word j.first.slots) more j.first.next j.second j.two))
 
 -- the word that acts in a row leave

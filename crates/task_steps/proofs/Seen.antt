@@ -4,7 +4,7 @@ use Rattle.std.specs.Prelude.{slice_get}
 use Rattle.std.proofs.lemmas.Bool.Decides.{nat_tests}
 use mathlib.Core.Option.{some}
 use lib.ListN.{get_elem?}
-use Rattle.task_steps.proofs.Vocabulary.{State, is_open, Position, At, Runnable, Waker, Lent, OrphanHolder, Emptier, Answer, Act, GainReference, DiscardOpen, CloseOrphan, EmptySlots, is_held, when, found, written, Slots, Scene, Outcome, goes, rule, Event, Machine, Step, scene, moves, after, step}
+use Rattle.task_steps.proofs.Vocabulary.{State, is_open, Position, At, Runnable, Waker, Lent, OrphanHolder, Emptier, Answer, Act, GainReference, DiscardOpen, CloseOrphan, EmptySlots, is_held, when, found, written, Slots, Scene, Outcome, outcome_at, rule, Event, Machine, Step, scene, moves, after, step}
 use Rattle.task_steps.proofs.Vocabulary.{Census, census, Holds, Invariant, rule_word, Deed}
 use Rattle.task_steps.specs.PollScripts.{has_ended}
 use Rattle.task_steps.specs.Rule.{Entry, Reaches, is_private, noted_if, deeds_of, DidLast}
@@ -21,12 +21,12 @@ record Stepped (n m : Machine) (s : Step) : Type 0 where
   outcome : Outcome
   here : slice_get n.parties s.party ≡ Some at
   fits : found n.limit s.act n.word ≡ true
-  table : goes (scene n) (written s.act n.word) s.act at ≡ Some outcome
+  table : outcome_at (scene n) (written s.act n.word) s.act at ≡ Some outcome
   word : m.word ≡ written s.act n.word
 
 after_step : (n m : Machine) (k : ℕ) (a : Act) (p : Position) (x : Option Outcome) → slice_get n.parties k ≡ Some p → rule (scene n) a p ≡ x → after n k p x ≡ Some m → Stepped n m (record { party = k; act = a })
 after_step n m k a p None h r e = absurd (cc)
-after_step n m k a p (Some o) h r e = let is : next_machine n k p o ≡ m = cc in let f = found_is (found n.limit a n.word) (goes (scene n) (written a n.word) a p) o r in
+after_step n m k a p (Some o) h r e = let is : next_machine n k p o ≡ m = cc in let f = found_is (found n.limit a n.word) (outcome_at (scene n) (written a n.word) a p) o r in
     record { at = p; outcome = o; here = h; fits = f.0; table = f.1; word = sym (ap (λ (y : Machine). y.word) is) ∙ rule_word (scene n) a p o r }
 
 moves_step : (n m : Machine) (k : ℕ) (a : Act) (x : Option Position) → slice_get n.parties k ≡ x → moves n k a x ≡ Some m → Stepped n m (record { party = k; act = a })
@@ -37,7 +37,7 @@ stepped : (n m : Machine) (s : Step) → step n s ≡ Some m → Stepped n m s
 stepped n m s e = moves_step n m s.party s.act (slice_get n.parties s.party) refl e
 
 -- whoever closes the task that nobody has finds it open
-only_orphan : (s : Scene) (v : State) (p : Position) (o : Outcome) → goes s v CloseOrphan p ≡ Some o → p ≡ OrphanHolder
+only_orphan : (s : Scene) (v : State) (p : Position) (o : Outcome) → outcome_at s v CloseOrphan p ≡ Some o → p ≡ OrphanHolder
 only_orphan s v OrphanHolder o e = refl
 only_orphan s v _ o e = absurd (cc)
 
@@ -51,7 +51,7 @@ orphan_open limit w slots t c h q = ⊎_elim (λ (e : c.orphans ≡ 0). absurd (
 
 -- the task is open where its last waker closes it
 closes_open : (n m : Machine) (s : Step) → Invariant n → Stepped n m s → s.act ≡ CloseOrphan → is_open n.word ≡ true
-closes_open n m s i x e = let at : x.at ≡ OrphanHolder = only_orphan (scene n) (written s.act n.word) x.at x.outcome (ap (λ a. goes (scene n) (written s.act n.word) a x.at) (sym e) ∙ x.table) in
+closes_open n m s i x e = let at : x.at ≡ OrphanHolder = only_orphan (scene n) (written s.act n.word) x.at x.outcome (ap (λ a. outcome_at (scene n) (written s.act n.word) a x.at) (sym e) ∙ x.table) in
     orphan_open n.limit n.word n.slots n.trace (census n.parties) i.holds
     (counted (λ c. c.orphans) (λ a b. refl) n.parties s.party OrphanHolder (at_index n.parties s.party OrphanHolder (x.here ∙ ap (λ p. Some p) at)))
 
@@ -78,7 +78,7 @@ abbrev pub without_handles : State → Bool
 without_handles w = nat_eq w.references 0 && not w.task && not (is_open w)
 
 -- who gains a reference has a handle, or finds one
-gainer : (s : Scene) (v : State) (p : Position) (o : Outcome) → goes s v GainReference p ≡ Some o → (p ≡ At Runnable) ⊎ (p ≡ At Waker) ⊎ (is_held s.word ≡ true)
+gainer : (s : Scene) (v : State) (p : Position) (o : Outcome) → outcome_at s v GainReference p ≡ Some o → (p ≡ At Runnable) ⊎ (p ≡ At Waker) ⊎ (is_held s.word ≡ true)
 gainer s v (At Runnable) o e = inl refl
 gainer s v (At Waker) o e = inr (inl refl)
 gainer s v (At Lent) o e = inr (inr (held (is_held s.word) _ e))
@@ -101,7 +101,7 @@ gains_none n m s i x e is = let none = not_held n.word e in ⊎_elim
     (λ rest. ⊎_elim
     (λ (at : x.at ≡ At Waker). let held = has_reference n.limit n.word n.slots n.trace (census n.parties) i.holds (let q = counted (λ c. c.wakers) (λ a b. refl) n.parties s.party (At Waker) (at_index n.parties s.party (At Waker) (x.here ∙ ap (λ p. Some p) at)) in omega arith) in let zero = none.0 in omega arith)
     (λ (held : is_held n.word ≡ true). let no = none.1 in cc) rest)
-    (gainer (scene n) (written GainReference n.word) x.at x.outcome (ap (λ a. goes (scene n) (written a n.word) a x.at) (sym is) ∙ x.table))
+    (gainer (scene n) (written GainReference n.word) x.at x.outcome (ap (λ a. outcome_at (scene n) (written a n.word) a x.at) (sym is) ∙ x.table))
 
 -- a task that is over, and has no handle, gets none any more
 stays_without : (l : ℕ) (a : Act) (w : State) → found l a w ≡ true → (a ≡ GainReference → ⊥) → (a ≡ CloseOrphan → is_open w ≡ true) → without_handles w ≡ true → without_handles (written a w) ≡ true
@@ -175,7 +175,7 @@ without_by_step : (n m : Machine) (s : Step) → Invariant n → Stepped n m s �
 without_by_step n m s i x e = ap without_handles x.word ∙ stays_without n.limit s.act n.word x.fits (gains_none n m s i x e) (closes_open n m s i x) e
 
 -- who empties the places stands there as the last
-emptier : (s : Scene) (v : State) (p : Position) (o : Outcome) → goes s v EmptySlots p ≡ Some o → (hand : Option ℕ) × (answer : Answer) × (p ≡ Emptier hand answer)
+emptier : (s : Scene) (v : State) (p : Position) (o : Outcome) → outcome_at s v EmptySlots p ≡ Some o → (hand : Option ℕ) × (answer : Answer) × (p ≡ Emptier hand answer)
 emptier s v (Emptier hand answer) o e = (hand, answer, refl)
 emptier s v _ o e = absurd (cc)
 
@@ -183,7 +183,7 @@ emptied_facts : (limit : ℕ) (w : State) (slots : Slots) (t : List Event) (c : 
 emptied_facts limit w slots t c h e = grind (arith, nat_tests)
 
 emptying_finds : (n m : Machine) (s : Step) → Invariant n → Stepped n m s → s.act ≡ EmptySlots → without_handles m.word ≡ true
-emptying_finds n m s i x is = let at = emptier (scene n) (written EmptySlots n.word) x.at x.outcome (ap (λ a. goes (scene n) (written a n.word) a x.at) (sym is) ∙ x.table) in
+emptying_finds n m s i x is = let at = emptier (scene n) (written EmptySlots n.word) x.at x.outcome (ap (λ a. outcome_at (scene n) (written a n.word) a x.at) (sym is) ∙ x.table) in
     ap without_handles (x.word ∙ ap (λ a. written a n.word) is)
     ∙ emptied_facts n.limit n.word n.slots n.trace (census n.parties) i.holds (counted (λ c. c.emptiers) (λ a b. refl) n.parties s.party (Emptier at.0 at.1) (at_index n.parties s.party (Emptier at.0 at.1) (x.here ∙ ap (λ p. Some p) at.2)))
 

@@ -37,7 +37,7 @@ pub use Rattle.task_laws.specs.Holders.{owns_awaiter}
 pub use Rattle.task_laws.specs.Laws.{count, how_often, is_task_poll}
 pub use Rattle.task_laws.specs.Machine.{Machine, Step, after, begins, how_many, moves, opening, run, run_from, scene, step}
 pub use Rattle.task_laws.specs.Table.{Outcome, Scene, Slots, after_cancelling, after_giving_up, after_handing_over, after_storing, after_taking, after_waking}
-pub use Rattle.task_laws.specs.Table.{changes_slots, ended_clone, first_look, goes, is_held, leaves_slots, may_ask, may_drop, may_gain, may_wake}
+pub use Rattle.task_laws.specs.Table.{changes_slots, ended_clone, first_look, outcome_at, is_held, leaves_slots, may_ask, may_drop, may_gain, may_wake}
 pub use Rattle.task_laws.specs.Table.{notifies, rule, second_look, when, where_found}
 pub use Rattle.task_laws.proofs.Awaiting.{Awaiting, await, awaiting, join}
 pub use Rattle.task_laws.proofs.Census.{Census, census, closers, plus, runs, weigh}

@@ -9,7 +9,7 @@ use Rattle.task_laws.specs.declared.positions.Rest.TheVariants.{Lent}
 use Rattle.task_laws.specs.declared.positions.NotifyingCall.TheVariants.{OfClaim}
 use Rattle.task_core.specs.declared.acts.Act.{Act}
 use Rattle.task_core.specs.Rows.{found, written}
-use Rattle.task_laws.specs.Table.{Slots, Scene, Outcome, leaves_slots, goes}
+use Rattle.task_laws.specs.Table.{Slots, Scene, Outcome, leaves_slots, outcome_at}
 use Rattle.task_laws.specs.Holders.{owns_awaiter}
 use Rattle.task_steps.specs.declared.table.Slot.{Slot}
 use Rattle.task_steps.specs.declared.table.Slot.TheVariants.{Empty}
@@ -53,7 +53,7 @@ held_word p w = record w { task = is_lent p || w.task }
 abbrev pub leaves_by : ℕ → State → Slots → List Act → Position → Option Outcome
 leaves_by limit w slots [] p = Some (leaves_slots (spot limit w slots) w p [] [])
 leaves_by limit w slots (a ∷ more) p =
-    and_then (goes (spot limit (held_word p w) slots) (written a w) a p) (λ o. leaves_by limit o.word o.slots more o.next)
+    and_then (outcome_at (spot limit (held_word p w) slots) (written a w) a p) (λ o. leaves_by limit o.word o.slots more o.next)
 
 abbrev pub next_of : Option Outcome → Position
 next_of None = OrphanHolder

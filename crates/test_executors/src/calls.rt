@@ -2,9 +2,9 @@
 
 use crate::granted::granted;
 use linked_list_allocator::LocalHeap;
+use rows_fixtures::counters::Counters;
 use rows_fixtures::fixture::Fixture;
-use rows_values::counters::Counters;
-use rows_values::flag::Flag;
+use rows_fixtures::flag::Flag;
 use std::alloc::Global;
 use std::process::Abort;
 use std::sync::{Arc, Wait};

@@ -4,9 +4,9 @@
 use crate::tray::Tray;
 use crate::{calls, tray};
 use linked_list_allocator::LocalHeap;
-use rows_values::behaviour::Behaviour;
-use rows_values::counters::{Counters, Counts};
-use rows_values::flag::Flag;
+use rows_fixtures::behaviour::Behaviour;
+use rows_fixtures::counters::{Counters, Counts};
+use rows_fixtures::flag::Flag;
 use std::alloc::Global;
 use std::process::Abort;
 use std::sync::{Arc, Wait};

@@ -4,12 +4,12 @@
 use crate::calls;
 use crate::granted::granted;
 use priority_heap::PriorityHeap;
+use rows_fixtures::behaviour::Behaviour;
+use rows_fixtures::counters::Counts;
 use rows_fixtures::executor::{PriorityQueue, PriorityRunnable, PriorityScheduler, PriorityTask};
 use rows_fixtures::fixture::Fixture;
+use rows_fixtures::flag::Flag;
 use rows_fixtures::future::RowFuture;
-use rows_values::behaviour::Behaviour;
-use rows_values::counters::Counts;
-use rows_values::flag::Flag;
 use std::alloc::{AllocError, Global};
 use std::process::Abort;
 use std::sync::Wait;

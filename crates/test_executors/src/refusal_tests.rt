@@ -10,12 +10,12 @@ use async_task::{
 };
 use bench_report::counting::Counting;
 use linked_list_allocator::LocalHeap;
+use rows_fixtures::behaviour::Behaviour;
+use rows_fixtures::counters::{Counter, Counters, Counts};
+use rows_fixtures::flag::Flag;
 use rows_fixtures::future::RowFuture;
+use rows_fixtures::output::{Output, is_ready_with};
 use rows_fixtures::surroundings::Scheduler;
-use rows_values::behaviour::Behaviour;
-use rows_values::counters::{Counter, Counters, Counts};
-use rows_values::flag::Flag;
-use rows_values::output::{Output, is_ready_with};
 use std::alloc::{Allocator, Global};
 use std::process::Abort;
 use std::sync::{Arc, Wait};

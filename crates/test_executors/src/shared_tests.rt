@@ -5,7 +5,7 @@ ghost use Rattle.std.specs.Prelude.{⊤};
 use crate::granted::granted;
 use async_task::{Future, Poll, Runnable, Schedule, ScheduleInfo, TaskWaker, Yields, spawn};
 use awaiters::Nobody;
-use rows_values::counters::Counter;
+use rows_fixtures::counters::Counter;
 use std::alloc::Global;
 use std::process::Abort;
 use std::sync::Wait;

@@ -6,7 +6,7 @@ use async_task::{
     Builder, Future, ParkedRunnable, Poll, Runnable, Schedule, ScheduleInfo, Task, TaskWaker,
     WithInfo, Yields,
 };
-use rows_values::flag::Flag;
+use rows_fixtures::flag::Flag;
 use std::alloc::Global;
 use std::collections::VecDeque;
 use std::mem;

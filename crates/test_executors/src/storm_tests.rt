@@ -3,10 +3,10 @@
 
 use crate::calls;
 use crate::granted::granted;
+use rows_fixtures::behaviour::Behaviour;
+use rows_fixtures::counters::{Counter, Counts};
 use rows_fixtures::fixture::Fixture;
 use rows_fixtures::surroundings::{RowRunnable, RowWaker};
-use rows_values::behaviour::Behaviour;
-use rows_values::counters::{Counter, Counts};
 use std::alloc::Global;
 use std::process::Abort;
 use std::sync::Wait;

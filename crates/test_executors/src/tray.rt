@@ -1,6 +1,6 @@
 //! Tasks whose memory is of a heap, their surroundings, and calls of their handles that answer plain data.
 ghost use Rattle.std.specs.Prelude.{⊤};
-ghost use Rattle.rows_values.specs.Behaviour.{IsPolled};
+ghost use Rattle.rows_fixtures.specs.Behaviour.{IsPolled};
 
 use crate::calls;
 use crate::granted::granted;
@@ -9,12 +9,12 @@ use async_task::{
     Task, TaskPoll, TaskWaker, Yields,
 };
 use linked_list_allocator::LocalHeap;
+use rows_fixtures::behaviour::Behaviour;
+use rows_fixtures::counters::{Counters, Counts};
+use rows_fixtures::flag::Flag;
 use rows_fixtures::future::RowFuture;
+use rows_fixtures::output::{Output, is_ready_with};
 use rows_fixtures::surroundings::Scheduler;
-use rows_values::behaviour::Behaviour;
-use rows_values::counters::{Counters, Counts};
-use rows_values::flag::Flag;
-use rows_values::output::{Output, is_ready_with};
 use std::alloc::Global;
 use std::mem;
 use std::process::Abort;

@@ -37,12 +37,14 @@ impl Counter {
         self.wakes.load(Ordering::SeqCst)
     }
 
-    /// .. and how many clones are there.
+    /// How many there are of it: itself, and its clones.
+    pub fn owners(&self) -> usize {
+        Arc::strong_count(&self.wakes)
+    }
+
+    /// How often it and its clones were woken, and how many clones are there.
     pub fn seen(&self) -> (u64, usize) {
-        (
-            self.wakes(),
-            Arc::strong_count(&self.wakes).saturating_sub(1),
-        )
+        (self.wakes(), self.owners().saturating_sub(1))
     }
 }
 

@@ -1,19 +1,32 @@
-//! The tests of the futures of `combinators` and `future_sync`: on one thread by a waker that counts its wakes, and on many. It stands on both.
-//! Nothing is public. The pages are those of `combinators` and `future_sync`.
+//! The tests of the futures of `combinators` and `future_sync`: on one thread by a waker that counts its wakes, and on many;
+//! and of timers, by such a waker and times that the test gives, by the `block_on` of `shared_waker` and by threads; and of that `block_on`.
+//! It stands on these, `future_time` and `awaiters`. Nothing is public. The pages are those of the four crates.
 #![tactic(auto)]
 
 #[cfg(test)]
 mod bell;
 #[cfg(test)]
+mod blocking_tests;
+#[cfg(test)]
+mod calls;
+#[cfg(test)]
 mod channel_tests;
+#[cfg(test)]
+mod closed_tests;
 #[cfg(test)]
 mod counter;
 #[cfg(test)]
+mod gate;
+#[cfg(test)]
 mod granted;
+#[cfg(test)]
+mod interval_tests;
 #[cfg(test)]
 mod joining_all_tests;
 #[cfg(test)]
 mod joining_tests;
+#[cfg(test)]
+mod mark;
 #[cfg(test)]
 mod mutex_tests;
 #[cfg(test)]
@@ -23,12 +36,24 @@ mod oneshot_tests;
 #[cfg(test)]
 mod racing_tests;
 #[cfg(test)]
+mod refusal_tests;
+#[cfg(test)]
 mod semaphore_tests;
 #[cfg(test)]
 mod single_tests;
 #[cfg(test)]
+mod sleep_tests;
+#[cfg(test)]
 mod steps;
 #[cfg(test)]
 mod storm_tests;
+#[cfg(test)]
+mod thread_tests;
+#[cfg(test)]
+mod time_storm_tests;
+#[cfg(test)]
+mod timed_send_tests;
+#[cfg(test)]
+mod timeout_tests;
 #[cfg(test)]
 mod token;

@@ -4,14 +4,14 @@
 use crate::calls;
 use crate::granted::granted;
 use async_task::Builder;
+use rows_fixtures::behaviour::Behaviour;
+use rows_fixtures::counters::{Counter, Counters};
 use rows_fixtures::executor::{PriorityQueue, PriorityRunnable, PriorityScheduler, PriorityTask};
 use rows_fixtures::fixture::Fixture;
+use rows_fixtures::flag::Flag;
 use rows_fixtures::future::RowFuture;
+use rows_fixtures::output::is_ready_with;
 use rows_fixtures::surroundings::Scheduler;
-use rows_values::behaviour::Behaviour;
-use rows_values::counters::{Counter, Counters};
-use rows_values::flag::Flag;
-use rows_values::output::is_ready_with;
 use std::alloc::{AllocError, Global};
 use std::fmt;
 use std::process::Abort;

@@ -3,12 +3,12 @@
 
 use crate::granted::granted;
 use async_task::{Cancel, TaskClosed, TaskPoll};
+use rows_fixtures::behaviour::Behaviour;
 use rows_fixtures::fixture::Fixture;
+use rows_fixtures::flag::Flag;
 use rows_fixtures::future::RowFuture;
+use rows_fixtures::output::is_ready_with;
 use rows_fixtures::surroundings::{RowRunnable, RowTask, RowWaker, Scheduler, Surroundings};
-use rows_values::behaviour::Behaviour;
-use rows_values::flag::Flag;
-use rows_values::output::is_ready_with;
 use std::alloc::Global;
 use std::process::Abort;
 use std::sync::Wait;

@@ -6,7 +6,7 @@ use crate::granted::granted;
 use Event::{Freed, Future, Handed, Held, Kept, Output, Returned, Unwoken, Woken};
 use async_task::{Builder, Poll, Runnable, Schedule, ScheduleInfo, Task, TaskWaker, Wake, Yields};
 use bench_report::counting::Counting;
-use rows_values::counters::Counter;
+use rows_fixtures::counters::Counter;
 use std::alloc::Global;
 use std::mem;
 use std::process::Abort;

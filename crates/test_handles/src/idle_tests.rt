@@ -2,8 +2,8 @@
 //! Of what is only tested (docs/PROOFS.md): Paths.
 
 use crate::calls;
+use rows_fixtures::counters::Counts;
 use rows_fixtures::fixture::Fixture;
-use rows_values::counters::Counts;
 use std::alloc::Global;
 use std::process::Abort;
 use std::sync::Wait;

@@ -1,9 +1,12 @@
-//! The tests of handles that no worked row makes: of the builder, and of Tasks and wakers.
-//! It stands on `rows_fixtures` and `rows_values`. Nothing is public. The page is docs/PROOFS.md.
+//! The tests of handles that no worked row makes: of the builder, and of Tasks and wakers; and of the block below them, `counted_block`, from above, in safe code:
+//! a pointer that several owners share, and the calls that it does not make.
+//! It stands on `rows_fixtures`, `bench_report`, `async_task` and `counted_block`. The pointer alone is public. The page is docs/PROOFS.md, of the block that of `counted_block`.
 #![tactic(auto)]
 
 #[cfg(test)]
 mod awaiter_tests;
+#[cfg(test)]
+mod block_ending_tests;
 #[cfg(test)]
 mod builder_tests;
 #[cfg(test)]
@@ -14,16 +17,23 @@ mod ending_tests;
 mod granted;
 #[cfg(test)]
 mod idle_tests;
+mod keeper;
+mod law;
 #[cfg(test)]
 mod lent_tests;
 #[cfg(test)]
 mod limit_tests;
 #[cfg(test)]
 mod metadata_tests;
+mod pointer;
+#[cfg(test)]
+mod pointer_tests;
 #[cfg(test)]
 mod poll_tests;
 #[cfg(test)]
 mod registration_tests;
+#[cfg(test)]
+mod slot_tests;
 #[cfg(test)]
 mod task_tests;
 #[cfg(test)]
@@ -32,3 +42,7 @@ mod wake_tests;
 mod waker_tests;
 #[cfg(test)]
 mod watched;
+
+pub use keeper::Keeper;
+pub use law::{Law, View};
+pub use pointer::Pointer;

@@ -4,10 +4,10 @@ ghost use Rattle.std.specs.Prelude.{⊤};
 
 use crate::granted::granted;
 use async_task::{Builder, Runnable, Schedule, ScheduleInfo, Task};
+use rows_fixtures::behaviour::Behaviour;
+use rows_fixtures::counters::{Counter, Counters};
+use rows_fixtures::flag::Flag;
 use rows_fixtures::future::RowFuture;
-use rows_values::behaviour::Behaviour;
-use rows_values::counters::{Counter, Counters};
-use rows_values::flag::Flag;
 use std::alloc::Global;
 use std::process::Abort;
 use std::sync::{Arc, Wait};

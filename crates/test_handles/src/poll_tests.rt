@@ -3,11 +3,11 @@
 
 use crate::calls;
 use crate::calls::RowCancel;
+use rows_fixtures::behaviour::Behaviour;
+use rows_fixtures::counters::Counts;
 use rows_fixtures::fixture::Fixture;
+use rows_fixtures::flag::Flag;
 use rows_fixtures::surroundings::{RowRunnable, RowTask, RowWaker};
-use rows_values::behaviour::Behaviour;
-use rows_values::counters::Counts;
-use rows_values::flag::Flag;
 use std::alloc::Global;
 use std::process::Abort;
 use std::sync::Wait;

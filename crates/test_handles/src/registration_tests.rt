@@ -6,9 +6,9 @@ use crate::granted::granted;
 use crate::watched::{
     Ends, Polled, Watched, WatchedRunnable, WatchedTask, poll_awaited, spawn_awaited,
 };
+use rows_fixtures::behaviour::Behaviour;
+use rows_fixtures::counters::{Counters, Counts};
 use rows_fixtures::fixture::Fixture;
-use rows_values::behaviour::Behaviour;
-use rows_values::counters::{Counters, Counts};
 use std::alloc::Global;
 use std::process::Abort;
 use std::sync::{Arc, Wait};

@@ -3,13 +3,13 @@
 
 use crate::calls;
 use async_task::{FallibleTask, TaskClosed, TaskPoll};
+use rows_fixtures::behaviour::Behaviour;
+use rows_fixtures::counters::Counts;
 use rows_fixtures::fixture::Fixture;
+use rows_fixtures::flag::Flag;
 use rows_fixtures::future::RowFuture;
+use rows_fixtures::output::{Output, is_ready_with, is_some_with};
 use rows_fixtures::surroundings::{RowRunnable, RowTask, Scheduler, Surroundings};
-use rows_values::behaviour::Behaviour;
-use rows_values::counters::Counts;
-use rows_values::flag::Flag;
-use rows_values::output::{Output, is_ready_with, is_some_with};
 use std::alloc::Global;
 use std::process::Abort;
 use std::sync::Wait;

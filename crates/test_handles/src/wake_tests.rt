@@ -3,10 +3,10 @@
 
 use crate::calls;
 use async_task::Wake;
+use rows_fixtures::behaviour::Behaviour;
+use rows_fixtures::counters::Counts;
 use rows_fixtures::fixture::Fixture;
-use rows_values::behaviour::Behaviour;
-use rows_values::counters::Counts;
-use rows_values::flag::Flag;
+use rows_fixtures::flag::Flag;
 use std::process::Abort;
 use std::sync::Wait;
 

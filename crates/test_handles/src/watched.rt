@@ -3,12 +3,12 @@ ghost use Rattle.std.specs.Prelude.{⊤};
 
 use crate::granted::granted;
 use async_task::{Runnable, Task, TaskClosed, TaskPoll, Wake, spawn};
+use rows_fixtures::behaviour::Behaviour;
+use rows_fixtures::counters::{Counter, Counters};
 use rows_fixtures::future::RowFuture;
+use rows_fixtures::output::is_ready_with;
 use rows_fixtures::rendezvous::Rendezvous;
 use rows_fixtures::surroundings::Scheduler;
-use rows_values::behaviour::Behaviour;
-use rows_values::counters::{Counter, Counters};
-use rows_values::output::is_ready_with;
 use std::alloc::Global;
 use std::process::Abort;
 use std::sync::{Arc, Wait};

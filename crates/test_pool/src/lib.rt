@@ -1,11 +1,16 @@
-//! The tests of the pool itself: its workers, `block_on`, its stores, what it keeps, the order of tasks, storms of wakes, its ends, what it is made with, refused memory, hostile use, and what is shown.
-//! It stands on `executor`, `work_queues` and `awaiters`. Nothing is public. The page is docs/EXECUTOR_POOL.md.
+//! The tests of the pool itself: its workers, `block_on`, its stores, what it keeps, the order of tasks, storms of wakes, its ends, what it is made with, refused memory, hostile use, and what is shown;
+//! and of the queues below it: the search of a worker, memory that is refused, and which queue a worker looks at first.
+//! It stands on `executor`, `work_queues` and `awaiters`. Nothing is public. The page is docs/EXECUTOR_POOL.md, of the queues that of `work_queues`.
 #![tactic(auto)]
 
 #[cfg(test)]
 mod calls;
 #[cfg(test)]
 mod deadline_tests;
+#[cfg(test)]
+mod delay_tests;
+#[cfg(test)]
+mod dice;
 #[cfg(test)]
 mod ending_tests;
 #[cfg(test)]
@@ -19,15 +24,25 @@ mod kept_tests;
 #[cfg(test)]
 mod order_tests;
 #[cfg(test)]
+mod queue_refusal_tests;
+#[cfg(test)]
+mod queue_storm_tests;
+#[cfg(test)]
 mod refusal_tests;
+#[cfg(test)]
+mod search_tests;
 #[cfg(test)]
 mod setting_tests;
 #[cfg(test)]
 mod shown_tests;
 #[cfg(test)]
+mod start_tests;
+#[cfg(test)]
 mod store_tests;
 #[cfg(test)]
 mod storm_tests;
+#[cfg(test)]
+mod unclaimed_tests;
 #[cfg(test)]
 mod waiting_tests;
 #[cfg(test)]

@@ -269,6 +269,31 @@ fn a_wait_for_a_member_ends_with_the_pool(rt: HostRuntime) {
     assert!(rt; ran && matches!(ended, Err(NextMemberError::ShutDown)) && left == 1);
 }
 
+// The only worker sleeps as another thread aborts the member, which nothing else ends, and then runs it.
+#[test]
+fn an_abort_wakes_the_worker_that_waits_for_a_member(rt: HostRuntime) {
+    let pool = new_pool(rt, rt.alloc(), 1);
+    let counts = new_counts(&pool);
+    let mut group = new_lone(&pool, 0, Errand::Stay, &counts);
+    let handle = granted(&rt, group.abort_handle(0).ok_or(()));
+    let mut turns = turns_of(&pool);
+    let ran = tick(&mut turns);
+    let (_, output) = thread::join(
+        &rt,
+        || {
+            // By then the worker sleeps.
+            thread::sleep(&rt, Duration::from_millis(20));
+            handle.abort();
+        },
+        || next_output(&mut turns, &mut group),
+    );
+    drop(handle);
+    drop_turns(turns);
+    let left = drop_group(group);
+    drop_pool(pool);
+    assert!(rt; ran && output == Ok(Some(0)) && left == 0);
+}
+
 // Waits for the next member of a group, as `Turns::next_member_until` does, for so many milliseconds: its output, 0 where its task is closed, and whether
 // the deadline has passed then.
 fn output_within<'x, R: Wait + Clock + Abort + Drop + Copy + 'static>(

@@ -1,18 +1,19 @@
-//! What `bench_pool` prints: the table of all lines, and a line that lost a task.
+//! What `bench_tasks pool` prints: the table of all lines, and a line that lost a task.
 //! Of what is only tested (docs/PROOFS.md): Programs.
 
 use crate::stops::{granted, holds};
 use crate::words::{Told, words_of};
+use bench_report::arguments::answer;
 use bench_report::failure::Failure;
 use bench_report::lines::{Executor, Line, Size};
-use bench_report::report::answer;
+use bench_report::operations::Command;
 use bench_report::tally::Measured;
 use std::alloc::Global;
 use std::process::Abort;
 use std::time::Duration;
 
 // The answer where a task needs a millisecond and 100 bytes of the pool, and two milliseconds and no known memory of the kit. More than
-// `most` tasks lose one.
+// `most` tasks lose one. What is asked of the operations fails.
 fn answer_to<R: Abort>(rt: &R, alloc: Global, line: &str, most: u64) -> Told {
     let measure = |executor: Executor, _: Line, size: Size| -> Result<Measured, Failure> {
         if size.tasks > most {
@@ -20,10 +21,11 @@ fn answer_to<R: Abort>(rt: &R, alloc: Global, line: &str, most: u64) -> Told {
         }
         Ok(measured_by(executor, size.tasks))
     };
+    let act = |_: Command| -> Result<(), Failure> { Err(Failure::Unexpected) };
     let words = granted(rt, words_of(alloc, line));
     let mut out = Vec::new(alloc);
     let mut err = Vec::new(alloc);
-    let status = answer(alloc, words.as_slice(), &measure, &mut out, &mut err);
+    let status = answer(alloc, words.as_slice(), &act, &measure, &mut out, &mut err);
     granted(rt, Told::new(status, out, err))
 }
 
@@ -51,7 +53,7 @@ const ROWS: [&str; 3] = [
 // A line for each number of threads, and a tenth of the tasks but in `spawn`.
 #[test]
 fn a_table_has_all_lines(rt: HostRuntime) {
-    let told = answer_to(&rt, rt.alloc(), "run 90", 90);
+    let told = answer_to(&rt, rt.alloc(), "pool run 90", 90);
     assert!(rt; told.is_well() && told.out.as_str().lines().count() == 17);
     for &row in &ROWS {
         holds(&rt, told.out.as_str().contains(row), &row);
@@ -60,11 +62,11 @@ fn a_table_has_all_lines(rt: HostRuntime) {
 
 const FIRST: &str = "spawn threads 1 ended pool 1 futures 1\n";
 
-const LOST: &str = "bench_pool: 499 of 500 tasks ended\n";
+const LOST: &str = "bench_tasks: 499 of 500 tasks ended\n";
 
 // Nothing is printed of the line that fails, and none after it.
 #[test]
 fn a_line_that_fails_gives_status_one(rt: HostRuntime) {
-    let told = answer_to(&rt, rt.alloc(), "check", 499);
+    let told = answer_to(&rt, rt.alloc(), "pool check", 499);
     assert!(rt; told.is(1, FIRST, LOST));
 }

@@ -4,10 +4,10 @@
 use crate::limited::Limited;
 use crate::stops::{granted, holds};
 use crate::words::{Told, words_of};
-use rows_values::counters::Counts;
-use rows_values::outcome::Outcome;
-use rows_values::report::answer;
-use rows_values::row::Row;
+use rows_fixtures::counters::Counts;
+use rows_fixtures::outcome::Outcome;
+use rows_fixtures::report::answer;
+use rows_fixtures::row::Row;
 use std::alloc::{AllocError, Global};
 use std::io;
 

@@ -1,7 +1,7 @@
 //! The queues of a pool of workers, and their sleep: what a pool keeps of its items, whatever they are.
 //! It stands on the kit's `atomic_table`: one table has the rule of sleep (`Bells`), and one has the queues (`Board`).
 //! A user of a pool calls only `interrupt` and `interruptions` of its `Bells`. A pool calls `Crew`, `Worker` and `Bells`.
-//! `Board`, `Queue`, the duties in `bells`, `shift` and the structs of `rule`, `watch`, `room` and `view` are public to carry the claims, and for the tests of `test_queues`.
+//! `Board`, `Queue`, the duties in `bells`, `shift` and the structs of `rule`, `watch`, `room` and `view` are public to carry the claims, and for the tests of `test_pool`.
 //! The page is README.md.
 #![tactic(auto)]
 

@@ -1,5 +1,5 @@
 use Rattle.task_atomic.proofs.Atoms.{steps_are_atomic}
-use Rattle.task_atomic.proofs.Calls.{calls_make_their_acts, calls_end_by_answers}
+use Rattle.task_atomic.proofs.CallActs.{calls_make_their_acts, calls_end_by_answers}
 use Rattle.task_atomic.proofs.Looks.{pending_is_registered, open_task_keeps_awaiter}
 use Rattle.task_atomic.proofs.atomic.Goals as goal
 

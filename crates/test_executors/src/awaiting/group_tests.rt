@@ -1,4 +1,5 @@
 //! Groups: the order in which members come out, those that ended before their push, a group that is full, the ways to let all go, and what waits after them.
+use super::came_out::{CameOut, group_of, last_of, next_of};
 use super::line::{Errand, Line, LineGroup, LineTask};
 use crate::granted::granted;
 use async_task::TaskClosed;
@@ -8,32 +9,7 @@ use std::process::Abort;
 use std::sync::Wait;
 use std::sync::atomic::Ordering;
 use std::time::{Clock, Duration, Instant};
-use task_group::{AbortHandle, AwaiterRefused, NextUntilError, TaskGroup};
-
-// The number and the answer of a member that came out.
-type CameOut = Option<(usize, Result<u64, TaskClosed>)>;
-
-// An empty group with that room. Stops where there is no memory.
-fn group_of<'x, R: Wait + Abort + Drop + Copy>(
-    rt: R,
-    alloc: Global,
-    room: usize,
-) -> LineGroup<'x, R> {
-    granted(&rt, TaskGroup::new(rt, alloc, room))
-}
-
-// Waits for the next member: `None` where there is none.
-fn next_of<R: Wait + Drop + Copy>(group: &mut LineGroup<'_, R>) -> CameOut {
-    match group.next() {
-        Ok(Some(ended)) => Some((ended.number, ended.answer)),
-        _ => None,
-    }
-}
-
-// Waits for the next member, and drops the group.
-fn last_of<R: Wait + Drop + Copy>(mut group: LineGroup<'_, R>) -> CameOut {
-    next_of(&mut group)
-}
+use task_group::{AwaiterRefused, MemberId, NextUntilError, TaskGroup};
 
 // Pushes a Task to a group: whether there was room.
 fn push_task<'x, R: Wait + Drop + Copy>(
@@ -248,22 +224,22 @@ fn a_wait_for_a_member_elapses_at_its_deadline(rt: HostRuntime) {
     assert!(rt; seen == ([true, true], Some((0, Ok(50)))));
 }
 
-// The handle of the member of this number. Stops where there is none.
-fn handle_of<R: Wait + Abort + Drop + Copy>(
+// The id of the member of this number. Stops where there is none.
+fn id_of<R: Wait + Abort + Drop + Copy>(
     rt: R,
     group: &LineGroup<'_, R>,
     number: usize,
-) -> AbortHandle {
-    granted(&rt, group.handle(number).ok_or(()))
+) -> MemberId {
+    granted(&rt, group.id(number).ok_or(()))
 }
 
-// Cancels a member of a group by its handle, and then all members: what the calls answer.
+// Cancels a member of a group, and then all members: what the calls answer.
 fn cancel_members<R: Wait + Abort + Drop + Copy>(rt: R, group: &mut LineGroup<'_, R>) -> bool {
-    let first = handle_of(rt, group, 0);
+    let first = id_of(rt, group, 0);
     group.cancel(first) == Ok(true) && group.cancel_all().is_ok()
 }
 
-// Cancels by the handle of a member that has come out, while another one has its number: what came out before, what the cancel answers, and what comes
+// Cancels a member that has come out, while another one has its number: what came out before, what the cancel answers, and what comes
 // out then.
 fn cancel_too_late<R: Wait + Abort + Drop + Copy>(
     rt: R,
@@ -272,17 +248,17 @@ fn cancel_too_late<R: Wait + Abort + Drop + Copy>(
     let line = Line::new(rt, alloc, 1);
     let mut group = group_of(rt, alloc, 1);
     push(&line, &mut group, Errand::Answer(44));
-    let handle = handle_of(rt, &group, 0);
+    let id = id_of(rt, &group, 0);
     line.run();
     let first = next_of(&mut group);
     push(&line, &mut group, Errand::GiveWay(45));
-    let late = group.cancel(handle);
+    let late = group.cancel(id);
     line.run();
     (first, late, last_of(group))
 }
 
 #[test]
-fn a_handle_of_a_member_that_came_out_cancels_nobody(rt: HostRuntime) {
+fn the_id_of_a_member_that_came_out_cancels_nobody(rt: HostRuntime) {
     let seen = cancel_too_late(rt, rt.alloc());
     assert!(rt; seen == (Some((0, Ok(44))), Ok(false), Some((0, Ok(45)))));
 }

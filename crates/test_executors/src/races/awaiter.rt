@@ -3,8 +3,8 @@ ghost use Rattle.std.specs.Prelude.{⊤};
 
 use crate::granted::granted;
 use async_task::Wake;
+use rows_fixtures::counters::{Counter, Counters};
 use rows_fixtures::rendezvous::Rendezvous;
-use rows_values::counters::{Counter, Counters};
 use std::alloc::Global;
 use std::hint::spin_loop;
 use std::process::Abort;

@@ -8,7 +8,7 @@ use async_task::{
     Cancel, Future, ParkedRunnable, ParkedWaker, Poll, Runnable, Schedule, ScheduleInfo, Task,
     TaskWaker, Yields, spawn,
 };
-use rows_values::counters::{Counter, Counters, Counts};
+use rows_fixtures::counters::{Counter, Counters, Counts};
 use std::alloc::Global;
 use std::hint::spin_loop;
 use std::mem;

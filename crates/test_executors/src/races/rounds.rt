@@ -1,6 +1,6 @@
 //! The rounds of a race: how its threads begin each together, and what is counted over all of them.
 
-use rows_values::counters::Counter;
+use rows_fixtures::counters::Counter;
 use std::hint::spin_loop;
 use std::process::Abort;
 use std::sync::Wait;

@@ -6,7 +6,7 @@ use crate::races::handles;
 use crate::races::raced::{RaceCancel, RaceOutput, RaceSurroundings, RaceTask};
 use crate::races::rounds::{Calls, Rounds, Tally};
 use async_task::{TaskClosed, TaskPoll};
-use rows_values::counters::Counter;
+use rows_fixtures::counters::Counter;
 use std::alloc::Global;
 use std::process::Abort;
 use std::sync::Wait;

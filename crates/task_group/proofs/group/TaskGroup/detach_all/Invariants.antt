@@ -1,5 +1,5 @@
 use Rattle.std.proofs.Common.{◌≡◌}
-use Rattle.task_group.specs.Handles.{StaySpent}
+use Rattle.task_group.specs.Generations.{StaySpent}
 use Rattle.task_group.proofs.group.TaskGroup.detach_all.Given as goal
 
 abbrev pub invariant-loop-number : goal.invariant-loop-number

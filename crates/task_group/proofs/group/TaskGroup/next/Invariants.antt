@@ -1,6 +1,6 @@
 use Rattle.std.proofs.Common.{◌≡◌}
 use Rattle.slab.specs.Slab.{slab_len}
-use Rattle.task_group.specs.Handles.{StaySpent}
+use Rattle.task_group.specs.Generations.{StaySpent}
 use Rattle.task_group.specs.Members.{SameMembers}
 use Rattle.task_group.proofs.group.TaskGroup.next.Given as goal
 

@@ -1,6 +1,0 @@
-use Rattle.task_calls.proofs.Deeds.{deeds_are_steps}
-use Rattle.task_calls.proofs.Paths.{paths_are_acts}
-use Rattle.task_calls.proofs.calls.Goals as goal
-
-pub returns : goal.returns
-returns g c = record { deeds = deeds_are_steps; paths = λ cell around. paths_are_acts }
