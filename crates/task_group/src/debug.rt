@@ -1,8 +1,9 @@
-//! How a group and what comes out of it are shown.
+//! How a group, its handles and what comes out of it are shown.
+use crate::abort_handle::AbortHandle;
 use crate::ended::Ended;
 use crate::group::TaskGroup;
 use async_task::{Runnable, Schedule, Yields};
-use awaiters::Posts;
+use awaiters::{Listener, Posts};
 use std::alloc::Allocator;
 use std::fmt;
 use std::sync::Wait;
@@ -35,6 +36,15 @@ where
     fn fmt<W: fmt::Write>(&self, f: &mut fmt::Formatter<W>) -> fmt::Result {
         f.debug_struct("TaskGroup")
             .field("len", &self.len())
+            .finish_non_exhaustive()
+    }
+}
+
+/// Shows the member.
+impl<R: Wait + Drop + Copy, L: Listener> fmt::Debug for AbortHandle<R, L> {
+    fn fmt<W: fmt::Write>(&self, f: &mut fmt::Formatter<W>) -> fmt::Result {
+        f.debug_struct("AbortHandle")
+            .field("id", &self.id())
             .finish_non_exhaustive()
     }
 }

@@ -3,6 +3,7 @@ use crate::id::MemberId;
 use crate::requests::Requests;
 use awaiters::{Listener, Mailbox};
 use std::alloc::{AllocError, Global};
+use std::sync::atomic::{AtomicBool, Ordering};
 use std::sync::{Arc, Mutex, Wait};
 
 /// The mailbox of a group, and the aborts that were asked for.
@@ -10,6 +11,8 @@ use std::sync::{Arc, Mutex, Wait};
 pub(crate) struct Shared<R: Wait + Drop + Copy, L: Listener> {
     rt: R,
     pub(crate) mailbox: Arc<Mailbox<R, L>>,
+    // Whether an abort was ever asked for: most groups are asked for none, and take no lock then.
+    was_asked: AtomicBool,
     requests: Mutex<Requests>,
 }
 
@@ -21,6 +24,7 @@ impl<R: Wait + Drop + Copy, L: Listener> Shared<R, L> {
         let shared = Shared {
             rt,
             mailbox,
+            was_asked: AtomicBool::new(false),
             requests,
         };
         Ok(Arc::new(alloc, shared)?)
@@ -29,11 +33,15 @@ impl<R: Wait + Drop + Copy, L: Listener> Shared<R, L> {
     /// Asks for the abort of a member, and posts its number: the request is there before whoever takes the number looks for it.
     pub(crate) fn ask(&self, id: MemberId) {
         self.requests.lock(&self.rt).ask(id);
+        self.was_asked.store(true, Ordering::SeqCst);
         self.mailbox.post(id.number);
     }
 
     /// The generation of the last member of this number whose abort was asked for.
     pub(crate) fn asked(&self, number: usize) -> Option<u64> {
+        if !self.was_asked.load(Ordering::SeqCst) {
+            return None;
+        }
         self.requests.lock(&self.rt).of(number)
     }
 }
