@@ -104,14 +104,28 @@ impl<F: Drop> From<PoolSpawnError<F>> for io::Error {
 
 /// Why `Turns::next_member` or `next_member_until` has no member.
 #[derive(Clone, Copy, Debug, PartialEq, Eq, Error)]
+#[error("{}", self.words())]
 pub enum NextMemberError {
     /// The poll of a member was refused its awaiter, or the bells have as many owners as can be counted. A later call goes on.
-    #[error("the poll of a member was refused its awaiter")]
     Refused,
     /// The pool was shut down before a member had ended. Those that the shutdown cancels come out of a later `try_next` or `next_member`.
-    #[error("the pool was shut down")]
     ShutDown,
     /// No member had ended at the deadline. `next_member` never answers it.
-    #[error("no member had ended at the deadline")]
     Elapsed,
+}
+
+impl NextMemberError {
+    fn words(&self) -> &'static str {
+        match self {
+            NextMemberError::Refused => "the poll of a member was refused its awaiter",
+            NextMemberError::ShutDown => "the pool was shut down",
+            NextMemberError::Elapsed => "no member had ended at the deadline",
+        }
+    }
+}
+
+impl From<NextMemberError> for io::Error {
+    fn from(error: NextMemberError) -> io::Error {
+        io::Error::other(error.words())
+    }
 }

@@ -8,9 +8,12 @@ use crate::line::Place;
 use crate::permits::{Answer, Permits};
 use std::alloc::{AllocError, Global};
 use std::collections::VecDeque;
+use std::{fmt, io};
+use thiserror::Error;
 
 /// Why a message was not sent, with the message.
-#[derive(Debug, PartialEq, Eq, Drop)]
+#[derive(PartialEq, Eq, Drop, Error)]
+#[error("{}", self.words())]
 pub enum TrySendError<T> {
     /// There is no room for it, or others wait for room.
     Full(T),
@@ -18,13 +21,54 @@ pub enum TrySendError<T> {
     Closed(T),
 }
 
+impl<T> TrySendError<T> {
+    fn words(&self) -> &'static str {
+        match self {
+            TrySendError::Full(_) => "the channel is full",
+            TrySendError::Closed(_) => "all receivers are gone",
+        }
+    }
+}
+
+/// Shows why, and not the message.
+impl<T> fmt::Debug for TrySendError<T> {
+    fn fmt<W: fmt::Write>(&self, f: &mut fmt::Formatter<W>) -> fmt::Result {
+        match self {
+            TrySendError::Full(_) => f.write_str("Full(..)"),
+            TrySendError::Closed(_) => f.write_str("Closed(..)"),
+        }
+    }
+}
+
+impl<T: Drop> From<TrySendError<T>> for io::Error {
+    fn from(error: TrySendError<T>) -> io::Error {
+        io::Error::other(error.words())
+    }
+}
+
 /// Why no message was received.
-#[derive(Clone, Copy, Debug, PartialEq, Eq)]
+#[derive(Clone, Copy, Debug, PartialEq, Eq, Error)]
+#[error("{}", self.words())]
 pub enum TryReceiveError {
     /// None is here, or others wait for one.
     Empty,
     /// None is here, and all senders are gone.
     Closed,
+}
+
+impl TryReceiveError {
+    fn words(&self) -> &'static str {
+        match self {
+            TryReceiveError::Empty => "no message is here",
+            TryReceiveError::Closed => "all senders are gone",
+        }
+    }
+}
+
+impl From<TryReceiveError> for io::Error {
+    fn from(error: TryReceiveError) -> io::Error {
+        io::Error::other(error.words())
+    }
 }
 
 /// What a send that may wait led to.

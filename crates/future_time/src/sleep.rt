@@ -7,13 +7,22 @@ ghost use Rattle.future_time.specs.Sleeps.{SleepPolled, IsAnswer};
 use crate::entry::{Elapsed, Look, TimerKey};
 use crate::ticks::LAST_TICK;
 use crate::timers::{TimerError, Timers};
+use std::io;
 use std::sync::Wait;
 use std::time::{Clock, Duration, Instant};
 use task_core::{Future, Poll, Wake, Yields};
+use thiserror::Error;
 
 /// The timers were closed before the time.
-#[derive(Clone, Copy, Debug, PartialEq, Eq)]
+#[derive(Clone, Copy, Debug, PartialEq, Eq, Error)]
+#[error("the timers were closed")]
 pub struct Closed;
+
+impl From<Closed> for io::Error {
+    fn from(_closed: Closed) -> io::Error {
+        io::Error::other("the timers were closed")
+    }
+}
 
 /// The future of `Timers::sleep` and `Timers::sleep_until`. Its drop ends its timer.
 pub struct Sleep<R: Wait + Clock + Drop + Copy, W: Wake> {

@@ -8,10 +8,13 @@ use crate::sleep::{Closed, Sleep};
 use crate::timers::{TimerError, Timers};
 use std::sync::Wait;
 use std::time::{Clock, Duration};
+use std::{fmt, io};
 use task_core::{Future, Poll, Wake, Yields};
+use thiserror::Error;
 
 /// Why a timeout has no output of its future.
-#[derive(Clone, Copy, Debug, PartialEq, Eq)]
+#[derive(Clone, Copy, Debug, PartialEq, Eq, Error)]
+#[error("{}", self.words())]
 pub enum TimeoutError {
     /// The time is over.
     Elapsed(Elapsed),
@@ -19,13 +22,43 @@ pub enum TimeoutError {
     Closed,
 }
 
+impl TimeoutError {
+    fn words(&self) -> &'static str {
+        match self {
+            TimeoutError::Elapsed(_) => "the time is over",
+            TimeoutError::Closed => "the timers were closed",
+        }
+    }
+}
+
+impl From<TimeoutError> for io::Error {
+    fn from(error: TimeoutError) -> io::Error {
+        io::Error::other(error.words())
+    }
+}
+
 /// A future for which there is no timer, handed back.
-#[derive(Drop)]
+#[derive(Drop, Error)]
+#[error("{}", self.error.words())]
 pub struct Refused<F> {
     /// The future, which was not polled.
     pub future: F,
     /// Why there is no timer.
     pub error: TimerError,
+}
+
+impl<F> fmt::Debug for Refused<F> {
+    fn fmt<W: fmt::Write>(&self, f: &mut fmt::Formatter<W>) -> fmt::Result {
+        f.debug_struct("Refused")
+            .field("error", &self.error)
+            .finish_non_exhaustive()
+    }
+}
+
+impl<F: Drop> From<Refused<F>> for io::Error {
+    fn from(refused: Refused<F>) -> io::Error {
+        io::Error::from(refused.error)
+    }
 }
 
 // What a timeout has until it is over.

@@ -7,17 +7,35 @@ use crate::entry::{Due, TimerKey};
 use crate::table::TimerTable;
 use crate::ticks::Ticks;
 use std::alloc::{AllocError, Global};
+use std::io;
 use std::sync::{Arc, Condvar, Mutex, Wait};
 use std::time::{Clock, Instant};
 use task_core::Wake;
+use thiserror::Error;
 
 /// Why there is no timer.
-#[derive(Clone, Copy, Debug, PartialEq, Eq)]
+#[derive(Clone, Copy, Debug, PartialEq, Eq, Error)]
+#[error("{}", self.words())]
 pub enum TimerError {
     /// Memory was refused, or the timers have as many owners as can be counted.
     Refused,
     /// The clock could not be read, or ends before that time.
     Clock,
+}
+
+impl TimerError {
+    pub(crate) fn words(&self) -> &'static str {
+        match self {
+            TimerError::Refused => "no memory for the timer",
+            TimerError::Clock => "the clock has no such time",
+        }
+    }
+}
+
+impl From<TimerError> for io::Error {
+    fn from(error: TimerError) -> io::Error {
+        io::Error::other(error.words())
+    }
 }
 
 impl From<AllocError> for TimerError {

@@ -11,19 +11,34 @@ use crate::awaiter::KitAwaiter;
 use async_task::{Runnable, Schedule, Task, TaskPoll, Yields};
 use futures::Future;
 use futures::task::{Context, Poll};
-use std::alloc::{Allocator, Global};
+use std::alloc::{AllocError, Allocator, Global};
+use std::io;
 use std::sync::Wait;
 use thiserror::Error;
 
 /// Why an `Awaits` has no output.
 #[derive(Clone, Copy, Debug, PartialEq, Eq, Error)]
+#[error("{}", self.words())]
 pub enum AwaitError {
     /// The task is closed: no output will come.
-    #[error("the task is closed")]
     Closed,
     /// The awaiter was refused a share of itself, or the kit its lock. The Task is as it was but for its polls, and may be polled again.
-    #[error("the awaiter was refused")]
     Refused,
+}
+
+impl AwaitError {
+    fn words(&self) -> &'static str {
+        match self {
+            AwaitError::Closed => "the task is closed",
+            AwaitError::Refused => "the awaiter was refused",
+        }
+    }
+}
+
+impl From<AwaitError> for io::Error {
+    fn from(error: AwaitError) -> io::Error {
+        io::Error::other(error.words())
+    }
 }
 
 /// There was no memory for the awaiter of an `Awaits`.
@@ -32,6 +47,12 @@ pub enum AwaitError {
 pub struct AwaitsRefused<T> {
     /// The Task, as it was.
     pub task: T,
+}
+
+impl<T: Drop> From<AwaitsRefused<T>> for io::Error {
+    fn from(_refused: AwaitsRefused<T>) -> io::Error {
+        io::Error::from(AllocError)
+    }
 }
 
 /// A Task as a future of the kit. Dropped, it drops the Task, which cancels the task.

@@ -1,21 +1,41 @@
 //! What a group refuses.
-use std::fmt;
+use std::{fmt, io};
 use thiserror::Error;
 
 /// A poll of a member was refused its awaiter. The member is still in the group, and a later call of `next` polls it again.
 #[derive(Clone, Copy, Debug, PartialEq, Eq, Error)]
-#[error("the poll of a member was refused its awaiter")]
+#[error("{}", NextUntilError::Refused.words())]
 pub struct AwaiterRefused;
+
+impl From<AwaiterRefused> for io::Error {
+    fn from(_refused: AwaiterRefused) -> io::Error {
+        io::Error::from(NextUntilError::Refused)
+    }
+}
 
 /// Why `next_until` has no member.
 #[derive(Clone, Copy, Debug, PartialEq, Eq, Error)]
+#[error("{}", self.words())]
 pub enum NextUntilError {
     /// A poll of a member was refused its awaiter. The member is still in the group, and a later call polls it again.
-    #[error("the poll of a member was refused its awaiter")]
     Refused,
     /// No member had ended at the deadline.
-    #[error("no member had ended at the deadline")]
     Elapsed,
+}
+
+impl NextUntilError {
+    fn words(&self) -> &'static str {
+        match self {
+            NextUntilError::Refused => "the poll of a member was refused its awaiter",
+            NextUntilError::Elapsed => "no member had ended at the deadline",
+        }
+    }
+}
+
+impl From<NextUntilError> for io::Error {
+    fn from(error: NextUntilError) -> io::Error {
+        io::Error::other(error.words())
+    }
 }
 
 /// A push was refused, since the group was full. The group is as it was.
@@ -24,6 +44,12 @@ pub enum NextUntilError {
 pub struct GroupFull<T> {
     /// The Task that was not put in.
     pub task: T,
+}
+
+impl<T: Drop> From<GroupFull<T>> for io::Error {
+    fn from(_full: GroupFull<T>) -> io::Error {
+        io::Error::other(reason(&true))
+    }
 }
 
 impl<T> fmt::Debug for GroupFull<T> {
@@ -49,6 +75,12 @@ fn reason(is_full: &bool) -> &'static str {
         "the group is full"
     } else {
         "no memory for the task"
+    }
+}
+
+impl<F: Drop, Q: Drop> From<GroupSpawnError<F, Q>> for io::Error {
+    fn from(error: GroupSpawnError<F, Q>) -> io::Error {
+        io::Error::other(reason(&error.is_full))
     }
 }
 

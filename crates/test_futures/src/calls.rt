@@ -38,11 +38,6 @@ pub fn sleep_until<R: Wait + Clock + Abort + Drop + Copy>(
     granted(rt, timers.sleep_until(after(rt, start, millis)))
 }
 
-/// A poll of a future, by the counting waker.
-pub fn poll<F: Future<Counter>>(future: &mut F, waker: &Counter) -> Poll<F::Output> {
-    future.poll(waker)
-}
-
 /// What a poll answered: nothing, that the time is over, or an error.
 #[derive(Clone, Copy, Debug, PartialEq, Eq)]
 pub enum Answer {

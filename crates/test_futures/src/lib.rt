@@ -40,6 +40,8 @@ mod refusal_tests;
 #[cfg(test)]
 mod semaphore_tests;
 #[cfg(test)]
+mod shown_tests;
+#[cfg(test)]
 mod single_tests;
 #[cfg(test)]
 mod sleep_tests;

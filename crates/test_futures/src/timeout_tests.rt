@@ -1,6 +1,6 @@
 //! `timeout`: which of the two it answers, and that its parts are dropped then.
-use crate::calls::{after, now, poll, timers};
-use crate::counter::Counter;
+use crate::calls::{after, now, timers};
+use crate::counter::{Counter, poll};
 use crate::granted::granted;
 use combinators::{pending, yield_now};
 use future_time::TimeoutError;

@@ -2,7 +2,9 @@
 use crate::calls::{drop_pool, drop_turns, new_guests, new_pool, turns_of};
 use crate::granted::granted;
 use crate::guest::{Errand, Guest, GuestPool};
-use executor::{BellAwaiter, PoolSpawnError, SpawnRefusal, Store, TurnsError, place_for_waker};
+use executor::{
+    BellAwaiter, NextMemberError, PoolSpawnError, SpawnRefusal, Store, TurnsError, place_for_waker,
+};
 use std::alloc::{AllocError, Global};
 use std::error::Error;
 use std::fmt::Debug;
@@ -97,10 +99,12 @@ fn errors_of_a_pool_say_why(rt: HostRuntime) {
     let (shown, memory) = refused_spawn(rt, rt.alloc(), SpawnRefusal::NoMemory);
     let (_, stopped) = refused_spawn(rt, rt.alloc(), SpawnRefusal::Stopped);
     let [turns, of_turns] = told(&rt, rt.alloc(), TurnsError::NoSuchWorker);
+    let [member, of_member] = told(&rt, rt.alloc(), NextMemberError::ShutDown);
     assert!(rt; shown.as_str() == "PoolSpawnError { reason: NoMemory, .. }");
     assert!(rt;
         memory[0].as_str() == "no memory for the task" && memory[1].as_str() == "out of memory"
     );
     assert!(rt; stopped[0].as_str() == "the pool takes no more tasks" && stopped[1] == stopped[0]);
     assert!(rt; turns.as_str() == "the pool has no worker of this number" && of_turns == turns);
+    assert!(rt; member.as_str() == "the pool was shut down" && of_member == member);
 }

@@ -1,21 +1,35 @@
-//! How a mailbox, a group and what comes out of it are shown, and what their errors say.
+//! How a mailbox, a group, its handles and what comes out of it are shown, and what their errors say.
 use super::line::{Errand, Line, LineGroup};
 use crate::granted::granted;
 use awaiters::{Awaiter, BlockOnError, Mailbox, Numbers};
+use kit_bridge::{AwaitError, AwaitsRefused};
 use std::alloc::{AllocError, Global};
 use std::error::Error;
 use std::fmt::Debug;
 use std::io;
 use std::process::Abort;
 use std::sync::Wait;
-use task_group::{AwaiterRefused, GroupFull, GroupSpawnError, TaskGroup};
+use task_group::{AwaiterRefused, GroupFull, GroupSpawnError, NextUntilError, TaskGroup};
 
 fn shown<R: Abort, T: Debug>(rt: &R, alloc: Global, value: &T) -> String {
     granted(rt, format!(in alloc; "{value:?}"))
 }
 
-fn told<R: Abort, E: Error>(rt: &R, alloc: Global, error: &E) -> String {
-    granted(rt, format!(in alloc; "{error}"))
+// What the `io::Error` of an error says.
+fn io_text<R: Abort, E: Drop>(rt: &R, alloc: Global, error: E) -> String
+where
+    io::Error: From<E>,
+{
+    granted(rt, format!(in alloc; "{}", io::Error::from(error)))
+}
+
+// Whether an error says this, and its `io::Error` as well.
+fn says<R: Abort, E: Error>(rt: &R, alloc: Global, error: E, words: &str) -> bool
+where
+    io::Error: From<E>,
+{
+    let text = granted(rt, format!(in alloc; "{error}"));
+    text.as_str() == words && io_text(rt, alloc, error).as_str() == words
 }
 
 // A mailbox, and an awaiter of it.
@@ -51,39 +65,59 @@ fn a_group_and_its_members_are_shown(rt: HostRuntime) {
     assert!(rt; ended.as_str() == "Some(Ended { number: 0, answer: Ok(7) })");
 }
 
-// The refusals of a group that is full, as they are shown, and what they say.
-fn show_refusals<R: Abort, T: Drop>(rt: &R, alloc: Global, task: T) -> [String; 4] {
-    let full = GroupFull { task };
-    let spawn = GroupSpawnError {
-        is_full: true,
-        future: 1u64,
-        schedule: 2u64,
-    };
-    [
-        shown(rt, alloc, &full),
-        told(rt, alloc, &full),
-        shown(rt, alloc, &spawn),
-        told(rt, alloc, &spawn),
-    ]
+#[test]
+fn an_abort_handle_is_shown(rt: HostRuntime) {
+    let line = Line::new(rt, rt.alloc(), 1);
+    let mut group: LineGroup<'_, _> = granted(&rt, TaskGroup::new(rt, rt.alloc(), 1));
+    granted(&rt, group.push(line.spawn(0, Errand::Answer(7))));
+    let handle = granted(&rt, group.abort_handle(0).ok_or(()));
+    let text = shown(&rt, rt.alloc(), &handle);
+    assert!(rt; text.as_str() == "AbortHandle { id: MemberId { number: 0, generation: 0 }, .. }");
 }
 
 #[test]
 fn a_full_group_says_so(rt: HostRuntime) {
-    let [full, why_full, spawn, why_spawn] = show_refusals(&rt, rt.alloc(), 5u64);
-    assert!(rt;
-        full.as_str() == "GroupFull" && spawn.as_str() == "GroupSpawnError { is_full: true, .. }"
+    let full = GroupFull { task: 5u64 };
+    let spawn = GroupSpawnError {
+        is_full: false,
+        future: 1u64,
+        schedule: 2u64,
+    };
+    let texts = (
+        shown(&rt, rt.alloc(), &full),
+        shown(&rt, rt.alloc(), &spawn),
     );
-    assert!(rt; why_full.as_str() == "the group is full" && why_spawn == why_full);
+    assert!(rt; texts.0.as_str() == "GroupFull");
+    assert!(rt; texts.1.as_str() == "GroupSpawnError { is_full: false, .. }");
+    assert!(rt; says(&rt, rt.alloc(), full, "the group is full"));
+    assert!(rt; says(&rt, rt.alloc(), spawn, "no memory for the task"));
 }
 
 #[test]
 fn a_wait_that_is_refused_says_why(rt: HostRuntime) {
-    let closed = BlockOnError::Closed;
-    let texts = [
-        told(&rt, rt.alloc(), &closed),
-        told(&rt, rt.alloc(), &io::Error::from(closed)),
-    ];
-    let refused = told(&rt, rt.alloc(), &AwaiterRefused);
-    assert!(rt; texts[0].as_str() == "the task is closed" && texts[1] == texts[0]);
-    assert!(rt; refused.as_str() == "the poll of a member was refused its awaiter");
+    let refused = "the poll of a member was refused its awaiter";
+    let late = "no member had ended at the deadline";
+    assert!(rt; says(&rt, rt.alloc(), BlockOnError::Closed, "the task is closed"));
+    assert!(rt; says(&rt, rt.alloc(), AwaiterRefused, refused));
+    assert!(rt; says(&rt, rt.alloc(), NextUntilError::Refused, refused));
+    assert!(rt; says(&rt, rt.alloc(), NextUntilError::Elapsed, late));
+}
+
+#[test]
+fn a_future_of_the_kit_says_why_it_has_no_output(rt: HostRuntime) {
+    let refused = AwaitsRefused { task: 5u64 };
+    let text = shown(&rt, rt.alloc(), &refused);
+    assert!(rt; says(&rt, rt.alloc(), AwaitError::Closed, "the task is closed"));
+    assert!(rt;
+        says(
+            &rt,
+            rt.alloc(),
+            AwaitError::Refused,
+            "the awaiter was refused"
+        )
+    );
+    assert!(rt;
+        text.as_str() == "AwaitsRefused"
+            && io_text(&rt, rt.alloc(), refused) == io_text(&rt, rt.alloc(), AllocError)
+    );
 }
