@@ -1,5 +1,5 @@
 //! What tasks share: a oneshot, a bounded channel, `Notify`, a semaphore and a mutex, over any waker.
-//! It stands on the traits of `task_core`, and on std's deque and lock.
+//! It stands on the traits of `task_core`, on std's deque and lock, and on `thiserror`.
 //! A user makes one by `oneshot`, `channel`, `Notify::new`, `Semaphore::new` or `AsyncMutex::new`, and gives its futures to an executor, or polls them in a future of its own.
 //! `Single`, `Messages`, `Notices`, `Lent` and `Kept`, what these keep under their locks, and what they consist of, are public only to carry the claims.
 //! The page is README.md, beside the code.

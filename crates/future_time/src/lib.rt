@@ -1,5 +1,5 @@
 //! Timers for futures of every executor: `sleep`, `sleep_until`, `interval` and `timeout`.
-//! It stands on the traits of `task_core`, on the wheel of the kit's `futures`, and on `slab`.
+//! It stands on the traits of `task_core`, on the wheel of the kit's `futures`, and on `slab` and `thiserror`.
 //! A user makes `Timers`, has a thread drive them by `run` or calls `fire`, and makes the futures by their methods.
 //! `TimerTable` with what it hands out, `Ticks` and `Waited` are public only to carry the claims.
 //! The page is README.md.
