@@ -37,8 +37,8 @@ impl<R: Wait + Drop + Copy> BellAwaiter<R> {
     /// An awaiter that wakes the worker of this number. Where there is no such worker, its wake does nothing.
     ///
     /// It asks for no memory. `None` says that the bells of the pool have as many owners as can be counted.
-    pub fn new<F: Yields, A: Wake, B: Allocator + Copy>(
-        pool: &Pool<R, F, A, B>,
+    pub fn new<F: Yields, A: Wake, B: Allocator + Copy, M: Drop>(
+        pool: &Pool<R, F, A, B, M>,
         worker: usize,
     ) -> Option<BellAwaiter<R>>
         ensures wakes { IfSome result (λ awaiter. IsForWorker awaiter.wakes (arc_value pool.now.crew.bells) worker) }
@@ -50,8 +50,8 @@ impl<R: Wait + Drop + Copy> BellAwaiter<R> {
     /// no waker is kept there at that time, nothing is woken: keep the waker first, and poll the awaited Task then, as `await_kept` does.
     ///
     /// It asks for no memory. `None` says that the bells or the mail of the pool have as many owners as can be counted.
-    pub fn of_kept<F: Yields, A: Wake, B: Allocator + Copy>(
-        pool: &Pool<R, F, A, B>,
+    pub fn of_kept<F: Yields, A: Wake, B: Allocator + Copy, M: Drop>(
+        pool: &Pool<R, F, A, B, M>,
         number: usize,
     ) -> Option<BellAwaiter<R>>
         ensures wakes { IfSome result (λ awaiter. IsForKept awaiter.wakes (arc_value pool.now.crew.bells) (arc_value pool.now.mail) number) }

@@ -10,19 +10,20 @@ use std::sync::Wait;
 use std::time::{Clock, Instant};
 use work_queues::Bells;
 
-impl<'x, R: Wait + Clock + Drop + Copy, F: Yields, A: Wake, B: Allocator + Copy> Turns<
+impl<'x, R: Wait + Clock + Drop + Copy, F: Yields, A: Wake, B: Allocator + Copy, M: Drop> Turns<
     'x,
     R,
     F,
     A,
     B,
+    M,
 > {
     /// As `take_turn`, where a sleep ends at the deadline.
     pub fn take_turn_until(
         &mut self,
         interruptions: u64,
         deadline: Instant,
-    ) -> Option<PoolRunnable<'x, R, F, A, B>>
+    ) -> Option<PoolRunnable<'x, R, F, A, B, M>>
         ensures place { IfSome result (λ runnable. runnable.around.1 ≡ self.old.worker.number) }
     {
         let most = left_until(&self.pool.rt, deadline);
@@ -30,7 +31,10 @@ impl<'x, R: Wait + Clock + Drop + Copy, F: Yields, A: Wake, B: Allocator + Copy>
     }
 
     /// As `await_next`, but `None` also at the deadline, if none is found before.
-    pub fn await_next_until(&mut self, deadline: Instant) -> Option<PoolRunnable<'x, R, F, A, B>> {
+    pub fn await_next_until(
+        &mut self,
+        deadline: Instant,
+    ) -> Option<PoolRunnable<'x, R, F, A, B, M>> {
         let pool = self.pool;
         let bells: &Bells = pool.bells();
         for _ in pool.rt.forever() {
@@ -39,8 +43,9 @@ impl<'x, R: Wait + Clock + Drop + Copy, F: Yields, A: Wake, B: Allocator + Copy>
                 return None;
             }
             if pool.stage.is_finishing() {
-                if let Some(last) = self.take_last_turn() {
-                    return last;
+                match self.take_last_turn() {
+                    None if !pool.is_finished() => {}
+                    last => return last,
                 }
             } else if let Some(runnable) = self.take_turn_until(interruptions, deadline) {
                 return Some(runnable);

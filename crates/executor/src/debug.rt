@@ -11,7 +11,8 @@ use std::fmt;
 use std::sync::Wait;
 
 /// Shows how many workers there are, and whether the pool was shut down.
-impl<R: Wait + Drop + Copy, F: Yields, A: Wake, B: Allocator> fmt::Debug for Pool<R, F, A, B> {
+impl<R: Wait + Drop + Copy, F: Yields, A: Wake, B: Allocator, M: Drop> fmt::Debug
+    for Pool<R, F, A, B, M> {
     fn fmt<W: fmt::Write>(&self, f: &mut fmt::Formatter<W>) -> fmt::Result {
         f.debug_struct("Pool")
             .field("workers", &self.workers())
@@ -21,8 +22,8 @@ impl<R: Wait + Drop + Copy, F: Yields, A: Wake, B: Allocator> fmt::Debug for Poo
 }
 
 /// Shows the number of the worker.
-impl<'x, R: Wait + Drop + Copy, F: Yields, A: Wake, B: Allocator> fmt::Debug
-    for Turns<'x, R, F, A, B> {
+impl<'x, R: Wait + Drop + Copy, F: Yields, A: Wake, B: Allocator, M: Drop> fmt::Debug
+    for Turns<'x, R, F, A, B, M> {
     fn fmt<W: fmt::Write>(&self, f: &mut fmt::Formatter<W>) -> fmt::Result {
         f.debug_struct("Turns")
             .field("worker", &self.worker.number())

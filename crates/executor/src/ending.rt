@@ -1,6 +1,4 @@
 //! The two ends of a pool: it finishes what is queued, or it is shut down.
-ghost use Rattle.std.specs.Prelude.{◌≡◌, IfSome};
-
 use crate::kept::{cancel_kept, collect, wake_posted};
 use crate::pool::{Pool, PoolRunnable};
 use crate::turns::Turns;
@@ -8,7 +6,7 @@ use async_task::{Wake, Yields};
 use std::alloc::Allocator;
 use std::sync::Wait;
 
-impl<R: Wait + Drop + Copy, F: Yields, A: Wake, B: Allocator + Copy> Pool<R, F, A, B> {
+impl<R: Wait + Drop + Copy, F: Yields, A: Wake, B: Allocator + Copy, M: Drop> Pool<R, F, A, B, M> {
     /// Takes no more tasks, and ends each worker, as `run`, `work` or `await_next`, once it finds nothing queued. What a task that still runs queues, its worker runs before it ends. It does not wait for that: join the threads of the workers.
     ///
     /// A task that waits for something is not waited for: what wakes it once all workers have ended leaves it queued, until `shutdown`, the drop of the pool, or other turns. `block_on` and `next_member` go on until they have an answer. A second call, and one after `shutdown`, do nothing.
@@ -36,7 +34,7 @@ impl<R: Wait + Drop + Copy, F: Yields, A: Wake, B: Allocator + Copy> Pool<R, F, 
     }
 }
 
-impl<R: Wait + Drop + Copy, F: Yields, A: Wake, B: Allocator> Pool<R, F, A, B> {
+impl<R: Wait + Drop + Copy, F: Yields, A: Wake, B: Allocator, M: Drop> Pool<R, F, A, B, M> {
     /// Whether the pool was shut down.
     pub fn is_shut_down(&self) -> bool {
         self.stage.is_shut_down()
@@ -63,16 +61,19 @@ impl<R: Wait + Drop + Copy, F: Yields, A: Wake, B: Allocator> Pool<R, F, A, B> {
     }
 }
 
-impl<'x, R: Wait + Drop + Copy, F: Yields, A: Wake, B: Allocator + Copy> Turns<'x, R, F, A, B> {
-    // As `take_turn` of a pool that finishes, where a worker never sleeps. `Some(None)` where it ends.
-    pub(crate) fn take_last_turn(&mut self) -> Option<Option<PoolRunnable<'x, R, F, A, B>>> {
+impl<'x, R: Wait + Drop + Copy, F: Yields, A: Wake, B: Allocator + Copy, M: Drop> Turns<
+    'x,
+    R,
+    F,
+    A,
+    B,
+    M,
+> {
+    // As `take_turn`, but it frees what keys left each time, and never rests: a turn of a pool that finishes.
+    pub(crate) fn take_last_turn(&mut self) -> Option<PoolRunnable<'x, R, F, A, B, M>> {
         let place = self.place();
         collect(place);
         wake_posted(place);
-        match self.next() {
-            Some(runnable) => Some(Some(runnable)),
-            None if place.0.is_finished() => Some(None),
-            None => None,
-        }
+        self.next()
     }
 }

@@ -1,4 +1,5 @@
 //! What a pool refuses.
+use async_task::Builder;
 use std::alloc::{AllocError, AllocFailed};
 use std::{fmt, io};
 use thiserror::Error;
@@ -98,6 +99,39 @@ impl<F: Drop> From<PoolSpawnError<F>> for AllocError {
 
 impl<F: Drop> From<PoolSpawnError<F>> for io::Error {
     fn from(error: PoolSpawnError<F>) -> io::Error {
+        io::Error::from(error.reason)
+    }
+}
+
+/// A spawn by a builder was refused. No task was made, and the maker was not called.
+#[derive(Drop, Error)]
+#[error("{}", self.reason.words())]
+pub struct PoolBuilderError<M, G> {
+    /// The builder, with the metadata.
+    pub builder: Builder<M>,
+    /// What makes the future.
+    pub maker: G,
+    /// Why the task was not spawned.
+    pub reason: SpawnRefusal,
+}
+
+impl<M, G> fmt::Debug for PoolBuilderError<M, G> {
+    fn fmt<W: fmt::Write>(&self, f: &mut fmt::Formatter<W>) -> fmt::Result {
+        f.debug_struct("PoolBuilderError")
+            .field("reason", &self.reason)
+            .finish_non_exhaustive()
+    }
+}
+
+/// The reason is lost: keep it where a pool may be stopped meanwhile.
+impl<M: Drop, G: Drop> From<PoolBuilderError<M, G>> for AllocError {
+    fn from(_error: PoolBuilderError<M, G>) -> AllocError {
+        AllocError
+    }
+}
+
+impl<M: Drop, G: Drop> From<PoolBuilderError<M, G>> for io::Error {
+    fn from(error: PoolBuilderError<M, G>) -> io::Error {
         io::Error::from(error.reason)
     }
 }

@@ -12,24 +12,24 @@ use std::alloc::Allocator;
 use std::sync::Wait;
 
 /// A waker as the pool keeps it. It cannot wake, before it gets a place back.
-pub type KeptWaker<R, F, A> = StoredWaker<R, F, ToPool, (), A>;
+pub type KeptWaker<R, F, A, M = ()> = StoredWaker<R, F, ToPool, M, A>;
 
 /// A Task as the pool keeps it.
-pub type KeptTask<R, F, A> = Task<R, F, ToPool, (), A, ()>;
+pub type KeptTask<R, F, A, M = ()> = Task<R, F, ToPool, M, A, ()>;
 
 // A handle with `()` has no queue at hand. This crate wakes none, and drops one only where a queue has no memory for it, after a shutdown, and with the pool: the Runnable that may be due then is dropped, too.
-impl<R: Wait + Drop + Copy, F: Yields, A: Wake> Schedule<Runnable<R, F, ToPool, (), A, ()>>
+impl<R: Wait + Drop + Copy, F: Yields, A: Wake, M: Drop> Schedule<Runnable<R, F, ToPool, M, A, ()>>
     for ToPool {
     ghost scheduled = { λ _ _ _. ⊤ };
 
-    fn schedule(&self, runnable: Runnable<R, F, ToPool, (), A, ()>, _info: ScheduleInfo) {
+    fn schedule(&self, runnable: Runnable<R, F, ToPool, M, A, ()>, _info: ScheduleInfo) {
         drop(runnable);
     }
 }
 
 /// Takes a place for a waker, and room for its number in the mail of the pool. `None` where there was no memory for them. The worker of `place`, which is that of `waker.around()` in a poll, only decides which lock is taken.
-pub fn place_for_waker<'x, R: Wait + Drop + Copy, F: Yields, A: Wake, B: Allocator + Copy>(
-    place: Place<'x, R, F, A, B>,
+pub fn place_for_waker<'x, R: Wait + Drop + Copy, F: Yields, A: Wake, B: Allocator + Copy, M: Drop>(
+    place: Place<'x, R, F, A, B, M>,
 ) -> Option<Key<R>> {
     let (pool, worker) = place;
     let key = pool.wakers.reserve(pool.rt, worker)?;
@@ -41,8 +41,8 @@ pub fn place_for_waker<'x, R: Wait + Drop + Copy, F: Yields, A: Wake, B: Allocat
 
 /// Keeps a clone of a waker at the place of a key, and drops what was there. False where the clone was refused, or the key is not one of
 /// `place_for_waker` of this pool: every place is as it was then. After a shutdown the waker is woken at once, which cancels its task.
-pub fn keep_waker<'x, R: Wait + Drop + Copy, F: Yields, A: Wake, B: Allocator + Copy>(
-    waker: &PoolWaker<'x, R, F, A, B>,
+pub fn keep_waker<'x, R: Wait + Drop + Copy, F: Yields, A: Wake, B: Allocator + Copy, M: Drop>(
+    waker: &PoolWaker<'x, R, F, A, B, M>,
     key: &Key<R>,
 ) -> bool {
     let place = waker.around();
@@ -66,16 +66,16 @@ pub fn keep_waker<'x, R: Wait + Drop + Copy, F: Yields, A: Wake, B: Allocator + 
 }
 
 /// Wakes the task whose waker is kept under this number, on the queue of the worker of this place. False where no waker is there. The waker is gone after it.
-pub fn wake_kept<'x, R: Wait + Drop + Copy, F: Yields, A: Wake, B: Allocator + Copy>(
-    place: Place<'x, R, F, A, B>,
+pub fn wake_kept<'x, R: Wait + Drop + Copy, F: Yields, A: Wake, B: Allocator + Copy, M: Drop>(
+    place: Place<'x, R, F, A, B, M>,
     number: usize,
 ) -> bool {
     wake_taken(place, place.0.wakers.take(&place.0.rt, number))
 }
 
 /// Wakes a task whose number an awaiter posted, as `wake_kept` does. False where none is posted. Each worker does it between its turns, and a loop around `Turns::tick` has to.
-pub fn wake_posted<'x, R: Wait + Drop + Copy, F: Yields, A: Wake, B: Allocator + Copy>(
-    place: Place<'x, R, F, A, B>,
+pub fn wake_posted<'x, R: Wait + Drop + Copy, F: Yields, A: Wake, B: Allocator + Copy, M: Drop>(
+    place: Place<'x, R, F, A, B, M>,
 ) -> bool {
     match place.0.mail.take() {
         Some(number) => {
@@ -87,8 +87,8 @@ pub fn wake_posted<'x, R: Wait + Drop + Copy, F: Yields, A: Wake, B: Allocator +
 }
 
 /// Takes a place for a Task, as `place_for_waker` does for a waker. `None` where there was no memory for it.
-pub fn place_for_task<'x, R: Wait + Drop + Copy, F: Yields, A: Wake, B: Allocator + Copy>(
-    place: Place<'x, R, F, A, B>,
+pub fn place_for_task<'x, R: Wait + Drop + Copy, F: Yields, A: Wake, B: Allocator + Copy, M: Drop>(
+    place: Place<'x, R, F, A, B, M>,
 ) -> Option<Key<R>> {
     let (pool, worker) = place;
     pool.tasks.reserve(pool.rt, worker)
@@ -97,10 +97,10 @@ pub fn place_for_task<'x, R: Wait + Drop + Copy, F: Yields, A: Wake, B: Allocato
 /// Keeps a Task at the place of a key, and drops what was there, which cancels that task. After a shutdown the Task is dropped at once, too.
 ///
 /// `Err` has the Task back, where the key is not one of `place_for_task` of this pool: every place is as it was then.
-pub fn keep_task<'x, R: Wait + Drop + Copy, F: Yields, A: Wake, B: Allocator + Copy>(
-    task: PoolTask<'x, R, F, A, B>,
+pub fn keep_task<'x, R: Wait + Drop + Copy, F: Yields, A: Wake, B: Allocator + Copy, M: Drop>(
+    task: PoolTask<'x, R, F, A, B, M>,
     key: &Key<R>,
-) -> Result<(), PoolTask<'x, R, F, A, B>>
+) -> Result<(), PoolTask<'x, R, F, A, B, M>>
     ensures refused { IfErr result (λ back. (back.inner ≡ task.entry.inner) × (back.around ≡ task.entry.around)) }
 {
     let place = task.around();
@@ -119,8 +119,8 @@ pub fn keep_task<'x, R: Wait + Drop + Copy, F: Yields, A: Wake, B: Allocator + C
 
 /// Polls the Task at the place of a key, with this awaiter. `None` where there is no Task, as while another thread polls it, or the key is not one of
 /// `place_for_task` of this pool. A Task that answers `Ready` is gone after it, and any other is there still, unless the pool was shut down. The output meets what the type of the future states.
-pub fn poll_kept<'x, R: Wait + Drop + Copy, F: Yields, A: Wake, B: Allocator + Copy>(
-    place: Place<'x, R, F, A, B>,
+pub fn poll_kept<'x, R: Wait + Drop + Copy, F: Yields, A: Wake, B: Allocator + Copy, M: Drop>(
+    place: Place<'x, R, F, A, B, M>,
     key: &Key<R>,
     awaiter: &A,
 ) -> Option<TaskPoll<Result<F::Output, TaskClosed>>>
@@ -141,8 +141,8 @@ pub fn poll_kept<'x, R: Wait + Drop + Copy, F: Yields, A: Wake, B: Allocator + C
 /// first, and then polls as `poll_kept` does. So no wake is missed where the task that waits is pending after it.
 ///
 /// `Refused` also says that the waker was not kept, as where `own` is not one of `place_for_waker` of this pool.
-pub fn await_kept<'x, R: Wait + Drop + Copy, F: Yields, B: Allocator + Copy>(
-    waker: &PoolWaker<'x, R, F, BellAwaiter<R>, B>,
+pub fn await_kept<'x, R: Wait + Drop + Copy, F: Yields, B: Allocator + Copy, M: Drop>(
+    waker: &PoolWaker<'x, R, F, BellAwaiter<R>, B, M>,
     own: &Key<R>,
     awaited: &Key<R>,
 ) -> Option<TaskPoll<Result<F::Output, TaskClosed>>>
@@ -159,8 +159,8 @@ pub fn await_kept<'x, R: Wait + Drop + Copy, F: Yields, B: Allocator + Copy>(
 }
 
 /// Drops what is left at the places of keys that were dropped: wakers, and Tasks, whose tasks are cancelled. False where nothing was. Each worker does it at its first turn, at each 64th one after it, and before it rests.
-pub fn collect<'x, R: Wait + Drop + Copy, F: Yields, A: Wake, B: Allocator + Copy>(
-    place: Place<'x, R, F, A, B>,
+pub fn collect<'x, R: Wait + Drop + Copy, F: Yields, A: Wake, B: Allocator + Copy, M: Drop>(
+    place: Place<'x, R, F, A, B, M>,
 ) -> bool {
     let pool = place.0;
     let mut drops = false;
@@ -177,33 +177,38 @@ pub fn collect<'x, R: Wait + Drop + Copy, F: Yields, A: Wake, B: Allocator + Cop
 }
 
 // Drops this Task, where there is one, which cancels its task. False where there is none.
-fn drop_task<'x, R: Wait + Drop + Copy, F: Yields, A: Wake, B: Allocator + Copy>(
-    place: Place<'x, R, F, A, B>,
-    task: Option<KeptTask<R, F, A>>,
+fn drop_task<'x, R: Wait + Drop + Copy, F: Yields, A: Wake, B: Allocator + Copy, M: Drop>(
+    place: Place<'x, R, F, A, B, M>,
+    task: Option<KeptTask<R, F, A, M>>,
 ) -> bool {
     task.map(|task| drop(task.with_around(place))).is_some()
 }
 
 // Drops this waker, where there is one. False where there is none.
-fn drop_waker<'x, R: Wait + Drop + Copy, F: Yields, A: Wake, B: Allocator + Copy>(
-    place: Place<'x, R, F, A, B>,
-    waker: Option<KeptWaker<R, F, A>>,
+fn drop_waker<'x, R: Wait + Drop + Copy, F: Yields, A: Wake, B: Allocator + Copy, M: Drop>(
+    place: Place<'x, R, F, A, B, M>,
+    waker: Option<KeptWaker<R, F, A, M>>,
 ) -> bool {
     waker.map(|waker| drop(waker.with_around(place))).is_some()
 }
 
 // Wakes the task of this waker, where there is one. False where there is none.
-fn wake_taken<'x, R: Wait + Drop + Copy, F: Yields, A: Wake, B: Allocator + Copy>(
-    place: Place<'x, R, F, A, B>,
-    waker: Option<KeptWaker<R, F, A>>,
+fn wake_taken<'x, R: Wait + Drop + Copy, F: Yields, A: Wake, B: Allocator + Copy, M: Drop>(
+    place: Place<'x, R, F, A, B, M>,
+    waker: Option<KeptWaker<R, F, A, M>>,
 ) -> bool {
     waker.map(|waker| waker.with_around(place).wake()).is_some()
 }
 
 // Cancels what is kept, after the shutdown: all wakers are woken, and then all Tasks are dropped.
-pub(crate) fn cancel_kept<'x, R: Wait + Drop + Copy, F: Yields, A: Wake, B: Allocator + Copy>(
-    place: Place<'x, R, F, A, B>,
-) {
+pub(crate) fn cancel_kept<
+    'x,
+    R: Wait + Drop + Copy,
+    F: Yields,
+    A: Wake,
+    B: Allocator + Copy,
+    M: Drop,
+>(place: Place<'x, R, F, A, B, M>) {
     let pool = place.0;
     let mut wakers = Walk::default();
     let mut tasks = Walk::default();

@@ -32,8 +32,8 @@ pub struct KeptGroup<R: Wait + Drop + Copy> {
 
 impl<R: Wait + Drop + Copy> KeptGroup<R> {
     /// An empty group with room for `room` members at a time, or a few more. All its memory and its places are taken here. `place` is `waker.around()` in a poll of the task that awaits. `None` where there was no memory.
-    pub fn new<'x, F: Yields, A: Wake, B: Allocator + Copy>(
-        place: Place<'x, R, F, A, B>,
+    pub fn new<'x, F: Yields, A: Wake, B: Allocator + Copy, M: Drop>(
+        place: Place<'x, R, F, A, B, M>,
         room: usize,
     ) -> Option<KeptGroup<R>> {
         let pool = place.0;
@@ -68,10 +68,10 @@ impl<R: Wait + Drop + Copy> KeptGroup<R> {
     /// Puts a Task in, under a number that no other member has. It asks for no memory. The first `next` after it polls the Task.
     ///
     /// An `Err` hands the Task back: the group is full, or of another pool.
-    pub fn push<'x, F: Yields, B: Allocator + Copy>(
+    pub fn push<'x, F: Yields, B: Allocator + Copy, M: Drop>(
         &mut self,
-        task: PoolTask<'x, R, F, BellAwaiter<R>, B>,
-    ) -> Result<usize, GroupFull<PoolTask<'x, R, F, BellAwaiter<R>, B>>>
+        task: PoolTask<'x, R, F, BellAwaiter<R>, B, M>,
+    ) -> Result<usize, GroupFull<PoolTask<'x, R, F, BellAwaiter<R>, B, M>>>
         ensures joins { IfOk result (λ number. Joins self.old.members self.new.members number) }
         ensures unchanged { OnErr result (self.new.members ≡ self.old.members) }
         ensures refused { IfErr result (λ error. (error.task.inner ≡ task.entry.inner) × (error.task.around ≡ task.entry.around)) }
@@ -96,9 +96,9 @@ impl<R: Wait + Drop + Copy> KeptGroup<R> {
     /// Takes the next member that has ended out of the group, on behalf of the task of this waker: its number, and what its Task answered. `Ready(None)` where the group is empty. Where it is pending, the task is woken by the next end of a member, and only the members that have ended, or were pushed, since the last call are polled.
     ///
     /// `Refused` says that the waker was not kept, or an awaiter was refused: a later call goes on. After a shutdown a member is closed.
-    pub fn next<'x, F: Yields, B: Allocator + Copy>(
+    pub fn next<'x, F: Yields, B: Allocator + Copy, M: Drop>(
         &mut self,
-        waker: &PoolWaker<'x, R, F, BellAwaiter<R>, B>,
+        waker: &PoolWaker<'x, R, F, BellAwaiter<R>, B, M>,
     ) -> TaskPoll<Option<(usize, Result<F::Output, TaskClosed>)>>
         ensures meets { IfSomeOutput result (λ ended. IfOk ended.1 (λ output. ∥ F.Yields.meets output ∥₁)) }
         ensures empty { result ≡ TaskPoll.Ready None ↔ (slab_len self.old.members ≡ 0) }
@@ -125,9 +125,9 @@ impl<R: Wait + Drop + Copy> KeptGroup<R> {
     }
 
     // Keeps the waker, and has the next post wake its task: what was posted before is found by a look after this.
-    fn listens<'x, F: Yields, B: Allocator + Copy>(
+    fn listens<'x, F: Yields, B: Allocator + Copy, M: Drop>(
         &self,
-        waker: &PoolWaker<'x, R, F, BellAwaiter<R>, B>,
+        waker: &PoolWaker<'x, R, F, BellAwaiter<R>, B, M>,
     ) -> bool {
         let pool = waker.around().0;
         let Some(rings) = Rings::for_kept(pool.bells(), &pool.mail, self.own.number()) else {
@@ -141,9 +141,9 @@ impl<R: Wait + Drop + Copy> KeptGroup<R> {
     }
 
     // Polls the member of this number, if there is one, and takes it out where it has ended. Where the poll is refused, a later call polls it again.
-    fn look<'x, F: Yields, B: Allocator + Copy>(
+    fn look<'x, F: Yields, B: Allocator + Copy, M: Drop>(
         &mut self,
-        place: Place<'x, R, F, BellAwaiter<R>, B>,
+        place: Place<'x, R, F, BellAwaiter<R>, B, M>,
         number: usize,
     ) -> TaskPoll<Result<F::Output, TaskClosed>>
         ensures meets { IfOutput result (λ output. ∥ F.Yields.meets output ∥₁) }
@@ -167,9 +167,9 @@ impl<R: Wait + Drop + Copy> KeptGroup<R> {
     }
 
     // Polls the Task at the place of this number. Where there is none, a shutdown has dropped it.
-    fn poll_member<'x, F: Yields, B: Allocator + Copy>(
+    fn poll_member<'x, F: Yields, B: Allocator + Copy, M: Drop>(
         &self,
-        place: Place<'x, R, F, BellAwaiter<R>, B>,
+        place: Place<'x, R, F, BellAwaiter<R>, B, M>,
         number: usize,
     ) -> TaskPoll<Result<F::Output, TaskClosed>>
         ensures meets { IfOutput result (λ output. ∥ F.Yields.meets output ∥₁) }

@@ -16,23 +16,30 @@ use task_group::{Ended, TaskGroup};
 use work_queues::Bells;
 
 /// A group of tasks of a pool. Push the Tasks that `spawn` answers.
-pub type PoolGroup<'x, R, F, B = Global> = TaskGroup<
+pub type PoolGroup<'x, R, F, B = Global, M = ()> = TaskGroup<
     R,
     F,
     ToPool,
-    (),
+    M,
     BellAwaiter<R>,
-    Place<'x, R, F, BellAwaiter<R>, B>,
+    Place<'x, R, F, BellAwaiter<R>, B, M>,
 >;
 
-impl<'x, R: Wait + Drop + Copy, F: Yields, B: Allocator + Copy> Turns<'x, R, F, BellAwaiter<R>, B> {
+impl<'x, R: Wait + Drop + Copy, F: Yields, B: Allocator + Copy, M: Drop> Turns<
+    'x,
+    R,
+    F,
+    BellAwaiter<R>,
+    B,
+    M,
+> {
     /// Is the worker until a member of the group ends, and takes that out, as `TaskGroup::next` does. It sleeps where there is nothing to do. `None` where the group is empty. After an error the group is as it was.
     pub fn next_member(
         &mut self,
-        group: &mut PoolGroup<'x, R, F, B>,
+        group: &mut PoolGroup<'x, R, F, B, M>,
     ) -> Result<Option<Ended<F>>, NextMemberError>
     where
-        F: Future<PoolWaker<'x, R, F, BellAwaiter<R>, B>>,
+        F: Future<PoolWaker<'x, R, F, BellAwaiter<R>, B, M>>,
         ensures over { is_over result ≡ true → slab_len group.old.members ≡ 0 }
         ensures empty { slab_len group.old.members ≡ 0 → is_over result ≡ true }
         ensures leaves { IfNext result (λ ended. Leaves group.old.members group.new.members ended.number) }
@@ -57,21 +64,22 @@ impl<'x, R: Wait + Drop + Copy, F: Yields, B: Allocator + Copy> Turns<'x, R, F, 
     }
 }
 
-impl<'x, R: Wait + Clock + Drop + Copy, F: Yields, B: Allocator + Copy> Turns<
+impl<'x, R: Wait + Clock + Drop + Copy, F: Yields, B: Allocator + Copy, M: Drop> Turns<
     'x,
     R,
     F,
     BellAwaiter<R>,
     B,
+    M,
 > {
     /// As `next_member`, but `Elapsed` at the deadline, if no member has ended then. It looks at least once, also where the deadline has passed. A poll that lasts beyond the deadline is waited for. Where the clock of the runtime has no answer, the call does not sleep, and answers `Elapsed`.
     pub fn next_member_until(
         &mut self,
-        group: &mut PoolGroup<'x, R, F, B>,
+        group: &mut PoolGroup<'x, R, F, B, M>,
         deadline: Instant,
     ) -> Result<Option<Ended<F>>, NextMemberError>
     where
-        F: Future<PoolWaker<'x, R, F, BellAwaiter<R>, B>>,
+        F: Future<PoolWaker<'x, R, F, BellAwaiter<R>, B, M>>,
         ensures over { is_over result ≡ true → slab_len group.old.members ≡ 0 }
         ensures empty { slab_len group.old.members ≡ 0 → is_over result ≡ true }
         ensures leaves { IfNext result (λ ended. Leaves group.old.members group.new.members ended.number) }

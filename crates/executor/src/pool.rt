@@ -11,41 +11,56 @@ use std::sync::{Arc, Wait};
 use work_queues::{Bells, Crew, Settings};
 
 /// What the handles of a pool carry: the pool, and the number of the worker on which they were made or woken. It stands for a thread local. A thread that is no worker has the number of workers, or any above it.
-pub type Place<'x, R, F, A, B = Global> = (&'x Pool<R, F, A, B>, usize);
+pub type Place<'x, R, F, A, B = Global, M = ()> = (&'x Pool<R, F, A, B, M>, usize);
 
 /// A Runnable of a pool.
-pub type PoolRunnable<'x, R, F, A, B = Global> = Runnable<
+pub type PoolRunnable<'x, R, F, A, B = Global, M = ()> = Runnable<
     R,
     F,
     ToPool,
-    (),
+    M,
     A,
-    Place<'x, R, F, A, B>,
+    Place<'x, R, F, A, B, M>,
 >;
 
 /// The Task of a task of a pool.
-pub type PoolTask<'x, R, F, A, B = Global> = Task<R, F, ToPool, (), A, Place<'x, R, F, A, B>>;
+pub type PoolTask<'x, R, F, A, B = Global, M = ()> = Task<
+    R,
+    F,
+    ToPool,
+    M,
+    A,
+    Place<'x, R, F, A, B, M>,
+>;
 
 /// The waker by which the future of a pool is polled.
-pub type PoolWaker<'x, R, F, A, B = Global> = TaskWaker<R, F, ToPool, (), A, Place<'x, R, F, A, B>>;
+pub type PoolWaker<'x, R, F, A, B = Global, M = ()> = TaskWaker<
+    R,
+    F,
+    ToPool,
+    M,
+    A,
+    Place<'x, R, F, A, B, M>,
+>;
 
 // A Runnable as the queues hold it.
-pub(crate) type Queued<R, F, A> = Runnable<R, F, ToPool, (), A, ()>;
+pub(crate) type Queued<R, F, A, M> = Runnable<R, F, ToPool, M, A, ()>;
 
-/// The queues of a pool of workers. `F` is the one type of its futures, `A` that of the awaiters of their Tasks, and `B` is where its queues take their memory. With the pool the Runnables that are left are dropped, which cancels their tasks.
+/// The queues of a pool of workers. `F` is the one type of its futures, `A` that of the awaiters of their Tasks, `B` is where its queues take their memory, and `M` the type of the metadata of its tasks. With the pool the Runnables that are left are dropped, which cancels their tasks.
 #[must_use]
-pub struct Pool<R: Wait + Drop + Copy, F: Yields, A: Wake, B: Allocator = Global> {
+pub struct Pool<R: Wait + Drop + Copy, F: Yields, A: Wake, B: Allocator = Global, M: Drop = ()> {
     pub(crate) rt: R,
     pub(crate) alloc: Global,
     pub(crate) items: B,
-    pub(crate) crew: Crew<Queued<R, F, A>, B>,
+    pub(crate) crew: Crew<Queued<R, F, A, M>, B>,
     pub(crate) stage: Stage,
-    pub(crate) wakers: Store<KeptWaker<R, F, A>>,
-    pub(crate) tasks: Store<KeptTask<R, F, A>>,
+    pub(crate) wakers: Store<KeptWaker<R, F, A, M>>,
+    pub(crate) tasks: Store<KeptTask<R, F, A, M>>,
     pub(crate) mail: Arc<Mail<R>>,
 }
 
-impl<R: Wait + Drop + Copy, F: Yields, A: Wake, B: Allocator> Drop for Pool<R, F, A, B> {
+impl<R: Wait + Drop + Copy, F: Yields, A: Wake, B: Allocator, M: Drop> Drop
+    for Pool<R, F, A, B, M> {
     // As a derived drop, which would stand field by field in each function that drops a pool.
     fn drop(self) {
         let Pool {
@@ -71,13 +86,13 @@ impl<R: Wait + Drop + Copy, F: Yields, A: Wake, B: Allocator> Drop for Pool<R, F
 #[derive(Debug, Drop)]
 pub struct ToPool;
 
-impl<'x, R: Wait + Drop + Copy, F: Yields, A: Wake, B: Allocator + Copy> Schedule<
-    PoolRunnable<'x, R, F, A, B>,
+impl<'x, R: Wait + Drop + Copy, F: Yields, A: Wake, B: Allocator + Copy, M: Drop> Schedule<
+    PoolRunnable<'x, R, F, A, B, M>,
 > for ToPool {
     ghost scheduled = { λ _ _ _. ⊤ };
 
     // A Runnable that no queue has memory for, or that comes after the shutdown, is dropped: its task is cancelled.
-    fn schedule(&self, runnable: PoolRunnable<'x, R, F, A, B>, _info: ScheduleInfo) {
+    fn schedule(&self, runnable: PoolRunnable<'x, R, F, A, B, M>, _info: ScheduleInfo) {
         let (pool, worker) = runnable.around();
         if pool.is_shut_down() {
             drop(runnable);
@@ -91,21 +106,25 @@ impl<'x, R: Wait + Drop + Copy, F: Yields, A: Wake, B: Allocator + Copy> Schedul
     }
 }
 
-impl<R: Wait + Drop + Copy, F: Yields, A: Wake> Pool<R, F, A> {
+impl<R: Wait + Drop + Copy, F: Yields, A: Wake, M: Drop> Pool<R, F, A, Global, M> {
     /// A pool of so many workers, at least one and at most `work_queues::bells::MOST_WORKERS`. Its workers do not run yet. `rt` is what its threads wait by, `alloc` where all memory comes from. An error says that there was no memory.
-    pub fn new(rt: R, alloc: Global, workers: usize) -> Result<Pool<R, F, A>, AllocError> {
+    pub fn new(
+        rt: R,
+        alloc: Global,
+        workers: usize,
+    ) -> Result<Pool<R, F, A, Global, M>, AllocError> {
         Pool::with_queues_in(rt, alloc, alloc, workers)
     }
 }
 
-impl<R: Wait + Drop + Copy, F: Yields, A: Wake, B: Allocator + Copy> Pool<R, F, A, B> {
+impl<R: Wait + Drop + Copy, F: Yields, A: Wake, B: Allocator + Copy, M: Drop> Pool<R, F, A, B, M> {
     /// A pool as `new` makes it, whose queues take their memory from `items`, as do the workers for what they have in their hands. All else is of `alloc`.
     pub fn with_queues_in(
         rt: R,
         alloc: Global,
         items: B,
         workers: usize,
-    ) -> Result<Pool<R, F, A, B>, AllocError> {
+    ) -> Result<Pool<R, F, A, B, M>, AllocError> {
         Pool::with_settings(rt, alloc, items, workers, Settings::new())
     }
 
@@ -116,7 +135,7 @@ impl<R: Wait + Drop + Copy, F: Yields, A: Wake, B: Allocator + Copy> Pool<R, F, 
         items: B,
         workers: usize,
         settings: Settings,
-    ) -> Result<Pool<R, F, A, B>, AllocError> {
+    ) -> Result<Pool<R, F, A, B, M>, AllocError> {
         Ok(Pool {
             rt,
             alloc,
@@ -161,7 +180,7 @@ impl<R: Wait + Drop + Copy, F: Yields, A: Wake, B: Allocator + Copy> Pool<R, F, 
     }
 }
 
-impl<R: Wait + Drop + Copy, F: Yields, A: Wake, B: Allocator> Pool<R, F, A, B> {
+impl<R: Wait + Drop + Copy, F: Yields, A: Wake, B: Allocator, M: Drop> Pool<R, F, A, B, M> {
     /// How many workers it has.
     pub fn workers(&self) -> usize {
         self.crew.workers()

@@ -32,23 +32,30 @@ impl<R: Clock, S> Clock for WithShared<R, S> {
     }
 }
 
-impl<R: Wait + Drop + Copy, S: Drop + Copy, F: Yields, A: Wake> Pool<WithShared<R, S>, F, A> {
+impl<R: Wait + Drop + Copy, S: Drop + Copy, F: Yields, A: Wake, M: Drop> Pool<
+    WithShared<R, S>,
+    F,
+    A,
+    Global,
+    M,
+> {
     /// A pool as `new` makes it, which carries `shared`: mostly a reference to what its futures share, which outlives the pool. A future reaches it by `waker.around().0.shared()`.
     pub fn with_shared(
         rt: R,
         alloc: Global,
         workers: usize,
         shared: S,
-    ) -> Result<Pool<WithShared<R, S>, F, A>, AllocError> {
+    ) -> Result<Pool<WithShared<R, S>, F, A, Global, M>, AllocError> {
         Pool::new(WithShared { rt, shared }, alloc, workers)
     }
 }
 
-impl<R: Wait + Drop + Copy, S: Drop + Copy, F: Yields, A: Wake, B: Allocator + Copy> Pool<
+impl<R: Wait + Drop + Copy, S: Drop + Copy, F: Yields, A: Wake, B: Allocator + Copy, M: Drop> Pool<
     WithShared<R, S>,
     F,
     A,
     B,
+    M,
 > {
     /// What the pool carries.
     pub fn shared(&self) -> S

@@ -1,14 +1,18 @@
-//! Spawning into a pool: room in the queue comes first, so that a refusal has the future back.
+//! Spawning into a pool: room in the queue comes first, so that a refusal has back what it was given.
 ghost use Rattle.std.specs.Prelude.{◌≡◌, ◌-◌, ◌+◌, ◌<◌, [], drop, IfOk, IfErr, IsSome, IsNone, OnOk, vec_len, vec_capacity};
+ghost use Rattle.std.specs.Fn.{FnOnceReturnsAt};
+ghost use Rattle.work_queues.specs.Rooms.{HasRoom};
 ghost use Rattle.executor.specs.Appends.{Appends};
 
-use crate::errors::{PoolSpawnError, SpawnRefusal};
-use crate::pool::{Pool, PoolTask, ToPool};
-use async_task::{Wake, Yields, spawn};
+use crate::errors::{PoolBuilderError, PoolSpawnError, SpawnRefusal};
+use crate::pool::{Pool, PoolTask, Queued, ToPool};
+use async_task::{Builder, Wake, Yields, spawn};
 use std::alloc::Allocator;
 use std::collections::VecDeque;
 use std::sync::Wait;
+use work_queues::board::Reserved;
 
+/// Tasks without metadata.
 impl<R: Wait + Drop + Copy, F: Yields, A: Wake, B: Allocator + Copy> Pool<R, F, A, B> {
     /// Spawns a task from a thread that is no worker, and schedules it. An error has the future back, and says why: there was no memory for the task or for its place in the queue, or the pool takes no more tasks. After `Ok` its Runnable was queued.
     pub fn spawn(&self, future: F) -> Result<PoolTask<'_, R, F, A, B>, PoolSpawnError<F>>
@@ -26,16 +30,10 @@ impl<R: Wait + Drop + Copy, F: Yields, A: Wake, B: Allocator + Copy> Pool<R, F, 
         ensures place { IfOk result (λ task. task.around.1 ≡ worker) }
         ensures refused { IfErr result (λ error. error.future ≡ future) }
     {
-        let Ok(reserved) = self.crew.reserve(&self.rt, worker) else {
-            let reason = SpawnRefusal::NoMemory;
-            return Err(PoolSpawnError { future, reason });
+        let reserved = match self.reserve(worker) {
+            Ok(reserved) => reserved,
+            Err(reason) => return Err(PoolSpawnError { future, reason }),
         };
-        // It asks while it has the queue, for which `finish` and `shutdown` wait: what was spawned before them they find there.
-        if !self.stage.is_open() {
-            self.crew.release(reserved);
-            let reason = SpawnRefusal::Stopped;
-            return Err(PoolSpawnError { future, reason });
-        }
         match spawn(self.rt, self.alloc, future, ToPool, (self, worker)) {
             Ok((runnable, task)) => {
                 self.crew.put(reserved, runnable.with_around(()));
@@ -98,5 +96,76 @@ impl<R: Wait + Drop + Copy, F: Yields, A: Wake, B: Allocator + Copy> Pool<R, F, 
                 Some(reason)
             }
         }
+    }
+}
+
+/// Tasks with the metadata of a builder.
+impl<R: Wait + Drop + Copy, F: Yields, A: Wake, B: Allocator + Copy, M: Drop> Pool<R, F, A, B, M> {
+    /// Spawns a task with metadata from a thread that is no worker, and schedules it. `builder` has the metadata, as `Builder::new().metadata(priority)`, and `maker` makes the future of it. The Task and each Runnable of the task then show it by `metadata`.
+    ///
+    /// The maker is called once, after all memory was found. The queue is locked meanwhile, so the maker must neither call the pool nor wake a task of it. An error has builder and maker back, says why as that of `spawn` does, and the maker was not called.
+    pub fn spawn_with<G: FnOnce(&M) -> F>(
+        &self,
+        builder: Builder<M>,
+        maker: G,
+    ) -> Result<PoolTask<'_, R, F, A, B, M>, PoolBuilderError<M, G>>
+        requires { G.IsAlwaysCallable maker }
+        ensures metadata { IfOk result (λ task. task.inner.share.block.value.metadata ≡ builder.metadata) }
+        ensures made { IfOk result (λ _. (future : F) × FnOnceReturnsAt G.FnOnce maker builder.metadata future) }
+        ensures refused { IfErr result (λ error. (error.builder ≡ builder) × (error.maker ≡ maker)) }
+    {
+        self.spawn_on_with(self.crew.workers(), builder, maker)
+    }
+
+    /// Spawns a task with metadata at the queue of a worker, as that which polls the spawning future: `waker.around().1`. It takes and answers what `spawn_with` does.
+    pub fn spawn_on_with<G: FnOnce(&M) -> F>(
+        &self,
+        worker: usize,
+        builder: Builder<M>,
+        maker: G,
+    ) -> Result<PoolTask<'_, R, F, A, B, M>, PoolBuilderError<M, G>>
+        requires { G.IsAlwaysCallable maker }
+        ensures place { IfOk result (λ task. task.around.1 ≡ worker) }
+        ensures metadata { IfOk result (λ task. task.inner.share.block.value.metadata ≡ builder.metadata) }
+        ensures made { IfOk result (λ _. (future : F) × FnOnceReturnsAt G.FnOnce maker builder.metadata future) }
+        ensures refused { IfErr result (λ error. (error.builder ≡ builder) × (error.maker ≡ maker)) }
+    {
+        let reserved = match self.reserve(worker) {
+            Ok(reserved) => reserved,
+            Err(reason) => {
+                return Err(PoolBuilderError {
+                    builder,
+                    maker,
+                    reason,
+                });
+            }
+        };
+        match builder.spawn(self.rt, self.alloc, maker, ToPool, (self, worker)) {
+            Ok((runnable, task)) => {
+                self.crew.put(reserved, runnable.with_around(()));
+                Ok(task)
+            }
+            Err(refused) => {
+                self.crew.release(reserved);
+                Err(PoolBuilderError {
+                    builder: refused.builder,
+                    maker: refused.maker,
+                    reason: SpawnRefusal::NoMemory,
+                })
+            }
+        }
+    }
+
+    // Room for one Runnable at the queue of a worker, or in that for what comes from outside. Where it is refused, no queue is locked.
+    fn reserve(&self, worker: usize) -> Result<Reserved<Queued<R, F, A, M>, B>, SpawnRefusal>
+        ensures room { IfOk result (HasRoom self.now.crew.board) }
+    {
+        let reserved = self.crew.reserve(&self.rt, worker)?;
+        // It asks while it has the queue, for which `finish` and `shutdown` wait: what was spawned before them they find there.
+        if !self.stage.is_open() {
+            self.crew.release(reserved);
+            return Err(SpawnRefusal::Stopped);
+        }
+        Ok(reserved)
     }
 }

@@ -23,10 +23,10 @@ pub trait Works: Drop {
     fn shut_down(&self);
 }
 
-impl<'x, R: Wait + Drop + Copy, F: Yields, A: Wake, B: Allocator + Copy> Works
-    for Turns<'x, R, F, A, B>
+impl<'x, R: Wait + Drop + Copy, F: Yields, A: Wake, B: Allocator + Copy, M: Drop> Works
+    for Turns<'x, R, F, A, B, M>
 where
-    F: Future<PoolWaker<'x, R, F, A, B>>,
+    F: Future<PoolWaker<'x, R, F, A, B, M>>,
 {
     fn work_to_end(&mut self) {
         self.work();
@@ -49,9 +49,9 @@ pub struct Team<W> {
     others: Vec<W>,
 }
 
-impl<R: Wait + Drop + Copy, F: Yields, A: Wake, B: Allocator + Copy> Pool<R, F, A, B> {
+impl<R: Wait + Drop + Copy, F: Yields, A: Wake, B: Allocator + Copy, M: Drop> Pool<R, F, A, B, M> {
     /// The turns of all workers, to be started together. An error says that those of a worker are taken, or that there was no memory for them: then none are.
-    pub fn team(&self) -> Result<Team<Turns<'_, R, F, A, B>>, TurnsError>
+    pub fn team(&self) -> Result<Team<Turns<'_, R, F, A, B, M>>, TurnsError>
         ensures first { IfOk result (λ team. team.first.worker.number ≡ 0) }
     {
         let first = self.turns(0)?;
@@ -60,7 +60,7 @@ impl<R: Wait + Drop + Copy, F: Yields, A: Wake, B: Allocator + Copy> Pool<R, F, 
     }
 
     // The turns of all workers but worker 0.
-    fn turns_of_others(&self) -> Result<Vec<Turns<'_, R, F, A, B>>, TurnsError> {
+    fn turns_of_others(&self) -> Result<Vec<Turns<'_, R, F, A, B, M>>, TurnsError> {
         let mut others = Vec::new(self.alloc);
         for worker in 1..self.workers() {
             others.push(self.turns(worker)?)?;

@@ -25,13 +25,21 @@ const COLLECTS: u64 = 64;
 ///
 /// Their drop puts the Runnables in the hands of the worker into the queue for what comes from outside, and has another worker look once more. A Runnable for which that queue has no memory is dropped, which cancels its task.
 #[must_use]
-pub struct Turns<'x, R: Wait + Drop + Copy, F: Yields, A: Wake, B: Allocator = Global> {
-    pub(crate) pool: &'x Pool<R, F, A, B>,
-    pub(crate) worker: Worker<Queued<R, F, A>, B>,
+pub struct Turns<
+    'x,
+    R: Wait + Drop + Copy,
+    F: Yields,
+    A: Wake,
+    B: Allocator = Global,
+    M: Drop = (),
+> {
+    pub(crate) pool: &'x Pool<R, F, A, B, M>,
+    pub(crate) worker: Worker<Queued<R, F, A, M>, B>,
     count: u64,
 }
 
-impl<'x, R: Wait + Drop + Copy, F: Yields, A: Wake, B: Allocator> Drop for Turns<'x, R, F, A, B> {
+impl<'x, R: Wait + Drop + Copy, F: Yields, A: Wake, B: Allocator, M: Drop> Drop
+    for Turns<'x, R, F, A, B, M> {
     fn drop(self) {
         let Turns {
             pool,
@@ -48,9 +56,9 @@ impl<'x, R: Wait + Drop + Copy, F: Yields, A: Wake, B: Allocator> Drop for Turns
     }
 }
 
-impl<R: Wait + Drop + Copy, F: Yields, A: Wake, B: Allocator + Copy> Pool<R, F, A, B> {
+impl<R: Wait + Drop + Copy, F: Yields, A: Wake, B: Allocator + Copy, M: Drop> Pool<R, F, A, B, M> {
     /// The turns of the worker of this number. Once they are dropped, the number is free again.
-    pub fn turns(&self, worker: usize) -> Result<Turns<'_, R, F, A, B>, TurnsError>
+    pub fn turns(&self, worker: usize) -> Result<Turns<'_, R, F, A, B, M>, TurnsError>
         ensures worker { IfOk result (λ turns. turns.worker.number ≡ worker) }
         ensures none { result ≡ Err TurnsError.NoSuchWorker ↔ ((arc_value self.now.crew.bells).workers ≤ worker) }
     {
@@ -67,7 +75,7 @@ impl<R: Wait + Drop + Copy, F: Yields, A: Wake, B: Allocator + Copy> Pool<R, F, 
     }
 
     /// The turns of all workers, in the order of their numbers. The error is never `NoSuchWorker`.
-    pub fn all_turns(&self) -> Result<Vec<Turns<'_, R, F, A, B>>, TurnsError>
+    pub fn all_turns(&self) -> Result<Vec<Turns<'_, R, F, A, B, M>>, TurnsError>
         ensures each { IfOk result (λ all. (i : ℕ) (turns : _) → get_elem? all.items i ≡ some turns → turns.worker.number ≡ i) }
     {
         let mut all = Vec::new(self.alloc);
@@ -80,7 +88,7 @@ impl<R: Wait + Drop + Copy, F: Yields, A: Wake, B: Allocator + Copy> Pool<R, F, 
     /// Is the worker of this number until the pool is shut down, or has finished, as `Turns::work` is. An error is that of `turns`.
     pub fn run<'x>(&'x self, worker: usize) -> Result<(), TurnsError>
     where
-        F: Future<PoolWaker<'x, R, F, A, B>>,
+        F: Future<PoolWaker<'x, R, F, A, B, M>>,
     {
         let mut turns = self.turns(worker)?;
         turns.work();
@@ -88,9 +96,16 @@ impl<R: Wait + Drop + Copy, F: Yields, A: Wake, B: Allocator + Copy> Pool<R, F, 
     }
 }
 
-impl<'x, R: Wait + Drop + Copy, F: Yields, A: Wake, B: Allocator + Copy> Turns<'x, R, F, A, B> {
+impl<'x, R: Wait + Drop + Copy, F: Yields, A: Wake, B: Allocator + Copy, M: Drop> Turns<
+    'x,
+    R,
+    F,
+    A,
+    B,
+    M,
+> {
     /// The pool, and the number of this worker: what a handle of the pool carries that is made or woken on this thread.
-    pub fn place(&self) -> Place<'x, R, F, A, B>
+    pub fn place(&self) -> Place<'x, R, F, A, B, M>
         ensures { result.1 ≡ self.now.worker.number }
     {
         (self.pool, self.worker.number())
@@ -112,7 +127,7 @@ impl<'x, R: Wait + Drop + Copy, F: Yields, A: Wake, B: Allocator + Copy> Turns<'
     }
 
     /// The next Runnable for this worker: its own, one that came from outside, or one of another worker. `None` where there is none, or only such as this worker leaves to another one that is about to run them. Run it; its drop cancels its task.
-    pub fn next(&mut self) -> Option<PoolRunnable<'x, R, F, A, B>>
+    pub fn next(&mut self) -> Option<PoolRunnable<'x, R, F, A, B, M>>
         ensures place { IfSome result (λ runnable. runnable.around.1 ≡ self.old.worker.number) }
     {
         let place = self.place();
@@ -123,7 +138,7 @@ impl<'x, R: Wait + Drop + Copy, F: Yields, A: Wake, B: Allocator + Copy> Turns<'
     /// Runs the task of the Runnable that `next` answers. False where that is `None`.
     pub fn tick(&mut self) -> bool
     where
-        F: Future<PoolWaker<'x, R, F, A, B>>,
+        F: Future<PoolWaker<'x, R, F, A, B, M>>,
     {
         run_if_any(self.next())
     }
@@ -145,7 +160,7 @@ impl<'x, R: Wait + Drop + Copy, F: Yields, A: Wake, B: Allocator + Copy> Turns<'
     }
 
     /// A turn but for the run of what it takes: wakes one task whose number was posted, and takes the next Runnable. At the first and each 64th turn, and where there is none, it frees what keys left. Where there is neither it searches and then sleeps, as `rest` says, if the bells counted no interruption since `interruptions`: so ask for them before the last look at what the loop waits for. Run what it answers.
-    pub fn take_turn(&mut self, interruptions: u64) -> Option<PoolRunnable<'x, R, F, A, B>>
+    pub fn take_turn(&mut self, interruptions: u64) -> Option<PoolRunnable<'x, R, F, A, B, M>>
         ensures place { IfSome result (λ runnable. runnable.around.1 ≡ self.old.worker.number) }
     {
         self.take_turn_for(interruptions, None)
@@ -156,7 +171,7 @@ impl<'x, R: Wait + Drop + Copy, F: Yields, A: Wake, B: Allocator + Copy> Turns<'
         &mut self,
         interruptions: u64,
         most: Option<Duration>,
-    ) -> Option<PoolRunnable<'x, R, F, A, B>>
+    ) -> Option<PoolRunnable<'x, R, F, A, B, M>>
         ensures place { IfSome result (λ runnable. runnable.around.1 ≡ self.old.worker.number) }
     {
         let place = self.place();
@@ -173,7 +188,7 @@ impl<'x, R: Wait + Drop + Copy, F: Yields, A: Wake, B: Allocator + Copy> Turns<'
     }
 
     /// The next Runnable for this worker, for which it searches and sleeps where `next` answers `None`. Run it. `None` once the pool is shut down, or has finished: then no Runnable is left that this worker can find.
-    pub fn await_next(&mut self) -> Option<PoolRunnable<'x, R, F, A, B>> {
+    pub fn await_next(&mut self) -> Option<PoolRunnable<'x, R, F, A, B, M>> {
         let pool = self.pool;
         let bells: &Bells = pool.bells();
         for _ in pool.rt.forever() {
@@ -183,8 +198,9 @@ impl<'x, R: Wait + Drop + Copy, F: Yields, A: Wake, B: Allocator + Copy> Turns<'
                 return None;
             }
             if pool.stage.is_finishing() {
-                if let Some(last) = self.take_last_turn() {
-                    return last;
+                match self.take_last_turn() {
+                    None if !pool.is_finished() => {}
+                    last => return last,
                 }
             } else if let Some(runnable) = self.take_turn(interruptions) {
                 return Some(runnable);
@@ -196,7 +212,7 @@ impl<'x, R: Wait + Drop + Copy, F: Yields, A: Wake, B: Allocator + Copy> Turns<'
     /// Is the worker until the pool is shut down, or has finished: runs each Runnable that `await_next` answers.
     pub fn work(&mut self)
     where
-        F: Future<PoolWaker<'x, R, F, A, B>>,
+        F: Future<PoolWaker<'x, R, F, A, B, M>>,
     {
         let pool = self.pool;
         for _ in pool.rt.forever() {
@@ -213,7 +229,7 @@ impl<'x, R: Wait + Drop + Copy, F: Yields, A: Wake, B: Allocator + Copy> Turns<'
         awaiter: &A,
     ) -> TaskPoll<Result<T::Output, TaskClosed>>
     where
-        F: Future<PoolWaker<'x, R, F, A, B>>,
+        F: Future<PoolWaker<'x, R, F, A, B, M>>,
         ensures { T.Awaited.answers task.old result task.new }
     {
         let pool = self.pool;
@@ -259,11 +275,16 @@ impl<'x, R: Wait + Drop + Copy, F: Yields, A: Wake, B: Allocator + Copy> Turns<'
 }
 
 // Runs the task of a Runnable, where there is one.
-pub(crate) fn run_if_any<'x, R: Wait + Drop + Copy, F: Yields, A: Wake, B: Allocator + Copy>(
-    runnable: Option<PoolRunnable<'x, R, F, A, B>>,
-) -> bool
+pub(crate) fn run_if_any<
+    'x,
+    R: Wait + Drop + Copy,
+    F: Yields,
+    A: Wake,
+    B: Allocator + Copy,
+    M: Drop,
+>(runnable: Option<PoolRunnable<'x, R, F, A, B, M>>) -> bool
 where
-    F: Future<PoolWaker<'x, R, F, A, B>>,
+    F: Future<PoolWaker<'x, R, F, A, B, M>>,
 {
     match runnable {
         Some(runnable) => {
@@ -274,7 +295,14 @@ where
     }
 }
 
-impl<'x, R: Wait + Drop + Copy, F: Yields, B: Allocator + Copy> Turns<'x, R, F, BellAwaiter<R>, B> {
+impl<'x, R: Wait + Drop + Copy, F: Yields, B: Allocator + Copy, M: Drop> Turns<
+    'x,
+    R,
+    F,
+    BellAwaiter<R>,
+    B,
+    M,
+> {
     /// Is the worker until the task of a Task or a Cancel is over, and sleeps where there is nothing to do. Other workers may run meanwhile, or none.
     ///
     /// Of a Cancel `Ok(None)` says that the future is gone. After `Refused` the task of a Cancel may not have been cancelled yet.
@@ -283,7 +311,7 @@ impl<'x, R: Wait + Drop + Copy, F: Yields, B: Allocator + Copy> Turns<'x, R, F, 
         task: &mut T,
     ) -> Result<T::Output, BlockOnError>
     where
-        F: Future<PoolWaker<'x, R, F, BellAwaiter<R>, B>>,
+        F: Future<PoolWaker<'x, R, F, BellAwaiter<R>, B, M>>,
         ensures { T.Awaited.answers task.old (answer_of result) task.new }
     {
         let Some(awaiter) = BellAwaiter::new(self.pool, self.worker.number()) else {

@@ -1,4 +1,4 @@
-//! The tests of the pool itself: its workers, `block_on`, its stores, what it keeps, the order of tasks, storms of wakes, its ends, what it is made with, refused memory, hostile use, and what is shown;
+//! The tests of the pool itself: its workers, `block_on`, its stores, what it keeps, the order of tasks, their metadata, storms of wakes, its ends, what it is made with, refused memory, hostile use, and what is shown;
 //! and of the queues below it: the search of a worker, memory that is refused, and which queue a worker looks at first.
 //! It stands on `executor`, `work_queues` and `awaiters`. Nothing is public. The page is docs/EXECUTOR_POOL.md, of the queues that of `work_queues`.
 #![tactic(auto)]
@@ -21,6 +21,8 @@ mod guest;
 mod hostile_tests;
 #[cfg(test)]
 mod kept_tests;
+#[cfg(test)]
+mod metadata_tests;
 #[cfg(test)]
 mod order_tests;
 #[cfg(test)]

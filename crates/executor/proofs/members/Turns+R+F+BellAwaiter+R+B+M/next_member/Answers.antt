@@ -1,12 +1,8 @@
-use Rattle.std.proofs.Common.{◌∙◌, refl}
 use Rattle.executor.proofs.LaterMembers.{next-later, refused-later}
-use Rattle.executor.proofs.members.Turns+R+F+BellAwaiter+R+B.next_member_until.Goals as goal
+use Rattle.executor.proofs.members.Turns+R+F+BellAwaiter+R+B+M.next_member.Goals as goal
 
 pub returns-in-Some-look-clause-leaves : goal.returns-in-Some-look-clause-leaves
 returns-in-Some-look-clause-leaves g c = next-later c.args.group.now.members c.loop.group.members c.look.new.group.members (λ ended. ended.number) _ c.in-Some-look.ensures.leaves c.loop.invariant.same
 
 pub returns-in-Some-look-clause-refused : goal.returns-in-Some-look-clause-refused
 returns-in-Some-look-clause-refused g c = refused-later c.args.group.now.members c.loop.group.members c.look.new.group.members _ c.in-Some-look.ensures.refused c.loop.invariant.same
-
-pub returns-then-is_zero-clause-refused : goal.returns-then-is_zero-clause-refused
-returns-then-is_zero-clause-refused g c number = c.in_default.ensures.stays refl number ∙ c.loop.invariant.same number

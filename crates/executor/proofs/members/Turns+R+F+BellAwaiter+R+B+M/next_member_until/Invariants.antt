@@ -1,7 +1,7 @@
 use Rattle.std.proofs.Common.{◌≡◌}
 use Rattle.slab.specs.Slab.{slab_len}
 use Rattle.task_group.specs.Members.{SameMembers}
-use Rattle.executor.proofs.members.Turns+R+F+BellAwaiter+R+B.next_member.Given as goal
+use Rattle.executor.proofs.members.Turns+R+F+BellAwaiter+R+B+M.next_member_until.Given as goal
 
 abbrev pub invariant-loop : goal.invariant-loop
 invariant-loop g l = record {

@@ -1,6 +1,6 @@
 use Rattle.std.proofs.Common.{arith, rules}
 use Rattle.executor.proofs.Counted.{appends-more, dropped-more}
-use Rattle.executor.proofs.pool.Pool.spawn_many.Goals as goal
+use Rattle.executor.proofs.spawning.Pool+R+F+A+B.spawn_many.Goals as goal
 
 pub loop-preserved : goal.loop-preserved
 loop-preserved g c =

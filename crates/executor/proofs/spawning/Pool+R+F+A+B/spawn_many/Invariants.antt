@@ -2,7 +2,7 @@ use Rattle.std.proofs.Common.{◌≡◌, ◌+◌, ◌≤◌, drop}
 use Rattle.std.specs.Prelude.{vec_len, vec_capacity}
 use Rattle.std.specs.VecDeque.{deque_len}
 use Rattle.executor.specs.Appends.{Appends}
-use Rattle.executor.proofs.pool.Pool.spawn_many.Given as goal
+use Rattle.executor.proofs.spawning.Pool+R+F+A+B.spawn_many.Given as goal
 
 abbrev pub invariant-loop : goal.invariant-loop
 invariant-loop g l = record {
