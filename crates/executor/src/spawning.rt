@@ -101,7 +101,7 @@ impl<R: Wait + Drop + Copy, F: Yields, A: Wake, B: Allocator + Copy> Pool<R, F, 
 
 /// Tasks with the metadata of a builder.
 impl<R: Wait + Drop + Copy, F: Yields, A: Wake, B: Allocator + Copy, M: Drop> Pool<R, F, A, B, M> {
-    /// Spawns a task with metadata from a thread that is no worker, and schedules it. `builder` has the metadata, as `Builder::new().metadata(priority)`, and `maker` makes the future of it. The Task and each Runnable of the task then show it by `metadata`.
+    /// Spawns a task with metadata from a thread that is no worker, and schedules it. `builder` has the metadata, as `Builder::new().metadata(priority)`, and `maker` makes the future of them. The Task and each Runnable of the task then show them by `metadata`.
     ///
     /// The maker is called once, after all memory was found. The queue is locked meanwhile, so the maker must neither call the pool nor wake a task of it. An error has builder and maker back, says why as that of `spawn` does, and the maker was not called.
     pub fn spawn_with<G: FnOnce(&M) -> F>(
