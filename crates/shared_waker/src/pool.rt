@@ -14,8 +14,8 @@ use std::sync::Wait;
 pub type PoolSharedWaker<R> = SharedWaker<R, BellAwaiter<R>>;
 
 // The first shared waker of a task. `None` says that memory was refused.
-fn first_of<'x, R: Wait + Drop + Copy, F: Yields, A: Wake, B: Allocator + Copy>(
-    place: Place<'x, R, F, A, B>,
+fn first_of<'x, R: Wait + Drop + Copy, F: Yields, A: Wake, B: Allocator + Copy, M: Drop>(
+    place: Place<'x, R, F, A, B, M>,
 ) -> Option<PoolSharedWaker<R>>
     ensures { IfSome result (λ shared. IsForKept (arc_value shared.seat).awaiter.wakes (arc_value place.entry.0.now.crew.bells) (arc_value place.entry.0.now.mail) (arc_value shared.seat).key.number) }
 {
@@ -25,8 +25,8 @@ fn first_of<'x, R: Wait + Drop + Copy, F: Yields, A: Wake, B: Allocator + Copy>(
 }
 
 // Makes the shared waker of a task where there is none.
-fn make_if_none<'x, R: Wait + Drop + Copy, F: Yields, A: Wake, B: Allocator + Copy>(
-    place: Place<'x, R, F, A, B>,
+fn make_if_none<'x, R: Wait + Drop + Copy, F: Yields, A: Wake, B: Allocator + Copy, M: Drop>(
+    place: Place<'x, R, F, A, B, M>,
     shared: &mut Option<PoolSharedWaker<R>>,
 )
     ensures made { IsNone shared.old → IfSome shared.new (λ it. IsForKept (arc_value it.seat).awaiter.wakes (arc_value place.entry.0.now.crew.bells) (arc_value place.entry.0.now.mail) (arc_value it.seat).key.number) }
@@ -37,8 +37,9 @@ fn make_if_none<'x, R: Wait + Drop + Copy, F: Yields, A: Wake, B: Allocator + Co
     }
 }
 
-impl<'x, R: Wait + Drop + Copy, F: Yields, A: Wake, B: Allocator + Copy> Share<PoolSharedWaker<R>>
-    for PoolWaker<'x, R, F, A, B> {
+impl<'x, R: Wait + Drop + Copy, F: Yields, A: Wake, B: Allocator + Copy, M: Drop> Share<
+    PoolSharedWaker<R>,
+> for PoolWaker<'x, R, F, A, B, M> {
     // It posts the number of its own key to the mail of the pool, and then rings the pool's bells.
     ghost made = { λ waker shared. IsForKept (arc_value shared.seat).awaiter.wakes (arc_value waker.around.0.now.crew.bells) (arc_value waker.around.0.now.mail) (arc_value shared.seat).key.number };
 
