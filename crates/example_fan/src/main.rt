@@ -5,7 +5,6 @@ ghost use Rattle.std.specs.Prelude.{⊤};
 
 use async_task::{Future, Poll, Wake, Yields};
 use executor::{BellAwaiter, Pool, PoolGroup};
-use std::alloc::AllocError;
 use std::ops::Range;
 use std::sync::Wait;
 use std::{io, thread};
@@ -52,7 +51,7 @@ impl<W: Wake> Future<W> for Sum {
 fn spawn_parts<'x, R: Wait + Drop + Copy>(
     pool: &'x Pool<R, Sum, BellAwaiter<R>>,
     failing: Option<u64>,
-) -> Result<PoolGroup<'x, R, Sum>, AllocError> {
+) -> io::Result<PoolGroup<'x, R, Sum>> {
     let mut group: PoolGroup<'x, R, Sum> = TaskGroup::new(pool.rt(), pool.alloc(), PARTS as usize)?;
     for part in 0..PARTS {
         let sum = Sum {
@@ -60,8 +59,7 @@ fn spawn_parts<'x, R: Wait + Drop + Copy>(
             sum: 0,
             fails: failing == Some(part),
         };
-        let task = pool.spawn(sum)?;
-        group.push(task).ok().ok_or(AllocError)?;
+        group.push(pool.spawn(sum)?)?;
     }
     Ok(group)
 }
