@@ -15,6 +15,7 @@ use crate::cancel::Cancel;
 use crate::fallible::FallibleTask;
 use crate::parked::ParkedTask;
 use std::alloc::{Allocator, Global};
+use std::io;
 use std::sync::Wait;
 use task_cell::{EndedCall, Kept, Party, Runnable, Share};
 use task_core::{Schedule, TaskPoll, Wake, Yields};
@@ -24,6 +25,12 @@ use thiserror::Error;
 #[derive(Clone, Copy, Debug, PartialEq, Eq, Error)]
 #[error("the task is closed")]
 pub struct TaskClosed;
+
+impl From<TaskClosed> for io::Error {
+    fn from(_error: TaskClosed) -> io::Error {
+        io::Error::other("the task is closed")
+    }
+}
 
 /// A share of a cell, and the party of its Task.
 pub(crate) struct TaskParty<R, F: Yields, Q, M, A, B: Allocator + Copy> {

@@ -4,7 +4,7 @@ ghost use Rattle.std.specs.Prelude.{⊤};
 use async_task::{Future, Poll, Yields};
 use awaiters::Awaiter;
 use bench_report::tally::Tally;
-use executor::{Key, Place, PoolWaker, keep_waker, place_for_waker, wake_kept};
+use executor::{Key, Place, PoolWaker, keep_new_waker, wake_kept};
 use std::alloc::{AllocError, Global};
 use std::sync::atomic::{AtomicU64, Ordering};
 use std::sync::{Arc, Wait};
@@ -125,15 +125,10 @@ impl<R: Wait + Drop + Copy> Job<R> {
 impl<R: Wait + Drop + Copy> Link<R> {
     // Keeps the waker, and answers whether the task waits now. Where there is no memory the pool is ended, and the task waits for nothing.
     fn parks<'x>(&mut self, waker: &JobWaker<'x, R>) -> bool {
-        let (pool, _) = waker.around();
-        let Some(key) = place_for_waker(waker.around()) else {
-            pool.shutdown();
+        let Some(key) = keep_new_waker(waker) else {
+            waker.around().0.shutdown();
             return true;
         };
-        if !keep_waker(waker, &key) {
-            pool.shutdown();
-            return true;
-        }
         let waits = self.row.waits(self.at, key.number());
         self.key = Some(key);
         waits

@@ -1,5 +1,4 @@
 //! What a pool refuses.
-use async_task::Builder;
 use std::alloc::{AllocError, AllocFailed};
 use std::{fmt, io};
 use thiserror::Error;
@@ -75,14 +74,14 @@ impl From<SpawnRefusal> for io::Error {
 /// A spawn was refused. No task was made.
 #[derive(Drop, Error)]
 #[error("{}", self.reason.words())]
-pub struct PoolSpawnError<F> {
-    /// The future that was not spawned.
-    pub future: F,
-    /// Why it was not.
+pub struct PoolSpawnError<T> {
+    /// What the spawn was given: the future, or the builder and the maker, which was not called.
+    pub given: T,
+    /// Why no task was made.
     pub reason: SpawnRefusal,
 }
 
-impl<F> fmt::Debug for PoolSpawnError<F> {
+impl<T> fmt::Debug for PoolSpawnError<T> {
     fn fmt<W: fmt::Write>(&self, f: &mut fmt::Formatter<W>) -> fmt::Result {
         f.debug_struct("PoolSpawnError")
             .field("reason", &self.reason)
@@ -91,47 +90,14 @@ impl<F> fmt::Debug for PoolSpawnError<F> {
 }
 
 /// The reason is lost: keep it where a pool may be stopped meanwhile.
-impl<F: Drop> From<PoolSpawnError<F>> for AllocError {
-    fn from(_error: PoolSpawnError<F>) -> AllocError {
+impl<T: Drop> From<PoolSpawnError<T>> for AllocError {
+    fn from(_error: PoolSpawnError<T>) -> AllocError {
         AllocError
     }
 }
 
-impl<F: Drop> From<PoolSpawnError<F>> for io::Error {
-    fn from(error: PoolSpawnError<F>) -> io::Error {
-        io::Error::from(error.reason)
-    }
-}
-
-/// A spawn by a builder was refused. No task was made, and the maker was not called.
-#[derive(Drop, Error)]
-#[error("{}", self.reason.words())]
-pub struct PoolBuilderError<M, G> {
-    /// The builder, with the metadata.
-    pub builder: Builder<M>,
-    /// What makes the future.
-    pub maker: G,
-    /// Why the task was not spawned.
-    pub reason: SpawnRefusal,
-}
-
-impl<M, G> fmt::Debug for PoolBuilderError<M, G> {
-    fn fmt<W: fmt::Write>(&self, f: &mut fmt::Formatter<W>) -> fmt::Result {
-        f.debug_struct("PoolBuilderError")
-            .field("reason", &self.reason)
-            .finish_non_exhaustive()
-    }
-}
-
-/// The reason is lost: keep it where a pool may be stopped meanwhile.
-impl<M: Drop, G: Drop> From<PoolBuilderError<M, G>> for AllocError {
-    fn from(_error: PoolBuilderError<M, G>) -> AllocError {
-        AllocError
-    }
-}
-
-impl<M: Drop, G: Drop> From<PoolBuilderError<M, G>> for io::Error {
-    fn from(error: PoolBuilderError<M, G>) -> io::Error {
+impl<T: Drop> From<PoolSpawnError<T>> for io::Error {
+    fn from(error: PoolSpawnError<T>) -> io::Error {
         io::Error::from(error.reason)
     }
 }

@@ -39,6 +39,28 @@ pub fn place_for_waker<'x, R: Wait + Drop + Copy, F: Yields, A: Wake, B: Allocat
     }
 }
 
+/// Takes a place as `place_for_waker` does, and keeps a clone of this waker there, as `keep_waker` does: for the first poll that waits, under one lock. `None` where there was no memory for it, or the clone was refused.
+pub fn keep_new_waker<'x, R: Wait + Drop + Copy, F: Yields, A: Wake, B: Allocator + Copy, M: Drop>(
+    waker: &PoolWaker<'x, R, F, A, B, M>,
+) -> Option<Key<R>> {
+    let place = waker.around();
+    let (pool, worker) = place;
+    let clone = waker.try_clone()?;
+    let kept = pool.wakers.reserve_with(pool.rt, worker, clone.stored());
+    let key = match kept {
+        Ok(key) => key,
+        Err(clone) => {
+            drop_waker(place, Some(clone));
+            return None;
+        }
+    };
+    pool.mail.make_room(key.number()).ok()?;
+    if pool.is_shut_down() {
+        wake_kept(place, key.number());
+    }
+    Some(key)
+}
+
 /// Keeps a clone of a waker at the place of a key, and drops what was there. False where the clone was refused, or the key is not one of
 /// `place_for_waker` of this pool: every place is as it was then. After a shutdown the waker is woken at once, which cancels its task.
 pub fn keep_waker<'x, R: Wait + Drop + Copy, F: Yields, A: Wake, B: Allocator + Copy, M: Drop>(

@@ -27,10 +27,10 @@ pub mod turns;
 
 pub use awaiters::BlockOnError;
 pub use bell_awaiter::BellAwaiter;
-pub use errors::{NextMemberError, PoolBuilderError, PoolSpawnError, SpawnRefusal, TurnsError};
+pub use errors::{NextMemberError, PoolSpawnError, SpawnRefusal, TurnsError};
 pub use kept::{
-    KeptTask, KeptWaker, await_kept, collect, keep_task, keep_waker, place_for_task,
-    place_for_waker, poll_kept, wake_kept, wake_posted,
+    KeptTask, KeptWaker, await_kept, collect, keep_new_waker, keep_task, keep_waker,
+    place_for_task, place_for_waker, poll_kept, wake_kept, wake_posted,
 };
 pub use kept_group::KeptGroup;
 pub use members::PoolGroup;

@@ -4,7 +4,7 @@ ghost use Rattle.std.specs.Fn.{FnOnceReturnsAt};
 ghost use Rattle.work_queues.specs.Rooms.{HasRoom};
 ghost use Rattle.executor.specs.Appends.{Appends};
 
-use crate::errors::{PoolBuilderError, PoolSpawnError, SpawnRefusal};
+use crate::errors::{PoolSpawnError, SpawnRefusal};
 use crate::pool::{Pool, PoolTask, Queued, ToPool};
 use async_task::{Builder, Wake, Yields, spawn};
 use std::alloc::Allocator;
@@ -16,7 +16,7 @@ use work_queues::board::Reserved;
 impl<R: Wait + Drop + Copy, F: Yields, A: Wake, B: Allocator + Copy> Pool<R, F, A, B> {
     /// Spawns a task from a thread that is no worker, and schedules it. An error has the future back, and says why: there was no memory for the task or for its place in the queue, or the pool takes no more tasks. After `Ok` its Runnable was queued.
     pub fn spawn(&self, future: F) -> Result<PoolTask<'_, R, F, A, B>, PoolSpawnError<F>>
-        ensures refused { IfErr result (λ error. error.future ≡ future) }
+        ensures refused { IfErr result (λ error. error.given ≡ future) }
     {
         self.spawn_on(self.crew.workers(), future)
     }
@@ -28,11 +28,14 @@ impl<R: Wait + Drop + Copy, F: Yields, A: Wake, B: Allocator + Copy> Pool<R, F, 
         future: F,
     ) -> Result<PoolTask<'_, R, F, A, B>, PoolSpawnError<F>>
         ensures place { IfOk result (λ task. task.around.1 ≡ worker) }
-        ensures refused { IfErr result (λ error. error.future ≡ future) }
+        ensures refused { IfErr result (λ error. error.given ≡ future) }
     {
         let reserved = match self.reserve(worker) {
             Ok(reserved) => reserved,
-            Err(reason) => return Err(PoolSpawnError { future, reason }),
+            Err(reason) => return Err(PoolSpawnError {
+                given: future,
+                reason,
+            }),
         };
         match spawn(self.rt, self.alloc, future, ToPool, (self, worker)) {
             Ok((runnable, task)) => {
@@ -42,7 +45,7 @@ impl<R: Wait + Drop + Copy, F: Yields, A: Wake, B: Allocator + Copy> Pool<R, F, 
             Err(refused) => {
                 self.crew.release(reserved);
                 Err(PoolSpawnError {
-                    future: refused.maker,
+                    given: refused.maker,
                     reason: SpawnRefusal::NoMemory,
                 })
             }
@@ -91,8 +94,8 @@ impl<R: Wait + Drop + Copy, F: Yields, A: Wake, B: Allocator + Copy> Pool<R, F, 
                 tasks.push_reserved(task);
                 None
             }
-            Err(PoolSpawnError { future, reason }) => {
-                futures.push_front_reserved(future);
+            Err(PoolSpawnError { given, reason }) => {
+                futures.push_front_reserved(given);
                 Some(reason)
             }
         }
@@ -108,11 +111,11 @@ impl<R: Wait + Drop + Copy, F: Yields, A: Wake, B: Allocator + Copy, M: Drop> Po
         &self,
         builder: Builder<M>,
         maker: G,
-    ) -> Result<PoolTask<'_, R, F, A, B, M>, PoolBuilderError<M, G>>
+    ) -> Result<PoolTask<'_, R, F, A, B, M>, PoolSpawnError<(Builder<M>, G)>>
         requires { G.IsAlwaysCallable maker }
         ensures metadata { IfOk result (λ task. task.inner.share.block.value.metadata ≡ builder.metadata) }
         ensures made { IfOk result (λ _. (future : F) × FnOnceReturnsAt G.FnOnce maker builder.metadata future) }
-        ensures refused { IfErr result (λ error. (error.builder ≡ builder) × (error.maker ≡ maker)) }
+        ensures refused { IfErr result (λ error. (error.given.0 ≡ builder) × (error.given.1 ≡ maker)) }
     {
         self.spawn_on_with(self.crew.workers(), builder, maker)
     }
@@ -123,19 +126,18 @@ impl<R: Wait + Drop + Copy, F: Yields, A: Wake, B: Allocator + Copy, M: Drop> Po
         worker: usize,
         builder: Builder<M>,
         maker: G,
-    ) -> Result<PoolTask<'_, R, F, A, B, M>, PoolBuilderError<M, G>>
+    ) -> Result<PoolTask<'_, R, F, A, B, M>, PoolSpawnError<(Builder<M>, G)>>
         requires { G.IsAlwaysCallable maker }
         ensures place { IfOk result (λ task. task.around.1 ≡ worker) }
         ensures metadata { IfOk result (λ task. task.inner.share.block.value.metadata ≡ builder.metadata) }
         ensures made { IfOk result (λ _. (future : F) × FnOnceReturnsAt G.FnOnce maker builder.metadata future) }
-        ensures refused { IfErr result (λ error. (error.builder ≡ builder) × (error.maker ≡ maker)) }
+        ensures refused { IfErr result (λ error. (error.given.0 ≡ builder) × (error.given.1 ≡ maker)) }
     {
         let reserved = match self.reserve(worker) {
             Ok(reserved) => reserved,
             Err(reason) => {
-                return Err(PoolBuilderError {
-                    builder,
-                    maker,
+                return Err(PoolSpawnError {
+                    given: (builder, maker),
                     reason,
                 });
             }
@@ -147,9 +149,8 @@ impl<R: Wait + Drop + Copy, F: Yields, A: Wake, B: Allocator + Copy, M: Drop> Po
             }
             Err(refused) => {
                 self.crew.release(reserved);
-                Err(PoolBuilderError {
-                    builder: refused.builder,
-                    maker: refused.maker,
+                Err(PoolSpawnError {
+                    given: (refused.builder, refused.maker),
                     reason: SpawnRefusal::NoMemory,
                 })
             }

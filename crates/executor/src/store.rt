@@ -96,15 +96,20 @@ impl<H: Drop> Part<H> {
         })
     }
 
-    // Takes an empty slot. `None` where there was no memory for it.
-    fn reserve<R: Wait>(&self, rt: &R) -> Option<usize> {
+    // Takes a slot, with this in it. An error has it back: there was no memory.
+    fn insert<R: Wait>(&self, rt: &R, handle: Option<H>) -> Result<usize, Option<H>>
+        ensures refused { IfErr result (λ back. back ≡ handle) }
+    {
         let mut places = self.places.lock(rt);
-        let slot = places.insert(None).ok()?;
-        if self.returned.slots.make_room(rt, slot).is_err() {
-            places.try_remove(slot);
-            return None;
+        if self
+            .returned
+            .slots
+            .make_room(rt, places.vacant_key())
+            .is_err()
+        {
+            return Err(handle);
         }
-        Some(slot)
+        places.insert(handle).map_err(|failed| failed.value)
     }
 
     // Whether a key is of this part: whether the count of its part, which grows here, is that of this one. The caller has the lock of the places:
@@ -163,15 +168,49 @@ impl<H: Drop> Store<H> {
     ///
     /// `worker` is the number of the calling thread, which may be any: threads whose numbers leave different remainders by 8 do not wait for one another.
     pub fn reserve<R: Wait + Drop + Copy>(&self, rt: R, worker: usize) -> Option<Key<R>> {
+        self.insert(rt, worker, None).ok()
+    }
+
+    /// Takes a place as `reserve` does, with this handle in it, under one lock. An error has the handle back.
+    pub fn reserve_with<R: Wait + Drop + Copy>(
+        &self,
+        rt: R,
+        worker: usize,
+        handle: H,
+    ) -> Result<Key<R>, H>
+        ensures refused { IfErr result (λ back. back ≡ handle) }
+    {
+        match self.insert(rt, worker, Some(handle)) {
+            Ok(key) => Ok(key),
+            Err(Some(handle)) => Err(handle),
+            Err(None) => unreachable!(),
+        }
+    }
+
+    // Takes a place, with this in it. An error has it back: there was no memory.
+    fn insert<R: Wait + Drop + Copy>(
+        &self,
+        rt: R,
+        worker: usize,
+        handle: Option<H>,
+    ) -> Result<Key<R>, Option<H>>
+        ensures refused { IfErr result (λ back. back ≡ handle) }
+    {
         let at = part_of(worker);
-        let part = self.parts.get(at)?;
-        let returned = Arc::try_clone(&part.returned).ok()?;
-        let number = number_of(at, part.reserve(&rt)?);
-        Some(Key {
-            rt,
-            returned,
-            number,
-        })
+        let Some(part) = self.parts.get(at) else {
+            return Err(handle);
+        };
+        let Ok(returned) = Arc::try_clone(&part.returned) else {
+            return Err(handle);
+        };
+        match part.insert(&rt, handle) {
+            Ok(slot) => Ok(Key {
+                rt,
+                returned,
+                number: number_of(at, slot),
+            }),
+            Err(handle) => Err(handle),
+        }
     }
 
     /// Puts a handle into the place of a key, and answers the handle that was there. `Err` has this one back, where the key is of another store; then

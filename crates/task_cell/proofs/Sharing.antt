@@ -8,9 +8,9 @@ use Rattle.task_cell.specs.declared.cell.block.Share.{Share}
 use Rattle.task_cell.specs.declared.cell.block.MaybeShare.{MaybeShare}
 use Rattle.task_cell.specs.Belongs.{Leaves, cell_of, limit_in}
 use Rattle.std.proofs.lemmas.Bool.Decides.{nat_tests}
-use Rattle.task_steps.specs.declared.words.Cancelled.TheVariants.{Idle as FoundIdle}
-use Rattle.task_steps.specs.declared.words.Detached.TheVariants as detached
-use Rattle.task_steps.specs.declared.words.Dropped.TheVariants as dropped
+use Rattle.task_steps.specs.declared.task.Cancelled.TheVariants.{Idle as FoundIdle}
+use Rattle.task_steps.specs.declared.task.Detached.TheVariants as detached
+use Rattle.task_steps.specs.declared.waker.Dropped.TheVariants as dropped
 use Rattle.task_steps.specs.Shares.{brings_runnable, ends_run, ends_task}
 use Rattle.task_cell.specs.RunCalls.{keeps_share}
 use Rattle.task_cell.specs.TaskPaths.{brings_share, keeps_task}

@@ -6,8 +6,8 @@ use Rattle.task_cell.proofs.Vocabulary.{Unclaimed, has_work, output_first, Carri
 use Rattle.task_cell.proofs.Vocabulary.{woken, TakesDue, Wakes, Notice, not_due, found_none, woke, Cancels, Detaches, GivesTaskUp, closed_by, given_up_by, both, over, busy_fits, none_left, output_left}
 use Rattle.task_cell.proofs.Vocabulary.{closed_claimed, idle_cancel, finds_over, cancels, detaches, is_over, MayTry, HasChanged, HasEnded, never_ends, is_some, after_taking}
 use Rattle.std.proofs.lemmas.Bool.Decides.{nat_tests}
-use Rattle.task_steps.specs.declared.words.Cancelled.TheVariants.{Idle}
-use Rattle.task_steps.specs.declared.words.Detached.TheVariants.{Shared, Last, Orphaned}
+use Rattle.task_steps.specs.declared.task.Cancelled.TheVariants.{Idle}
+use Rattle.task_steps.specs.declared.task.Detached.TheVariants.{Shared, Last, Orphaned}
 use Rattle.task_cell.specs.RunPaths.{not_due as none_due, missed as miss}
 use Rattle.task_steps.specs.TaskScripts.{cancelling, detaching, giving_task_up, finding_cancelled, cancelled, cancelled_word, detached}
 use Rattle.task_cell.specs.TaskPaths.{missed}

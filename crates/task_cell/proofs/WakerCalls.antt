@@ -1,7 +1,7 @@
 -- A waker's drop, put together from its steps.
 use Rattle.task_cell.proofs.Vocabulary.{false, List, [], ◌∷◌, ◌++◌, State, Nothing, Deliverer, OrphanHolder, ThenEnds, DropWaker, DropLastWaker, OrphanTask, CloseOrphan, EmptySlots}
 use Rattle.task_cell.proofs.Vocabulary.{EndCall, HandOver, Deed, Party, Shared, Last, Did, row, act, as_ended, WakerDropPath, leaves_others, leaves_none, leaves_orphan, DropsWaker}
-use Rattle.task_steps.specs.declared.words.Dropped.TheVariants.{Orphaned}
+use Rattle.task_steps.specs.declared.waker.Dropped.TheVariants.{Orphaned}
 use Rattle.task_cell.proofs.Moved.{did_then}
 use Rattle.task_cell.proofs.TaskCalls.{Empties, empties}
 

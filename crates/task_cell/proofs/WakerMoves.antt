@@ -8,7 +8,7 @@ use Rattle.task_cell.proofs.Vocabulary.{dropping_waker, closing_orphan, is_gaine
 use Rattle.task_cell.proofs.Vocabulary.{makes_none, makes_one, DropsWaker, dropped_by, gains, not_true}
 use Rattle.task_core.specs.Rows.{found, row as row_of}
 use Rattle.task_steps.proofs.WakerOwed.{scheduled_fits}
-use Rattle.task_steps.specs.declared.words.Dropped.TheVariants.{Orphaned}
+use Rattle.task_steps.specs.declared.waker.Dropped.TheVariants.{Orphaned}
 use Rattle.task_steps.specs.Beside.{without_newest, newest}
 use Rattle.task_cell.specs.WakerPaths.{is_idle, GainPath, TaskWakePath}
 use Rattle.task_steps.specs.Seats.{is_spent}

@@ -18,8 +18,8 @@ use Rattle.task_laws.specs.Table.{after_giving_up, notifies, after_taking, after
 use Rattle.task_steps.specs.declared.table.Slot.{Slot}
 use Rattle.task_steps.specs.declared.table.Deed.{Deed}
 use Rattle.task_cell.specs.declared.cell.Party.{Party}
-use Rattle.task_steps.specs.declared.words.PendingEnd.{PendingEnd}
-use Rattle.task_steps.specs.declared.words.PendingEnd.TheVariants.{Rescheduled, Idle, Orphaned}
+use Rattle.task_steps.specs.declared.run.PendingEnd.{PendingEnd}
+use Rattle.task_steps.specs.declared.run.PendingEnd.TheVariants.{Rescheduled, Idle, Orphaned}
 use Rattle.task_steps.specs.Steps.{output_first}
 use Rattle.task_cell.specs.Calls.{Fits, Stands, Did, DidWith}
 use Rattle.task_steps.specs.Deeds.{row, act}

@@ -12,10 +12,10 @@ use Rattle.task_core.specs.declared.acts.Act.TheVariants.{TakeAwaiter, EndNotify
 use Rattle.task_steps.specs.declared.table.Slot.{Slot}
 use Rattle.task_steps.specs.declared.table.Deed.{Deed}
 use Rattle.task_cell.specs.declared.cell.Party.{Party}
-use Rattle.task_steps.specs.declared.words.Cancelled.{Cancelled}
-use Rattle.task_steps.specs.declared.words.Cancelled.TheVariants.{Busy, Idle}
-use Rattle.task_steps.specs.declared.words.Detached.{Detached}
-use Rattle.task_steps.specs.declared.words.Detached.TheVariants.{Unclaimed, Shared, Last, Orphaned}
+use Rattle.task_steps.specs.declared.task.Cancelled.{Cancelled}
+use Rattle.task_steps.specs.declared.task.Cancelled.TheVariants.{Busy, Idle}
+use Rattle.task_steps.specs.declared.task.Detached.{Detached}
+use Rattle.task_steps.specs.declared.task.Detached.TheVariants.{Unclaimed, Shared, Last, Orphaned}
 use Rattle.task_steps.specs.Rule.{IsOutput}
 use Rattle.task_steps.specs.Steps.{output_first}
 use Rattle.task_cell.specs.Calls.{Fits, DidWith, Did}

@@ -160,7 +160,6 @@ pub use waker::TaskWaker;
 mod attempt;
 mod awaiter;
 pub(crate) mod block;
-mod borrowed;
 mod cancel;
 mod claim;
 mod deliver;

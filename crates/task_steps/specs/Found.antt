@@ -3,14 +3,14 @@ use Rattle.std.specs.Prelude.{if◌then◌else◌}
 use Rattle.task_core.specs.Word.{State, is_open}
 use Rattle.task_core.specs.Rows.{found}
 use Rattle.task_core.specs.declared.acts.Act.TheVariants.{CancelIdle, Detach, DetachLast, DetachOrphan}
-use Rattle.task_steps.specs.declared.words.Cancelled.{Cancelled}
-use Rattle.task_steps.specs.declared.words.Cancelled.TheVariants.{Busy, Idle}
-use Rattle.task_steps.specs.declared.words.Detached.{Detached}
-use Rattle.task_steps.specs.declared.words.Detached.TheVariants.{Unclaimed, Shared, Last, Orphaned}
-use Rattle.task_steps.specs.declared.words.Dropped.{Dropped}
-use Rattle.task_steps.specs.declared.words.Dropped.TheVariants.{Shared as DropsShared, Last as DropsLast, Orphaned as DropsOrphaned}
-use Rattle.task_steps.specs.declared.words.PendingEnd.{PendingEnd}
-use Rattle.task_steps.specs.declared.words.PendingEnd.TheVariants.{Rescheduled, Idle as EndsIdle, Orphaned as EndsOrphaned}
+use Rattle.task_steps.specs.declared.task.Cancelled.{Cancelled}
+use Rattle.task_steps.specs.declared.task.Cancelled.TheVariants.{Busy, Idle}
+use Rattle.task_steps.specs.declared.task.Detached.{Detached}
+use Rattle.task_steps.specs.declared.task.Detached.TheVariants.{Unclaimed, Shared, Last, Orphaned}
+use Rattle.task_steps.specs.declared.waker.Dropped.{Dropped}
+use Rattle.task_steps.specs.declared.waker.Dropped.TheVariants.{Shared as DropsShared, Last as DropsLast, Orphaned as DropsOrphaned}
+use Rattle.task_steps.specs.declared.run.PendingEnd.{PendingEnd}
+use Rattle.task_steps.specs.declared.run.PendingEnd.TheVariants.{Rescheduled, Idle as EndsIdle, Orphaned as EndsOrphaned}
 use Rattle.task_steps.specs.WakerScripts.{others_left}
 
 -- what a cancel found that wrote on this word

@@ -16,7 +16,6 @@ pub mod start;
 pub mod table;
 pub mod task;
 pub mod waker;
-pub mod words;
 
 ghost use Rattle.task_steps.specs.Left.{EmptyAtEnd};
 

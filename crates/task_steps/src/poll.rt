@@ -1,13 +1,12 @@
 //! Steps of a poll of the Task.
-ghost use Rattle.std.specs.Prelude.{not};
+ghost use Rattle.std.specs.Prelude.{◌≡◌, not};
 ghost use Rattle.task_core.specs.Rows.{row};
 ghost use Rattle.task_core.specs.declared.acts.Act.TheVariants.{BeginRegister, EndRegister, ClaimOutput};
-ghost use Rattle.task_steps.specs.PollScripts.{has_output, looking, looking_again, claiming, claiming_again, handing_out, refusing, finding_notifier, beginning_register, ending_register, taking_back, ending_notified};
+ghost use Rattle.task_steps.specs.PollScripts.{has_output, has_ended, has_to_wait, looking, looking_again, claiming, claiming_again, handing_out, refusing, finding_notifier, beginning_register, ending_register, taking_back, ending_notified};
 ghost use Rattle.task_steps.specs.Shares.{never};
 
 use crate::attempt::Change;
 use crate::script::Script;
-use crate::words::has_output;
 use task_core::acts::Act::{BeginRegister, ClaimOutput, EndRegister};
 use task_core::word::Word;
 
@@ -130,4 +129,29 @@ pub struct EndingNotified;
 
 impl Script for EndingNotified {
     ghost acts = { ending_notified };
+}
+
+/// The output is there, and nobody has taken it.
+pub fn has_output(word: Word) -> bool
+    ensures { result ≡ has_output word }
+{
+    word.fits(0, ClaimOutput)
+}
+
+/// The task is closed, and no Runnable or run holds the future.
+pub fn has_ended(word: Word) -> bool
+    ensures { result ≡ has_ended word }
+{
+    word.closed() && !(word.scheduled() || word.running())
+}
+
+/// A poll that has registered waits on.
+pub fn has_to_wait(word: Word) -> bool
+    ensures { result ≡ has_to_wait word }
+{
+    if word.closed() {
+        word.scheduled() || word.running()
+    } else {
+        !word.completed()
+    }
 }

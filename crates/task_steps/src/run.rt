@@ -1,12 +1,15 @@
 //! Steps of a run and of a Runnable's drop.
-ghost use Rattle.std.specs.Prelude.{Some, None, false, [], if◌then◌else◌};
+ghost use Rattle.std.specs.Prelude.{◌≡◌, ◌&&◌, not, Some, None, false, [], if◌then◌else◌};
+ghost use Rattle.task_steps.specs.Found.{ending_of};
 ghost use Rattle.task_steps.specs.WakerScripts.{others_left};
 ghost use Rattle.task_steps.specs.RunScripts.{unscheduling, giving_up, emptying, discarding, answering_ready, completing, answering_pending, ending_pending, finding_closed, ending_closed, completed_word, after_pending};
 ghost use Rattle.task_steps.specs.Shares.{ends_run, never};
 
 use crate::attempt::Change;
 use crate::script::{Giving, Script};
-use crate::words::{completed, ended};
+use task_core::acts::Act::{
+    Complete, CompleteDetached, EndIdle, EndOrphaned, GiveUpReference, Reschedule,
+};
 use task_core::word::Word;
 
 /// SCHEDULED is cleared, after the future was dropped.
@@ -64,7 +67,10 @@ impl Change for Completing {
 
     fn next(word: Word, limit: u64) -> Option<Word> {
         let _ = limit;
-        Some(completed(word))
+        if word.fits(0, Complete) {
+            return Some(word.written(Complete));
+        }
+        Some(word.written(CompleteDetached))
     }
 
     fn is_end(word: Word, limit: u64) -> bool {
@@ -99,7 +105,13 @@ impl Change for EndingPending {
         if word.closed() {
             return None;
         }
-        Some(ended(word))
+        if word.scheduled() {
+            return Some(word.written(Reschedule));
+        }
+        if word.fits(0, GiveUpReference) {
+            return Some(word.written(EndIdle));
+        }
+        Some(word.written(EndOrphaned))
     }
 
     fn is_end(word: Word, limit: u64) -> bool {
@@ -113,4 +125,34 @@ pub struct EndingClosed;
 
 impl Script for EndingClosed {
     ghost acts = { ending_closed };
+}
+
+/// How a run of an open task ends whose poll answered Pending.
+pub enum PendingEnd {
+    /// The task was woken meanwhile: the run's Runnable is to be handed over.
+    Rescheduled,
+    /// The task waits for a wake, and the call has ended.
+    Idle,
+    /// No handle is left: a closing Runnable is to be handed over.
+    Orphaned,
+}
+
+/// How a run ends that finds this word, of an open task.
+pub fn pending_end(word: Word) -> PendingEnd
+    ensures { result ≡ ending_of word }
+{
+    if word.scheduled() {
+        PendingEnd::Rescheduled
+    } else if word.fits(0, GiveUpReference) {
+        PendingEnd::Idle
+    } else {
+        PendingEnd::Orphaned
+    }
+}
+
+/// Whether somebody may claim the output of a run that finds this word.
+pub fn keeps_output(found: Word) -> bool
+    ensures { result ≡ (found.task && not found.closed) }
+{
+    found.task() && !found.closed()
 }

@@ -1,4 +1,7 @@
 //! Steps by which a waker is gained, wakes and is dropped.
+ghost use Rattle.std.specs.Prelude.{◌≡◌, not};
+ghost use Rattle.task_laws.specs.Table.{is_held as has_handle};
+ghost use Rattle.task_steps.specs.Found.{dropped_by};
 ghost use Rattle.task_steps.specs.WakerScripts.{gaining, gained_word, at_limit, finding_limit, is_over, finding_over, waking_task, woken_if_held, others_left, dropping_waker, closing_orphan};
 ghost use Rattle.task_steps.specs.Beside.{borrowing, without_newest, newest};
 ghost use Rattle.task_steps.specs.Shares.{always, brings_runnable};
@@ -6,9 +9,10 @@ ghost use Rattle.task_steps.specs.Shares.{always, brings_runnable};
 use crate::attempt::Change;
 use crate::script::{Giving, Script};
 use crate::table::{Slot, View};
-use crate::words::{is_held, woken};
 use atomic_table::{Play, Split};
-use task_core::acts::Act::GainReference;
+use task_core::acts::Act::{
+    DropWaker, GainReference, GiveUpReference, WakeIdle, WakeRunning, WakeScheduled,
+};
 use task_core::word::Word;
 
 /// Who has a waker by reference gets a party of its own, by a seat of its own.
@@ -60,7 +64,16 @@ impl Change for WakingTask {
 
     fn next(word: Word, limit: u64) -> Option<Word> {
         let _ = limit;
-        if is_held(word) { woken(word) } else { None }
+        if !is_held(word) || word.is_over() {
+            return None;
+        }
+        if word.fits(0, WakeScheduled) {
+            return Some(word);
+        }
+        if word.fits(0, WakeRunning) {
+            return Some(word.written(WakeRunning));
+        }
+        Some(word.written(WakeIdle))
     }
 
     fn is_end(word: Word, limit: u64) -> bool {
@@ -94,4 +107,41 @@ impl Split<View> for Parting {
     ghost left = { without_newest };
 
     ghost right = { newest };
+}
+
+/// Whether the task has a handle: its Task, or one that holds a reference.
+pub fn is_held(word: Word) -> bool
+    ensures { result ≡ has_handle word }
+{
+    word.task() || word.references() > 0
+}
+
+/// What a waker's drop found.
+pub enum Dropped {
+    /// Other handles were left.
+    Shared,
+    /// No other handle was left, and the task was over.
+    Last,
+    /// No other handle was left, and the task was open.
+    Orphaned,
+}
+
+/// What the drop found that took its reference off this word.
+pub fn dropped_as(word: Word) -> Dropped
+    ensures { result ≡ dropped_by word }
+{
+    if word.fits(0, DropWaker) {
+        Dropped::Shared
+    } else if word.is_open() {
+        Dropped::Orphaned
+    } else {
+        Dropped::Last
+    }
+}
+
+/// Whether the party that took its reference off this word had the last handle.
+pub fn is_last(word: Word) -> bool
+    ensures { result ≡ not (others_left word) }
+{
+    !word.fits(0, GiveUpReference)
 }

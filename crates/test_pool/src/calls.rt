@@ -54,8 +54,8 @@ pub fn refusal_of_spawn<R: Wait + Abort + Drop + Copy>(
     let guest = granted(&pool.rt(), Guest::new(Errand::GiveWay(7), guests));
     match pool.spawn_on(worker, guest) {
         Ok(_) => None,
-        Err(PoolSpawnError { future, reason }) => {
-            (future.errand == Errand::GiveWay(7)).then_some(reason)
+        Err(PoolSpawnError { given, reason }) => {
+            (given.errand == Errand::GiveWay(7)).then_some(reason)
         }
     }
 }

@@ -4,7 +4,7 @@ ghost use Rattle.std.specs.Prelude.{⊤};
 use crate::granted::granted;
 use async_task::{Builder, Future, Poll, TaskPoll, Yields};
 use awaiters::Nobody;
-use executor::{Pool, PoolTask, SpawnRefusal, Turns};
+use executor::{Pool, PoolSpawnError, PoolTask, SpawnRefusal, Turns};
 use std::alloc::Global;
 use std::process::Abort;
 use std::sync::Wait;
@@ -107,11 +107,10 @@ fn spawn_elsewhere<R: Wait + Abort + Drop + Copy>(
 ) -> Option<(SpawnRefusal, u64)> {
     let builder = Builder::new().metadata(number);
     let maker = |number: &u64| Numbered { number: *number };
-    let Err(refused) = pool.spawn_with(builder, maker) else {
+    let Err(PoolSpawnError { given, reason }) = pool.spawn_with(builder, maker) else {
         return None;
     };
-    let reason = refused.reason;
-    let spawned = other.spawn_with(refused.builder, refused.maker);
+    let spawned = other.spawn_with(given.0, given.1);
     let task = granted(&other.rt(), spawned);
     let shown = *task.metadata();
     drop(task);

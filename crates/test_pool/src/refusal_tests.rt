@@ -95,8 +95,8 @@ fn refusal_of<R: Wait + Abort + Drop + Copy>(
     let guests = granted(&pool.rt(), Arc::try_clone(guests));
     match pool.spawn_on(0, Prompt { guests }) {
         Ok(_) => None,
-        Err(PoolSpawnError { future, reason }) => {
-            (Arc::strong_count(&future.guests).saturating_sub(before) == 1).then_some(reason)
+        Err(PoolSpawnError { given, reason }) => {
+            (Arc::strong_count(&given.guests).saturating_sub(before) == 1).then_some(reason)
         }
     }
 }

@@ -88,7 +88,7 @@ fn refused_spawn<R: Wait + Abort + Drop + Copy>(
 ) -> (String, [String; 2]) {
     let guests = new_guests(&rt, alloc, 1);
     let error = PoolSpawnError {
-        future: granted(&rt, Guest::new(Errand::Stay, &guests)),
+        given: granted(&rt, Guest::new(Errand::Stay, &guests)),
         reason,
     };
     (shown(&rt, alloc, &error), told(&rt, alloc, error))

@@ -5,8 +5,7 @@ use crate::granted::granted;
 use async_task::{Future, Poll, TaskPoll, Yields};
 use awaiters::Nobody;
 use executor::{
-    Key, Pool, PoolTask, PoolWaker, keep_task, keep_waker, place_for_task, place_for_waker,
-    poll_kept, wake_kept,
+    Key, Pool, PoolTask, PoolWaker, keep_new_waker, keep_task, place_for_task, poll_kept, wake_kept,
 };
 use std::alloc::{AllocError, Global};
 use std::process::Abort;
@@ -230,12 +229,10 @@ impl<'x, R: Wait + Drop + Copy> Future<PoolWaker<'x, R, Waits<R>, Nobody>> for W
             pool.shutdown();
             return Poll::Ready(7);
         }
-        self.key = place_for_waker(waker.around());
+        self.key = keep_new_waker(waker);
         if let Some(key) = &self.key {
-            if keep_waker(waker, key) {
-                self.number
-                    .store((key.number() as u64).wrapping_add(1), Ordering::SeqCst);
-            }
+            self.number
+                .store((key.number() as u64).wrapping_add(1), Ordering::SeqCst);
         }
         Poll::Pending
     }

@@ -4,9 +4,7 @@ ghost use Rattle.std.specs.Prelude.{⊤};
 use crate::granted::granted;
 use async_task::{Future, Poll, Yields};
 use awaiters::Nobody;
-use executor::{
-    Key, Pool, PoolWaker, Turns, collect, keep_task, keep_waker, place_for_task, place_for_waker,
-};
+use executor::{Key, Pool, PoolWaker, Turns, collect, keep_new_waker, keep_task, place_for_task};
 use std::alloc::{AllocError, Global};
 use std::process::Abort;
 use std::sync::atomic::{AtomicU64, Ordering};
@@ -52,7 +50,7 @@ impl<'x, R: Wait + Drop + Copy> Future<PoolWaker<'x, R, Member<R>, Nobody>> for 
 
     fn poll(&mut self, waker: &PoolWaker<'x, R, Member<R>, Nobody>) -> Poll<u64> {
         for _ in 0..self.wakers {
-            if let Some(key) = kept_waker(waker) {
+            if let Some(key) = keep_new_waker(waker) {
                 drop(self.keys.push(key));
             }
         }
@@ -80,14 +78,6 @@ fn member_of<R: Wait + Drop + Copy>(
             dropped: Arc::try_clone(dropped)?,
         },
     })
-}
-
-// The key of a place with a clone of this waker.
-fn kept_waker<'x, R: Wait + Drop + Copy>(
-    waker: &PoolWaker<'x, R, Member<R>, Nobody>,
-) -> Option<Key<R>> {
-    let key = place_for_waker(waker.around())?;
-    keep_waker(waker, &key).then_some(key)
 }
 
 // Spawns a child, and keeps its Task at the place of a key: whether it was kept.

@@ -16,8 +16,7 @@ use std::alloc::Allocator;
 use std::sync::Wait;
 use task_core::{Schedule, Wake, Yields};
 use task_steps::table::Kept;
-use task_steps::task::Cancelling;
-use task_steps::words::{Cancelled, closed_as};
+use task_steps::task::{Cancelled, Cancelling, closed_as};
 
 impl<R: Wait + Drop + Copy, F: Yields, Q: Drop, M: Drop, A: Wake, B: Allocator + Copy> Share<
     R,

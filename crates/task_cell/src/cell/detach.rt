@@ -20,8 +20,7 @@ use task_core::word::TASK;
 use task_core::{Schedule, Wake, Yields};
 use task_steps::common::DroppingOutput;
 use task_steps::table::Kept;
-use task_steps::task::{Detaching, GivingTaskUp};
-use task_steps::words::{Detached, given_up_as};
+use task_steps::task::{Detached, Detaching, GivingTaskUp, given_up_as};
 
 impl<R: Wait + Drop + Copy, F: Yields, Q: Drop, M: Drop, A: Drop, B: Allocator + Copy> Share<
     R,

@@ -18,8 +18,7 @@ use task_core::word::{CLOSED, REFERENCE, SCHEDULED};
 use task_core::{Schedule, Wake, Yields};
 use task_steps::Knowing;
 use task_steps::table::Kept;
-use task_steps::waker::{ClosingOrphan, DroppingWaker};
-use task_steps::words::{Dropped, dropped_as};
+use task_steps::waker::{ClosingOrphan, Dropped, DroppingWaker, dropped_as};
 
 /// The word of a task that nobody has: scheduled, closed, and with the reference of its last Runnable.
 const ORPHAN: u64 = SCHEDULED | CLOSED | REFERENCE;

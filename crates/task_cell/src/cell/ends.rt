@@ -20,9 +20,11 @@ use task_core::Yields;
 use task_core::word::{RUNNING, SCHEDULED, Word};
 use task_steps::common::DroppingOutput;
 use task_steps::places::{Held, put_output};
-use task_steps::run::{AnsweringPending, AnsweringReady, Completing, EndingClosed, EndingPending};
+use task_steps::run::{
+    AnsweringPending, AnsweringReady, Completing, EndingClosed, EndingPending, PendingEnd,
+    pending_end,
+};
 use task_steps::table::Kept;
-use task_steps::words::{PendingEnd, pending_end};
 
 impl<R: Wait + Drop + Copy, F: Yields, Q: Drop, M: Drop, A: Drop, B: Allocator + Copy> Share<
     R,

@@ -1,11 +1,13 @@
 //! Gaining a reference for a new waker.
-ghost use Rattle.std.specs.Prelude.{◌≡◌, ◌<◌, IfSome};
-ghost use Rattle.task_cell.specs.Belongs.{IsOf, cell_of, limit_in};
+ghost use Rattle.std.specs.Prelude.{◌≡◌, ◌<◌, List, [], ◌∷◌, IfSome, is_some};
+ghost use Rattle.task_steps.specs.Rule.{view, fresh};
+ghost use Rattle.task_steps.specs.declared.table.Deed.{Deed};
+ghost use Rattle.task_cell.specs.Belongs.{HasMade, IsOf, cell_of, limit_in};
 ghost use Rattle.task_cell.specs.Calls.{Stands, limit_of, second};
-ghost use Rattle.task_steps.specs.Standing.{as_lent};
-ghost use Rattle.task_cell.specs.WakerPaths.{Gains};
+ghost use Rattle.task_steps.specs.Standing.{as_waker, as_lent};
+ghost use Rattle.task_cell.specs.WakerPaths.{Gains, GainPath};
 
-use super::{Party, Share};
+use super::{EndedCall, Party, Share};
 use std::alloc::Allocator;
 use std::sync::Wait;
 use task_core::Yields;
@@ -42,5 +44,21 @@ impl<R: Wait + Drop + Copy, F: Yields, Q: Drop, M: Drop, A: Drop, B: Allocator +
             }
             Err(_) => None,
         }
+    }
+
+    // A gain by whoever has a handle by reference: a share for the new waker, and its party; and the record of the call.
+    pub(crate) fn gain_by_reference(
+        &self,
+    ) -> (
+        Option<(Self, Party<F, Kept<F>, A>)>,
+        EndedCall<F, Kept<F>, A>,
+    )
+        ensures share { IfSome result.0 (λ gained. cell_of gained.0 ≡ cell_of self.now) }
+        ensures waker { IfSome result.0 (λ gained. IsOf self.now gained.1 × (gained.1.seat.me ≡ (view (limit_in self.now) (fresh as_waker ∷ []), []))) }
+        ensures path { (path : List Deed) × GainPath (limit_in self.now) (is_some result.0) path × HasMade self.now path result.1.party }
+    {
+        let (word, mut party) = self.borrow();
+        let gained = self.gain(&mut party, word);
+        (gained, party.give_back())
     }
 }

@@ -20,9 +20,8 @@ use std::sync::Wait;
 use task_core::word::Word;
 use task_core::{TaskPoll, Wake, Yields};
 use task_steps::common::Ending;
-use task_steps::poll::{Looking, LookingAgain};
+use task_steps::poll::{Looking, LookingAgain, has_ended, has_to_wait};
 use task_steps::table::Kept;
-use task_steps::words::{has_ended, has_to_wait};
 
 impl<R: Wait + Drop + Copy, F: Yields, Q: Drop, M: Drop, A: Drop, B: Allocator + Copy> Share<
     R,

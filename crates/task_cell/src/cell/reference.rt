@@ -24,7 +24,7 @@ use task_core::{Wake, Yields};
 use task_steps::places::take_out;
 use task_steps::run::{Emptying, GivingReferenceUp};
 use task_steps::table::Kept;
-use task_steps::words::is_last;
+use task_steps::waker::is_last;
 
 impl<R: Wait + Drop + Copy, F: Yields, Q: Drop, M: Drop, A: Drop, B: Allocator + Copy> Share<
     R,

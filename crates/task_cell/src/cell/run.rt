@@ -22,9 +22,8 @@ use std::sync::Wait;
 use task_core::word::{SCHEDULED, Word};
 use task_core::{Schedule, Wake, Yields};
 use task_steps::places::Held;
-use task_steps::run::Unscheduling;
+use task_steps::run::{PendingEnd, Unscheduling, keeps_output};
 use task_steps::table::Kept;
-use task_steps::words::{PendingEnd, keeps_output};
 
 impl<R: Wait + Drop + Copy, F: Yields, Q: Drop, M: Drop, A: Drop, B: Allocator + Copy> Share<
     R,

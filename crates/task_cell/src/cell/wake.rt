@@ -1,5 +1,6 @@
-//! Waking the task.
-ghost use Rattle.std.specs.Prelude.{◌≡◌, ◌<◌, IfSome, IfOk, IfErr};
+//! Waking the task, and the party that each call by a reference to a handle gets, by a load of the word.
+ghost use Rattle.std.specs.Prelude.{◌≡◌, ◌<◌, [], ◌∷◌, IfSome, IfOk, IfErr};
+ghost use Rattle.task_steps.specs.Rule.{view, fresh};
 ghost use Rattle.task_steps.specs.Attempts.{HasChanged};
 ghost use Rattle.task_steps.specs.Shares.{brings_runnable};
 ghost use Rattle.task_steps.specs.Standing.{as_lent};
@@ -16,9 +17,20 @@ use task_core::acts::Act::WakeIdle;
 use task_core::word::Word;
 use task_steps::attempt::TriedOnce;
 use task_steps::table::Kept;
-use task_steps::waker::{Parting, WakingTask};
+use task_steps::waker::{Borrowing, Parting, WakingTask};
 
 impl<R: Drop, F: Yields, Q: Drop, M: Drop, A: Drop, B: Allocator + Copy> Share<R, F, Q, M, A, B> {
+    // The party of one call by reference, and the word that is found.
+    #[inline(always)]
+    pub(crate) fn borrow(&self) -> (Word, Party<F, Kept<F>, A>)
+        ensures cell { IsOf self.now result.1 }
+        ensures room { result.0.references < 72057594037927935 }
+        ensures party { result.1.seat.me ≡ (view (limit_in self.now) (fresh as_lent ∷ []), []) }
+    {
+        let (found, seat) = self.block.load_new_seat::<Borrowing>();
+        (Word::from_bits(found), Party { seat })
+    }
+
     // What a wake leaves to be done that was made on this word: where the task was idle, a share for a Runnable, and a deliverer, which is to hand it over.
     #[inline(always)]
     fn deliverer_of(

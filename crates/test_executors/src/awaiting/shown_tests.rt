@@ -1,6 +1,7 @@
 //! How a mailbox, a group, its handles and what comes out of it are shown, and what their errors say.
 use super::line::{Errand, Line, LineGroup};
 use crate::granted::granted;
+use async_task::TaskClosed;
 use awaiters::{Awaiter, BlockOnError, Mailbox, Numbers};
 use kit_bridge::{AwaitError, AwaitsRefused};
 use std::alloc::{AllocError, Global};
@@ -97,6 +98,7 @@ fn a_full_group_says_so(rt: HostRuntime) {
 fn a_wait_that_is_refused_says_why(rt: HostRuntime) {
     let refused = "the poll of a member was refused its awaiter";
     let late = "no member had ended at the deadline";
+    assert!(rt; says(&rt, rt.alloc(), TaskClosed, "the task is closed"));
     assert!(rt; says(&rt, rt.alloc(), BlockOnError::Closed, "the task is closed"));
     assert!(rt; says(&rt, rt.alloc(), AwaiterRefused, refused));
     assert!(rt; says(&rt, rt.alloc(), NextUntilError::Refused, refused));
