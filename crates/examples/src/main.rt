@@ -16,6 +16,7 @@ mod parallel_sum;
 mod pipeline;
 mod pooled;
 mod priorities;
+mod sharing;
 mod timer;
 mod two_kinds;
 
@@ -112,5 +113,6 @@ fn main(rt: HostRuntime) -> io::Result<()> {
         &rt,
         |turns| (turns.block_on(&mut sum), turns.block_on(&mut average)),
     );
-    print(rt, "pooled", answers)
+    print(rt, "pooled", answers)?;
+    print(rt, "sharing", sharing::sum_of_numbers(rt, alloc))
 }
