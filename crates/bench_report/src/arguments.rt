@@ -2,15 +2,14 @@
 ghost use Rattle.std.specs.Prelude.{◌≡◌, ◌≤◌};
 
 use crate::failure::Failure;
-use crate::lines::{Executor, Line, Size};
+use crate::lines::{Line, Size};
 use crate::operations::Command;
 use crate::tally::Measured;
 use crate::{operations, report};
 use std::alloc::Global;
 use std::io;
 
-/// Does what the arguments ask for, and answers the status: `act` does what is asked of the operations, and `measure` measures a line of the pool on an
-/// executor once.
+/// Does what the arguments ask for, and answers the status: `act` does what is asked of the operations, and `measure` measures a line of the pool once.
 ///
 /// The status is that of [`operations::answer`], or of [`report::answer`]; of `check`, which checks the operations first, that of the first that failed.
 pub fn answer<D, M, O: io::Write, E: io::Write>(
@@ -23,7 +22,7 @@ pub fn answer<D, M, O: io::Write, E: io::Write>(
 ) -> u8
 where
     D: Fn(Command) -> Result<(), Failure>,
-    M: Fn(Executor, Line, Size) -> Result<Measured, Failure>,
+    M: Fn(Line, Size) -> Result<Measured, Failure>,
     requires acts { D.IsAlwaysCallable act.now }
     requires measures { M.IsAlwaysCallable measure.now }
     ensures status { result ≤ 2 }

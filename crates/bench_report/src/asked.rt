@@ -1,6 +1,6 @@
 //! What the arguments ask for.
 
-use crate::lines::{Executor, Line, Size};
+use crate::lines::{Line, Size};
 
 // How many tasks the line `spawn` has where the arguments do not say it.
 const TASKS: u64 = 10_000;
@@ -18,7 +18,7 @@ pub enum Request {
     /// All lines; `spawn` has so many tasks, and the others a tenth.
     Run(u64),
     /// One measurement.
-    One(Executor, Line, Size),
+    One(Line, Size),
 }
 
 /// What the arguments ask for, or `None` where that is not known.
@@ -45,16 +45,15 @@ fn run(more: &[String]) -> Option<Request> {
     }
 }
 
-// One measurement, where the word `one` is followed by its executor, its line, its threads and its tasks.
+// One measurement, where the word `one` is followed by its line, its threads and its tasks.
 fn one(more: &[String]) -> Option<Request> {
-    let [executor, line, threads, count] = more else {
+    let [line, threads, count] = more else {
         return None;
     };
-    let executor = Executor::named(executor)?;
     let line = Line::named(line)?;
     let threads = threads_of(threads)?;
     let tasks = tasks_of(count)?;
-    Some(Request::One(executor, line, Size { tasks, threads }))
+    Some(Request::One(line, Size { tasks, threads }))
 }
 
 // A number of tasks, which is not 0.

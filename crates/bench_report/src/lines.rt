@@ -1,36 +1,4 @@
-//! What is measured, and on which executor.
-
-/// An executor.
-#[derive(Clone, Copy, Debug, PartialEq, Eq)]
-pub enum Executor {
-    /// The pool of the crate `executor`.
-    Pool,
-    /// The `TaskSet` of the kit's `futures`.
-    Futures,
-}
-
-impl Executor {
-    /// Both, in the order in which they are printed.
-    pub const ALL: [Executor; 2] = [Executor::Pool, Executor::Futures];
-
-    /// The name that is printed.
-    pub fn name(self) -> &'static str {
-        match self {
-            Executor::Pool => "pool",
-            Executor::Futures => "futures",
-        }
-    }
-
-    /// The executor of that name.
-    pub fn named(name: &str) -> Option<Executor> {
-        for executor in Executor::ALL {
-            if executor.name() == name {
-                return Some(executor);
-            }
-        }
-        None
-    }
-}
+//! What is measured.
 
 /// What the tasks do.
 #[derive(Clone, Copy, Debug, PartialEq, Eq)]

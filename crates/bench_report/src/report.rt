@@ -3,30 +3,29 @@ ghost use Rattle.std.specs.Prelude.{◌≡◌, ◌≤◌};
 
 use crate::asked::{Request, asked};
 use crate::failure::{Failure, status_of};
-use crate::lines::{Executor, Line, Size};
+use crate::lines::{Line, Size};
 use crate::tally::Measured;
 use crate::times::per_second;
 use std::alloc::Global;
 use std::{fmt, io};
 
-const USAGE: &str =
-    "usage: bench_tasks pool [check | run [COUNT] | one EXECUTOR LINE THREADS COUNT]";
+const USAGE: &str = "usage: bench_tasks pool [check | run [COUNT] | one LINE THREADS COUNT]";
 
 const HELP: &str = "
-Measures the pool beside the kit's futures: tasks a second, and bytes a task.
+Measures the pool: tasks a second, and bytes a task.
 
     check                               few tasks for each line, and no times: the tasks that ended
     run [COUNT]                         all lines on 1, 2 and 4 threads: COUNT tasks in spawn, or 10000, and a tenth in the others
-    one EXECUTOR LINE THREADS COUNT     one measurement
+    one LINE THREADS COUNT              one measurement
     --help                              this text
 
-Each line fails where not all of its tasks ended. The lines and the executors:
+Each line fails where not all of its tasks ended. The lines:
 
 ";
 
 const HEAD: &str = "\
-| line | tasks | threads | pool, tasks/s | futures, tasks/s | pool, bytes | futures, bytes |
-| --- | --- | --- | --- | --- | --- | --- |";
+| line | tasks | threads | tasks/s | bytes |
+| --- | --- | --- | --- | --- |";
 
 // The numbers of threads of a table.
 const THREADS: [usize; 3] = [1, 2, 4];
@@ -59,7 +58,7 @@ impl fmt::Display for Bytes {
     }
 }
 
-/// Does what the arguments ask for, and answers the status. `measure` measures a line on an executor once.
+/// Does what the arguments ask for, and answers the status. `measure` measures a line once.
 ///
 /// The status is 0; 1 where a line or a writer failed, which is told on `err`; and 2, with the usage on `err`, where it is not known
 /// what is asked for.
@@ -71,7 +70,7 @@ pub fn answer<M, O: io::Write, E: io::Write>(
     err: &mut E,
 ) -> u8
 where
-    M: Fn(Executor, Line, Size) -> Result<Measured, Failure>,
+    M: Fn(Line, Size) -> Result<Measured, Failure>,
     requires { M.IsAlwaysCallable measure.now }
     ensures status { result ≤ 2 }
 {
@@ -97,14 +96,14 @@ fn print<M, O: io::Write>(
     out: &mut O,
 ) -> Result<(), Failure>
 where
-    M: Fn(Executor, Line, Size) -> Result<Measured, Failure>,
+    M: Fn(Line, Size) -> Result<Measured, Failure>,
     requires { M.IsAlwaysCallable measure.now }
 {
     let printed = match request {
         Request::Help => print_help(out),
         Request::Check => print_check(measure, out),
         Request::Run(tasks) => print_run(alloc, tasks, measure, out),
-        Request::One(executor, line, size) => print_one(executor, line, size, measure, out),
+        Request::One(line, size) => print_one(line, size, measure, out),
     };
     printed?;
     Ok(out.flush()?)
@@ -113,31 +112,17 @@ where
 // How many of few tasks ended, for each line.
 fn print_check<M, O: io::Write>(measure: &M, out: &mut O) -> Result<(), Failure>
 where
-    M: Fn(Executor, Line, Size) -> Result<Measured, Failure>,
+    M: Fn(Line, Size) -> Result<Measured, Failure>,
     requires { M.IsAlwaysCallable measure.now }
 {
     for line in Line::ALL {
         for (tasks, threads) in CHECKED {
             let size = Size { tasks, threads };
-            let pool = measure(Executor::Pool, line, size)?.ended;
-            let futures = measure(Executor::Futures, line, size)?.ended;
-            print_ended(line, threads, (pool, futures), out)?;
+            let ended = measure(line, size)?.ended;
+            writeln!(out, "{} threads {threads} ended {ended}", line.name())?;
         }
     }
     Ok(())
-}
-
-fn print_ended<O: io::Write>(
-    line: Line,
-    threads: usize,
-    (pool, futures): (u64, u64),
-    out: &mut O,
-) -> io::Result<()> {
-    let name = line.name();
-    writeln!(
-        out,
-        "{name} threads {threads} ended pool {pool} futures {futures}"
-    )
 }
 
 // The table of all lines.
@@ -148,7 +133,7 @@ fn print_run<M, O: io::Write>(
     out: &mut O,
 ) -> Result<(), Failure>
 where
-    M: Fn(Executor, Line, Size) -> Result<Measured, Failure>,
+    M: Fn(Line, Size) -> Result<Measured, Failure>,
     requires { M.IsAlwaysCallable measure.now }
 {
     writeln!(out, "{HEAD}")?;
@@ -176,14 +161,13 @@ fn print_rows<M, O: io::Write>(
     out: &mut O,
 ) -> Result<(), Failure>
 where
-    M: Fn(Executor, Line, Size) -> Result<Measured, Failure>,
+    M: Fn(Line, Size) -> Result<Measured, Failure>,
     requires { M.IsAlwaysCallable measure.now }
 {
     for threads in THREADS {
         let size = Size { tasks, threads };
-        let pool = summarize(alloc, Executor::Pool, line, size, measure)?;
-        let futures = summarize(alloc, Executor::Futures, line, size, measure)?;
-        print_row(line, size, pool, futures, out)?;
+        let summary = summarize(alloc, line, size, measure)?;
+        print_row(line, size, summary, out)?;
     }
     Ok(())
 }
@@ -191,31 +175,29 @@ where
 fn print_row<O: io::Write>(
     line: Line,
     size: Size,
-    pool: Summary,
-    futures: Summary,
+    summary: Summary,
     out: &mut O,
 ) -> io::Result<()> {
     let name = line.name();
     writeln!(
         out,
-        "| {name} | {} | {} | {} | {} | {} | {} |",
-        size.tasks, size.threads, pool.per_second, futures.per_second, pool.bytes, futures.bytes
+        "| {name} | {} | {} | {} | {} |",
+        size.tasks, size.threads, summary.per_second, summary.bytes
     )?;
     out.flush()
 }
 
 fn print_one<M, O: io::Write>(
-    executor: Executor,
     line: Line,
     size: Size,
     measure: &M,
     out: &mut O,
 ) -> Result<(), Failure>
 where
-    M: Fn(Executor, Line, Size) -> Result<Measured, Failure>,
+    M: Fn(Line, Size) -> Result<Measured, Failure>,
     requires { M.IsAlwaysCallable measure.now }
 {
-    let measured = measure(executor, line, size)?;
+    let measured = measure(line, size)?;
     let ended = measured.ended;
     let rate = per_second(ended, measured.elapsed);
     let bytes = bytes_of_one(measured.grown, size.tasks);
@@ -223,22 +205,16 @@ where
     Ok(())
 }
 
-// Measures a line on an executor several times.
-fn summarize<M>(
-    alloc: Global,
-    executor: Executor,
-    line: Line,
-    size: Size,
-    measure: &M,
-) -> Result<Summary, Failure>
+// Measures a line several times.
+fn summarize<M>(alloc: Global, line: Line, size: Size, measure: &M) -> Result<Summary, Failure>
 where
-    M: Fn(Executor, Line, Size) -> Result<Measured, Failure>,
+    M: Fn(Line, Size) -> Result<Measured, Failure>,
     requires { M.IsAlwaysCallable measure.now }
 {
     let mut rates = Vec::new(alloc);
     let mut most = None;
     for _ in 0..REPETITIONS {
-        let measured = measure(executor, line, size)?;
+        let measured = measure(line, size)?;
         rates.push(per_second(measured.ended, measured.elapsed))?;
         most = most.max(measured.grown);
     }
@@ -248,15 +224,11 @@ where
     Ok(Summary { per_second, bytes })
 }
 
-// What may be written: the arguments, and the names of the lines and the executors.
+// What may be written: the arguments, and the names of the lines.
 fn print_help<O: io::Write>(out: &mut O) -> Result<(), Failure> {
     write!(out, "{USAGE}\n{HELP}")?;
     for line in Line::ALL {
         print_name(line.name(), out)?;
-    }
-    writeln!(out)?;
-    for executor in Executor::ALL {
-        print_name(executor.name(), out)?;
     }
     Ok(())
 }

@@ -1,19 +1,15 @@
 //! The program that prints how long operations of the library take, or does them alone for those who count what they do; and that measures the pool of
-//! `executor` beside the kit's `futures`: tasks in a second, and the memory of a task.
-//! It stands on `async_task`, on `executor`, `task_group`, `awaiters` and the kit's `futures` for the pool, and on `bench_report` for the arguments, the
-//! names, the tables and the allocator that counts.
-//! A user runs it. Of the pool a module has the futures of an executor, and one its lines; `course` and `group` have what both share.
+//! `executor`: tasks in a second, and the memory of a task.
+//! It stands on `async_task`, on `executor`, `task_group` and `awaiters` for the pool, and on `bench_report` for the arguments, the names, the tables and
+//! the allocator that counts.
+//! A user runs it. Of the pool `pool_tasks` has the futures, and `on_pool` the lines.
 //! Nothing is public only to carry a claim.
 //! The page is docs/PERFORMANCE.md.
 #![tactic(auto)]
 
 mod benchmark;
 mod contended;
-mod course;
-mod group;
-mod kit_tasks;
 mod measure;
-mod on_futures;
 mod on_pool;
 mod pool_tasks;
 mod queue;
@@ -24,7 +20,7 @@ mod task_futures;
 
 use bench_report::arguments::{answer, refuse};
 use bench_report::failure::Failure;
-use bench_report::lines::{Executor, Line, Size};
+use bench_report::lines::{Line, Size};
 use bench_report::operations::Command;
 use bench_report::tally::Measured;
 use on_pool::JobPool;
@@ -53,16 +49,10 @@ fn main(rt: HostRuntime) -> io::Result<ExitCode> {
         report::act(rt, alloc, command, &mut out, &mut err)
     };
     // The workers start here, where the runtime is known.
-    let on_pool = |line: Line, size: Size| -> Result<Measured, Failure> {
+    let measure = |line: Line, size: Size| -> Result<Measured, Failure> {
         let pool = JobPool::new(rt, alloc, size.threads)?;
         let worker = |worker: usize| pool.run(worker).is_ok();
         on_pool::measure(rt, alloc, &pool, line, size, &worker)
-    };
-    let measure = |executor: Executor, line: Line, size: Size| -> Result<Measured, Failure> {
-        match executor {
-            Executor::Pool => on_pool(line, size),
-            Executor::Futures => on_futures::measure(rt, alloc, line, size),
-        }
     };
     let status = answer(alloc, args.as_slice(), &act, &measure, &mut out, &mut err);
     Ok(ExitCode::from(status))

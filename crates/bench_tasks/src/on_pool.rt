@@ -1,7 +1,5 @@
 //! The lines on the pool of `executor`.
 
-use crate::course::Course;
-use crate::group::measured_of;
 use crate::pool_tasks::{Job, Row};
 use awaiters::Awaiter;
 use bench_report::failure::Failure;
@@ -29,6 +27,15 @@ type JobGroup<'x, R> = TaskGroup<
     Place<'x, R, Job<R>, Awaiter<R>>,
 >;
 
+// The measurement of a line: the tasks that ended, the wakers of its tasks, and how the clock and the memory stood at its start.
+#[derive(Drop)]
+struct Course {
+    line: Line,
+    tally: Arc<Tally>,
+    row: Arc<Row>,
+    start: Start,
+}
+
 /// Measures a line once, on a pool that is empty. `worker` is the worker of a number of this pool until it is shut down.
 ///
 /// It is written where the runtime is known, since code that is generic in it cannot show that it outlives the pool.
@@ -52,7 +59,13 @@ where
     } else {
         let tally = Tally::new(alloc, size.tasks)?;
         let row = Row::new(alloc, &tally, line == Line::Chain)?;
-        let course = Course::begin(&rt, alloc, line, tally, row)?;
+        let start = Start::new(&rt, alloc)?;
+        let course = Course {
+            line,
+            tally,
+            row,
+            start,
+        };
         run(&rt, alloc, pool, &course, worker)
     }
 }
@@ -72,7 +85,7 @@ fn run<R, W>(
     rt: &R,
     alloc: Global,
     pool: &JobPool<R>,
-    course: &Course<Row>,
+    course: &Course,
     worker: &W,
 ) -> Result<Measured, Failure>
 where
@@ -135,7 +148,7 @@ fn spawn_row<R: Wait + Drop + Copy>(
 }
 
 // Wakes the tasks of the row where it hands over, and ends the pool where a task is lost.
-fn oversee<R: Clock + Wait + Drop + Copy>(rt: &R, pool: &JobPool<R>, course: &Course<Row>) {
+fn oversee<R: Clock + Wait + Drop + Copy>(rt: &R, pool: &JobPool<R>, course: &Course) {
     if course.line == Line::Handoff {
         hand_over(pool, &course.tally, &course.row);
     }
@@ -181,7 +194,10 @@ where
             (start.elapsed(rt), answered)
         },
     );
-    measured_of(&tally, elapsed, answered, grown)
+    if answered != tally.wanted() {
+        return Err(Failure::Unanswered(answered, tally.wanted()));
+    }
+    Measured::new(&tally, elapsed?, grown)
 }
 
 // Spawns jobs, and puts their Tasks into one group.

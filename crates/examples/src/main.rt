@@ -4,7 +4,6 @@
 mod borrowed;
 mod boxed;
 mod boxed_steps;
-mod channel;
 mod channel_worker;
 mod cleanup;
 mod kit_futures;
@@ -13,11 +12,9 @@ mod last;
 mod line;
 mod new_thread;
 mod parallel_sum;
-mod pipeline;
 mod pooled;
 mod priorities;
 mod sharing;
-mod timer;
 mod two_kinds;
 
 use boxed::Step;
@@ -76,18 +73,11 @@ fn print_boxed<R: Print + Wait + Drop + Copy>(rt: R, alloc: Global) -> io::Resul
     print(rt, "boxed", boxed::answers_of(rt, alloc, [doubles, brings]))
 }
 
-// The tasks that wake one another, and those that are futures of the kit.
-fn print_wakes<R>(rt: R, alloc: Global) -> io::Result<()>
+// The tasks that are futures of the kit, or wait for one.
+fn print_of_kit<R>(rt: R, alloc: Global) -> io::Result<()>
 where
     R: Print + RandomSource + AllocGlobal + Wait + Threads + Drop + Copy + Send + Sync,
 {
-    print(
-        rt,
-        "timer",
-        timer::ends_of(rt, alloc, [(8, 1), (3, 2), (5, 1)]),
-    )?;
-    print(rt, "channel", channel::digits_up_to(rt, alloc, 5))?;
-    print(rt, "pipeline", pipeline::sum_of_squares(rt, alloc, 4))?;
     print(
         rt,
         "kit_futures",
@@ -105,7 +95,7 @@ fn main(rt: HostRuntime) -> io::Result<()> {
     let alloc = rt.alloc();
     print_first(rt, alloc)?;
     print_boxed(rt, alloc)?;
-    print_wakes(rt, alloc)?;
+    print_of_kit(rt, alloc)?;
     // A pool of two workers: this thread is one, and waits for two tasks.
     let pool = JobPool::new(rt, alloc, 2)?;
     let (mut sum, mut average) = pooled::spawn_both(&pool, 100, 9)?;

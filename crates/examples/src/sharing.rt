@@ -88,8 +88,8 @@ fn add_up<'x, R: Wait + Drop + Copy + 'static>(
     sum
 }
 
-fn run_worker<R: Wait + Drop + Copy + 'static>(pool: &OwnPool<R>, worker: usize) {
-    drop(pool.run(worker));
+fn run_worker<R: Wait + Drop + Copy + 'static>(pool: &OwnPool<R>) {
+    drop(pool.run(1));
 }
 
 // Runs the tasks on this thread and another one, until all members have ended.
@@ -100,7 +100,7 @@ fn run<'x, R: Wait + Threads + Drop + Copy + Send + Sync + 'static>(
 ) -> u64 {
     let (_, sum) = thread::join(
         &pool.rt(),
-        || run_worker(pool, 1),
+        || run_worker(pool),
         || {
             let sum = add_up(turns, group);
             pool.shutdown();

@@ -54,10 +54,11 @@ pub fn keep_new_waker<'x, R: Wait + Drop + Copy, F: Yields, A: Wake, B: Allocato
             return None;
         }
     };
-    pool.mail.make_room(key.number()).ok()?;
-    if pool.is_shut_down() {
-        wake_kept(place, key.number());
+    if pool.mail.make_room(key.number()).is_err() {
+        drop_waker(place, pool.wakers.take(&pool.rt, key.number()));
+        return None;
     }
+    wake_after_shutdown(place, &key);
     Some(key)
 }
 
@@ -75,9 +76,7 @@ pub fn keep_waker<'x, R: Wait + Drop + Copy, F: Yields, A: Wake, B: Allocator + 
     match pool.wakers.put(&pool.rt, key, clone.stored()) {
         Ok(before) => {
             drop_waker(place, before);
-            if pool.is_shut_down() {
-                wake_kept(place, key.number());
-            }
+            wake_after_shutdown(place, key);
             true
         }
         Err(clone) => {
@@ -196,6 +195,16 @@ pub fn collect<'x, R: Wait + Drop + Copy, F: Yields, A: Wake, B: Allocator + Cop
         drops = true;
     }
     unreachable!()
+}
+
+// Wakes the task whose waker was just kept at the place of this key, where the shutdown may have looked there before.
+fn wake_after_shutdown<'x, R: Wait + Drop + Copy, F: Yields, A: Wake, B: Allocator + Copy, M: Drop>(
+    place: Place<'x, R, F, A, B, M>,
+    key: &Key<R>,
+) {
+    if place.0.is_shut_down() {
+        wake_kept(place, key.number());
+    }
 }
 
 // Drops this Task, where there is one, which cancels its task. False where there is none.

@@ -5,21 +5,25 @@ use crate::stops::{granted, holds};
 use crate::words::{Told, words_of};
 use bench_report::arguments::answer;
 use bench_report::failure::Failure;
-use bench_report::lines::{Executor, Line, Size};
+use bench_report::lines::{Line, Size};
 use bench_report::operations::Command;
 use bench_report::tally::Measured;
 use std::alloc::Global;
 use std::process::Abort;
 use std::time::Duration;
 
-// The answer where a task needs a millisecond and 100 bytes of the pool, and two milliseconds and no known memory of the kit. More than
-// `most` tasks lose one. What is asked of the operations fails.
+// The answer where a task needs a millisecond and 100 bytes, which are not known in the line `group`. More than `most` tasks lose one. What is asked of the
+// operations fails.
 fn answer_to<R: Abort>(rt: &R, alloc: Global, line: &str, most: u64) -> Told {
-    let measure = |executor: Executor, _: Line, size: Size| -> Result<Measured, Failure> {
+    let measure = |line: Line, size: Size| -> Result<Measured, Failure> {
         if size.tasks > most {
             return Err(Failure::Lost(size.tasks.saturating_sub(1), size.tasks));
         }
-        Ok(measured_by(executor, size.tasks))
+        Ok(Measured {
+            ended: size.tasks,
+            elapsed: Duration::from_millis(size.tasks),
+            grown: (line != Line::Group).then_some(size.tasks.saturating_mul(100)),
+        })
     };
     let act = |_: Command| -> Result<(), Failure> { Err(Failure::Unexpected) };
     let words = granted(rt, words_of(alloc, line));
@@ -29,25 +33,10 @@ fn answer_to<R: Abort>(rt: &R, alloc: Global, line: &str, most: u64) -> Told {
     granted(rt, Told::new(status, out, err))
 }
 
-fn measured_by(executor: Executor, ended: u64) -> Measured {
-    match executor {
-        Executor::Pool => Measured {
-            ended,
-            elapsed: Duration::from_millis(ended),
-            grown: Some(ended.saturating_mul(100)),
-        },
-        Executor::Futures => Measured {
-            ended,
-            elapsed: Duration::from_millis(ended.saturating_mul(2)),
-            grown: None,
-        },
-    }
-}
-
 const ROWS: [&str; 3] = [
-    "| spawn | 90 | 4 | 1000 | 500 | 100 | - |",
-    "| yield | 9 | 1 | 1000 | 500 | 100 | - |",
-    "| group | 9 | 2 | 1000 | 500 | 100 | - |",
+    "| spawn | 90 | 4 | 1000 | 100 |",
+    "| yield | 9 | 1 | 1000 | 100 |",
+    "| group | 9 | 2 | 1000 | - |",
 ];
 
 // A line for each number of threads, and a tenth of the tasks but in `spawn`.
@@ -60,7 +49,7 @@ fn a_table_has_all_lines(rt: HostRuntime) {
     }
 }
 
-const FIRST: &str = "spawn threads 1 ended pool 1 futures 1\n";
+const FIRST: &str = "spawn threads 1 ended 1\n";
 
 const LOST: &str = "bench_tasks: 499 of 500 tasks ended\n";
 
