@@ -9,16 +9,18 @@ use crate::granted::granted;
 use crate::guest::{Errand, GuestPool, GuestTurns, Guests, shares_and_polls};
 use async_task::{Future, Poll, TaskPoll, Yields};
 use awaiters::Nobody;
-use executor::{Key, Pool, PoolTask, PoolWaker, collect, keep_waker, place_for_waker};
-use std::alloc::AllocError;
+use executor::{
+    Key, Pool, PoolTask, PoolWaker, collect, keep_new_waker, keep_waker, place_for_waker,
+};
+use std::alloc::{AllocError, Global};
 use std::process::Abort;
 use std::sync::atomic::{AtomicBool, Ordering};
 use std::sync::{Arc, Wait};
 
-/// A future that ends the pool, then keeps its waker, and is pending. `kept` is set where the waker was kept.
+/// A future that ends the pool, then keeps its waker, at a new place where it has no key, and is pending. `kept` is set where the waker was kept.
 #[derive(Drop)]
 struct Keeps<R: Wait + Drop + Copy> {
-    key: Key<R>,
+    key: Option<Key<R>>,
     kept: Arc<AtomicBool>,
 }
 
@@ -31,9 +33,14 @@ impl<'x, R: Wait + Drop + Copy> Future<PoolWaker<'x, R, Keeps<R>, Nobody>> for K
 
     fn poll(&mut self, waker: &PoolWaker<'x, R, Keeps<R>, Nobody>) -> Poll<u64> {
         waker.around().0.shutdown();
-        if keep_waker(waker, &self.key) {
-            self.kept.store(true, Ordering::SeqCst);
-        }
+        let kept = match &self.key {
+            Some(key) => keep_waker(waker, key),
+            None => {
+                self.key = keep_new_waker(waker);
+                self.key.is_some()
+            }
+        };
+        self.kept.store(kept, Ordering::SeqCst);
         Poll::Pending
     }
 }
@@ -45,10 +52,16 @@ type KeepsTask<'x, R> = PoolTask<'x, R, Keeps<R>, Nobody>;
 fn spawn_keeps<'x, R: Wait + Abort + Drop + Copy>(
     pool: &'x KeepsPool<R>,
     kept: &Arc<AtomicBool>,
+    has_key: bool,
 ) -> KeepsTask<'x, R> {
     let rt = pool.rt();
+    let key = if has_key {
+        Some(granted(&rt, place_for_waker((pool, 0)).ok_or(AllocError)))
+    } else {
+        None
+    };
     let keeps = Keeps {
-        key: granted(&rt, place_for_waker((pool, 0)).ok_or(AllocError)),
+        key,
         kept: granted(&rt, Arc::try_clone(kept)),
     };
     granted(&rt, pool.spawn(keeps))
@@ -82,14 +95,23 @@ fn kept_and_owners(kept: &Arc<AtomicBool>) -> (bool, usize) {
     (kept.load(Ordering::SeqCst), Arc::strong_count(kept))
 }
 
-// The future, which is dropped, has the key: so a collect frees its place.
+// Whether a task that keeps its waker after the shutdown is cancelled, and leaves nothing. The future, which is dropped, has the key: so a collect frees its place.
+fn is_cancelled<R: Wait + Abort + Drop + Copy>(rt: R, alloc: Global, has_key: bool) -> bool {
+    let kept = granted(&rt, Arc::new(alloc, AtomicBool::new(false)));
+    let pool = granted(&rt, KeepsPool::new(rt, alloc, 1));
+    let (ran, closed) = run_and_poll(&pool, spawn_keeps(&pool, &kept, has_key));
+    let (places, seen) = (places_left(&pool), kept_and_owners(&kept));
+    ran && closed && places == 0 && seen == (true, 1)
+}
+
 #[test]
 fn a_waker_that_is_kept_after_the_shutdown_cancels_its_task(rt: HostRuntime) {
-    let kept = granted(&rt, Arc::new(rt.alloc(), AtomicBool::new(false)));
-    let pool = granted(&rt, KeepsPool::new(rt, rt.alloc(), 1));
-    let (ran, closed) = run_and_poll(&pool, spawn_keeps(&pool, &kept));
-    let (places, seen) = (places_left(&pool), kept_and_owners(&kept));
-    assert!(rt; ran && closed && places == 0 && seen == (true, 1));
+    assert!(rt; is_cancelled(rt, rt.alloc(), true));
+}
+
+#[test]
+fn a_waker_that_is_kept_at_a_new_place_after_the_shutdown_cancels_its_task(rt: HostRuntime) {
+    assert!(rt; is_cancelled(rt, rt.alloc(), false));
 }
 
 // The task was polled once and waits: it is neither queued nor kept as the pool is shut down, so it lives until its Task is put into the place. Its future, which then is dropped, has a share of what guests count.
