@@ -5,6 +5,7 @@ mod borrowed;
 mod boxed;
 mod boxed_steps;
 mod channel_worker;
+mod claim;
 mod cleanup;
 mod kit_futures;
 mod kit_thread;
@@ -40,6 +41,7 @@ fn print_first<R: Print + Wait + Threads + Drop + Copy + Send + Sync>(
     alloc: Global,
 ) -> io::Result<()> {
     print(rt, "borrowed", borrowed::sum_of(rt, alloc, &[3, 5, 8]))?;
+    print(rt, "claim", claim::rest_of(rt, alloc, 142))?;
     print(rt, "cleanup", cleanup::free_permits(rt, alloc))?;
     print(rt, "new_thread", new_thread::primes_below(rt, alloc, 30))?;
     print(

@@ -158,6 +158,18 @@ pub fn poll_kept<'x, R: Wait + Drop + Copy, F: Yields, A: Wake, B: Allocator + C
     Some(answer)
 }
 
+// Drops the Task at the place of a key, where there is one, which cancels its task.
+pub(crate) fn drop_kept<
+    'x,
+    R: Wait + Drop + Copy,
+    F: Yields,
+    A: Wake,
+    B: Allocator + Copy,
+    M: Drop,
+>(place: Place<'x, R, F, A, B, M>, key: &Key<R>) {
+    drop_task(place, place.0.tasks.take_of(&place.0.rt, key));
+}
+
 /// Polls the Task at the place `awaited` for the task of this waker, which is woken where that Task may have an answer: it keeps the waker at its place
 /// first, and then polls as `poll_kept` does. So no wake is missed where the task that waits is pending after it.
 ///

@@ -1,6 +1,6 @@
 //! A group that a future keeps: its task awaits the next member that ends, in one call.
 ghost use Rattle.std.specs.Prelude.{◌≡◌, ◌↔◌, IfOk, IfErr, IsTrue, OnErr, None};
-ghost use Rattle.slab.specs.Slab.{slab_len};
+ghost use Rattle.slab.specs.Slab.{slab_len, ContainsKey};
 ghost use Rattle.task_cell.specs.PollPaths.{IfOutput};
 ghost use Rattle.async_task.specs.HandlePaths.{IfSomeOutput};
 ghost use Rattle.awaiters.specs.Answered.{GivesNone};
@@ -8,7 +8,7 @@ ghost use Rattle.task_group.specs.Members.{Joins, Leaves, SameMembers};
 ghost use Rattle.executor.specs.Looks.{HasNone, IsReady};
 
 use crate::bell_awaiter::BellAwaiter;
-use crate::kept::{keep_task, keep_waker, place_for_task, place_for_waker, poll_kept};
+use crate::kept::{drop_kept, keep_task, keep_waker, place_for_task, place_for_waker, poll_kept};
 use crate::pool::{Place, PoolTask, PoolWaker};
 use crate::ringing::{PoolListener, Rings};
 use crate::store::Key;
@@ -122,6 +122,34 @@ impl<R: Wait + Drop + Copy> KeptGroup<R> {
             }
         }
         TaskPoll::Pending
+    }
+
+    /// Cancels this member: its Task is dropped, and with it an output that nobody took. The next `next` hands it out as closed, and does not wait until its future is gone. False where no member has this number. `place` is `waker.around()` in a poll of the task that awaits.
+    pub fn abort<'x, F: Yields, B: Allocator + Copy, M: Drop>(
+        &self,
+        place: Place<'x, R, F, BellAwaiter<R>, B, M>,
+        number: usize,
+    ) -> bool
+        ensures { IsTrue result ↔ ContainsKey self.now.members number }
+    {
+        if !self.members.contains(number) {
+            return false;
+        }
+        if let Some(key) = self.keys.get(number) {
+            drop_kept(place, key);
+        }
+        self.mailbox.post(number);
+        true
+    }
+
+    /// Cancels all members, as `abort` does.
+    pub fn abort_all<'x, F: Yields, B: Allocator + Copy, M: Drop>(
+        &self,
+        place: Place<'x, R, F, BellAwaiter<R>, B, M>,
+    ) {
+        for number in 0..self.members.capacity() {
+            self.abort(place, number);
+        }
     }
 
     // Keeps the waker, and has the next post wake its task: what was posted before is found by a look after this.

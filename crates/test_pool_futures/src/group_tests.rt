@@ -354,3 +354,19 @@ fn a_task_awaits_a_group_in_few_polls(rt: HostRuntime) {
     assert!(rt; answer == Ok(100) && taken == (0, 0));
     assert!(rt; all >= 302 && all < 310);
 }
+
+// A link aborts the members of its group, which are closed at once; their futures go as the worker runs what is queued.
+#[test]
+fn a_task_aborts_the_members_of_its_group(rt: HostRuntime) {
+    let pool = new_pool(rt, rt.alloc(), 1);
+    let counts = new_counts(&pool);
+    let mut task = link_task(&pool, 1, 0, Errand::Abort(3), &counts);
+    let mut turns = turns_of(&pool);
+    let answer = block_on(&mut turns, &mut task);
+    drop_both(turns, task);
+    collect_all(&pool);
+    let (_, all) = polls(&counts);
+    let taken = places_taken(&pool);
+    drop_pool(pool);
+    assert!(rt; answer == Ok(3) && taken == (0, 0) && all == 1);
+}

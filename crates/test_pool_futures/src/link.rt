@@ -50,6 +50,8 @@ pub enum Errand {
     Stay,
     /// Spawns so many links that give way twice, awaits them as a group, and answers what they do together.
     Group(u64),
+    /// Spawns so many links that stay pending, aborts one of them and then all, and answers how many come out closed.
+    Abort(u64),
 }
 
 /// The places of a link that waits: of its waker, and of the Tasks that it still awaits.
@@ -234,46 +236,70 @@ impl<R: Wait + Drop + Copy> Link<R> {
             }
             Errand::Stay => Poll::Pending,
             Errand::Group(links) => self.await_group(waker, links),
+            Errand::Abort(links) => abort_group(waker, links, &self.counts),
         }
     }
 
     // One poll of a group of so many links, which the first poll spawns.
     fn await_group<'x>(&mut self, waker: &LinkWaker<'x, R>, links: u64) -> Poll<u64> {
         if self.group.is_none() {
-            self.group = spawn_group(waker, links, &self.counts);
+            self.group = spawn_group(waker, links, Errand::GiveWay(2), &self.counts);
         }
         match &mut self.group {
-            Some(group) => add_ended(group, waker, &mut self.sum),
+            Some(group) => add_ended(group, waker, &mut self.sum, 0),
             None => Poll::Ready(0),
         }
     }
 }
 
-// A group of so many links that give way twice. `None` where one was refused.
+// How many of a group of so many links come out closed once all were looked at, one was aborted, and then all. 0 where they do not at once, or a number of no member is known.
+fn abort_group<'x, R: Wait + Drop + Copy>(
+    waker: &LinkWaker<'x, R>,
+    links: u64,
+    counts: &Arc<Counts>,
+) -> Poll<u64> {
+    let Some(mut group) = spawn_group(waker, links, Errand::Stay, counts) else {
+        return Poll::Ready(0);
+    };
+    let waits = matches!(group.next(waker), TaskPoll::Pending);
+    if !waits || !group.abort(waker.around(), 0) || group.abort(waker.around(), links as usize) {
+        return Poll::Ready(0);
+    }
+    group.abort_all(waker.around());
+    let mut closed = 0;
+    match add_ended(&mut group, waker, &mut closed, 1) {
+        Poll::Ready(closed) => Poll::Ready(closed),
+        Poll::Pending => Poll::Ready(0),
+    }
+}
+
+// A group of so many links with this errand. `None` where one was refused.
 fn spawn_group<'x, R: Wait + Drop + Copy>(
     waker: &LinkWaker<'x, R>,
     links: u64,
+    errand: Errand,
     counts: &Arc<Counts>,
 ) -> Option<KeptGroup<R>> {
     let (pool, worker) = waker.around();
     let mut group = KeptGroup::new(waker.around(), links as usize)?;
     for _ in 0..links {
-        let task = spawn_link(pool, worker, 0, Errand::GiveWay(2), None, counts).ok()?;
+        let task = spawn_link(pool, worker, 0, errand, None, counts).ok()?;
         group.push(task).ok()?;
     }
     Some(group)
 }
 
-// Adds the answers of the members that have ended. Once there is no member, their sum.
+// Adds the answers of the members that have ended, this for one that is closed. Once there is no member, their sum.
 fn add_ended<'x, R: Wait + Drop + Copy>(
     group: &mut KeptGroup<R>,
     waker: &LinkWaker<'x, R>,
     sum: &mut u64,
+    closed: u64,
 ) -> Poll<u64> {
     for _ in 0..=group.len() {
         match group.next(waker) {
             TaskPoll::Ready(Some((_, answer))) => {
-                *sum = sum.saturating_add(answer.unwrap_or(0));
+                *sum = sum.saturating_add(answer.unwrap_or(closed));
             }
             TaskPoll::Ready(None) => return Poll::Ready(*sum),
             TaskPoll::Pending => return Poll::Pending,

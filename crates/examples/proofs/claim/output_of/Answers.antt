@@ -1,7 +1,7 @@
 use Rattle.std.proofs.Common.{◌<◌, IfOk, subst}
 use Rattle.std.proofs.Math.Logic.{∥∥₁_elim}
 use Rattle.std.proofs.Math.Bridge.{le_prop}
-use Rattle.example_claim.proofs.output_of.Goals as goal
+use Rattle.examples.proofs.claim.output_of.Goals as goal
 
 -- The poll gives the fact as `∥ .. ∥₁`, of which a fact that has one proof at most is taken out.
 pub returns-in-Ready-Ok : goal.returns-in-Ready-Ok

@@ -1,11 +1,10 @@
 //! A claim: the type of a future states that its output is below 100, and who takes the output from the Task has it with this fact.
-#![tactic(auto)]
-
 ghost use Rattle.std.specs.Prelude.{⊤, ◌<◌, IfSome};
 
-use async_task::{Future, Poll, Schedule, ScheduleInfo, Task, TaskPoll, Yields, spawn};
+use crate::last::DropsRunnables;
+use async_task::{Future, Poll, Task, TaskPoll, Yields, spawn};
 use awaiters::Nobody;
-use std::io;
+use std::alloc::Global;
 use std::sync::Wait;
 
 /// A future that answers what is left of a number after division by 100.
@@ -27,17 +26,7 @@ impl<W> Future<W> for Rest {
     }
 }
 
-/// A schedule value that drops each Runnable, which cancels the task: this program runs its one task by hand.
-#[derive(Drop)]
-struct NoQueue;
-
-impl<N: Drop> Schedule<N> for NoQueue {
-    ghost scheduled = { λ _ _ _. ⊤ };
-
-    fn schedule(&self, _runnable: N, _info: ScheduleInfo) {}
-}
-
-type RestTask<R> = Task<R, Rest, NoQueue, (), Nobody, ()>;
+type RestTask<R> = Task<R, Rest, DropsRunnables, (), Nobody, ()>;
 
 // The output of a task that has ended. That it is below 100 is part of what the poll of a Task promises.
 fn output_of<R: Wait + Drop + Copy>(task: &mut RestTask<R>) -> Option<u64>
@@ -49,9 +38,12 @@ fn output_of<R: Wait + Drop + Copy>(task: &mut RestTask<R>) -> Option<u64>
     }
 }
 
-fn main(rt: HostRuntime) -> io::Result<()> {
-    let spawned = spawn(rt, rt.alloc(), Rest(142), NoQueue, ())?;
-    let (runnable, mut task): (_, RestTask<_>) = spawned;
+/// What is left of a number after division by 100, by a task. `None` where there is no memory for the task.
+pub fn rest_of<R: Wait + Drop + Copy>(rt: R, alloc: Global, number: u64) -> Option<u64>
+    ensures { IfSome result (λ output. output < 100) }
+{
+    let (runnable, task) = spawn(rt, alloc, Rest(number), DropsRunnables, ()).ok()?;
+    let mut task: RestTask<R> = task;
     runnable.run();
-    println!(rt; "{:?}", output_of(&mut task))
+    output_of(&mut task)
 }
