@@ -99,15 +99,16 @@ impl<R: Wait + Drop + Copy> Executor<R> {
     }
 
     fn receive<'x>(&'x self, waker: &Waker<R, &'x Executor<R>>) -> Poll<u64> {
-        let Some(clone) = waker.try_clone() else {
-            waker.wake_by_ref();
-            return Poll::Pending;
-        };
         let mut inbox = self.inbox.lock(&self.rt);
         if let Some(message) = inbox.0.take() {
             return Poll::Ready(message);
         }
-        let before = mem::replace(&mut inbox.1, Some(clone.with_around(())));
+        let Some(clone) = waker.try_clone() else {
+            drop(inbox);
+            waker.wake_by_ref();
+            return Poll::Pending;
+        };
+        let before = inbox.1.replace(clone.with_around(()));
         drop(inbox);
         drop(before);
         Poll::Pending

@@ -1,15 +1,13 @@
 //! Tasks of a pool that await tasks of the same pool: alone, in a long chain, cancelled, and after a shutdown.
 
 use crate::calls::{
-    block_on, collect_all, drop_both, drop_pool, drop_task, drop_turns, is_closed, knock,
-    link_task, new_counts, new_pool, place_of_task, place_of_waker, places_taken, poll_at, polls,
-    shut_down, tick, turns_of, wake_number, wakes_posted, work,
+    await_alone, await_chain, block_on, collect_all, drop_both, drop_pool, drop_task, drop_turns,
+    is_closed, knock, link_task, new_counts, new_pool, place_of_task, place_of_waker, places_taken,
+    poll_at, polls, shut_down, tick, turns_of, wake_number, wakes_posted, work,
 };
 use crate::granted::granted;
-use crate::link::{Counts, Errand, KNOCKS, LinkPool, LinkTask, LinkTurns, keep, spawn_link};
+use crate::link::{Errand, KNOCKS, LinkPool, LinkTask, LinkTurns, keep, spawn_link};
 use executor::BlockOnError;
-use std::alloc::Global;
-use std::process::Abort;
 use std::sync::{Arc, Wait};
 use std::thread::{self, Threads};
 
@@ -18,39 +16,6 @@ const CHAIN: u64 = 1000;
 
 /// The most turns that anything takes.
 const TURNS: u64 = 1000;
-
-// What came of a Task that was awaited: its answer, how often the links that await were polled and how often the last one, how many places are taken for
-// wakers and for Tasks, and how many owners have what the links count.
-type Awaited = (Result<u64, BlockOnError>, (u64, u64), (usize, usize), usize);
-
-// Awaits a Task as the only worker of a pool, drops it, and frees the places of keys that were dropped.
-fn await_alone<'x, R: Wait + Abort + Drop + Copy + 'static>(
-    pool: &'x LinkPool<R>,
-    mut task: LinkTask<'x, R>,
-    counts: &Arc<Counts>,
-) -> Awaited {
-    let mut turns = turns_of(pool);
-    let answer = block_on(&mut turns, &mut task);
-    drop_task(task);
-    collect_all(pool);
-    let left = Arc::strong_count(counts);
-    (answer, polls(counts), places_taken(pool), left)
-}
-
-// What comes of a link with so many below it, on one worker.
-fn await_chain<R: Wait + Abort + Drop + Copy + 'static>(
-    rt: R,
-    alloc: Global,
-    below: u64,
-    errand: Errand,
-) -> Awaited {
-    let pool = new_pool(rt, alloc, 1);
-    let counts = new_counts(&pool);
-    let task = link_task(&pool, 1, below, errand, &counts);
-    let awaited = await_alone(&pool, task, &counts);
-    drop_pool(pool);
-    awaited
-}
 
 // The parent is polled as it is spawned, and once more for the output of its child, which gives way three times.
 #[test]

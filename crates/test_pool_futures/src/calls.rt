@@ -174,3 +174,36 @@ pub fn knock<R: Wait + Drop + Copy>(pool: &LinkPool<R>, counts: &Counts) -> bool
     }
     unreachable!()
 }
+
+/// What came of a Task that was awaited: its answer, how often the links that await were polled and how often the last one, how many places are taken for
+/// wakers and for Tasks, and how many owners have what the links count.
+pub type Awaited = (Result<u64, BlockOnError>, (u64, u64), (usize, usize), usize);
+
+/// Awaits a Task as the only worker of a pool, drops it, and frees the places of keys that were dropped.
+pub fn await_alone<'x, R: Wait + Abort + Drop + Copy + 'static>(
+    pool: &'x LinkPool<R>,
+    mut task: LinkTask<'x, R>,
+    counts: &Arc<Counts>,
+) -> Awaited {
+    let mut turns = turns_of(pool);
+    let answer = block_on(&mut turns, &mut task);
+    drop_task(task);
+    collect_all(pool);
+    let left = Arc::strong_count(counts);
+    (answer, polls(counts), places_taken(pool), left)
+}
+
+/// What comes of a link with so many below it, on one worker.
+pub fn await_chain<R: Wait + Abort + Drop + Copy + 'static>(
+    rt: R,
+    alloc: Global,
+    below: u64,
+    errand: Errand,
+) -> Awaited {
+    let pool = new_pool(rt, alloc, 1);
+    let counts = new_counts(&pool);
+    let task = link_task(&pool, 1, below, errand, &counts);
+    let awaited = await_alone(&pool, task, &counts);
+    drop_pool(pool);
+    awaited
+}

@@ -1,7 +1,7 @@
 //! Groups of tasks of a pool, some of which await a task of their own: one type of awaiter serves these, the group, and `block_on`.
 use crate::calls::{
-    block_on, collect_all, drop_both, drop_pool, drop_turns, link_task, new_counts, new_pool,
-    places_taken, polls, shut_down, tick, turns_of, wakes_posted, work,
+    await_chain, block_on, drop_both, drop_pool, drop_turns, link_task, new_counts, new_pool,
+    shut_down, tick, turns_of, wakes_posted, work,
 };
 use crate::granted::granted;
 use crate::link::{Counts, Errand, Link, LinkPool, LinkTurns};
@@ -338,35 +338,17 @@ fn a_wait_for_a_member_elapses_at_its_deadline(rt: HostRuntime) {
     assert!(rt; passed && left == (0, 1));
 }
 
-// A link awaits a hundred others as a group, on one worker, which then collects: its answer, how often it and the others were polled together, and what places are taken.
+// A link awaits a hundred others as a group: it and the others are polled little more than thrice each, together.
 #[test]
 fn a_task_awaits_a_group_in_few_polls(rt: HostRuntime) {
-    let pool = new_pool(rt, rt.alloc(), 1);
-    let counts = new_counts(&pool);
-    let mut task = link_task(&pool, 1, 0, Errand::Group(100), &counts);
-    let mut turns = turns_of(&pool);
-    let answer = block_on(&mut turns, &mut task);
-    drop_both(turns, task);
-    collect_all(&pool);
-    let (_, all) = polls(&counts);
-    let taken = places_taken(&pool);
-    drop_pool(pool);
+    let (answer, (_, all), taken, _) = await_chain(rt, rt.alloc(), 0, Errand::Group(100));
     assert!(rt; answer == Ok(100) && taken == (0, 0));
     assert!(rt; all >= 302 && all < 310);
 }
 
-// A link aborts the members of its group, which are closed at once; their futures go as the worker runs what is queued.
+// A link aborts the members of its group, which are closed at once and never polled.
 #[test]
 fn a_task_aborts_the_members_of_its_group(rt: HostRuntime) {
-    let pool = new_pool(rt, rt.alloc(), 1);
-    let counts = new_counts(&pool);
-    let mut task = link_task(&pool, 1, 0, Errand::Abort(3), &counts);
-    let mut turns = turns_of(&pool);
-    let answer = block_on(&mut turns, &mut task);
-    drop_both(turns, task);
-    collect_all(&pool);
-    let (_, all) = polls(&counts);
-    let taken = places_taken(&pool);
-    drop_pool(pool);
+    let (answer, (_, all), taken, _) = await_chain(rt, rt.alloc(), 0, Errand::Abort(3));
     assert!(rt; answer == Ok(3) && taken == (0, 0) && all == 1);
 }
