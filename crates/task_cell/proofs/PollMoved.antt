@@ -1,24 +1,20 @@
 -- What the looks of a poll and the steps of a registering come to for the party that made them.
 use Rattle.std.proofs.Common.{inl}
-use Rattle.task_cell.proofs.Vocabulary.{◌≡◌, ℕ, ◌+◌, Bool, true, false, not, ◌&&◌, ◌||◌, Option, Some, None, List, [], ◌∷◌, refl, sym, ap, ◌∙◌, subst, map, is_some, if◌then◌else◌, Result, Ok, Err}
-use Rattle.task_cell.proofs.Vocabulary.{IfOk, IfErr, Me, State, number_of, written, Position, TaskPollBegins, IsPending, OfPoll, OfClaim, Looking, SawOutput, Answering, Notifier, Registrar}
+use Rattle.task_cell.proofs.Vocabulary.{◌≡◌, ℕ, ◌+◌, Bool, true, false, not, ◌&&◌, ◌||◌, Option, Some, None, List, [], ◌∷◌, refl, sym, ap, ◌∙◌, subst, map, if◌then◌else◌, Result, Ok, Err}
+use Rattle.task_cell.proofs.Vocabulary.{IfOk, IfErr, Me, State, Position, TaskPollBegins, IsPending, OfPoll, OfClaim, Looking, SawOutput, Answering, Notifier, Registrar}
 use Rattle.task_cell.proofs.Vocabulary.{UnusedClone, Registered, TookBack, CloneInHand, Act, Look, CloneAwaiter, StoreAwaiter, FindNotify, BeginRegister, EndRegister, EndRegisterNotified, TakeAwaiter}
 use Rattle.task_cell.proofs.Vocabulary.{ClaimOutput, EndCall, Slots, Outcome, leaves_slots, changes_slots, when, notifies, first_look, after_storing, owns_awaiter, Slot, Deed, View, Party, member}
 use Rattle.task_cell.proofs.Vocabulary.{view, fresh, has_work, Waits, head_of, and_then, spot, held_word, next_of, born_of, leaves_by, noted, acted, output_first, TakesOutput, Carries, Carried, Makes}
-use Rattle.task_cell.proofs.Vocabulary.{saw_ended, position, deeds, limit_of, StandsWith, Stands, DidWith, Did, after, row, act, has_output, has_ended, has_to_wait, looking, claiming, looking_again}
-use Rattle.task_cell.proofs.Vocabulary.{claiming_again, finding_notifier, beginning_register, ending_register, taking_back, ClaimsOutput, Looks, claims_output, sees_none, LooksAgain}
+use Rattle.task_cell.proofs.Vocabulary.{saw_ended, position, deeds, limit_of, StandsWith, Stands, DidWith, Did, after, row, act, has_output, has_ended, has_to_wait}
+use Rattle.task_cell.proofs.Vocabulary.{ClaimsOutput, Looks, claims_output, sees_none, LooksAgain}
 use Rattle.task_cell.proofs.Vocabulary.{claims_output_now, has_to_wait_on, sees_end, BeginsRegister, begins, finds_one, EndsRegister, ends, finds_notified, as_task, poll_number, Empty, Awaiter}
 use Rattle.task_cell.proofs.Vocabulary.{MayTry, HasChanged, HasEnded, first_free, has_waited, sees_output, looks, looks_again, begins_register, ends_register, takes_back, claims, claims_again}
-use Rattle.task_cell.proofs.Vocabulary.{finds_notifier, fits, not_true, left_true}
-use Rattle.task_core.specs.Rows.{row as row_of}
+use Rattle.task_cell.proofs.Vocabulary.{finds_notifier, not_true, left_true}
+use Rattle.task_steps.specs.PollScripts.{to_look, to_look_again, to_begin_register, to_end_register}
 use Rattle.task_cell.proofs.Moved.{position_is, held_is, stands, did_then}
-use Rattle.task_steps.specs.Shares.{MayBring, never}
-use Rattle.task_cell.proofs.Attempts.{written_if, may_bring_at}
+use Rattle.task_steps.specs.Shares.{MayBring}
+use Rattle.task_cell.proofs.Attempts.{may_bring_at}
 use Rattle.task_cell.proofs.PollSeen.{not_both}
-
--- a row that was made finds no notifier
-not_notifying : (b : Bool) (v : State) → is_some (if not b then Some v else None) ≡ true → b ≡ false
-not_notifying b v e = not_true b (written_if (not b) v e)
 
 -- a look that finds no output, and has not to wait, finds the task ended
 finds_end : (i : ℕ) (closed busy completed : Bool) → (if closed then busy else not completed) ≡ false → (completed && not closed) ≡ false
@@ -42,7 +38,7 @@ module _ {F T A : Type 0} where
     },
   )
 
-  pub found_one : (limit i : ℕ) (w : State) (p q : Party F T A) → Stands (Registrar i) p → q.seat.block ≡ p.seat.block → HasEnded limit (λ _ w. w.notifying) finding_notifier w p.seat.me q.seat.me → BeginsRegister p q false
+  pub found_one : (limit i : ℕ) (w : State) (p q : Party F T A) → Stands (Registrar i) p → q.seat.block ≡ p.seat.block → HasEnded limit to_begin_register w p.seat.me q.seat.me → BeginsRegister p q false
   found_one limit i w p q s cell e =
       let path : List Deed = act CloneAwaiter ∷ row FindNotify w ∷ [] in
       let g = went (CloneAwaiter ∷ FindNotify ∷ []) w (Registrar i) (UnusedClone i) [] path p q s cell e.made refl refl refl in
@@ -53,19 +49,19 @@ module _ {F T A : Type 0} where
   carried_slot i None l' c = c
   carried_slot i (Some old) l' c = c
 
-  pub begun : (limit i : ℕ) (w : State) (p q : Party F T A) → Stands (Registrar i) p → q.seat.block ≡ p.seat.block → HasChanged limit (λ _ w. row_of 0 BeginRegister w) beginning_register w p.seat.me q.seat.me → BeginsRegister p q true
-  begun limit i w p q s cell c = let m = c.made in
+  pub begun : (limit i : ℕ) (r : Unit {0}) (p q : Party F T A) → Stands (Registrar i) p → q.seat.block ≡ p.seat.block → HasChanged limit to_begin_register r p.seat.me q.seat.me → BeginsRegister p q true
+  begun limit i r p q s cell c = let m = c.made in let w = c.word in
       let path : List Deed = act CloneAwaiter ∷ row BeginRegister w ∷ act StoreAwaiter ∷ [] in let hand : Option ℕ = m.slots.awaiter in
       let g = went (CloneAwaiter ∷ BeginRegister ∷ StoreAwaiter ∷ []) w (Registrar i) (after_storing i hand) [] path p q s cell m refl refl refl in
       let y = carried_slot i hand q.seat.me.1 g.0 in
-      begins w hand y.0 (not_notifying w.notifying (written BeginRegister w) c.written) y.1 (subst (λ at. DidWith path (after_storing (poll_number at) hand) ((2, y.0) ∷ []) p q) (sym (position_is p (Registrar i) [] s)) (subst (λ l. DidWith path (after_storing i hand) l p q) y.2 g.1))
+      begins w hand y.0 (not_true w.notifying c.applied) y.1 (subst (λ at. DidWith path (after_storing (poll_number at) hand) ((2, y.0) ∷ []) p q) (sym (position_is p (Registrar i) [] s)) (subst (λ l. DidWith path (after_storing i hand) l p q) y.2 g.1))
 
   -- the slot is given back
-  pub ended : (limit i : ℕ) (w : State) (y : Slot F T A) (p q : Party F T A) → StandsWith (Registered i) ((2, y) ∷ []) p → q.seat.block ≡ p.seat.block → HasChanged limit (λ _ w. row_of 0 EndRegister w) ending_register w p.seat.me q.seat.me → EndsRegister p q true
-  ended limit i w y p q s cell c = let m = c.made in
+  pub ended : (limit i : ℕ) (r : Unit {0}) (y : Slot F T A) (p q : Party F T A) → StandsWith (Registered i) ((2, y) ∷ []) p → q.seat.block ≡ p.seat.block → HasChanged limit to_end_register r p.seat.me q.seat.me → EndsRegister p q true
+  ended limit i r y p q s cell c = let m = c.made in let w = c.word in
       let path : List Deed = row EndRegister w ∷ [] in
       let g = went (EndRegister ∷ []) w (Registered i) (Looking i) ((2, y) ∷ []) path p q s cell m refl refl refl in
-      ends w (not_notifying w.notifying (written EndRegister w) c.written) (subst (λ at. Did path (Looking (poll_number at)) p q) (sym (position_is p (Registered i) ((2, y) ∷ []) s)) (subst (λ l. DidWith path (Looking i) l p q) g.0 g.1))
+      ends w (not_true w.notifying c.applied) (subst (λ at. Did path (Looking (poll_number at)) p q) (sym (position_is p (Registered i) ((2, y) ∷ []) s)) (subst (λ l. DidWith path (Looking i) l p q) g.0 g.1))
 
   -- the slot is given back without the clone, which was taken out of it
   pub given_back : (i : ℕ) (w : State) (y : Slot F T A) (p q r : Party F T A) → StandsWith (TookBack i) ((2, y) ∷ []) p → DidWith [] (TookBack i) ((2, Empty) ∷ []) p q → r.seat.block ≡ q.seat.block → Makes (EndRegisterNotified ∷ []) w q.seat.me r.seat.me
@@ -78,7 +74,7 @@ module _ {F T A : Type 0} where
       )
 
   -- a notifier came meanwhile, and the clone is taken back
-  pub notified : (limit i : ℕ) (w : State) (y : Slot F T A) (p q : Party F T A) → StandsWith (Registered i) ((2, y) ∷ []) p → q.seat.block ≡ p.seat.block → HasEnded limit (λ _ w. w.notifying) taking_back w p.seat.me q.seat.me → EndsRegister p q false
+  pub notified : (limit i : ℕ) (w : State) (y : Slot F T A) (p q : Party F T A) → StandsWith (Registered i) ((2, y) ∷ []) p → q.seat.block ≡ p.seat.block → HasEnded limit to_end_register w p.seat.me q.seat.me → EndsRegister p q false
   notified limit i w y p q s cell e = let m = e.made in let path : List Deed = act TakeAwaiter ∷ [] in let held : List (ℕ × Slot F T A) = (2, y) ∷ [] in
       let to : (f : Option Outcome → Position) → f (leaves_by (limit_of p) w m.slots (TakeAwaiter ∷ []) (Registered i)) ≡ f (Some (changes_slots (spot (limit_of p) (held_word (Registered i) w) m.slots) w (record (m.slots) { awaiter = None }) (TookBack i) [])) = λ f.
       ap (λ (b : Bool). f (and_then (when b (changes_slots (spot (limit_of p) (held_word (Registered i) w) m.slots) w (record (m.slots) { awaiter = None }) (TookBack i) [])) (λ o. leaves_by (limit_of p) o.word o.slots [] o.next))) e.at_end in
@@ -105,22 +101,23 @@ module _ {F T A : Type 0} where
   first_holds w n l c = let f = first_free w (n + 1) in subst (λ (z : Bool × Bool). Carries false z.0 false z.1 (first_look w (n + 1)) [] l) (λ j. (f.0 j, f.1 j)) c
 
   -- the first look of a poll
-  pub looks_so : (limit n : ℕ) (x : Result State State) (p q : Party F T A) → Stands (as_task n) p → q.seat.block ≡ p.seat.block → IfOk x (λ w. HasChanged limit (λ _ w. row_of 0 ClaimOutput w) claiming w p.seat.me q.seat.me)
-      → IfErr x (λ w. HasEnded limit (λ _ w. not (has_output w)) looking w p.seat.me q.seat.me) → Looks p q x
-  looks_so limit n (Ok w) p q s cell c e = claims_output w (claimed w (as_task n) (ClaimOutput ∷ []) (row ClaimOutput w ∷ []) p q s cell c.made (written_if (has_output w) (written ClaimOutput w) c.written) refl refl refl (carried_output w.awaiter (n + 1) q.seat.me.1))
+  pub looks_so : (limit n : ℕ) (x : Result State State) (p q : Party F T A) → Stands (as_task n) p → q.seat.block ≡ p.seat.block → IfOk x (λ w. HasChanged limit to_look w p.seat.me q.seat.me)
+      → IfErr x (λ w. HasEnded limit to_look w p.seat.me q.seat.me) → Looks p q x
+  looks_so limit n (Ok r) p q s cell c e = let w = c.word in subst (λ (v : State). Looks p q (Ok v)) (sym c.is)
+      (claims_output w (claimed w (as_task n) (ClaimOutput ∷ []) (row ClaimOutput w ∷ []) p q s cell c.made c.applied refl refl refl (carried_output w.awaiter (n + 1) q.seat.me.1)))
   looks_so limit n (Err w) p q s cell c e = let m = e.made in let l : ℕ = limit_of p in let path : List Deed = row Look w ∷ [] in
       let left : Bool → Option Outcome = (λ b. and_then (when b (leaves_slots (spot l (held_word (as_task n) w) m.slots) w (first_look (held_word (as_task n) w) (n + 1)) [] (TaskPollBegins (n + 1) ∷ []))) (λ o. leaves_by l o.word o.slots [] o.next)) in
       let g = went (Look ∷ []) w (as_task n) (first_look w (n + 1)) [] path p q s cell m (ap (λ b. next_of (left b)) e.at_end) (ap (λ b. born_of (left b)) e.at_end) refl in
       sees_none w (not_true (has_output w) e.at_end) (subst (λ at. Did path (first_look w (poll_number at)) p q) (sym (position_is p (as_task n) [] s)) (subst (λ l. DidWith path (first_look w (n + 1)) l p q) (first_holds w n q.seat.me.1 g.0) g.1))
 
   -- .. which finds the task ended where one before it did
-  pub finds_it_ended : (limit : ℕ) (x : Result State State) (p q : Party F T A) → IfOk x (λ w. HasChanged limit (λ _ w. row_of 0 ClaimOutput w) claiming w p.seat.me q.seat.me) → IfErr x (λ w. HasEnded limit (λ _ w. not (has_output w)) looking w p.seat.me q.seat.me)
+  pub finds_it_ended : (limit : ℕ) (x : Result State State) (p q : Party F T A) → IfOk x (λ w. HasChanged limit to_look w p.seat.me q.seat.me) → IfErr x (λ w. HasEnded limit to_look w p.seat.me q.seat.me)
       → saw_ended (deeds p) ≡ true → (w : State) × (x ≡ Err w) × (has_ended w ≡ true)
-  finds_it_ended limit (Ok w) p q c e saw = not_both w (c.knows.ended saw) (written_if (has_output w) (written ClaimOutput w) c.written)
+  finds_it_ended limit (Ok r) p q c e saw = not_both c.word (c.knows.ended saw) c.applied
   finds_it_ended limit (Err w) p q c e saw = (w, refl, e.knows.ended saw)
 
   -- .. and the look of one that has registered
-  looked_again_in_vain : (limit i : ℕ) (w : State) (p q : Party F T A) → Stands (Looking i) p → q.seat.block ≡ p.seat.block → HasEnded limit (λ _ w. not (has_output w)) looking_again w p.seat.me q.seat.me → LooksAgain p q (Err w)
+  looked_again_in_vain : (limit i : ℕ) (w : State) (p q : Party F T A) → Stands (Looking i) p → q.seat.block ≡ p.seat.block → HasEnded limit to_look_again w p.seat.me q.seat.me → LooksAgain p q (Err w)
   looked_again_in_vain limit i w p q s cell e = by (has_to_wait w) refl
     where
       l : ℕ
@@ -137,28 +134,23 @@ module _ {F T A : Type 0} where
           let is = finds_end i w.closed (w.scheduled || w.running) w.completed f (not_true (has_output w) e.at_end) in let g = went (Look ∷ []) w (Looking i) (Notifier (OfPoll i)) [] path p q s cell m (ap (λ at. next_of (left m.slots [] at)) is.0) (ap (λ at. born_of (left m.slots [] at)) is.0) refl in
           sees_end w f is.1 (subst (λ at. Did path (Notifier (OfPoll (poll_number at))) p q) (sym (position_is p (Looking i) [] s)) (subst (λ l. DidWith path (Notifier (OfPoll i)) l p q) g.0 g.1))
 
-  pub looks_again_so : (limit i : ℕ) (x : Result State State) (p q : Party F T A) → Stands (Looking i) p → q.seat.block ≡ p.seat.block → IfOk x (λ w. HasChanged limit (λ _ w. row_of 0 ClaimOutput w) claiming_again w p.seat.me q.seat.me)
-      → IfErr x (λ w. HasEnded limit (λ _ w. not (has_output w)) looking_again w p.seat.me q.seat.me) → LooksAgain p q x
-  looks_again_so limit i (Ok w) p q s cell c e = let m = c.made in let l : ℕ = limit_of p in let there = written_if (has_output w) (written ClaimOutput w) c.written in
+  pub looks_again_so : (limit i : ℕ) (x : Result State State) (p q : Party F T A) → Stands (Looking i) p → q.seat.block ≡ p.seat.block → IfOk x (λ w. HasChanged limit to_look_again w p.seat.me q.seat.me)
+      → IfErr x (λ w. HasEnded limit to_look_again w p.seat.me q.seat.me) → LooksAgain p q x
+  looks_again_so limit i (Ok r) p q s cell c e = let w = c.word in let m = c.made in let l : ℕ = limit_of p in let there = c.applied in
       let left : Position → Option Outcome = (λ at. and_then (Some (leaves_slots (spot l (held_word (Looking i) w) m.slots) w at [] [])) (λ o. leaves_by l o.word o.slots (ClaimOutput ∷ []) o.next)) in
-      claims_output_now w (claimed w (Looking i) (Look ∷ ClaimOutput ∷ []) (row Look w ∷ row ClaimOutput w ∷ []) p q s cell m there (ap (λ at. next_of (left at)) (sees_output w i there)) (ap (λ at. born_of (left at)) (sees_output w i there)) refl (carried_output w.awaiter i q.seat.me.1))
+      subst (λ (v : State). LooksAgain p q (Ok v)) (sym c.is) (claims_output_now w (claimed w (Looking i) (Look ∷ ClaimOutput ∷ []) (row Look w ∷ row ClaimOutput w ∷ []) p q s cell m there (ap (λ at. next_of (left at)) (sees_output w i there)) (ap (λ at. born_of (left at)) (sees_output w i there)) refl (carried_output w.awaiter i q.seat.me.1)))
   looks_again_so limit i (Err w) p q s cell c e = looked_again_in_vain limit i w p q s cell e
 
 module _ (F T A : Type 0) (limit : ℕ) where
   -- the rule allows a poll to look, to take the awaiter slot, and to give it back
-  pub may_register : (p : Party F T A) (i : ℕ) → Stands (Registrar i) p → MayTry limit 3 p.seat.id p.seat.me (λ _ w. row_of 0 BeginRegister w) (λ _ w. w.notifying) beginning_register finding_notifier × MayBring limit p.seat.id p.seat.me (λ _ w. row_of 0 BeginRegister w) never
-  may_register p i s = may_bring_at limit p (Registrar i) [] s (λ _ w. row_of 0 BeginRegister w) (λ _ w. w.notifying) beginning_register finding_notifier never (λ w. refl)
-      (λ w v e m f here. begins_register F T A limit i (deeds p) [] [] m (number_of v) f (fits BeginRegister w v (number_of w) (number_of v) m.word e refl refl here)) (λ w v e m f is. inl (refl, refl)) (finds_notifier F T A limit i (deeds p) [] [])
+  pub may_register : (p : Party F T A) (i : ℕ) → Stands (Registrar i) p → MayTry limit 3 p.seat.id p.seat.me to_begin_register × MayBring limit p.seat.id p.seat.me to_begin_register
+  may_register p i s = may_bring_at limit p (Registrar i) [] s to_begin_register (λ w. refl) (begins_register F T A limit i (deeds p) [] []) (λ m f fits. inl (refl, refl)) (finds_notifier F T A limit i (deeds p) [] [])
 
-  pub may_give_back : (p : Party F T A) (i : ℕ) (a : A) → StandsWith (Registered i) ((2, Awaiter a) ∷ []) p → MayTry limit 3 p.seat.id p.seat.me (λ _ w. row_of 0 EndRegister w) (λ _ w. w.notifying) ending_register taking_back × MayBring limit p.seat.id p.seat.me (λ _ w. row_of 0 EndRegister w) never
-  may_give_back p i a s = may_bring_at limit p (Registered i) ((2, Awaiter a) ∷ []) s (λ _ w. row_of 0 EndRegister w) (λ _ w. w.notifying) ending_register taking_back never (λ w. refl)
-      (λ w v e m f here. ends_register F T A limit i (deeds p) [] (Awaiter a) ((2, Awaiter a) ∷ []) m (number_of v) f refl tt (fits EndRegister w v (number_of w) (number_of v) m.word e refl refl here)) (λ w v e m f is. inl (refl, refl))
-      (takes_back F T A limit i (deeds p) [] ((2, Awaiter a) ∷ []))
+  pub may_give_back : (p : Party F T A) (i : ℕ) (a : A) → StandsWith (Registered i) ((2, Awaiter a) ∷ []) p → MayTry limit 3 p.seat.id p.seat.me to_end_register × MayBring limit p.seat.id p.seat.me to_end_register
+  may_give_back p i a s = let held : List (ℕ × Slot F T A) = (2, Awaiter a) ∷ [] in may_bring_at limit p (Registered i) held s to_end_register (λ w. refl) (ends_register F T A limit i (deeds p) [] (Awaiter a) held refl tt) (λ m f fits. inl (refl, refl)) (takes_back F T A limit i (deeds p) [] held)
 
-  pub may_look : (p : Party F T A) (n : ℕ) → Stands (as_task n) p → MayTry limit 3 p.seat.id p.seat.me (λ _ w. row_of 0 ClaimOutput w) (λ _ w. not (has_output w)) claiming looking × MayBring limit p.seat.id p.seat.me (λ _ w. row_of 0 ClaimOutput w) never
-  may_look p n s = may_bring_at limit p (as_task n) [] s (λ _ w. row_of 0 ClaimOutput w) (λ _ w. not (has_output w)) claiming looking never (λ w. refl)
-      (λ w v e m f here. claims F T A limit n (deeds p) [] [] m (number_of v) f (fits ClaimOutput w v (number_of w) (number_of v) m.word e refl refl here)) (λ w v e m f is. inl (refl, refl)) (looks F T A limit n (deeds p) [] [])
+  pub may_look : (p : Party F T A) (n : ℕ) → Stands (as_task n) p → MayTry limit 3 p.seat.id p.seat.me to_look × MayBring limit p.seat.id p.seat.me to_look
+  may_look p n s = may_bring_at limit p (as_task n) [] s to_look (λ w. refl) (claims F T A limit n (deeds p) [] []) (λ m f fits. inl (refl, refl)) (looks F T A limit n (deeds p) [] [])
 
-  pub may_look_again : (p : Party F T A) (i : ℕ) → Stands (Looking i) p → MayTry limit 3 p.seat.id p.seat.me (λ _ w. row_of 0 ClaimOutput w) (λ _ w. not (has_output w)) claiming_again looking_again × MayBring limit p.seat.id p.seat.me (λ _ w. row_of 0 ClaimOutput w) never
-  may_look_again p i s = may_bring_at limit p (Looking i) [] s (λ _ w. row_of 0 ClaimOutput w) (λ _ w. not (has_output w)) claiming_again looking_again never (λ w. refl)
-      (λ w v e m f here. claims_again F T A limit i (deeds p) [] [] m (number_of v) f (fits ClaimOutput w v (number_of w) (number_of v) m.word e refl refl here)) (λ w v e m f is. inl (refl, refl)) (looks_again F T A limit i (deeds p) [] [])
+  pub may_look_again : (p : Party F T A) (i : ℕ) → Stands (Looking i) p → MayTry limit 3 p.seat.id p.seat.me to_look_again × MayBring limit p.seat.id p.seat.me to_look_again
+  may_look_again p i s = may_bring_at limit p (Looking i) [] s to_look_again (λ w. refl) (claims_again F T A limit i (deeds p) [] []) (λ m f fits. inl (refl, refl)) (looks_again F T A limit i (deeds p) [] [])

@@ -1,22 +1,23 @@
 -- What the steps of a run and of a Runnable's drop come to.
 use Rattle.std.proofs.Common.{inl}
-use Rattle.task_cell.proofs.Vocabulary.{◌≡◌, ℕ, Bool, true, false, not, ◌||◌, List, [], ◌∷◌, Option, Some, None, refl, sym, ap, ◌∙◌, subst, if◌then◌else◌, nat_lt, turned, State, number_of, Answer}
+use Rattle.task_cell.proofs.Vocabulary.{◌≡◌, ℕ, Bool, true, false, not, ◌||◌, List, [], ◌∷◌, Option, Some, None, refl, sym, ap, ◌∙◌, subst, if◌then◌else◌, nat_lt, turned, State, Answer}
 use Rattle.task_cell.proofs.Vocabulary.{Ran, Runnable, Ended, OfRun, ThenEnds, DroppedRunnable, Position, At, Deliverer, GivingUp, Emptier, FutureInHand, Polling, Pending, Ready, PendingFutureDropped}
 use Rattle.task_cell.proofs.Vocabulary.{OutputInHand, Act, GiveUpReference, GiveUpLastReference, EmptySlots, DiscardOpen, DiscardClosed, AnswerReady, AnswerPending, DropFuture, StoreOutput, Complete}
 use Rattle.task_cell.proofs.Vocabulary.{CompleteDetached, DropOutput, EndClosed, Reschedule, EndIdle, EndCall, EndOrphaned, found, written, after_giving_up, notifies, Slot, Empty, Deed, Party, Rescheduled}
 use Rattle.task_cell.proofs.Vocabulary.{Idle, Orphaned, IsFuture, IsOutput, future_first, output_first, Makes, Carried, all_fit, left_true, dropping_output, StandsWith, Stands, DidWith, Did}
 use Rattle.task_cell.proofs.Vocabulary.{limit_of, deeds, row, act, DiscardStart, found_open, found_closed, GivesUp, not_last, last, Releases, Completes, keeps, finds_detached, AnswersPending}
-use Rattle.task_cell.proofs.Vocabulary.{stays_pending, clears, EndsPending, is_rescheduled, is_idle, is_orphaned, ending_of, given_work, given_free, due_work, closed_already, completes, ends_pending}
-use Rattle.task_cell.proofs.Vocabulary.{MayTry, HasEnded, never_ends, Steps, arith}
+use Rattle.task_cell.proofs.Vocabulary.{stays_pending, clears, EndsPending, is_rescheduled, is_idle, is_orphaned, given_work, given_free, due_work, closed_already, completes, ends_pending}
+use Rattle.task_cell.proofs.Vocabulary.{MayTry, HasChanged, HasEnded, never_ends, not_true, arith}
+use Rattle.task_steps.specs.declared.run.PendingEnd.{PendingEnd}
 use Rattle.std.specs.Prelude.{is_some}
 use Rattle.task_core.specs.Rows.{row as row_of}
-use Rattle.task_steps.specs.RunScripts.{giving_up, emptying, discarding, answering_ready, answering_pending, completing, ending_pending, finding_closed, ending_closed, completed_word, after_pending}
+use Rattle.task_steps.specs.RunScripts.{giving_up, emptying, discarding, answering_ready, answering_pending, completing, ending_pending, ending_closed, to_complete, to_end_pending}
 use Rattle.task_cell.specs.RunPaths.{leaves_others, leaves_none}
 use Rattle.task_cell.specs.RunCalls.{finds_closed}
 use Rattle.task_steps.proofs.RunOwed.{finds_closed as finds_closed_task}
 use Rattle.task_cell.proofs.Moved as moved
 use Rattle.task_cell.proofs.Carried.{keeps_places, took_awaiter, gave_awaiter, took_work, gave_work}
-use Rattle.task_steps.specs.Shares.{MayBring, MayGive, never, ends_run}
+use Rattle.task_steps.specs.Shares.{MayBring, MayGive}
 use Rattle.task_steps.proofs.Handles.{ends_open}
 use Rattle.task_steps.proofs.Shares.{keeps_either}
 use Rattle.task_cell.proofs.Attempts.{may_bring_at, may_give_at}
@@ -34,10 +35,6 @@ none_left w o b e f = ap not (sym (some_if (nat_lt 1 w.references || w.task) (wr
 -- an act that is made alone finds the word that its row asks for
 alone_fits : (a : Act) (limit : ℕ) (w : State) → all_fit limit w (a ∷ []) ≡ true → found limit a w ≡ true
 alone_fits a limit w e = left_true (found limit a w) true e
-
--- a run that ends without an output ends on an open task
-pub was_unclosed : (w : State) → is_some (if w.closed then None else Some (after_pending w)) ≡ true → w.closed ≡ false
-was_unclosed w e = grind arith
 
 module _ {F T A : Type 0} where
   pub discarded : (p q : Party F T A) (w : State) → Stands (At Runnable) p → q.seat.block ≡ p.seat.block → Makes (discarding w) w p.seat.me q.seat.me
@@ -103,7 +100,7 @@ module _ {F T A : Type 0} where
       by false h made = let m = moved.moved (AnswerPending ∷ []) w Polling held p q s made in
           stays_pending (moved.did p q (act AnswerPending ∷ []) Pending held cell m.viewed (keeps_places Polling Pending held q.seat.me.1 refl refl m.carried))
 
-  pub found_closed_meanwhile : (limit : ℕ) (held : List (ℕ × Slot F T A)) (p q : Party F T A) (w : State) → StandsWith Pending held p → q.seat.block ≡ p.seat.block → HasEnded limit (λ _ w. w.closed) finding_closed w p.seat.me q.seat.me → DidWith (act DropFuture ∷ []) PendingFutureDropped held p q
+  pub found_closed_meanwhile : (limit : ℕ) (held : List (ℕ × Slot F T A)) (p q : Party F T A) (w : State) → StandsWith Pending held p → q.seat.block ≡ p.seat.block → HasEnded limit to_end_pending w p.seat.me q.seat.me → DidWith (act DropFuture ∷ []) PendingFutureDropped held p q
   found_closed_meanwhile limit held p q w s cell e = let v : State = record w { closed = true } in let m = moved.moved (DropFuture ∷ []) v Pending held p q s (at_closed (DropFuture ∷ []) w p q e.at_end e.made) in
       moved.did p q (act DropFuture ∷ []) PendingFutureDropped held cell m.viewed (keeps_places Pending PendingFutureDropped held q.seat.me.1 refl refl m.carried)
 
@@ -130,10 +127,16 @@ module _ {F T A : Type 0} where
       by false c h k made = let m = moved.moved (DropFuture ∷ StoreOutput ∷ CompleteDetached ∷ []) w Ready (output_first z []) p q s made in
           finds_detached z h (moved.did p q (act DropFuture ∷ act StoreOutput ∷ row CompleteDetached w ∷ []) (OutputInHand w.awaiter) (output_first z []) cell m.viewed (keeps_places Ready (OutputInHand w.awaiter) (output_first z []) q.seat.me.1 refl refl m.carried))
 
-  pub ended_pending : (y : Slot F T A) (p q : Party F T A) (w : State) → w.closed ≡ false → StandsWith Pending (future_first y []) p → q.seat.block ≡ p.seat.block → Makes (ending_pending w) w p.seat.me q.seat.me → EndsPending (future_first y []) p q (Some (ending_of w))
-  ended_pending y p q w unclosed s cell made = by w.scheduled (nat_lt 1 w.references || w.task) refl refl made
+  pub ended_pending : (limit : ℕ) (y : Slot F T A) (p q : Party F T A) (r : PendingEnd) → StandsWith Pending (future_first y []) p → q.seat.block ≡ p.seat.block → HasChanged limit to_end_pending r p.seat.me q.seat.me → EndsPending (future_first y []) p q (Some r)
+  ended_pending limit y p q r s cell c = subst (λ (x : PendingEnd). EndsPending (future_first y []) p q (Some x)) (sym c.is) (by w.scheduled (nat_lt 1 w.references || w.task) refl refl c.made)
     where
-      by : (b d : Bool) → w.scheduled ≡ b → (nat_lt 1 w.references || w.task) ≡ d → Makes (if b then Reschedule ∷ [] else (if d then EndIdle ∷ EndCall ∷ [] else EndOrphaned ∷ [])) w p.seat.me q.seat.me
+      w : State
+      w = c.word
+
+      unclosed : w.closed ≡ false
+      unclosed = not_true w.closed c.applied
+
+      by : (b d : Bool) → w.scheduled ≡ b → (nat_lt 1 w.references || w.task) ≡ d → Makes (ending_pending (if b then Rescheduled else (if d then Idle else Orphaned))) w p.seat.me q.seat.me
           → EndsPending (future_first y []) p q (Some (if b then Rescheduled else (if d then Idle else Orphaned)))
       by true d h k made = let m = moved.moved (Reschedule ∷ []) w Pending (future_first y []) p q s made in
           is_rescheduled w unclosed h (moved.did p q (row Reschedule w ∷ []) (Deliverer true (ThenEnds (Ran true))) [] cell m.viewed (gave_work Pending (Deliverer true (ThenEnds (Ran true))) (future_first y []) q.seat.me.1 refl refl m.carried))
@@ -157,16 +160,10 @@ module _ {F T A : Type 0} where
 
 module _ (F T A : Type 0) (limit : ℕ) where
   -- the rule allows a run to end: with its output, and without one
-  pub may_complete : (p : Party F T A) (z : Slot F T A) → StandsWith Ready (output_first z []) p → IsOutput z → MayTry limit 3 p.seat.id p.seat.me (λ _ w. Some (completed_word w)) (λ _ _. false) completing (λ _. []) × MayBring limit p.seat.id p.seat.me (λ _ w. Some (completed_word w)) never
-  may_complete p z s is = may_bring_at limit p Ready (output_first z []) s (λ _ w. Some (completed_word w)) (λ _ _. false) completing (λ _. []) never (λ w. refl)
-      (λ w v e m f here. let same : completed_word w ≡ v = cc in subst (λ (u : State). Steps m Ready (completing m.word) (number_of u) (output_first z [])) same (completes F T A limit w (deeds p) [] z (output_first z []) refl is m f here)) (λ w v e m f is. inl (refl, keeps_either m.word.task (DropFuture ∷ StoreOutput ∷ Complete ∷ []) (DropFuture ∷ StoreOutput ∷ CompleteDetached ∷ []) m.word refl refl))
-      (never_ends F T A limit Ready (deeds p) [] (output_first z []))
+  pub may_complete : (p : Party F T A) (z : Slot F T A) → StandsWith Ready (output_first z []) p → IsOutput z → MayTry limit 3 p.seat.id p.seat.me to_complete × MayBring limit p.seat.id p.seat.me to_complete
+  may_complete p z s is = may_bring_at limit p Ready (output_first z []) s to_complete (λ w. refl) (completes F T A limit (deeds p) [] z (output_first z []) refl is)
+      (λ m f any. inl (refl, keeps_either m.word.task (DropFuture ∷ StoreOutput ∷ Complete ∷ []) (DropFuture ∷ StoreOutput ∷ CompleteDetached ∷ []) m.word refl refl)) (never_ends F T A limit to_complete Ready (deeds p) [] (output_first z []) (λ w. refl))
 
-  pub may_end : (p : Party F T A) (y : Slot F T A) → StandsWith Pending (future_first y []) p → IsFuture y → MayTry limit 3 p.seat.id p.seat.me (λ _ w. if w.closed then None else Some (after_pending w)) (λ _ w. w.closed) ending_pending finding_closed × MayGive limit p.seat.id p.seat.me (λ _ w. if w.closed then None else Some (after_pending w)) ends_run
-  may_end p y s is = may_give_at limit p Pending (future_first y []) s (λ _ w. if w.closed then None else Some (after_pending w)) (λ _ w. w.closed) ending_pending finding_closed ends_run (λ w. refl)
-      (λ w v e m f here. let x = unclosed w.closed (after_pending w) v e in subst (λ (u : State). Steps m Pending (ending_pending m.word) (number_of u) (future_first y [])) x.1 (ends_pending F T A limit w (deeds p) [] y (future_first y []) refl is x.0 m f here)) (ends_open limit (λ _ w. if w.closed then None else Some (after_pending w)) (deeds p) [] F T A)
+  pub may_end : (p : Party F T A) (y : Slot F T A) → StandsWith Pending (future_first y []) p → IsFuture y → MayTry limit 3 p.seat.id p.seat.me to_end_pending × MayGive limit p.seat.id p.seat.me to_end_pending
+  may_end p y s is = may_give_at limit p Pending (future_first y []) s to_end_pending (λ w. refl) (ends_pending F T A limit (deeds p) [] y (future_first y []) refl is) (ends_open limit (deeds p) [] F T A)
       (finds_closed_task F T A limit (deeds p) [] (future_first y []))
-    where
-      unclosed : (b : Bool) (u v : State) → (if b then None else Some u) ≡ Some v → (b ≡ false) × (u ≡ v)
-      unclosed false u v e = (refl, cc)
-      unclosed true u v e = absurd (cc)

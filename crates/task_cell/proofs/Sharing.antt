@@ -1,44 +1,13 @@
 -- Whose share is left, or was brought, by what a step found.
-use Rattle.task_cell.proofs.Vocabulary.{◌≡◌, ℕ, Bool, true, false, not, ◌&&◌, ◌||◌, refl, arith, nat_lt, nat_eq, if◌then◌else◌, State, is_open, closed_by, dropped_by, ending_of, given_up_by, others_left, Busy, Unclaimed, Rescheduled, Idle, Orphaned}
+use Rattle.task_cell.proofs.Vocabulary.{◌≡◌, ℕ, Bool, true, false, not, refl, arith, nat_lt, nat_eq, if◌then◌else◌, State, is_open, dropped_by, others_left}
 use Rattle.task_cell.proofs.Vocabulary.{◌∙◌}
-use Rattle.task_core.specs.Rows.{found}
-use Rattle.task_core.specs.declared.acts.Act.TheVariants.{CancelIdle, Detach, DetachLast, DetachOrphan}
 use Rattle.task_core.specs.declared.traits.Yields.{Ghosts}
 use Rattle.task_cell.specs.declared.cell.block.Share.{Share}
 use Rattle.task_cell.specs.declared.cell.block.MaybeShare.{MaybeShare}
 use Rattle.task_cell.specs.Belongs.{Leaves, cell_of, limit_in}
 use Rattle.std.proofs.lemmas.Bool.Decides.{nat_tests}
-use Rattle.task_steps.specs.declared.task.Cancelled.TheVariants.{Idle as FoundIdle}
-use Rattle.task_steps.specs.declared.task.Detached.TheVariants as detached
 use Rattle.task_steps.specs.declared.waker.Dropped.TheVariants as dropped
-use Rattle.task_steps.specs.Shares.{brings_runnable, ends_run, ends_task}
-use Rattle.task_cell.specs.RunCalls.{keeps_share}
-use Rattle.task_cell.specs.TaskPaths.{brings_share, keeps_task}
 use Rattle.task_cell.specs.WakerPaths.{keeps_waker}
-
-pub brought_by_cancel : (w : State) → brings_runnable w ≡ brings_share (closed_by w)
-brought_by_cancel w = by (found 0 CancelIdle w)
-  where
-    by : (b : Bool) → b ≡ brings_share (if b then FoundIdle w.awaiter else Busy w.awaiter)
-    by true = refl
-    by false = refl
-
-pub left_by_run : (w : State) → not (ends_run w) ≡ keeps_share (ending_of w)
-left_by_run w = by w.scheduled (nat_lt 1 w.references || w.task)
-  where
-    by : (s d : Bool) → not (not s && d) ≡ keeps_share (if s then Rescheduled else (if d then Idle else Orphaned))
-    by true d = refl
-    by false true = refl
-    by false false = refl
-
-pub left_by_task : (w : State) → not (ends_task w) ≡ keeps_task (given_up_by w)
-left_by_task w = by (found 0 Detach w) (found 0 DetachLast w) (found 0 DetachOrphan w)
-  where
-    by : (a b c : Bool) → not a ≡ keeps_task (if a then detached.Shared else (if b then detached.Last else (if c then detached.Orphaned else Unclaimed)))
-    by true b c = refl
-    by false true c = refl
-    by false false true = refl
-    by false false false = refl
 
 pub left_by_waker : (w : State) → not (others_left w) ≡ keeps_waker (dropped_by w)
 left_by_waker w = by (others_left w) (is_open w)

@@ -1,6 +1,6 @@
 -- The steps that the rule allows a party, alone on its seat.
 use Rattle.task_cell.proofs.Vocabulary.{◌≡◌, ℕ, Bool, List, [], refl, sym, ap, subst, Machine, Position, State, Act, Slot, Party, Finds, Owes, steps_knowing, deeds, limit_of, StandsWith, MayMake, MayGiveUp, MayNote}
-use Rattle.task_steps.proofs.Acts.{word_after}
+use Rattle.task_steps.specs.Attempt.{word_after}
 use Rattle.task_steps.proofs.Known.{OwesNote, may_note as may_note_at}
 use Rattle.task_steps.proofs.Shares.{shares_of, Gives, keeps_shares, parts_shares}
 

@@ -1,27 +1,24 @@
 -- What the steps of a cancel and of a detach come to for the party that made them.
-use Rattle.task_cell.proofs.Vocabulary.{◌≡◌, ℕ, Bool, true, false, not, ◌&&◌, List, [], ◌∷◌, ◌++◌, Option, Some, None, refl, sym, ap, subst, arith, nat_lt, nat_eq, if◌then◌else◌, State, is_open}
-use Rattle.task_cell.proofs.Vocabulary.{number_of, Answer, Nothing, Position, At, Deliverer, Emptier, OutputCloser, Detacher, CallEnding, Rest, Task, Ended, ThenEnds, OfCancel, CancelOver, CancelBusy}
+use Rattle.task_cell.proofs.Vocabulary.{◌≡◌, ℕ, Bool, true, false, not, ◌&&◌, List, [], ◌∷◌, ◌++◌, Option, Some, None, refl, sym, subst, arith, nat_lt, nat_eq, if◌then◌else◌, State, is_open}
+use Rattle.task_cell.proofs.Vocabulary.{Answer, Nothing, Position, At, Deliverer, Emptier, OutputCloser, Detacher, CallEnding, Rest, Task, Ended, ThenEnds, OfCancel, CancelOver, CancelBusy}
 use Rattle.task_cell.proofs.Vocabulary.{CancelIdle, GiveUpOutput, DropOutput, DetachOrphan, DetachLast, Detach, EndCall, notifies, after_cancelling, owns_awaiter, Slot, Deed, Party, Busy}
 use Rattle.task_cell.proofs.Vocabulary.{Unclaimed, has_work, output_first, Carries, Makes, position, Stands, Did, deeds, row, act, rest_of, as_task, NotifyPath, none_there, taken, WakePath, nobody}
-use Rattle.task_cell.proofs.Vocabulary.{woken, TakesDue, Wakes, Notice, not_due, found_none, woke, Cancels, Detaches, GivesTaskUp, closed_by, given_up_by, both, over, busy_fits, none_left, output_left}
-use Rattle.task_cell.proofs.Vocabulary.{closed_claimed, idle_cancel, finds_over, cancels, detaches, is_over, MayTry, HasChanged, HasEnded, never_ends, is_some, after_taking}
+use Rattle.task_cell.proofs.Vocabulary.{woken, TakesDue, Wakes, Notice, not_due, found_none, woke, Cancels, Detaches, GivesTaskUp, both, over, busy_fits, none_left, output_left}
+use Rattle.task_cell.proofs.Vocabulary.{closed_claimed, idle_cancel, finds_over, cancels, detaches, MayTry, HasChanged, HasEnded, never_ends, is_some, after_taking}
 use Rattle.std.proofs.lemmas.Bool.Decides.{nat_tests}
 use Rattle.task_steps.specs.declared.task.Cancelled.TheVariants.{Idle}
 use Rattle.task_steps.specs.declared.task.Detached.TheVariants.{Shared, Last, Orphaned}
 use Rattle.task_cell.specs.RunPaths.{not_due as none_due, missed as miss}
-use Rattle.task_steps.specs.TaskScripts.{cancelling, detaching, giving_task_up, finding_cancelled, cancelled, cancelled_word, detached}
+use Rattle.task_steps.specs.TaskScripts.{closing, detaching, giving_task_up, to_cancel, to_detach}
+use Rattle.task_steps.specs.declared.task.Cancelled.{Cancelled}
+use Rattle.task_steps.specs.declared.task.Detached.{Detached}
 use Rattle.task_cell.specs.TaskPaths.{missed}
 use Rattle.task_cell.proofs.Moved.{moved, did, did_then, stands, position_is}
 use Rattle.task_core.specs.Rows.{found}
-use Rattle.task_steps.specs.Shares.{MayBring, MayGive, brings_runnable, ends_task}
+use Rattle.task_steps.specs.Shares.{MayBring, MayGive}
 use Rattle.task_steps.proofs.Handles.{cancels_task, detaches_task}
-use Rattle.task_cell.proofs.Attempts.{written_if, may_bring_at, may_give_at}
+use Rattle.task_cell.proofs.Attempts.{may_bring_at, may_give_at}
 use Rattle.task_cell.proofs.RunRest.{due_path}
-
--- a word that is written only where the test holds
-pub opened : (b : Bool) (v w : State) → Some v ≡ (if b then Some w else None) → (b ≡ true) × (v ≡ w)
-opened true v w e = (refl, cc)
-opened false v w e = absurd (cc)
 
 -- what was taken and woken, of a cancel
 noticed : (Woken : Type 0) (due found : Bool) (n k : List Deed) → NotifyPath due found n → WakePath Woken found k → Notice Woken due (n ++ k)
@@ -35,29 +32,32 @@ module _ {F T A : Type 0} where
   bare a b q l e f c = subst (λ (z : Bool × Bool). Carries {F = F} {T = T} {A = A} false z.0 false z.1 q [] l) (λ i. (e i, f i)) c
 
   -- a cancel of a task that is over
-  pub looks_over : (limit : ℕ) (p q : Party F T A) (n : ℕ) (w : State) → Stands (as_task n) p → q.seat.block ≡ p.seat.block → HasEnded limit is_over finding_cancelled w p.seat.me q.seat.me → Cancels n p q None
+  pub looks_over : (limit : ℕ) (p q : Party F T A) (n : ℕ) (w : State) → Stands (as_task n) p → q.seat.block ≡ p.seat.block → HasEnded limit to_cancel w p.seat.me q.seat.me → Cancels n p q None
   looks_over limit p q n w s cell e = let x = moved (CancelOver ∷ EndCall ∷ []) w (At (Task n)) [] p q s e.made in
       (w, e.at_end, did p q (row CancelOver w ∷ act EndCall ∷ []) (At (Task n)) [] cell x.viewed x.carried)
 
   -- .. and the row of one that closes it
-  pub closes : (limit : ℕ) (p q : Party F T A) (n : ℕ) (w : State) → Stands (as_task n) p → q.seat.block ≡ p.seat.block → HasChanged limit cancelled_word cancelling w p.seat.me q.seat.me → Cancels n p q (Some (closed_by w))
-  closes limit p q n w s cell c = made (found 0 CancelIdle w) refl c.made
+  pub closes : (limit : ℕ) (p q : Party F T A) (n : ℕ) (r : Cancelled) → Stands (as_task n) p → q.seat.block ≡ p.seat.block → HasChanged limit to_cancel r p.seat.me q.seat.me → Cancels n p q (Some r)
+  closes limit p q n r s cell c = subst (λ (x : Cancelled). Cancels n p q (Some x)) (sym c.is) (made (found 0 CancelIdle w) refl c.made)
     where
-      now : is_open w ≡ true
-      now = written_if (is_open w) (cancelled w) c.written
+      w : State
+      w = c.word
 
-      made : (b : Bool) → found 0 CancelIdle w ≡ b → Makes (if b then CancelIdle ∷ [] else CancelBusy ∷ []) w p.seat.me q.seat.me → Cancels n p q (Some (if b then Idle w.awaiter else Busy w.awaiter))
+      made : (b : Bool) → found 0 CancelIdle w ≡ b → Makes (closing (if b then Idle w.awaiter else Busy w.awaiter)) w p.seat.me q.seat.me → Cancels n p q (Some (if b then Idle w.awaiter else Busy w.awaiter))
       made true fit m = let x = moved (CancelIdle ∷ []) w (At (Task n)) [] p q s m in
           (w, refl, fit, did p q (row CancelIdle w ∷ []) (Deliverer false (after_cancelling w.awaiter n)) [] cell x.viewed x.carried)
       made false unfit m = let x = moved (CancelBusy ∷ []) w (At (Task n)) [] p q s m in let at : Position = notifies w.awaiter (OfCancel n) in let i = idle_cancel w.awaiter n in
-          (w, refl, busy_fits (is_open w) w.scheduled w.running now unfit, did p q (row CancelBusy w ∷ []) at [] cell x.viewed (bare (has_work at) (owns_awaiter at) at q.seat.me.1 i.0 i.1 x.carried))
+          (w, refl, busy_fits (is_open w) w.scheduled w.running c.applied unfit, did p q (row CancelBusy w ∷ []) at [] cell x.viewed (bare (has_work at) (owns_awaiter at) at q.seat.me.1 i.0 i.1 x.carried))
 
   -- the row of a detach
-  pub gives_up : (limit : ℕ) (p q : Party F T A) (n : ℕ) (w : State) → Stands (as_task n) p → q.seat.block ≡ p.seat.block → HasChanged limit (λ _ w. Some (detached w)) detaching w p.seat.me q.seat.me → Detaches p q (given_up_by w)
-  gives_up limit p q n w s cell c = made (found 0 Detach w) (found 0 DetachLast w) (found 0 DetachOrphan w) refl refl refl c.made
+  pub gives_up : (limit : ℕ) (p q : Party F T A) (n : ℕ) (r : Detached) → Stands (as_task n) p → q.seat.block ≡ p.seat.block → HasChanged limit to_detach r p.seat.me q.seat.me → Detaches p q r
+  gives_up limit p q n r s cell c = subst (Detaches p q) (sym c.is) (made (found 0 Detach w) (found 0 DetachLast w) (found 0 DetachOrphan w) refl refl refl c.made)
     where
+      w : State
+      w = c.word
+
       made : (a b c : Bool) → found 0 Detach w ≡ a → found 0 DetachLast w ≡ b → found 0 DetachOrphan w ≡ c
-          → Makes (if a then Detach ∷ EndCall ∷ [] else (if b then DetachLast ∷ [] else (if c then DetachOrphan ∷ [] else GiveUpOutput ∷ []))) w p.seat.me q.seat.me
+          → Makes (detaching (if a then Shared else (if b then Last else (if c then Orphaned else Unclaimed)))) w p.seat.me q.seat.me
           → Detaches p q (if a then Shared else (if b then Last else (if c then Orphaned else Unclaimed)))
       made true b c fit y z m = let x = moved (Detach ∷ EndCall ∷ []) w (At (Task n)) [] p q s m in
           (w, fit, did p q (row Detach w ∷ act EndCall ∷ []) (At Ended) [] cell x.viewed x.carried)
@@ -108,10 +108,8 @@ module _ {F T A : Type 0} where
 
 module _ (F T A : Type 0) (limit : ℕ) where
   -- the rule allows a Task to cancel, and to be detached
-  pub may_cancel : (p : Party F T A) (n : ℕ) → Stands (as_task n) p → MayTry limit 3 p.seat.id p.seat.me cancelled_word is_over cancelling finding_cancelled × MayBring limit p.seat.id p.seat.me cancelled_word brings_runnable
-  may_cancel p n s = may_bring_at limit p (At (Task n)) [] s cancelled_word is_over cancelling finding_cancelled brings_runnable (λ w. refl)
-      (λ w v e m f here. let x = opened (is_open w) v (cancelled w) (sym e) in cancels F T A limit n (deeds p) [] [] w (number_of w) (number_of v) refl (ap number_of x.1) x.0 m f here) (cancels_task limit n (deeds p) [] F T A) (finds_over F T A limit n (deeds p) [] [])
+  pub may_cancel : (p : Party F T A) (n : ℕ) → Stands (as_task n) p → MayTry limit 3 p.seat.id p.seat.me to_cancel × MayBring limit p.seat.id p.seat.me to_cancel
+  may_cancel p n s = may_bring_at limit p (At (Task n)) [] s to_cancel (λ w. refl) (cancels F T A limit n (deeds p) [] []) (cancels_task limit n (deeds p) [] F T A) (finds_over F T A limit n (deeds p) [] [])
 
-  pub may_detach : (p : Party F T A) (n : ℕ) → Stands (as_task n) p → MayTry limit 3 p.seat.id p.seat.me (λ _ w. Some (detached w)) (λ _ _. false) detaching (λ _. []) × MayGive limit p.seat.id p.seat.me (λ _ w. Some (detached w)) ends_task
-  may_detach p n s = may_give_at limit p (At (Task n)) [] s (λ _ w. Some (detached w)) (λ _ _. false) detaching (λ _. []) ends_task (λ w. refl)
-      (λ w v e m f here. let is : detached w ≡ v = cc in detaches F T A limit n (deeds p) [] [] w (number_of w) (number_of v) refl (ap number_of (sym is)) m f here) (detaches_task limit n (λ _ w. Some (detached w)) (deeds p) [] F T A) (never_ends F T A limit (At (Task n)) (deeds p) [] [])
+  pub may_detach : (p : Party F T A) (n : ℕ) → Stands (as_task n) p → MayTry limit 3 p.seat.id p.seat.me to_detach × MayGive limit p.seat.id p.seat.me to_detach
+  may_detach p n s = may_give_at limit p (At (Task n)) [] s to_detach (λ w. refl) (detaches F T A limit n (deeds p) [] []) (detaches_task limit n (deeds p) [] F T A) (never_ends F T A limit to_detach (At (Task n)) (deeds p) [] [] (λ w. refl))

@@ -53,7 +53,7 @@ pub use Rattle.task_laws.specs.declared.positions.Position.TheVariants.{SawOutpu
 pub use Rattle.task_laws.specs.declared.positions.Rest.{Rest}
 pub use Rattle.task_laws.specs.declared.positions.Rest.TheVariants.{Ended, Lent, Runnable, Task, Waker}
 pub use Rattle.task_laws.specs.declared.positions.WithoutPoll.TheVariants.{ClosedRun, DroppedRunnable}
-pub use Rattle.task_steps.proofs.Acts.{both, row_found}
+pub use Rattle.task_steps.proofs.Acts.{both}
 pub use Rattle.task_steps.proofs.Advance.{Finds, Steps, lies_there, takes_future}
 pub use Rattle.task_steps.proofs.Allowed.{Owes, OwesEnd}
 pub use Rattle.task_steps.proofs.Attempts.{may_try, never_ends}
@@ -63,7 +63,7 @@ pub use Rattle.task_steps.proofs.Facts.{law, queued}
 pub use Rattle.task_steps.proofs.Known.{steps_knowing}
 pub use Rattle.task_steps.proofs.Owed.{looks_finished, unschedules}
 pub use Rattle.task_steps.proofs.PollOwed.{begins_register, claims, claims_again, drops_clone, drops_stored, ends_notified, ends_poll, ends_register}
-pub use Rattle.task_steps.proofs.PollOwed.{finds_notifier, first_free, fits, hands_out, has_waited, looks, looks_again, refuses, same_first, sees_output}
+pub use Rattle.task_steps.proofs.PollOwed.{finds_notifier, first_free, hands_out, has_waited, looks, looks_again, refuses, same_first, sees_output}
 pub use Rattle.task_steps.proofs.PollOwed.{takes_back, wakes_clone}
 pub use Rattle.task_steps.proofs.RunOwed.{answers_pending, answers_ready, closed_already, completes, discards, due_work, empties, ends_closed, ends_pending}
 pub use Rattle.task_steps.proofs.RunOwed.{given_free, given_work, gives_up}
@@ -75,18 +75,15 @@ pub use Rattle.task_steps.proofs.WakerOwed.{closes_orphan, drops_waker, gains}
 pub use Rattle.task_steps.proofs.WakerSeats.{parts_newest}
 pub use Rattle.task_steps.specs.Attempts.{HasChanged, HasEnded, HasSeen, MayTry, Names, attempted, having_seen, looked, missed, observed}
 pub use Rattle.task_steps.specs.Deeds.{act, after, row}
-pub use Rattle.task_steps.specs.Found.{closed_by, dropped_by, ending_of, given_up_by}
 pub use Rattle.task_steps.specs.Held.{awaiter_in, held}
-pub use Rattle.task_steps.specs.PollScripts.{beginning_register, claiming, claiming_again, ending_register, finding_notifier, has_ended, has_output}
-pub use Rattle.task_steps.specs.PollScripts.{has_to_wait, looking, looking_again, taking_back}
+pub use Rattle.task_steps.specs.PollScripts.{has_ended, has_output, has_to_wait}
 pub use Rattle.task_steps.specs.Rule.{AtHome, Explains, IsEmpty, IsFuture, IsOutput, RuleHolds, Running, Waits, filling_view, fresh, has_work, laid_view}
 pub use Rattle.task_steps.specs.Rule.{member, opening_at, opening_view, view}
 pub use Rattle.task_steps.specs.Scripts.{dropping_output, releasing_awaiter, taking_awaiter}
 pub use Rattle.task_steps.specs.Standing.{as_deliverer, as_ended, as_runnable, as_task, as_waker, closing_way, handed_over, poll_number, rest_of, way_of}
 pub use Rattle.task_steps.specs.Steps.{Awaits, Carried, Carries, Makes, TakesOutput, Works, acted, all_fit, and_then, born_of, future_first, head_of, held_word}
 pub use Rattle.task_steps.specs.Steps.{leaves_by, leaves_such, next_of, noted, output_first, saw, saw_closed, saw_ended, spot}
-pub use Rattle.task_steps.specs.WakerScripts.{at_limit, closing_orphan, dropping_waker, finding_limit, finding_over, gained_word, gaining, is_over, others_left}
-pub use Rattle.task_steps.specs.WakerScripts.{waking_task, woken_if_held, woken_word}
+pub use Rattle.task_steps.specs.WakerScripts.{at_limit, closing_orphan, dropped_by, dropping_waker, others_left, to_gain, to_wake}
 pub use Rattle.task_steps.specs.declared.table.Deed.{Deed}
 pub use Rattle.task_steps.specs.declared.table.Member.{Member}
 pub use Rattle.task_steps.specs.declared.table.Slot.{Slot}

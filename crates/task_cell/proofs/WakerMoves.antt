@@ -1,13 +1,17 @@
 -- What the steps of a lent waker, and of a waker's drop, come to for the party that made them.
 use Rattle.task_cell.proofs.Vocabulary.{◌≡◌, ℕ, Bool, true, false, List, [], ◌∷◌, Option, Some, None, IfSome, is_some, refl, sym, ap, ◌∙◌, subst, nat_lt, if◌then◌else◌, Me, State, is_open}
-use Rattle.task_cell.proofs.Vocabulary.{number_of, written, Slots, is_held, Nothing, Waker, Lent, Ended, ThenEnds, Position, At, Deliverer, Emptier, OrphanHolder, Act, GainReference, FindLimit}
+use Rattle.task_cell.proofs.Vocabulary.{Slots, is_held, Nothing, Waker, Lent, Ended, ThenEnds, Position, At, Deliverer, Emptier, OrphanHolder, Act, GainReference, FindLimit}
 use Rattle.task_cell.proofs.Vocabulary.{DropWaker, DropLastWaker, OrphanTask, CloseOrphan, WakeOver, WakeScheduled, WakeRunning, WakeIdle, EndCall, Slot, Deed, Member, View, Party, Shared}
 use Rattle.task_cell.proofs.Vocabulary.{Last, member, view, fresh, head_of, acted, Carried, Makes, deeds, limit_of, IsNew, Sees, Stands, Did, row, act, after, as_waker, as_deliverer, MayTry, HasChanged}
-use Rattle.task_cell.proofs.Vocabulary.{HasEnded, others_left, gaining, gained_word, at_limit, finding_limit, is_over, finding_over, waking_task, woken_word, woken_if_held}
+use Rattle.task_cell.proofs.Vocabulary.{HasEnded, others_left, at_limit, to_gain, to_wake}
+use Rattle.task_steps.specs.WakerScripts.{waking_task, brings_runnable}
+use Rattle.task_steps.specs.declared.waker.Woken.{Woken}
+use Rattle.task_steps.specs.declared.waker.Woken.TheVariants.{Scheduled, Running, Idle}
 use Rattle.task_cell.proofs.Vocabulary.{dropping_waker, closing_orphan, is_gained, finds_limit, is_scheduled, is_running, Gains, gains_none, gains_one, WakesTask}
 use Rattle.task_cell.proofs.Vocabulary.{makes_none, makes_one, DropsWaker, dropped_by, gains, not_true}
-use Rattle.task_core.specs.Rows.{found, row as row_of}
+use Rattle.task_core.specs.Rows.{found}
 use Rattle.task_steps.proofs.WakerOwed.{scheduled_fits}
+use Rattle.task_steps.proofs.Seen.{right_true}
 use Rattle.task_steps.specs.declared.waker.Dropped.TheVariants.{Orphaned}
 use Rattle.task_steps.specs.Beside.{without_newest, newest}
 use Rattle.task_cell.specs.WakerPaths.{is_idle, GainPath, TaskWakePath}
@@ -16,19 +20,12 @@ use Rattle.counted_block.specs.Blocks.{BlockId}
 use Rattle.task_cell.specs.Calls.{second}
 use Rattle.task_steps.specs.Standing.{as_waker}
 use Rattle.task_cell.specs.WakerPaths as paths
-use Rattle.task_steps.specs.Shares.{MayBring, always, brings_runnable}
+use Rattle.task_steps.specs.Shares.{MayBring}
 use Rattle.task_steps.proofs.Handles.{gains_handle, wakes_task}
-use Rattle.task_cell.proofs.Attempts.{if_some, written_if, if_is, may_bring_at}
+use Rattle.task_cell.proofs.Attempts.{may_bring_at}
 use Rattle.task_steps.proofs.WakerOwed as owed
 use Rattle.task_cell.proofs.Carried.{keeps_places}
 use Rattle.task_cell.proofs.Moved.{moved, did, stands}
-
--- whether the count had room, and the task was open, by the word that was written
-has_room : (limit : ℕ) (w : State) → is_some (gained_word limit w) ≡ true → nat_lt w.references limit ≡ true
-has_room limit w e = written_if (nat_lt w.references limit) (written GainReference w) (if_some (is_held w) (row_of limit GainReference w) e).1
-
-was_open : (limit : ℕ) (w : State) → is_some (woken_if_held limit w) ≡ true → is_open w ≡ true
-was_open limit w e = written_if (is_open w) (woken_word w) (if_some (is_held w) (if is_open w then Some (woken_word w) else None) e).1
 
 module _ {F T A : Type 0} where
   -- the seat of a lent waker after acts by which it comes back, with what they added
@@ -104,8 +101,8 @@ module _ {F T A : Type 0} where
   gain_gives limit block p q (Some d) cell is (gains_one path x w g n) = (n.cell ∙ cell, n.is ∙ ap (λ l. (view l (fresh as_waker ∷ []), [])) is)
 
   -- the seat after the row of a gain, and what it comes to when the waker has left it
-  pub beside_waker : (limit : ℕ) (w : State) (p q : Party F T A) → Stands (At Lent) p → HasChanged limit gained_word gaining w p.seat.me q.seat.me → Beside (row GainReference w ∷ act EndCall ∷ []) (fresh (At Waker) ∷ []) p q
-  beside_waker limit w p q s x = back w (gaining w) (row GainReference w ∷ act EndCall ∷ []) (fresh (At Waker) ∷ []) p q s (λ slots l ds. refl) x.made
+  pub beside_waker : (limit : ℕ) (r : Unit {0}) (p q : Party F T A) → Stands (At Lent) p → (c : HasChanged limit to_gain r p.seat.me q.seat.me) → Beside (row GainReference c.word ∷ act EndCall ∷ []) (fresh (At Waker) ∷ []) p q
+  beside_waker limit r p q s x = let w = x.word in back w (GainReference ∷ EndCall ∷ []) (row GainReference w ∷ act EndCall ∷ []) (fresh (At Waker) ∷ []) p q s (λ slots l ds. refl) x.made
 
   leaves_newest : (path : List Deed) (n : Member) (p q t : Party F T A) → Beside path (n ∷ []) p q → q.seat.block ≡ p.seat.block → t.seat.block ≡ q.seat.block → t.seat.me ≡ (without_newest q.seat.me.0, q.seat.me.1) → Did path (At Lent) p t
   leaves_newest path n p q t b cell there is = record { cell = there ∙ cell; is = is ∙ ap (λ (x : Me (Slot F T A) View). (without_newest x.0, x.1)) b }
@@ -113,42 +110,52 @@ module _ {F T A : Type 0} where
   is_newest : (path : List Deed) (at : Position) (p q x : Party F T A) → Beside path (fresh at ∷ []) p q → q.seat.block ≡ p.seat.block → x.seat.block ≡ q.seat.block → x.seat.me ≡ (newest q.seat.me.0, []) → IsNew at p x
   is_newest path at p q x b cell there is = record { cell = there ∙ cell; is = is ∙ ap (λ (y : Me (Slot F T A) View). (newest y.0, [])) b }
 
-  pub gains_waker : (limit : ℕ) (w : State) (p q t x : Party F T A) → Stands (At Lent) p → q.seat.block ≡ p.seat.block → HasChanged limit gained_word gaining w p.seat.me q.seat.me → t.seat.block ≡ q.seat.block → t.seat.me ≡ (without_newest q.seat.me.0, q.seat.me.1)
+  pub gains_waker : (limit : ℕ) (r : Unit {0}) (p q t x : Party F T A) → Stands (At Lent) p → q.seat.block ≡ p.seat.block → HasChanged limit to_gain r p.seat.me q.seat.me → t.seat.block ≡ q.seat.block → t.seat.me ≡ (without_newest q.seat.me.0, q.seat.me.1)
       → x.seat.block ≡ q.seat.block → x.seat.me ≡ (newest q.seat.me.0, []) → Gains limit p t (Some x)
-  gains_waker limit w p q t x s cell c there is there' is' = let path : List Deed = row GainReference w ∷ act EndCall ∷ [] in let b = beside_waker limit w p q s c in
-      gains_one path x (is_gained w (has_room limit w c.written)) (leaves_newest path (fresh (At Waker)) p q t b cell there is) (is_newest path (At Waker) p q x b cell there' is')
+  gains_waker limit r p q t x s cell c there is there' is' = let w = c.word in let path : List Deed = row GainReference w ∷ act EndCall ∷ [] in let b = beside_waker limit r p q s c in
+      gains_one path x (is_gained w (right_true (is_held w) _ c.applied)) (leaves_newest path (fresh (At Waker)) p q t b cell there is) (is_newest path (At Waker) p q x b cell there' is')
 
-  pub gains_nothing : (limit : ℕ) (w : State) (p q : Party F T A) → Stands (At Lent) p → q.seat.block ≡ p.seat.block → HasEnded limit at_limit finding_limit w p.seat.me q.seat.me → Gains limit p q None
+  pub gains_nothing : (limit : ℕ) (w : State) (p q : Party F T A) → Stands (At Lent) p → q.seat.block ≡ p.seat.block → HasEnded limit to_gain w p.seat.me q.seat.me → Gains limit p q None
   gains_nothing limit w p q s cell x = let path : List Deed = row FindLimit w ∷ act EndCall ∷ [] in
-      gains_none path (finds_limit w (not_true (nat_lt w.references limit) x.at_end)) (record { cell = cell; is = back w (finding_limit w) path [] p q s (λ slots l ds. refl) x.made })
+      gains_none path (finds_limit w (not_true (nat_lt w.references limit) x.at_end)) (record { cell = cell; is = back w (FindLimit ∷ EndCall ∷ []) path [] p q s (λ slots l ds. refl) x.made })
 
   -- a wake of a task that is over
-  pub wakes_over : (limit : ℕ) (w : State) (p q : Party F T A) → Stands (At Lent) p → q.seat.block ≡ p.seat.block → HasEnded limit is_over finding_over w p.seat.me q.seat.me → WakesTask p q None
+  pub wakes_over : (limit : ℕ) (w : State) (p q : Party F T A) → Stands (At Lent) p → q.seat.block ≡ p.seat.block → HasEnded limit to_wake w p.seat.me q.seat.me → WakesTask p q None
   wakes_over limit w p q s cell x = let path : List Deed = row WakeOver w ∷ act EndCall ∷ [] in
-      makes_none path (paths.is_over w x.at_end) (record { cell = cell; is = back w (finding_over w) path [] p q s (λ slots l ds. refl) x.made })
+      makes_none path (paths.is_over w x.at_end) (record { cell = cell; is = back w (WakeOver ∷ EndCall ∷ []) path [] p q s (λ slots l ds. refl) x.made })
 
   -- .. of one that is scheduled, or runs
-  pub wakes_busy : (limit : ℕ) (w : State) (p q : Party F T A) → Stands (At Lent) p → q.seat.block ≡ p.seat.block → HasChanged limit woken_if_held waking_task w p.seat.me q.seat.me → found 0 WakeIdle w ≡ false → WakesTask p q None
-  wakes_busy limit w p q s cell x busy = by (found 0 WakeRunning w) refl (subst (λ (b : Bool). Makes (made b (found 0 WakeRunning w)) w p.seat.me q.seat.me) busy x.made)
+  pub wakes_busy : (limit : ℕ) (r : Woken) (p q : Party F T A) → Stands (At Lent) p → q.seat.block ≡ p.seat.block → HasChanged limit to_wake r p.seat.me q.seat.me → brings_runnable r ≡ false → WakesTask p q None
+  wakes_busy limit r p q s cell x busy = by (found 0 WakeIdle w) (found 0 WakeRunning w) refl refl (ap brings_runnable (sym x.is) ∙ busy) x.made
     where
-      made : Bool → Bool → List Act
-      made a b = if a then WakeIdle ∷ EndCall ∷ [] else (if b then WakeRunning ∷ EndCall ∷ [] else WakeScheduled ∷ EndCall ∷ [])
+      w : State
+      w = x.word
 
-      by : (b : Bool) → found 0 WakeRunning w ≡ b → Makes (made false b) w p.seat.me q.seat.me → WakesTask p q None
-      by true fit m = let path : List Deed = row WakeRunning w ∷ act EndCall ∷ [] in
+      by : (a b : Bool) → found 0 WakeIdle w ≡ a → found 0 WakeRunning w ≡ b → let r : Woken = if a then Idle else (if b then Running else Scheduled) in brings_runnable r ≡ false → Makes (waking_task r) w p.seat.me q.seat.me → WakesTask p q None
+      by true b idle too none m = absurd (cc)
+      by false true unfit fit none m = let path : List Deed = row WakeRunning w ∷ act EndCall ∷ [] in
           makes_none path (is_running w fit) (record { cell = cell; is = back w (WakeRunning ∷ EndCall ∷ []) path [] p q s (λ slots l ds. refl) m })
-      by false unfit m = let path : List Deed = row WakeScheduled w ∷ act EndCall ∷ [] in
-          makes_none path (is_scheduled w (scheduled_fits w (was_open limit w x.written) busy unfit)) (record { cell = cell; is = back w (WakeScheduled ∷ EndCall ∷ []) path [] p q s (λ slots l ds. refl) m })
+      by false false busy unfit none m = let path : List Deed = row WakeScheduled w ∷ act EndCall ∷ [] in
+          makes_none path (is_scheduled w (scheduled_fits w (right_true (is_held w) (is_open w) x.applied) busy unfit)) (record { cell = cell; is = back w (WakeScheduled ∷ EndCall ∷ []) path [] p q s (λ slots l ds. refl) m })
 
   -- .. of one that was idle: the seat after the row, and what it comes to when the deliverer has left it
-  pub beside_deliverer : (limit : ℕ) (w : State) (p q : Party F T A) → Stands (At Lent) p → HasChanged limit woken_if_held waking_task w p.seat.me q.seat.me → found 0 WakeIdle w ≡ true → Beside (row WakeIdle w ∷ act EndCall ∷ []) (fresh as_deliverer ∷ []) p q
-  beside_deliverer limit w p q s x idle = back w (WakeIdle ∷ EndCall ∷ []) (row WakeIdle w ∷ act EndCall ∷ []) (fresh as_deliverer ∷ []) p q s (λ slots l ds. refl)
-      (subst (λ (b : Bool). Makes (if b then WakeIdle ∷ EndCall ∷ [] else (if found 0 WakeRunning w then WakeRunning ∷ EndCall ∷ [] else WakeScheduled ∷ EndCall ∷ [])) w p.seat.me q.seat.me) idle x.made)
+  pub beside_deliverer : (limit : ℕ) (r : Woken) (p q : Party F T A) → Stands (At Lent) p → (x : HasChanged limit to_wake r p.seat.me q.seat.me) → brings_runnable r ≡ true
+      → (found 0 WakeIdle x.word ≡ true) × Beside (row WakeIdle x.word ∷ act EndCall ∷ []) (fresh as_deliverer ∷ []) p q
+  beside_deliverer limit r p q s x idle = by (found 0 WakeIdle w) (found 0 WakeRunning w) refl (ap brings_runnable (sym x.is) ∙ idle) x.made
+    where
+      w : State
+      w = x.word
 
-  pub wakes_idle : (limit : ℕ) (w : State) (p q t d : Party F T A) → Stands (At Lent) p → q.seat.block ≡ p.seat.block → HasChanged limit woken_if_held waking_task w p.seat.me q.seat.me → found 0 WakeIdle w ≡ true
+      by : (a b : Bool) → found 0 WakeIdle w ≡ a → let r : Woken = if a then Idle else (if b then Running else Scheduled) in brings_runnable r ≡ true → Makes (waking_task r) w p.seat.me q.seat.me
+          → (found 0 WakeIdle w ≡ true) × Beside (row WakeIdle w ∷ act EndCall ∷ []) (fresh as_deliverer ∷ []) p q
+      by true b fit some m = (fit, back w (WakeIdle ∷ EndCall ∷ []) (row WakeIdle w ∷ act EndCall ∷ []) (fresh as_deliverer ∷ []) p q s (λ slots l ds. refl) m)
+      by false true unfit some m = absurd (cc)
+      by false false unfit some m = absurd (cc)
+
+  pub wakes_idle : (limit : ℕ) (r : Woken) (p q t d : Party F T A) → Stands (At Lent) p → q.seat.block ≡ p.seat.block → HasChanged limit to_wake r p.seat.me q.seat.me → brings_runnable r ≡ true
       → t.seat.block ≡ q.seat.block → t.seat.me ≡ (without_newest q.seat.me.0, q.seat.me.1) → d.seat.block ≡ q.seat.block → d.seat.me ≡ (newest q.seat.me.0, []) → WakesTask p t (Some d)
-  wakes_idle limit w p q t d s cell x idle there is there' is' = let path : List Deed = row WakeIdle w ∷ act EndCall ∷ [] in let b = beside_deliverer limit w p q s x idle in
-      makes_one path d (is_idle w idle) (leaves_newest path (fresh as_deliverer) p q t b cell there is) (is_newest path as_deliverer p q d b cell there' is')
+  wakes_idle limit r p q t d s cell x idle there is there' is' = let path : List Deed = row WakeIdle x.word ∷ act EndCall ∷ [] in let b = beside_deliverer limit r p q s x idle in
+      makes_one path d (is_idle x.word b.0) (leaves_newest path (fresh as_deliverer) p q t b.1 cell there is) (is_newest path as_deliverer p q d b.1 cell there' is')
 
   -- the row of a waker's drop
   pub drops : (w : State) (p q : Party F T A) → Stands as_waker p → q.seat.block ≡ p.seat.block → Makes (dropping_waker w) w p.seat.me q.seat.me → DropsWaker p q (dropped_by w)
@@ -169,13 +176,8 @@ module _ {F T A : Type 0} where
 
 module _ (F T A : Type 0) (limit : ℕ) where
   -- the rule allows a lent waker to gain a reference, and to wake
-  pub may_gain : (p : Party F T A) → Stands (At Lent) p → limit_of p ≡ limit → MayTry limit 3 p.seat.id p.seat.me gained_word at_limit gaining finding_limit × MayBring limit p.seat.id p.seat.me gained_word always
-  may_gain p s is = may_bring_at limit p (At Lent) [] s gained_word at_limit gaining finding_limit always (λ w. ap (λ l. at_limit l w) is)
-      (λ w v e m f here. let x = if_is (is_held w) (row_of limit GainReference w) v e in gains F T A limit Lent (deeds p) [] [] w v (number_of w) (number_of v) refl x.0 (sym x.1) refl refl m f here) (gains_handle limit Lent (deeds p) [] F T A)
-      (owed.finds_limit F T A limit Lent (deeds p) [] [] refl)
+  pub may_gain : (p : Party F T A) → Stands (At Lent) p → limit_of p ≡ limit → MayTry limit 3 p.seat.id p.seat.me to_gain × MayBring limit p.seat.id p.seat.me to_gain
+  may_gain p s is = may_bring_at limit p (At Lent) [] s to_gain (λ w. ap (λ l. at_limit l w) is) (owed.gains F T A limit Lent (deeds p) [] [] refl) (gains_handle limit Lent (deeds p) [] F T A) (owed.finds_limit F T A limit Lent (deeds p) [] [] refl)
 
-  pub may_wake : (p : Party F T A) → Stands (At Lent) p → MayTry limit 3 p.seat.id p.seat.me woken_if_held is_over waking_task finding_over × MayBring limit p.seat.id p.seat.me woken_if_held brings_runnable
-  may_wake p s = may_bring_at limit p (At Lent) [] s woken_if_held is_over waking_task finding_over brings_runnable (λ w. refl)
-      (λ w v e m f here. let x = if_is (is_held w) (if is_open w then Some (woken_word w) else None) v e in let y = if_is (is_open w) (Some (woken_word w)) v x.1 in let same = y.1 in let is : v ≡ woken_word w = cc in
-      owed.wakes F T A limit Lent (deeds p) [] [] w (number_of w) (number_of v) refl x.0 y.0 refl (ap number_of is) m f here) (wakes_task limit Lent (deeds p) [] F T A)
-      (owed.finds_over F T A limit Lent (deeds p) [] [] refl)
+  pub may_wake : (p : Party F T A) → Stands (At Lent) p → MayTry limit 3 p.seat.id p.seat.me to_wake × MayBring limit p.seat.id p.seat.me to_wake
+  may_wake p s = may_bring_at limit p (At Lent) [] s to_wake (λ w. refl) (owed.wakes F T A limit Lent (deeds p) [] [] refl) (wakes_task limit Lent (deeds p) [] F T A) (owed.finds_over F T A limit Lent (deeds p) [] [] refl)

@@ -31,11 +31,6 @@ abbrev pub end_of : {X Y Z : Type 0} → Result (X × Y) Z → Option X
 end_of (Ok x) = Some x.0
 end_of (Err z) = None
 
--- whether the run's share is left after its end
-abbrev pub keeps_share : PendingEnd → Bool
-keeps_share Idle = false
-keeps_share _ = true
-
 module _ {F T A : Type 0} where
   -- a reference was given up, and whether it was the last handle
   pub data GivesUp (hand : Option ℕ) (answer : Answer) (p q : Party F T A) : Bool → Type 0 where

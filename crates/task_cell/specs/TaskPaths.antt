@@ -39,16 +39,6 @@ pub data CancelPath (Scheduled Woken : Type 0) : List Deed → Type 0 where
   is_idle : (w : State) (notice : List Deed) → Fits CancelIdle w → Scheduled → Notice Woken w.awaiter notice
       → CancelPath Scheduled Woken (row CancelIdle w ∷ act HandOver ∷ (notice ++ act EndCall ∷ []))
 
--- whether a cancel brings the share of a Runnable
-abbrev pub brings_share : Cancelled → Bool
-brings_share (Busy due) = false
-brings_share (Idle due) = true
-
--- whether the Task's share is left after its row
-abbrev pub keeps_task : Detached → Bool
-keeps_task Shared = false
-keeps_task _ = true
-
 -- the rest of a detach that drops an output
 pub data UnclaimedPath : List Deed → Type 0 where
   leaves_others : (v : State) → Fits Detach v → UnclaimedPath (act DropOutput ∷ row Detach v ∷ act EndCall ∷ [])

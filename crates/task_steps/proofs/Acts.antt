@@ -1,8 +1,9 @@
 -- Acts of one party in a row, with nothing of another party between.
-use Rattle.std.proofs.Common.{◌≡◌, ℕ, ◌+◌, ◌<◌, Bool, true, false, not, ◌&&◌, ◌||◌, cond, Option, Some, None, List, [], ◌∷◌, ◌++◌, length, map, set, sym, refl, ap, ◌∙◌, subst, arith, append-nil, append_assoc}
-use Rattle.task_steps.proofs.Vocabulary.{State, bit, is_open, Position, Act, GainReference, WakeIdle, WakeOver, WakeRunning, WakeScheduled, At, Lent, found, written, row, Slots, Scene, Outcome, when, is_held, leaves_slots}
+use Rattle.std.proofs.Common.{◌≡◌, ℕ, ◌+◌, ◌<◌, Bool, true, false, not, ◌&&◌, ◌||◌, if◌then◌else◌, Option, Some, None, List, [], ◌∷◌, ◌++◌, length, map, set, sym, refl, ap, ◌∙◌, subst, arith, append-nil, append_assoc}
+use Rattle.task_steps.proofs.Vocabulary.{State, bit, is_open, Position, Act, GainReference, WakeIdle, WakeOver, WakeRunning, WakeScheduled, At, Lent, found, written, Slots, Scene, Outcome, when, is_held, leaves_slots}
 use Rattle.task_steps.proofs.Vocabulary.{outcome_at, rule, Machine, scene, how_many, rule_word, Deed, Member, View}
 use Rattle.task_steps.specs.Rule.{deed, member, view, fresh, found_by, Entry, Explains}
+use Rattle.task_steps.specs.Attempt.{word_after}
 use Rattle.task_steps.specs.Steps.{then_leaves, and_then, spot, is_lent, held_word, leaves_by, all_fit, noted}
 use Rattle.task_steps.proofs.Explains.{tells, next_machine}
 use Rattle.task_steps.proofs.Facts.{many_append, many_next}
@@ -56,13 +57,10 @@ joined (Some a) f o e = let s = joined_second a (f a) o e in record { first = a;
 joins : (x : Option Outcome) (f : Outcome → Option Outcome) (a b o : Outcome) → x ≡ Some a → f a ≡ Some b → Some (record { word = b.word; slots = b.slots; next = b.next; born = a.born ++ b.born; told = b.told ++ a.told }) ≡ Some o → and_then x f ≡ Some o
 joins x f a b o e g h = ap (λ z. and_then z f) e ∙ (ap (then_leaves a) g ∙ h)
 
--- what a function of the word says that fits
-row_if : (b : Bool) (v u : State) → Some v ≡ (cond b (Some u) None) → (b ≡ true) × (v ≡ u)
-row_if true v u e = (refl, cc)
-row_if false v u e = absurd (cc)
-
-pub row_found : (limit : ℕ) (a : Act) (w v : State) → Some v ≡ row limit a w → (found limit a w ≡ true) × (v ≡ written a w)
-row_found limit a w v e = row_if (found limit a w) v (written a w) e
+-- a word that is written only where a test holds
+pub written_if : {X : Type 0} (b : Bool) (v u : X) → Some v ≡ (if b then Some u else None) → (b ≡ true) × (v ≡ u)
+written_if true v u e = (refl, cc)
+written_if false v u e = absurd (cc)
 
 -- what the seat is told is what the machine does
 pub leads_leave : (limit : ℕ) (w : State) (slots : Slots) (acts : List Act) (p : Position) (o : Outcome) → leads (spot limit w slots) acts p ≡ Some o → leaves_by limit w slots acts p ≡ Some o
@@ -82,11 +80,6 @@ leads_fit s [] p o e = refl
 leads_fit s (a ∷ more) p o e = let j = joined (rule s a p) (λ o. leads (spot s.limit o.word o.slots) more o.next) o e in
     both (found s.limit a s.word) (all_fit s.limit (written a s.word) more) (found_is (found s.limit a s.word) (outcome_at s (written a s.word) a p) j.first j.one).0
     (subst (λ (w : State). all_fit s.limit w more ≡ true) (rule_word s a p j.first j.one) (leads_fit (spot s.limit j.first.word j.first.slots) more j.first.next j.second j.two))
-
--- the word that acts in a row leave
-abbrev pub word_after : State → List Act → State
-word_after w [] = w
-word_after w (a ∷ more) = word_after (written a w) more
 
 abbrev word_of_outcome : State → Option Outcome → State
 word_of_outcome w None = w

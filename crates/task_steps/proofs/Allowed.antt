@@ -7,8 +7,10 @@ use Rattle.atomic_table.specs.Table.{State as Board, Me, Act as Move, keeps, ste
 use Rattle.atomic_table.proofs.Lists as lists
 use Rattle.task_steps.proofs.Vocabulary.{State, state_of, number_of, Position, At, Runnable, Act, Outcome, Machine, scene, how_many, owns_awaiter, state_of_number_of, laws_of, Slot, Deed, Tries, Member, Stage, Laid, Filling, Spawned, View}
 use Rattle.task_steps.specs.Rule.{member, trying, view, fresh, opening_at, Entry, Explains, has_work, AtHome, IsEmpty, Unfilled, Running, RuleHolds}
+use Rattle.task_steps.specs.Attempt.{Attempt, word_after, acts_on}
 use Rattle.task_steps.specs.Steps.{head_of, leaves_by, all_fit, noted, acted, next_of, born_of, Carried, Makes}
 use Rattle.task_steps.proofs.Explains.{inside}
+use Rattle.task_steps.proofs.Numbers.{same_word}
 use Rattle.task_steps.proofs.Facts.{law, is_clear, many_at, queued, one_work}
 use Rattle.task_steps.proofs.Acts.{leads, leads_leave, leads_fit, follows}
 use Rattle.task_steps.proofs.Seen.{over_stays, closed_stays, ended_stays}
@@ -134,9 +136,19 @@ module _ (F T A : Type 0) (limit : ℕ) where
   abbrev pub Owes : (State → List Act) → (ℕ → ℕ) → Position → List Deed → List Member → List (ℕ × Slot F T A) → Type 0
   Owes acts write p ds us held = (m : Machine) → Finds limit p ds us m → (n : ℕ) → n ≡ number_of m.word → n < 18446744073709551616 → Steps m p (acts m.word) (write n) held
 
-  -- .. and what it owes where the word that it finds ends its attempt
-  abbrev pub OwesEnd : (State → Bool) → (State → List Act) → Position → List Deed → List Member → List (ℕ × Slot F T A) → Type 0
-  OwesEnd test acts p ds us held = (m : Machine) → Finds limit p ds us m → (n : ℕ) → n ≡ number_of m.word → n < 18446744073709551616 → test m.word ≡ true → Steps m p (acts m.word) n held
+  -- .. what it owes where the word that it finds ends its attempt
+  abbrev pub OwesEnd : {Row : Type 0} → Attempt Row → Position → List Deed → List Member → List (ℕ × Slot F T A) → Type 0
+  OwesEnd a p ds us held = (m : Machine) → Finds limit p ds us m → (n : ℕ) → n ≡ number_of m.word → n < 18446744073709551616 → a.ends limit m.word ≡ true → Steps m p (a.acts_at_end m.word) n held
+
+  -- .. and where its change applies to that word
+  abbrev pub OwesChange : {Row : Type 0} → Attempt Row → Position → List Deed → List Member → List (ℕ × Slot F T A) → Type 0
+  OwesChange a p ds us held = (m : Machine) → Finds limit p ds us m → a.applies limit m.word ≡ true → Steps m p (acts_on a m.word) (number_of (word_after m.word (acts_on a m.word))) held
+
+  -- the word that the change writes on the one that was seen, where this is the machine's
+  pub makes_change : {Row : Type 0} (a : Attempt Row) (p : Position) (ds : List Deed) (us : List Member) (held : List (ℕ × Slot F T A)) → OwesChange a p ds us held
+      → (w : State) → a.applies limit w ≡ true → (m : Machine) → Finds limit p ds us m → number_of w ≡ number_of m.word → Steps m p (acts_on a m.word) (number_of (word_after w (acts_on a w))) held
+  makes_change a p ds us held owes w applied m f e = let same = same_word m.word w (number_of w) refl e in
+      subst (λ (v : State). Steps m p (acts_on a m.word) (number_of (word_after v (acts_on a v))) held) same (owes m f (subst (λ (v : State). a.applies limit v ≡ true) (sym same) applied))
 
   pub result : (s : B) (id : ℕ) (me : M) (l : ℕ) (p : Position) (ds : List Deed) (us : List Member) (acts : State → List Act) (write : ℕ → ℕ) → Rule s
       → get_elem? s.views id ≡ some me.0 → me.0 ≡ view l (member p ds ∷ us) → length s.homes ≡ 3 → now s < 18446744073709551616

@@ -8,10 +8,11 @@ use Rattle.task_steps.proofs.Vocabulary.{State, bit, state_of, number_of, state_
 use Rattle.task_steps.specs.Rule.{view, member, trying, differ, Entry, Tried, Explains, RuleHolds}
 use Rattle.task_steps.specs.Steps.{Makes}
 use Rattle.task_steps.specs.Knows.{Knows}
+use Rattle.task_steps.specs.Attempt.{Attempt, word_after, acts_on}
 use Rattle.task_steps.specs.Attempts.{looked, missed, Names, observed, attempted, MayTry}
 use Rattle.task_steps.proofs.Explains.{inside, retries}
 use Rattle.task_steps.proofs.Advance.{Finds, Steps, Result}
-use Rattle.task_steps.proofs.Allowed.{OwesEnd, result, not_first, set_apart}
+use Rattle.task_steps.proofs.Allowed.{OwesChange, OwesEnd, makes_change, result, not_first, set_apart}
 use Rattle.task_steps.proofs.Seats.{retold}
 use Rattle.task_steps.proofs.Known.{knows_now}
 
@@ -65,11 +66,11 @@ module _ (F T A : Type 0) (limit : ℕ) where
   made_alike acts w l p ds t us held m x = record { slots = x.slots; fits = x.fits; viewed = x.viewed; carried = x.carried }
 
   -- a step of a party is allowed whatever it has seen
-  acts_on : (s : B) (id : ℕ) (l : ℕ) (p : Position) (ds : List Deed) (t : Option Tries) (us : List Member) (held : List (ℕ × Slot F T A)) (acts : State → List Act) (write : ℕ → ℕ) → Rule s
+  acts_having_seen : (s : B) (id : ℕ) (l : ℕ) (p : Position) (ds : List Deed) (t : Option Tries) (us : List Member) (held : List (ℕ × Slot F T A)) (acts : State → List Act) (write : ℕ → ℕ) → Rule s
       → get_elem? s.views id ≡ some (view l (trying p ds t ∷ us)) → length s.homes ≡ 3 → now s < 18446744073709551616
       → ((m : Machine) → Finds limit p ds us m → now s ≡ number_of m.word → Steps m p (acts m.word) (write (now s)) held)
       → Result F T A limit s id (view l (trying p ds t ∷ us), held) (write (now s)) (Makes (acts (state_of (now s))) (state_of (now s)) (view l (trying p ds t ∷ us), held))
-  acts_on s id l p ds t us held acts write c at three fits owes = let v : View = view l (trying p ds t ∷ us) in let quiet : View = view l (member p ds ∷ us) in
+  acts_having_seen s id l p ds t us held acts write c at three fits owes = let v : View = view l (trying p ds t ∷ us) in let quiet : View = view l (member p ds ∷ us) in
       let o = result F T A limit (viewing s id quiet) id (quiet, held) l p ds us acts write (reseen s id l p ds t None us c at (λ k h. tt)) (lists.set_here s.views id quiet (inside s.views id v at)) refl three fits owes in (
         o.0,
         o.1,
@@ -86,15 +87,13 @@ module _ (F T A : Type 0) (limit : ℕ) where
       (w, keeps, tt, subst (λ (ws : List ℕ). Rule record { words = ws; homes = s.homes; views = set s.views id w }) (sym (same_words s.words)) (reseen s id l p ds t new us c at shows), refl)
 
   -- what an attempt owes: its change where it finds the word that it names, and its end
-  pub may_try : (slots id l : ℕ) (p : Position) (ds : List Deed) (us : List Member) (held : List (ℕ × Slot F T A)) (writes : ℕ → State → Option State) (ends : ℕ → State → Bool) (acts told : State → List Act) → slots ≡ 3
-      → ((w v : State) → writes limit w ≡ Some v → (m : Machine) → Finds limit p ds us m → number_of w ≡ number_of m.word → Steps m p (acts m.word) (number_of v) held)
-      → ((w : State) → ends l w ≡ ends limit w)
-      → OwesEnd F T A limit (ends limit) told p ds us held → MayTry limit slots id (view l (member p ds ∷ us), held) writes ends acts told
-  may_try slots id l p ds us held writes ends acts told three changes same over = record {
-    loads = λ t s c deep at fits. observe t s c (deep ∙ three) at fits (ends l (state_of (now s))) refl;
-    exchanges = λ t w v writing names s c deep at fits. lists.exchanged (now s) (number_of w) (number_of v)
-        (λ x. Result F T A limit s id (view l (trying p ds t ∷ us), held) x (attempted acts (step slots 0 (number_of w) (number_of v) none) (view l (trying p ds t ∷ us), held) (now s)))
-        (λ hit. let o = acts_on s id l p ds t us held acts (λ n. number_of v) c at (deep ∙ three) fits (λ m f e. changes w v writing m f (sym hit ∙ e)) in (o.0, o.1, o.2, o.3, ((λ _. o.4), (λ no. absurd (no hit)), knows t s c at)))
+  pub may_try : {Row : Type 0} (slots id l : ℕ) (p : Position) (ds : List Deed) (us : List Member) (held : List (ℕ × Slot F T A)) (a : Attempt Row) → slots ≡ 3 → OwesChange F T A limit a p ds us held → ((w : State) → a.ends l w ≡ a.ends limit w)
+      → OwesEnd F T A limit a p ds us held → MayTry limit slots id (view l (member p ds ∷ us), held) a
+  may_try slots id l p ds us held a three changes same over = record {
+    loads = λ t s c deep at fits. observe t s c (deep ∙ three) at fits (a.ends l (state_of (now s))) refl;
+    exchanges = λ t w applied names s c deep at fits. let v = word_after w (acts_on a w) in lists.exchanged (now s) (number_of w) (number_of v)
+        (λ x. Result F T A limit s id (view l (trying p ds t ∷ us), held) x (attempted a (step slots 0 (number_of w) (number_of v) none) (view l (trying p ds t ∷ us), held) (now s)))
+        (λ hit. let o = acts_having_seen s id l p ds t us held (acts_on a) (λ n. number_of v) c at (deep ∙ three) fits (λ m f e. makes_change F T A limit a p ds us held changes w applied m f (sym hit ∙ e)) in (o.0, o.1, o.2, o.3, ((λ _. o.4), (λ no. absurd (no hit)), knows t s c at)))
         (λ miss. let o = sees s id l p ds t (missed (state_of (now s)) t) us held c at (λ k h. subst (λ (x : State). Tried k c.running.log c.running.machine.word (missed x t)) (stands s c)
         (tried_miss k c.running.log w c.running.machine.word t names (λ e. miss (c.running.word_is ∙ sym e)) h)) in (o.0, o.1, o.2, o.3, ((λ hit. absurd (miss hit)), (λ _. o.4), knows t s c at)));
   }
@@ -108,14 +107,14 @@ module _ (F T A : Type 0) (limit : ℕ) where
       differs : {P : Type 0} (x : Bool) → x ≡ true → x ≡ false → P
       differs x e f = absurd (cc)
 
-      observe : (t : Option Tries) (s : B) (c : Rule s) → length s.homes ≡ 3 → get_elem? s.views id ≡ some (view l (trying p ds t ∷ us)) → now s < 18446744073709551616 → (b : Bool) → ends l (state_of (now s)) ≡ b
-          → Result F T A limit s id (view l (trying p ds t ∷ us), held) (now s) (observed ends told (step slots 0 0 0 none) (view l (trying p ds t ∷ us), held) (now s))
-      observe t s c deep at fits true is = let o = acts_on s id l p ds t us held told (λ n. n) c at deep fits (λ m f e. over m f (now s) e fits (sym (same m.word) ∙ (ap (ends l) (sym (state_of_number_of m.word) ∙ ap state_of (sym e)) ∙ is))) in
-          (o.0, o.1, o.2, o.3, ((λ _. o.4), (λ no. differs (ends l (state_of (now s))) is no), knows t s c at))
+      observe : (t : Option Tries) (s : B) (c : Rule s) → length s.homes ≡ 3 → get_elem? s.views id ≡ some (view l (trying p ds t ∷ us)) → now s < 18446744073709551616 → (b : Bool) → a.ends l (state_of (now s)) ≡ b
+          → Result F T A limit s id (view l (trying p ds t ∷ us), held) (now s) (observed a (step slots 0 0 0 none) (view l (trying p ds t ∷ us), held) (now s))
+      observe t s c deep at fits true is = let o = acts_having_seen s id l p ds t us held a.acts_at_end (λ n. n) c at deep fits (λ m f e. over m f (now s) e fits (sym (same m.word) ∙ (ap (a.ends l) (sym (state_of_number_of m.word) ∙ ap state_of (sym e)) ∙ is))) in
+          (o.0, o.1, o.2, o.3, ((λ _. o.4), (λ no. differs (a.ends l (state_of (now s))) is no), knows t s c at))
       observe t s c deep at fits false is = let o = sees s id l p ds t (looked (state_of (now s)) t) us held c at
           (λ k h. subst (λ (x : State). Tried k c.running.log c.running.machine.word (looked x t)) (stands s c) (tried_look k c.running.log c.running.machine.word t h)) in
-          (o.0, o.1, o.2, o.3, ((λ yes. differs (ends l (state_of (now s))) yes is), (λ _. o.4), knows t s c at))
+          (o.0, o.1, o.2, o.3, ((λ yes. differs (a.ends l (state_of (now s))) yes is), (λ _. o.4), knows t s c at))
 
   -- an attempt that no word ends
-  pub never_ends : (p : Position) (ds : List Deed) (us : List Member) (held : List (ℕ × Slot F T A)) → OwesEnd F T A limit (λ _. false) (λ _. []) p ds us held
-  never_ends p ds us held m f n e lt over = absurd (cc)
+  pub never_ends : {Row : Type 0} (a : Attempt Row) (p : Position) (ds : List Deed) (us : List Member) (held : List (ℕ × Slot F T A)) → ((w : State) → a.ends limit w ≡ false) → OwesEnd F T A limit a p ds us held
+  never_ends a p ds us held goes_on m f n e lt over = absurd (let no = goes_on m.word in cc)

@@ -5,7 +5,8 @@ use Rattle.task_laws.specs.Line.{Line, holds, edited, next_of, told_of, leaves}
 use Rattle.task_laws.specs.Lines.{line}
 use Rattle.task_steps.specs.Rule.{has_work}
 use Rattle.task_steps.specs.Steps.{spot, then_leaves, and_then}
-use Rattle.task_steps.proofs.Acts.{leads, word_after, leads_word}
+use Rattle.task_steps.specs.Attempt.{word_after}
+use Rattle.task_steps.proofs.Acts.{leads, leads_word}
 use Rattle.task_steps.proofs.Advance.{Steps, Placing, keeps_places, places_after, places_before}
 
 abbrev left_by : Scene → State → Line → Outcome

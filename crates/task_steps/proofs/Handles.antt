@@ -1,18 +1,26 @@
 -- What the acts of each step do to the handles that the word counts.
-use Rattle.std.proofs.Common.{◌≡◌, ℕ, zero, suc, ◌+◌, ◌-◌, ◌≤◌, Bool, true, false, not, ◌&&◌, Option, Some, None, List, [], ◌∷◌, inl, inr, refl, sym, ap, ◌∙◌, subst, arith}
+use Rattle.std.proofs.Common.{◌≡◌, ℕ, zero, suc, ◌+◌, ◌-◌, ◌≤◌, Bool, true, false, not, ◌&&◌, Option, List, [], ◌∷◌, inl, inr, refl, sym, ap, ◌∙◌, arith}
 use Rattle.std.specs.Prelude.{nat_lt, nat_eq, if◌then◌else◌}
 use Rattle.std.proofs.lemmas.Bool.Decides.{nat_tests}
 use Rattle.task_core.specs.Rows.{found}
-use Rattle.task_steps.specs.WakerScripts.{woken_word}
-use Rattle.task_steps.proofs.Vocabulary.{WakeScheduled, WakeRunning, WakeIdle, CancelBusy, CancelIdle, Reschedule, EndIdle, EndOrphaned, EndCall, GiveUpOutput, Detach, DetachLast, DetachOrphan, DropWaker, OrphanTask, DropLastWaker, GiveUpReference, GiveUpLastReference}
-use Rattle.task_steps.proofs.Vocabulary.{State, bit, is_open, Event, Answer, Rest, Waker, Task, At, GivingUp, Detacher, OrphanHolder, Pending, Slots, is_held, row, GainReference, Machine, census, Census, Holds, Deed, Member}
-use Rattle.task_steps.specs.WakerScripts.{gaining, gained_word, waking_task, woken_if_held, others_left, dropping_waker, closing_orphan}
-use Rattle.task_steps.specs.TaskScripts.{cancelling, cancelled_word, detaching, giving_task_up}
-use Rattle.task_steps.specs.RunScripts.{giving_up, ending_pending}
-use Rattle.task_steps.specs.Shares.{handles, at_least_one, brings_runnable, ends_run, ends_task, has_references, always}
-use Rattle.task_steps.proofs.Acts.{word_after}
+use Rattle.task_steps.proofs.Vocabulary.{WakeRunning, WakeIdle, CancelIdle, EndCall, Detach, DetachLast, DetachOrphan, DropWaker, OrphanTask, DropLastWaker, GiveUpReference, GiveUpLastReference}
+use Rattle.task_steps.proofs.Vocabulary.{State, bit, is_open, Event, Answer, Rest, Waker, Task, At, GivingUp, Detacher, OrphanHolder, Pending, Slots, is_held, Machine, census, Census, Holds, Deed, Member}
+use Rattle.task_steps.specs.WakerScripts.{waking_task, brings_runnable, to_gain, to_wake, others_left, dropping_waker, closing_orphan}
+use Rattle.task_steps.specs.TaskScripts.{closing, brings_share, detaching, ends_task, to_cancel, to_detach, giving_task_up}
+use Rattle.task_steps.specs.RunScripts.{giving_up, ending_pending, ends_run, to_end_pending}
+use Rattle.task_steps.specs.declared.task.Cancelled.{Cancelled}
+use Rattle.task_steps.specs.declared.task.Cancelled.TheVariants.{Busy, Idle as Closed}
+use Rattle.task_steps.specs.declared.task.Detached.{Detached}
+use Rattle.task_steps.specs.declared.task.Detached.TheVariants.{Unclaimed, Shared, Last, Orphaned as OrphanedTask}
+use Rattle.task_steps.specs.declared.waker.Woken.{Woken}
+use Rattle.task_steps.specs.declared.waker.Woken.TheVariants.{Scheduled, Running, Idle}
+use Rattle.task_steps.specs.declared.run.PendingEnd.{PendingEnd}
+use Rattle.task_steps.specs.declared.run.PendingEnd.TheVariants.{Rescheduled, Idle as EndsIdle, Orphaned}
+use Rattle.task_steps.specs.Attempt.{word_after, acts_on}
+use Rattle.task_steps.specs.Shares.{handles, at_least_one, has_references}
 use Rattle.task_steps.proofs.Facts.{counted}
 use Rattle.task_steps.proofs.Advance.{Finds}
+use Rattle.task_steps.proofs.Seen.{left_true}
 use Rattle.task_steps.proofs.Shares.{shares_of, Brings, Gives, Moves}
 use Rattle.task_steps.proofs.TaskOwed.{has_task}
 
@@ -64,9 +72,6 @@ no_references w e = grind (arith, nat_tests)
 zero_references : (w : State) → nat_eq w.references 0 ≡ true → w.references ≡ 0
 zero_references w e = grind (arith, nat_tests)
 
-both_left : (a b : Bool) → (a && b) ≡ true → a ≡ true
-both_left a b e = grind arith
-
 waker_held : (limit : ℕ) (w : State) (slots : Slots) (t : List Event) (c : Census) → Holds limit w slots t c → 1 ≤ c.wakers → 1 ≤ w.references
 waker_held limit w slots t c h e = grind arith
 
@@ -99,70 +104,56 @@ module _ (limit : ℕ) where
   finds_orphan ds us m f = orphan_free m.limit m.word m.slots m.trace (census m.parties) f.invariant.holds (counted (λ c. c.orphans) (λ a b. refl) m.parties f.number OrphanHolder f.stands)
 
   -- a reference more for a new waker, where the task has a handle
-  gained_held : (w v : State) → gained_word limit w ≡ Some v → 1 ≤ handles w
-  gained_held w v e = by (is_held w) refl
-    where
-      by : (b : Bool) → is_held w ≡ b → 1 ≤ handles w
-      by true h = held_one w h
-      by false h = absurd (let z : None ≡ Some v = sym (ap (λ (b : Bool). if b then row limit GainReference w else None) h) ∙ e in cc)
-
-  pub gains_handle : (r : Rest) (ds : List Deed) (us : List Member) (F T A : Type 0) → Moves F T A limit Brings gained_word gaining always (At r) ds us
-  gains_handle r ds us F T A w v e m f is = inr (refl, (let h = gained_held w v e in let k : handles m.word ≡ handles w = ap handles is in let sum : handles (word_after m.word (gaining m.word)) ≡ handles m.word + 1 = omega arith in ap at_least_one sum ∙ one_more (handles m.word) (omega arith)))
-
-  woken_held : (w v : State) → woken_if_held limit w ≡ Some v → 1 ≤ handles w
-  woken_held w v e = by (is_held w) refl
-    where
-      by : (b : Bool) → is_held w ≡ b → 1 ≤ handles w
-      by true h = held_one w h
-      by false h = absurd (let z : None ≡ Some v = sym (ap (λ (b : Bool). if b then (if is_open w then Some (woken_word w) else None) else None) h) ∙ e in cc)
+  pub gains_handle : (r : Rest) (ds : List Deed) (us : List Member) (F T A : Type 0) → Moves F T A limit Brings to_gain (At r) ds us
+  gains_handle r ds us F T A m f applied = let held = held_one m.word (left_true (is_held m.word) _ applied) in inr (refl, (let sum : handles (word_after m.word (acts_on to_gain m.word)) ≡ handles m.word + 1 = omega arith in ap at_least_one sum ∙ one_more (handles m.word) held))
 
   -- a wake of an idle task makes a Runnable
-  pub wakes_task : (r : Rest) (ds : List Deed) (us : List Member) (F T A : Type 0) → Moves F T A limit Brings woken_if_held waking_task brings_runnable (At r) ds us
-  wakes_task r ds us F T A w v e m f is = by (found 0 WakeIdle m.word) (found 0 WakeRunning m.word)
+  pub wakes_task : (r : Rest) (ds : List Deed) (us : List Member) (F T A : Type 0) → Moves F T A limit Brings to_wake (At r) ds us
+  wakes_task r ds us F T A m f applied = by (found 0 WakeIdle m.word) (found 0 WakeRunning m.word)
     where
       held : 1 ≤ handles m.word
-      held = subst (λ (z : State). 1 ≤ handles z) (sym is) (woken_held w v e)
+      held = held_one m.word (left_true (is_held m.word) (is_open m.word) applied)
 
-      by : (a b : Bool) → Brings a (shares_of m.word) (shares_of (word_after m.word (if a then WakeIdle ∷ EndCall ∷ [] else (if b then WakeRunning ∷ EndCall ∷ [] else WakeScheduled ∷ EndCall ∷ []))))
+      by : (a b : Bool) → let row : Woken = if a then Idle else (if b then Running else Scheduled) in Brings (brings_runnable row) (shares_of m.word) (shares_of (word_after m.word (waking_task row)))
       by true b = inr (refl, (let sum : m.word.references + 1 + bit m.word.task ≡ handles m.word + 1 = omega arith in ap at_least_one sum ∙ one_more (handles m.word) held))
       by false true = inl (refl, refl)
       by false false = inl (refl, refl)
 
   -- .. and so does a cancel of one
-  pub cancels_task : (n : ℕ) (ds : List Deed) (us : List Member) (F T A : Type 0) → Moves F T A limit Brings cancelled_word cancelling brings_runnable (At (Task n)) ds us
-  cancels_task n ds us F T A w v e m f is = by (found 0 CancelIdle m.word)
+  pub cancels_task : (n : ℕ) (ds : List Deed) (us : List Member) (F T A : Type 0) → Moves F T A limit Brings to_cancel (At (Task n)) ds us
+  cancels_task n ds us F T A m f applied = by (found 0 CancelIdle m.word)
     where
       held : 1 ≤ handles m.word
       held = let t = finds_task n ds us m f in omega arith
 
-      by : (b : Bool) → Brings b (shares_of m.word) (shares_of (word_after m.word (if b then CancelIdle ∷ [] else CancelBusy ∷ [])))
+      by : (b : Bool) → let row : Cancelled = if b then Closed m.word.awaiter else Busy m.word.awaiter in Brings (brings_share row) (shares_of m.word) (shares_of (word_after m.word (closing row)))
       by true = inr (refl, (let sum : m.word.references + 1 + bit m.word.task ≡ handles m.word + 1 = omega arith in ap at_least_one sum ∙ one_more (handles m.word) held))
       by false = inl (refl, refl)
 
   -- a run of an open task that ends
-  pub ends_open : (writes : ℕ → State → Option State) (ds : List Deed) (us : List Member) (F T A : Type 0) → Moves F T A limit Gives writes ending_pending ends_run Pending ds us
-  ends_open writes ds us F T A w v e m f is = by m.word.scheduled (others_left m.word) refl refl
+  pub ends_open : (ds : List Deed) (us : List Member) (F T A : Type 0) → Moves F T A limit Gives to_end_pending Pending ds us
+  ends_open ds us F T A m f applied = by m.word.scheduled (others_left m.word) refl refl
     where
       some : 1 ≤ m.word.references
       some = finds_run ds us m f
 
-      by : (s d : Bool) → m.word.scheduled ≡ s → others_left m.word ≡ d → Gives (not s && d) (shares_of m.word) (shares_of (word_after m.word (if s then Reschedule ∷ [] else (if d then EndIdle ∷ EndCall ∷ [] else EndOrphaned ∷ []))))
+      by : (s d : Bool) → m.word.scheduled ≡ s → others_left m.word ≡ d → let row : PendingEnd = if s then Rescheduled else (if d then EndsIdle else Orphaned) in Gives (ends_run row) (shares_of m.word) (shares_of (word_after m.word (ending_pending row)))
       by true d h k = inl (refl, refl)
       by false true h k = inr (refl, (let two = others_one m.word k some in less_one (handles m.word) (m.word.references - 1 + bit m.word.task) (omega arith) (omega arith)))
       by false false h k = inl (refl, (let one = others_none m.word k in last_one (handles m.word) 1 one (omega arith)))
 
   -- a Task that is given up
-  pub detaches_task : (n : ℕ) (writes : ℕ → State → Option State) (ds : List Deed) (us : List Member) (F T A : Type 0) → Moves F T A limit Gives writes detaching ends_task (At (Task n)) ds us
-  detaches_task n writes ds us F T A w v e m f is = by (found 0 Detach m.word) (found 0 DetachLast m.word) (found 0 DetachOrphan m.word) refl refl refl
+  pub detaches_task : (n : ℕ) (ds : List Deed) (us : List Member) (F T A : Type 0) → Moves F T A limit Gives to_detach (At (Task n)) ds us
+  detaches_task n ds us F T A m f applied = by (found 0 Detach m.word) (found 0 DetachLast m.word) (found 0 DetachOrphan m.word) refl refl refl
     where
       task : bit m.word.task ≡ 1
       task = finds_task n ds us m f
 
       by : (a b c : Bool) → found 0 Detach m.word ≡ a → found 0 DetachLast m.word ≡ b → found 0 DetachOrphan m.word ≡ c
-          → Gives a (shares_of m.word) (shares_of (word_after m.word (if a then Detach ∷ EndCall ∷ [] else (if b then DetachLast ∷ [] else (if c then DetachOrphan ∷ [] else GiveUpOutput ∷ [])))))
-      by true b c fit x y = inr (refl, (let t = task in let some = some_references m.word (both_left _ (not (m.word.completed && not m.word.closed)) fit) in less_one (handles m.word) (m.word.references + 0) (omega arith) (omega arith)))
-      by false true c x fit y = inl (refl, (let t = task in let none = zero_references m.word (both_left _ m.word.closed fit) in last_one (handles m.word) (m.word.references + 0) (omega arith) (omega arith)))
-      by false false true x y fit = inl (refl, (let t = task in let none = zero_references m.word (both_left _ (is_open m.word) fit) in last_one (handles m.word) 1 (omega arith) (omega arith)))
+          → let row : Detached = if a then Shared else (if b then Last else (if c then OrphanedTask else Unclaimed)) in Gives (ends_task row) (shares_of m.word) (shares_of (word_after m.word (detaching row)))
+      by true b c fit x y = inr (refl, (let t = task in let some = some_references m.word (left_true _ (not (m.word.completed && not m.word.closed)) fit) in less_one (handles m.word) (m.word.references + 0) (omega arith) (omega arith)))
+      by false true c x fit y = inl (refl, (let t = task in let none = zero_references m.word (left_true _ m.word.closed fit) in last_one (handles m.word) (m.word.references + 0) (omega arith) (omega arith)))
+      by false false true x y fit = inl (refl, (let t = task in let none = zero_references m.word (left_true _ (is_open m.word) fit) in last_one (handles m.word) 1 (omega arith) (omega arith)))
       by false false false x y z = inl (refl, refl)
 
   -- a fetch that takes a reference off

@@ -2,19 +2,19 @@
 use Rattle.std.proofs.Common.{◌≡◌, ℕ, ◌+◌, ◌≤◌, Bool, true, false, not, ◌&&◌, ◌||◌, Option, Some, None, List, [], ◌∷◌, refl, sym, ap, ◌∙◌, subst, inl, inr, ⊎_elim, arith}
 use Rattle.std.specs.Prelude.{if◌then◌else◌, bit_and}
 use Rattle.atomic_table.specs.Table.{rest}
-use Rattle.task_steps.proofs.Vocabulary.{State, state_of, number_of, found, written, row, Event, TaskPollBegins, TaskPollEnds, Closes, PollAnswer, IsPending, Position, OfPoll, OfClaim, At, Notifier, Looking, SawOutput, TookOutput}
-use Rattle.task_steps.proofs.Vocabulary.{RefuseClone, Answering, Registrar, UnusedClone, Registered, TookBack, CloneInHand, Task, Act, Look, ClaimOutput, CloneAwaiter, StoreAwaiter, BeginRegister, EndRegister, EndCall, Slots, leaves_slots}
+use Rattle.task_steps.proofs.Vocabulary.{State, state_of, number_of, found, written, Event, TaskPollBegins, TaskPollEnds, Closes, PollAnswer, IsPending, Position, OfPoll, OfClaim, At, Notifier, Looking, SawOutput, TookOutput}
+use Rattle.task_steps.proofs.Vocabulary.{RefuseClone, Answering, Registrar, UnusedClone, Registered, TookBack, CloneInHand, Task, Act, Look, ClaimOutput, EndCall, Slots, leaves_slots}
 use Rattle.task_steps.proofs.Vocabulary.{when, notifies, first_look, second_look, after_storing, Machine, scene, count, is_task_poll, owns_awaiter, Census, census, Awaiting, awaiting, HandshakeHolds, Holds, state_of_number_of}
 use Rattle.task_steps.proofs.Vocabulary.{DropAwaiter, WakeAwaiter, fetch_and-awaiter_registering_notifying, Invariant, Slot, Empty, Awaiter, Deed, Member}
 use Rattle.task_steps.specs.Rule.{has_work, IsFuture, IsEmpty, IsAwaiter, Waits}
 use Rattle.task_steps.specs.Steps.{and_then, spot, output_first, TakesOutput, Works, Awaits}
-use Rattle.task_steps.specs.PollScripts.{has_output, has_ended, has_to_wait, looking, looking_again, handing_out, finding_notifier, taking_back, ending_notified}
+use Rattle.task_steps.specs.PollScripts.{has_output, has_ended, has_to_wait, handing_out, ending_notified, to_look, to_look_again, to_begin_register, to_end_register}
 use Rattle.task_steps.proofs.Bools.{never}
 use Rattle.task_steps.proofs.Acts.{leads}
 use Rattle.task_steps.proofs.Facts.{counted, counted_awaiting}
-use Rattle.task_steps.proofs.Advance.{Finds, stays, takes_output, gives_work, lies_nowhere, takes_awaiter, gives_awaiter, Steps, keeps_places}
+use Rattle.task_steps.proofs.Advance.{stays, takes_output, gives_work, lies_nowhere, takes_awaiter, gives_awaiter, Steps, keeps_places}
 use Rattle.task_steps.proofs.Computed.{by_table, computed, noted, row_fits, guarded}
-use Rattle.task_steps.proofs.Allowed.{Owes, OwesEnd}
+use Rattle.task_steps.proofs.Allowed.{Owes, OwesChange, OwesEnd}
 use Rattle.task_steps.proofs.Known.{OwesNote}
 
 -- a position that has no place of the table
@@ -57,22 +57,6 @@ sees_output w i e = claims_there i w.closed (w.scheduled || w.running) w.complet
     claims_there i true busy false e = never e
     claims_there i false busy true e = refl
     claims_there i false busy false e = never e
-
--- a row that a function of the word allowed, at the word that it found
-pub record Fits (a : Act) (w : State) (new : ℕ) : Type 0 where
-  pub finds : found 0 a w ≡ true
-  pub writes : new ≡ number_of (written a w)
-
-fits_by : (a : Act) (w next : State) (b : Bool) → found 0 a w ≡ b → (if b then Some (written a w) else None) ≡ Some next → (found 0 a w ≡ true) × (written a w ≡ next)
-fits_by a w next true e is = (e, (cc))
-fits_by a w next false e is = absurd (cc)
-
-pub fits : (a : Act) (w next : State) (old new : ℕ) (v : State) → row 0 a w ≡ Some next → old ≡ number_of w → new ≡ number_of next → old ≡ number_of v → Fits a v new
-fits a w next old new v is here there e = let f = fits_by a w next (found 0 a w) refl is in
-    let same : w ≡ v = sym (state_of_number_of w) ∙ (ap state_of (sym here ∙ e) ∙ state_of_number_of v) in record {
-      finds = ap (λ x. found 0 a x) (sym same) ∙ f.0;
-      writes = there ∙ (ap number_of (sym f.1) ∙ ap (λ x. number_of (written a x)) same);
-    }
 
 -- the value of the first place, which a list of places has once
 abbrev value_or : {X : Type 0} → X → List (ℕ × X) → X
@@ -123,7 +107,7 @@ module _ (limit : ℕ) where
   wakes_clone i ds us m f = noted refl refl refl
 
 module _ (F T A : Type 0) (limit : ℕ) where
-  pub looks : (n : ℕ) (ds : List Deed) (us : List Member) (l : List (ℕ × Slot F T A)) → OwesEnd F T A limit (λ w. not (has_output w)) looking (At (Task n)) ds us l
+  pub looks : (n : ℕ) (ds : List Deed) (us : List Member) (l : List (ℕ × Slot F T A)) → OwesEnd F T A limit to_look (At (Task n)) ds us l
   looks n ds us l m f number x lt e = let f = first_free m.word (n + 1) in by_table m (guarded e) x (refl, refl)
       (stays f.0 f.1 (inr (refl, refl)) (inr refl))
 
@@ -132,16 +116,16 @@ module _ (F T A : Type 0) (limit : ℕ) where
       (ap (λ (p : Position). and_then (Some (leaves_slots (scene m) m.word p [] [])) (λ o. leads (spot m.limit o.word o.slots) (EndCall ∷ []) o.next)) (has_waited m.word i e)) x refl
   looks_again_by m i number l false e x = let f = second_free m.word i in by_table m refl x (refl, refl) (stays f.0 f.1 (inr (refl, refl)) (inr refl))
 
-  pub looks_again : (i : ℕ) (ds : List Deed) (us : List Member) (l : List (ℕ × Slot F T A)) → OwesEnd F T A limit (λ w. not (has_output w)) looking_again (Looking i) ds us l
+  pub looks_again : (i : ℕ) (ds : List Deed) (us : List Member) (l : List (ℕ × Slot F T A)) → OwesEnd F T A limit to_look_again (Looking i) ds us l
   looks_again i ds us l m f number x lt e = looks_again_by m i number l (has_to_wait m.word) refl x
 
-  claims_by : (m : Machine) (p : Position) (acts : List Act) (i : ℕ) (told : List Event) (new : ℕ) (l : List (ℕ × Slot F T A)) → Free p → Fits ClaimOutput m.word new
+  claims_by : (m : Machine) (p : Position) (acts : List Act) (i : ℕ) (told : List Event) (l : List (ℕ × Slot F T A)) → Free p → has_output m.word ≡ true
       → leads (scene m) acts p ≡ and_then (when (found 0 ClaimOutput m.word) (leaves_slots (scene m) (written ClaimOutput m.word) (notifies m.word.awaiter (OfClaim i)) [] told)) (λ o. leads (spot m.limit o.word o.slots) [] o.next)
-      → (m.slots.future ≡ false) × (m.slots.output ≡ true) → Steps m p acts new l
-  claims_by m p acts i told new l free fit is there = let f = claim_works m.word.awaiter i in record {
+      → (m.slots.future ≡ false) × (m.slots.output ≡ true) → Steps m p acts (number_of (written ClaimOutput m.word)) l
+  claims_by m p acts i told l free fit is there = let f = claim_works m.word.awaiter i in record {
     outcome = leaves_slots (scene m) (written ClaimOutput m.word) (notifies m.word.awaiter (OfClaim i)) [] told;
-    leads_to = is ∙ ap (λ (b : Bool). and_then (when b (leaves_slots (scene m) (written ClaimOutput m.word) (notifies m.word.awaiter (OfClaim i)) [] told)) (λ o. leads (spot m.limit o.word o.slots) [] o.next)) fit.finds;
-    writes = fit.writes;
+    leads_to = is ∙ ap (λ (b : Bool). and_then (when b (leaves_slots (scene m) (written ClaimOutput m.word) (notifies m.word.awaiter (OfClaim i)) [] told)) (λ o. leads (spot m.limit o.word o.slots) [] o.next)) fit;
+    writes = refl;
     idle = (refl, refl);
     placing = takes_output free.0 f.0 (f.1 ∙ sym free.1) (inr refl) there.0 there.1 (works m.word.awaiter);
   }
@@ -154,7 +138,7 @@ module _ (F T A : Type 0) (limit : ℕ) where
   hands_out i ds us l has m f number x lt = let none = future_gone m.limit m.word m.slots m.trace (census m.parties) f.invariant.holds (counted (λ c. c.claims) (λ a b. refl) m.parties f.number (TookOutput i) f.stands) in by_table m refl x (refl, refl)
       (gives_work Empty Empty refl refl refl (inr refl) (inr has) (lies_nowhere IsFuture m.slots.future none) tt)
 
-  pub finds_notifier : (i : ℕ) (ds : List Deed) (us : List Member) (l : List (ℕ × Slot F T A)) → OwesEnd F T A limit (λ w. w.notifying) finding_notifier (Registrar i) ds us l
+  pub finds_notifier : (i : ℕ) (ds : List Deed) (us : List Member) (l : List (ℕ × Slot F T A)) → OwesEnd F T A limit to_begin_register (Registrar i) ds us l
   finds_notifier i ds us l m f number x lt e = computed m (row_fits e) x refl
 
   -- where the clone was put in, by what stood there
@@ -166,18 +150,15 @@ module _ (F T A : Type 0) (limit : ℕ) where
   stored_awaits i None y h = h
   stored_awaits i (Some old) y h = h
 
-  pub begins_register : (i : ℕ) (ds : List Deed) (us : List Member) (l : List (ℕ × Slot F T A)) (m : Machine) (new : ℕ) → Finds limit (Registrar i) ds us m → Fits BeginRegister m.word new
-      → Steps m (Registrar i) (CloneAwaiter ∷ BeginRegister ∷ StoreAwaiter ∷ []) new l
-  begins_register i ds us l m new f fit = let s = stored_free i m.slots.awaiter in
-      by_table m (row_fits fit.finds) fit.writes (refl, refl) (takes_awaiter refl s.1 s.0 (inr (refl, refl)) (stored_awaits i m.slots.awaiter))
+  pub begins_register : (i : ℕ) (ds : List Deed) (us : List Member) (l : List (ℕ × Slot F T A)) → OwesChange F T A limit to_begin_register (Registrar i) ds us l
+  begins_register i ds us l m f fit = let s = stored_free i m.slots.awaiter in by_table m (row_fits fit) refl (refl, refl) (takes_awaiter refl s.1 s.0 (inr (refl, refl)) (stored_awaits i m.slots.awaiter))
 
-  pub ends_register : (i : ℕ) (ds : List Deed) (us : List Member) (y : Slot F T A) (l : List (ℕ × Slot F T A)) (m : Machine) (new : ℕ) → Finds limit (Registered i) ds us m → l ≡ (2, y) ∷ rest l → IsAwaiter y → Fits EndRegister m.word new
-      → Steps m (Registered i) (EndRegister ∷ []) new l
-  ends_register i ds us y l m new f has is fit = let stored = clone_stored i m.word m.slots m.trace (awaiting i m.parties) (f.invariant.shakes i) (counted_awaiting (λ b. b.registered) (λ a b. refl) i m.parties f.number (Registered i) f.stands) in by_table m (row_fits fit.finds) fit.writes (refl, refl)
+  pub ends_register : (i : ℕ) (ds : List Deed) (us : List Member) (y : Slot F T A) (l : List (ℕ × Slot F T A)) → l ≡ (2, y) ∷ rest l → IsAwaiter y → OwesChange F T A limit to_end_register (Registered i) ds us l
+  ends_register i ds us y l has is m f fit = let stored = clone_stored i m.word m.slots m.trace (awaiting i m.parties) (f.invariant.shakes i) (counted_awaiting (λ b. b.registered) (λ a b. refl) i m.parties f.number (Registered i) f.stands) in by_table m (row_fits fit) refl (refl, refl)
       (gives_awaiter y refl refl refl (inr (refl, refl)) has (subst (λ (hand : Option ℕ). Waits hand y) (sym stored) is))
 
   -- the clone is taken back while its place is still the poll's
-  pub takes_back : (i : ℕ) (ds : List Deed) (us : List Member) (l : List (ℕ × Slot F T A)) → OwesEnd F T A limit (λ w. w.notifying) taking_back (Registered i) ds us l
+  pub takes_back : (i : ℕ) (ds : List Deed) (us : List Member) (l : List (ℕ × Slot F T A)) → OwesEnd F T A limit to_end_register (Registered i) ds us l
   takes_back i ds us l m f number x lt e = by_table m (guarded e) x (refl, refl) (stays refl refl (inr (refl, refl)) (inl refl))
 
   pub ends_notified : (i : ℕ) (ds : List Deed) (us : List Member) (y : Slot F T A) (l : List (ℕ × Slot F T A)) → l ≡ (2, y) ∷ rest l → IsEmpty y → Owes F T A limit ending_notified (λ n. bit_and n 18446744073709551391) (TookBack i) ds us l
@@ -185,14 +166,14 @@ module _ (F T A : Type 0) (limit : ℕ) where
       (gives_awaiter y refl refl refl (inr (refl, refl)) has (subst (λ (hand : Option ℕ). Waits hand y) (sym t.1) is))
 
   -- the output is taken at once, or by a poll that has registered
-  pub claims : (n : ℕ) (ds : List Deed) (us : List Member) (l : List (ℕ × Slot F T A)) (m : Machine) (new : ℕ) → Finds limit (At (Task n)) ds us m → Fits ClaimOutput m.word new → Steps m (At (Task n)) (ClaimOutput ∷ []) new l
-  claims n ds us l m new f fit = claims_by m (At (Task n)) (ClaimOutput ∷ []) (n + 1) (Closes ∷ TaskPollBegins (n + 1) ∷ []) new l (refl, refl) fit refl (output_lies m f.invariant fit.finds)
+  pub claims : (n : ℕ) (ds : List Deed) (us : List Member) (l : List (ℕ × Slot F T A)) → OwesChange F T A limit to_look (At (Task n)) ds us l
+  claims n ds us l m f fit = claims_by m (At (Task n)) (ClaimOutput ∷ []) (n + 1) (Closes ∷ TaskPollBegins (n + 1) ∷ []) l (refl, refl) fit refl (output_lies m f.invariant fit)
 
-  pub claims_again : (i : ℕ) (ds : List Deed) (us : List Member) (l : List (ℕ × Slot F T A)) (m : Machine) (new : ℕ) → Finds limit (Looking i) ds us m → Fits ClaimOutput m.word new → Steps m (Looking i) (Look ∷ ClaimOutput ∷ []) new l
-  claims_again i ds us l m new f fit = claims_by m (Looking i) (Look ∷ ClaimOutput ∷ []) i (Closes ∷ []) new l (refl, refl) fit
-      (ap (λ (p : Position). and_then (Some (leaves_slots (scene m) m.word p [] [])) (λ o. leads (spot m.limit o.word o.slots) (ClaimOutput ∷ []) o.next)) (sees_output m.word i fit.finds)
+  pub claims_again : (i : ℕ) (ds : List Deed) (us : List Member) (l : List (ℕ × Slot F T A)) → OwesChange F T A limit to_look_again (Looking i) ds us l
+  claims_again i ds us l m f fit = claims_by m (Looking i) (Look ∷ ClaimOutput ∷ []) i (Closes ∷ []) l (refl, refl) fit
+      (ap (λ (p : Position). and_then (Some (leaves_slots (scene m) m.word p [] [])) (λ o. leads (spot m.limit o.word o.slots) (ClaimOutput ∷ []) o.next)) (sees_output m.word i fit)
       ∙ again (found 0 ClaimOutput m.word))
-      (output_lies m f.invariant fit.finds)
+      (output_lies m f.invariant fit)
     where
       again : (b : Bool) → and_then (Some (leaves_slots (scene m) m.word (SawOutput i) [] [])) (λ o. and_then (when b (leaves_slots (spot m.limit o.word o.slots) (written ClaimOutput o.word) (notifies o.word.awaiter (OfClaim i)) [] (Closes ∷ []))) (λ o. leads (spot m.limit o.word o.slots) [] o.next))
           ≡ and_then (when b (leaves_slots (scene m) (written ClaimOutput m.word) (notifies m.word.awaiter (OfClaim i)) [] (Closes ∷ []))) (λ o. leads (spot m.limit o.word o.slots) [] o.next)

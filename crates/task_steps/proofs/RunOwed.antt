@@ -5,17 +5,19 @@ use Rattle.std.proofs.lemmas.Bool.Decides.{nat_tests}
 use Rattle.atomic_table.specs.Table.{rest}
 use Rattle.task_steps.proofs.Vocabulary.{State, state_of, number_of, Event, FutureDropped, Completes, RunEnded, Answer, Runnable, OfRun}
 use Rattle.task_steps.proofs.Vocabulary.{At, GivingUp, Emptier, Polling, Pending, Ready, PendingFutureDropped, OutputInHand, GiveUpReference, GiveUpLastReference, DiscardOpen, DiscardClosed}
-use Rattle.task_steps.proofs.Vocabulary.{DropFuture, StoreOutput, Complete, CompleteDetached, AnswerPending, Reschedule, EndIdle, EndOrphaned, EndCall, written, Slots, notifies, after_giving_up, Machine}
+use Rattle.task_steps.proofs.Vocabulary.{DropFuture, StoreOutput, Complete, CompleteDetached, AnswerPending, Act, written, Slots, notifies, after_giving_up}
 use Rattle.task_steps.proofs.Vocabulary.{owns_awaiter, Census, census, Holds, state_of_number_of, fetch_or-closed, fetch_sub-reference, fetch_and-scheduled_running, Slot, Empty, Deed, Member}
 use Rattle.task_steps.specs.Rule.{has_work, IsFuture, IsOutput}
 use Rattle.task_steps.specs.Steps.{future_first, output_first}
 use Rattle.task_steps.specs.Scripts.{dropping_output}
-use Rattle.task_steps.specs.RunScripts.{giving_up, emptying, discarding, answering_ready, completing, answering_pending, ending_pending, finding_closed, ending_closed, completed_word, after_pending}
-use Rattle.task_steps.proofs.Numbers.{same_word}
+use Rattle.task_steps.specs.Attempt.{word_after}
+use Rattle.task_steps.specs.RunScripts.{giving_up, emptying, discarding, answering_ready, answering_pending, ending_pending, ending_closed, to_complete, to_end_pending}
+use Rattle.task_steps.specs.declared.run.PendingEnd.TheVariants.{Rescheduled, Idle, Orphaned}
+use Rattle.task_steps.proofs.Seen.{not_true}
 use Rattle.task_steps.proofs.Facts.{Queued, queued, counted}
-use Rattle.task_steps.proofs.Advance.{Finds, Placing, stays, takes_future, gives_work, lies_nowhere, lies_there, takes_awaiter, gives_awaiter, Steps}
+use Rattle.task_steps.proofs.Advance.{Placing, stays, takes_future, gives_work, lies_nowhere, lies_there, takes_awaiter, gives_awaiter, Steps}
 use Rattle.task_steps.proofs.Computed.{by_table, row_fits, guarded}
-use Rattle.task_steps.proofs.Allowed.{Owes, OwesEnd}
+use Rattle.task_steps.proofs.Allowed.{Owes, OwesChange, OwesEnd}
 
 -- after a reference was given up, no place is held
 pub given_work : (hand : Option ℕ) (answer : Answer) → has_work (after_giving_up hand answer) ≡ false
@@ -114,7 +116,7 @@ module _ (F T A : Type 0) (limit : ℕ) where
       by false h = by_table m refl e (refl, refl) (stays refl refl (inl refl) (inr refl))
 
   -- the task was closed meanwhile, and its future is dropped next
-  pub finds_closed : (ds : List Deed) (us : List Member) (l : List (ℕ × Slot F T A)) → OwesEnd F T A limit (λ w. w.closed) finding_closed Pending ds us l
+  pub finds_closed : (ds : List Deed) (us : List Member) (l : List (ℕ × Slot F T A)) → OwesEnd F T A limit to_end_pending Pending ds us l
   finds_closed ds us l m f x e lt h = by_table m (guarded h) e (refl, refl) (stays refl refl (inl refl) (inr refl))
 
   pub ends_closed : (ds : List Deed) (us : List Member) (l : List (ℕ × Slot F T A)) → l ≡ future_first Empty (rest (rest l)) → Owes F T A limit ending_closed (λ n. bit_and n 18446744073709551612) PendingFutureDropped ds us l
@@ -132,9 +134,8 @@ module _ (F T A : Type 0) (limit : ℕ) where
       gone = output_facts m.limit m.word m.slots m.trace (census m.parties) f.invariant.holds (counted (λ c. c.outputs) (λ a b. refl) m.parties f.number (OutputInHand due) f.stands)
 
   -- the run of a Ready future
-  pub completes : (w : State) (ds : List Deed) (us : List Member) (z : Slot F T A) (l : List (ℕ × Slot F T A)) → l ≡ output_first z (rest (rest l)) → IsOutput z
-      → (m : Machine) → Finds limit Ready ds us m → number_of w ≡ number_of m.word → Steps m Ready (completing m.word) (number_of (completed_word w)) l
-  completes w ds us z l has is m f e = by m.word.task refl
+  pub completes : (ds : List Deed) (us : List Member) (z : Slot F T A) (l : List (ℕ × Slot F T A)) → l ≡ output_first z (rest (rest l)) → IsOutput z → OwesChange F T A limit to_complete Ready ds us l
+  completes ds us z l has is m f any = by m.word.task refl
     where
       gone : Slots
       gone = record (m.slots) { future = false }
@@ -146,36 +147,28 @@ module _ (F T A : Type 0) (limit : ℕ) where
       placed true a v told = stays refl refl (inl refl) (inr refl)
       placed false a v told = gives_work Empty z refl (due_work a) (due_free a) (inr refl) (inr has) tt is
 
-      by : (b : Bool) → m.word.task ≡ b → Steps m Ready (if b then DropFuture ∷ StoreOutput ∷ Complete ∷ [] else DropFuture ∷ StoreOutput ∷ CompleteDetached ∷ []) (number_of (completed_word w)) l
-      by true h = by_table m (row_fits h) (ap number_of (ap completed_word (same_word w m.word _ e refl) ∙ ap (λ b. if b then written Complete m.word else written CompleteDetached m.word) h)) (refl, refl)
-          (placed m.word.closed m.word.awaiter (written Complete m.word) (Completes ∷ RunEnded ∷ FutureDropped ∷ []))
-      by false h = by_table m (row_fits (ap not h)) (ap number_of (ap completed_word (same_word w m.word _ e refl) ∙ ap (λ b. if b then written Complete m.word else written CompleteDetached m.word) h)) (refl, refl)
-          (stays refl refl (inl refl) (inr refl))
+      by : (b : Bool) → m.word.task ≡ b → let acts : List Act = if b then DropFuture ∷ StoreOutput ∷ Complete ∷ [] else DropFuture ∷ StoreOutput ∷ CompleteDetached ∷ [] in Steps m Ready acts (number_of (word_after m.word acts)) l
+      by true h = by_table m (row_fits h) refl (refl, refl) (placed m.word.closed m.word.awaiter (written Complete m.word) (Completes ∷ RunEnded ∷ FutureDropped ∷ []))
+      by false h = by_table m (row_fits (ap not h)) refl (refl, refl) (stays refl refl (inl refl) (inr refl))
 
   -- the run of a Pending future, on an open task
-  pub ends_pending : (w : State) (ds : List Deed) (us : List Member) (y : Slot F T A) (l : List (ℕ × Slot F T A)) → l ≡ future_first y (rest (rest l)) → IsFuture y → w.closed ≡ false
-      → (m : Machine) → Finds limit Pending ds us m → number_of w ≡ number_of m.word → Steps m Pending (ending_pending m.word) (number_of (after_pending w)) l
-  ends_pending w ds us y l has is unclosed m f e = by m.word.scheduled (nat_lt 1 m.word.references || m.word.task) refl refl
+  pub ends_pending : (ds : List Deed) (us : List Member) (y : Slot F T A) (l : List (ℕ × Slot F T A)) → l ≡ future_first y (rest (rest l)) → IsFuture y → OwesChange F T A limit to_end_pending Pending ds us l
+  ends_pending ds us y l has is m f applied = by m.word.scheduled (nat_lt 1 m.word.references || m.word.task) refl refl
     where
       facts : (1 ≤ m.word.references) × (m.slots.output ≡ false) × (m.slots.future ≡ true)
       facts = pending_facts m.limit m.word m.slots m.trace (census m.parties) f.invariant.holds (counted (λ c. c.pending) (λ a b. refl) m.parties f.number Pending f.stands)
 
-      same : w ≡ m.word
-      same = same_word w m.word _ e refl
-
       not_closed : m.word.closed ≡ false
-      not_closed = ap (λ (v : State). v.closed) (sym same) ∙ unclosed
+      not_closed = not_true m.word.closed applied
 
       shared : Bool
       shared = nat_lt 1 m.word.references || m.word.task
 
-      wrote : after_pending w ≡ (if m.word.scheduled then written Reschedule m.word else (if shared then written EndIdle m.word else written EndOrphaned m.word))
-      wrote = ap after_pending same
-
-      by : (b d : Bool) → m.word.scheduled ≡ b → shared ≡ d → Steps m Pending (if b then Reschedule ∷ [] else (if d then EndIdle ∷ EndCall ∷ [] else EndOrphaned ∷ [])) (number_of (after_pending w)) l
-      by true d h k = by_table m (row_fits (both (ap not not_closed) h)) (ap number_of (wrote ∙ ap (λ b. if b then written Reschedule m.word else (if shared then written EndIdle m.word else written EndOrphaned m.word)) h)) (refl, refl)
+      by : (b d : Bool) → m.word.scheduled ≡ b → shared ≡ d
+          → let acts : List Act = ending_pending (if b then Rescheduled else (if d then Idle else Orphaned)) in Steps m Pending acts (number_of (word_after m.word acts)) l
+      by true d h k = by_table m (row_fits (both (ap not not_closed) h)) refl (refl, refl)
           (gives_work y Empty refl refl refl (inr refl) (inl has) (lies_there IsFuture m.slots.future y facts.2 is) (lies_nowhere IsOutput m.slots.output facts.1))
-      by false true h k = by_table m (row_fits (three m.word.closed m.word.scheduled shared not_closed h k)) (ap number_of (wrote ∙ (ap (λ b. if b then written Reschedule m.word else (if shared then written EndIdle m.word else written EndOrphaned m.word)) h ∙ ap (λ b. if b then written EndIdle m.word else written EndOrphaned m.word) k))) (refl, refl)
+      by false true h k = by_table m (row_fits (three m.word.closed m.word.scheduled shared not_closed h k)) refl (refl, refl)
           (gives_work y Empty refl refl refl (inr refl) (inl has) (lies_there IsFuture m.slots.future y facts.2 is) (lies_nowhere IsOutput m.slots.output facts.1))
-      by false false h k = by_table m (row_fits (four m.word.closed m.word.scheduled (nat_eq m.word.references 1) m.word.task not_closed h (is_last m.word.references m.word.task facts.0 k))) (ap number_of (wrote ∙ (ap (λ b. if b then written Reschedule m.word else (if shared then written EndIdle m.word else written EndOrphaned m.word)) h ∙ ap (λ b. if b then written EndIdle m.word else written EndOrphaned m.word) k))) (refl, refl)
+      by false false h k = by_table m (row_fits (four m.word.closed m.word.scheduled (nat_eq m.word.references 1) m.word.task not_closed h (is_last m.word.references m.word.task facts.0 k))) refl (refl, refl)
           (gives_work y Empty refl refl refl (inr refl) (inl has) (lies_there IsFuture m.slots.future y facts.2 is) (lies_nowhere IsOutput m.slots.output facts.1))

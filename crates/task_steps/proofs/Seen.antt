@@ -68,6 +68,10 @@ pub left_true : (a b : Bool) → (a && b) ≡ true → a ≡ true
 left_true true b e = refl
 left_true false b e = e
 
+pub right_true : (a b : Bool) → (a && b) ≡ true → b ≡ true
+right_true true b e = e
+right_true false b e = absurd (cc)
+
 -- what is closed, and has neither Runnable nor run, stays so
 stays_ended : (l : ℕ) (a : Act) (w : State) → found l a w ≡ true → (a ≡ CloseOrphan → is_open w ≡ true) → has_ended w ≡ true → has_ended (written a w) ≡ true
 stays_ended l CloseOrphan w f o e = let opened = o refl in grind (arith, nat_tests)

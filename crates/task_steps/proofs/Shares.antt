@@ -1,5 +1,5 @@
 -- What a step of a party does to the number of shares that are out, by the words before and after its acts.
-use Rattle.std.proofs.Common.{◌≡◌, ℕ, zero, suc, ◌+◌, ◌<◌, Bool, true, false, ◌&&◌, Option, Some, None, List, ◌∷◌, ◌⊎◌, inl, inr, ⊎_elim, sym, refl, ap, ◌∙◌, subst, arith, eqb, eq-eqb, ne_eqb}
+use Rattle.std.proofs.Common.{◌≡◌, ℕ, zero, suc, ◌+◌, ◌<◌, Bool, true, false, ◌&&◌, None, List, ◌∷◌, ◌⊎◌, inl, inr, ⊎_elim, sym, refl, ap, ◌∙◌, subst, arith, eqb, eq-eqb, ne_eqb}
 use Rattle.std.proofs.lemmas.Bool.Decides.{nat_tests}
 use Rattle.std.specs.Prelude.{if◌then◌else◌}
 use native.Mathlib.Decide.{ℕ_discrete}
@@ -14,9 +14,11 @@ use Rattle.task_steps.specs.Rule.{view, trying, member, Running, RuleHolds}
 use Rattle.task_steps.specs.Shares.{handles, at_least_one, shares_out, has_emptied, MayBring, MayGive}
 use Rattle.task_steps.proofs.Facts.{low, law, bit_le}
 use Rattle.task_steps.proofs.Seen.{without_handles, emptied_stays}
-use Rattle.task_steps.proofs.Acts.{word_after, leads_word}
+use Rattle.task_steps.specs.Attempt.{Attempt, word_after, acts_on, counts_on}
+use Rattle.task_steps.proofs.Numbers.{same_word}
+use Rattle.task_steps.proofs.Acts.{leads_word}
 use Rattle.task_steps.proofs.Advance.{Finds, Steps}
-use Rattle.task_steps.proofs.Allowed.{Owes, finds_trying}
+use Rattle.task_steps.proofs.Allowed.{Owes, OwesChange, makes_change, finds_trying}
 
 -- so many shares belong to a word
 abbrev pub shares_of : State → ℕ
@@ -91,40 +93,32 @@ module _ (F T A : Type 0) (limit : ℕ) where
       (λ (z : (gives m.word ≡ true) × (shares_of (word_after m.word (acts m.word)) + 1 ≡ shares_of m.word)). inr (ap gives (sym word) ∙ z.0, ap (λ n. n + 1) after ∙ (z.1 ∙ sym before), one_at_least (handles (state_of (write (word_of s))))))
       (moves m f)
 
-  -- what a change of an attempt owes of the number: by the word that it is made on
-  abbrev pub Changes : (ℕ → State → Option State) → (State → List Act) → Position → List Deed → List Member → List (ℕ × Slot F T A) → Type 0
-  Changes writes acts p ds us held = (w v : State) → writes limit w ≡ Some v → (m : Machine) → Finds limit p ds us m → number_of w ≡ number_of m.word → Steps m p (acts m.word) (number_of v) held
-
-  abbrev pub Moves : (Bool → ℕ → ℕ → Type 0) → (ℕ → State → Option State) → (State → List Act) → (State → Bool) → Position → List Deed → List Member → Type 0
-  Moves By writes acts counts p ds us = (w v : State) → writes limit w ≡ Some v → (m : Machine) → Finds limit p ds us m → m.word ≡ w → By (counts m.word) (shares_of m.word) (shares_of (word_after m.word (acts m.word)))
-
-  same_word : (w v : State) → number_of w ≡ number_of v → w ≡ v
-  same_word w v e = sym (state_of_number_of w) ∙ (ap state_of e ∙ state_of_number_of v)
+  -- what a change of an attempt does to the number: by the word that it is made on
+  abbrev pub Moves : {Row : Type 0} → (Bool → ℕ → ℕ → Type 0) → Attempt Row → Position → List Deed → List Member → Type 0
+  Moves By a p ds us = (m : Machine) → Finds limit p ds us m → a.applies limit m.word ≡ true → By (counts_on a m.word) (shares_of m.word) (shares_of (word_after m.word (acts_on a m.word)))
 
   -- an exchange, by whether it was made
   exchange : (P : Bool → Type 0) (n old : ℕ) → (n ≡ old → P true) → P false → P (eqb n old)
   exchange P n old hit miss = dite (ℕ_discrete n old) (λ e. subst P (sym (eq-eqb n old e)) (hit e)) (λ ne. subst P (sym (ne_eqb n old ne)) miss)
 
-  pub may_bring : (id l : ℕ) (p : Position) (ds : List Deed) (us : List Member) (held : List (ℕ × Slot F T A)) (writes : ℕ → State → Option State) (acts : State → List Act) (counts : State → Bool) → Changes writes acts p ds us held → Moves Brings writes acts counts p ds us
-      → MayBring limit id (view l (member p ds ∷ us), held) writes counts
-  may_bring id l p ds us held writes acts counts changes moves t w v writing names s c at = let run = c.running in let m : Machine = run.machine in let f = finds_trying F T A limit s c.capped run id (view l (trying p ds t ∷ us)) l p ds t us at refl in
-      exchange (ExchangeBrings (word_of s) (number_of v) (counts (state_of (word_of s)))) (word_of s) (number_of w)
-      (λ hit. let here : number_of w ≡ number_of m.word = sym hit ∙ run.word_is in let word : m.word ≡ state_of (word_of s) = sym (ap state_of run.word_is ∙ state_of_number_of m.word) in
-      let after = shares_after m p (acts m.word) (number_of v) held (changes w v writing m f here) in let before = shares_now s run in
-      ⊎_elim (λ (z : (counts m.word ≡ false) × (shares_of (word_after m.word (acts m.word)) ≡ shares_of m.word)). inl (ap counts (sym word) ∙ z.0, after ∙ (z.1 ∙ sym before)))
-      (λ (z : (counts m.word ≡ true) × (shares_of (word_after m.word (acts m.word)) ≡ shares_of m.word + 1)). inr (ap counts (sym word) ∙ z.0, after ∙ (z.1 ∙ ap (λ k. k + 1) (sym before)), room s c))
-      (moves w v writing m f (sym (same_word w m.word here))))
+  pub may_bring : {Row : Type 0} (id l : ℕ) (p : Position) (ds : List Deed) (us : List Member) (held : List (ℕ × Slot F T A)) (a : Attempt Row) → OwesChange F T A limit a p ds us held → Moves Brings a p ds us → MayBring limit id (view l (member p ds ∷ us), held) a
+  may_bring id l p ds us held a changes moves t w applied names s c at = let v = word_after w (acts_on a w) in let run = c.running in let m : Machine = run.machine in let f = finds_trying F T A limit s c.capped run id (view l (trying p ds t ∷ us)) l p ds t us at refl in
+      exchange (ExchangeBrings (word_of s) (number_of v) (counts_on a (state_of (word_of s)))) (word_of s) (number_of w)
+      (λ hit. let here : number_of w ≡ number_of m.word = sym hit ∙ run.word_is in let now : m.word ≡ w = same_word m.word w (number_of w) refl here in let word : m.word ≡ state_of (word_of s) = sym (ap state_of run.word_is ∙ state_of_number_of m.word) in
+      let after = shares_after m p (acts_on a m.word) (number_of v) held (makes_change F T A limit a p ds us held changes w applied m f here) in let before = shares_now s run in
+      ⊎_elim (λ (z : (counts_on a m.word ≡ false) × (shares_of (word_after m.word (acts_on a m.word)) ≡ shares_of m.word)). inl (ap (counts_on a) (sym word) ∙ z.0, after ∙ (z.1 ∙ sym before)))
+      (λ (z : (counts_on a m.word ≡ true) × (shares_of (word_after m.word (acts_on a m.word)) ≡ shares_of m.word + 1)). inr (ap (counts_on a) (sym word) ∙ z.0, after ∙ (z.1 ∙ ap (λ k. k + 1) (sym before)), room s c))
+      (moves m f (subst (λ (z : State). a.applies limit z ≡ true) (sym now) applied)))
       (inl (refl, refl))
 
-  pub may_give : (id l : ℕ) (p : Position) (ds : List Deed) (us : List Member) (held : List (ℕ × Slot F T A)) (writes : ℕ → State → Option State) (acts : State → List Act) (counts : State → Bool) → Changes writes acts p ds us held → Moves Gives writes acts counts p ds us
-      → MayGive limit id (view l (member p ds ∷ us), held) writes counts
-  may_give id l p ds us held writes acts counts changes moves t w v writing names s c at = let run = c.running in let m : Machine = run.machine in let f = finds_trying F T A limit s c.capped run id (view l (trying p ds t ∷ us)) l p ds t us at refl in
-      exchange (ExchangeGives (word_of s) (number_of v) (counts (state_of (word_of s)))) (word_of s) (number_of w)
-      (λ hit. let here : number_of w ≡ number_of m.word = sym hit ∙ run.word_is in let word : m.word ≡ state_of (word_of s) = sym (ap state_of run.word_is ∙ state_of_number_of m.word) in
-      let after = shares_after m p (acts m.word) (number_of v) held (changes w v writing m f here) in let before = shares_now s run in
-      ⊎_elim (λ (z : (counts m.word ≡ false) × (shares_of (word_after m.word (acts m.word)) ≡ shares_of m.word)). inl (ap counts (sym word) ∙ z.0, after ∙ (z.1 ∙ sym before)))
-      (λ (z : (counts m.word ≡ true) × (shares_of (word_after m.word (acts m.word)) + 1 ≡ shares_of m.word)). inr (ap counts (sym word) ∙ z.0, ap (λ k. k + 1) after ∙ (z.1 ∙ sym before), one_at_least (handles (state_of (number_of v)))))
-      (moves w v writing m f (sym (same_word w m.word here))))
+  pub may_give : {Row : Type 0} (id l : ℕ) (p : Position) (ds : List Deed) (us : List Member) (held : List (ℕ × Slot F T A)) (a : Attempt Row) → OwesChange F T A limit a p ds us held → Moves Gives a p ds us → MayGive limit id (view l (member p ds ∷ us), held) a
+  may_give id l p ds us held a changes moves t w applied names s c at = let v = word_after w (acts_on a w) in let run = c.running in let m : Machine = run.machine in let f = finds_trying F T A limit s c.capped run id (view l (trying p ds t ∷ us)) l p ds t us at refl in
+      exchange (ExchangeGives (word_of s) (number_of v) (counts_on a (state_of (word_of s)))) (word_of s) (number_of w)
+      (λ hit. let here : number_of w ≡ number_of m.word = sym hit ∙ run.word_is in let now : m.word ≡ w = same_word m.word w (number_of w) refl here in let word : m.word ≡ state_of (word_of s) = sym (ap state_of run.word_is ∙ state_of_number_of m.word) in
+      let after = shares_after m p (acts_on a m.word) (number_of v) held (makes_change F T A limit a p ds us held changes w applied m f here) in let before = shares_now s run in
+      ⊎_elim (λ (z : (counts_on a m.word ≡ false) × (shares_of (word_after m.word (acts_on a m.word)) ≡ shares_of m.word)). inl (ap (counts_on a) (sym word) ∙ z.0, after ∙ (z.1 ∙ sym before)))
+      (λ (z : (counts_on a m.word ≡ true) × (shares_of (word_after m.word (acts_on a m.word)) + 1 ≡ shares_of m.word)). inr (ap (counts_on a) (sym word) ∙ z.0, ap (λ k. k + 1) after ∙ (z.1 ∙ sym before), one_at_least (handles (state_of (number_of v)))))
+      (moves m f (subst (λ (z : State). a.applies limit z ≡ true) (sym now) applied)))
       (inl (refl, refl))
 
   none_left : (w : State) → without_handles w ≡ true → handles w ≡ 0

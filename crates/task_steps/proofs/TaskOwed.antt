@@ -1,23 +1,25 @@
 -- What each step of a Task owes beside its polls.
-use Rattle.std.proofs.Common.{◌≡◌, ℕ, ◌+◌, ◌-◌, ◌%◌, ◌^◌, ◌<◌, ◌≤◌, Bool, true, false, not, ◌&&◌, ◌||◌, List, [], ◌∷◌, refl, sym, ap, ◌∙◌, subst, inr, arith}
+use Rattle.std.proofs.Common.{◌≡◌, ℕ, ◌+◌, ◌-◌, ◌%◌, ◌^◌, ◌<◌, ◌≤◌, Bool, true, false, not, ◌&&◌, ◌||◌, List, [], ◌∷◌, refl, ap, ◌∙◌, inr, arith}
 use Rattle.std.specs.Prelude.{nat_lt, nat_eq, if◌then◌else◌}
 use Rattle.std.proofs.lemmas.Bool.Decides.{nat_tests}
 use Rattle.atomic_table.specs.Table.{rest}
-use Rattle.task_steps.proofs.Vocabulary.{State, bit, state_of, number_of, is_open, Event, At, OutputCloser, Detacher, Task, OfCancel}
-use Rattle.task_steps.proofs.Vocabulary.{CancelBusy, CancelIdle, GiveUpOutput, DetachOrphan, DetachLast, Detach, EndCall, Slots, notifies, Machine, owns_awaiter}
-use Rattle.task_steps.proofs.Vocabulary.{Census, census, Holds, state_of_number_of, Slot, Empty, Deed, Member}
-use Rattle.task_core.specs.Rows.{found, written}
+use Rattle.task_steps.proofs.Vocabulary.{State, bit, number_of, is_open, Act, Event, At, OutputCloser, Detacher, Task, OfCancel}
+use Rattle.task_steps.proofs.Vocabulary.{CancelIdle, DetachOrphan, DetachLast, Detach, EndCall, Slots, notifies, Machine, owns_awaiter}
+use Rattle.task_steps.proofs.Vocabulary.{Census, census, Holds, Slot, Empty, Deed, Member}
+use Rattle.task_core.specs.Rows.{found}
 use Rattle.task_steps.specs.Rule.{has_work, IsFuture}
 use Rattle.task_steps.specs.Steps.{saw_closed, output_first}
 use Rattle.task_steps.specs.Scripts.{dropping_output}
-use Rattle.task_steps.specs.WakerScripts.{is_over}
-use Rattle.task_steps.specs.TaskScripts.{finding_cancelled, cancelling, cancelled, detaching, detached, giving_task_up}
+use Rattle.task_steps.specs.Attempt.{word_after}
+use Rattle.task_steps.specs.TaskScripts.{closing, detaching, to_cancel, to_detach, giving_task_up}
+use Rattle.task_steps.specs.declared.task.Cancelled.TheVariants.{Busy, Idle}
+use Rattle.task_steps.specs.declared.task.Detached.TheVariants.{Unclaimed, Shared, Last, Orphaned}
 use Rattle.task_steps.proofs.Acts.{both}
 use Rattle.task_steps.proofs.Facts.{counted}
 use Rattle.task_steps.proofs.PollOwed.{output_lies, future_gone}
-use Rattle.task_steps.proofs.Advance.{Finds, stays, gives_work, lies_nowhere, takes_output, takes_awaiter, Steps}
+use Rattle.task_steps.proofs.Advance.{stays, gives_work, lies_nowhere, takes_output, takes_awaiter, Steps}
 use Rattle.task_steps.proofs.Computed.{by_table, computed, row_fits}
-use Rattle.task_steps.proofs.Allowed.{Owes, OwesEnd}
+use Rattle.task_steps.proofs.Allowed.{Owes, OwesChange, OwesEnd}
 
 pub over : (b : Bool) → b ≡ false → not b ≡ true
 over b e = cc
@@ -49,23 +51,15 @@ idle_cancel true n = (refl, refl)
 idle_cancel false n = (refl, refl)
 
 module _ (F T A : Type 0) (limit : ℕ) where
-  pub finds_over : (n : ℕ) (ds : List Deed) (us : List Member) (l : List (ℕ × Slot F T A)) → OwesEnd F T A limit (is_over limit) finding_cancelled (At (Task n)) ds us l
+  pub finds_over : (n : ℕ) (ds : List Deed) (us : List Member) (l : List (ℕ × Slot F T A)) → OwesEnd F T A limit to_cancel (At (Task n)) ds us l
   finds_over n ds us l m f x e lt is = computed m (row_fits is) e refl
 
-  pub cancels : (n : ℕ) (ds : List Deed) (us : List Member) (l : List (ℕ × Slot F T A)) (w : State) (old new : ℕ) → old ≡ number_of w → new ≡ number_of (cancelled w) → is_open w ≡ true
-      → (m : Machine) → Finds limit (At (Task n)) ds us m → old ≡ number_of m.word → Steps m (At (Task n)) (cancelling m.word) new l
-  cancels n ds us l w old new is wrote before m f e = subst (λ (k : ℕ). Steps m (At (Task n)) (cancelling m.word) k l) (ap (λ (v : State). number_of (cancelled v)) same ∙ sym wrote) (closes (found 0 CancelIdle m.word) refl)
+  pub cancels : (n : ℕ) (ds : List Deed) (us : List Member) (l : List (ℕ × Slot F T A)) → OwesChange F T A limit to_cancel (At (Task n)) ds us l
+  cancels n ds us l m f applied = closes (found 0 CancelIdle m.word) refl
     where
-      same : m.word ≡ w
-      same = sym (state_of_number_of m.word) ∙ ap state_of (sym e ∙ is) ∙ state_of_number_of w
-
-      now : is_open m.word ≡ true
-      now = ap is_open same ∙ before
-
-      closes : (b : Bool) → found 0 CancelIdle m.word ≡ b
-          → Steps m (At (Task n)) (if b then CancelIdle ∷ [] else CancelBusy ∷ []) (number_of (if b then written CancelIdle m.word else written CancelBusy m.word)) l
+      closes : (b : Bool) → found 0 CancelIdle m.word ≡ b → let acts : List Act = closing (if b then Idle m.word.awaiter else Busy m.word.awaiter) in Steps m (At (Task n)) acts (number_of (word_after m.word acts)) l
       closes true fit = computed m (row_fits fit) refl refl
-      closes false unfit = let i = idle_cancel m.word.awaiter n in by_table m (row_fits (busy_fits (is_open m.word) m.word.scheduled m.word.running now unfit)) refl (refl, refl)
+      closes false unfit = let i = idle_cancel m.word.awaiter n in by_table m (row_fits (busy_fits (is_open m.word) m.word.scheduled m.word.running applied unfit)) refl (refl, refl)
           (stays i.0 i.1 (inr (refl, refl)) (inr refl))
 
   -- the Task is given up, with references left
@@ -76,17 +70,11 @@ module _ (F T A : Type 0) (limit : ℕ) where
   is_last : (m : Machine) → nat_lt 0 m.word.references ≡ false → m.word.closed ≡ true → (nat_eq m.word.references 0 && m.word.closed) ≡ true
   is_last m none closed = both (nat_eq m.word.references 0) m.word.closed (none_left m.word.references none) closed
 
-  pub detaches : (n : ℕ) (ds : List Deed) (us : List Member) (l : List (ℕ × Slot F T A)) (w : State) (old new : ℕ) → old ≡ number_of w → new ≡ number_of (detached w)
-      → (m : Machine) → Finds limit (At (Task n)) ds us m → old ≡ number_of m.word → Steps m (At (Task n)) (detaching m.word) new l
-  detaches n ds us l w old new is wrote m f e = subst (λ (k : ℕ). Steps m (At (Task n)) (detaching m.word) k l) (ap (λ (v : State). number_of (detached v)) same ∙ sym wrote)
-      (gives (found 0 Detach m.word) (found 0 DetachLast m.word) (found 0 DetachOrphan m.word) refl refl refl)
+  pub detaches : (n : ℕ) (ds : List Deed) (us : List Member) (l : List (ℕ × Slot F T A)) → OwesChange F T A limit to_detach (At (Task n)) ds us l
+  detaches n ds us l m f any = gives (found 0 Detach m.word) (found 0 DetachLast m.word) (found 0 DetachOrphan m.word) refl refl refl
     where
-      same : m.word ≡ w
-      same = sym (state_of_number_of m.word) ∙ ap state_of (sym e ∙ is) ∙ state_of_number_of w
-
       gives : (a b c : Bool) → found 0 Detach m.word ≡ a → found 0 DetachLast m.word ≡ b → found 0 DetachOrphan m.word ≡ c
-          → Steps m (At (Task n)) (if a then Detach ∷ EndCall ∷ [] else (if b then DetachLast ∷ [] else (if c then DetachOrphan ∷ [] else GiveUpOutput ∷ [])))
-          (number_of (if a then written Detach m.word else (if b then written DetachLast m.word else (if c then written DetachOrphan m.word else written GiveUpOutput m.word)))) l
+          → let acts : List Act = detaching (if a then Shared else (if b then Last else (if c then Orphaned else Unclaimed))) in Steps m (At (Task n)) acts (number_of (word_after m.word acts)) l
       gives true b c fit x y = computed m (row_fits fit) refl refl
       gives false true c x fit y = by_table m (row_fits fit) refl (refl, refl)
           (takes_awaiter refl refl refl (inr (refl, refl)) (λ y h. (m.slots.awaiter, h)))

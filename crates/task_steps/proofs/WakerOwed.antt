@@ -1,30 +1,26 @@
 -- What the steps owe by which a waker is gained, wakes and is dropped.
-use Rattle.std.proofs.Common.{◌≡◌, ℕ, ◌+◌, ◌-◌, ◌%◌, ◌^◌, ◌≤◌, Bool, true, false, not, ◌&&◌, ◌||◌, Some, List, [], ◌∷◌, refl, sym, ap, ◌∙◌, subst, inr, arith}
+use Rattle.std.proofs.Common.{◌≡◌, ℕ, ◌+◌, ◌-◌, ◌%◌, ◌^◌, ◌≤◌, Bool, true, false, not, ◌&&◌, ◌||◌, List, [], ◌∷◌, refl, sym, ap, ◌∙◌, subst, inr, arith}
 use Rattle.std.specs.Prelude.{nat_lt, nat_le, nat_eq, if◌then◌else◌}
 use Rattle.std.proofs.lemmas.Bool.Decides.{nat_tests}
 use Rattle.task_steps.proofs.Vocabulary.{State, state_of, number_of, is_open, Event, Rest, Runnable, Waker, Lent}
-use Rattle.task_steps.proofs.Vocabulary.{At, OrphanHolder, GainReference, DropWaker, DropLastWaker, OrphanTask, WakeScheduled, WakeRunning, WakeIdle}
-use Rattle.task_steps.proofs.Vocabulary.{EndCall, written, row, Slots, is_held, may_ask, may_gain, may_wake, Machine, scene, Census, census, Holds, state_of_number_of, fetch_sub-reference, Slot}
+use Rattle.task_steps.proofs.Vocabulary.{At, OrphanHolder, DropWaker, DropLastWaker, OrphanTask, WakeScheduled, WakeRunning, WakeIdle}
+use Rattle.task_steps.proofs.Vocabulary.{Act, EndCall, Slots, is_held, may_ask, may_gain, may_wake, Machine, scene, Census, census, Holds, state_of_number_of, fetch_sub-reference, Slot}
 use Rattle.task_steps.proofs.Vocabulary.{Deed, Member}
 use Rattle.task_core.specs.Rows.{found}
-use Rattle.task_steps.specs.Beside.{may_call, may_change}
-use Rattle.task_steps.specs.WakerScripts.{at_limit, finding_limit, gaining, is_over, finding_over, waking_task, woken_word, dropping_waker, closing_orphan}
+use Rattle.task_steps.specs.Attempt.{word_after}
+use Rattle.task_steps.specs.Beside.{may_call}
+use Rattle.task_steps.specs.WakerScripts.{waking_task, to_gain, to_wake, dropping_waker, closing_orphan}
+use Rattle.task_steps.specs.declared.waker.Woken.TheVariants.{Scheduled, Running, Idle}
 use Rattle.task_steps.proofs.Bools.{never}
-use Rattle.task_steps.proofs.Acts.{row_found}
-use Rattle.task_steps.proofs.Seen.{true_right}
+use Rattle.task_steps.proofs.Seen.{true_right, left_true, right_true, not_true}
 use Rattle.task_steps.proofs.Facts.{counted}
-use Rattle.task_steps.proofs.Numbers.{same_word}
-use Rattle.task_steps.proofs.Advance.{Finds, takes_awaiter, Steps}
+use Rattle.task_steps.proofs.Advance.{takes_awaiter, Steps}
 use Rattle.task_steps.proofs.Computed.{by_table, computed, allows, row_fits}
-use Rattle.task_steps.proofs.Allowed.{Owes, OwesEnd}
+use Rattle.task_steps.proofs.Allowed.{Owes, OwesChange, OwesEnd}
 use Rattle.task_steps.proofs.TaskOwed.{over}
 
 at_the_limit : (n l k : ℕ) → nat_lt n l ≡ false → k ≡ l → nat_le k n ≡ true
 at_the_limit n l k e f = grind (arith, nat_tests)
-
-is_not : (b : Bool) → not b ≡ true → b ≡ false
-is_not true e = never e
-is_not false e = refl
 
 -- an open task to which no other row of a wake fits is scheduled
 pub scheduled_fits : (w : State) → is_open w ≡ true → found 0 WakeIdle w ≡ false → found 0 WakeRunning w ≡ false → found 0 WakeScheduled w ≡ true
@@ -46,13 +42,13 @@ finds_it_over Waker m call e = refl
 finds_it_over Lent m call e = true_right (is_held m.word) (not (is_open m.word)) (over (is_open m.word) e)
 finds_it_over r m call e = never call
 
--- .. and one that changes the word
-wakes_it : (r : Rest) (m : Machine) → may_call r ≡ true → may_change r m.word ≡ true → may_wake (scene m) r ≡ true
+-- .. and one that changes the word of a task that has a handle
+wakes_it : (r : Rest) (m : Machine) → may_call r ≡ true → is_held m.word ≡ true → may_wake (scene m) r ≡ true
 wakes_it Waker m call held = refl
 wakes_it Lent m call held = ap (λ b. b || not (is_open m.word)) held
 wakes_it r m call held = never call
 
-gains_it : (r : Rest) (m : Machine) → may_ask r ≡ true → may_change r m.word ≡ true → may_gain (scene m) r ≡ true
+gains_it : (r : Rest) (m : Machine) → may_ask r ≡ true → is_held m.word ≡ true → may_gain (scene m) r ≡ true
 gains_it Runnable m ask held = refl
 gains_it Waker m ask held = refl
 gains_it Lent m ask held = held
@@ -60,38 +56,30 @@ gains_it r m ask held = never ask
 
 module _ (F T A : Type 0) (limit : ℕ) where
   -- the count is at the limit
-  pub finds_limit : (r : Rest) (ds : List Deed) (us : List Member) (l : List (ℕ × Slot F T A)) → may_ask r ≡ true → OwesEnd F T A limit (at_limit limit) finding_limit (At r) ds us l
-  finds_limit r ds us l may m f x e lt full = computed m (allows _ (may_ask r) (at_the_limit m.word.references limit m.limit (is_not (nat_lt m.word.references limit) full) f.limited) may) e refl
+  pub finds_limit : (r : Rest) (ds : List Deed) (us : List Member) (l : List (ℕ × Slot F T A)) → may_ask r ≡ true → OwesEnd F T A limit to_gain (At r) ds us l
+  finds_limit r ds us l may m f x e lt full = computed m (allows _ (may_ask r) (at_the_limit m.word.references limit m.limit (not_true (nat_lt m.word.references limit) full) f.limited) may) e refl
 
   -- a reference is gained
-  pub gains : (r : Rest) (ds : List Deed) (us : List Member) (l : List (ℕ × Slot F T A)) (w v : State) (old new : ℕ) → may_ask r ≡ true → may_change r w ≡ true → Some v ≡ row limit GainReference w → old ≡ number_of w → new ≡ number_of v
-      → (m : Machine) → Finds limit (At r) ds us m → old ≡ number_of m.word → Steps m (At r) (gaining m.word) new l
-  gains r ds us l w v old new may held fits is to m f here = let same = same_word m.word w old is here in let x = row_found limit GainReference w v fits in
-      computed m (allows _ (may_gain (scene m) r) (ap (λ (z : ℕ × State). nat_lt z.1.references z.0) (λ i. (f.limited i, same i)) ∙ x.0) (gains_it r m may (ap (may_change r) same ∙ held))) (to ∙ ap number_of (x.1 ∙ ap (written GainReference) (sym same))) refl
+  pub gains : (r : Rest) (ds : List Deed) (us : List Member) (l : List (ℕ × Slot F T A)) → may_ask r ≡ true → OwesChange F T A limit to_gain (At r) ds us l
+  gains r ds us l may m f applied = let room : nat_lt m.word.references limit ≡ true = right_true (is_held m.word) _ applied in
+      computed m (allows _ (may_gain (scene m) r) (ap (λ k. nat_lt m.word.references k) f.limited ∙ room) (gains_it r m may (left_true (is_held m.word) _ applied))) refl refl
 
   -- the task is over
-  pub finds_over : (r : Rest) (ds : List Deed) (us : List Member) (l : List (ℕ × Slot F T A)) → may_call r ≡ true → OwesEnd F T A limit (is_over limit) finding_over (At r) ds us l
-  finds_over r ds us l may m f x e lt is = computed m (allows _ (may_wake (scene m) r) is (finds_it_over r m may (is_not (is_open m.word) is))) e refl
+  pub finds_over : (r : Rest) (ds : List Deed) (us : List Member) (l : List (ℕ × Slot F T A)) → may_call r ≡ true → OwesEnd F T A limit to_wake (At r) ds us l
+  finds_over r ds us l may m f x e lt is = computed m (allows _ (may_wake (scene m) r) is (finds_it_over r m may (not_true (is_open m.word) is))) e refl
 
   -- a wake of an open task
-  pub wakes : (r : Rest) (ds : List Deed) (us : List Member) (l : List (ℕ × Slot F T A)) (w : State) (old new : ℕ) → may_call r ≡ true → may_change r w ≡ true → is_open w ≡ true → old ≡ number_of w → new ≡ number_of (woken_word w)
-      → (m : Machine) → Finds limit (At r) ds us m → old ≡ number_of m.word → Steps m (At r) (waking_task m.word) new l
-  wakes r ds us l w old new may held before is wrote m f here = subst (λ (k : ℕ). Steps m (At r) (waking_task m.word) k l) (ap (λ (v : State). number_of (woken_word v)) same ∙ sym wrote) (by (found 0 WakeIdle m.word) (found 0 WakeRunning m.word) refl refl)
+  pub wakes : (r : Rest) (ds : List Deed) (us : List Member) (l : List (ℕ × Slot F T A)) → may_call r ≡ true → OwesChange F T A limit to_wake (At r) ds us l
+  wakes r ds us l may m f applied = by (found 0 WakeIdle m.word) (found 0 WakeRunning m.word) refl refl
     where
-      same : m.word ≡ w
-      same = same_word m.word w old is here
-
-      now : is_open m.word ≡ true
-      now = ap is_open same ∙ before
-
       lets : may_wake (scene m) r ≡ true
-      lets = wakes_it r m may (ap (may_change r) same ∙ held)
+      lets = wakes_it r m may (left_true (is_held m.word) (is_open m.word) applied)
 
-      by : (a b : Bool) → found 0 WakeIdle m.word ≡ a → found 0 WakeRunning m.word ≡ b → Steps m (At r) (if a then WakeIdle ∷ EndCall ∷ [] else (if b then WakeRunning ∷ EndCall ∷ [] else WakeScheduled ∷ EndCall ∷ []))
-          (number_of (if a then written WakeIdle m.word else (if b then written WakeRunning m.word else m.word))) l
+      by : (a b : Bool) → found 0 WakeIdle m.word ≡ a → found 0 WakeRunning m.word ≡ b
+          → let acts : List Act = waking_task (if a then Idle else (if b then Running else Scheduled)) in Steps m (At r) acts (number_of (word_after m.word acts)) l
       by true b fit too = computed m (allows _ (may_wake (scene m) r) fit lets) refl refl
       by false true unfit fit = computed m (allows _ (may_wake (scene m) r) fit lets) refl refl
-      by false false unfit too = computed m (allows _ (may_wake (scene m) r) (scheduled_fits m.word now unfit too) lets) refl refl
+      by false false unfit too = computed m (allows _ (may_wake (scene m) r) (scheduled_fits m.word (right_true (is_held m.word) (is_open m.word) applied) unfit too) lets) refl refl
 
   -- a waker is dropped
   pub drops_waker : (ds : List Deed) (us : List Member) (l : List (ℕ × Slot F T A)) → Owes F T A limit dropping_waker (λ n. (n + (2 ^ 64 - 256)) % 2 ^ 64) (At Waker) ds us l

@@ -1,10 +1,9 @@
 -- What a party does that tries to change the word by compare and exchange, and what it has seen meanwhile.
-use Rattle.std.specs.Prelude.{◌≡◌, ◌≢◌, ◌<◌, ℕ, ◌+◌, ◌==◌, Bool, true, false, List, ◌∷◌, Option, Some, None, is_some}
+use Rattle.std.specs.Prelude.{◌≡◌, ◌≢◌, ◌<◌, ℕ, ◌+◌, ◌==◌, true, false, ◌∷◌, Option, Some, None}
 use mathlib.Core.Option.{none}
 use prog.Atomic.{either}
 use Rattle.atomic_table.specs.Table.{Me, Step, step, Allows}
 use Rattle.task_core.specs.Word.{State, state_of, number_of}
-use Rattle.task_core.specs.declared.acts.Act.{Act}
 use Rattle.task_steps.specs.declared.attempt.TriedOnce.{TriedOnce}
 use Rattle.task_steps.specs.declared.attempt.TriedOnce.TheVariants.{Made, Ended, Again}
 use Rattle.task_steps.specs.declared.table.Slot.{Slot}
@@ -13,6 +12,7 @@ use Rattle.task_steps.specs.declared.table.View.{View}
 use Rattle.task_steps.specs.Rule.{view, trying, RuleHolds}
 use Rattle.task_steps.specs.Steps.{head_of, tail_of, Makes}
 use Rattle.task_steps.specs.Knows.{Knows}
+use Rattle.task_steps.specs.Attempt.{Attempt, word_after, acts_on}
 
 abbrev pub misses_of : Option Tries → ℕ
 misses_of None = 0
@@ -38,41 +38,39 @@ having_seen t v = view v.limit (trying (head_of v.members).at (head_of v.members
 
 module _ {F T A : Type 0} where
   -- what a load of an attempt tells: where the word ends the attempt, the acts of that end
-  abbrev pub observed : (ℕ → State → Bool) → (State → List Act) → Step (Slot F T A) → Me (Slot F T A) View → ℕ → Me (Slot F T A) View
-      → Type 0
-  observed ends told st m r m' = (ends m.0.limit (state_of r) ≡ true → Makes (told (state_of r)) (state_of r) m m')
-      × (ends m.0.limit (state_of r) ≡ false → m' ≡ (having_seen (looked (state_of r) (head_of m.0.members).tries) m.0, m.1))
+  abbrev pub observed : {Row : Type 0} → Attempt Row → Step (Slot F T A) → Me (Slot F T A) View → ℕ → Me (Slot F T A) View → Type 0
+  observed a st m r m' = (a.ends m.0.limit (state_of r) ≡ true → Makes (a.acts_at_end (state_of r)) (state_of r) m m')
+      × (a.ends m.0.limit (state_of r) ≡ false → m' ≡ (having_seen (looked (state_of r) (head_of m.0.members).tries) m.0, m.1))
       × Knows (head_of m.0.members).deeds (state_of r)
 
   -- .. and its exchange: where it finds the word that it names, the acts of the change
-  abbrev pub attempted : (State → List Act) → Step (Slot F T A) → Me (Slot F T A) View → ℕ → Me (Slot F T A) View → Type 0
-  attempted acts st m r m' = (r ≡ st.first → Makes (acts (state_of r)) (state_of r) m m')
+  abbrev pub attempted : {Row : Type 0} → Attempt Row → Step (Slot F T A) → Me (Slot F T A) View → ℕ → Me (Slot F T A) View → Type 0
+  attempted a st m r m' = (r ≡ st.first → Makes (acts_on a (state_of r)) (state_of r) m m')
       × (r ≢ st.first → m' ≡ (having_seen (missed (state_of r) (head_of m.0.members).tries) m.0, m.1))
       × Knows (head_of m.0.members).deeds (state_of r)
 
   -- the rule allows each load and each exchange of an attempt, whatever the party has seen
-  pub record MayTry (limit slots id : ℕ) (me : Me (Slot F T A) View) (writes : ℕ → State → Option State) (ends : ℕ → State → Bool)
-      (acts told : State → List Act) : Type 0 where
+  pub record MayTry {Row : Type 0} (limit slots id : ℕ) (me : Me (Slot F T A) View) (a : Attempt Row) : Type 0 where
     pub loads : (t : Option Tries)
         → Allows (RuleHolds {F = F} {T = T} {A = A} limit) slots id (having_seen t me.0, me.1) 0 (λ n. n)
-        (observed ends told (step slots 0 0 0 none) (having_seen t me.0, me.1))
-    pub exchanges : (t : Option Tries) (w v : State) → writes limit w ≡ Some v → Names w t
+        (observed a (step slots 0 0 0 none) (having_seen t me.0, me.1))
+    pub exchanges : (t : Option Tries) (w : State) → a.applies limit w ≡ true → Names w t
         → Allows (RuleHolds {F = F} {T = T} {A = A} limit) slots id (having_seen t me.0, me.1) 0
-        (λ n. either (n == number_of w) (number_of v) n)
-        (attempted acts (step slots 0 (number_of w) (number_of v) none) (having_seen t me.0, me.1))
+        (λ n. either (n == number_of w) (number_of (word_after w (acts_on a w))) n)
+        (attempted a (step slots 0 (number_of w) (number_of (word_after w (acts_on a w))) none) (having_seen t me.0, me.1))
 
-  -- an attempt has made its change on this word
-  pub record HasChanged (limit : ℕ) (writes : ℕ → State → Option State) (acts : State → List Act) (w : State)
-      (me me' : Me (Slot F T A) View) : Type 0 where
-    pub written : is_some (writes limit w) ≡ true
-    pub made : Makes (acts w) w me me'
-    pub knows : Knows (head_of me.0.members).deeds w
+  -- an attempt has made its change on a word of this row
+  pub record HasChanged {Row : Type 0} (limit : ℕ) (a : Attempt Row) (row : Row) (me me' : Me (Slot F T A) View) : Type 0 where
+    pub word : State
+    pub is : row ≡ a.row word
+    pub applied : a.applies limit word ≡ true
+    pub made : Makes (acts_on a word) word me me'
+    pub knows : Knows (head_of me.0.members).deeds word
 
   -- .. or this word has ended it
-  pub record HasEnded (limit : ℕ) (ends : ℕ → State → Bool) (told : State → List Act) (w : State)
-      (me me' : Me (Slot F T A) View) : Type 0 where
-    pub at_end : ends limit w ≡ true
-    pub made : Makes (told w) w me me'
+  pub record HasEnded {Row : Type 0} (limit : ℕ) (a : Attempt Row) (w : State) (me me' : Me (Slot F T A) View) : Type 0 where
+    pub at_end : a.ends limit w ≡ true
+    pub made : Makes (a.acts_at_end w) w me me'
     pub knows : Knows (head_of me.0.members).deeds w
 
   -- or the seat is as it was, but for what it has seen, which is this word
@@ -82,14 +80,13 @@ module _ {F T A : Type 0} where
     pub is : me' ≡ (having_seen tries me.0, me.1)
 
   -- what one try of a change has come to
-  abbrev pub HasTried : {M K : Type 0} → ℕ → (ℕ → State → Option State) → (ℕ → State → Bool) → (State → List Act) → (State → List Act) → TriedOnce M K
-      → Me (Slot F T A) View → Me (Slot F T A) View → Type 0
-  HasTried limit writes ends acts told (Made w m) me me' = HasChanged limit writes acts w me me'
-  HasTried limit writes ends acts told (Ended w k) me me' = HasEnded limit ends told w me me'
-  HasTried limit writes ends acts told (Again w k) me me' = (w.references < 72057594037927935) × HasSeen w me me'
+  abbrev pub HasTried : {Row M K : Type 0} → ℕ → Attempt Row → TriedOnce Row M K → Me (Slot F T A) View → Me (Slot F T A) View → Type 0
+  HasTried limit a (Made row m) me me' = HasChanged limit a row me me'
+  HasTried limit a (Ended w k) me me' = HasEnded limit a w me me'
+  HasTried limit a (Again w k) me me' = (w.references < 72057594037927935) × HasSeen w me me'
 
--- where it was made, or was not, this holds of what is answered beside the word
-abbrev pub IfMade : {M K : Type 0} → TriedOnce M K → (State → M → Type 0) → (K → Type 0) → Type 0
-IfMade (Made w m) made kept = made w m
+-- where it was made, or was not, this holds of what is answered
+abbrev pub IfMade : {Row M K : Type 0} → TriedOnce Row M K → (Row → M → Type 0) → (K → Type 0) → Type 0
+IfMade (Made row m) made kept = made row m
 IfMade (Ended w k) made kept = kept k
 IfMade (Again w k) made kept = kept k

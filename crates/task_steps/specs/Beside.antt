@@ -1,11 +1,10 @@
 -- What a waker may do, and what its seat knows after it.
 use Rattle.std.specs.Prelude.{ℕ, ◌<◌, Bool, true, false, List, [], ◌∷◌, ◌≡◌}
 use Rattle.atomic_table.specs.Table.{Me, Step}
-use Rattle.task_core.specs.Word.{State, state_of}
+use Rattle.task_core.specs.Word.{state_of}
 use Rattle.task_laws.specs.declared.positions.Position.TheVariants.{At}
 use Rattle.task_laws.specs.declared.positions.Rest.{Rest}
 use Rattle.task_laws.specs.declared.positions.Rest.TheVariants.{Waker, Lent}
-use Rattle.task_laws.specs.Table.{is_held}
 use Rattle.task_steps.specs.declared.table.Slot.{Slot}
 use Rattle.task_steps.specs.declared.table.Member.{Member}
 use Rattle.task_steps.specs.declared.table.View.{View}
@@ -16,11 +15,6 @@ abbrev pub may_call : Rest → Bool
 may_call Waker = true
 may_call Lent = true
 may_call _ = false
-
--- who may change the word that was found, by a wake or a gain: a lent waker of a task that has a handle
-abbrev pub may_change : Rest → State → Bool
-may_change Lent w = is_held w
-may_change _ w = true
 
 module _ {F T A : Type 0} where
   -- who has a waker by reference gets a party of its own, and the count of the word that it finds has room for one more

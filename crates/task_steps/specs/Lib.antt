@@ -5,6 +5,7 @@ pub mod Deeds
 pub mod Standing
 pub mod Seats
 pub mod Spawns
+pub mod Attempt
 pub mod Scripts
 pub mod StartScripts
 pub mod RunScripts
@@ -15,5 +16,4 @@ pub mod Shares
 pub mod PollScripts
 pub mod WakerScripts
 pub mod Beside
-pub mod Found
 pub mod Held

@@ -1,10 +1,11 @@
 -- The acts that the steps of a poll of the Task make.
-use Rattle.std.specs.Prelude.{Bool, not, ◌&&◌, ◌||◌, if◌then◌else◌, List, [], ◌∷◌}
+use Rattle.std.specs.Prelude.{Bool, false, not, ◌&&◌, ◌||◌, if◌then◌else◌, List, [], ◌∷◌}
 use Rattle.task_core.specs.Word.{State}
 use Rattle.task_core.specs.Rows.{found}
 use Rattle.task_core.specs.declared.acts.Act.{Act}
 use Rattle.task_core.specs.declared.acts.Act.TheVariants.{Look, ClaimOutput, HandOutOutput, CloneAwaiter, RefuseClone, StoreAwaiter}
 use Rattle.task_core.specs.declared.acts.Act.TheVariants.{TakeAwaiter, FindNotify, BeginRegister, EndRegister, EndRegisterNotified, EndCall}
+use Rattle.task_steps.specs.Attempt.{Attempt, only}
 
 -- the output is there, and nobody has taken it
 abbrev pub has_output : State → Bool
@@ -18,21 +19,27 @@ has_ended w = w.closed && not (w.scheduled || w.running)
 abbrev pub has_to_wait : State → Bool
 has_to_wait w = if w.closed then w.scheduled || w.running else not w.completed
 
--- the first look of a poll, which finds no output
-abbrev pub looking : State → List Act
-looking w = Look ∷ []
+-- the first look of a poll, which takes the output where it is there
+abbrev pub to_look : Attempt State
+to_look = record {
+  applies = λ limit w. has_output w;
+  row = λ w. w;
+  acts = λ w. ClaimOutput ∷ [];
+  counts = λ w. false;
+  ends = λ limit w. not (has_output w);
+  acts_at_end = λ w. Look ∷ [];
+}
 
--- .. and one that finds it, and takes it
-abbrev pub claiming : State → List Act
-claiming w = ClaimOutput ∷ []
-
--- the look of a poll that has registered, which finds no output; it ends where it has to wait
-abbrev pub looking_again : State → List Act
-looking_again w = if has_to_wait w then Look ∷ EndCall ∷ [] else Look ∷ []
-
--- .. and one that finds it, and takes it
-abbrev pub claiming_again : State → List Act
-claiming_again w = Look ∷ ClaimOutput ∷ []
+-- the look of a poll that has registered; where it finds no output, it ends if it has to wait
+abbrev pub to_look_again : Attempt State
+to_look_again = record {
+  applies = λ limit w. has_output w;
+  row = λ w. w;
+  acts = λ w. Look ∷ ClaimOutput ∷ [];
+  counts = λ w. false;
+  ends = λ limit w. not (has_output w);
+  acts_at_end = λ w. if has_to_wait w then Look ∷ EndCall ∷ [] else Look ∷ [];
+}
 
 -- the output that was taken is handed out
 abbrev pub handing_out : State → List Act
@@ -42,21 +49,27 @@ handing_out w = HandOutOutput ∷ EndCall ∷ []
 abbrev pub refusing : State → List Act
 refusing w = RefuseClone ∷ EndCall ∷ []
 
--- a notifier is found by a poll that would register
-abbrev pub finding_notifier : State → List Act
-finding_notifier w = CloneAwaiter ∷ FindNotify ∷ []
+-- the awaiter slot is taken, and the clone put in, unless a notifier is there
+abbrev pub to_begin_register : Attempt (Unit {0})
+to_begin_register = record {
+  applies = λ limit w. found 0 BeginRegister w;
+  row = only;
+  acts = λ row. CloneAwaiter ∷ BeginRegister ∷ StoreAwaiter ∷ [];
+  counts = λ row. false;
+  ends = λ limit w. w.notifying;
+  acts_at_end = λ w. CloneAwaiter ∷ FindNotify ∷ [];
+}
 
--- the awaiter slot is taken, and the clone put in
-abbrev pub beginning_register : State → List Act
-beginning_register w = CloneAwaiter ∷ BeginRegister ∷ StoreAwaiter ∷ []
-
--- the awaiter slot is given back, with the clone in it
-abbrev pub ending_register : State → List Act
-ending_register w = EndRegister ∷ []
-
--- a notifier came meanwhile: the clone is taken back
-abbrev pub taking_back : State → List Act
-taking_back w = TakeAwaiter ∷ []
+-- the awaiter slot is given back, with the clone in it, unless a notifier came meanwhile: then the clone is taken back
+abbrev pub to_end_register : Attempt (Unit {0})
+to_end_register = record {
+  applies = λ limit w. found 0 EndRegister w;
+  row = only;
+  acts = λ row. EndRegister ∷ [];
+  counts = λ row. false;
+  ends = λ limit w. w.notifying;
+  acts_at_end = λ w. TakeAwaiter ∷ [];
+}
 
 -- .. and the awaiter slot given back without it
 abbrev pub ending_notified : State → List Act

@@ -1,41 +1,63 @@
 -- The acts that the steps of a Task make beside its polls.
-use Rattle.std.specs.Prelude.{ℕ, Option, Some, None, nat_lt, if◌then◌else◌, List, [], ◌∷◌}
+use Rattle.std.specs.Prelude.{Bool, true, false, nat_lt, if◌then◌else◌, List, [], ◌∷◌}
 use Rattle.task_core.specs.Word.{State, is_open}
-use Rattle.task_core.specs.Rows.{found, written}
+use Rattle.task_core.specs.Rows.{found}
 use Rattle.task_core.specs.declared.acts.Act.{Act}
 use Rattle.task_core.specs.declared.acts.Act.TheVariants.{LookFinished, CancelOver, CancelBusy, CancelIdle, GiveUpOutput, DetachOrphan}
 use Rattle.task_core.specs.declared.acts.Act.TheVariants.{DetachLast, Detach, EndCall}
+use Rattle.task_steps.specs.Attempt.{Attempt, no_end, no_acts}
+use Rattle.task_steps.specs.declared.task.Cancelled.{Cancelled}
+use Rattle.task_steps.specs.declared.task.Cancelled.TheVariants.{Busy, Idle}
+use Rattle.task_steps.specs.declared.task.Detached.{Detached}
+use Rattle.task_steps.specs.declared.task.Detached.TheVariants.{Unclaimed, Shared, Last, Orphaned}
+use Rattle.task_steps.specs.WakerScripts.{is_over}
 
 -- the load of `is_finished`
 abbrev pub looking_finished : State → List Act
 looking_finished w = LookFinished ∷ EndCall ∷ []
 
--- the task is over, and a cancel of it ends
-abbrev pub finding_cancelled : State → List Act
-finding_cancelled w = CancelOver ∷ EndCall ∷ []
+-- what a cancel finds that closes an open task
+abbrev pub closed_by : State → Cancelled
+closed_by w = if found 0 CancelIdle w then Idle w.awaiter else Busy w.awaiter
 
--- a cancel closes an open task
-abbrev pub cancelling : State → List Act
-cancelling w = if found 0 CancelIdle w then CancelIdle ∷ [] else CancelBusy ∷ []
+abbrev pub closing : Cancelled → List Act
+closing (Idle due) = CancelIdle ∷ []
+closing (Busy due) = CancelBusy ∷ []
 
--- .. and writes this word
-abbrev pub cancelled : State → State
-cancelled w = if found 0 CancelIdle w then written CancelIdle w else written CancelBusy w
+-- .. where it was idle, with a share for a Runnable
+abbrev pub brings_share : Cancelled → Bool
+brings_share (Idle due) = true
+brings_share (Busy due) = false
 
-abbrev pub cancelled_word : ℕ → State → Option State
-cancelled_word limit w = if is_open w then Some (cancelled w) else None
+-- a cancel of a task that is over ends
+abbrev pub to_cancel : Attempt Cancelled
+to_cancel = record {
+  applies = λ limit w. is_open w;
+  row = closed_by;
+  acts = closing;
+  counts = brings_share;
+  ends = is_over;
+  acts_at_end = λ w. CancelOver ∷ EndCall ∷ [];
+}
 
--- the Task is given up
-abbrev pub detaching : State → List Act
-detaching w =
-    if found 0 Detach w then Detach ∷ EndCall ∷ []
-    else (if found 0 DetachLast w then DetachLast ∷ [] else (if found 0 DetachOrphan w then DetachOrphan ∷ [] else GiveUpOutput ∷ []))
+-- what the Task finds that is given up
+abbrev pub given_up_by : State → Detached
+given_up_by w =
+    if found 0 Detach w then Shared else (if found 0 DetachLast w then Last else (if found 0 DetachOrphan w then Orphaned else Unclaimed))
 
--- .. and this word written
-abbrev pub detached : State → State
-detached w =
-    if found 0 Detach w then written Detach w
-    else (if found 0 DetachLast w then written DetachLast w else (if found 0 DetachOrphan w then written DetachOrphan w else written GiveUpOutput w))
+abbrev pub detaching : Detached → List Act
+detaching Shared = Detach ∷ EndCall ∷ []
+detaching Last = DetachLast ∷ []
+detaching Orphaned = DetachOrphan ∷ []
+detaching Unclaimed = GiveUpOutput ∷ []
+
+-- .. and its share too, where no output waits and a reference is left
+abbrev pub ends_task : Detached → Bool
+ends_task Shared = true
+ends_task _ = false
+
+abbrev pub to_detach : Attempt Detached
+to_detach = record { applies = λ limit w. true; row = given_up_by; acts = detaching; counts = ends_task; ends = no_end; acts_at_end = no_acts }
 
 -- the Task is given up whose output was dropped
 abbrev pub giving_task_up : State → List Act

@@ -1,51 +1,67 @@
 -- The acts that the steps make by which a waker is gained, wakes and is dropped.
-use Rattle.std.specs.Prelude.{ℕ, Bool, not, nat_lt, if◌then◌else◌, List, [], ◌∷◌, Option, Some, None}
+use Rattle.std.specs.Prelude.{ℕ, Bool, true, false, not, ◌&&◌, nat_lt, if◌then◌else◌, List, [], ◌∷◌}
 use Rattle.task_core.specs.Word.{State, is_open}
-use Rattle.task_core.specs.Rows.{found, written, row}
+use Rattle.task_core.specs.Rows.{found}
 use Rattle.task_laws.specs.Table.{is_held}
 use Rattle.task_core.specs.declared.acts.Act.{Act}
 use Rattle.task_core.specs.declared.acts.Act.TheVariants.{GainReference, FindLimit, DropWaker, DropLastWaker, OrphanTask}
 use Rattle.task_core.specs.declared.acts.Act.TheVariants.{CloseOrphan, WakeOver, WakeScheduled, WakeRunning, WakeIdle, EndCall}
+use Rattle.task_steps.specs.Attempt.{Attempt, only}
+use Rattle.task_steps.specs.declared.waker.Dropped.{Dropped}
+use Rattle.task_steps.specs.declared.waker.Dropped.TheVariants.{Shared, Last, Orphaned}
+use Rattle.task_steps.specs.declared.waker.Woken.{Woken}
+use Rattle.task_steps.specs.declared.waker.Woken.TheVariants.{Scheduled, Running, Idle}
 
--- a reference is gained for a new waker
-abbrev pub gaining : State → List Act
-gaining w = GainReference ∷ EndCall ∷ []
-
--- .. and this word written, where the task has a handle and the count is below the limit
-abbrev pub gained_word : ℕ → State → Option State
-gained_word limit w = if is_held w then row limit GainReference w else None
-
--- the count is at the limit, and the call ends
+-- the count is at the limit
 abbrev pub at_limit : ℕ → State → Bool
 at_limit limit w = not (nat_lt w.references limit)
 
-abbrev pub finding_limit : State → List Act
-finding_limit w = FindLimit ∷ EndCall ∷ []
+-- a reference is gained for a new waker, where the task has a handle; at the limit the call ends
+abbrev pub to_gain : Attempt (Unit {0})
+to_gain = record {
+  applies = λ limit w. is_held w && found limit GainReference w;
+  row = only;
+  acts = λ row. GainReference ∷ EndCall ∷ [];
+  counts = λ row. true;
+  ends = at_limit;
+  acts_at_end = λ w. FindLimit ∷ EndCall ∷ [];
+}
 
--- the task is over, and a wake of it ends
+-- what a wake of an open task finds
+abbrev pub woken_by : State → Woken
+woken_by w = if found 0 WakeIdle w then Idle else (if found 0 WakeRunning w then Running else Scheduled)
+
+abbrev pub waking_task : Woken → List Act
+waking_task Idle = WakeIdle ∷ EndCall ∷ []
+waking_task Running = WakeRunning ∷ EndCall ∷ []
+waking_task Scheduled = WakeScheduled ∷ EndCall ∷ []
+
+-- .. where it was idle, with a share for a Runnable
+abbrev pub brings_runnable : Woken → Bool
+brings_runnable Idle = true
+brings_runnable _ = false
+
 abbrev pub is_over : ℕ → State → Bool
 is_over limit w = found limit WakeOver w
 
-abbrev pub finding_over : State → List Act
-finding_over w = WakeOver ∷ EndCall ∷ []
-
--- a wake of an open task
-abbrev pub waking_task : State → List Act
-waking_task w =
-    if found 0 WakeIdle w then WakeIdle ∷ EndCall ∷ []
-    else (if found 0 WakeRunning w then WakeRunning ∷ EndCall ∷ [] else WakeScheduled ∷ EndCall ∷ [])
-
--- .. and the word that it writes
-abbrev pub woken_word : State → State
-woken_word w = if found 0 WakeIdle w then written WakeIdle w else (if found 0 WakeRunning w then written WakeRunning w else w)
-
--- .. which has a handle
-abbrev pub woken_if_held : ℕ → State → Option State
-woken_if_held limit w = if is_held w then (if is_open w then Some (woken_word w) else None) else None
+-- a wake of a task that is over ends
+abbrev pub to_wake : Attempt Woken
+to_wake = record {
+  applies = λ limit w. is_held w && is_open w;
+  row = woken_by;
+  acts = waking_task;
+  counts = brings_runnable;
+  ends = is_over;
+  acts_at_end = λ w. WakeOver ∷ EndCall ∷ [];
+}
 
 -- whether there are other handles than the one that gives its reference up
 abbrev pub others_left : State → Bool
 others_left w = found 0 DropWaker w
+
+-- what a drop finds that takes its reference off this word
+abbrev pub dropped_by : State → Dropped
+dropped_by w = if others_left w then Shared else (if is_open w then Orphaned else Last)
 
 -- a waker is dropped
 abbrev pub dropping_waker : State → List Act

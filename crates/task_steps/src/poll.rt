@@ -1,9 +1,6 @@
 //! Steps of a poll of the Task.
-ghost use Rattle.std.specs.Prelude.{◌≡◌, not};
-ghost use Rattle.task_core.specs.Rows.{row};
-ghost use Rattle.task_core.specs.declared.acts.Act.TheVariants.{BeginRegister, EndRegister, ClaimOutput};
-ghost use Rattle.task_steps.specs.PollScripts.{has_output, has_ended, has_to_wait, looking, looking_again, claiming, claiming_again, handing_out, refusing, finding_notifier, beginning_register, ending_register, taking_back, ending_notified};
-ghost use Rattle.task_steps.specs.Shares.{never};
+ghost use Rattle.std.specs.Prelude.{◌≡◌};
+ghost use Rattle.task_steps.specs.PollScripts.{has_output, has_ended, has_to_wait, handing_out, refusing, ending_notified, to_look, to_look_again, to_begin_register, to_end_register};
 
 use crate::attempt::Change;
 use crate::script::Script;
@@ -14,19 +11,14 @@ use task_core::word::Word;
 pub struct Looking;
 
 impl Change for Looking {
-    ghost writes = { λ _ w. row 0 ClaimOutput w };
+    type Row = Word;
 
-    ghost ends = { λ _ w. not (has_output w) };
+    ghost attempt = { to_look };
 
-    ghost acts = { claiming };
-
-    ghost told = { looking };
-
-    ghost counts = { never };
-
-    fn next(word: Word, limit: u64) -> Option<Word> {
+    fn next(word: Word, limit: u64) -> Option<(Word, Word)> {
         let _ = limit;
-        word.by_row(0, ClaimOutput)
+        let next = word.by_row(0, ClaimOutput)?;
+        Some((next, word))
     }
 
     fn is_end(word: Word, limit: u64) -> bool {
@@ -39,19 +31,14 @@ impl Change for Looking {
 pub struct LookingAgain;
 
 impl Change for LookingAgain {
-    ghost writes = { λ _ w. row 0 ClaimOutput w };
+    type Row = Word;
 
-    ghost ends = { λ _ w. not (has_output w) };
+    ghost attempt = { to_look_again };
 
-    ghost acts = { claiming_again };
-
-    ghost told = { looking_again };
-
-    ghost counts = { never };
-
-    fn next(word: Word, limit: u64) -> Option<Word> {
+    fn next(word: Word, limit: u64) -> Option<(Word, Word)> {
         let _ = limit;
-        word.by_row(0, ClaimOutput)
+        let next = word.by_row(0, ClaimOutput)?;
+        Some((next, word))
     }
 
     fn is_end(word: Word, limit: u64) -> bool {
@@ -78,19 +65,14 @@ impl Script for Refusing {
 pub struct BeginningRegister;
 
 impl Change for BeginningRegister {
-    ghost writes = { λ _ w. row 0 BeginRegister w };
+    type Row = ();
 
-    ghost ends = { λ _ w. w.notifying };
+    ghost attempt = { to_begin_register };
 
-    ghost acts = { beginning_register };
-
-    ghost told = { finding_notifier };
-
-    ghost counts = { never };
-
-    fn next(word: Word, limit: u64) -> Option<Word> {
+    fn next(word: Word, limit: u64) -> Option<(Word, ())> {
         let _ = limit;
-        word.by_row(0, BeginRegister)
+        let next = word.by_row(0, BeginRegister)?;
+        Some((next, ()))
     }
 
     fn is_end(word: Word, limit: u64) -> bool {
@@ -103,19 +85,14 @@ impl Change for BeginningRegister {
 pub struct EndingRegister;
 
 impl Change for EndingRegister {
-    ghost writes = { λ _ w. row 0 EndRegister w };
+    type Row = ();
 
-    ghost ends = { λ _ w. w.notifying };
+    ghost attempt = { to_end_register };
 
-    ghost acts = { ending_register };
-
-    ghost told = { taking_back };
-
-    ghost counts = { never };
-
-    fn next(word: Word, limit: u64) -> Option<Word> {
+    fn next(word: Word, limit: u64) -> Option<(Word, ())> {
         let _ = limit;
-        word.by_row(0, EndRegister)
+        let next = word.by_row(0, EndRegister)?;
+        Some((next, ()))
     }
 
     fn is_end(word: Word, limit: u64) -> bool {

@@ -1,9 +1,7 @@
 //! Steps of a run and of a Runnable's drop.
-ghost use Rattle.std.specs.Prelude.{◌≡◌, ◌&&◌, not, Some, None, false, [], if◌then◌else◌};
-ghost use Rattle.task_steps.specs.Found.{ending_of};
+ghost use Rattle.std.specs.Prelude.{◌≡◌, ◌&&◌, not};
 ghost use Rattle.task_steps.specs.WakerScripts.{others_left};
-ghost use Rattle.task_steps.specs.RunScripts.{unscheduling, giving_up, emptying, discarding, answering_ready, completing, answering_pending, ending_pending, finding_closed, ending_closed, completed_word, after_pending};
-ghost use Rattle.task_steps.specs.Shares.{ends_run, never};
+ghost use Rattle.task_steps.specs.RunScripts.{unscheduling, giving_up, emptying, discarding, answering_ready, answering_pending, ending_closed, to_complete, to_end_pending};
 
 use crate::attempt::Change;
 use crate::script::{Giving, Script};
@@ -55,22 +53,16 @@ impl Script for AnsweringReady {
 pub struct Completing;
 
 impl Change for Completing {
-    ghost writes = { λ _ w. Some (completed_word w) };
+    type Row = Word;
 
-    ghost ends = { λ _ _. false };
+    ghost attempt = { to_complete };
 
-    ghost acts = { completing };
-
-    ghost told = { λ _. [] };
-
-    ghost counts = { never };
-
-    fn next(word: Word, limit: u64) -> Option<Word> {
+    fn next(word: Word, limit: u64) -> Option<(Word, Word)> {
         let _ = limit;
         if word.fits(0, Complete) {
-            return Some(word.written(Complete));
+            return Some((word.written(Complete), word));
         }
-        Some(word.written(CompleteDetached))
+        Some((word.written(CompleteDetached), word))
     }
 
     fn is_end(word: Word, limit: u64) -> bool {
@@ -90,28 +82,22 @@ impl Script for AnsweringPending {
 pub struct EndingPending;
 
 impl Change for EndingPending {
-    ghost writes = { λ _ w. if w.closed then None else Some (after_pending w) };
+    type Row = PendingEnd;
 
-    ghost ends = { λ _ w. w.closed };
+    ghost attempt = { to_end_pending };
 
-    ghost acts = { ending_pending };
-
-    ghost told = { finding_closed };
-
-    ghost counts = { ends_run };
-
-    fn next(word: Word, limit: u64) -> Option<Word> {
+    fn next(word: Word, limit: u64) -> Option<(Word, PendingEnd)> {
         let _ = limit;
         if word.closed() {
             return None;
         }
         if word.scheduled() {
-            return Some(word.written(Reschedule));
+            return Some((word.written(Reschedule), PendingEnd::Rescheduled));
         }
         if word.fits(0, GiveUpReference) {
-            return Some(word.written(EndIdle));
+            return Some((word.written(EndIdle), PendingEnd::Idle));
         }
-        Some(word.written(EndOrphaned))
+        Some((word.written(EndOrphaned), PendingEnd::Orphaned))
     }
 
     fn is_end(word: Word, limit: u64) -> bool {
@@ -128,6 +114,7 @@ impl Script for EndingClosed {
 }
 
 /// How a run of an open task ends whose poll answered Pending.
+#[derive(Drop)]
 pub enum PendingEnd {
     /// The task was woken meanwhile: the run's Runnable is to be handed over.
     Rescheduled,
@@ -135,19 +122,6 @@ pub enum PendingEnd {
     Idle,
     /// No handle is left: a closing Runnable is to be handed over.
     Orphaned,
-}
-
-/// How a run ends that finds this word, of an open task.
-pub fn pending_end(word: Word) -> PendingEnd
-    ensures { result ≡ ending_of word }
-{
-    if word.scheduled() {
-        PendingEnd::Rescheduled
-    } else if word.fits(0, GiveUpReference) {
-        PendingEnd::Idle
-    } else {
-        PendingEnd::Orphaned
-    }
 }
 
 /// Whether somebody may claim the output of a run that finds this word.

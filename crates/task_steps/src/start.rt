@@ -1,8 +1,5 @@
 //! Steps by which a run starts.
-ghost use Rattle.task_core.specs.Rows.{row};
-ghost use Rattle.task_core.specs.declared.acts.Act.TheVariants.{StartRun};
-ghost use Rattle.task_steps.specs.StartScripts.{taking_up_closed, starting_run};
-ghost use Rattle.task_steps.specs.Shares.{never};
+ghost use Rattle.task_steps.specs.StartScripts.{to_start_run};
 
 use crate::attempt::Change;
 use task_core::acts::Act::StartRun;
@@ -12,19 +9,14 @@ use task_core::word::Word;
 pub struct StartingRun;
 
 impl Change for StartingRun {
-    ghost writes = { λ _ w. row 0 StartRun w };
+    type Row = ();
 
-    ghost ends = { λ _ w. w.closed };
+    ghost attempt = { to_start_run };
 
-    ghost acts = { starting_run };
-
-    ghost told = { taking_up_closed };
-
-    ghost counts = { never };
-
-    fn next(word: Word, limit: u64) -> Option<Word> {
+    fn next(word: Word, limit: u64) -> Option<(Word, ())> {
         let _ = limit;
-        word.by_row(0, StartRun)
+        let next = word.by_row(0, StartRun)?;
+        Some((next, ()))
     }
 
     fn is_end(word: Word, limit: u64) -> bool {

@@ -1,9 +1,6 @@
 //! Steps of a Task beside its polls.
-ghost use Rattle.std.specs.Prelude.{◌≡◌, Some, false, []};
-ghost use Rattle.task_steps.specs.Found.{closed_by, given_up_by};
-ghost use Rattle.task_steps.specs.WakerScripts.{is_over};
-ghost use Rattle.task_steps.specs.TaskScripts.{looking_finished, finding_cancelled, cancelling, cancelled_word, detaching, detached, giving_task_up};
-ghost use Rattle.task_steps.specs.Shares.{brings_runnable, ends_task, has_references};
+ghost use Rattle.task_steps.specs.TaskScripts.{looking_finished, giving_task_up, to_cancel, to_detach};
+ghost use Rattle.task_steps.specs.Shares.{has_references};
 
 use crate::attempt::Change;
 use crate::script::{Giving, Script};
@@ -23,25 +20,20 @@ impl Script for LookingFinished {
 pub struct Cancelling;
 
 impl Change for Cancelling {
-    ghost writes = { cancelled_word };
+    type Row = Cancelled;
 
-    ghost ends = { is_over };
+    ghost attempt = { to_cancel };
 
-    ghost acts = { cancelling };
-
-    ghost told = { finding_cancelled };
-
-    ghost counts = { brings_runnable };
-
-    fn next(word: Word, limit: u64) -> Option<Word> {
+    fn next(word: Word, limit: u64) -> Option<(Word, Cancelled)> {
         let _ = limit;
         if word.is_over() {
             return None;
         }
+        let due = word.awaiter();
         if word.fits(0, CancelIdle) {
-            return Some(word.written(CancelIdle));
+            return Some((word.written(CancelIdle), Cancelled::Idle(due)));
         }
-        Some(word.written(CancelBusy))
+        Some((word.written(CancelBusy), Cancelled::Busy(due)))
     }
 
     fn is_end(word: Word, limit: u64) -> bool {
@@ -54,28 +46,22 @@ impl Change for Cancelling {
 pub struct Detaching;
 
 impl Change for Detaching {
-    ghost writes = { λ _ w. Some (detached w) };
+    type Row = Detached;
 
-    ghost ends = { λ _ _. false };
+    ghost attempt = { to_detach };
 
-    ghost acts = { detaching };
-
-    ghost told = { λ _. [] };
-
-    ghost counts = { ends_task };
-
-    fn next(word: Word, limit: u64) -> Option<Word> {
+    fn next(word: Word, limit: u64) -> Option<(Word, Detached)> {
         let _ = limit;
         if word.fits(0, Detach) {
-            return Some(word.written(Detach));
+            return Some((word.written(Detach), Detached::Shared));
         }
         if word.fits(0, DetachLast) {
-            return Some(word.written(DetachLast));
+            return Some((word.written(DetachLast), Detached::Last));
         }
         if word.fits(0, DetachOrphan) {
-            return Some(word.written(DetachOrphan));
+            return Some((word.written(DetachOrphan), Detached::Orphaned));
         }
-        Some(word.written(GiveUpOutput))
+        Some((word.written(GiveUpOutput), Detached::Unclaimed))
     }
 
     fn is_end(word: Word, limit: u64) -> bool {
@@ -96,6 +82,7 @@ impl Giving for GivingTaskUp {
 }
 
 /// What a cancel found that closed the task, and whether an awaiter is to be taken.
+#[derive(Drop)]
 pub enum Cancelled {
     /// The task was scheduled or running.
     Busy(bool),
@@ -103,18 +90,8 @@ pub enum Cancelled {
     Idle(bool),
 }
 
-/// What the cancel found that wrote on this word.
-pub fn closed_as(word: Word) -> Cancelled
-    ensures { result ≡ closed_by word }
-{
-    if word.fits(0, CancelIdle) {
-        Cancelled::Idle(word.awaiter())
-    } else {
-        Cancelled::Busy(word.awaiter())
-    }
-}
-
 /// What a detach found.
+#[derive(Drop)]
 pub enum Detached {
     /// The task was completed, and nobody had claimed the output.
     Unclaimed,
@@ -124,19 +101,4 @@ pub enum Detached {
     Last,
     /// No other handle was left, and the task was open.
     Orphaned,
-}
-
-/// What the detach found that wrote on this word.
-pub fn given_up_as(word: Word) -> Detached
-    ensures { result ≡ given_up_by word }
-{
-    if word.fits(0, Detach) {
-        Detached::Shared
-    } else if word.fits(0, DetachLast) {
-        Detached::Last
-    } else if word.fits(0, DetachOrphan) {
-        Detached::Orphaned
-    } else {
-        Detached::Unclaimed
-    }
 }

@@ -1,10 +1,8 @@
 //! Steps by which a waker is gained, wakes and is dropped.
 ghost use Rattle.std.specs.Prelude.{◌≡◌, not};
 ghost use Rattle.task_laws.specs.Table.{is_held as has_handle};
-ghost use Rattle.task_steps.specs.Found.{dropped_by};
-ghost use Rattle.task_steps.specs.WakerScripts.{gaining, gained_word, at_limit, finding_limit, is_over, finding_over, waking_task, woken_if_held, others_left, dropping_waker, closing_orphan};
+ghost use Rattle.task_steps.specs.WakerScripts.{others_left, dropped_by, dropping_waker, closing_orphan, to_gain, to_wake};
 ghost use Rattle.task_steps.specs.Beside.{borrowing, without_newest, newest};
-ghost use Rattle.task_steps.specs.Shares.{always, brings_runnable};
 
 use crate::attempt::Change;
 use crate::script::{Giving, Script};
@@ -26,21 +24,16 @@ impl<F, T, A> Play<Slot<F, T, A>, View> for Borrowing {
 pub struct Gaining;
 
 impl Change for Gaining {
-    ghost writes = { gained_word };
+    type Row = ();
 
-    ghost ends = { at_limit };
+    ghost attempt = { to_gain };
 
-    ghost acts = { gaining };
-
-    ghost told = { finding_limit };
-
-    ghost counts = { always };
-
-    fn next(word: Word, limit: u64) -> Option<Word> {
+    fn next(word: Word, limit: u64) -> Option<(Word, ())> {
         if !is_held(word) {
             return None;
         }
-        word.by_row(limit, GainReference)
+        let next = word.by_row(limit, GainReference)?;
+        Some((next, ()))
     }
 
     fn is_end(word: Word, limit: u64) -> bool {
@@ -48,32 +41,37 @@ impl Change for Gaining {
     }
 }
 
+/// What a wake of an open task found.
+#[derive(Drop)]
+pub enum Woken {
+    /// The task was scheduled.
+    Scheduled,
+    /// The task was running.
+    Running,
+    /// The task waited for a wake, and a Runnable is to be handed over.
+    Idle,
+}
+
 /// A wake of the task, unless it is over.
 pub struct WakingTask;
 
 impl Change for WakingTask {
-    ghost writes = { woken_if_held };
+    type Row = Woken;
 
-    ghost ends = { is_over };
+    ghost attempt = { to_wake };
 
-    ghost acts = { waking_task };
-
-    ghost told = { finding_over };
-
-    ghost counts = { brings_runnable };
-
-    fn next(word: Word, limit: u64) -> Option<Word> {
+    fn next(word: Word, limit: u64) -> Option<(Word, Woken)> {
         let _ = limit;
         if !is_held(word) || word.is_over() {
             return None;
         }
         if word.fits(0, WakeScheduled) {
-            return Some(word);
+            return Some((word, Woken::Scheduled));
         }
         if word.fits(0, WakeRunning) {
-            return Some(word.written(WakeRunning));
+            return Some((word.written(WakeRunning), Woken::Running));
         }
-        Some(word.written(WakeIdle))
+        Some((word.written(WakeIdle), Woken::Idle))
     }
 
     fn is_end(word: Word, limit: u64) -> bool {

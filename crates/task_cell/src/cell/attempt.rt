@@ -21,12 +21,12 @@ impl<R: Drop, F: Yields, Q: Drop, M: Drop, A: Drop, B: Allocator + Copy> Share<R
     #[inline(always)]
     fn observe<P: Change>(&self, party: &mut Party<F, Kept<F>, A>) -> Result<Word, Word>
         requires cell { IsOf self.now party.old }
-        requires limit { (w : State) → P.ends party.old.seat.me.0.limit w ≡ P.ends (limit_in self.now) w }
+        requires limit { (w : State) → P.attempt.ends party.old.seat.me.0.limit w ≡ P.attempt.ends (limit_in self.now) w }
         requires seen { (t : Option Tries) × (party.old.seat.me.0 ≡ having_seen t party.old.seat.me.0) }
-        requires allowed { MayTry (limit_in self.now) 3 party.old.seat.id party.old.seat.me P.writes P.ends P.acts P.told }
+        requires allowed { MayTry (limit_in self.now) 3 party.old.seat.id party.old.seat.me P.attempt }
         ensures seat { (party.new.seat.block ≡ party.old.seat.block) × (party.new.seat.id ≡ party.old.seat.id) }
         ensures again { IfOk result (λ w. (w.references < 72057594037927935) × HasSeen w party.old.seat.me party.new.seat.me) }
-        ensures ended { IfErr result (λ w. HasEnded (limit_in self.now) P.ends P.told w party.old.seat.me party.new.seat.me) }
+        ensures ended { IfErr result (λ w. HasEnded (limit_in self.now) P.attempt w party.old.seat.me party.new.seat.me) }
     {
         let word = Word::from_bits(self.block.load::<Observing<P>>(&mut party.seat));
         if P::is_end(word, self.cell().limit) {
@@ -42,18 +42,18 @@ impl<R: Drop, F: Yields, Q: Drop, M: Drop, A: Drop, B: Allocator + Copy> Share<R
         &self,
         party: &mut Party<F, Kept<F>, A>,
         word: Word,
-    ) -> TriedOnce<MaybeShare<R, F, Q, M, A, B>, ()>
+    ) -> TriedOnce<P::Row, MaybeShare<R, F, Q, M, A, B>, ()>
         requires cell { IsOf self.now party.old }
-        requires limit { (w : State) → P.ends party.old.seat.me.0.limit w ≡ P.ends (limit_in self.now) w }
+        requires limit { (w : State) → P.attempt.ends party.old.seat.me.0.limit w ≡ P.attempt.ends (limit_in self.now) w }
         requires room { word.references < 72057594037927935 }
         requires seen { (t : Option Tries) × Names word t × (party.old.seat.me.0 ≡ having_seen t party.old.seat.me.0) }
-        requires allowed { MayTry (limit_in self.now) 3 party.old.seat.id party.old.seat.me P.writes P.ends P.acts P.told }
-        requires shares { MayBring (limit_in self.now) party.old.seat.id party.old.seat.me P.writes P.counts }
+        requires allowed { MayTry (limit_in self.now) 3 party.old.seat.id party.old.seat.me P.attempt }
+        requires shares { MayBring (limit_in self.now) party.old.seat.id party.old.seat.me P.attempt }
         ensures seat { (party.new.seat.block ≡ party.old.seat.block) × (party.new.seat.id ≡ party.old.seat.id) }
-        ensures tried { HasTried (limit_in self.now) P.writes P.ends P.acts P.told result party.old.seat.me party.new.seat.me }
-        ensures share { IfMade result (λ w m. Leaves self.now m (P.counts w)) (λ k. ⊤) }
+        ensures tried { HasTried (limit_in self.now) P.attempt result party.old.seat.me party.new.seat.me }
+        ensures share { IfMade result (λ row m. Leaves self.now m (P.attempt.counts row)) (λ k. ⊤) }
     {
-        let Some(next) = P::next(word, self.cell().limit) else {
+        let Some(made) = P::next(word, self.cell().limit) else {
             return match self.observe::<P>(party) {
                 Ok(found) => TriedOnce::Again(found, ()),
                 Err(found) => TriedOnce::Ended(found, ()),
@@ -61,9 +61,9 @@ impl<R: Drop, F: Yields, Q: Drop, M: Drop, A: Drop, B: Allocator + Copy> Share<R
         };
         let (found, maybe) = self
             .block
-            .gain::<Attempting<P>>(&mut party.seat, word.bits(), next.bits());
+            .gain::<Attempting<P>>(&mut party.seat, word.bits(), made.0.bits());
         if found == word.bits() {
-            return TriedOnce::Made(word, MaybeShare { maybe });
+            return TriedOnce::Made(made.1, MaybeShare { maybe });
         }
         maybe.none();
         TriedOnce::Again(Word::from_bits(found), ())
@@ -75,18 +75,18 @@ impl<R: Drop, F: Yields, Q: Drop, M: Drop, A: Drop, B: Allocator + Copy> Share<R
         self,
         party: &mut Party<F, Kept<F>, A>,
         word: Word,
-    ) -> TriedOnce<MaybeShare<R, F, Q, M, A, B>, Self>
+    ) -> TriedOnce<P::Row, MaybeShare<R, F, Q, M, A, B>, Self>
         requires cell { IsOf self party.old }
-        requires limit { (w : State) → P.ends party.old.seat.me.0.limit w ≡ P.ends (limit_in self) w }
+        requires limit { (w : State) → P.attempt.ends party.old.seat.me.0.limit w ≡ P.attempt.ends (limit_in self) w }
         requires room { word.references < 72057594037927935 }
         requires seen { (t : Option Tries) × Names word t × (party.old.seat.me.0 ≡ having_seen t party.old.seat.me.0) }
-        requires allowed { MayTry (limit_in self) 3 party.old.seat.id party.old.seat.me P.writes P.ends P.acts P.told }
-        requires shares { MayGive (limit_in self) party.old.seat.id party.old.seat.me P.writes P.counts }
+        requires allowed { MayTry (limit_in self) 3 party.old.seat.id party.old.seat.me P.attempt }
+        requires shares { MayGive (limit_in self) party.old.seat.id party.old.seat.me P.attempt }
         ensures seat { (party.new.seat.block ≡ party.old.seat.block) × (party.new.seat.id ≡ party.old.seat.id) }
-        ensures tried { HasTried (limit_in self) P.writes P.ends P.acts P.told result party.old.seat.me party.new.seat.me }
-        ensures share { IfMade result (λ w m. Leaves self m (not (P.counts w))) (λ k. IsSame self k) }
+        ensures tried { HasTried (limit_in self) P.attempt result party.old.seat.me party.new.seat.me }
+        ensures share { IfMade result (λ row m. Leaves self m (not (P.attempt.counts row))) (λ k. IsSame self k) }
     {
-        let Some(next) = P::next(word, self.cell().limit) else {
+        let Some(made) = P::next(word, self.cell().limit) else {
             return match self.observe::<P>(party) {
                 Ok(found) => TriedOnce::Again(found, self),
                 Err(found) => TriedOnce::Ended(found, self),
@@ -96,10 +96,10 @@ impl<R: Drop, F: Yields, Q: Drop, M: Drop, A: Drop, B: Allocator + Copy> Share<R
         let (found, maybe) = block.part_exchange::<Attempting<P>>(
             &mut party.seat,
             word.bits(),
-            next.bits(),
+            made.0.bits(),
         );
         if found == word.bits() {
-            return TriedOnce::Made(word, MaybeShare { maybe });
+            return TriedOnce::Made(made.1, MaybeShare { maybe });
         }
         let share = Share {
             block: maybe.share(),
@@ -116,28 +116,28 @@ impl<R: Wait + Drop + Copy, F: Yields, Q: Drop, M: Drop, A: Drop, B: Allocator +
     A,
     B,
 > {
-    // Tries a change from this word on, until it is made: the word that it was made on, and the share that it brought, if it did. An `Err` is the word that ended the attempt. Each exchange that misses has met a write of another party.
+    // Tries a change from this word on, until it is made: what it found, and the share that it brought, if it did. An `Err` is the word that ended the attempt. Each exchange that misses has met a write of another party.
     #[cold]
     #[inline(never)]
     pub(crate) fn attempt_again<P: Change>(
         &self,
         party: &mut Party<F, Kept<F>, A>,
         mut word: Word,
-    ) -> Result<(Word, MaybeShare<R, F, Q, M, A, B>), Word>
+    ) -> Result<(P::Row, MaybeShare<R, F, Q, M, A, B>), Word>
         requires cell { IsOf self.now party.old }
-        requires limit { (w : State) → P.ends party.old.seat.me.0.limit w ≡ P.ends (limit_in self.now) w }
+        requires limit { (w : State) → P.attempt.ends party.old.seat.me.0.limit w ≡ P.attempt.ends (limit_in self.now) w }
         requires room { word.references < 72057594037927935 }
         requires seen { (t : Option Tries) × Names word t × (party.old.seat.me.0 ≡ having_seen t party.old.seat.me.0) }
-        requires allowed { MayTry (limit_in self.now) 3 party.old.seat.id party.old.seat.me P.writes P.ends P.acts P.told }
-        requires shares { MayBring (limit_in self.now) party.old.seat.id party.old.seat.me P.writes P.counts }
+        requires allowed { MayTry (limit_in self.now) 3 party.old.seat.id party.old.seat.me P.attempt }
+        requires shares { MayBring (limit_in self.now) party.old.seat.id party.old.seat.me P.attempt }
         ensures cell { party.new.seat.block ≡ party.old.seat.block }
-        ensures changed { IfOk result (λ r. HasChanged (limit_in self.now) P.writes P.acts r.0 party.old.seat.me party.new.seat.me) }
-        ensures share { IfOk result (λ r. Leaves self.now r.1 (P.counts r.0)) }
-        ensures ended { IfErr result (λ w. HasEnded (limit_in self.now) P.ends P.told w party.old.seat.me party.new.seat.me) }
+        ensures changed { IfOk result (λ r. HasChanged (limit_in self.now) P.attempt r.0 party.old.seat.me party.new.seat.me) }
+        ensures share { IfOk result (λ r. Leaves self.now r.1 (P.attempt.counts r.0)) }
+        ensures ended { IfErr result (λ w. HasEnded (limit_in self.now) P.attempt w party.old.seat.me party.new.seat.me) }
     {
         for _ in self.cell().rt.forever() {
             match self.try_once::<P>(party, word) {
-                TriedOnce::Made(found, maybe) => return Ok((found, maybe)),
+                TriedOnce::Made(row, maybe) => return Ok((row, maybe)),
                 TriedOnce::Ended(found, ()) => return Err(found),
                 TriedOnce::Again(found, ()) => word = found,
             }
@@ -151,20 +151,20 @@ impl<R: Wait + Drop + Copy, F: Yields, Q: Drop, M: Drop, A: Drop, B: Allocator +
         &self,
         party: &mut Party<F, Kept<F>, A>,
         word: Word,
-    ) -> Result<(Word, MaybeShare<R, F, Q, M, A, B>), Word>
+    ) -> Result<(P::Row, MaybeShare<R, F, Q, M, A, B>), Word>
         requires cell { IsOf self.now party.old }
-        requires limit { (w : State) → P.ends party.old.seat.me.0.limit w ≡ P.ends (limit_in self.now) w }
+        requires limit { (w : State) → P.attempt.ends party.old.seat.me.0.limit w ≡ P.attempt.ends (limit_in self.now) w }
         requires room { word.references < 72057594037927935 }
         requires seen { (t : Option Tries) × Names word t × (party.old.seat.me.0 ≡ having_seen t party.old.seat.me.0) }
-        requires allowed { MayTry (limit_in self.now) 3 party.old.seat.id party.old.seat.me P.writes P.ends P.acts P.told }
-        requires shares { MayBring (limit_in self.now) party.old.seat.id party.old.seat.me P.writes P.counts }
+        requires allowed { MayTry (limit_in self.now) 3 party.old.seat.id party.old.seat.me P.attempt }
+        requires shares { MayBring (limit_in self.now) party.old.seat.id party.old.seat.me P.attempt }
         ensures cell { party.new.seat.block ≡ party.old.seat.block }
-        ensures changed { IfOk result (λ r. HasChanged (limit_in self.now) P.writes P.acts r.0 party.old.seat.me party.new.seat.me) }
-        ensures share { IfOk result (λ r. Leaves self.now r.1 (P.counts r.0)) }
-        ensures ended { IfErr result (λ w. HasEnded (limit_in self.now) P.ends P.told w party.old.seat.me party.new.seat.me) }
+        ensures changed { IfOk result (λ r. HasChanged (limit_in self.now) P.attempt r.0 party.old.seat.me party.new.seat.me) }
+        ensures share { IfOk result (λ r. Leaves self.now r.1 (P.attempt.counts r.0)) }
+        ensures ended { IfErr result (λ w. HasEnded (limit_in self.now) P.attempt w party.old.seat.me party.new.seat.me) }
     {
         match self.try_once::<P>(party, word) {
-            TriedOnce::Made(found, maybe) => Ok((found, maybe)),
+            TriedOnce::Made(row, maybe) => Ok((row, maybe)),
             TriedOnce::Ended(found, ()) => Err(found),
             TriedOnce::Again(found, ()) => self.attempt_again::<P>(party, found),
         }
@@ -175,16 +175,16 @@ impl<R: Wait + Drop + Copy, F: Yields, Q: Drop, M: Drop, A: Drop, B: Allocator +
     pub(crate) fn attempt<P: Change>(
         &self,
         party: &mut Party<F, Kept<F>, A>,
-    ) -> Result<(Word, MaybeShare<R, F, Q, M, A, B>), Word>
+    ) -> Result<(P::Row, MaybeShare<R, F, Q, M, A, B>), Word>
         requires cell { IsOf self.now party.old }
-        requires limit { (w : State) → P.ends party.old.seat.me.0.limit w ≡ P.ends (limit_in self.now) w }
+        requires limit { (w : State) → P.attempt.ends party.old.seat.me.0.limit w ≡ P.attempt.ends (limit_in self.now) w }
         requires quiet { party.old.seat.me.0 ≡ having_seen None party.old.seat.me.0 }
-        requires allowed { MayTry (limit_in self.now) 3 party.old.seat.id party.old.seat.me P.writes P.ends P.acts P.told }
-        requires shares { MayBring (limit_in self.now) party.old.seat.id party.old.seat.me P.writes P.counts }
+        requires allowed { MayTry (limit_in self.now) 3 party.old.seat.id party.old.seat.me P.attempt }
+        requires shares { MayBring (limit_in self.now) party.old.seat.id party.old.seat.me P.attempt }
         ensures cell { party.new.seat.block ≡ party.old.seat.block }
-        ensures changed { IfOk result (λ r. HasChanged (limit_in self.now) P.writes P.acts r.0 party.old.seat.me party.new.seat.me) }
-        ensures share { IfOk result (λ r. Leaves self.now r.1 (P.counts r.0)) }
-        ensures ended { IfErr result (λ w. HasEnded (limit_in self.now) P.ends P.told w party.old.seat.me party.new.seat.me) }
+        ensures changed { IfOk result (λ r. HasChanged (limit_in self.now) P.attempt r.0 party.old.seat.me party.new.seat.me) }
+        ensures share { IfOk result (λ r. Leaves self.now r.1 (P.attempt.counts r.0)) }
+        ensures ended { IfErr result (λ w. HasEnded (limit_in self.now) P.attempt w party.old.seat.me party.new.seat.me) }
     {
         match self.observe::<P>(party) {
             Ok(word) => self.attempt_from::<P>(party, word),
@@ -194,51 +194,51 @@ impl<R: Wait + Drop + Copy, F: Yields, Q: Drop, M: Drop, A: Drop, B: Allocator +
 
     // Tries a change that brings no share, from a look at the word on.
     #[inline(always)]
-    pub(crate) fn change<P: Change>(&self, party: &mut Party<F, Kept<F>, A>) -> Result<Word, Word>
+    pub(crate) fn change<P: Change>(&self, party: &mut Party<F, Kept<F>, A>) -> Result<P::Row, Word>
         requires cell { IsOf self.now party.old }
-        requires limit { (w : State) → P.ends party.old.seat.me.0.limit w ≡ P.ends (limit_in self.now) w }
+        requires limit { (w : State) → P.attempt.ends party.old.seat.me.0.limit w ≡ P.attempt.ends (limit_in self.now) w }
         requires quiet { party.old.seat.me.0 ≡ having_seen None party.old.seat.me.0 }
-        requires allowed { MayTry (limit_in self.now) 3 party.old.seat.id party.old.seat.me P.writes P.ends P.acts P.told }
-        requires shares { MayBring (limit_in self.now) party.old.seat.id party.old.seat.me P.writes P.counts }
-        requires none { (w : State) → P.counts w ≡ false }
+        requires allowed { MayTry (limit_in self.now) 3 party.old.seat.id party.old.seat.me P.attempt }
+        requires shares { MayBring (limit_in self.now) party.old.seat.id party.old.seat.me P.attempt }
+        requires none { (row : P.Row) → P.attempt.counts row ≡ false }
         ensures cell { party.new.seat.block ≡ party.old.seat.block }
-        ensures changed { IfOk result (λ w. HasChanged (limit_in self.now) P.writes P.acts w party.old.seat.me party.new.seat.me) }
-        ensures ended { IfErr result (λ w. HasEnded (limit_in self.now) P.ends P.told w party.old.seat.me party.new.seat.me) }
+        ensures changed { IfOk result (λ row. HasChanged (limit_in self.now) P.attempt row party.old.seat.me party.new.seat.me) }
+        ensures ended { IfErr result (λ w. HasEnded (limit_in self.now) P.attempt w party.old.seat.me party.new.seat.me) }
     {
         match self.attempt::<P>(party) {
-            Ok((word, maybe)) => {
+            Ok((row, maybe)) => {
                 maybe.none();
-                Ok(word)
+                Ok(row)
             }
             Err(word) => Err(word),
         }
     }
 
-    // Tries a change that may give this share up, from this word on: the word that it was made on, and the share, if it is left. An `Err` is the word that ended the attempt, and the share.
+    // Tries a change that may give this share up, from this word on: what it found, and the share, if it is left. An `Err` is the word that ended the attempt, and the share.
     #[cold]
     #[inline(never)]
     pub(crate) fn give_again<P: Change>(
         self,
         party: &mut Party<F, Kept<F>, A>,
         mut word: Word,
-    ) -> Result<(Word, MaybeShare<R, F, Q, M, A, B>), (Word, Self)>
+    ) -> Result<(P::Row, MaybeShare<R, F, Q, M, A, B>), (Word, Self)>
         requires cell { IsOf self party.old }
-        requires limit { (w : State) → P.ends party.old.seat.me.0.limit w ≡ P.ends (limit_in self) w }
+        requires limit { (w : State) → P.attempt.ends party.old.seat.me.0.limit w ≡ P.attempt.ends (limit_in self) w }
         requires room { word.references < 72057594037927935 }
         requires seen { (t : Option Tries) × Names word t × (party.old.seat.me.0 ≡ having_seen t party.old.seat.me.0) }
-        requires allowed { MayTry (limit_in self) 3 party.old.seat.id party.old.seat.me P.writes P.ends P.acts P.told }
-        requires shares { MayGive (limit_in self) party.old.seat.id party.old.seat.me P.writes P.counts }
+        requires allowed { MayTry (limit_in self) 3 party.old.seat.id party.old.seat.me P.attempt }
+        requires shares { MayGive (limit_in self) party.old.seat.id party.old.seat.me P.attempt }
         ensures cell { party.new.seat.block ≡ party.old.seat.block }
-        ensures changed { IfOk result (λ r. HasChanged (limit_in self) P.writes P.acts r.0 party.old.seat.me party.new.seat.me) }
-        ensures share { IfOk result (λ r. Leaves self r.1 (not (P.counts r.0))) }
-        ensures ended { IfErr result (λ r. HasEnded (limit_in self) P.ends P.told r.0 party.old.seat.me party.new.seat.me) }
+        ensures changed { IfOk result (λ r. HasChanged (limit_in self) P.attempt r.0 party.old.seat.me party.new.seat.me) }
+        ensures share { IfOk result (λ r. Leaves self r.1 (not (P.attempt.counts r.0))) }
+        ensures ended { IfErr result (λ r. HasEnded (limit_in self) P.attempt r.0 party.old.seat.me party.new.seat.me) }
         ensures kept { IfErr result (λ r. IsSame self r.1) }
     {
         let rt = self.cell().rt;
         let mut share = self;
         for _ in rt.forever() {
             match share.try_giving::<P>(party, word) {
-                TriedOnce::Made(found, maybe) => return Ok((found, maybe)),
+                TriedOnce::Made(row, maybe) => return Ok((row, maybe)),
                 TriedOnce::Ended(found, kept) => return Err((found, kept)),
                 TriedOnce::Again(found, kept) => {
                     word = found;
@@ -255,21 +255,21 @@ impl<R: Wait + Drop + Copy, F: Yields, Q: Drop, M: Drop, A: Drop, B: Allocator +
         self,
         party: &mut Party<F, Kept<F>, A>,
         word: Word,
-    ) -> Result<(Word, MaybeShare<R, F, Q, M, A, B>), (Word, Self)>
+    ) -> Result<(P::Row, MaybeShare<R, F, Q, M, A, B>), (Word, Self)>
         requires cell { IsOf self party.old }
-        requires limit { (w : State) → P.ends party.old.seat.me.0.limit w ≡ P.ends (limit_in self) w }
+        requires limit { (w : State) → P.attempt.ends party.old.seat.me.0.limit w ≡ P.attempt.ends (limit_in self) w }
         requires room { word.references < 72057594037927935 }
         requires seen { (t : Option Tries) × Names word t × (party.old.seat.me.0 ≡ having_seen t party.old.seat.me.0) }
-        requires allowed { MayTry (limit_in self) 3 party.old.seat.id party.old.seat.me P.writes P.ends P.acts P.told }
-        requires shares { MayGive (limit_in self) party.old.seat.id party.old.seat.me P.writes P.counts }
+        requires allowed { MayTry (limit_in self) 3 party.old.seat.id party.old.seat.me P.attempt }
+        requires shares { MayGive (limit_in self) party.old.seat.id party.old.seat.me P.attempt }
         ensures cell { party.new.seat.block ≡ party.old.seat.block }
-        ensures changed { IfOk result (λ r. HasChanged (limit_in self) P.writes P.acts r.0 party.old.seat.me party.new.seat.me) }
-        ensures share { IfOk result (λ r. Leaves self r.1 (not (P.counts r.0))) }
-        ensures ended { IfErr result (λ r. HasEnded (limit_in self) P.ends P.told r.0 party.old.seat.me party.new.seat.me) }
+        ensures changed { IfOk result (λ r. HasChanged (limit_in self) P.attempt r.0 party.old.seat.me party.new.seat.me) }
+        ensures share { IfOk result (λ r. Leaves self r.1 (not (P.attempt.counts r.0))) }
+        ensures ended { IfErr result (λ r. HasEnded (limit_in self) P.attempt r.0 party.old.seat.me party.new.seat.me) }
         ensures kept { IfErr result (λ r. IsSame self r.1) }
     {
         match self.try_giving::<P>(party, word) {
-            TriedOnce::Made(found, maybe) => Ok((found, maybe)),
+            TriedOnce::Made(row, maybe) => Ok((row, maybe)),
             TriedOnce::Ended(found, kept) => Err((found, kept)),
             TriedOnce::Again(found, kept) => kept.give_again::<P>(party, found),
         }
@@ -280,15 +280,15 @@ impl<R: Wait + Drop + Copy, F: Yields, Q: Drop, M: Drop, A: Drop, B: Allocator +
     pub(crate) fn give_change<P: Change>(
         self,
         party: &mut Party<F, Kept<F>, A>,
-    ) -> (Word, MaybeShare<R, F, Q, M, A, B>)
+    ) -> (P::Row, MaybeShare<R, F, Q, M, A, B>)
         requires cell { IsOf self party.old }
-        requires endless { (limit : _) (w : State) → P.ends limit w ≡ false }
+        requires endless { (limit : _) (w : State) → P.attempt.ends limit w ≡ false }
         requires quiet { party.old.seat.me.0 ≡ having_seen None party.old.seat.me.0 }
-        requires allowed { MayTry (limit_in self) 3 party.old.seat.id party.old.seat.me P.writes P.ends P.acts P.told }
-        requires shares { MayGive (limit_in self) party.old.seat.id party.old.seat.me P.writes P.counts }
+        requires allowed { MayTry (limit_in self) 3 party.old.seat.id party.old.seat.me P.attempt }
+        requires shares { MayGive (limit_in self) party.old.seat.id party.old.seat.me P.attempt }
         ensures cell { party.new.seat.block ≡ party.old.seat.block }
-        ensures changed { HasChanged (limit_in self) P.writes P.acts result.0 party.old.seat.me party.new.seat.me }
-        ensures share { Leaves self result.1 (not (P.counts result.0)) }
+        ensures changed { HasChanged (limit_in self) P.attempt result.0 party.old.seat.me party.new.seat.me }
+        ensures share { Leaves self result.1 (not (P.attempt.counts result.0)) }
     {
         match self.observe::<P>(party) {
             Ok(word) => match self.give_from::<P>(party, word) {

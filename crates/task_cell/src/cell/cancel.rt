@@ -4,10 +4,11 @@ ghost use Rattle.task_laws.specs.Table.{notifies};
 ghost use Rattle.task_laws.specs.declared.positions.NotifyingCall.TheVariants.{OfCancel};
 ghost use Rattle.task_core.specs.declared.acts.Act.TheVariants.{EndCall};
 ghost use Rattle.task_steps.specs.declared.table.Deed.{Deed};
-ghost use Rattle.task_cell.specs.TaskPaths.{Cancels, Notice, CancelPath, brings_share};
+ghost use Rattle.task_cell.specs.TaskPaths.{Cancels, Notice, CancelPath};
 ghost use Rattle.task_cell.specs.Handed.{HandedOver};
 ghost use Rattle.task_cell.specs.Calls.{Stands, Did, first, position, limit_of};
 ghost use Rattle.task_steps.specs.Deeds.{act};
+ghost use Rattle.task_steps.specs.TaskScripts.{brings_share};
 ghost use Rattle.task_steps.specs.Standing.{as_task};
 ghost use Rattle.task_cell.specs.Belongs.{IsOf, Leaves, cell_of, limit_in};
 
@@ -16,7 +17,7 @@ use std::alloc::Allocator;
 use std::sync::Wait;
 use task_core::{Schedule, Wake, Yields};
 use task_steps::table::Kept;
-use task_steps::task::{Cancelled, Cancelling, closed_as};
+use task_steps::task::{Cancelled, Cancelling};
 
 impl<R: Wait + Drop + Copy, F: Yields, Q: Drop, M: Drop, A: Wake, B: Allocator + Copy> Share<
     R,
@@ -60,7 +61,7 @@ impl<R: Wait + Drop + Copy, F: Yields, Q: Drop, M: Drop, A: Wake, B: Allocator +
         ensures share { IfSome result (λ closed. Leaves self.now closed.1 (brings_share closed.0)) }
     {
         match self.attempt::<Cancelling>(party) {
-            Ok(made) => Some((closed_as(made.0), made.1)),
+            Ok(made) => Some(made),
             Err(_) => None,
         }
     }

@@ -1,15 +1,16 @@
 //! Giving the Task up.
-ghost use Rattle.std.specs.Prelude.{◌≡◌, ℕ, List, [], ◌∷◌, true, false};
+ghost use Rattle.std.specs.Prelude.{◌≡◌, ℕ, List, [], ◌∷◌, true, false, not};
 ghost use Rattle.task_laws.specs.declared.positions.Position.TheVariants.{OutputCloser, Detacher};
 ghost use Rattle.task_core.specs.declared.acts.Act.TheVariants.{DropOutput};
 ghost use Rattle.task_steps.specs.declared.table.Deed.{Deed};
 ghost use Rattle.task_steps.specs.declared.table.Slot.{Slot};
 ghost use Rattle.task_steps.specs.declared.table.Slot.TheVariants.{Empty};
 ghost use Rattle.task_steps.specs.Steps.{saw_closed, output_first};
-ghost use Rattle.task_cell.specs.TaskPaths.{Detaches, GivesTaskUp, DetachPath, UnclaimedPath, keeps_task};
+ghost use Rattle.task_cell.specs.TaskPaths.{Detaches, GivesTaskUp, DetachPath, UnclaimedPath};
 ghost use Rattle.task_cell.specs.Handed.{HandedOver};
 ghost use Rattle.task_cell.specs.Calls.{Stands, StandsWith, Did, deeds, limit_of};
 ghost use Rattle.task_steps.specs.Deeds.{act};
+ghost use Rattle.task_steps.specs.TaskScripts.{ends_task};
 ghost use Rattle.task_steps.specs.Standing.{as_task, as_ended};
 ghost use Rattle.task_cell.specs.Belongs.{IsOf, Leaves, cell_of, limit_in};
 
@@ -20,7 +21,7 @@ use task_core::word::TASK;
 use task_core::{Schedule, Wake, Yields};
 use task_steps::common::DroppingOutput;
 use task_steps::table::Kept;
-use task_steps::task::{Detached, Detaching, GivingTaskUp, given_up_as};
+use task_steps::task::{Detached, Detaching, GivingTaskUp};
 
 impl<R: Wait + Drop + Copy, F: Yields, Q: Drop, M: Drop, A: Drop, B: Allocator + Copy> Share<
     R,
@@ -63,10 +64,9 @@ impl<R: Wait + Drop + Copy, F: Yields, Q: Drop, M: Drop, A: Drop, B: Allocator +
         requires cell { IsOf self party.old }
         requires party { (n : ℕ) × Stands (as_task n) party.old }
         ensures path { Detaches party.old party.new result.0 }
-        ensures share { Leaves self result.1 (keeps_task result.0) }
+        ensures share { Leaves self result.1 (not (ends_task result.0)) }
     {
-        let (found, maybe) = self.give_change::<Detaching>(party);
-        (given_up_as(found), maybe)
+        self.give_change::<Detaching>(party)
     }
 }
 

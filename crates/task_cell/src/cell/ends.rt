@@ -1,5 +1,5 @@
 //! The ends of a run whose poll has answered.
-ghost use Rattle.std.specs.Prelude.{◌≡◌, ◌<◌, ℕ, ◌∷◌, [], List, Bool, true, IfOk, IfErr};
+ghost use Rattle.std.specs.Prelude.{◌≡◌, ◌<◌, ℕ, ◌∷◌, [], List, Bool, true, not, IfOk, IfErr};
 ghost use Rattle.task_laws.specs.declared.positions.Position.TheVariants.{Polling, Ready, Pending, PendingFutureDropped, OutputInHand};
 ghost use Rattle.task_laws.specs.declared.positions.NotifyingCall.TheVariants.{OfRun};
 ghost use Rattle.task_core.specs.declared.acts.Act.TheVariants.{AnswerReady, DropOutput, EndClosed};
@@ -9,8 +9,9 @@ ghost use Rattle.task_steps.specs.declared.table.Slot.TheVariants.{Empty};
 ghost use Rattle.task_cell.specs.Calls.{StandsWith, Did, DidWith, limit_of};
 ghost use Rattle.task_steps.specs.Deeds.{row, act};
 ghost use Rattle.task_steps.specs.Rule.{IsFuture};
+ghost use Rattle.task_steps.specs.RunScripts.{ends_run};
 ghost use Rattle.task_steps.specs.Steps.{future_first, output_first};
-ghost use Rattle.task_cell.specs.RunCalls.{Completes, AnswersPending, EndsPending, end_of, keeps_share};
+ghost use Rattle.task_cell.specs.RunCalls.{Completes, AnswersPending, EndsPending, end_of};
 ghost use Rattle.task_cell.specs.Belongs.{IsOf, Leaves, cell_of, limit_in};
 
 use super::{MaybeShare, Party, Share};
@@ -22,7 +23,6 @@ use task_steps::common::DroppingOutput;
 use task_steps::places::{Held, put_output};
 use task_steps::run::{
     AnsweringPending, AnsweringReady, Completing, EndingClosed, EndingPending, PendingEnd,
-    pending_end,
 };
 use task_steps::table::Kept;
 
@@ -106,11 +106,11 @@ impl<R: Wait + Drop + Copy, F: Yields, Q: Drop, M: Drop, A: Drop, B: Allocator +
         requires room { word.references < 72057594037927935 }
         requires party { (y : Slot F _ A) × StandsWith Pending (future_first y []) party.old × IsFuture y }
         ensures path { (y : Slot F _ A) → StandsWith Pending (future_first y []) party.old → EndsPending (future_first y []) party.old party.new (end_of result) }
-        ensures share { IfOk result (λ r. Leaves self r.1 (keeps_share r.0)) }
+        ensures share { IfOk result (λ r. Leaves self r.1 (not (ends_run r.0))) }
         ensures kept { IfErr result (λ share. cell_of share ≡ cell_of self) }
     {
         match self.give_from::<EndingPending>(party, word) {
-            Ok(made) => Ok((pending_end(made.0), made.1)),
+            Ok(made) => Ok(made),
             Err((_, share)) => Err(share),
         }
     }

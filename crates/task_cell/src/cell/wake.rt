@@ -2,9 +2,8 @@
 ghost use Rattle.std.specs.Prelude.{◌≡◌, ◌<◌, [], ◌∷◌, IfSome, IfOk, IfErr};
 ghost use Rattle.task_steps.specs.Rule.{view, fresh};
 ghost use Rattle.task_steps.specs.Attempts.{HasChanged};
-ghost use Rattle.task_steps.specs.Shares.{brings_runnable};
 ghost use Rattle.task_steps.specs.Standing.{as_lent};
-ghost use Rattle.task_steps.specs.WakerScripts.{waking_task, woken_if_held};
+ghost use Rattle.task_steps.specs.WakerScripts.{brings_runnable, to_wake};
 ghost use Rattle.task_cell.specs.Belongs.{IsOf, Leaves, cell_of, limit_in};
 ghost use Rattle.task_cell.specs.Calls.{Sees, Stands, limit_of, second};
 ghost use Rattle.task_cell.specs.WakerPaths.{WakesTask};
@@ -13,11 +12,10 @@ use super::{MaybeShare, Party, Share};
 use std::alloc::Allocator;
 use std::sync::Wait;
 use task_core::Yields;
-use task_core::acts::Act::WakeIdle;
 use task_core::word::Word;
 use task_steps::attempt::TriedOnce;
 use task_steps::table::Kept;
-use task_steps::waker::{Borrowing, Parting, WakingTask};
+use task_steps::waker::{Borrowing, Parting, WakingTask, Woken};
 
 impl<R: Drop, F: Yields, Q: Drop, M: Drop, A: Drop, B: Allocator + Copy> Share<R, F, Q, M, A, B> {
     // The party of one call by reference, and the word that is found.
@@ -31,26 +29,30 @@ impl<R: Drop, F: Yields, Q: Drop, M: Drop, A: Drop, B: Allocator + Copy> Share<R
         (Word::from_bits(found), Party { seat })
     }
 
-    // What a wake leaves to be done that was made on this word: where the task was idle, a share for a Runnable, and a deliverer, which is to hand it over.
+    // What a wake leaves to be done that found this: where the task was idle, a share for a Runnable, and a deliverer, which is to hand it over.
     #[inline(always)]
     fn deliverer_of(
         &self,
         party: &mut Party<F, Kept<F>, A>,
-        found: Word,
+        found: Woken,
         maybe: MaybeShare<R, F, Q, M, A, B>,
     ) -> Option<(Self, Party<F, Kept<F>, A>)>
         requires cell { IsOf self.now party.old }
         requires brought { Leaves self.now maybe (brings_runnable found) }
-        requires made { (p : _) × Stands as_lent p × HasChanged (limit_in self.now) woken_if_held waking_task found p.seat.me party.old.seat.me }
-        ensures path { (p : _) → Stands as_lent p → (party.old.seat.block ≡ p.seat.block) → HasChanged (limit_in self.now) woken_if_held waking_task found p.seat.me party.old.seat.me → WakesTask p party.new (second result) }
+        requires made { (p : _) × Stands as_lent p × HasChanged (limit_in self.now) to_wake found p.seat.me party.old.seat.me }
+        ensures path { (p : _) → Stands as_lent p → (party.old.seat.block ≡ p.seat.block) → HasChanged (limit_in self.now) to_wake found p.seat.me party.old.seat.me → WakesTask p party.new (second result) }
         ensures share { IfSome result (λ woken. cell_of woken.0 ≡ cell_of self.now) }
     {
-        if !found.fits(0, WakeIdle) {
-            maybe.none();
-            return None;
+        match found {
+            Woken::Scheduled | Woken::Running => {
+                maybe.none();
+                None
+            }
+            Woken::Idle => {
+                let seat = self.block.split_seat::<Parting>(&mut party.seat);
+                Some((maybe.share(), Party { seat }))
+            }
         }
-        let seat = self.block.split_seat::<Parting>(&mut party.seat);
-        Some((maybe.share(), Party { seat }))
     }
 
     // The first try of a wake, by a waker that is lent, on a word that was found: what it leaves to be done, or the word on which it is to be tried again. It cannot wait.

@@ -1,5 +1,5 @@
 use Rattle.task_cell.proofs.Vocabulary.{◌∙◌, ap, refl, subst, Some}
-use Rattle.task_cell.specs.TaskPaths.{brings_share}
+use Rattle.task_steps.specs.TaskScripts.{brings_share}
 use Rattle.task_cell.proofs.Moved.{stands, limit_is}
 use Rattle.task_cell.proofs.Sharing.{same_cell}
 use Rattle.task_cell.proofs.TaskCalls.{Closes, closed_busy, closed_idle, cancels_over, cancels_busy, cancels_idle}

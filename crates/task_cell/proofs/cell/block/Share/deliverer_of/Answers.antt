@@ -1,20 +1,16 @@
-use Rattle.task_cell.proofs.Vocabulary.{sym, ◌∙◌, ap, [], parts_newest}
+use Rattle.std.proofs.Common.{⊎_elim}
+use Rattle.task_cell.proofs.Vocabulary.{ap, [], parts_newest}
+use Rattle.task_steps.specs.WakerScripts.{brings_runnable}
 use Rattle.task_cell.proofs.WakerMoves.{beside_deliverer, wakes_idle, wakes_busy}
 use Rattle.task_cell.proofs.cell.block.Share.deliverer_of.Goals as goal
 
-pub none-requires : goal.none-requires
-none-requires g c = c.requires.brought.is_there ∙ (sym c.fits.ensures ∙ c.if-not-fits.true)
-
-pub returns-then-not-fits-clause-path : goal.returns-then-not-fits-clause-path
-returns-then-not-fits-clause-path g c = λ p s cell x. wakes_busy _ _ p c.args.party.now s cell x (sym c.fits.ensures ∙ c.if-not-fits.true)
+pub returns-in-Scheduled : goal.returns-in-Scheduled
+returns-in-Scheduled g c = record { path = λ p s cell x. wakes_busy _ c.args.found p c.args.party.now s cell x (⊎_elim (λ e. ap brings_runnable e) (λ e. ap brings_runnable e) c.in-Scheduled.is); share = tt }
 
 pub split_seat-seat-requires : goal.split_seat-seat-requires
 split_seat-seat-requires g c = let m = c.requires.made in
-    (c.requires.cell, parts_newest _ _ _ _ _ _ _ _ _ [] (ap (λ m. m.0) (beside_deliverer _ _ m.0 c.args.party.now m.1 m.2 (sym c.fits.ensures ∙ c.if-not-fits.false))))
+    (c.requires.cell, parts_newest _ _ _ _ _ _ _ _ _ [] (ap (λ m. m.0) (beside_deliverer _ c.args.found m.0 c.args.party.now m.1 m.2 (ap brings_runnable c.in-Idle.is)).1))
 
-pub share-requires : goal.share-requires
-share-requires g c = c.requires.brought.is_there ∙ (sym c.fits.ensures ∙ c.if-not-fits.false)
-
-pub returns-clause-path : goal.returns-clause-path
-returns-clause-path g c = λ p s cell x. let t = c.split_seat-seat.ensures in
-    wakes_idle _ _ p c.args.party.now (record { seat = c.split_seat-seat.new.seat }) (record { seat = c.split_seat-seat.result }) s cell x (sym c.fits.ensures ∙ c.if-not-fits.false) t.0 t.2 t.3 t.4
+pub returns-in-Idle-clause-path : goal.returns-in-Idle-clause-path
+returns-in-Idle-clause-path g c = λ p s cell x. let t = c.split_seat-seat.ensures in
+    wakes_idle _ c.args.found p c.args.party.now (record { seat = c.split_seat-seat.new.seat }) (record { seat = c.split_seat-seat.result }) s cell x (ap brings_runnable c.in-Idle.is) t.0 t.2 t.3 t.4

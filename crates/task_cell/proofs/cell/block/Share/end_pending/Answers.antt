@@ -1,7 +1,5 @@
-use Rattle.task_cell.proofs.Vocabulary.{sym, subst, ap, ◌∙◌, [], Some, future_first, EndsPending, is_closed}
-use Rattle.task_cell.proofs.RunGoes.{may_end, ended_pending, found_closed_meanwhile, was_unclosed}
-use Rattle.task_cell.proofs.Sharing.{left_by_run}
-use Rattle.task_cell.specs.RunCalls.{keeps_share}
+use Rattle.task_cell.proofs.Vocabulary.{[], future_first, is_closed}
+use Rattle.task_cell.proofs.RunGoes.{may_end, ended_pending, found_closed_meanwhile}
 use Rattle.task_cell.proofs.cell.block.Share.end_pending.Goals as goal
 
 pub give_from-requires-clause-allowed : goal.give_from-requires-clause-allowed
@@ -11,11 +9,7 @@ pub give_from-requires-clause-shares : goal.give_from-requires-clause-shares
 give_from-requires-clause-shares g c = let s = c.requires.party in (may_end _ _ _ _ c.args.party.now s.0 s.1 s.2).1
 
 pub returns-in-Ok-clause-path : goal.returns-in-Ok-clause-path
-returns-in-Ok-clause-path g c = λ y s. subst (λ x. EndsPending (future_first y []) c.args.party.now c.give_from.new.party (Some x)) (sym c.pending_end.ensures)
-    (ended_pending y c.args.party.now c.give_from.new.party c.in-Ok.made.0 (was_unclosed c.in-Ok.made.0 c.in-Ok.ensures.changed.written) s c.in-Ok.ensures.cell c.in-Ok.ensures.changed.made)
-
-pub returns-in-Ok-clause-share : goal.returns-in-Ok-clause-share
-returns-in-Ok-clause-share g c = let e = c.in-Ok.ensures.share in record { cell = e.cell; limit = e.limit; is_there = e.is_there ∙ (left_by_run c.in-Ok.made.0 ∙ ap keeps_share (sym c.pending_end.ensures)) }
+returns-in-Ok-clause-path g c = λ y s. ended_pending _ y c.args.party.now c.give_from.new.party c.in-Ok.made.0 s c.in-Ok.ensures.cell c.in-Ok.ensures.changed
 
 pub returns-in-Err-clause-path : goal.returns-in-Err-clause-path
 returns-in-Err-clause-path g c = λ y s. is_closed (found_closed_meanwhile _ (future_first y []) c.args.party.now c.give_from.new.party _ s c.in-Err.ensures.cell c.in-Err.ensures.ended)

@@ -3,7 +3,7 @@ use Rattle.task_cell.proofs.Attempts.{may_still, give_still}
 use Rattle.task_cell.proofs.cell.block.Share.give_change.Goals as goal
 
 pub give_from-requires-clause-allowed : goal.give_from-requires-clause-allowed
-give_from-requires-clause-allowed g c = let e = c.in-Ok.ensures in may_still _ _ _ _ _ _ g.P.Change.writes g.P.Change.ends g.P.Change.acts g.P.Change.told c.in-Ok.word refl e.seat.1 e.again.1 c.requires.allowed
+give_from-requires-clause-allowed g c = let e = c.in-Ok.ensures in may_still _ _ _ _ _ _ g.P.Change.attempt c.in-Ok.word refl e.seat.1 e.again.1 c.requires.allowed
 
 pub give_from-requires-clause-shares : goal.give_from-requires-clause-shares
-give_from-requires-clause-shares g c = let e = c.in-Ok.ensures in give_still _ _ _ _ _ _ g.P.Change.writes g.P.Change.counts c.in-Ok.word refl e.seat.1 e.again.1 c.requires.shares
+give_from-requires-clause-shares g c = let e = c.in-Ok.ensures in give_still _ _ _ _ _ _ g.P.Change.attempt c.in-Ok.word refl e.seat.1 e.again.1 c.requires.shares

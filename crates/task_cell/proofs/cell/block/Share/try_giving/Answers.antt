@@ -1,5 +1,7 @@
-use Rattle.task_cell.proofs.Vocabulary.{◌≡◌, sym, refl, ap, ◌∙◌, Some}
-use Rattle.task_cell.proofs.Attempts.{seeing_first, may_exchange, may_less}
+use Rattle.task_cell.proofs.Vocabulary.{◌<◌, not, sym, refl, ap, ◌∙◌, subst, State, number_of}
+use Rattle.task_steps.specs.Attempt.{word_after, acts_on, next_of}
+use Rattle.task_steps.proofs.Acts.{written_if}
+use Rattle.task_cell.proofs.Attempts.{counts_made, seeing_first, seeing_missed, may_exchange, may_less}
 use Rattle.task_cell.proofs.cell.block.Share.try_giving.Goals as goal
 
 pub observe-requires-clause-seen : goal.observe-requires-clause-seen
@@ -7,8 +9,23 @@ observe-requires-clause-seen g c = let s = c.requires.seen in (s.0, s.2)
 
 pub part_exchange-found-requires : goal.part_exchange-found-requires
 part_exchange-found-requires g c = let s = c.requires.seen in let self = c.args.self in let limit = ap (λ x. x.limit) c.cell.ensures ∙ sym self.fitting.0 in
-    let writing : Some c.in-Some.next ≡ g.P.Change.writes self.block.key c.args.word = sym c.in-Some.is ∙ (c.next.ensures ∙ ap (λ l. g.P.Change.writes l c.args.word) limit) in let seeing = seeing_first c.args.word c.args.party.now.seat.me s.0 s.1 s.2 in (
+    let x = written_if (g.P.Change.attempt.applies self.block.key c.args.word) c.in-Some.made (word_after c.args.word (acts_on g.P.Change.attempt c.args.word), g.P.Change.attempt.row c.args.word) (sym c.in-Some.is ∙ (c.next.ensures ∙ ap (λ l. next_of g.P.Change.attempt l c.args.word) limit)) in
+    let seeing = seeing_first c.args.word c.args.party.now.seat.me s.0 s.1 s.2 in (
       c.requires.cell,
-      may_exchange self.block.key _ _ _ _ _ _ g.P.Change.writes g.P.Change.ends g.P.Change.acts g.P.Change.told c.args.word c.in-Some.next _ _ refl refl refl seeing c.requires.allowed writing c.bits.ensures c.bits-2.ensures,
-      may_less self.block.key _ _ _ _ _ g.P.Change.writes g.P.Change.counts c.args.word c.in-Some.next _ _ refl refl seeing c.requires.shares writing c.bits.ensures c.bits-2.ensures,
+      may_exchange self.block.key _ _ _ _ _ _ g.P.Change.attempt c.args.word _ _ refl refl refl seeing c.requires.allowed x.0 c.bits.ensures (c.bits-2.ensures ∙ ap (λ z. number_of z.0) x.1),
+      may_less self.block.key _ _ _ _ _ g.P.Change.attempt c.args.word _ _ refl refl seeing c.requires.shares x.0 c.bits.ensures (c.bits-2.ensures ∙ ap (λ z. number_of z.0) x.1),
     )
+
+pub returns-then-found-bits-clause-share : goal.returns-then-found-bits-clause-share
+returns-then-found-bits-clause-share g c = let self = c.args.self in let e = c.part_exchange-found.ensures.share in let limit = ap (λ x. x.limit) c.cell.ensures ∙ sym self.fitting.0 in
+    let x = written_if (g.P.Change.attempt.applies self.block.key c.args.word) c.in-Some.made (word_after c.args.word (acts_on g.P.Change.attempt c.args.word), g.P.Change.attempt.row c.args.word) (sym c.in-Some.is ∙ (c.next.ensures ∙ ap (λ l. next_of g.P.Change.attempt l c.args.word) limit)) in record {
+      cell = (e.0, e.2);
+      limit = e.1;
+      is_there = e.4 ∙ ap (λ b. not b) (counts_made g.P.Change.attempt _ _ c.args.word c.in-Some.made.1 (c.if-found-bits.true ∙ (c.bits-3.ensures ∙ sym c.bits.ensures)) c.bits.ensures (ap (λ z. z.1) x.1));
+    }
+
+pub returns-clause-tried : goal.returns-clause-tried
+returns-clause-tried g c = let s = c.requires.seen in let e = c.part_exchange-found.ensures.seat.2 in (
+  subst (λ (w : State). w.references < 72057594037927935) (sym c.from_bits.ensures) e.2.room,
+  seeing_missed _ c.args.word c.from_bits.result _ _ _ (seeing_first c.args.word c.args.party.now.seat.me s.0 s.1 s.2) c.from_bits.ensures (e.1 (λ h. c.if-found-bits.false (h ∙ (c.bits.ensures ∙ sym c.bits-3.ensures)))),
+)
