@@ -7,15 +7,6 @@ use Rattle.task_cell.specs.declared.cell.block.MaybeShare.{MaybeShare}
 use Rattle.task_cell.specs.Belongs.{Leaves, cell_of, limit_in}
 use Rattle.std.proofs.lemmas.Bool.Decides.{nat_tests}
 use Rattle.task_steps.specs.declared.waker.Dropped.TheVariants as dropped
-use Rattle.task_cell.specs.WakerPaths.{keeps_waker}
-
-pub left_by_waker : (w : State) → not (others_left w) ≡ keeps_waker (dropped_by w)
-left_by_waker w = by (others_left w) (is_open w)
-  where
-    by : (b o : Bool) → not b ≡ keeps_waker (if b then dropped.Shared else (if o then dropped.Orphaned else dropped.Last))
-    by true o = refl
-    by false true = refl
-    by false false = refl
 
 pub left_by_last : (n : ℕ) → not (nat_lt 0 n) ≡ nat_eq n 0
 left_by_last n = grind (arith, nat_tests)

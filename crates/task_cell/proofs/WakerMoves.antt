@@ -4,7 +4,7 @@ use Rattle.task_cell.proofs.Vocabulary.{Slots, is_held, Nothing, Waker, Lent, En
 use Rattle.task_cell.proofs.Vocabulary.{DropWaker, DropLastWaker, OrphanTask, CloseOrphan, WakeOver, WakeScheduled, WakeRunning, WakeIdle, EndCall, Slot, Deed, Member, View, Party, Shared}
 use Rattle.task_cell.proofs.Vocabulary.{Last, member, view, fresh, head_of, acted, Carried, Makes, deeds, limit_of, IsNew, Sees, Stands, Did, row, act, after, as_waker, as_deliverer, MayTry, HasChanged}
 use Rattle.task_cell.proofs.Vocabulary.{HasEnded, others_left, at_limit, to_gain, to_wake}
-use Rattle.task_steps.specs.WakerScripts.{waking_task, brings_runnable}
+use Rattle.task_steps.specs.WakerScripts.{dropping_as, waking_task, brings_runnable}
 use Rattle.task_steps.specs.declared.waker.Woken.{Woken}
 use Rattle.task_steps.specs.declared.waker.Woken.TheVariants.{Scheduled, Running, Idle}
 use Rattle.task_cell.proofs.Vocabulary.{dropping_waker, closing_orphan, is_gained, finds_limit, is_scheduled, is_running, Gains, gains_none, gains_one, WakesTask}
@@ -161,7 +161,7 @@ module _ {F T A : Type 0} where
   pub drops : (w : State) (p q : Party F T A) → Stands as_waker p → q.seat.block ≡ p.seat.block → Makes (dropping_waker w) w p.seat.me q.seat.me → DropsWaker p q (dropped_by w)
   drops w p q s cell m = made (others_left w) (is_open w) refl refl m
     where
-      made : (b o : Bool) → others_left w ≡ b → is_open w ≡ o → Makes (if b then DropWaker ∷ EndCall ∷ [] else (if o then OrphanTask ∷ [] else DropLastWaker ∷ [])) w p.seat.me q.seat.me
+      made : (b o : Bool) → others_left w ≡ b → is_open w ≡ o → Makes (dropping_as (if b then Shared else (if o then Orphaned else Last))) w p.seat.me q.seat.me
           → DropsWaker p q (if b then Shared else (if o then Orphaned else Last))
       made true o shared now m = let x = moved (DropWaker ∷ EndCall ∷ []) w (At Waker) [] p q s m in
           (w, shared, did p q (row DropWaker w ∷ act EndCall ∷ []) (At Ended) [] cell x.viewed x.carried)

@@ -42,11 +42,6 @@ pub data WakerDropPath (Scheduled : Type 0) : List Deed → Type 0 where
   leaves_orphan : (w v : State) → others_left w ≡ false → is_open w ≡ true → Scheduled
       → WakerDropPath Scheduled (row OrphanTask w ∷ row CloseOrphan v ∷ act HandOver ∷ act EndCall ∷ [])
 
--- whether a waker's share is left after its row
-abbrev pub keeps_waker : Dropped → Bool
-keeps_waker Shared = false
-keeps_waker _ = true
-
 module _ {F T A : Type 0} where
   -- a gain, and the new waker
   pub data Gains (limit : ℕ) (p q : Party F T A) : Option (Party F T A) → Type 0 where

@@ -5,7 +5,9 @@ use Rattle.std.proofs.lemmas.Bool.Decides.{nat_tests}
 use Rattle.task_core.specs.Rows.{found}
 use Rattle.task_steps.proofs.Vocabulary.{WakeRunning, WakeIdle, CancelIdle, EndCall, Detach, DetachLast, DetachOrphan, DropWaker, OrphanTask, DropLastWaker, GiveUpReference, GiveUpLastReference}
 use Rattle.task_steps.proofs.Vocabulary.{State, bit, is_open, Event, Answer, Rest, Waker, Task, At, GivingUp, Detacher, OrphanHolder, Pending, Slots, is_held, Machine, census, Census, Holds, Deed, Member}
-use Rattle.task_steps.specs.WakerScripts.{waking_task, brings_runnable, to_gain, to_wake, others_left, dropping_waker, closing_orphan}
+use Rattle.task_steps.specs.WakerScripts.{waking_task, brings_runnable, to_gain, to_wake, others_left, dropped_by, dropping_as, dropping_waker, ends_waker, closing_orphan}
+use Rattle.task_steps.specs.declared.waker.Dropped.{Dropped}
+use Rattle.task_steps.specs.declared.waker.Dropped.TheVariants.{Shared as DroppedShared, Last as DroppedLast, Orphaned as DroppedOrphan}
 use Rattle.task_steps.specs.TaskScripts.{closing, brings_share, detaching, ends_task, to_cancel, to_detach, giving_task_up}
 use Rattle.task_steps.specs.RunScripts.{giving_up, ending_pending, ends_run, to_end_pending}
 use Rattle.task_steps.specs.declared.task.Cancelled.{Cancelled}
@@ -164,10 +166,10 @@ module _ (limit : ℕ) where
       by true h = inr (refl, (let two = others_one w h some in less_one (handles w) (w.references - 1 + bit w.task) (omega arith) (omega arith)))
       by false h = inl (refl, (let one = others_none w h in last_one (handles w) (w.references - 1 + bit w.task) one (omega arith)))
 
-  pub drops_handle : (ds : List Deed) (us : List Member) (m : Machine) → Finds limit (At Waker) ds us m → Gives (others_left m.word) (shares_of m.word) (shares_of (word_after m.word (dropping_waker m.word)))
+  pub drops_handle : (ds : List Deed) (us : List Member) (m : Machine) → Finds limit (At Waker) ds us m → Gives (ends_waker (dropped_by m.word)) (shares_of m.word) (shares_of (word_after m.word (dropping_waker m.word)))
   drops_handle ds us m f = by (others_left m.word) (is_open m.word) (fewer_references m.word (finds_waker ds us m f))
     where
-      by : (b o : Bool) → Gives (others_left m.word) (shares_of m.word) (at_least_one (m.word.references - 1 + bit m.word.task)) → Gives (others_left m.word) (shares_of m.word) (shares_of (word_after m.word (if b then DropWaker ∷ EndCall ∷ [] else (if o then OrphanTask ∷ [] else DropLastWaker ∷ []))))
+      by : (b o : Bool) → Gives b (shares_of m.word) (at_least_one (m.word.references - 1 + bit m.word.task)) → let row : Dropped = if b then DroppedShared else (if o then DroppedOrphan else DroppedLast) in Gives (ends_waker row) (shares_of m.word) (shares_of (word_after m.word (dropping_as row)))
       by true o x = x
       by false true x = x
       by false false x = x

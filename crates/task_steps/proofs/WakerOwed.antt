@@ -9,7 +9,8 @@ use Rattle.task_steps.proofs.Vocabulary.{Deed, Member}
 use Rattle.task_core.specs.Rows.{found}
 use Rattle.task_steps.specs.Attempt.{word_after}
 use Rattle.task_steps.specs.Beside.{may_call}
-use Rattle.task_steps.specs.WakerScripts.{waking_task, to_gain, to_wake, dropping_waker, closing_orphan}
+use Rattle.task_steps.specs.WakerScripts.{waking_task, to_gain, to_wake, dropping_as, dropping_waker, closing_orphan}
+use Rattle.task_steps.specs.declared.waker.Dropped.TheVariants.{Shared, Last, Orphaned}
 use Rattle.task_steps.specs.declared.waker.Woken.TheVariants.{Scheduled, Running, Idle}
 use Rattle.task_steps.proofs.Bools.{never}
 use Rattle.task_steps.proofs.Seen.{true_right, left_true, right_true, not_true}
@@ -98,7 +99,7 @@ module _ (F T A : Type 0) (limit : ℕ) where
       fewer = fetch_sub-reference x lt (subst (λ (w : State). 1 ≤ w.references) (sym is) some) ∙ ap (λ (w : State). number_of (record w { references = w.references - 1 })) is
 
       by : (b o : Bool) → (nat_lt 1 m.word.references || m.word.task) ≡ b → is_open m.word ≡ o
-          → Steps m (At Waker) (if b then DropWaker ∷ EndCall ∷ [] else (if o then OrphanTask ∷ [] else DropLastWaker ∷ [])) ((x + (2 ^ 64 - 256)) % 2 ^ 64) l
+          → Steps m (At Waker) (dropping_as (if b then Shared else (if o then Orphaned else Last))) ((x + (2 ^ 64 - 256)) % 2 ^ 64) l
       by true o shared now = computed m {acts = DropWaker ∷ EndCall ∷ []} (row_fits shared) fewer refl
       by false true shared now = computed m {acts = OrphanTask ∷ []} (row_fits (is_last m.word.references m.word.task (is_open m.word) some shared now)) fewer refl
       by false false shared now = by_table m {acts = DropLastWaker ∷ []} (row_fits (is_last m.word.references m.word.task (not (is_open m.word)) some shared (over (is_open m.word) now))) fewer (refl, refl)

@@ -63,9 +63,19 @@ others_left w = found 0 DropWaker w
 abbrev pub dropped_by : State → Dropped
 dropped_by w = if others_left w then Shared else (if is_open w then Orphaned else Last)
 
+abbrev pub dropping_as : Dropped → List Act
+dropping_as Shared = DropWaker ∷ EndCall ∷ []
+dropping_as Orphaned = OrphanTask ∷ []
+dropping_as Last = DropLastWaker ∷ []
+
 -- a waker is dropped
 abbrev pub dropping_waker : State → List Act
-dropping_waker w = if others_left w then DropWaker ∷ EndCall ∷ [] else (if is_open w then OrphanTask ∷ [] else DropLastWaker ∷ [])
+dropping_waker w = dropping_as (dropped_by w)
+
+-- .. with its share, where it is not the last handle
+abbrev pub ends_waker : Dropped → Bool
+ends_waker Shared = true
+ends_waker _ = false
 
 -- the last waker closes the task that nobody has
 abbrev pub closing_orphan : State → List Act

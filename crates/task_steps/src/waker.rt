@@ -1,7 +1,7 @@
 //! Steps by which a waker is gained, wakes and is dropped.
 ghost use Rattle.std.specs.Prelude.{◌≡◌, not};
 ghost use Rattle.task_laws.specs.Table.{is_held as has_handle};
-ghost use Rattle.task_steps.specs.WakerScripts.{others_left, dropped_by, dropping_waker, closing_orphan, to_gain, to_wake};
+ghost use Rattle.task_steps.specs.WakerScripts.{others_left, dropped_by, dropping_waker, ends_waker, closing_orphan, to_gain, to_wake};
 ghost use Rattle.task_steps.specs.Beside.{borrowing, without_newest, newest};
 
 use crate::attempt::Change;
@@ -88,7 +88,7 @@ impl Script for DroppingWaker {
 }
 
 impl Giving for DroppingWaker {
-    ghost gives = { others_left };
+    ghost gives = { λ w. ends_waker (dropped_by w) };
 }
 
 /// The last waker closes the task that nobody has.

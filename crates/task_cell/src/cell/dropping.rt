@@ -1,5 +1,5 @@
 //! A waker that is dropped.
-ghost use Rattle.std.specs.Prelude.{◌≡◌, ℕ, [], ◌∷◌, List, false};
+ghost use Rattle.std.specs.Prelude.{◌≡◌, ℕ, [], ◌∷◌, List, false, not};
 ghost use Rattle.task_core.specs.Word.{State};
 ghost use Rattle.task_laws.specs.declared.positions.Position.TheVariants.{OrphanHolder};
 ghost use Rattle.task_core.specs.declared.acts.Act.TheVariants.{CloseOrphan};
@@ -7,8 +7,9 @@ ghost use Rattle.task_steps.specs.declared.table.Deed.{Deed};
 ghost use Rattle.task_cell.specs.Handed.{HandedOver};
 ghost use Rattle.task_cell.specs.Calls.{Stands, Did, limit_of};
 ghost use Rattle.task_steps.specs.Deeds.{row};
+ghost use Rattle.task_steps.specs.WakerScripts.{ends_waker};
 ghost use Rattle.task_steps.specs.Standing.{as_ended, as_waker, as_deliverer};
-ghost use Rattle.task_cell.specs.WakerPaths.{DropsWaker, WakerDropPath, keeps_waker};
+ghost use Rattle.task_cell.specs.WakerPaths.{DropsWaker, WakerDropPath};
 ghost use Rattle.task_cell.specs.Belongs.{IsOf, Leaves, cell_of, limit_in};
 
 use super::{MaybeShare, Party, Runnable, Share};
@@ -39,7 +40,7 @@ impl<R: Wait + Drop + Copy, F: Yields, Q: Drop, M: Drop, A: Drop, B: Allocator +
         requires cell { IsOf self party.old }
         requires party { Stands as_waker party.old }
         ensures path { DropsWaker party.old party.new result.0 }
-        ensures share { Leaves self result.1 (keeps_waker result.0) }
+        ensures share { Leaves self result.1 (not (ends_waker result.0)) }
     {
         let (found, maybe) = self.give::<DroppingWaker>(party, REFERENCE);
         (dropped_as(found), maybe)

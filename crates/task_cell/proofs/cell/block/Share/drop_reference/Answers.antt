@@ -1,12 +1,11 @@
-use Rattle.task_cell.proofs.Vocabulary.{[], sym, ap, ◌∙◌, At, Waker, drops_waker}
+use Rattle.task_cell.proofs.Vocabulary.{not, [], sym, ap, ◌∙◌, At, Waker, drops_waker}
 use Rattle.task_cell.proofs.Steps.{may_give_up}
 use Rattle.task_steps.proofs.Handles.{drops_handle}
-use Rattle.task_cell.proofs.Sharing.{left_by_waker}
-use Rattle.task_cell.specs.WakerPaths.{keeps_waker}
+use Rattle.task_steps.specs.WakerScripts.{ends_waker}
 use Rattle.task_cell.proofs.cell.block.Share.drop_reference.Goals as goal
 
 pub give-found-requires-clause-allowed : goal.give-found-requires-clause-allowed
 give-found-requires-clause-allowed g c = may_give_up _ c.args.party.now (At Waker) [] _ _ _ c.requires.party (drops_waker _ _ _ _ _ _ _) (drops_handle _ _ _)
 
 pub returns-clause-share : goal.returns-clause-share
-returns-clause-share g c = let e = c.give-found.ensures.share in record { cell = e.cell; limit = e.limit; is_there = e.is_there ∙ (left_by_waker c.give-found.result.0 ∙ ap keeps_waker (sym c.dropped_as.ensures)) }
+returns-clause-share g c = let e = c.give-found.ensures.share in record { cell = e.cell; limit = e.limit; is_there = e.is_there ∙ ap (λ x. not (ends_waker x)) (sym c.dropped_as.ensures) }
