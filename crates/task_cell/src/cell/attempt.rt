@@ -271,7 +271,11 @@ impl<R: Wait + Drop + Copy, F: Yields, Q: Drop, M: Drop, A: Drop, B: Allocator +
         match self.try_giving::<P>(party, word) {
             TriedOnce::Made(row, maybe) => Ok((row, maybe)),
             TriedOnce::Ended(found, kept) => Err((found, kept)),
-            TriedOnce::Again(found, kept) => kept.give_again::<P>(party, found),
+            // The loop's answer comes by memory, so it is taken apart: the row of the first try then stays in a register.
+            TriedOnce::Again(found, kept) => match kept.give_again::<P>(party, found) {
+                Ok((row, maybe)) => Ok((row, maybe)),
+                Err((found, kept)) => Err((found, kept)),
+            },
         }
     }
 
