@@ -4,7 +4,7 @@ ghost use Rattle.task_steps.specs.Rule.{view, fresh};
 ghost use Rattle.task_steps.specs.Attempts.{HasChanged};
 ghost use Rattle.task_steps.specs.Standing.{as_lent};
 ghost use Rattle.task_steps.specs.WakerScripts.{brings_runnable, to_wake};
-ghost use Rattle.task_cell.specs.Belongs.{IsOf, Leaves, cell_of, limit_in};
+ghost use Rattle.task_cell.specs.Belongs.{HasMade, IsOf, Leaves, cell_of, limit_in};
 ghost use Rattle.task_cell.specs.Calls.{Sees, Stands, limit_of, second};
 ghost use Rattle.task_cell.specs.WakerPaths.{WakesTask};
 
@@ -55,24 +55,26 @@ impl<R: Drop, F: Yields, Q: Drop, M: Drop, A: Drop, B: Allocator + Copy> Share<R
         }
     }
 
-    // The first try of a wake, by a waker that is lent, on a word that was found: what it leaves to be done, or the word on which it is to be tried again. It cannot wait.
+    // One try of a wake, by a party of its own: the party, and what the wake leaves to be done, or the word on which it is to be tried again. It cannot wait.
     #[inline(always)]
-    pub(crate) fn try_wake(
+    pub(crate) fn wake_once(
         &self,
-        party: &mut Party<F, Kept<F>, A>,
-        word: Word,
-    ) -> Result<Option<(Self, Party<F, Kept<F>, A>)>, Word>
-        requires cell { IsOf self.now party.old × (limit_of party.old ≡ limit_in self.now) }
-        requires room { word.references < 72057594037927935 }
-        requires party { Stands as_lent party.old }
-        ensures path { IfOk result (λ woken. WakesTask party.old party.new (second woken)) }
-        ensures share { IfOk result (λ made. IfSome made (λ woken. cell_of woken.0 ≡ cell_of self.now)) }
-        ensures again { IfErr result (λ w. Sees w party.old party.new) }
+    ) -> (
+        Party<F, Kept<F>, A>,
+        Result<Option<(Self, Party<F, Kept<F>, A>)>, Word>,
+    )
+        ensures path { IfOk result.1 (λ woken. (p : _) × HasMade self.now [] p × WakesTask p result.0 (second woken)) }
+        ensures share { IfOk result.1 (λ made. IfSome made (λ woken. cell_of woken.0 ≡ cell_of self.now)) }
+        ensures again { IfErr result.1 (λ w. (p : _) × HasMade self.now [] p × Sees w p result.0) }
     {
-        match self.try_once::<WakingTask>(party, word) {
-            TriedOnce::Made(found, maybe) => Ok(self.deliverer_of(party, found, maybe)),
-            TriedOnce::Ended(_, ()) => Ok(None),
-            TriedOnce::Again(found, ()) => Err(found),
+        let (word, mut party) = self.borrow();
+        match self.try_once::<WakingTask>(&mut party, word) {
+            TriedOnce::Made(found, maybe) => {
+                let woken = self.deliverer_of(&mut party, found, maybe);
+                (party, Ok(woken))
+            }
+            TriedOnce::Ended(_, ()) => (party, Ok(None)),
+            TriedOnce::Again(found, ()) => (party, Err(found)),
         }
     }
 }

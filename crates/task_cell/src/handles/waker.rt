@@ -40,11 +40,9 @@ where
     pub fn wake_by_ref(&self) -> EndedCall<F, Kept<F>, A>
         ensures path { (path : List Deed) × WakeCallPath (HandedOver Q.scheduled (cell_of self.now.inner.share) self.now.around false) path × HasMade self.now.inner.share path result.party }
     {
-        let share = &self.inner.share;
-        let (word, mut party) = share.borrow();
-        match share.try_wake(&mut party, word) {
-            Ok(woken) => self.end_wake(party, woken),
-            Err(found) => self.wake_again(party, found),
+        match self.inner.share.wake_once() {
+            (party, Ok(woken)) => self.end_wake(party, woken),
+            (party, Err(found)) => self.wake_again(party, found),
         }
     }
 
