@@ -68,6 +68,11 @@ pub fn work<R: Wait + Drop + Copy + 'static>(pool: &LinkPool<R>, worker: usize) 
     pool.run(worker).is_ok()
 }
 
+/// Is the worker until the pool is shut down, as `Turns::work` is.
+pub fn work_turns<R: Wait + Drop + Copy + 'static>(turns: &mut LinkTurns<'_, R>) {
+    turns.work();
+}
+
 /// Is the worker until the task of a Task is over, as `Turns::block_on` is.
 pub fn block_on<'x, R: Wait + Drop + Copy + 'static>(
     turns: &mut LinkTurns<'x, R>,

@@ -1,4 +1,6 @@
 //! Groups of tasks of a pool, some of which await a task of their own: one type of awaiter serves these, the group, and `block_on`.
+//!
+//! What a test does stands in a function of its own, as in `awaiting_tests`.
 use crate::calls::{
     await_chain, block_on, drop_both, drop_pool, drop_turns, link_task, new_counts, new_pool,
     shut_down, tick, turns_of, wakes_posted, work,
@@ -6,8 +8,8 @@ use crate::calls::{
 use crate::granted::granted;
 use crate::link::{Counts, Errand, Link, LinkPool, LinkTurns};
 use awaiters::left_until;
-use executor::{NextMemberError, PoolGroup};
-use std::alloc::AllocError;
+use executor::{BlockOnError, NextMemberError, PoolGroup};
+use std::alloc::{AllocError, Global};
 use std::process::Abort;
 use std::sync::{Arc, Wait};
 use std::thread::{self, Threads};
@@ -86,10 +88,12 @@ fn add_next<R: Wait + Drop + Copy>(group: &mut LinkGroup<'_, R>, came_out: &mut 
     }
 }
 
-// One thread looks at the group between its turns as a worker, and then waits for one more task.
-#[test]
-fn a_worker_looks_at_a_group_between_its_turns(rt: HostRuntime) {
-    let pool = new_pool(rt, rt.alloc(), 1);
+// What comes out of a group at which a worker looks between its turns, and the answer of one more task, for which it waits then.
+fn look_between_turns<R: Wait + Abort + Drop + Copy + 'static>(
+    rt: R,
+    alloc: Global,
+) -> (CameOut, Result<u64, BlockOnError>) {
+    let pool = new_pool(rt, alloc, 1);
     let counts = new_counts(&pool);
     let mut group = new_group(&pool, &counts);
     let mut last = link_task(&pool, 1, 1, Errand::GiveWay(2), &counts);
@@ -104,13 +108,22 @@ fn a_worker_looks_at_a_group_between_its_turns(rt: HostRuntime) {
     drop_group(group);
     drop_both(turns, last);
     drop_pool(pool);
+    (came_out, answer)
+}
+
+// One thread looks at the group between its turns as a worker, and then waits for one more task.
+#[test]
+fn a_worker_looks_at_a_group_between_its_turns(rt: HostRuntime) {
+    let (came_out, answer) = look_between_turns(rt, rt.alloc());
     assert!(rt; came_out == (3, 6) && answer == Ok(2));
 }
 
-// One thread waits for a group while another one is a worker, and then is a worker, too, until one more task ends.
-#[test]
-fn a_thread_waits_for_a_group_and_then_for_a_task(rt: HostRuntime) {
-    let pool = new_pool(rt, rt.alloc(), 2);
+// Waits for a group, and then for a task, beside another worker: whether this began, what came out of the group, and what the task answers.
+fn wait_for_both<R: Wait + Abort + Threads + Drop + Copy + Send + Sync + 'static>(
+    rt: R,
+    alloc: Global,
+) -> (bool, CameOut, Result<u64, BlockOnError>) {
+    let pool = new_pool(rt, alloc, 2);
     let counts = new_counts(&pool);
     let mut group = new_group(&pool, &counts);
     let mut last = link_task(&pool, 2, 1, Errand::GiveWay(2), &counts);
@@ -128,6 +141,13 @@ fn a_thread_waits_for_a_group_and_then_for_a_task(rt: HostRuntime) {
     drop_group(group);
     drop_both(turns, last);
     drop_pool(pool);
+    (ran, came_out, answer)
+}
+
+// One thread waits for a group while another one is a worker, and then is a worker, too, until one more task ends.
+#[test]
+fn a_thread_waits_for_a_group_and_then_for_a_task(rt: HostRuntime) {
+    let (ran, came_out, answer) = wait_for_both(rt, rt.alloc());
     assert!(rt; ran && came_out == (3, 6) && answer == Ok(2));
 }
 
@@ -176,10 +196,9 @@ fn drop_group<R: Wait + Drop + Copy>(group: LinkGroup<'_, R>) -> usize {
     group.len()
 }
 
-// The only thread waits for each member of a group, and runs its tasks meanwhile. It asks once more than there are members.
-#[test]
-fn a_worker_waits_for_members_that_it_runs(rt: HostRuntime) {
-    let pool = new_pool(rt, rt.alloc(), 1);
+// Waits for each member of a group on the only thread, and asks once more: the sum of their outputs, and whether the group was empty then.
+fn wait_for_each<R: Wait + Abort + Drop + Copy + 'static>(rt: R, alloc: Global) -> (u64, bool) {
+    let pool = new_pool(rt, alloc, 1);
     let counts = new_counts(&pool);
     let mut group = new_group(&pool, &counts);
     let mut turns = turns_of(&pool);
@@ -191,6 +210,13 @@ fn a_worker_waits_for_members_that_it_runs(rt: HostRuntime) {
     drop_turns(turns);
     drop_group(group);
     drop_pool(pool);
+    (sum, is_over)
+}
+
+// The only thread waits for each member of a group, and runs its tasks meanwhile. It asks once more than there are members.
+#[test]
+fn a_worker_waits_for_members_that_it_runs(rt: HostRuntime) {
+    let (sum, is_over) = wait_for_each(rt, rt.alloc());
     assert!(rt; sum == 6 && is_over);
 }
 
@@ -226,30 +252,53 @@ fn wait_beside<'x, R: Wait + Abort + Threads + Drop + Copy + Send + Sync + 'stat
     )
 }
 
+// What `wait_beside` answers of two workers of one pool.
+fn wait_in_one_pool<R: Wait + Abort + Threads + Drop + Copy + Send + Sync + 'static>(
+    rt: R,
+    alloc: Global,
+) -> (bool, u64) {
+    let pool = new_pool(rt, alloc, 2);
+    let seen = wait_beside(&pool, &pool, 1);
+    drop_pool(pool);
+    seen
+}
+
 // A worker that waits sleeps while another one runs the member, and is woken by its end.
 #[test]
 fn a_member_that_ends_elsewhere_wakes_the_worker_that_waits(rt: HostRuntime) {
-    let pool = new_pool(rt, rt.alloc(), 2);
-    let (ran, sum) = wait_beside(&pool, &pool, 1);
-    drop_pool(pool);
+    let (ran, sum) = wait_in_one_pool(rt, rt.alloc());
     assert!(rt; ran && sum == GROUPS);
+}
+
+// What `wait_beside` answers of the workers of two pools.
+fn wait_across_pools<R: Wait + Abort + Threads + Drop + Copy + Send + Sync + 'static>(
+    rt: R,
+    alloc: Global,
+) -> (bool, u64) {
+    let pool = new_pool(rt, alloc, 1);
+    let other = new_pool(rt, alloc, 1);
+    let seen = wait_beside(&pool, &other, 0);
+    drop_pool(pool);
+    drop_pool(other);
+    seen
 }
 
 // The pool of the worker that waits has no task, so nothing else wakes it.
 #[test]
 fn a_member_of_another_pool_wakes_the_worker_that_waits(rt: HostRuntime) {
-    let pool = new_pool(rt, rt.alloc(), 1);
-    let other = new_pool(rt, rt.alloc(), 1);
-    let (ran, sum) = wait_beside(&pool, &other, 0);
-    drop_pool(pool);
-    drop_pool(other);
+    let (ran, sum) = wait_across_pools(rt, rt.alloc());
     assert!(rt; ran && sum == GROUPS);
 }
 
-// A shutdown ends the wait for a member that nothing will wake; it stays in the group.
-#[test]
-fn a_wait_for_a_member_ends_with_the_pool(rt: HostRuntime) {
-    let pool = new_pool(rt, rt.alloc(), 1);
+// Whether a member ran that stays pending; what a wait for it answers; and how many members are left.
+type Waited = (bool, Result<Option<u64>, NextMemberError>, usize);
+
+// A wait that another thread ends by a shutdown.
+fn wait_until_shutdown<R: Wait + Clock + Abort + Threads + Drop + Copy + Send + Sync + 'static>(
+    rt: R,
+    alloc: Global,
+) -> Waited {
+    let pool = new_pool(rt, alloc, 1);
     let counts = new_counts(&pool);
     let mut group = new_lone(&pool, 0, Errand::Stay, &counts);
     let mut turns = turns_of(&pool);
@@ -266,13 +315,22 @@ fn a_wait_for_a_member_ends_with_the_pool(rt: HostRuntime) {
     drop_turns(turns);
     let left = drop_group(group);
     drop_pool(pool);
+    (ran, ended, left)
+}
+
+// A shutdown ends the wait for a member that nothing will wake; it stays in the group.
+#[test]
+fn a_wait_for_a_member_ends_with_the_pool(rt: HostRuntime) {
+    let (ran, ended, left) = wait_until_shutdown(rt, rt.alloc());
     assert!(rt; ran && matches!(ended, Err(NextMemberError::ShutDown)) && left == 1);
 }
 
-// The only worker sleeps as another thread aborts the member, which nothing else ends, and then runs it.
-#[test]
-fn an_abort_wakes_the_worker_that_waits_for_a_member(rt: HostRuntime) {
-    let pool = new_pool(rt, rt.alloc(), 1);
+// A wait that another thread ends by an abort of the member.
+fn wait_until_abort<R: Wait + Clock + Abort + Threads + Drop + Copy + Send + Sync + 'static>(
+    rt: R,
+    alloc: Global,
+) -> Waited {
+    let pool = new_pool(rt, alloc, 1);
     let counts = new_counts(&pool);
     let mut group = new_lone(&pool, 0, Errand::Stay, &counts);
     let handle = granted(&rt, group.abort_handle(0).ok_or(()));
@@ -291,6 +349,13 @@ fn an_abort_wakes_the_worker_that_waits_for_a_member(rt: HostRuntime) {
     drop_turns(turns);
     let left = drop_group(group);
     drop_pool(pool);
+    (ran, output, left)
+}
+
+// The only worker sleeps as another thread aborts the member, which nothing else ends, and then runs it.
+#[test]
+fn an_abort_wakes_the_worker_that_waits_for_a_member(rt: HostRuntime) {
+    let (ran, output, left) = wait_until_abort(rt, rt.alloc());
     assert!(rt; ran && output == Ok(Some(0)) && left == 0);
 }
 
@@ -321,10 +386,17 @@ fn output_until<'x, R: Wait + Clock + Drop + Copy + 'static>(
     }
 }
 
-// The only worker waits for a member that gives way, and then for one that stays pending, which stays in the group.
-#[test]
-fn a_wait_for_a_member_elapses_at_its_deadline(rt: HostRuntime) {
-    let pool = new_pool(rt, rt.alloc(), 1);
+// What waits answer for a member that gives way, and then for one that stays pending; whether the deadline of the second has passed; and how many members
+// are left in each group.
+fn wait_within<R: Wait + Clock + Abort + Drop + Copy + 'static>(
+    rt: R,
+    alloc: Global,
+) -> (
+    [Result<Option<u64>, NextMemberError>; 2],
+    bool,
+    (usize, usize),
+) {
+    let pool = new_pool(rt, alloc, 1);
     let counts = new_counts(&pool);
     let mut ending = new_lone(&pool, 0, Errand::GiveWay(2), &counts);
     let mut staying = new_lone(&pool, 0, Errand::Stay, &counts);
@@ -334,6 +406,13 @@ fn a_wait_for_a_member_elapses_at_its_deadline(rt: HostRuntime) {
     drop_turns(turns);
     let left = (drop_group(ending), drop_group(staying));
     drop_pool(pool);
+    ([output, elapsed], passed, left)
+}
+
+// The only worker waits for a member that gives way, and then for one that stays pending, which stays in the group.
+#[test]
+fn a_wait_for_a_member_elapses_at_its_deadline(rt: HostRuntime) {
+    let ([output, elapsed], passed, left) = wait_within(rt, rt.alloc());
     assert!(rt; output == Ok(Some(1)) && elapsed == Err(NextMemberError::Elapsed));
     assert!(rt; passed && left == (0, 1));
 }

@@ -6,7 +6,7 @@ use async_task::{Future, Poll, Wake, Yields};
 use executor::{
     BellAwaiter, Key, Pool, PoolWaker, Turns, keep_waker, place_for_waker, wake_posted,
 };
-use std::alloc::AllocError;
+use std::alloc::{AllocError, Global};
 use std::process::Abort;
 use std::sync::atomic::{AtomicU64, Ordering};
 use std::sync::{Arc, Wait};
@@ -87,10 +87,13 @@ fn tick<R: Wait + Drop + Copy>(turns: &mut Turns<'_, R, Poster<R>, BellAwaiter<R
     }
 }
 
-// The places are of two parts. In four turns the eager one is woken thrice and the other one once, in whatever order the parts come.
-#[test]
-fn a_number_that_is_always_posted_keeps_no_other_waiting(rt: HostRuntime) {
-    let pool = granted(&rt, PosterPool::new(rt, rt.alloc(), 1));
+// Of an eager poster and a patient one, whose places are of two parts: whether each ran at first, how many of four turns woke a task, and how often each was
+// polled. It is generic in the runtime, as what tests do in `awaiting_tests`.
+fn post_beside_an_eager_one<R: Wait + Abort + Drop + Copy>(
+    rt: R,
+    alloc: Global,
+) -> ((bool, bool), u8, (u64, u64)) {
+    let pool = granted(&rt, PosterPool::new(rt, alloc, 1));
     let eager = spawn_poster(&pool, 0, true);
     let patient = spawn_poster(&pool, 1, false);
     let mut turns = granted(&rt, pool.turns(0));
@@ -105,5 +108,12 @@ fn a_number_that_is_always_posted_keeps_no_other_waiting(rt: HostRuntime) {
         eager.polls.load(Ordering::SeqCst),
         patient.polls.load(Ordering::SeqCst),
     );
-    assert!(rt; (first, woken, polls) == ((true, true), 4, (4, 2)));
+    (first, woken, polls)
+}
+
+// In four turns the eager one is woken thrice and the other one once, in whatever order the parts come.
+#[test]
+fn a_number_that_is_always_posted_keeps_no_other_waiting(rt: HostRuntime) {
+    let seen = post_beside_an_eager_one(rt, rt.alloc());
+    assert!(rt; seen == ((true, true), 4, (4, 2)));
 }
