@@ -14,7 +14,7 @@ use std::process::Abort;
 use std::random::RandomSource;
 use std::sync::atomic::{AtomicU64, Ordering};
 use std::sync::{Arc, Wait};
-use std::thread;
+use std::thread::{self, Threads};
 
 // Gives way so often, and then answers. It counts its drop.
 struct Count {
@@ -109,47 +109,79 @@ fn wait_for_left<R: Wait + Abort + RandomSource + AllocGlobal + Drop + Copy>(
     }
 }
 
-#[test]
-fn the_kit_waits_for_a_task_that_another_thread_runs(rt: HostRuntime) {
-    let dropped = none_dropped(rt, rt.alloc());
-    let (runnable, awaits) = bridged(rt, rt.alloc(), 7, &dropped);
+// Lets the kit wait for a task that another thread runs: what it answered, and how many futures were dropped.
+fn wait_beside<R: Wait + Abort + Threads + RandomSource + AllocGlobal + Drop + Copy + Send + Sync>(
+    rt: R,
+    alloc: Global,
+) -> (Answer, u64) {
+    let dropped = none_dropped(rt, alloc);
+    let (runnable, awaits) = bridged(rt, alloc, 7, &dropped);
     let (_, answer) = thread::join(&rt, move || run(runnable), move || wait_for(rt, awaits));
-    assert!(rt; answer == Ok(7));
-    assert!(rt; dropped.load(Ordering::SeqCst) == 1);
+    (answer, dropped.load(Ordering::SeqCst))
 }
 
 #[test]
-fn the_kit_joins_two_tasks(rt: HostRuntime) {
-    let dropped = none_dropped(rt, rt.alloc());
-    let (first, left) = bridged(rt, rt.alloc(), 1, &dropped);
-    let (second, right) = bridged(rt, rt.alloc(), 2, &dropped);
+fn the_kit_waits_for_a_task_that_another_thread_runs(rt: HostRuntime) {
+    let (answer, dropped) = wait_beside(rt, rt.alloc());
+    assert!(rt; answer == Ok(7));
+    assert!(rt; dropped == 1);
+}
+
+// Lets the kit wait for two tasks at once, which another thread runs: what they answered.
+fn join_beside<R: Wait + Abort + Threads + RandomSource + AllocGlobal + Drop + Copy + Send + Sync>(
+    rt: R,
+    alloc: Global,
+) -> (Answer, Answer) {
+    let dropped = none_dropped(rt, alloc);
+    let (first, left) = bridged(rt, alloc, 1, &dropped);
+    let (second, right) = bridged(rt, alloc, 2, &dropped);
     let run_both = move || {
         run(first);
         run(second)
     };
     let (_, answers) = thread::join(&rt, run_both, move || block_on(&rt, join(left, right)));
-    assert!(rt; granted(&rt, answers) == (Ok(1), Ok(2)));
+    granted(&rt, answers)
+}
+
+#[test]
+fn the_kit_joins_two_tasks(rt: HostRuntime) {
+    assert!(rt; join_beside(rt, rt.alloc()) == (Ok(1), Ok(2)));
+}
+
+// Lets the kit wait for the first of two tasks, and then runs the other one: what the first answered, whether the run woke anything, and how many futures
+// were dropped.
+fn select_first<R: Wait + Abort + RandomSource + AllocGlobal + Drop + Copy>(
+    rt: R,
+    alloc: Global,
+) -> (Answer, bool, u64) {
+    let dropped = none_dropped(rt, alloc);
+    let (first, left) = bridged(rt, alloc, 1, &dropped);
+    let (second, right) = bridged(rt, alloc, 2, &dropped);
+    run(first);
+    let won = wait_for_left(rt, left, right);
+    let woken = run(second);
+    (won, woken, dropped.load(Ordering::SeqCst))
 }
 
 #[test]
 fn the_loser_of_a_select_is_cancelled(rt: HostRuntime) {
-    let dropped = none_dropped(rt, rt.alloc());
-    let (first, left) = bridged(rt, rt.alloc(), 1, &dropped);
-    let (second, right) = bridged(rt, rt.alloc(), 2, &dropped);
-    run(first);
-    let won = wait_for_left(rt, left, right);
-    let woken = run(second);
-    assert!(rt; won == Ok(1) && !woken && dropped.load(Ordering::SeqCst) == 2);
+    let (won, woken, dropped) = select_first(rt, rt.alloc());
+    assert!(rt; won == Ok(1) && !woken && dropped == 2);
+}
+
+// Drops a bridge before its task runs: whether the run woke anything, how many futures were dropped, and whether nothing else has their count then.
+fn drop_bridge<R: Wait + Abort + Drop + Copy>(rt: R, alloc: Global) -> (bool, u64, bool) {
+    let dropped = none_dropped(rt, alloc);
+    let (runnable, awaits) = bridged(rt, alloc, 1, &dropped);
+    drop(awaits);
+    let woken = run(runnable);
+    let futures = dropped.load(Ordering::SeqCst);
+    (woken, futures, Arc::try_unwrap(dropped).is_ok())
 }
 
 #[test]
 fn a_dropped_bridge_cancels_its_task_and_leaves_nothing(rt: HostRuntime) {
-    let dropped = none_dropped(rt, rt.alloc());
-    let (runnable, awaits) = bridged(rt, rt.alloc(), 1, &dropped);
-    drop(awaits);
-    let woken = run(runnable);
-    let futures = dropped.load(Ordering::SeqCst);
-    let alone = Arc::try_unwrap(dropped).is_ok();
+    let (woken, futures, alone) = drop_bridge(rt, rt.alloc());
     assert!(rt; !woken && futures == 1 && alone);
 }
 

@@ -28,10 +28,9 @@ fn a_chain_of_tasks_that_await_one_another(rt: HostRuntime) {
     assert!(rt; run_chain(rt, rt.alloc()));
 }
 
-// Two tasks that await each other, of which the first is then cancelled.
-#[test]
-fn a_ring_of_two_ends_by_a_cancel(rt: HostRuntime) {
-    let line = Line::new(rt, rt.alloc(), 2);
+// Two tasks that await each other, of which the first is then cancelled: whether the second was pending before, and whether it is over after that.
+fn cancel_in_ring<R: Wait + Abort + Drop + Copy>(rt: R, alloc: Global) -> (bool, bool) {
+    let line = Line::new(rt, alloc, 2);
     for number in 0..2usize {
         line.spawn_kept(number, Errand::Await(1 - number));
     }
@@ -41,5 +40,11 @@ fn a_ring_of_two_ends_by_a_cancel(rt: HostRuntime) {
     let pending = !second.is_finished();
     drop(first);
     line.run();
-    assert!(rt; pending && second.is_finished());
+    (pending, second.is_finished())
+}
+
+#[test]
+fn a_ring_of_two_ends_by_a_cancel(rt: HostRuntime) {
+    let (pending, finished) = cancel_in_ring(rt, rt.alloc());
+    assert!(rt; pending && finished);
 }

@@ -174,14 +174,15 @@ fn a_full_group_spawns_nothing(rt: HostRuntime) {
     assert!(rt; seen == ([Some(0), None], Some((0, Ok(13)))));
 }
 
+// Whether a group with room for more members than memory can hold is refused.
+fn refuses_group<R: Wait + Drop + Copy>(rt: R, alloc: Global) -> bool {
+    let group: Result<LineGroup<'_, R>, AllocError> = TaskGroup::new(rt, alloc, usize::MAX);
+    group.is_err()
+}
+
 #[test]
 fn a_group_that_no_memory_can_hold_is_refused(rt: HostRuntime) {
-    let group: Result<LineGroup<'_, HostRuntime>, AllocError> = TaskGroup::new(
-        rt,
-        rt.alloc(),
-        usize::MAX,
-    );
-    assert!(rt; group.is_err());
+    assert!(rt; refuses_group(rt, rt.alloc()));
 }
 
 // Waits until a deadline for the next member, and answers whether none had ended then.

@@ -66,13 +66,18 @@ fn a_group_and_its_members_are_shown(rt: HostRuntime) {
     assert!(rt; ended.as_str() == "Some(Ended { number: 0, answer: Ok(7) })");
 }
 
-#[test]
-fn an_abort_handle_is_shown(rt: HostRuntime) {
-    let line = Line::new(rt, rt.alloc(), 1);
-    let mut group: LineGroup<'_, _> = granted(&rt, TaskGroup::new(rt, rt.alloc(), 1));
+// A handle that aborts the one member of a group.
+fn show_abort_handle<R: Wait + Abort + Drop + Copy>(rt: R, alloc: Global) -> String {
+    let line = Line::new(rt, alloc, 1);
+    let mut group: LineGroup<'_, R> = granted(&rt, TaskGroup::new(rt, alloc, 1));
     granted(&rt, group.push(line.spawn(0, Errand::Answer(7))));
     let handle = granted(&rt, group.abort_handle(0).ok_or(()));
-    let text = shown(&rt, rt.alloc(), &handle);
+    shown(&rt, alloc, &handle)
+}
+
+#[test]
+fn an_abort_handle_is_shown(rt: HostRuntime) {
+    let text = show_abort_handle(rt, rt.alloc());
     assert!(rt; text.as_str() == "AbortHandle { id: MemberId { number: 0, generation: 0 }, .. }");
 }
 
