@@ -10,6 +10,7 @@ use executor::{Key, PoolSpawnError, SpawnRefusal, keep_task, place_for_task, pol
 use std::alloc::{AllocError, Global};
 use std::process::Abort;
 use std::sync::{Arc, Wait};
+use std::thread::{self, Threads};
 
 /// Guests of which so many are to end. Stops where there is no memory.
 pub fn new_guests<R: Abort>(rt: &R, alloc: Global, wanted: u64) -> Arc<Guests> {
@@ -76,6 +77,19 @@ pub fn all_turns<R: Wait + Abort + Drop + Copy>(pool: &GuestPool<R>) -> Vec<Gues
 /// Runs the next task, as `Turns::tick` does: whether there was one. The prover takes that call as it is told that the runtime lives for ever.
 pub fn tick<R: Wait + Drop + Copy + 'static>(turns: &mut GuestTurns<'_, R>) -> bool {
     turns.tick()
+}
+
+/// Is the worker until the pool is shut down, as `Turns::work` is. The prover takes that call as it takes the one of `tick`.
+pub fn work<R: Wait + Drop + Copy + 'static>(turns: &mut GuestTurns<'_, R>) {
+    turns.work();
+}
+
+/// Is both workers of a pool until it is shut down, each on a thread.
+pub fn work_both<R: Wait + Threads + Drop + Copy + Send + Sync + 'static>(
+    rt: &R,
+    all: &mut Vec<GuestTurns<'_, R>>,
+) {
+    thread::for_each_mut(rt, all, 2, &|_, turns| work(turns));
 }
 
 /// An empty place for a Task. Stops where there is none.

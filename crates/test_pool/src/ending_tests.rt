@@ -1,7 +1,8 @@
 //! The ends of a pool: it finishes what is queued, or it is shut down; and how much is queued.
 
 use crate::calls::{
-    all_turns, drop_all, drop_pool, drop_tasks, guest_tasks, new_guests, new_pool, refusal_of_spawn,
+    all_turns, drop_all, drop_pool, drop_tasks, guest_tasks, new_guests, new_pool,
+    refusal_of_spawn, work_both,
 };
 use crate::guest::{GuestPool, GuestTask, output_of, shares_and_polls};
 use executor::SpawnRefusal;
@@ -41,7 +42,7 @@ fn a_pool_that_finishes_runs_what_is_queued(rt: HostRuntime) {
     finish(&pool);
     let refused = refusal_of_spawn(&pool, 2, &guests);
     let mut all = all_turns(&pool);
-    thread::for_each_mut(&rt, &mut all, 2, &|_, turns| turns.work());
+    work_both(&rt, &mut all);
     let (_, polls) = shares_and_polls(&guests);
     let answered = answers(&mut tasks);
     let is_shut_down = pool.is_shut_down();
@@ -57,11 +58,7 @@ fn a_pool_that_finishes_runs_what_is_queued(rt: HostRuntime) {
 fn workers_without_work_end_as_the_pool_finishes(rt: HostRuntime) {
     let pool = new_pool(rt, rt.alloc(), 2);
     let mut all = all_turns(&pool);
-    let _ = thread::join(
-        &rt,
-        || thread::for_each_mut(&rt, &mut all, 2, &|_, turns| turns.work()),
-        || finish(&pool),
-    );
+    let _ = thread::join(&rt, || work_both(&rt, &mut all), || finish(&pool));
     let left = queued(&pool);
     drop_all(all);
     drop_pool(pool);

@@ -2,14 +2,13 @@
 use crate::calls::{
     all_turns, drop_all, drop_pool, drop_task, drop_tasks, drop_turns, guest_task, guest_tasks,
     is_empty, keep, new_guests, new_pool, place_of_task, refusal_of_spawn, shut_down, tick,
-    turns_of,
+    turns_of, work_both,
 };
 use crate::guest::{Errand, GuestPool, is_closed, output_of, shares_and_polls};
 use async_task::TaskPoll;
 use awaiters::Nobody;
 use executor::{Key, SpawnRefusal, TurnsError, poll_kept, wake_kept};
 use std::sync::Wait;
-use std::thread;
 use work_queues::bells::MOST_WORKERS;
 
 /// How many tasks wait behind the one that never yields.
@@ -23,7 +22,7 @@ fn a_future_that_never_yields_keeps_only_its_thread(rt: HostRuntime) {
     let mut task = guest_task(&pool, 0, Errand::SpinAndEnd, &guests);
     let tasks = guest_tasks(&pool, 0, BEHIND, &guests);
     let mut all = all_turns(&pool);
-    thread::for_each_mut(&rt, &mut all, 2, &|_, turns| turns.work());
+    work_both(&rt, &mut all);
     let answer = output_of(&mut task);
     drop_task(task);
     drop_tasks(tasks);
@@ -173,7 +172,7 @@ fn a_pool_that_was_shut_down_refuses_what_comes(rt: HostRuntime) {
     shut_down(&pool);
     let refused = refusal_of_spawn(&pool, 2, &guests);
     let mut all = all_turns(&pool);
-    thread::for_each_mut(&rt, &mut all, 2, &|_, turns| turns.work());
+    work_both(&rt, &mut all);
     drop_all(all);
     let mut turns = turns_of(&pool, 1);
     let ran = tick(&mut turns);

@@ -224,16 +224,28 @@ fn drop_ring<R: Wait + Drop + Copy>(pool: RingPool<R>) {
     drop(pool);
 }
 
-// Each task takes a baton of its own, and one for each that the task before it hands on: a wake that is lost would leave one lying, and the ring would stand still.
-#[test]
-fn sixty_four_workers_pass_all_batons(rt: HostRuntime) {
-    let pool = new_ring_pool(rt, rt.alloc(), WORKERS);
+// What comes of a ring on all workers: whether these began; how many batons were taken, and how many handed on; what is left of the pool; and how many
+// owners the ring has.
+type Passed = (bool, (u64, u64), (usize, usize), usize);
+
+fn pass_all<R: Wait + Abort + Threads + Drop + Copy + Send + Sync + 'static>(
+    rt: R,
+    alloc: Global,
+) -> Passed {
+    let pool = new_ring_pool(rt, alloc, WORKERS);
     let (ring, mut tasks) = spawn_ring(&pool);
     let (began, taken) = thread::join(&rt, || work_others(&pool), || lead(&pool, &mut tasks));
     drop_ring_tasks(tasks);
     let passed = ring.passed.load(Ordering::SeqCst);
     let (left, shares) = (left_of(&pool), Arc::strong_count(&ring));
     drop_ring(pool);
+    (began, (taken, passed), left, shares)
+}
+
+// Each task takes a baton of its own, and one for each that the task before it hands on: a wake that is lost would leave one lying, and the ring would stand still.
+#[test]
+fn sixty_four_workers_pass_all_batons(rt: HostRuntime) {
+    let (began, (taken, passed), left, shares) = pass_all(rt, rt.alloc());
     assert!(rt; began && passed == TASKS as u64 * PASSES && taken == passed + TASKS as u64);
     assert!(rt; left == (0, 0) && shares == 1);
 }
@@ -340,12 +352,21 @@ fn is_closed<R: Wait + Drop + Copy>(pool: &RingPool<R>, mut task: RingTask<'_, R
     }
 }
 
-#[test]
-fn a_start_cancels_what_still_waits(rt: HostRuntime) {
-    let pool = new_ring_pool(rt, rt.alloc(), 2);
+// What a start answers beside a task that waits; whether this is closed then; and what is left of the pool.
+fn start_beside_one_that_waits<R: Wait + Abort + Threads + Drop + Copy + Send + Sync + 'static>(
+    rt: R,
+    alloc: Global,
+) -> (Result<usize, TurnsError>, bool, (usize, usize)) {
+    let pool = new_ring_pool(rt, alloc, 2);
     let task = spawn_waiting(&pool);
     let worker = start_briefly(&pool);
     let (closed, left) = (is_closed(&pool, task), left_of(&pool));
     drop_ring(pool);
+    (worker, closed, left)
+}
+
+#[test]
+fn a_start_cancels_what_still_waits(rt: HostRuntime) {
+    let (worker, closed, left) = start_beside_one_that_waits(rt, rt.alloc());
     assert!(rt; worker == Ok(0) && closed && left == (0, 0));
 }
