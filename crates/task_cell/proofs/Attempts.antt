@@ -4,7 +4,8 @@ use Rattle.task_cell.proofs.Vocabulary.{RuleHolds, head_of, Makes, Position, Par
 use Rattle.task_cell.proofs.Vocabulary.{attempted, MayTry, HasChanged, HasEnded, HasSeen}
 use Rattle.std.proofs.Common.{◌&&◌, eq-eqb}
 use Rattle.counted_block.specs.Counts.{More, Less}
-use Rattle.task_steps.specs.Attempt.{Attempt, word_after, acts_on, counts_on}
+use Rattle.task_steps.specs.Attempt.{Attempt, word_after, acts_on, counts_on, next_of}
+use Rattle.task_steps.proofs.Acts.{written_if}
 use Rattle.task_steps.specs.Shares.{shares_out, counted, MayBring, MayGive}
 use Rattle.task_steps.proofs.Shares.{Brings, Gives, Moves, may_bring, may_give}
 use Rattle.task_steps.proofs.Allowed.{OwesChange}
@@ -17,6 +18,11 @@ use Rattle.task_steps.specs.Knows.{Knows}
 abbrev pub seen_word : Option Tries → State
 seen_word None = state_of 0
 seen_word (Some t) = t.seen
+
+-- a change that answers what to write applies to the word, and answers its row
+pub answered : {Row : Type 0} (change : Attempt Row) (limit key : ℕ) (w : State) (made : State × Row) → Some made ≡ next_of change limit w → limit ≡ key
+    → (change.applies key w ≡ true) × (made ≡ (word_after w (acts_on change w), change.row w))
+answered change limit key w made e same = written_if (change.applies key w) made (word_after w (acts_on change w), change.row w) (e ∙ ap (λ l. next_of change l w) same)
 
 -- a change that was made counts by what it has found
 pub counts_made : {Row : Type 0} (change : Attempt Row) (n old : ℕ) (w : State) (row : Row) → n ≡ old → old ≡ number_of w → row ≡ change.row w → ((n == old) && counts_on change (state_of n)) ≡ change.counts row
@@ -84,17 +90,6 @@ module _ {F T A : Type 0} where
   made_of : (acts : List Act) (w : State) (t : Option Tries) (me after : Me (Slot F T A) View) → Makes acts w (having_seen t me.0, me.1) after → Makes acts w me after
   made_of acts w t me after x = record { slots = x.slots; fits = x.fits; viewed = x.viewed; carried = x.carried }
 
-  -- the change was made
-  pub changed : {Row : Type 0} (limit n : ℕ) (change : Attempt Row) (w : State) (me now after : Me (Slot F T A) View) → HasSeen w me now → change.applies limit w ≡ true → n ≡ number_of w
-      → Makes (acts_on change (state_of n)) (state_of n) now after → Knows (head_of now.0.members).deeds (state_of n) → HasChanged limit change (change.row w) me after
-  changed limit n change w me now after s applied is made knows = let here : state_of n ≡ w = ap state_of is ∙ state_of_number_of w in record {
-    word = w;
-    is = refl;
-    applied = applied;
-    made = made_of (acts_on change w) w s.tries me after (subst (λ (z : State × Me (Slot F T A) View). Makes (acts_on change z.0) z.0 z.1 after) (λ i. (here i, s.is i)) made);
-    knows = subst (λ (z : State × Me (Slot F T A) View). Knows (head_of z.1.0.members).deeds z.0) (λ i. (here i, s.is i)) knows;
-  }
-
   -- the word ended the attempt
   pub ended : {Row : Type 0} (limit n : ℕ) (change : Attempt Row) (v w : State) (me now after : Me (Slot F T A) View) → HasSeen v me now → w ≡ state_of n → change.ends limit w ≡ true
       → Makes (change.acts_at_end (state_of n)) (state_of n) now after → Knows (head_of now.0.members).deeds (state_of n) → HasEnded limit change w me after
@@ -121,9 +116,6 @@ module _ {F T A : Type 0} where
   pub may_at : {Row : Type 0} (limit : ℕ) (p : Party F T A) (at : Position) (held : List (ℕ × Slot F T A)) → StandsWith at held p → (change : Attempt Row) → ((w : State) → change.ends (limit_of p) w ≡ change.ends limit w)
       → OwesChange F T A limit change at (deeds p) [] held → OwesEnd F T A limit change at (deeds p) [] held → MayTry limit 3 p.seat.id p.seat.me change
   may_at limit p at held s change same changes over = subst (λ (m : Me (Slot F T A) View). MayTry limit 3 p.seat.id m change) (sym s) (may_try F T A limit 3 p.seat.id (limit_of p) at (deeds p) [] held change refl changes same over)
-
-  pub same_limit : (ends : ℕ → State → Bool) (limit : ℕ) (w : State) (me now : Me (Slot F T A) View) → HasSeen w me now → ((x : State) → ends me.0.limit x ≡ ends limit x) → (x : State) → ends now.0.limit x ≡ ends limit x
-  same_limit ends limit w me now s same x = ap (λ (m : Me (Slot F T A) View). ends m.0.limit x) s.is ∙ same x
 
   -- what a later try comes to is what the first one has come to
   pub changed_after : {Row : Type 0} (limit key : ℕ) (change : Attempt Row) (v : State) (row : Row) (me now after : Me (Slot F T A) View) → key ≡ limit → HasSeen v me now → HasChanged key change row now after → HasChanged limit change row me after

@@ -1,12 +1,11 @@
 -- Whose share is left, or was brought, by what a step found.
-use Rattle.task_cell.proofs.Vocabulary.{◌≡◌, ℕ, Bool, true, false, not, refl, arith, nat_lt, nat_eq, if◌then◌else◌, State, is_open, dropped_by, others_left}
+use Rattle.task_cell.proofs.Vocabulary.{◌≡◌, ℕ, Bool, not, arith, nat_lt, nat_eq}
 use Rattle.task_cell.proofs.Vocabulary.{◌∙◌}
 use Rattle.task_core.specs.declared.traits.Yields.{Ghosts}
 use Rattle.task_cell.specs.declared.cell.block.Share.{Share}
 use Rattle.task_cell.specs.declared.cell.block.MaybeShare.{MaybeShare}
 use Rattle.task_cell.specs.Belongs.{Leaves, cell_of, limit_in}
 use Rattle.std.proofs.lemmas.Bool.Decides.{nat_tests}
-use Rattle.task_steps.specs.declared.waker.Dropped.TheVariants as dropped
 
 pub left_by_last : (n : ℕ) → not (nat_lt 0 n) ≡ nat_eq n 0
 left_by_last n = grind (arith, nat_tests)

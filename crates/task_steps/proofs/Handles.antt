@@ -3,7 +3,7 @@ use Rattle.std.proofs.Common.{◌≡◌, ℕ, zero, suc, ◌+◌, ◌-◌, ◌�
 use Rattle.std.specs.Prelude.{nat_lt, nat_eq, if◌then◌else◌}
 use Rattle.std.proofs.lemmas.Bool.Decides.{nat_tests}
 use Rattle.task_core.specs.Rows.{found}
-use Rattle.task_steps.proofs.Vocabulary.{WakeRunning, WakeIdle, CancelIdle, EndCall, Detach, DetachLast, DetachOrphan, DropWaker, OrphanTask, DropLastWaker, GiveUpReference, GiveUpLastReference}
+use Rattle.task_steps.proofs.Vocabulary.{WakeRunning, WakeIdle, CancelIdle, EndCall, Detach, DetachLast, DetachOrphan, GiveUpReference, GiveUpLastReference}
 use Rattle.task_steps.proofs.Vocabulary.{State, bit, is_open, Event, Answer, Rest, Waker, Task, At, GivingUp, Detacher, OrphanHolder, Pending, Slots, is_held, Machine, census, Census, Holds, Deed, Member}
 use Rattle.task_steps.specs.WakerScripts.{waking_task, brings_runnable, to_gain, to_wake, others_left, dropped_by, dropping_as, dropping_waker, ends_waker, closing_orphan}
 use Rattle.task_steps.specs.declared.waker.Dropped.{Dropped}

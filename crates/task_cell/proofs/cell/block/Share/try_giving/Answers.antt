@@ -1,7 +1,5 @@
 use Rattle.task_cell.proofs.Vocabulary.{◌<◌, not, sym, refl, ap, ◌∙◌, subst, State, number_of}
-use Rattle.task_steps.specs.Attempt.{word_after, acts_on, next_of}
-use Rattle.task_steps.proofs.Acts.{written_if}
-use Rattle.task_cell.proofs.Attempts.{counts_made, seeing_first, seeing_missed, may_exchange, may_less}
+use Rattle.task_cell.proofs.Attempts.{answered, counts_made, seeing_first, seeing_missed, may_exchange, may_less}
 use Rattle.task_cell.proofs.cell.block.Share.try_giving.Goals as goal
 
 pub observe-requires-clause-seen : goal.observe-requires-clause-seen
@@ -9,7 +7,7 @@ observe-requires-clause-seen g c = let s = c.requires.seen in (s.0, s.2)
 
 pub part_exchange-found-requires : goal.part_exchange-found-requires
 part_exchange-found-requires g c = let s = c.requires.seen in let self = c.args.self in let limit = ap (λ x. x.limit) c.cell.ensures ∙ sym self.fitting.0 in
-    let x = written_if (g.P.Change.attempt.applies self.block.key c.args.word) c.in-Some.made (word_after c.args.word (acts_on g.P.Change.attempt c.args.word), g.P.Change.attempt.row c.args.word) (sym c.in-Some.is ∙ (c.next.ensures ∙ ap (λ l. next_of g.P.Change.attempt l c.args.word) limit)) in
+    let x = answered g.P.Change.attempt _ self.block.key c.args.word c.in-Some.made (sym c.in-Some.is ∙ c.next.ensures) limit in
     let seeing = seeing_first c.args.word c.args.party.now.seat.me s.0 s.1 s.2 in (
       c.requires.cell,
       may_exchange self.block.key _ _ _ _ _ _ g.P.Change.attempt c.args.word _ _ refl refl refl seeing c.requires.allowed x.0 c.bits.ensures (c.bits-2.ensures ∙ ap (λ z. number_of z.0) x.1),
@@ -18,7 +16,7 @@ part_exchange-found-requires g c = let s = c.requires.seen in let self = c.args.
 
 pub returns-then-found-bits-clause-share : goal.returns-then-found-bits-clause-share
 returns-then-found-bits-clause-share g c = let self = c.args.self in let e = c.part_exchange-found.ensures.share in let limit = ap (λ x. x.limit) c.cell.ensures ∙ sym self.fitting.0 in
-    let x = written_if (g.P.Change.attempt.applies self.block.key c.args.word) c.in-Some.made (word_after c.args.word (acts_on g.P.Change.attempt c.args.word), g.P.Change.attempt.row c.args.word) (sym c.in-Some.is ∙ (c.next.ensures ∙ ap (λ l. next_of g.P.Change.attempt l c.args.word) limit)) in record {
+    let x = answered g.P.Change.attempt _ self.block.key c.args.word c.in-Some.made (sym c.in-Some.is ∙ c.next.ensures) limit in record {
       cell = (e.0, e.2);
       limit = e.1;
       is_there = e.4 ∙ ap (λ b. not b) (counts_made g.P.Change.attempt _ _ c.args.word c.in-Some.made.1 (c.if-found-bits.true ∙ (c.bits-3.ensures ∙ sym c.bits.ensures)) c.bits.ensures (ap (λ z. z.1) x.1));

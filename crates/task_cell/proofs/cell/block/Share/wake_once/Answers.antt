@@ -1,4 +1,4 @@
-use Rattle.task_cell.proofs.Vocabulary.{◌∙◌, sym, ap}
+use Rattle.task_cell.proofs.Vocabulary.{◌∙◌}
 use Rattle.task_steps.specs.Standing.{as_lent}
 use Rattle.task_cell.proofs.WakerMoves.{fresh_stands, may_wake, wakes_over}
 use Rattle.task_cell.proofs.cell.block.Share.wake_once.Goals as goal
