@@ -1,18 +1,17 @@
 //! The lines on the pool of `executor`.
 
 use crate::pool_tasks::{Job, Row};
-use awaiters::Awaiter;
 use bench_report::failure::Failure;
 use bench_report::lines::{Line, Size};
 use bench_report::tally::{Measured, Start, Tally};
 use executor::{Place, Pool, ToPool};
+use executor_parts::{Awaiter, TaskGroup};
 use std::alloc::Global;
 use std::fs::Files;
 use std::rt::Clock;
 use std::sync::{Arc, Wait};
 use std::thread;
 use std::thread::Threads;
-use task_group::TaskGroup;
 
 /// A pool of these tasks.
 pub type JobPool<R> = Pool<R, Job<R>, Awaiter<R>>;

@@ -2,9 +2,9 @@
 ghost use Rattle.std.specs.Prelude.{⊤};
 
 use async_task::{Future, Poll, Yields};
-use awaiters::Awaiter;
 use bench_report::tally::Tally;
 use executor::{Key, Place, PoolWaker, keep_new_waker, wake_kept};
+use executor_parts::Awaiter;
 use std::alloc::{AllocError, Global};
 use std::sync::atomic::{AtomicU64, Ordering};
 use std::sync::{Arc, Wait};

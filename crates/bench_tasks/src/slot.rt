@@ -2,7 +2,7 @@
 ghost use Rattle.std.specs.Prelude.{⊤};
 
 use async_task::{Runnable, Schedule, ScheduleInfo, Task, TaskWaker, Yields, spawn};
-use awaiters::Nobody;
+use executor_parts::Nobody;
 use std::alloc::{AllocError, Allocator};
 use std::cell::Cell;
 use std::sync::Wait;

@@ -5,7 +5,7 @@ ghost use Rattle.std.specs.Prelude.{⊤, ◌≡◌};
 ghost use Rattle.task_core.specs.Poll.{IfReady};
 
 use async_task::{Future, Poll, Runnable, Schedule, ScheduleInfo, Task, TaskWaker, Yields, spawn};
-use awaiters::{Awaiter, block_on};
+use executor_parts::{Awaiter, block_on};
 use std::alloc::{AllocError, Global};
 use std::collections::VecDeque;
 use std::sync::{Condvar, Mutex, Wait};

@@ -5,7 +5,7 @@ ghost use Rattle.std.specs.Prelude.{⊤};
 
 use crate::line::{KeptWaker, Line, LineTask, LineWaker};
 use async_task::{Future, Poll, TaskPoll, Yields};
-use awaiters::Nobody;
+use executor_parts::Nobody;
 use std::alloc::Global;
 use std::cell::Cell;
 use std::collections::VecDeque;

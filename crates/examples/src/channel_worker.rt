@@ -3,8 +3,8 @@
 ghost use Rattle.std.specs.Prelude.{⊤};
 
 use async_task::{Future, Poll, Runnable, Schedule, ScheduleInfo, Task, Wake, Yields, spawn};
-use awaiters::{Awaiter, block_on};
 use crossbeam_channel::{Receiver, Sender, unbounded};
+use executor_parts::{Awaiter, block_on};
 use std::alloc::Global;
 use std::sync::Wait;
 use std::thread::{self, Threads};

@@ -3,7 +3,7 @@ ghost use Rattle.std.specs.Prelude.{⊤, ◌<◌, IfSome};
 
 use crate::last::DropsRunnables;
 use async_task::{Future, Poll, Task, TaskPoll, Yields, spawn};
-use awaiters::Nobody;
+use executor_parts::Nobody;
 use std::alloc::Global;
 use std::sync::Wait;
 

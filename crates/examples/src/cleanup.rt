@@ -4,7 +4,7 @@ ghost use Rattle.std.specs.Prelude.{⊤};
 
 use crate::last::DropsRunnables;
 use async_task::{Future, Poll, Task, Yields, spawn};
-use awaiters::Nobody;
+use executor_parts::Nobody;
 use std::alloc::Global;
 use std::sync::atomic::{AtomicU64, Ordering};
 use std::sync::{Arc, Wait};

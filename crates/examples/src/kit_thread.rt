@@ -4,7 +4,7 @@ ghost use Rattle.std.specs.Prelude.{⊤};
 
 use crate::line::{KeptWaker, Line, LineWaker};
 use async_task::{Future, Poll, TaskPoll, Yields};
-use awaiters::Nobody;
+use executor_parts::Nobody;
 use futures::channel::oneshot::{self, Receiver, Sender};
 use futures::executor::block_on;
 use futures::future::{join, ready};

@@ -7,16 +7,19 @@ mod boxed_steps;
 mod channel_worker;
 mod claim;
 mod cleanup;
+mod fan;
 mod kit_futures;
 mod kit_thread;
 mod last;
 mod line;
 mod new_thread;
+mod one_thread;
 mod parallel_sum;
 mod pooled;
 mod priorities;
 mod sharing;
 mod two_kinds;
+mod web;
 
 use boxed::Step;
 use boxed_steps::{Brings, Doubles, Place};
@@ -28,6 +31,7 @@ use std::random::RandomSource;
 use std::rc::Rc;
 use std::sync::Wait;
 use std::thread::Threads;
+use std::time::Clock;
 use two_kinds::Kind;
 
 // Prints the line of an example: its name, and what it answers.
@@ -93,11 +97,23 @@ where
     print(rt, "kit_thread", kit_thread::double_of(rt, alloc, 21))
 }
 
+// The tasks of pools that know their futures by a type of their own.
+fn print_of_pools<R>(rt: R, alloc: Global) -> io::Result<()>
+where
+    R: Print + Wait + Clock + Threads + Drop + Copy + Send + Sync + 'static,
+{
+    print(rt, "sharing", sharing::sum_of_numbers(rt, alloc))?;
+    print(rt, "fan", fan::sum_in_parts(rt, alloc, None))?;
+    print(rt, "fan", fan::sum_in_parts(rt, alloc, Some(3)))?;
+    print(rt, "web", web::served_and_late(rt, alloc))
+}
+
 fn main(rt: HostRuntime) -> io::Result<()> {
     let alloc = rt.alloc();
     print_first(rt, alloc)?;
     print_boxed(rt, alloc)?;
     print_of_kit(rt, alloc)?;
+    print(rt, "one_thread", one_thread::answers_in_order(rt, alloc))?;
     // A pool of two workers: this thread is one, and waits for two tasks.
     let pool = JobPool::new(rt, alloc, 2)?;
     let (mut sum, mut average) = pooled::spawn_both(&pool, 100, 9)?;
@@ -106,5 +122,5 @@ fn main(rt: HostRuntime) -> io::Result<()> {
         |turns| (turns.block_on(&mut sum), turns.block_on(&mut average)),
     );
     print(rt, "pooled", answers)?;
-    print(rt, "sharing", sharing::sum_of_numbers(rt, alloc))
+    print_of_pools(rt, alloc)
 }

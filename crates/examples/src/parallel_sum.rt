@@ -5,11 +5,10 @@ ghost use Rattle.std.specs.Prelude.{⊤};
 use crate::borrowed::SumOf;
 use crate::last::DropsRunnables;
 use async_task::{Runnable, spawn};
-use awaiters::Awaiter;
+use executor_parts::{Awaiter, TaskGroup};
 use std::alloc::Global;
 use std::sync::Wait;
 use std::thread::{self, Threads};
-use task_group::TaskGroup;
 
 type Work<'x, R> = Runnable<R, SumOf<'x>, DropsRunnables, (), Awaiter<R>, ()>;
 

@@ -3,8 +3,7 @@
 ghost use Rattle.std.specs.Prelude.{⊤};
 
 use async_task::{Builder, Future, Poll, Runnable, Schedule, ScheduleInfo, Task, Yields};
-use awaiters::Nobody;
-use priority_heap::PriorityHeap;
+use executor_parts::{Nobody, PriorityHeap};
 use std::alloc::Global;
 use std::sync::{Mutex, Wait};
 

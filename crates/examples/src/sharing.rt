@@ -3,8 +3,8 @@ ghost use Rattle.std.specs.Prelude.{⊤};
 
 use async_task::{Future, Poll, Wake, Yields};
 use combinators::{Join, YieldNow, join, yield_now};
+use executor::shared_waker::{PoolSharedWaker, Sharing};
 use executor::{BellAwaiter, Pool, PoolGroup, PoolWaker, Turns};
-use shared_waker::{PoolSharedWaker, Sharing};
 use std::alloc::Global;
 use std::sync::Wait;
 use std::thread::{self, Threads};

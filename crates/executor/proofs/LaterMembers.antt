@@ -2,7 +2,7 @@
 use Rattle.std.proofs.Common.{◌∙◌, ℕ, sym}
 use Rattle.std.specs.Prelude.{Option, Some, None, Result, Ok, Err, OnErr}
 use Rattle.slab.specs.Slab.{Slab}
-use Rattle.task_group.specs.Members.{Leaves, SameMembers, IfNext}
+use Rattle.executor_parts.specs.Members.{Leaves, SameMembers, IfNext}
 
 -- what is next after looks that left the members as they were
 pub next-later : {T U E : Type 0} (first second third : Slab T) (number : U → ℕ) (next : Result (Option U) E) → IfNext next (λ ended. Leaves second third (number ended)) → SameMembers first second → IfNext next (λ ended. Leaves first third (number ended))

@@ -1,3 +1,5 @@
 pub mod Appends
 pub mod Looks
 pub mod Wakes
+pub mod Desks
+pub mod Polled

@@ -1,7 +1,7 @@
 use Rattle.std.specs.Prelude.{◌≡◌, ℕ}
 use Rattle.std.specs.Arc.{arc_value}
 use Rattle.work_queues.specs.declared.bells.Bells.{Bells}
-use Rattle.awaiters.specs.declared.mailbox.Mailbox.{Mailbox}
+use Rattle.executor_parts.specs.declared.mailbox.Mailbox.{Mailbox}
 use Rattle.executor.specs.declared.ringing.PoolListener.{PoolListener}
 use Rattle.executor.specs.declared.ringing.Rings.{Rings}
 use Rattle.executor.specs.declared.ringing.Rings.TheVariants.{Worker, Kept}

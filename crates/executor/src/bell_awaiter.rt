@@ -6,7 +6,7 @@ ghost use Rattle.executor.specs.Wakes.{IsForWorker, IsForKept, IsForReader, IsSa
 use crate::pool::Pool;
 use crate::ringing::{PoolListener, Rings};
 use async_task::{Wake, Yields};
-use awaiters::{Mailbox, Posts};
+use executor_parts::{Mailbox, Posts};
 use std::alloc::Allocator;
 use std::sync::{Arc, Wait};
 use work_queues::Bells;

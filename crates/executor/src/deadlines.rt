@@ -4,7 +4,7 @@ ghost use Rattle.std.specs.Prelude.{◌≡◌, IfSome};
 use crate::pool::PoolRunnable;
 use crate::turns::Turns;
 use async_task::{Wake, Yields};
-use awaiters::left_until;
+use executor_parts::left_until;
 use std::alloc::Allocator;
 use std::sync::Wait;
 use std::time::{Clock, Instant};

@@ -3,8 +3,8 @@ ghost use Rattle.std.specs.Prelude.{◌≡◌, ◌↔◌, IfOk, IfErr, IsTrue, O
 ghost use Rattle.slab.specs.Slab.{slab_len, ContainsKey};
 ghost use Rattle.task_cell.specs.PollPaths.{IfOutput};
 ghost use Rattle.async_task.specs.HandlePaths.{IfSomeOutput};
-ghost use Rattle.awaiters.specs.Answered.{GivesNone};
-ghost use Rattle.task_group.specs.Members.{Joins, Leaves, SameMembers};
+ghost use Rattle.executor_parts.specs.Answered.{GivesNone};
+ghost use Rattle.executor_parts.specs.Members.{Joins, Leaves, SameMembers};
 ghost use Rattle.executor.specs.Looks.{HasNone, IsReady};
 
 use crate::bell_awaiter::BellAwaiter;
@@ -13,11 +13,10 @@ use crate::pool::{Place, PoolTask, PoolWaker};
 use crate::ringing::{PoolListener, Rings};
 use crate::store::Key;
 use async_task::{TaskClosed, TaskPoll, Wake, Yields};
-use awaiters::{Mailbox, Posts};
+use executor_parts::{GroupFull, Mailbox, Posts};
 use slab::Slab;
 use std::alloc::Allocator;
 use std::sync::{Arc, Wait};
-use task_group::GroupFull;
 
 /// Tasks of a pool that a task of it awaits, each under a number. The pool keeps the Tasks, so a future of the pool may have this in a field. Dropped, it gives its places back: the tasks that are left are cancelled once a worker collects.
 #[must_use]

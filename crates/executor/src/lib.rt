@@ -1,6 +1,6 @@
 //! A pool of threads that run the tasks of `async_task` and steal from one another.
-//! It stands on `async_task`, on `work_queues`, which has the queues and the sleep of the workers, on `awaiters` and `task_group`, and on the kit's `slab` and `thiserror`.
-//! A user calls `Pool`, `Turns` for loops of its own, and the functions of `kept`, and has groups as `PoolGroup`; a future reaches the pool by `waker.around()`, and keeps `Key`s. `Store` also serves other executors.
+//! It stands on `async_task`, on `work_queues`, which has the queues and the sleep of the workers, on the awaiters and groups of `executor_parts`, and on the kit's `slab` and `thiserror`.
+//! A user calls `Pool`, `Turns` for loops of its own, and the functions of `kept`, and has groups as `PoolGroup`; a future reaches the pool by `waker.around()`, and keeps `Key`s. `Store` also serves other executors, and so do the wakers of `shared_waker`, which any future may keep.
 //! Nothing is public only to carry a claim; the claims on queues and sleep are those of `work_queues`.
 //! The page is docs/EXECUTOR_POOL.md.
 #![tactic(auto)]
@@ -19,15 +19,16 @@ pub mod pool;
 mod posted;
 mod ringing;
 pub mod shared;
+pub mod shared_waker;
 mod spawning;
 mod stage;
 pub mod start;
 pub mod store;
 pub mod turns;
 
-pub use awaiters::BlockOnError;
 pub use bell_awaiter::BellAwaiter;
 pub use errors::{NextMemberError, PoolSpawnError, SpawnRefusal, TurnsError};
+pub use executor_parts::BlockOnError;
 pub use kept::{
     KeptTask, KeptWaker, await_kept, collect, keep_new_waker, keep_task, keep_waker,
     place_for_task, place_for_waker, poll_kept, wake_kept, wake_posted,

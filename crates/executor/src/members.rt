@@ -1,18 +1,17 @@
 //! Groups of tasks of a pool: a worker that waits for the next member that ends.
 ghost use Rattle.std.specs.Prelude.{◌≡◌, ◌≢◌, true, false, IfSome, IsNone, OnErr};
 ghost use Rattle.slab.specs.Slab.{slab_len};
-ghost use Rattle.task_group.specs.Members.{Leaves, SameMembers, IfNext, is_over};
+ghost use Rattle.executor_parts.specs.Members.{Leaves, SameMembers, IfNext, is_over};
 
 use crate::bell_awaiter::BellAwaiter;
 use crate::errors::NextMemberError;
 use crate::pool::{Place, PoolWaker, ToPool};
 use crate::turns::{Turns, run_if_any};
 use async_task::{Future, Runnable, Schedule, Yields};
-use awaiters::{Posts, left_until};
+use executor_parts::{Ended, Posts, TaskGroup, left_until};
 use std::alloc::{Allocator, Global};
 use std::sync::Wait;
 use std::time::{Clock, Instant};
-use task_group::{Ended, TaskGroup};
 use work_queues::Bells;
 
 /// A group of tasks of a pool. Push the Tasks that `spawn` answers.

@@ -1,8 +1,8 @@
 //! Numbers that were posted and that nobody has taken yet, under a lock: those of kept wakers that are due, and those of places whose keys were dropped.
 ghost use Rattle.std.specs.Prelude.{◌≤◌, ◌<◌, OnOk};
-ghost use Rattle.awaiters.specs.Posted.{room_of};
+ghost use Rattle.executor_parts.specs.Posted.{room_of};
 
-use awaiters::Numbers;
+use executor_parts::Numbers;
 use std::alloc::{AllocError, Global};
 use std::sync::atomic::{AtomicU64, AtomicUsize, Ordering};
 use std::sync::{Arc, Mutex, MutexGuard, Wait};

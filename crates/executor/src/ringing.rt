@@ -4,7 +4,7 @@ ghost use Rattle.std.specs.Arc.{arc_value};
 ghost use Rattle.executor.specs.Wakes.{RingsWorker, RingsKept, IsSameRing};
 
 use crate::mail::Mail;
-use awaiters::Listener;
+use executor_parts::Listener;
 use std::sync::{Arc, Wait};
 use work_queues::Bells;
 

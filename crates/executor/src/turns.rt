@@ -3,7 +3,7 @@ ghost use Rattle.std.specs.Prelude.{◌≡◌, ◌≤◌, ◌↔◌, ℕ, IfOk, 
 ghost use Rattle.std.specs.Arc.{arc_value};
 ghost use mathlib.Core.Option.{some};
 ghost use lib.ListN.{get_elem?};
-ghost use Rattle.awaiters.specs.Answered.{answer_of};
+ghost use Rattle.executor_parts.specs.Answered.{answer_of};
 ghost use Rattle.executor.specs.Wakes.{RingsWorker};
 
 use crate::bell_awaiter::BellAwaiter;
@@ -12,7 +12,7 @@ use crate::kept::{collect, wake_posted};
 use crate::pool::{Place, Pool, PoolRunnable, PoolWaker, Queued};
 use crate::ringing::{PoolListener, Rings};
 use async_task::{Future, TaskClosed, TaskPoll, Wake, Yields};
-use awaiters::{Awaited, BlockOnError};
+use executor_parts::{Awaited, BlockOnError};
 use std::alloc::{Allocator, Global};
 use std::sync::Wait;
 use std::time::Duration;

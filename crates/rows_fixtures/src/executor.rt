@@ -5,7 +5,7 @@ use crate::flag::Flag;
 use crate::future::RowFuture;
 use crate::surroundings::Scheduler;
 use async_task::{Runnable, Schedule, ScheduleInfo, Task, TaskWaker};
-use priority_heap::PriorityHeap;
+use executor_parts::PriorityHeap;
 use std::alloc::{AllocError, Global};
 use std::sync::{Mutex, Wait};
 

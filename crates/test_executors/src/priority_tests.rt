@@ -3,7 +3,7 @@
 
 use crate::calls;
 use crate::granted::granted;
-use priority_heap::PriorityHeap;
+use executor_parts::PriorityHeap;
 use rows_fixtures::behaviour::Behaviour;
 use rows_fixtures::counters::Counts;
 use rows_fixtures::executor::{PriorityQueue, PriorityRunnable, PriorityScheduler, PriorityTask};

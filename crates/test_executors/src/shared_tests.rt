@@ -4,7 +4,7 @@ ghost use Rattle.std.specs.Prelude.{⊤};
 
 use crate::granted::granted;
 use async_task::{Future, Poll, Runnable, Schedule, ScheduleInfo, TaskWaker, Yields, spawn};
-use awaiters::Nobody;
+use executor_parts::Nobody;
 use rows_fixtures::counters::Counter;
 use std::alloc::Global;
 use std::process::Abort;

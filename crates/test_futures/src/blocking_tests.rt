@@ -1,8 +1,8 @@
 //! `block_on` of a future that no task runs.
 use crate::gate::{Gate, new_gate, waits_at};
-use awaiters::Awaiter;
 use combinators::{Raced, join, pending, race, ready, yield_now};
-use shared_waker::block_on;
+use executor::shared_waker::block_on;
+use executor_parts::Awaiter;
 use std::alloc::Global;
 use std::process::Abort;
 use std::sync::{Arc, Wait};

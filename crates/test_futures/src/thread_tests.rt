@@ -1,10 +1,10 @@
 //! Timers that a thread drives, and futures that threads await. Nothing here depends on how fast the machine is: a sleep may last longer than its time.
 use crate::calls::now;
 use crate::granted::granted;
-use awaiters::Awaiter;
 use combinators::join;
+use executor::shared_waker::block_on;
+use executor_parts::Awaiter;
 use future_time::Timers;
-use shared_waker::block_on;
 use std::alloc::Global;
 use std::process::Abort;
 use std::sync::Wait;

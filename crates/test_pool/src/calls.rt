@@ -5,8 +5,8 @@ use crate::granted::granted;
 use crate::guest::{
     Errand, Guest, GuestPool, GuestTask, GuestTurns, Guests, spawn_guest, spawn_guests,
 };
-use awaiters::Nobody;
 use executor::{Key, PoolSpawnError, SpawnRefusal, keep_task, place_for_task, poll_kept};
+use executor_parts::Nobody;
 use std::alloc::{AllocError, Global};
 use std::process::Abort;
 use std::sync::{Arc, Wait};

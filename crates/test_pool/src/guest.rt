@@ -2,8 +2,8 @@
 ghost use Rattle.std.specs.Prelude.{⊤};
 
 use async_task::{Future, Poll, TaskPoll, Wake, Yields};
-use awaiters::Nobody;
 use executor::{Pool, PoolTask, PoolWaker, Turns};
+use executor_parts::Nobody;
 use std::alloc::{AllocError, Global};
 use std::collections::VecDeque;
 use std::sync::atomic::{AtomicBool, AtomicU64, Ordering};

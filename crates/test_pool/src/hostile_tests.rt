@@ -6,8 +6,8 @@ use crate::calls::{
 };
 use crate::guest::{Errand, GuestPool, is_closed, output_of, shares_and_polls};
 use async_task::TaskPoll;
-use awaiters::Nobody;
 use executor::{Key, SpawnRefusal, TurnsError, poll_kept, wake_kept};
+use executor_parts::Nobody;
 use std::sync::Wait;
 use work_queues::bells::MOST_WORKERS;
 

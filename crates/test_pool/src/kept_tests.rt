@@ -8,10 +8,10 @@ use crate::calls::{
 use crate::granted::granted;
 use crate::guest::{Errand, GuestPool, GuestTurns, Guests, shares_and_polls};
 use async_task::{Future, Poll, TaskPoll, Yields};
-use awaiters::Nobody;
 use executor::{
     Key, Pool, PoolTask, PoolWaker, collect, keep_new_waker, keep_waker, place_for_waker,
 };
+use executor_parts::Nobody;
 use std::alloc::{AllocError, Global};
 use std::process::Abort;
 use std::sync::atomic::{AtomicBool, Ordering};

@@ -1,6 +1,6 @@
 //! The tests of the pool itself: its workers, `block_on`, its stores, what it keeps, the order of tasks, their metadata, storms of wakes, its ends, what it is made with, refused memory, hostile use, and what is shown;
-//! and of the queues below it: the search of a worker, memory that is refused, and which queue a worker looks at first.
-//! It stands on `executor`, `work_queues` and `awaiters`. Nothing is public. The page is docs/EXECUTOR_POOL.md, of the queues that of `work_queues`.
+//! of what futures do in it; and of the queues below it: the search of a worker, memory that is refused, and which queue a worker looks at first.
+//! It stands on `executor`, `work_queues` and `executor_parts`. Nothing is public. The page is docs/EXECUTOR_POOL.md, of the queues that of `work_queues`.
 #![tactic(auto)]
 
 #[cfg(test)]
@@ -13,6 +13,8 @@ mod delay_tests;
 mod dice;
 #[cfg(test)]
 mod ending_tests;
+#[cfg(test)]
+mod future_tests;
 #[cfg(test)]
 mod granted;
 #[cfg(test)]

@@ -3,8 +3,8 @@ ghost use Rattle.std.specs.Prelude.{⊤};
 
 use crate::granted::granted;
 use async_task::{Builder, Future, Poll, TaskPoll, Yields};
-use awaiters::Nobody;
 use executor::{Pool, PoolSpawnError, PoolTask, SpawnRefusal, Turns};
+use executor_parts::Nobody;
 use std::alloc::Global;
 use std::process::Abort;
 use std::sync::Wait;

@@ -5,8 +5,8 @@ use crate::calls::{drop_pool, drop_task, drop_turns, guest_task, new_guests, new
 use crate::granted::granted;
 use crate::guest::{Errand, output_of, shares_and_polls};
 use async_task::{Future, Poll, TaskPoll, Yields};
-use awaiters::Nobody;
 use executor::{Pool, PoolTask};
+use executor_parts::Nobody;
 use std::alloc::Global;
 use std::collections::VecDeque;
 use std::process::Abort;

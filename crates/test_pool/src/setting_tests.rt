@@ -8,8 +8,8 @@ use crate::calls::{
 use crate::granted::granted;
 use crate::guest::{Errand, GuestPool, GuestTurns, output_of};
 use async_task::{Future, Poll, Yields};
-use awaiters::Nobody;
 use executor::{Pool, PoolWaker, Settings, WithShared, WorkerCounts};
+use executor_parts::Nobody;
 use std::alloc::Global;
 use std::process::Abort;
 use std::sync::Wait;

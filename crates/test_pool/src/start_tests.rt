@@ -7,11 +7,11 @@ use crate::calls::{
 use crate::granted::granted;
 use crate::guest::{Guest, GuestPool, Guests, shares_and_polls};
 use async_task::{Future, Poll, TaskPoll, Yields};
-use awaiters::Nobody;
 use executor::{
     BellAwaiter, Key, Pool, PoolTask, PoolWaker, SpawnRefusal, Turns, TurnsError, keep_waker,
     place_for_waker, wake_kept,
 };
+use executor_parts::Nobody;
 use std::alloc::{AllocError, Global};
 use std::collections::VecDeque;
 use std::process::Abort;

@@ -3,10 +3,10 @@ ghost use Rattle.std.specs.Prelude.{⊤};
 
 use crate::granted::granted;
 use async_task::{Future, Poll, TaskPoll, Yields};
-use awaiters::Nobody;
 use executor::{
     Key, Pool, PoolTask, PoolWaker, Turns, collect, keep_waker, place_for_waker, wake_kept,
 };
+use executor_parts::Nobody;
 use std::alloc::{AllocError, Global};
 use std::collections::VecDeque;
 use std::process::Abort;

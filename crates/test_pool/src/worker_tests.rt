@@ -3,10 +3,10 @@ ghost use Rattle.std.specs.Prelude.{⊤};
 
 use crate::granted::granted;
 use async_task::{Future, Poll, TaskPoll, Yields};
-use awaiters::Nobody;
 use executor::{
     Key, Pool, PoolTask, PoolWaker, keep_new_waker, keep_task, place_for_task, poll_kept, wake_kept,
 };
+use executor_parts::Nobody;
 use std::alloc::{AllocError, Global};
 use std::process::Abort;
 use std::sync::atomic::{AtomicU64, Ordering};

@@ -3,8 +3,8 @@
 use crate::queue::{Queue, QueueTask};
 use crate::task_futures::Ready;
 use async_task::TaskPoll;
-use awaiters::Nobody;
 use bench_report::failure::Failure;
+use executor_parts::Nobody;
 use std::alloc::{AllocError, Allocator};
 use std::sync::Wait;
 

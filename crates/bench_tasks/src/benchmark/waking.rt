@@ -4,8 +4,8 @@ use crate::queue::{Queue, QueueTask, QueueWaker};
 use crate::slot::{Slot, SlotWaker};
 use crate::task_futures::{Pending, Ready, Yielding};
 use async_task::{TaskPoll, Yields};
-use awaiters::Nobody;
 use bench_report::failure::Failure;
+use executor_parts::Nobody;
 use std::alloc::{AllocError, Allocator};
 use std::sync::Wait;
 

@@ -4,13 +4,13 @@ use super::came_out::{CameOut, group_of, last_of, next_of};
 use super::line::{Errand, Line, LineGroup};
 use crate::granted::granted;
 use async_task::TaskClosed;
+use executor_parts::AbortHandle;
 use std::alloc::Global;
 use std::collections::VecDeque;
 use std::process::Abort;
 use std::sync::atomic::{AtomicU64, Ordering};
 use std::sync::{Mutex, Wait};
 use std::thread::{self, Threads};
-use task_group::AbortHandle;
 
 // How often a thread gives way to another one that is to fall asleep.
 const YIELDS: usize = 500;

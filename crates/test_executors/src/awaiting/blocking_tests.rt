@@ -1,6 +1,6 @@
 //! `block_on`, of a task that has ended, of one that another thread runs, of one that is closed, and of a Cancel.
 use super::line::{Errand, Line, LineTask};
-use awaiters::{BlockOnError, block_on};
+use executor_parts::{BlockOnError, block_on};
 use std::alloc::Global;
 use std::process::Abort;
 use std::sync::Wait;

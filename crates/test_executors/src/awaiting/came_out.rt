@@ -2,10 +2,10 @@
 use super::line::LineGroup;
 use crate::granted::granted;
 use async_task::TaskClosed;
+use executor_parts::TaskGroup;
 use std::alloc::Global;
 use std::process::Abort;
 use std::sync::Wait;
-use task_group::TaskGroup;
 
 /// The number and the answer of a member that came out.
 pub type CameOut = Option<(usize, Result<u64, TaskClosed>)>;

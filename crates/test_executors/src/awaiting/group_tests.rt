@@ -3,13 +3,12 @@ use super::came_out::{CameOut, group_of, last_of, next_of};
 use super::line::{Errand, Line, LineGroup, LineTask};
 use crate::granted::granted;
 use async_task::TaskClosed;
-use awaiters::left_until;
+use executor_parts::{AwaiterRefused, MemberId, NextUntilError, TaskGroup, left_until};
 use std::alloc::{AllocError, Global};
 use std::process::Abort;
 use std::sync::Wait;
 use std::sync::atomic::Ordering;
 use std::time::{Clock, Duration, Instant};
-use task_group::{AwaiterRefused, MemberId, NextUntilError, TaskGroup};
 
 // Pushes a Task to a group: whether there was room.
 fn push_task<'x, R: Wait + Drop + Copy>(

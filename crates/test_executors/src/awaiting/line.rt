@@ -5,14 +5,13 @@ use crate::granted::granted;
 use async_task::{
     Future, Poll, Runnable, Schedule, ScheduleInfo, Task, TaskPoll, TaskWaker, Yields, spawn,
 };
-use awaiters::{Awaiter, Mailbox};
+use executor_parts::{Awaiter, Mailbox, TaskGroup};
 use std::alloc::Global;
 use std::collections::VecDeque;
 use std::mem;
 use std::process::Abort;
 use std::sync::atomic::{AtomicU64, Ordering};
 use std::sync::{Arc, Mutex, Wait};
-use task_group::TaskGroup;
 
 /// What a member of a line does when it is polled.
 #[derive(Clone, Copy)]

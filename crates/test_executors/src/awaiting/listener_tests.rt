@@ -1,6 +1,6 @@
 //! Who listens at a mailbox: when a listener is told of a post, and what becomes of one that is replaced.
 use crate::granted::granted;
-use awaiters::{Listener, Mailbox};
+use executor_parts::{Listener, Mailbox};
 use rows_fixtures::rendezvous::Rendezvous;
 use std::alloc::{AllocError, Global};
 use std::process::Abort;

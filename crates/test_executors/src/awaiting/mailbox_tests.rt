@@ -1,7 +1,7 @@
 //! The mailbox: order, numbers that wait already, the room, and two threads that sleep at it.
 use crate::granted::granted;
 use async_task::Wake;
-use awaiters::{Awaiter, Mailbox};
+use executor_parts::{Awaiter, Mailbox};
 use std::alloc::{AllocError, Global};
 use std::process::Abort;
 use std::sync::atomic::{AtomicU64, Ordering};

@@ -3,7 +3,7 @@
 use super::number::{Nowhere, Number};
 use crate::granted::granted;
 use async_task::{Task, TaskPoll, Wake, spawn};
-use awaiters::Nobody;
+use executor_parts::Nobody;
 use std::alloc::Global;
 use std::process::Abort;
 use std::sync::Wait;

@@ -4,11 +4,10 @@ ghost use Rattle.std.specs.Prelude.{⊤};
 use super::number::{Nowhere, Number};
 use crate::granted::granted;
 use async_task::{Runnable, Wake, spawn};
-use awaiters::{Mailbox, Nobody, Posts};
+use executor_parts::{AwaiterRefused, Mailbox, Nobody, Posts, TaskGroup};
 use std::alloc::Global;
 use std::process::Abort;
 use std::sync::{Arc, Wait};
-use task_group::{AwaiterRefused, TaskGroup};
 
 // An awaiter that is refused while the mailbox has another one: as if no more owners could be counted.
 #[derive(Drop)]

@@ -2,7 +2,10 @@
 use super::line::{Errand, Line, LineGroup};
 use crate::granted::granted;
 use async_task::TaskClosed;
-use awaiters::{Awaiter, BlockOnError, Mailbox, Numbers};
+use executor_parts::{
+    Awaiter, AwaiterRefused, BlockOnError, GroupFull, GroupSpawnError, Mailbox, NextUntilError,
+    Numbers, TaskGroup,
+};
 use kit_bridge::{AwaitError, AwaitsRefused};
 use std::alloc::{AllocError, Global};
 use std::error::Error;
@@ -10,7 +13,6 @@ use std::fmt::Debug;
 use std::io;
 use std::process::Abort;
 use std::sync::Wait;
-use task_group::{AwaiterRefused, GroupFull, GroupSpawnError, NextUntilError, TaskGroup};
 
 fn shown<R: Abort, T: Debug>(rt: &R, alloc: Global, value: &T) -> String {
     granted(rt, format!(in alloc; "{value:?}"))

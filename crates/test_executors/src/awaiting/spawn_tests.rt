@@ -4,13 +4,12 @@ ghost use Rattle.std.specs.Prelude.{⊤};
 use super::number::Number;
 use crate::granted::granted;
 use async_task::{Schedule, ScheduleInfo};
-use awaiters::Awaiter;
 use bench_report::counting::Counting;
+use executor_parts::{Awaiter, GroupSpawnError, TaskGroup};
 use linked_list_allocator::LocalHeap;
 use std::alloc::{AllocError, Global};
 use std::process::Abort;
 use std::sync::Wait;
-use task_group::{GroupSpawnError, TaskGroup};
 
 // A schedule value has so many numbers, by which it shows that it is whole.
 const WIDTH: usize = 64;

@@ -1,5 +1,5 @@
 use Rattle.std.proofs.Common.{◌≡◌, length}
-use Rattle.awaiters.specs.Posted.{posted, room_of}
+use Rattle.executor_parts.specs.Posted.{posted, room_of}
 use Rattle.executor.proofs.posted.widen.Given as goal
 
 abbrev pub invariant-loop-number : goal.invariant-loop-number

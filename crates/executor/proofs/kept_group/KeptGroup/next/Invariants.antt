@@ -1,6 +1,6 @@
 use Rattle.std.proofs.Common.{◌≡◌}
 use Rattle.slab.specs.Slab.{slab_len}
-use Rattle.task_group.specs.Members.{SameMembers}
+use Rattle.executor_parts.specs.Members.{SameMembers}
 use Rattle.executor.proofs.kept_group.KeptGroup.next.Given as goal
 
 abbrev pub invariant-loop : goal.invariant-loop

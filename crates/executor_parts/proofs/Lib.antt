@@ -1,0 +1,4 @@
+pub mod Marks
+pub mod Joined
+pub mod Spent
+pub mod Greatest

@@ -1,0 +1,10 @@
+pub mod Answered
+pub mod Numbers
+pub mod Posted
+pub mod Cancelled
+pub mod Generations
+pub mod Members
+pub mod Next
+pub mod Requested
+pub mod Priority
+pub mod PriorityHeap

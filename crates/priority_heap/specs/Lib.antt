@@ -1,2 +1,0 @@
-pub mod Priority
-pub mod PriorityHeap

@@ -1,9 +1,0 @@
-use Rattle.std.proofs.Common.{◌∙◌}
-use Rattle.task_group.proofs.Spent.{leaves-spent}
-use Rattle.task_group.proofs.group.TaskGroup.detach_all.Goals as goal
-
-pub loop-number-preserved : goal.loop-number-preserved
-loop-number-preserved g c = record {
-  spent = λ handle spent. leaves-spent _ c.loop-number.self.members c.try_remove.new.self c.loop-number.number c.in-Some.ensures.updates handle (c.loop-number.invariant.spent handle spent);
-  room = c.in-Some.ensures.capacity ∙ c.loop-number.invariant.room;
-}

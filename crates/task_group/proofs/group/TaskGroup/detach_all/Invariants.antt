@@ -1,9 +1,0 @@
-use Rattle.std.proofs.Common.{◌≡◌}
-use Rattle.task_group.specs.Generations.{StaySpent}
-use Rattle.task_group.proofs.group.TaskGroup.detach_all.Given as goal
-
-abbrev pub invariant-loop-number : goal.invariant-loop-number
-invariant-loop-number g l = record {
-  spent : StaySpent l.fn.self.joined l.fn.self.members l.self.joined l.self.members;
-  room : l.self.members.capacity ≡ l.fn.self.members.capacity;
-}
