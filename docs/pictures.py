@@ -224,16 +224,13 @@ TAKEN = {
     "task_core": "the traits that you write: Future, Wake, Schedule",
     "async_task": "a task for executors: spawn, run, wake, cancel, poll",
     "local_task": "a task of one thread, as one value",
-    "priority_heap": "a heap of Runnables, by a priority",
-    "awaiters": "block_on, and awaiters, for executors of your own",
-    "task_group": "many tasks, of which the next that ends comes out",
+    "executor_parts": "block_on, groups and awaiters, for executors of your own",
     "kit_bridge": "a Task as a future of the kit",
     "work_queues": "queues and sleeping workers, of any items",
-    "executor": "a pool of threads",
+    "executor": "a pool, and wakers that futures keep",
     "combinators": "small futures for every executor: join, race, yield_now",
     "future_sync": "what tasks share: oneshot, channel, semaphore, mutex",
     "future_time": "timers: sleep, interval, timeout",
-    "shared_waker": "a waker that a future of any executor may keep",
 }
 INDENT, ROW = 34, 42
 
