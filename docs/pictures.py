@@ -227,7 +227,7 @@ TAKEN = {
     "executor_parts": "block_on, groups and awaiters, for executors of your own",
     "kit_bridge": "a Task as a future of the kit",
     "work_queues": "queues and sleeping workers, of any items",
-    "executor": "a pool, and wakers that futures keep",
+    "executor": "a pool of threads; wakers to keep",
     "combinators": "small futures for every executor: join, race, yield_now",
     "future_sync": "what tasks share: oneshot, channel, semaphore, mutex",
     "future_time": "timers: sleep, interval, timeout",
