@@ -1,13 +1,13 @@
 //! The program that plays the steps that it reads from standard input, and prints how the task stands after each.
-//! It stands on `replay_printer`, which reads the arguments and the steps, and prints the rows.
+//! It stands on `task_replay`, which reads the arguments and the steps, and prints the rows.
 //! A user runs it. Nothing is public only to carry a claim.
 //! The page is README.md, beside the code.
 #![tactic(auto)]
 
-use replay_printer::arguments::{answer, refuse};
 use std::io::{BufReader, BufWriter};
 use std::process::ExitCode;
 use std::{env, io};
+use task_replay::arguments::{answer, refuse};
 
 fn main(rt: HostRuntime) -> io::Result<ExitCode> {
     let mut err = rt.stderr();

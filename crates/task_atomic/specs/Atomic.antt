@@ -1,4 +1,4 @@
--- 2 of 6: each step of the machine is an act on the small task, which makes of it what the step makes, and answers what is so; or it is none.
+-- 2 of 8: each step of the machine is an act on the small task, which makes of it what the step makes, and answers what is so; or it is none.
 use Rattle.std.specs.Prelude.{◌≡◌, ℕ, Bool, true, false, List, [], ◌∷◌, Some, is_some, unwrap_or, option_map, slice_get}
 use Rattle.std.specs.List.{find}
 use Rattle.task_core.specs.contracts.acts.ActPartialEq.TheImpl as act_eq

@@ -5,3 +5,5 @@ pub mod Registered
 pub mod Tables
 pub mod Deeds
 pub mod Paths
+pub mod Tokens
+pub mod Runs

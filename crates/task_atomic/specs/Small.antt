@@ -1,4 +1,4 @@
--- 1 of 6: a task as its callers see it, and the acts on it.
+-- 1 of 8: a task as its callers see it, and the acts on it.
 use Rattle.std.specs.Prelude.{ℕ, ◌+◌, ◌-◌, Bool, true, false, not, ◌&&◌, ◌||◌, nat_lt, if◌then◌else◌}
 use Rattle.task_core.specs.Word.{State}
 use Rattle.task_core.specs.Local.{Phase, Idle, Queued, Polled, PolledAndWoken, Done}

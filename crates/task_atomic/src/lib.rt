@@ -1,9 +1,9 @@
-//! What each call does to a task, as its callers see it: atomic acts on a small task, whatever other calls do meanwhile; and that the paths which the
-//! contracts of the public calls promise are these acts.
-//! It stands on `task_laws` and `async_task`, and takes from `task_progress` how a table of moves is run.
-//! A user calls nothing of it: the contracts of `atomic` and `calls` are the theorems.
+//! What each call does to a task, as its callers see it: atomic acts on a small task, whatever other calls do meanwhile; that the paths which the
+//! contracts of the public calls promise are these acts; and that lists of calls of a task of one thread are runs of the abstract task of a cell.
+//! It stands on `task_laws`, `async_task` and `local_task`, and takes from `task_progress` how a table of moves is run.
+//! A user calls nothing of it: the contracts of `atomic`, `calls` and `runs` are the theorems.
 //! `wrong_table` is public to show that a table which meets the laws, and by which a call acts twice, is refused.
-//! The page is docs/PROOFS.md.
+//! The page is README.md.
 #![tactic(auto)]
 
 ghost use Rattle.task_atomic.specs.Atomic.{StepsAreAtomic};
@@ -11,6 +11,7 @@ ghost use Rattle.task_atomic.specs.Calls.{CallsEndByAnswers, CallsMakeTheirActs}
 ghost use Rattle.task_atomic.specs.Deeds.{DeedsAreSteps};
 ghost use Rattle.task_atomic.specs.Paths.{PathsAreActs};
 ghost use Rattle.task_atomic.specs.Registered.{OpenTaskKeepsAwaiter, PendingIsRegistered};
+ghost use Rattle.task_atomic.specs.Runs.{CallsAreRuns};
 ghost use Rattle.task_atomic.specs.Tables.{CancelsAgain};
 ghost use Rattle.task_cell.specs.Handed.{HandedOver, PolledOnce};
 ghost use Rattle.task_laws.specs.Table.{rule};
@@ -51,4 +52,10 @@ where
     F: Future<TaskWaker<R, F, Q, M, A, X, B>>,
     ensures deeds { DeedsAreSteps }
     ensures paths { (cell : _) (around : _) → PathsAreActs (HandedOver Q.scheduled cell around) (PolledOnce F.polled cell around) ((a : A) × A.woken a) A.cloned A.woken A.woken_by_ref A.compared }
+{}
+
+/// Every list of calls of a `LocalTask`, each made where its condition holds, is a run of the abstract task, with the same answers, Runnables, ends and
+/// wakes in the same order: the calls between `start` and `settle` are nested in the run that is open there.
+pub fn runs<F, T, A>()
+    ensures calls { CallsAreRuns F T A }
 {}

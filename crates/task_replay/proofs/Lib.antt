@@ -1,3 +1,5 @@
 pub mod Replayed
 pub mod Playing
 pub mod Refused
+pub mod Named
+pub mod Allowed

@@ -1,5 +1,5 @@
 //! The tests of the machine as a program (lives of a task, replayed, and each reason to refuse a step), and of what programs print and count.
-//! It stands on `replay_printer`, `task_replay`, `bench_report` and `rows_fixtures`. Nothing is public. The page is docs/PROOFS.md.
+//! It stands on `task_replay`, `bench_report` and `rows_fixtures`. Nothing is public. The page is docs/PROOFS.md.
 #![tactic(auto)]
 
 #[cfg(test)]

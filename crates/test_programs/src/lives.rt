@@ -4,10 +4,10 @@
 
 use crate::stops::{granted, holds};
 use crate::turns::{halves, steps_of, word_of};
-use replay_printer::line::{content, is_blank};
 use std::alloc::Global;
 use std::process::Abort;
 use task_core::word::LIMIT;
+use task_replay::input::{content, is_blank};
 use task_replay::{Step, replay};
 
 // A name, the turns, and the words without repetitions.

@@ -10,12 +10,12 @@
 
 use crate::stops::{granted, holds};
 use crate::turns::{halves, is_refused_at, player_after, step_of, steps_of, word_of};
-use replay_printer::line::{content, is_blank};
 use std::alloc::Global;
 use std::process::Abort;
 use task_core::word::Word;
 use task_laws::positions::{NotifyingCall, Position, Rest, WithoutPoll};
 use task_replay::Step;
+use task_replay::input::{content, is_blank};
 use task_replay::player::PlayError;
 use task_replay::refusal::Refusal;
 

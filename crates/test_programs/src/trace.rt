@@ -1,6 +1,6 @@
 //! The lines that `replay_trace` reads, and what it prints: whole inputs, how far each party is, and writers that fail.
 //! Of what is only tested (docs/PROOFS.md): Programs.
 
-mod line_tests;
+mod input_tests;
 mod progress_tests;
 mod trace_tests;

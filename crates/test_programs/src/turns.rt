@@ -4,10 +4,10 @@
 //! that are added follow: a waker, a waker that is lent to one call alone, a deliverer, a Runnable that is handed over.
 
 use crate::stops::granted;
-use replay_printer::names::named;
 use std::alloc::Global;
 use std::process::Abort;
 use task_core::acts::Act;
+use task_replay::names::named;
 use task_replay::player::Player;
 use task_replay::{ReplayError, Step, replay};
 

@@ -3,10 +3,10 @@
 use crate::limited::Limited;
 use crate::stops::{granted, holds};
 use crate::words::Told;
-use replay_printer::row::Shown;
-use replay_printer::trace::trace;
 use std::alloc::Global;
 use std::process::Abort;
+use task_replay::row::Shown;
+use task_replay::trace::trace;
 
 fn traced<R: Abort>(rt: &R, alloc: Global, shown: Shown, input: &[u8]) -> Told {
     let mut out = Vec::new(alloc);
