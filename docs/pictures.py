@@ -230,8 +230,7 @@ TAKEN = {
     "kit_bridge": "a Task as a future of the kit",
     "work_queues": "queues and sleeping workers, of any items",
     "executor": "a pool of threads",
-    "combinators": "small futures for every executor: join, race, yield_now",
-    "future_sync": "what tasks share: oneshot, channel, semaphore, mutex",
+    "future_parts": "futures for every executor: join, race, channel, mutex",
     "future_time": "timers: sleep, interval, timeout",
     "shared_waker": "a waker that a future of any executor may keep",
 }

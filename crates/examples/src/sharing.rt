@@ -2,8 +2,8 @@
 ghost use Rattle.std.specs.Prelude.{⊤};
 
 use async_task::{Future, Poll, Wake, Yields};
-use combinators::{Join, YieldNow, join, yield_now};
 use executor::{BellAwaiter, Pool, PoolGroup, PoolWaker, Turns};
+use future_parts::{Join, YieldNow, join, yield_now};
 use shared_waker::{PoolSharedWaker, Sharing};
 use std::alloc::Global;
 use std::sync::Wait;

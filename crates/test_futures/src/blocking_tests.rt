@@ -1,7 +1,7 @@
 //! `block_on` of a future that no task runs.
 use crate::gate::{Gate, new_gate, waits_at};
 use awaiters::Awaiter;
-use combinators::{Raced, join, pending, race, ready, yield_now};
+use future_parts::{Raced, join, pending, race, ready, yield_now};
 use shared_waker::block_on;
 use std::alloc::Global;
 use std::process::Abort;

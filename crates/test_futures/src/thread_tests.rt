@@ -2,7 +2,7 @@
 use crate::calls::now;
 use crate::granted::granted;
 use awaiters::Awaiter;
-use combinators::join;
+use future_parts::join;
 use future_time::Timers;
 use shared_waker::block_on;
 use std::alloc::Global;
