@@ -228,8 +228,7 @@ TAKEN = {
     "kit_bridge": "a Task as a future of the kit",
     "work_queues": "queues and sleeping workers, of any items",
     "executor": "a pool of threads; wakers to keep",
-    "combinators": "small futures for every executor: join, race, yield_now",
-    "future_sync": "what tasks share: oneshot, channel, semaphore, mutex",
+    "future_parts": "futures for every executor: join, race, channel, mutex",
     "future_time": "timers: sleep, interval, timeout",
 }
 INDENT, ROW = 34, 42

@@ -2,9 +2,9 @@
 ghost use Rattle.std.specs.Prelude.{⊤};
 
 use async_task::{Future, Poll, Wake, Yields};
-use combinators::{Join, YieldNow, join, yield_now};
 use executor::shared_waker::{PoolSharedWaker, Sharing};
 use executor::{BellAwaiter, Pool, PoolGroup, PoolWaker, Turns};
+use future_parts::{Join, YieldNow, join, yield_now};
 use std::alloc::Global;
 use std::sync::Wait;
 use std::thread::{self, Threads};

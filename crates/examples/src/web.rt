@@ -5,7 +5,7 @@ mod server;
 mod source;
 
 use executor::shared_waker::PoolSharedWaker;
-use future_sync::{Semaphore, channel};
+use future_parts::{Semaphore, channel};
 use future_time::Timers;
 use job::{Job, JobPool, JobTimers, Tally, Work};
 use server::Server;

@@ -1,8 +1,8 @@
 //! `block_on` of a future that no task runs.
 use crate::gate::{Gate, new_gate, waits_at};
-use combinators::{Raced, join, pending, race, ready, yield_now};
 use executor::shared_waker::block_on;
 use executor_parts::Awaiter;
+use future_parts::{Raced, join, pending, race, ready, yield_now};
 use std::alloc::Global;
 use std::process::Abort;
 use std::sync::{Arc, Wait};

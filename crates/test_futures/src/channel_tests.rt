@@ -2,7 +2,7 @@
 use crate::counter::{Counter, is_ready, output, poll};
 use crate::granted::granted;
 use crate::token::{Token, make_token, no_tokens, tokens};
-use future_sync::{Receiver, Sender, TryReceiveError, TrySendError, channel};
+use future_parts::{Receiver, Sender, TryReceiveError, TrySendError, channel};
 use std::alloc::Global;
 use std::process::Abort;
 use std::sync::{Arc, Wait};

@@ -2,7 +2,7 @@
 use crate::counter::{Counter, poll};
 use crate::granted::granted;
 use crate::steps::{Steps, after_polls, no_polls, seen};
-use combinators::{JoinAll, join_all};
+use future_parts::{JoinAll, join_all};
 use std::alloc::Global;
 use std::collections::VecDeque;
 use std::process::Abort;

@@ -1,7 +1,7 @@
 //! `join`: when a part is dropped, what is polled and woken until then, and that a drop leaves nothing.
 use crate::counter::{Counter, poll};
 use crate::steps::{after_polls, no_polls, seen};
-use combinators::{join, ready, yield_now};
+use future_parts::{join, ready, yield_now};
 use task_core::Poll;
 
 // The first one is ready at the second poll, and then dropped and not polled again. The second one is ready at the fourth.

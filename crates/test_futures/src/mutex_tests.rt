@@ -2,7 +2,7 @@
 use crate::counter::{Counter, is_ready, output};
 use crate::granted::granted;
 use crate::token::{Token, make_token, no_tokens, tokens};
-use future_sync::{AsyncMutex, Guard, Lock};
+use future_parts::{AsyncMutex, Guard, Lock};
 use std::alloc::Global;
 use std::process::Abort;
 use std::sync::{Arc, Wait};

@@ -1,7 +1,7 @@
 //! `Notify`: whom it notifies, and what is kept.
 use crate::counter::{Counter, is_ready};
 use crate::granted::granted;
-use future_sync::{Notified, Notify};
+use future_parts::{Notified, Notify};
 use std::alloc::Global;
 use std::process::Abort;
 use std::sync::Wait;

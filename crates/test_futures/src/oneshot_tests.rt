@@ -2,7 +2,7 @@
 use crate::counter::{Counter, poll};
 use crate::granted::granted;
 use crate::token::{Token, make_token, no_tokens, tokens};
-use future_sync::{OneReceiver, OneSender, oneshot};
+use future_parts::{OneReceiver, OneSender, oneshot};
 use std::alloc::Global;
 use std::process::Abort;
 use std::sync::Wait;

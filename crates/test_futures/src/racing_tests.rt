@@ -1,7 +1,7 @@
 //! `race`: when a part is dropped, what is polled until then, and that a drop leaves nothing.
 use crate::counter::{Counter, poll};
 use crate::steps::{after_polls, no_polls, seen};
-use combinators::{Raced, join, pending, race, ready};
+use future_parts::{Raced, join, pending, race, ready};
 use task_core::Poll;
 
 // The second one is not polled where the first one is ready.

@@ -1,7 +1,7 @@
 //! A semaphore: who has the next permit, and that none is lost.
 use crate::counter::{Counter, is_ready, output};
 use crate::granted::granted;
-use future_sync::{Acquire, Permit, Semaphore};
+use future_parts::{Acquire, Permit, Semaphore};
 use std::alloc::Global;
 use std::process::Abort;
 use std::sync::Wait;

@@ -1,6 +1,6 @@
 //! What the errors of futures say, and how those are shown that hold a value.
 use crate::granted::granted;
-use future_sync::{TryReceiveError, TrySendError};
+use future_parts::{TryReceiveError, TrySendError};
 use future_time::{Closed, Refused, TimeoutError, TimerError};
 use std::alloc::Global;
 use std::error::Error;

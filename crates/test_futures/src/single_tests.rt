@@ -1,6 +1,6 @@
 //! `yield_now`: that it wakes no more often than once.
 use crate::counter::{Counter, poll};
-use combinators::yield_now;
+use future_parts::yield_now;
 use task_core::Poll;
 
 #[test]

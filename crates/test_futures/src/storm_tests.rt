@@ -1,7 +1,7 @@
 //! 64 threads at one channel, and at one semaphore.
 use crate::bell::{Bell, block_on, poll_once};
 use crate::granted::granted;
-use future_sync::{Permit, Receiver, Semaphore, Sender, channel};
+use future_parts::{Permit, Receiver, Semaphore, Sender, channel};
 use std::alloc::Global;
 use std::process::Abort;
 use std::sync::Wait;

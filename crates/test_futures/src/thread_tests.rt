@@ -1,9 +1,9 @@
 //! Timers that a thread drives, and futures that threads await. Nothing here depends on how fast the machine is: a sleep may last longer than its time.
 use crate::calls::now;
 use crate::granted::granted;
-use combinators::join;
 use executor::shared_waker::block_on;
 use executor_parts::Awaiter;
+use future_parts::join;
 use future_time::Timers;
 use std::alloc::Global;
 use std::process::Abort;

@@ -2,7 +2,7 @@
 
 use crate::calls::{after, now};
 use crate::mark::Mark;
-use future_sync::{Receiver, Sender, channel};
+use future_parts::{Receiver, Sender, channel};
 use future_time::Timers;
 use std::alloc::Global;
 use std::process::Abort;

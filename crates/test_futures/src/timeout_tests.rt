@@ -2,7 +2,7 @@
 use crate::calls::{after, now, timers};
 use crate::counter::{Counter, poll};
 use crate::granted::granted;
-use combinators::{pending, yield_now};
+use future_parts::{pending, yield_now};
 use future_time::TimeoutError;
 use std::time::Duration;
 use task_core::Poll;

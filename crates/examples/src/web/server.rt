@@ -1,7 +1,7 @@
 //! A server: it takes requests, and serves each while it has a permit, until a timeout.
 use crate::web::job::Tally;
 use async_task::{Future, Poll, Wake};
-use future_sync::{Acquire, Permit, Receiver, Semaphore};
+use future_parts::{Acquire, Permit, Receiver, Semaphore};
 use future_time::{Sleep, Timeout, Timers};
 use std::sync::Wait;
 use std::time::{Clock, Duration};

@@ -1,6 +1,6 @@
 //! Where the requests come from.
 use async_task::{Poll, Wake};
-use future_sync::Sender;
+use future_parts::Sender;
 use std::sync::Wait;
 use std::time::Duration;
 

@@ -1,5 +1,0 @@
-pub mod Halves
-pub mod Joins
-pub mod JoinsAll
-pub mod Polls
-pub mod Races

@@ -1,0 +1,13 @@
+pub mod Asking
+pub mod Halves
+pub mod Joins
+pub mod JoinsAll
+pub mod Keeping
+pub mod Lending
+pub mod Lines
+pub mod Messaging
+pub mod Notifying
+pub mod Polls
+pub mod Races
+pub mod Sending
+pub mod Singles

@@ -1,0 +1,31 @@
+use Rattle.std.specs.Prelude.{◌≡◌, ◌++◌, ◌∷◌, [], ℕ, Option, MatchBool}
+use Rattle.future_parts.specs.declared.messages.Messages.{Messages}
+use Rattle.future_parts.specs.declared.permits.Answer.{Answer}
+use Rattle.future_parts.specs.declared.permits.Answer.TheVariants.{Closed}
+use Rattle.future_parts.specs.Lines.{waiting}
+use Rattle.future_parts.specs.Asking.{Added, Same, Polled}
+
+module _ {T W : Type 0} where
+  -- the message is the last one, for the receiver that came first, which is woken, or for any where none waited
+  abbrev pub SentTo : T → Messages T W → Messages T W → Option W → Type 0
+  SentTo message old new woken = (new.messages.items ≡ old.messages.items ++ message ∷ []) × Added old.here new.here woken
+
+  -- the message was the first one, and its room goes to the sender that came first, which is woken, or to any where none waited
+  abbrev pub ReceivedFrom : T → Messages T W → Messages T W → Option W → Type 0
+  ReceivedFrom message old new woken = (old.messages.items ≡ message ∷ new.messages.items) × Added old.room new.room woken
+
+  -- both sides are open or closed as before
+  abbrev pub SameClosed : Messages T W → Messages T W → Type 0
+  SameClosed old new = (new.here.closed ≡ old.here.closed) × (new.room.closed ≡ old.room.closed)
+
+  -- who is there has not changed
+  abbrev pub SamePeers : Messages T W → Messages T W → Type 0
+  SamePeers old new = (new.senders ≡ old.senders) × (new.receivers ≡ old.receivers) × (new.bound ≡ old.bound) × SameClosed old new
+
+  -- no message came or went, and both lines are as before
+  abbrev pub Unchanged : Messages T W → Messages T W → Type 0
+  Unchanged old new = (new.messages.items ≡ old.messages.items) × (new.here.free ≡ old.here.free) × (new.here.given ≡ old.here.given) × (new.room.free ≡ old.room.free) × (new.room.given ≡ old.room.given) × (waiting new.here.line ≡ waiting old.here.line) × (waiting new.room.line ≡ waiting old.room.line)
+
+  -- a send asked for room, unless all receivers are gone
+  abbrev pub SendLed : Answer → Messages T W → Option ℕ → Option W → Messages T W → Option ℕ → Option W → Type 0
+  SendLed answer old place waker new place' spare = MatchBool old.room.closed ((answer ≡ Closed) × Same old.room new.room × (place' ≡ place) × (spare ≡ waker)) (Polled answer old.room place waker new.room place' spare)

@@ -1,0 +1,86 @@
+//! What a `Notify` keeps under its lock: at most one notification that nobody has, and the line of those who wait for one.
+ghost use Rattle.std.specs.Prelude.{◌≡◌, ◌≢◌, ◌<◌, ◌≤◌, ◌+◌, ◌^◌, ◌⊎◌, [], None, Some, true, false, IfOk, IfSome, IsSome, length};
+ghost use Rattle.std.specs.Option.{option_to_list};
+
+use crate::due::{Due, Notice, Step};
+use crate::line::Place;
+use crate::permits::{Answer, Asked, Permits};
+use std::alloc::{AllocError, Global};
+
+/// Notifications: one that is kept, those that are assigned to a waiter, and the line.
+#[derive(Drop)]
+pub struct Notices<W: Drop> {
+    pub(crate) permits: Permits<W>,
+    ghost one_is_kept: { permits.free ≤ 1 },
+    ghost open: { permits.closed ≡ false },
+}
+
+impl<W: Drop> Notices<W> {
+    ghost use Rattle.future_parts.specs.Lines.{waiting, spot, FirstOut};
+    ghost use Rattle.future_parts.specs.Asking.{Same, SameCounts, SameLine, LeavesLine, HandedOn, NotRefused, Polled, woken_by};
+    ghost use Rattle.future_parts.specs.Notifying.{Notified, Told};
+
+    /// No notification, and memory for `room` waiters. An error says that memory was refused.
+    pub fn new(alloc: Global, room: usize) -> Result<Notices<W>, AllocError>
+        ensures none { IfOk result (λ state. (state.permits.free ≡ 0) × (state.permits.given ≡ 0)) }
+        ensures line { IfOk result (λ state. (waiting state.permits.line ≡ []) × (state.permits.line.room ≡ room)) }
+    {
+        let permits = Permits::new(alloc, 0, room)?;
+        Ok(Notices { permits })
+    }
+
+    /// Notifies the waiter that came first. Where none waits the notification is kept, unless one is.
+    pub fn notify_one(&mut self) -> Due<W>
+        ensures { Notified self.old.permits self.new.permits result.waker }
+    {
+        if self.permits.free > 0 {
+            return Due { waker: None };
+        }
+        self.permits.add()
+    }
+
+    /// Asks for a notification, as `Permits::poll_take`.
+    pub fn poll_take(&mut self, place: &mut Place, waker: Option<W>) -> Asked<W>
+        ensures polled { Polled result.answer self.old.permits place.old.number waker self.new.permits place.new.number result.spare }
+        ensures reserved { NotRefused result.answer self.old.permits waker }
+        ensures outside { result.answer ≡ Answer.Taken → place.new.number ≡ None }
+    {
+        self.permits.poll_take(place, waker)
+    }
+
+    /// Gives a place up. Its waiter leaves the line, and a notification that was assigned to it notifies another.
+    pub fn leave(&mut self, place: Place) -> (Due<W>, Option<W>)
+        ensures out { IfSome (spot place.number (waiting self.old.permits.line)) (λ index. LeavesLine self.old.permits self.new.permits index × (result.0.waker ≡ None)) }
+        ensures on { spot place.number (waiting self.old.permits.line) ≡ None → IsSome place.number → 0 < self.old.permits.given → self.old.permits.free ≡ 0 → HandedOn self.old.permits self.new.permits result.0.waker }
+        ensures none { spot place.number (waiting self.old.permits.line) ≡ None → (self.old.permits.given ≡ 0) ⊎ (place.number ≡ None) → Same self.old.permits self.new.permits × (result.0.waker ≡ None) }
+    {
+        let (had, spare) = self.permits.end(place);
+        if had {
+            (self.notify_one(), spare)
+        } else {
+            (Due { waker: None }, spare)
+        }
+    }
+
+    /// Begins to notify all that wait now.
+    pub fn notify_waiters(&self) -> Notice
+        ensures { result.limit ≡ self.now.permits.line.next }
+    {
+        Notice {
+            limit: self.permits.line.next,
+        }
+    }
+
+    /// A step of it: notifies the waiter that came first. Done where that one joined later, or none waits.
+    pub fn tell(&mut self, notice: Notice) -> Step<W, Notice>
+        ensures { Told notice.limit self.old.permits self.new.permits result }
+    {
+        match self.permits.line.first_number() {
+            Some(number) if number < notice.limit => Step::Next(self.permits.add(), notice),
+            _ => {
+                let Notice { limit: _ } = notice;
+                Step::Done
+            }
+        }
+    }
+}
