@@ -1,40 +1,60 @@
 //! The program that prints how long operations of the library take, or does them alone for those who count what they do; and that measures the pool of
 //! `executor`: tasks in a second, and the memory of a task.
-//! It stands on `async_task`, on `executor`, `task_group` and `awaiters` for the pool, and on `bench_report` for the arguments, the names, the tables and
-//! the allocator that counts.
-//! A user runs it. Of the pool `pool_tasks` has the futures, and `on_pool` the lines.
+//! It stands on `async_task`, on `executor` and `executor_parts` for the pool, and on `rows_fixtures` for the allocator that counts.
+//! A user runs it. `operations` has the benchmarks, and `pool` the lines of the pool.
 //! Nothing is public only to carry a claim.
 //! The page is docs/PERFORMANCE.md.
 #![tactic(auto)]
 
-mod benchmark;
-mod contended;
-mod measure;
-mod on_pool;
-mod pool_tasks;
-mod queue;
-mod report;
-mod requests;
-mod slot;
-mod task_futures;
+mod arguments;
+mod failure;
+mod operations;
+mod pool;
+mod times;
 
-use bench_report::arguments::{answer, refuse};
-use bench_report::failure::Failure;
-use bench_report::lines::{Line, Size};
-use bench_report::operations::Command;
-use bench_report::tally::Measured;
-use on_pool::JobPool;
+use arguments::{Request, asked, print_help, refuse};
+use failure::{Failure, status_of};
+use operations::benchmark::perform;
+use std::alloc::Global;
+use std::fs::Files;
+use std::io::{Eprint, Print};
 use std::process::ExitCode;
+use std::rt::Clock;
+use std::sync::Wait;
+use std::thread::Threads;
 use std::{env, io};
+
+// Does what is asked for.
+fn act<R>(rt: R, alloc: Global, request: Request) -> Result<(), Failure>
+where
+    R: Clock + Files + Threads + Wait + Print + Eprint + Drop + Copy + Send + Sync + 'static,
+{
+    match request {
+        Request::Nothing => Ok(()),
+        Request::Help => Ok(print_help(&rt)?),
+        Request::Check => {
+            operations::print_check(rt, alloc)?;
+            pool::print_check(rt, alloc)
+        }
+        Request::Measure(repetitions) => operations::print_all(rt, alloc, repetitions),
+        Request::Perform(benchmark, count) => {
+            perform(benchmark, rt, alloc, count)?;
+            Ok(())
+        }
+        Request::CheckPool => pool::print_check(rt, alloc),
+        Request::MeasurePool(tasks) => pool::print_table(rt, alloc, tasks),
+        Request::MeasureLine(line, size) => pool::print_one(rt, alloc, line, size),
+    }
+}
 
 fn main(rt: HostRuntime) -> io::Result<ExitCode> {
     let alloc = rt.alloc();
-    let mut err = rt.stderr();
+    let err = rt.stderr();
     let words = match env::args(&rt) {
         Ok(words) => words,
         // An argument is not UTF-8.
         Err(error) if error.kind() == io::ErrorKind::InvalidData => {
-            return Ok(ExitCode::from(refuse(&mut err)));
+            return Ok(ExitCode::from(refuse(&err)));
         }
         Err(error) => return Err(error),
     };
@@ -42,18 +62,9 @@ fn main(rt: HostRuntime) -> io::Result<ExitCode> {
     for arg in words.skip(1) {
         args.push(arg)?;
     }
-    let mut out = io::writer(&rt);
-    let act = |command: Command| -> Result<(), Failure> {
-        let mut out = io::writer(&rt);
-        let mut err = rt.stderr();
-        report::act(rt, alloc, command, &mut out, &mut err)
+    let status = match asked(args.as_slice()) {
+        Some(request) => status_of(act(rt, alloc, request), &err),
+        None => refuse(&err),
     };
-    // The workers start here, where the runtime is known.
-    let measure = |line: Line, size: Size| -> Result<Measured, Failure> {
-        let pool = JobPool::new(rt, alloc, size.threads)?;
-        let worker = |worker: usize| pool.run(worker).is_ok();
-        on_pool::measure(rt, alloc, &pool, line, size, &worker)
-    };
-    let status = answer(alloc, args.as_slice(), &act, &measure, &mut out, &mut err);
     Ok(ExitCode::from(status))
 }

@@ -1,14 +1,15 @@
 //! What rows and tests stand on: futures and schedule values that count what happens to them, a queue, and stores of handles;
-//! what they look at afterwards, as counters, an awaiter, outputs and how a row ended;
+//! what they look at afterwards, as counters, an awaiter, outputs, how a row ended, and what an allocator was asked for;
 //! and the names of the rows, with what `rows_program` prints of them.
-//! It stands on `async_task` and `priority_heap`.
-//! A user calls nothing of it; rows and tests do.
+//! It stands on `async_task` and `executor_parts`.
+//! A user calls nothing of it; rows and tests do, and `bench_tasks` of the allocator that counts.
 //! Nothing is public only to carry a claim.
 //! The page is that of `rows_program`.
 #![tactic(auto)]
 
 pub mod behaviour;
 pub mod counters;
+pub mod counting;
 pub mod executor;
 pub mod fixture;
 pub mod flag;

@@ -1,6 +1,6 @@
 //! The tests of tasks under executors of other kinds (a queue by priority, a slot, a heap), of what awaits them (awaiters, groups, the kit's futures),
 //! of refused memory, and of threads that race.
-//! It stands on `rows_fixtures`, `priority_heap`, `awaiters`, `task_group`, `kit_bridge` and `bench_report`. Nothing is public. The page is docs/PROOFS.md.
+//! It stands on `rows_fixtures`, `executor_parts` and `kit_bridge`. Nothing is public. The page is docs/PROOFS.md.
 #![tactic(auto)]
 
 #[cfg(test)]

@@ -8,10 +8,10 @@ use async_task::{
     Builder, Future, Poll, Runnable, Schedule, ScheduleInfo, SpawnError, Task, TaskWaker, Yields,
     spawn,
 };
-use bench_report::counting::Counting;
 use linked_list_allocator::LocalHeap;
 use rows_fixtures::behaviour::Behaviour;
 use rows_fixtures::counters::{Counter, Counters, Counts};
+use rows_fixtures::counting::Counting;
 use rows_fixtures::flag::Flag;
 use rows_fixtures::future::RowFuture;
 use rows_fixtures::output::{Output, is_ready_with};

@@ -1,6 +1,6 @@
 //! The tests of handles that no worked row makes: of the builder, and of Tasks and wakers; and of the block below them, `counted_block`, from above, in safe code:
 //! a pointer that several owners share, and the calls that it does not make.
-//! It stands on `rows_fixtures`, `bench_report`, `async_task` and `counted_block`. The pointer alone is public. The page is docs/PROOFS.md, of the block that of `counted_block`.
+//! It stands on `rows_fixtures`, `async_task` and `counted_block`. The pointer alone is public. The page is docs/PROOFS.md, of the block that of `counted_block`.
 #![tactic(auto)]
 
 #[cfg(test)]

@@ -1,38 +1,9 @@
-//! What the counting allocator counts, and the rates, times and bytes that the benchmarks print.
+//! What the counting allocator counts.
 //! Of what is only tested (docs/PROOFS.md): Memory and limits.
 
 use crate::stops::granted;
-use bench_report::counting::Counting;
-use bench_report::memory::resident_of;
-use bench_report::times::{Hundredths, hundredths_of_one, per_second, summarize};
+use rows_fixtures::counting::Counting;
 use std::alloc::{AllocError, Allocator};
-use std::time::Duration;
-
-const STATUS: &str = "Name:\tbench\nVmHWM:\t 900 kB\nVmRSS:\t 812 kB\nThreads:\t1\n";
-
-#[test]
-fn memory_and_rates_are_read(rt: HostRuntime) {
-    let is_known = resident_of(STATUS) == Some(812 * 1024);
-    let is_unknown = resident_of("VmRSS: much kB").is_none() && resident_of("").is_none();
-    assert!(rt; is_known && is_unknown);
-    assert!(rt; per_second(500, Duration::from_millis(250)) == 2000);
-    assert!(rt; per_second(500, Duration::from_millis(0)) == 0);
-}
-
-#[test]
-fn times_are_shown_in_nanoseconds(rt: HostRuntime) {
-    let time = Hundredths(hundredths_of_one(Duration::from_nanos(1207), 100));
-    let shown = granted(&rt, format!(in rt.alloc(); "{time}"));
-    assert!(rt; shown.as_str() == "12.07");
-}
-
-#[test]
-fn the_median_and_the_least_are_found(rt: HostRuntime) {
-    let four = granted(&rt, vec![in rt.alloc(); 7u64, 3, 9, 5]);
-    let found = granted(&rt, summarize(four));
-    assert!(rt; found.median == 7 && found.least == 3);
-    assert!(rt; summarize(Vec::new(rt.alloc())).is_err());
-}
 
 // How many blocks were asked for, and of how many bytes.
 fn counted<B: Allocator>(counting: &Counting<B>) -> (u64, u64) {

@@ -1,13 +1,11 @@
-//! The tests of the machine as a program (lives of a task, replayed, and each reason to refuse a step), and of what programs print and count.
-//! It stands on `task_replay`, `bench_report` and `rows_fixtures`. Nothing is public. The page is docs/PROOFS.md.
+//! The tests of the machine as a program (lives of a task, replayed, and each reason to refuse a step), of what programs print, and of the allocator that counts.
+//! It stands on `task_replay` and `rows_fixtures`. Nothing is public. The page is docs/PROOFS.md.
 #![tactic(auto)]
 
 #[cfg(test)]
 mod count_tests;
 #[cfg(test)]
 mod crowd;
-#[cfg(test)]
-mod execution_tests;
 #[cfg(test)]
 mod limited;
 #[cfg(test)]

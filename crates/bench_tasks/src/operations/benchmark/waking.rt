@@ -1,10 +1,10 @@
 //! Wakes of one task, with the runs that they lead to, and looks at its Task.
 
-use crate::queue::{Queue, QueueTask, QueueWaker};
-use crate::slot::{Slot, SlotWaker};
-use crate::task_futures::{Pending, Ready, Yielding};
+use crate::failure::Failure;
+use crate::operations::queue::{Queue, QueueTask, QueueWaker};
+use crate::operations::slot::{Slot, SlotWaker};
+use crate::operations::task_futures::{Pending, Ready, Yielding};
 use async_task::{TaskPoll, Yields};
-use bench_report::failure::Failure;
 use executor_parts::Nobody;
 use std::alloc::{AllocError, Allocator};
 use std::sync::Wait;

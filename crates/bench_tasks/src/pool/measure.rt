@@ -1,9 +1,9 @@
-//! The lines on the pool of `executor`.
+//! The measurement of a line on a pool of `executor`.
 
-use crate::pool_tasks::{Job, Row};
-use bench_report::failure::Failure;
-use bench_report::lines::{Line, Size};
-use bench_report::tally::{Measured, Start, Tally};
+use crate::failure::Failure;
+use crate::pool::lines::{Line, Size};
+use crate::pool::tally::{Measured, Start, Tally};
+use crate::pool::tasks::{Job, Row};
 use executor::{Place, Pool, ToPool};
 use executor_parts::{Awaiter, TaskGroup};
 use std::alloc::Global;
@@ -13,8 +13,8 @@ use std::sync::{Arc, Wait};
 use std::thread;
 use std::thread::Threads;
 
-/// A pool of these tasks.
-pub type JobPool<R> = Pool<R, Job<R>, Awaiter<R>>;
+// A pool of these tasks.
+type JobPool<R> = Pool<R, Job<R>, Awaiter<R>>;
 
 // A group of their Tasks.
 type JobGroup<'x, R> = TaskGroup<
@@ -35,62 +35,47 @@ struct Course {
     start: Start,
 }
 
-/// Measures a line once, on a pool that is empty. `worker` is the worker of a number of this pool until it is shut down.
-///
-/// It is written where the runtime is known, since code that is generic in it cannot show that it outlives the pool.
+/// Measures a line once, on a pool of its own.
 ///
 /// An error says that not all tasks ended, or that there was no memory, or that the clock failed.
-pub fn measure<R, W>(
-    rt: R,
-    alloc: Global,
-    pool: &JobPool<R>,
-    line: Line,
-    size: Size,
-    worker: &W,
-) -> Result<Measured, Failure>
+pub fn measure_line<R>(rt: R, alloc: Global, line: Line, size: Size) -> Result<Measured, Failure>
 where
-    R: Clock + Files + Threads + Wait + Drop + Copy + Send + Sync,
-    W: Fn(usize) -> bool + Sync,
-    requires { W.IsAlwaysCallable worker.now }
+    R: Clock + Files + Threads + Wait + Drop + Copy + Send + Sync + 'static,
 {
+    let pool = JobPool::new(rt, alloc, size.threads)?;
     if line == Line::Group {
-        await_group(&rt, alloc, pool, size, worker)
-    } else {
-        let tally = Tally::new(alloc, size.tasks)?;
-        let row = Row::new(alloc, &tally, line == Line::Chain)?;
-        let start = Start::new(&rt, alloc)?;
-        let course = Course {
-            line,
-            tally,
-            row,
-            start,
-        };
-        run(&rt, alloc, pool, &course, worker)
+        return await_group(&rt, alloc, &pool, size.tasks);
     }
+    let tally = Tally::new(alloc, size.tasks)?;
+    let row = Row::new(alloc, &tally, line == Line::Chain)?;
+    let start = Start::new(&rt, alloc)?;
+    let course = Course {
+        line,
+        tally,
+        row,
+        start,
+    };
+    run(&rt, alloc, &pool, &course)
+}
+
+// Is a worker until the pool is shut down: whether there was such a worker.
+fn work<R: Wait + Drop + Copy + 'static>(pool: &JobPool<R>, worker: usize) -> bool {
+    pool.run(worker).is_ok()
 }
 
 // Runs all workers, each on a thread.
-fn work<R, W>(rt: &R, alloc: Global, workers: usize, worker: &W)
+fn work_all<R>(rt: &R, alloc: Global, pool: &JobPool<R>)
 where
-    R: Threads + Sync,
-    W: Fn(usize) -> bool + Sync,
-    requires { W.IsAlwaysCallable worker.now }
+    R: Threads + Wait + Drop + Copy + Send + Sync + 'static,
 {
-    drop(thread::map_indices(rt, alloc, workers, worker));
+    let worker = |worker: usize| work(pool, worker);
+    drop(thread::map_indices(rt, alloc, pool.workers(), &worker));
 }
 
 // Spawns all tasks of a line, has the workers run them, and measures it.
-fn run<R, W>(
-    rt: &R,
-    alloc: Global,
-    pool: &JobPool<R>,
-    course: &Course,
-    worker: &W,
-) -> Result<Measured, Failure>
+fn run<R>(rt: &R, alloc: Global, pool: &JobPool<R>, course: &Course) -> Result<Measured, Failure>
 where
-    R: Clock + Files + Threads + Wait + Drop + Copy + Send + Sync,
-    W: Fn(usize) -> bool + Sync,
-    requires { W.IsAlwaysCallable worker.now }
+    R: Clock + Files + Threads + Wait + Drop + Copy + Send + Sync + 'static,
 {
     if course.line.is_row() {
         spawn_row(alloc, pool, &course.row)?;
@@ -100,10 +85,8 @@ where
     let grown = course.start.grown(rt, alloc);
     let (elapsed, ()) = thread::join(
         rt,
-        ||
-            requires { W.IsAlwaysCallable worker.now }
-        {
-            work(rt, alloc, pool.workers(), worker);
+        || {
+            work_all(rt, alloc, pool);
             course.start.elapsed(rt)
         },
         || oversee(rt, pool, course),
@@ -167,27 +150,17 @@ fn hand_over<R: Wait + Drop + Copy>(pool: &JobPool<R>, tally: &Tally, row: &Row)
 }
 
 // As `run`, of tasks that are ready at once, whose outputs this thread awaits in a group while the workers run them.
-fn await_group<R, W>(
-    rt: &R,
-    alloc: Global,
-    pool: &JobPool<R>,
-    size: Size,
-    worker: &W,
-) -> Result<Measured, Failure>
+fn await_group<R>(rt: &R, alloc: Global, pool: &JobPool<R>, tasks: u64) -> Result<Measured, Failure>
 where
-    R: Clock + Files + Threads + Wait + Drop + Copy + Send + Sync,
-    W: Fn(usize) -> bool + Sync,
-    requires { W.IsAlwaysCallable worker.now }
+    R: Clock + Files + Threads + Wait + Drop + Copy + Send + Sync + 'static,
 {
-    let tally = Tally::new(alloc, size.tasks)?;
+    let tally = Tally::new(alloc, tasks)?;
     let start = Start::new(rt, alloc)?;
     let mut group = spawn_group(*rt, alloc, pool, &tally)?;
     let grown = start.grown(rt, alloc);
     let (_, (elapsed, answered)) = thread::join(
         rt,
-        ||
-            requires { W.IsAlwaysCallable worker.now }
-        { work(rt, alloc, pool.workers(), worker) },
+        || work_all(rt, alloc, pool),
         || {
             let answered = answers_of(rt, pool, &tally, &mut group);
             (start.elapsed(rt), answered)

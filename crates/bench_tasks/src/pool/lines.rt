@@ -1,7 +1,7 @@
-//! What is measured.
+//! The lines of the pool: their names, and what the tasks of each do.
 
 /// What the tasks do.
-#[derive(Clone, Copy, Debug, PartialEq, Eq)]
+#[derive(Clone, Copy, PartialEq)]
 pub enum Line {
     /// Each is ready at its first poll.
     Spawn,
@@ -61,7 +61,7 @@ impl Line {
 }
 
 /// How many tasks, and how many threads.
-#[derive(Clone, Copy, Debug, PartialEq, Eq)]
+#[derive(Clone, Copy)]
 pub struct Size {
     /// How many tasks. At least one.
     pub tasks: u64,

@@ -32,12 +32,12 @@ use prog.Memory.{size, align, capped}
 use types.ByLocal.{alloc_all, pass_all, free_all, look_at, get, sets, lands_as}
 use types.Kit.{Item, ‵, raw, ◌⊛◌, some, later, ◌$◌, ◌∵◌, !, qed, done, move, drop, use0, use1, split, join, pick, rewrite, fsplit, fjoin, feq_l, feq_i, suffices, group, await}
 use types.Run.{of_opd, unit_lit, no_more, and_then, returns, enter}
-use Rattle.bench_report.proofs.Passing.{given, itself}
-use Rattle.bench_report.proofs.counting.Counting.below_returned.Met as counted
-use Rattle.bench_report.proofs.counting.CountingAllocator.deallocate.Code as code
-use Rattle.bench_report.proofs.counting.CountingAllocator.deallocate.Statement.{statement}
-use Rattle.bench_report.specs.contracts.counting.Counting.below_returned as counts
-use Rattle.bench_report.specs.contracts.counting.CountingAllocator.deallocate as here
+use Rattle.rows_fixtures.proofs.Passing.{given, itself}
+use Rattle.rows_fixtures.proofs.counting.Counting.below_returned.Met as counted
+use Rattle.rows_fixtures.proofs.counting.CountingAllocator.deallocate.Code as code
+use Rattle.rows_fixtures.proofs.counting.CountingAllocator.deallocate.Statement.{statement}
+use Rattle.rows_fixtures.specs.contracts.counting.Counting.below_returned as counts
+use Rattle.rows_fixtures.specs.contracts.counting.CountingAllocator.deallocate as here
 
 abbrev stayed : (B : RattleType) (ghosts : Ghosts B.Denot) (calls destruct : Dict) → Stays (here.ended B ghosts calls destruct).signature.params (here.ended B ghosts calls destruct).kept
 stayed B ghosts calls destruct = (stay_dropped (itself B) yes, (stay_dropped (plain (λ _. RawPtr)) yes, (stay_dropped (plain (λ _. usize)) yes, (stay_dropped (plain (λ _. usize)) yes, tt))))
@@ -63,7 +63,7 @@ deallocate_spec 𝓤 𝓛 𝓜 𝓡 wired B laws ghosts calls destruct met drops
     nothing ! $ owned ! usize _ (uint_Makes 𝓛 w64) bytes _ (refl, are.1.1.0.1) $ fjoin ! $ move ! (1 ∷ 0 ∷ []) $ fjoin ! $ move ! (2 ∷ 0 ∷ []) $ join ! $
     nothing ! $ use0 𝓛 (raw Lives) (fact_i 𝓤 (κs.1.0 ⊑ B.lives) (emp 𝓤) lives) $ join ! $ move ! (1 ∷ 0 ∷ []) $ join ! $ use1 𝓛 (raw (Count.pre z)) (id⊢ 𝓤 _) $
     enter ! _ _ _ _ _ $ alloc_all ! (λ l. pass_all ! refl ((tt, tt), (((rawptr_Lawful 𝓛).typed place _ refl).0, ((tt, record { fits = are.1.1.0.1 }), ((tt, record { fits = are.1.1.1.0.1 }), tt)))) $
-    calls_at ! (framed 𝓤 𝓛.H 𝓜 (tables 𝓤 𝓛.H 𝓜 𝓡 𝓡.env)) Count (counted.met 𝓤 𝓛 𝓜 𝓡 (code.calls-bench_report::counting::Counting::below_returned 𝓡.env wired) B laws ghosts calls destruct met drops) z (and_then ! (get ! refl) (and_then ! (get ! refl) (no_more !))) (λ v.
+    calls_at ! (framed 𝓤 𝓛.H 𝓜 (tables 𝓤 𝓛.H 𝓜 𝓡 𝓡.env)) Count (counted.met 𝓤 𝓛 𝓜 𝓡 (code.calls-rows_fixtures::counting::Counting::below_returned 𝓡.env wired) B laws ghosts calls destruct met drops) z (and_then ! (get ! refl) (and_then ! (get ! refl) (no_more !))) (λ v.
     use1 𝓛 (later (some (λ (x : Bor B.Denot). (Alive ⊛ ‵ ((type_at (counts.signature B).result κs).own_val x (v ∷ []))) ⊛
     some (λ (ws : Lasts (counts.ended B ghosts calls destruct) κs z.0.3). ‵ (lasts (counts.ended B ghosts calls destruct) κs z.0.3 ws) ⊛ raw (fact 𝓤 (x.now ≡ self.now.below)))))) (id⊢ 𝓤 _) $
     await ! tt $ pick ! (λ x. split ! $ split ! $ move ! (2 ∷ []) $ pick ! (λ ws. split ! $ drop ! $ heard ! (x.now ≡ self.now.below) (λ same.

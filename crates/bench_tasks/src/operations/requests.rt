@@ -1,10 +1,9 @@
 //! What one operation of a benchmark asks of its allocator.
 
-use crate::benchmark::perform;
-use bench_report::benchmark::Benchmark;
-use bench_report::counting::Counting;
-use bench_report::failure::Failure;
-use bench_report::times::Hundredths;
+use crate::failure::Failure;
+use crate::operations::benchmark::{Benchmark, perform};
+use crate::times::Hundredths;
+use rows_fixtures::counting::Counting;
 use std::alloc::Global;
 use std::sync::Wait;
 

@@ -1,8 +1,8 @@
 //! What the threads of a measurement share: whether they are to work, and what they did.
 
-use crate::queue::{Queue, QueueWaker};
-use crate::task_futures::Pending;
-use bench_report::benchmark::Contention;
+use crate::operations::contended::Contention;
+use crate::operations::queue::{Queue, QueueWaker};
+use crate::operations::task_futures::Pending;
 use std::hint::spin_loop;
 use std::rt::Clock;
 use std::sync::Wait;

@@ -1,8 +1,8 @@
 //! An executor with one queue: many tasks, each of which gives way a number of times.
 
-use crate::queue::Queue;
-use crate::task_futures::Yielding;
-use bench_report::failure::Failure;
+use crate::failure::Failure;
+use crate::operations::queue::Queue;
+use crate::operations::task_futures::Yielding;
 use std::alloc::{AllocError, Allocator};
 use std::sync::Wait;
 

@@ -11,8 +11,8 @@ pub fn resident<R: Files>(rt: &R, alloc: Global) -> Option<u64> {
     resident_of(text.as_str())
 }
 
-/// The bytes that such a text names, in a line as `VmRSS: 1024 kB`.
-pub fn resident_of(text: &str) -> Option<u64> {
+// The bytes that such a text names, in a line as `VmRSS: 1024 kB`.
+fn resident_of(text: &str) -> Option<u64> {
     for line in text.lines() {
         if let Some(rest) = line.strip_prefix("VmRSS:") {
             let number = rest.split_whitespace().next()?;

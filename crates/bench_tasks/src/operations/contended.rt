@@ -1,12 +1,11 @@
-//! The benchmarks in which several threads use wakers of one task.
+//! The benchmarks in which several threads use wakers of one task: their names, and what they measure.
 
 mod phases;
 
-use crate::queue::{Queue, QueueRunnable, QueueWaker};
-use crate::task_futures::Pending;
-use bench_report::benchmark::Contention;
-use bench_report::failure::Failure;
-use bench_report::times::{Summary, hundredths_of_one, per_second, summarize};
+use crate::failure::Failure;
+use crate::operations::queue::{Queue, QueueRunnable, QueueWaker};
+use crate::operations::task_futures::Pending;
+use crate::times::{Summary, hundredths_of_one, per_second, summarize};
 use phases::Phases;
 use std::alloc::{AllocError, Global};
 use std::rt::Clock;
@@ -14,6 +13,48 @@ use std::sync::Wait;
 use std::thread;
 use std::thread::Threads;
 use std::time::{Duration, Instant};
+
+/// A benchmark in which several threads use wakers of one task, by what each does with its waker.
+#[derive(Clone, Copy)]
+pub enum Contention {
+    /// It wakes the task, which one more thread runs.
+    WakeStorm,
+    /// It clones the waker and drops the clone.
+    CloneDrop,
+    /// As the first, where all threads wake by one waker.
+    OneWaker,
+}
+
+impl Contention {
+    /// All of them, in the order in which they are printed.
+    pub const ALL: [Contention; 3] = [
+        Contention::WakeStorm,
+        Contention::CloneDrop,
+        Contention::OneWaker,
+    ];
+
+    /// The name that is printed before the number of threads.
+    pub fn name(self) -> &'static str {
+        match self {
+            Contention::WakeStorm => "f_wake_storm",
+            Contention::CloneDrop => "g_clone_drop",
+            Contention::OneWaker => "h_one_waker",
+        }
+    }
+
+    /// Whether one more thread runs the task.
+    pub fn runs(self) -> bool {
+        matches!(self, Contention::WakeStorm | Contention::OneWaker)
+    }
+
+    /// How many wakers that many threads have.
+    pub fn wakers(self, threads: u32) -> u32 {
+        match self {
+            Contention::WakeStorm | Contention::CloneDrop => threads,
+            Contention::OneWaker => 1,
+        }
+    }
+}
 
 /// What such a benchmark gave.
 #[derive(Drop)]

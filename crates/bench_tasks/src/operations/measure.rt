@@ -1,9 +1,8 @@
 //! How long one operation of a benchmark takes.
 
-use crate::benchmark::perform;
-use bench_report::benchmark::Benchmark;
-use bench_report::failure::Failure;
-use bench_report::times::{Summary, hundredths_of_one, summarize};
+use crate::failure::Failure;
+use crate::operations::benchmark::{Benchmark, perform};
+use crate::times::{Summary, hundredths_of_one, summarize};
 use std::alloc::Global;
 use std::rt::Clock;
 use std::sync::Wait;

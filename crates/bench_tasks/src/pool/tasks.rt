@@ -1,8 +1,8 @@
 //! The futures that are run on the pool.
 ghost use Rattle.std.specs.Prelude.{⊤};
 
+use crate::pool::tally::Tally;
 use async_task::{Future, Poll, Yields};
-use bench_report::tally::Tally;
 use executor::{Key, Place, PoolWaker, keep_new_waker, wake_kept};
 use executor_parts::Awaiter;
 use std::alloc::{AllocError, Global};

@@ -2,7 +2,7 @@
 ghost use Rattle.std.specs.Prelude.{◌≡◌, IfOk};
 
 use crate::failure::Failure;
-use crate::memory::resident;
+use crate::pool::memory::resident;
 use std::alloc::{AllocError, Global};
 use std::fs::Files;
 use std::rt::Clock;
@@ -97,7 +97,7 @@ pub struct Start {
 }
 
 /// What a measurement found.
-#[derive(Clone, Copy, Debug, PartialEq, Eq)]
+#[derive(Clone, Copy)]
 pub struct Measured {
     /// How many tasks ended.
     pub ended: u64,

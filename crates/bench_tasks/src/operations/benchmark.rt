@@ -1,7 +1,15 @@
-//! The benchmarks of `bench_tasks`, by what one operation of each is, and their names.
+//! The benchmarks of one thread: their names, and what one operation of each does.
+
+mod executing;
+mod spawning;
+mod waking;
+
+use crate::failure::Failure;
+use std::alloc::Allocator;
+use std::sync::Wait;
 
 /// A benchmark of one thread, by what one operation of it is.
-#[derive(Clone, Copy, Debug, PartialEq, Eq)]
+#[derive(Clone, Copy)]
 pub enum Benchmark {
     /// A spawn, a run to the output, a poll of the Task and its drop.
     SpawnRunPollDrop,
@@ -101,44 +109,32 @@ impl Benchmark {
     }
 }
 
-/// A benchmark in which several threads use wakers of one task, by what each does with its waker.
-#[derive(Clone, Copy)]
-pub enum Contention {
-    /// It wakes the task, which one more thread runs.
-    WakeStorm,
-    /// It clones the waker and drops the clone.
-    CloneDrop,
-    /// As the first, where all threads wake by one waker.
-    OneWaker,
-}
-
-impl Contention {
-    /// All of them, in the order in which they are printed.
-    pub const ALL: [Contention; 3] = [
-        Contention::WakeStorm,
-        Contention::CloneDrop,
-        Contention::OneWaker,
-    ];
-
-    /// The name that is printed before the number of threads.
-    pub fn name(self) -> &'static str {
-        match self {
-            Contention::WakeStorm => "f_wake_storm",
-            Contention::CloneDrop => "g_clone_drop",
-            Contention::OneWaker => "h_one_waker",
+/// Does `count` operations, or the next whole number of executors' tasks: how many it did.
+pub fn perform<R: Wait + Drop + Copy, B: Allocator + Copy>(
+    benchmark: Benchmark,
+    rt: R,
+    alloc: B,
+    count: u64,
+) -> Result<u64, Failure> {
+    let done = match benchmark {
+        Benchmark::SpawnRunPollDrop => spawning::run_and_poll(rt, alloc, count),
+        Benchmark::SpawnDetachRun => spawning::detach_and_run(rt, alloc, count),
+        Benchmark::SpawnPollRunPollDrop => spawning::poll_run_and_poll(rt, alloc, count),
+        Benchmark::WakeRunSlot => waking::wake_and_run_by_slot(rt, alloc, count),
+        Benchmark::WakeRunQueue => waking::wake_and_run_by_queue(rt, alloc, count),
+        Benchmark::SelfWakeRunSlot => waking::wake_in_run(rt, alloc, count),
+        Benchmark::WakeScheduled => waking::wake_scheduled(rt, alloc, count),
+        Benchmark::WakeCompleted => waking::wake_completed(rt, alloc, count),
+        Benchmark::IsFinished => waking::is_finished(rt, alloc, count),
+        Benchmark::RegisterAwaiter => waking::register_awaiter(rt, alloc, count),
+        Benchmark::CloneDrop => waking::clone_and_drop(rt, alloc, count),
+        Benchmark::SpawnDropDrop => spawning::drop_both(rt, alloc, count),
+        Benchmark::Execute1000 => return executing::execute(rt, alloc, 1000, 0, count),
+        Benchmark::Execute1000Yield10 => return executing::execute(rt, alloc, 1000, 10, count),
+        Benchmark::Execute10000Yield10 => {
+            return executing::execute(rt, alloc, 10_000, 10, count);
         }
-    }
-
-    /// Whether one more thread runs the task.
-    pub fn runs(self) -> bool {
-        matches!(self, Contention::WakeStorm | Contention::OneWaker)
-    }
-
-    /// How many wakers that many threads have.
-    pub fn wakers(self, threads: u32) -> u32 {
-        match self {
-            Contention::WakeStorm | Contention::CloneDrop => threads,
-            Contention::OneWaker => 1,
-        }
-    }
+    };
+    done?;
+    Ok(count)
 }

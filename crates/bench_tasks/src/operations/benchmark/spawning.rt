@@ -1,9 +1,9 @@
 //! Tasks from their spawn to their end.
 
-use crate::queue::{Queue, QueueTask};
-use crate::task_futures::Ready;
+use crate::failure::Failure;
+use crate::operations::queue::{Queue, QueueTask};
+use crate::operations::task_futures::Ready;
 use async_task::TaskPoll;
-use bench_report::failure::Failure;
 use executor_parts::Nobody;
 use std::alloc::{AllocError, Allocator};
 use std::sync::Wait;

@@ -5,7 +5,7 @@ use denote.Param.{bounded, param}
 use denote.RattleType.{RattleType}
 use denote.Signature.{Slot, plain}
 use mir.Syntax.{Args, Dict, a_type, dnil, dcons}
-use Rattle.bench_report.specs.contracts.counting.Counting as counting
+use Rattle.rows_fixtures.specs.contracts.counting.Counting as counting
 
 -- the type below, with its calls and its drop
 abbrev pub given : RattleType → Dict → Dict → Args

@@ -2,6 +2,7 @@
 ghost use Rattle.std.specs.Prelude.{◌≡◌, ◌≤◌, IsErr};
 
 use std::alloc::{AllocError, AllocFailed};
+use std::io::Print;
 use std::{fmt, io};
 
 /// Why a measurement has no answer.
@@ -54,13 +55,13 @@ impl fmt::Display for Failure {
     }
 }
 
-// The status of this program; a failure is told on `err`.
-pub(crate) fn status_of<E: io::Write>(program: &str, done: Result<(), Failure>, err: &mut E) -> u8
+/// The status of the program. A failure is told on `err`.
+pub fn status_of<P: Print>(done: Result<(), Failure>, err: &P) -> u8
     ensures status { result ≤ 1 }
     ensures failed { IsErr done → result ≡ 1 }
 {
     if let Err(failure) = &done {
-        let _ = writeln!(err, "{program}: {failure}");
+        let _ = println!(err; "bench_tasks: {failure}");
     }
     u8::from(done.is_err())
 }
