@@ -511,6 +511,7 @@ fn poll<R: Wait + Abort + Drop + Copy>(ground: &Ground<R>, task: &mut EndTask<'_
 enum Way {
     Claimed,
     Detached,
+    DetachedWithWaker,
     WakersLeft,
     CancelledScheduled,
     CancelledIdle,
@@ -518,7 +519,6 @@ enum Way {
     RunnableDropped,
     Orphaned,
     DroppedByScheduler,
-    Awaited,
 }
 
 // A task completes, and its Task claims the output.
@@ -536,6 +536,16 @@ fn complete_detached<R: Wait + Abort + Drop + Copy>(ground: &Ground<R>) {
     let (runnable, task) = spawn_in(ground, &desk, Act::Complete);
     detach(ground, task);
     run(ground, runnable);
+}
+
+// A detached task with a waker completes.
+fn complete_beside_waker<R: Wait + Abort + Drop + Copy>(ground: &Ground<R>) {
+    let desk = Desk::new(ground.rt);
+    let (runnable, task) = spawn_in(ground, &desk, Act::Complete);
+    let waker = waker_of(ground, &runnable);
+    detach(ground, task);
+    run(ground, runnable);
+    let_go(ground, waker);
 }
 
 // A task with two wakers completes, and its Task is dropped before them with the output.
@@ -560,11 +570,12 @@ fn cancel_scheduled<R: Wait + Abort + Drop + Copy>(ground: &Ground<R>) {
     let_go(ground, waker);
 }
 
-// An idle task loses its Task.
+// An idle task loses its Task, which has registered an awaiter.
 fn cancel_idle<R: Wait + Abort + Drop + Copy>(ground: &Ground<R>) {
     let desk = Desk::new(ground.rt);
-    let (runnable, task) = spawn_in(ground, &desk, Act::Wait);
+    let (runnable, mut task) = spawn_in(ground, &desk, Act::Wait);
     run(ground, runnable);
+    poll(ground, &mut task);
     let_go(ground, task);
     run_handed(ground, &desk);
 }
@@ -606,22 +617,13 @@ fn drop_in_scheduler<R: Wait + Abort + Drop + Copy>(ground: &Ground<R>) {
     ground.mark();
 }
 
-// An idle task loses its Task, which has registered an awaiter.
-fn cancel_awaited<R: Wait + Abort + Drop + Copy>(ground: &Ground<R>) {
-    let desk = Desk::new(ground.rt);
-    let (runnable, mut task) = spawn_in(ground, &desk, Act::Wait);
-    run(ground, runnable);
-    poll(ground, &mut task);
-    let_go(ground, task);
-    run_handed(ground, &desk);
-}
-
 // What is seen of a task that ends in that way.
 fn live<R: Wait + Abort + Drop + Copy>(rt: R, alloc: Global, way: Way) -> Life {
     let ground = Ground::new(rt, alloc);
     match way {
         Way::Claimed => claim(&ground),
         Way::Detached => complete_detached(&ground),
+        Way::DetachedWithWaker => complete_beside_waker(&ground),
         Way::WakersLeft => leave_wakers(&ground),
         Way::CancelledScheduled => cancel_scheduled(&ground),
         Way::CancelledIdle => cancel_idle(&ground),
@@ -629,87 +631,72 @@ fn live<R: Wait + Abort + Drop + Copy>(rt: R, alloc: Global, way: Way) -> Life {
         Way::RunnableDropped => drop_runnable(&ground),
         Way::Orphaned => orphan(&ground),
         Way::DroppedByScheduler => drop_in_scheduler(&ground),
-        Way::Awaited => cancel_awaited(&ground),
     }
     ground.life()
 }
 
-// Stops where a task that ends in that way does not live so: with those events, in one block, of which nothing is left.
-fn lives_so<R: Wait + Abort + Drop + Copy>(rt: R, alloc: Global, way: Way, events: &[Event]) {
-    let lived = live(rt, alloc, way);
-    assert!(rt; lived == Life::of(events), "{way:?}");
+// Each way, and the events of a life in one block, of which nothing is left.
+const LIVES: [(Way, &[Event]); 10] = [
+    // A poll that is ready hands the output out, and the poller drops it. The Task is the last handle.
+    (
+        Way::Claimed,
+        &[Held, Future, Held, Held, Output, Held, Kept, Kept, Freed],
+    ),
+    // The run drops an output that nobody can claim, after the future, and is the last handle.
+    (
+        Way::Detached,
+        &[Held, Held, Future, Output, Kept, Kept, Freed],
+    ),
+    // The run drops it also where a waker is left, which is the last handle.
+    (
+        Way::DetachedWithWaker,
+        &[Held, Held, Future, Output, Held, Kept, Kept, Freed],
+    ),
+    // The drop of the Task drops the output. The block stays until the last of two wakers is dropped.
+    (
+        Way::WakersLeft,
+        &[Held, Future, Held, Output, Held, Held, Kept, Kept, Freed],
+    ),
+    // The drop of the Task closes the task, and its Runnable, which is run, drops the future. The waker is the last handle.
+    (
+        Way::CancelledScheduled,
+        &[Held, Held, Future, Held, Kept, Kept, Freed],
+    ),
+    // The drop of the Task hands a Runnable over, and then wakes the awaiter. The future is dropped by that Runnable, the last handle.
+    (
+        Way::CancelledIdle,
+        &[Held, Held, Held, Held, Handed, Woken, Held, Future, Kept, Kept, Freed],
+    ),
+    // The run drops the future after its poll, and is the last handle. It hands nothing over, though the task was woken.
+    (Way::CancelledRunning, &[Held, Future, Kept, Kept, Freed]),
+    // The drop of the Runnable drops the future. The Task is the last handle.
+    (
+        Way::RunnableDropped,
+        &[Held, Future, Held, Kept, Kept, Freed],
+    ),
+    // The last waker hands a Runnable over, which drops the future and is the last handle. The awaiter is dropped unwoken as the slots are emptied, before the
+    // memory goes.
+    (
+        Way::Orphaned,
+        &[Held, Held, Held, Held, Held, Handed, Held, Future, Unwoken, Kept, Kept, Freed],
+    ),
+    // The detach hands a Runnable over, and has no handle left. The schedule value drops it, the last handle, and is kept with its block until it returns.
+    (
+        Way::DroppedByScheduler,
+        &[Held, Held, Handed, Future, Returned, Kept, Kept, Freed],
+    ),
+];
+
+// Stops where a task does not live so.
+fn each_lives_so<R: Wait + Abort + Drop + Copy>(rt: R, alloc: Global) {
+    for &(way, events) in &LIVES {
+        let lived = live(rt, alloc, way);
+        assert!(rt; lived == Life::of(events), "{way:?}");
+    }
 }
 
-// A poll that is ready hands the output out, and the poller drops it. The Task is the last handle.
+// The parts of a task are dropped once, in their order, and its block goes with the last handle, or with the call of the schedule value.
 #[test]
-fn the_task_of_a_claimed_output_is_the_last(rt: HostRuntime) {
-    let events = [Held, Future, Held, Held, Output, Held, Kept, Kept, Freed];
-    lives_so(rt, rt.alloc(), Way::Claimed, &events);
-}
-
-// The run drops an output that nobody can claim, after the future, and is the last handle.
-#[test]
-fn the_run_of_a_detached_task_is_the_last(rt: HostRuntime) {
-    let events = [Held, Held, Future, Output, Kept, Kept, Freed];
-    lives_so(rt, rt.alloc(), Way::Detached, &events);
-}
-
-// The drop of the Task drops the output. The block stays until the last of two wakers is dropped.
-#[test]
-fn wakers_keep_the_block_of_a_completed_task(rt: HostRuntime) {
-    let events = [Held, Future, Held, Output, Held, Held, Kept, Kept, Freed];
-    lives_so(rt, rt.alloc(), Way::WakersLeft, &events);
-}
-
-// The drop of the Task closes the task, and its Runnable, which is run, drops the future. The waker is the last handle.
-#[test]
-fn a_waker_keeps_the_block_of_a_cancelled_task(rt: HostRuntime) {
-    let events = [Held, Held, Future, Held, Kept, Kept, Freed];
-    lives_so(rt, rt.alloc(), Way::CancelledScheduled, &events);
-}
-
-// The drop of the Task hands a Runnable over, which drops the future and is the last handle.
-#[test]
-fn the_cancel_of_an_idle_task_hands_its_end_over(rt: HostRuntime) {
-    let events = [Held, Held, Handed, Held, Future, Kept, Kept, Freed];
-    lives_so(rt, rt.alloc(), Way::CancelledIdle, &events);
-}
-
-// The run drops the future after its poll, and is the last handle. It hands nothing over, though the task was woken.
-#[test]
-fn a_run_that_is_cancelled_is_the_last(rt: HostRuntime) {
-    let events = [Held, Future, Kept, Kept, Freed];
-    lives_so(rt, rt.alloc(), Way::CancelledRunning, &events);
-}
-
-// The drop of the Runnable drops the future. The Task is the last handle.
-#[test]
-fn the_task_of_a_dropped_runnable_is_the_last(rt: HostRuntime) {
-    let events = [Held, Future, Held, Kept, Kept, Freed];
-    lives_so(rt, rt.alloc(), Way::RunnableDropped, &events);
-}
-
-// The last waker hands a Runnable over, which drops the future and is the last handle. The awaiter is dropped unwoken as the slots are emptied, before the memory goes.
-#[test]
-fn the_last_waker_of_an_orphan_hands_its_end_over(rt: HostRuntime) {
-    let events = [
-        Held, Held, Held, Held, Held, Handed, Held, Future, Unwoken, Kept, Kept, Freed,
-    ];
-    lives_so(rt, rt.alloc(), Way::Orphaned, &events);
-}
-
-// The detach hands a Runnable over, and has no handle left. The schedule value drops it, the last handle, and is kept with its block until it returns.
-#[test]
-fn a_schedule_value_outlives_the_last_handle(rt: HostRuntime) {
-    let events = [Held, Held, Handed, Future, Returned, Kept, Kept, Freed];
-    lives_so(rt, rt.alloc(), Way::DroppedByScheduler, &events);
-}
-
-// The drop of the Task hands a Runnable over, and then wakes the awaiter. The future is dropped by that Runnable, the last handle.
-#[test]
-fn the_task_that_is_awaited_wakes_before_its_end(rt: HostRuntime) {
-    let events = [
-        Held, Held, Held, Held, Handed, Woken, Held, Future, Kept, Kept, Freed,
-    ];
-    lives_so(rt, rt.alloc(), Way::Awaited, &events);
+fn a_task_ends_in_order_and_its_block_goes_last(rt: HostRuntime) {
+    each_lives_so(rt, rt.alloc());
 }

@@ -127,13 +127,9 @@ where
     assert!(rt; counters.counts() == Counts::new(u64::from(runs), 0, 1, 1));
 }
 
-// The poll is ready by its second look, and wakes its own awaiter, which the other thread could not take.
+// After a run the poll is ready by its second look. Either way it wakes its own awaiter, which the other thread could not take.
 #[test]
-fn a_run_while_a_task_registers_is_seen_by_its_poll(rt: HostRuntime) {
+fn an_end_while_a_task_registers_is_seen_by_its_poll(rt: HostRuntime) {
     end_while_registering(rt, rt.alloc(), true, 0x01C);
-}
-
-#[test]
-fn a_drop_while_a_task_registers_is_seen_by_its_poll(rt: HostRuntime) {
     end_while_registering(rt, rt.alloc(), false, 0x018);
 }
