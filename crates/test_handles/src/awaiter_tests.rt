@@ -4,13 +4,13 @@
 use crate::calls;
 use crate::calls::ends_of;
 use crate::granted::granted;
-use crate::watched::{Ends, Watched, WatchedRunnable, WatchedTask, poll_awaited, spawn_awaited};
 use rows_fixtures::behaviour::Behaviour;
-use rows_fixtures::counters::{Counters, Counts};
+use rows_fixtures::counters::Counts;
 use rows_fixtures::flag::Flag;
+use rows_fixtures::surroundings::{BareRunnable, BareTask};
 use std::alloc::Global;
 use std::process::Abort;
-use std::sync::{Arc, Wait};
+use std::sync::Wait;
 
 // The clones of an awaiter, the wakes, and the clones that were dropped unwoken.
 type Ended = (u64, u64, u64);
@@ -149,77 +149,118 @@ enum First {
     Detach,
 }
 
-// Ends a task, by that first.
-fn end_by<R: Wait + Drop + Copy>(runnable: WatchedRunnable<R>, task: WatchedTask<R>, first: First) {
+// Ends a task, by that first: what its run answered, if there was one.
+fn end_by<R: Wait + Drop + Copy>(
+    runnable: BareRunnable<R>,
+    task: BareTask<R>,
+    first: First,
+) -> Option<bool> {
     match first {
         First::Run => {
-            runnable.run();
+            let rescheduled = runnable.run();
             drop(task);
+            Some(rescheduled)
         }
         First::DropRunnable => {
             drop(runnable);
             drop(task);
+            None
         }
         First::DropTask => {
             drop(task);
-            runnable.run();
+            Some(runnable.run())
         }
         First::Detach => {
             task.detach();
-            runnable.run();
+            Some(runnable.run())
         }
     }
 }
 
-// Polls the Task once, and then ends the task: how the awaiter ended.
-fn ends_after<R: Wait + Abort + Drop + Copy>(
+// How an awaiter ended, what the run of its task answered, if there was one, and what was counted.
+type Life = (Ended, Option<bool>, Counts);
+
+// Spawns a task whose schedule value drops each Runnable, polls its Task once, and then ends the task.
+fn life_by<R: Wait + Abort + Drop + Copy>(
     rt: R,
     alloc: Global,
     behaviour: Behaviour,
     first: First,
-) -> Ends {
-    let awaiter = Watched::new(&rt, alloc);
-    let counters = granted(&rt, Arc::new(alloc, Counters::new()));
-    let (runnable, mut task) = spawn_awaited(rt, alloc, behaviour, &counters);
-    poll_awaited(&mut task, &awaiter, 1);
-    end_by(runnable, task, first);
-    awaiter.ends()
+) -> Life {
+    let fixture = calls::fixture(rt, alloc);
+    let flag = calls::flag(&fixture, 1);
+    let (runnable, mut task) = granted(&rt, fixture.spawn_bare(behaviour));
+    drop(task.poll(&flag));
+    let rescheduled = end_by(runnable, task, first);
+    (ends_of(&flag), rescheduled, fixture.counts())
 }
 
-const ENDS_BY_WAKE: Ends = Ends {
-    clones: 1,
-    wakes: 1,
-    wakes_by_ref: 0,
-    drops: 0,
+const UNPOLLED: Counts = Counts {
+    polls: 0,
+    schedules: 0,
+    future_drops: 1,
+    scheduler_drops: 1,
 };
 
-const ENDS_BY_DROP: Ends = Ends {
-    clones: 1,
-    wakes: 0,
-    wakes_by_ref: 0,
-    drops: 1,
+const COMPLETED: Counts = Counts {
+    polls: 1,
+    schedules: 0,
+    future_drops: 1,
+    scheduler_drops: 1,
 };
 
-const ENDS: [(Behaviour, First, Ends); 7] = [
-    (Behaviour::Ready(1), First::Run, ENDS_BY_WAKE),
-    (Behaviour::Ready(1), First::DropRunnable, ENDS_BY_WAKE),
-    (Behaviour::Ready(1), First::DropTask, ENDS_BY_WAKE),
-    (Behaviour::Ready(1), First::Detach, ENDS_BY_WAKE),
-    (Behaviour::Pending, First::DropTask, ENDS_BY_WAKE),
-    (Behaviour::Pending, First::Detach, ENDS_BY_DROP),
-    (Behaviour::Pending, First::Run, ENDS_BY_WAKE),
+const CLOSED: Counts = Counts {
+    polls: 1,
+    schedules: 1,
+    future_drops: 1,
+    scheduler_drops: 1,
+};
+
+// Where a pending task is detached before its run, or loses its Task after it, a closing Runnable is handed over, which the schedule value drops.
+const LIVES: [(Behaviour, First, Life); 7] = [
+    (
+        Behaviour::Ready(1),
+        First::Run,
+        (WOKEN, Some(false), COMPLETED),
+    ),
+    (
+        Behaviour::Ready(1),
+        First::DropRunnable,
+        (WOKEN, None, UNPOLLED),
+    ),
+    (
+        Behaviour::Ready(1),
+        First::DropTask,
+        (WOKEN, Some(false), UNPOLLED),
+    ),
+    (
+        Behaviour::Ready(1),
+        First::Detach,
+        (WOKEN, Some(false), COMPLETED),
+    ),
+    (
+        Behaviour::Pending,
+        First::DropTask,
+        (WOKEN, Some(false), UNPOLLED),
+    ),
+    (
+        Behaviour::Pending,
+        First::Detach,
+        (DROPPED, Some(false), CLOSED),
+    ),
+    (Behaviour::Pending, First::Run, (WOKEN, Some(false), CLOSED)),
 ];
 
-// Stops where an awaiter ends in another way.
-fn each_ends_so<R: Wait + Abort + Drop + Copy>(rt: R, alloc: Global) {
-    for &(behaviour, first, expected) in &ENDS {
-        let ends = ends_after(rt, alloc, behaviour, first);
-        assert!(rt; ends == expected, "{behaviour:?}, {first:?}");
+// Stops where an awaiter or its task ends in another way.
+fn each_lives_so<R: Wait + Abort + Drop + Copy>(rt: R, alloc: Global) {
+    for &(behaviour, first, expected) in &LIVES {
+        let life = life_by(rt, alloc, behaviour, first);
+        assert!(rt; life == expected, "{behaviour:?}, {first:?}");
     }
 }
 
 // A stored clone ends once: woken by value where the task ends as an awaited one, and dropped where nobody holds the task.
 #[test]
 fn a_stored_awaiter_ends_once(rt: HostRuntime) {
-    each_ends_so(rt, rt.alloc());
+    each_lives_so(rt, rt.alloc());
 }

@@ -337,11 +337,43 @@ type BareTask<'m, R> = Task<R, EndFuture, EndScheduler, Tag, EndAwaiter, (), &'m
 
 type EndHandles<'x, 'm, R> = (EndRunnable<'x, 'm, R>, EndTask<'x, 'm, R>);
 
+// Where a handle lies.
+#[derive(Drop)]
+struct Place<H> {
+    handle: Mutex<Option<H>>,
+}
+
+impl<H> Place<H> {
+    // A place where none lies.
+    fn new() -> Place<H> {
+        Place {
+            handle: Mutex::new(None),
+        }
+    }
+
+    // Puts a handle down, and drops the one that lay there.
+    fn put<R: Wait>(&self, rt: &R, handle: H)
+    where
+        H: Drop,
+    {
+        let previous = {
+            let mut held = self.handle.lock(rt);
+            mem::replace(&mut *held, Some(handle))
+        };
+        drop(previous);
+    }
+
+    // Takes the handle.
+    fn take<R: Wait>(&self, rt: &R) -> Option<H> {
+        self.handle.lock(rt).take()
+    }
+}
+
 // Surroundings that hold the Runnable that was handed over, and the Task that a poll drops.
 struct Desk<'m, R: Wait + Drop + Copy> {
     rt: R,
-    runnable: Mutex<Option<BareRunnable<'m, R>>>,
-    task: Mutex<Option<BareTask<'m, R>>>,
+    runnable: Place<BareRunnable<'m, R>>,
+    task: Place<BareTask<'m, R>>,
 }
 
 impl<'m, R: Wait + Drop + Copy> Drop for Desk<'m, R> {
@@ -353,52 +385,13 @@ impl<'m, R: Wait + Drop + Copy> Drop for Desk<'m, R> {
     }
 }
 
-impl<'m, R: Wait + Drop + Copy> Desk<'m, R> {
-    fn new(rt: R) -> Desk<'m, R> {
-        Desk {
-            rt,
-            runnable: Mutex::new(None),
-            task: Mutex::new(None),
-        }
-    }
-
-    // Puts a Runnable down, and drops the one that lay there.
-    fn put<'x>(&'x self, runnable: EndRunnable<'x, 'm, R>) {
-        let previous = {
-            let mut held = self.runnable.lock(&self.rt);
-            mem::replace(&mut *held, Some(runnable.with_around(())))
-        };
-        drop(previous);
-    }
-
-    // Takes the Runnable that was handed over.
-    fn receive(&self) -> Option<EndRunnable<'_, 'm, R>> {
-        let handed = self.runnable.lock(&self.rt).take()?;
-        Some(handed.with_around(self))
-    }
-
-    // Keeps a Task for a poll to drop, and drops the one that was there.
-    fn keep_task<'x>(&'x self, task: EndTask<'x, 'm, R>) {
-        let previous = {
-            let mut kept = self.task.lock(&self.rt);
-            mem::replace(&mut *kept, Some(task.with_around(())))
-        };
-        drop(previous);
-    }
-
-    // Takes the Task that was kept.
-    fn take_task(&self) -> Option<EndTask<'_, 'm, R>> {
-        let task = self.task.lock(&self.rt).take()?;
-        Some(task.with_around(self))
-    }
-}
-
 impl<'x, 'm, R: Wait + Drop + Copy> Schedule<EndRunnable<'x, 'm, R>> for EndScheduler {
     ghost scheduled = { λ _ _ _. ⊤ };
 
     fn schedule(&self, runnable: EndRunnable<'x, 'm, R>, _info: ScheduleInfo) {
         self.journal.note(Event::Handed);
-        runnable.around().put(runnable);
+        let desk = runnable.around();
+        desk.runnable.put(&desk.rt, runnable.with_around(()));
     }
 }
 
@@ -429,7 +422,8 @@ impl<'x, 'm, R: Wait + Drop + Copy> async_task::Future<EndWaker<'x, 'm, R>> for 
             Act::Wait => Poll::Pending,
             Act::Cancel => {
                 waker.wake_by_ref();
-                drop(waker.around().take_task());
+                let desk = waker.around();
+                drop(desk.task.take(&desk.rt));
                 Poll::Pending
             }
         }
@@ -479,8 +473,8 @@ fn run<R: Wait + Abort + Drop + Copy>(ground: &Ground<R>, runnable: EndRunnable<
 
 // Runs what was handed over. Stops where nothing was.
 fn run_handed<R: Wait + Abort + Drop + Copy>(ground: &Ground<R>, desk: &Desk<'_, R>) {
-    match desk.receive() {
-        Some(handed) => run(ground, handed),
+    match desk.runnable.take(&ground.rt) {
+        Some(handed) => run(ground, handed.with_around(desk)),
         None => panic!(ground.rt; "nothing was handed over"),
     }
 }
@@ -522,26 +516,26 @@ enum Way {
 }
 
 // A task completes, and its Task claims the output.
-fn claim<R: Wait + Abort + Drop + Copy>(ground: &Ground<R>) {
-    let desk = Desk::new(ground.rt);
-    let (runnable, mut task) = spawn_in(ground, &desk, Act::Complete);
+fn claim<'m, R: Wait + Abort + Drop + Copy>(ground: &'m Ground<R>, desk: &Desk<'m, R>) {
+    let (runnable, mut task) = spawn_in(ground, desk, Act::Complete);
     run(ground, runnable);
     poll(ground, &mut task);
     let_go(ground, task);
 }
 
 // A detached task completes.
-fn complete_detached<R: Wait + Abort + Drop + Copy>(ground: &Ground<R>) {
-    let desk = Desk::new(ground.rt);
-    let (runnable, task) = spawn_in(ground, &desk, Act::Complete);
+fn complete_detached<'m, R: Wait + Abort + Drop + Copy>(ground: &'m Ground<R>, desk: &Desk<'m, R>) {
+    let (runnable, task) = spawn_in(ground, desk, Act::Complete);
     detach(ground, task);
     run(ground, runnable);
 }
 
 // A detached task with a waker completes.
-fn complete_beside_waker<R: Wait + Abort + Drop + Copy>(ground: &Ground<R>) {
-    let desk = Desk::new(ground.rt);
-    let (runnable, task) = spawn_in(ground, &desk, Act::Complete);
+fn complete_beside_waker<'m, R: Wait + Abort + Drop + Copy>(
+    ground: &'m Ground<R>,
+    desk: &Desk<'m, R>,
+) {
+    let (runnable, task) = spawn_in(ground, desk, Act::Complete);
     let waker = waker_of(ground, &runnable);
     detach(ground, task);
     run(ground, runnable);
@@ -549,9 +543,8 @@ fn complete_beside_waker<R: Wait + Abort + Drop + Copy>(ground: &Ground<R>) {
 }
 
 // A task with two wakers completes, and its Task is dropped before them with the output.
-fn leave_wakers<R: Wait + Abort + Drop + Copy>(ground: &Ground<R>) {
-    let desk = Desk::new(ground.rt);
-    let (runnable, task) = spawn_in(ground, &desk, Act::Complete);
+fn leave_wakers<'m, R: Wait + Abort + Drop + Copy>(ground: &'m Ground<R>, desk: &Desk<'m, R>) {
+    let (runnable, task) = spawn_in(ground, desk, Act::Complete);
     let first = waker_of(ground, &runnable);
     let second = waker_of(ground, &runnable);
     run(ground, runnable);
@@ -561,9 +554,8 @@ fn leave_wakers<R: Wait + Abort + Drop + Copy>(ground: &Ground<R>) {
 }
 
 // A scheduled task with a waker loses its Task, and is run.
-fn cancel_scheduled<R: Wait + Abort + Drop + Copy>(ground: &Ground<R>) {
-    let desk = Desk::new(ground.rt);
-    let (runnable, task) = spawn_in(ground, &desk, Act::Complete);
+fn cancel_scheduled<'m, R: Wait + Abort + Drop + Copy>(ground: &'m Ground<R>, desk: &Desk<'m, R>) {
+    let (runnable, task) = spawn_in(ground, desk, Act::Complete);
     let waker = waker_of(ground, &runnable);
     let_go(ground, task);
     run(ground, runnable);
@@ -571,47 +563,42 @@ fn cancel_scheduled<R: Wait + Abort + Drop + Copy>(ground: &Ground<R>) {
 }
 
 // An idle task loses its Task, which has registered an awaiter.
-fn cancel_idle<R: Wait + Abort + Drop + Copy>(ground: &Ground<R>) {
-    let desk = Desk::new(ground.rt);
-    let (runnable, mut task) = spawn_in(ground, &desk, Act::Wait);
+fn cancel_idle<'m, R: Wait + Abort + Drop + Copy>(ground: &'m Ground<R>, desk: &Desk<'m, R>) {
+    let (runnable, mut task) = spawn_in(ground, desk, Act::Wait);
     run(ground, runnable);
     poll(ground, &mut task);
     let_go(ground, task);
-    run_handed(ground, &desk);
+    run_handed(ground, desk);
 }
 
 // A task loses its Task in its poll, in which it was woken before.
-fn cancel_running<R: Wait + Abort + Drop + Copy>(ground: &Ground<R>) {
-    let desk = Desk::new(ground.rt);
-    let (runnable, task) = spawn_in(ground, &desk, Act::Cancel);
-    desk.keep_task(task);
+fn cancel_running<'m, R: Wait + Abort + Drop + Copy>(ground: &'m Ground<R>, desk: &Desk<'m, R>) {
+    let (runnable, task) = spawn_in(ground, desk, Act::Cancel);
+    desk.task.put(&ground.rt, task.with_around(()));
     run(ground, runnable);
 }
 
 // The Runnable of a task is dropped.
-fn drop_runnable<R: Wait + Abort + Drop + Copy>(ground: &Ground<R>) {
-    let desk = Desk::new(ground.rt);
-    let (runnable, task) = spawn_in(ground, &desk, Act::Complete);
+fn drop_runnable<'m, R: Wait + Abort + Drop + Copy>(ground: &'m Ground<R>, desk: &Desk<'m, R>) {
+    let (runnable, task) = spawn_in(ground, desk, Act::Complete);
     let_go(ground, runnable);
     let_go(ground, task);
 }
 
 // A pending task that was awaited is detached and loses its last waker, and is run.
-fn orphan<R: Wait + Abort + Drop + Copy>(ground: &Ground<R>) {
-    let desk = Desk::new(ground.rt);
-    let (runnable, mut task) = spawn_in(ground, &desk, Act::Wait);
+fn orphan<'m, R: Wait + Abort + Drop + Copy>(ground: &'m Ground<R>, desk: &Desk<'m, R>) {
+    let (runnable, mut task) = spawn_in(ground, desk, Act::Wait);
     let waker = waker_of(ground, &runnable);
     poll(ground, &mut task);
     detach(ground, task);
     run(ground, runnable);
     let_go(ground, waker);
-    run_handed(ground, &desk);
+    run_handed(ground, desk);
 }
 
 // An idle task without another handle is detached, and its schedule value drops the Runnable that it gets for that.
-fn drop_in_scheduler<R: Wait + Abort + Drop + Copy>(ground: &Ground<R>) {
-    let desk = Desk::new(ground.rt);
-    let (runnable, task) = spawn_in(ground, &desk, Act::Wait);
+fn drop_in_scheduler<'m, R: Wait + Abort + Drop + Copy>(ground: &'m Ground<R>, desk: &Desk<'m, R>) {
+    let (runnable, task) = spawn_in(ground, desk, Act::Wait);
     run(ground, runnable);
     task.with_around(()).detach();
     ground.mark();
@@ -620,17 +607,22 @@ fn drop_in_scheduler<R: Wait + Abort + Drop + Copy>(ground: &Ground<R>) {
 // What is seen of a task that ends in that way.
 fn live<R: Wait + Abort + Drop + Copy>(rt: R, alloc: Global, way: Way) -> Life {
     let ground = Ground::new(rt, alloc);
+    let desk = Desk {
+        rt,
+        runnable: Place::new(),
+        task: Place::new(),
+    };
     match way {
-        Way::Claimed => claim(&ground),
-        Way::Detached => complete_detached(&ground),
-        Way::DetachedWithWaker => complete_beside_waker(&ground),
-        Way::WakersLeft => leave_wakers(&ground),
-        Way::CancelledScheduled => cancel_scheduled(&ground),
-        Way::CancelledIdle => cancel_idle(&ground),
-        Way::CancelledRunning => cancel_running(&ground),
-        Way::RunnableDropped => drop_runnable(&ground),
-        Way::Orphaned => orphan(&ground),
-        Way::DroppedByScheduler => drop_in_scheduler(&ground),
+        Way::Claimed => claim(&ground, &desk),
+        Way::Detached => complete_detached(&ground, &desk),
+        Way::DetachedWithWaker => complete_beside_waker(&ground, &desk),
+        Way::WakersLeft => leave_wakers(&ground, &desk),
+        Way::CancelledScheduled => cancel_scheduled(&ground, &desk),
+        Way::CancelledIdle => cancel_idle(&ground, &desk),
+        Way::CancelledRunning => cancel_running(&ground, &desk),
+        Way::RunnableDropped => drop_runnable(&ground, &desk),
+        Way::Orphaned => orphan(&ground, &desk),
+        Way::DroppedByScheduler => drop_in_scheduler(&ground, &desk),
     }
     ground.life()
 }
@@ -665,7 +657,9 @@ const LIVES: [(Way, &[Event]); 10] = [
     // The drop of the Task hands a Runnable over, and then wakes the awaiter. The future is dropped by that Runnable, the last handle.
     (
         Way::CancelledIdle,
-        &[Held, Held, Held, Held, Handed, Woken, Held, Future, Kept, Kept, Freed],
+        &[
+            Held, Held, Held, Held, Handed, Woken, Held, Future, Kept, Kept, Freed,
+        ],
     ),
     // The run drops the future after its poll, and is the last handle. It hands nothing over, though the task was woken.
     (Way::CancelledRunning, &[Held, Future, Kept, Kept, Freed]),
@@ -678,7 +672,9 @@ const LIVES: [(Way, &[Event]); 10] = [
     // memory goes.
     (
         Way::Orphaned,
-        &[Held, Held, Held, Held, Held, Handed, Held, Future, Unwoken, Kept, Kept, Freed],
+        &[
+            Held, Held, Held, Held, Held, Handed, Held, Future, Unwoken, Kept, Kept, Freed,
+        ],
     ),
     // The detach hands a Runnable over, and has no handle left. The schedule value drops it, the last handle, and is kept with its block until it returns.
     (

@@ -1,4 +1,4 @@
-//! Tests of wakers and of an awaiter, and of tasks that end without a run that completes.
+//! Tests of wakers and of an awaiter, and of handles that are forgotten.
 //! Of what is only tested (docs/PROOFS.md): Handles.
 
 use crate::calls;
@@ -13,22 +13,6 @@ use std::alloc::Global;
 use std::mem;
 use std::process::Abort;
 use std::sync::{Arc, Wait};
-
-// Spawns a task without surroundings, detaches it and runs it: what the run answered, and what was counted.
-fn run_detached_bare<R: Wait + Abort + Drop + Copy>(rt: R, alloc: Global) -> (bool, Counts) {
-    let fixture = calls::fixture(rt, alloc);
-    let (runnable, task) = granted(&rt, fixture.spawn_bare(Behaviour::Pending));
-    task.detach();
-    let rescheduled = runnable.run();
-    (rescheduled, fixture.counts())
-}
-
-// The run of a detached pending task without wakers hands a closing Runnable over, which the schedule value drops.
-#[test]
-fn a_closing_runnable_may_be_dropped(rt: HostRuntime) {
-    let seen = run_detached_bare(rt, rt.alloc());
-    assert!(rt; seen == (false, Counts::new(1, 1, 1, 1)));
-}
 
 // Parks a waker, unparks it, has it stored and discards it.
 fn park_and_discard<R: Wait + Drop + Copy>(waker: RowWaker<'_, R>, surroundings: &Surroundings<R>) {
@@ -87,7 +71,9 @@ fn call_waker<R: Wait + Abort + Drop + Copy>(rt: R, alloc: Global) -> Called {
 #[test]
 fn a_waker_answers_each_call(rt: HostRuntime) {
     let seen = call_waker(rt, rt.alloc());
-    assert!(rt; !seen.known && seen.ran == (false, [Some(false); 2], true) && seen.queued == [1, 1]);
+    assert!(rt;
+        !seen.known && seen.ran == (false, [Some(false); 2], true) && seen.queued == [1, 1]
+    );
     let [idle, orphan, last] = seen.counts;
     assert!(rt; idle == Counts::new(1, 1, 0, 0));
     assert!(rt; orphan == Counts::new(2, 2, 0, 0));
