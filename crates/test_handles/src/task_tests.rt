@@ -1,5 +1,5 @@
 //! Tests of a Task, of a FallibleTask and of a Cancel.
-//! Of what is only tested (docs/PROOFS.md): Drops, Paths.
+//! Of what is only tested (docs/PROOFS.md): Drops, Paths, Handles.
 
 use crate::calls;
 use crate::calls::{RowFallible, ends_of};
