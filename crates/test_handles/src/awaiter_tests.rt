@@ -4,14 +4,13 @@
 use crate::calls;
 use crate::calls::ends_of;
 use crate::granted::granted;
-use crate::watched::{Ends, Watched, WatchedRunnable, WatchedTask, poll_awaited, spawn_awaited};
 use rows_fixtures::behaviour::Behaviour;
-use rows_fixtures::counters::{Counters, Counts};
-use rows_fixtures::fixture::Fixture;
+use rows_fixtures::counters::Counts;
 use rows_fixtures::flag::Flag;
+use rows_fixtures::surroundings::{BareRunnable, BareTask};
 use std::alloc::Global;
 use std::process::Abort;
-use std::sync::{Arc, Wait};
+use std::sync::Wait;
 
 // The clones of an awaiter, the wakes, and the clones that were dropped unwoken.
 type Ended = (u64, u64, u64);
@@ -24,183 +23,121 @@ const DROPPED: Ended = (1, 0, 1);
 
 const WOKEN: Ended = (1, 1, 0);
 
-// Polls with one awaiter, with another, and after the run with that again: what was answered and shown, and how the awaiters ended.
-fn poll_with_two<R: Wait + Abort + Drop + Copy>(
-    fixture: &Fixture<R>,
-    first: &Flag,
-    second: &Flag,
-) -> ([bool; 4], [Ended; 5]) {
-    let (runnable, mut task) = calls::spawn(fixture, Behaviour::Ready(4));
-    let waits = calls::is_pending(&mut task, first);
-    let stored = ends_of(first);
-    let waits_again = calls::is_pending(&mut task, second);
-    let replaced = ends_of(first);
-    let stored_last = ends_of(second);
-    let shown = calls::task_shows(fixture, &task, 0x131);
-    calls::run(runnable);
-    let ended = ends_of(first);
-    let woken = ends_of(second);
-    let completed = calls::is_ready(&mut task, second, 4);
-    calls::drop_task(task);
-    (
-        [waits, waits_again, shown, completed],
-        [stored, replaced, stored_last, ended, woken],
-    )
+// How each of four awaiters ended.
+fn ends_of_all(awaiters: &[Flag; 4]) -> [Ended; 4] {
+    [
+        ends_of(&awaiters[0]),
+        ends_of(&awaiters[1]),
+        ends_of(&awaiters[2]),
+        ends_of(&awaiters[3]),
+    ]
 }
 
-// The awaiter of the first of two polls is dropped unwoken at the second, and that of the second is woken by the run.
-#[test]
-fn a_second_awaiter_replaces_the_first(rt: HostRuntime) {
-    let fixture = calls::fixture(rt, rt.alloc());
-    let first = calls::flag(&fixture, 1);
-    let second = calls::flag(&fixture, 2);
-    let (answers, ends) = poll_with_two(&fixture, &first, &second);
-    let last = (ends_of(&first), ends_of(&second));
-    assert!(rt;
-        (answers, ends, last)
-            == (
-                [true; 4],
-                [STORED, DROPPED, STORED, DROPPED, WOKEN],
-                (DROPPED, WOKEN)
-            )
-    );
+// What is seen of a task that is polled with four awaiters: whether each poll was pending; whether a waker was kept; whether the Task showed its words; what
+// the runs answered; how the awaiters stood after the second poll, before the last run, and after it; and whether the output came then.
+#[derive(Drop)]
+struct PolledByFour {
+    waits: [bool; 4],
+    kept: bool,
+    shown: [bool; 3],
+    ran: (bool, Option<bool>),
+    ends: [[Ended; 4]; 3],
+    completed: bool,
 }
 
-// Polls while the task is scheduled, while it is idle, and after it was woken: what was answered and shown, what the runs answered, and how the awaiters stood before the last run.
-fn poll_with_three<R: Wait + Abort + Drop + Copy>(
-    fixture: &Fixture<R>,
-    first: &Flag,
-    second: &Flag,
-    third: &Flag,
-) -> ([bool; 7], (bool, Option<bool>), [Ended; 3]) {
-    let surroundings = &fixture.surroundings;
-    let (runnable, mut task) = calls::spawn(fixture, Behaviour::Keep(5));
-    let scheduled = calls::is_pending(&mut task, first);
+// Polls twice while the task is scheduled, once while it is idle, and once after it was woken.
+fn poll_with_four<R: Wait + Abort + Drop + Copy>(rt: R, alloc: Global) -> PolledByFour {
+    let fixture = calls::fixture(rt, alloc);
+    let awaiters = [
+        calls::flag(&fixture, 1),
+        calls::flag(&fixture, 2),
+        calls::flag(&fixture, 3),
+        calls::flag(&fixture, 4),
+    ];
+    let (runnable, mut task) = calls::spawn(&fixture, Behaviour::Keep(5));
+    let first = calls::is_pending(&mut task, &awaiters[0]);
+    let second = calls::is_pending(&mut task, &awaiters[1]);
+    let scheduled = calls::task_shows(&fixture, &task, 0x131);
+    let replaced = ends_of_all(&awaiters);
     let rescheduled = calls::run(runnable);
-    let idle = calls::is_pending(&mut task, second);
-    let shown = calls::task_shows(fixture, &task, 0x130);
-    let woken = surroundings.wake_kept();
-    let scheduled_again = calls::is_pending(&mut task, third);
-    let unwoken = [ends_of(first), ends_of(second), ends_of(third)];
-    let completing = surroundings.run_next();
-    let shown_last = calls::task_shows(fixture, &task, 0x114);
-    let completed = calls::is_ready(&mut task, first, 5);
+    let third = calls::is_pending(&mut task, &awaiters[2]);
+    let idle = calls::task_shows(&fixture, &task, 0x130);
+    let kept = fixture.surroundings.wake_kept();
+    let fourth = calls::is_pending(&mut task, &awaiters[3]);
+    let unwoken = ends_of_all(&awaiters);
+    let completing = fixture.surroundings.run_next();
+    let over = calls::task_shows(&fixture, &task, 0x114);
+    let woken = ends_of_all(&awaiters);
+    let completed = calls::is_ready(&mut task, &awaiters[0], 5);
     calls::drop_task(task);
-    (
-        [
-            scheduled,
-            idle,
-            shown,
-            woken,
-            scheduled_again,
-            shown_last,
-            completed,
-        ],
-        (rescheduled, completing),
-        unwoken,
-    )
+    PolledByFour {
+        waits: [first, second, third, fourth],
+        kept,
+        shown: [scheduled, idle, over],
+        ran: (rescheduled, completing),
+        ends: [replaced, unwoken, woken],
+        completed,
+    }
 }
 
-// A poll while the task is scheduled, one while it is idle, and one after it was woken: the run that completes wakes the last awaiter alone.
+// Each poll drops the awaiter of the one before, and the run that completes wakes the last awaiter alone.
 #[test]
-fn the_last_of_three_awaiters_is_woken(rt: HostRuntime) {
-    let fixture = calls::fixture(rt, rt.alloc());
-    let first = calls::flag(&fixture, 1);
-    let second = calls::flag(&fixture, 2);
-    let third = calls::flag(&fixture, 3);
-    let (answers, ran, unwoken) = poll_with_three(&fixture, &first, &second, &third);
-    let ended = [ends_of(&first), ends_of(&second), ends_of(&third)];
-    assert!(rt; (answers, ran) == ([true; 7], (false, Some(false))));
-    assert!(rt; [unwoken, ended] == [[DROPPED, DROPPED, STORED], [DROPPED, DROPPED, WOKEN]]);
+fn the_last_of_four_awaiters_is_woken(rt: HostRuntime) {
+    let seen = poll_with_four(rt, rt.alloc());
+    assert!(rt; seen.waits == [true; 4] && seen.kept && seen.completed);
+    assert!(rt; (seen.shown, seen.ran) == ([true; 3], (false, Some(false))));
+    let [replaced, unwoken, woken] = seen.ends;
+    assert!(rt; replaced == [DROPPED, STORED, UNTOUCHED, UNTOUCHED]);
+    assert!(rt; unwoken == [DROPPED, DROPPED, DROPPED, STORED]);
+    assert!(rt; woken == [DROPPED, DROPPED, DROPPED, WOKEN]);
 }
 
-// Drops the Task of an awaited task before the run: what was answered and shown, what the run answered, how the awaiter ended, and what the drop left.
+// What is seen of an awaited task whose Task is dropped: whether it waited, and showed the word before; how its awaiter ended and what was counted then; what
+// the next run does, as of `run_queued`; and both at last.
+type DroppedAwaited = (
+    [bool; 2],
+    (Ended, Counts),
+    Option<(bool, bool)>,
+    (Ended, Counts),
+);
+
+// Drops the Task of an awaited task, which shows that word, before the first run or after it.
 fn drop_awaited<R: Wait + Abort + Drop + Copy>(
-    fixture: &Fixture<R>,
-    flag: &Flag,
-) -> ([bool; 2], bool, Ended, Counts) {
-    let (runnable, mut task) = calls::spawn(fixture, Behaviour::Ready(1));
-    let waits = calls::is_pending(&mut task, flag);
+    rt: R,
+    alloc: Global,
+    runs: bool,
+    word: u64,
+) -> DroppedAwaited {
+    let fixture = calls::fixture(rt, alloc);
+    let flag = calls::flag(&fixture, 1);
+    let (runnable, mut task) = calls::spawn(&fixture, Behaviour::Pending);
+    fixture.surroundings.push(runnable);
+    if runs {
+        fixture.surroundings.run_next();
+    }
+    let waits = calls::is_pending(&mut task, &flag);
+    let shown = calls::task_shows(&fixture, &task, word);
     calls::drop_task(task);
-    let woken = ends_of(flag);
-    let shown = calls::runnable_shows(fixture, &runnable, 0x109);
-    let kept = fixture.counts();
-    let rescheduled = calls::run(runnable);
-    ([waits, shown], rescheduled, woken, kept)
+    let dropped = (ends_of(&flag), fixture.counts());
+    let ran = calls::run_queued(&fixture, 0x109);
+    (
+        [waits, shown],
+        dropped,
+        ran,
+        (ends_of(&flag), fixture.counts()),
+    )
 }
 
-// The Task of an awaited task is dropped before the run: the drop wakes the awaiter, and the run polls nothing.
+// The drop wakes the awaiter, and the run polls nothing. Of an idle task, the drop hands a Runnable over besides.
 #[test]
 fn the_drop_of_a_task_wakes_its_awaiter(rt: HostRuntime) {
-    let fixture = calls::fixture(rt, rt.alloc());
-    let flag = calls::flag(&fixture, 1);
-    let seen = drop_awaited(&fixture, &flag);
-    let last = (ends_of(&flag), fixture.counts());
-    assert!(rt;
-        (seen, last)
-            == (
-                ([true; 2], false, WOKEN, Counts::new(0, 0, 0, 0)),
-                (WOKEN, Counts::new(0, 0, 1, 1))
-            )
-    );
-}
-
-// Drops the Task of an awaited idle task: whether the poll was pending and the Task shown so, how the awaiter ended, and what the drop left.
-fn drop_awaited_idle<R: Wait + Abort + Drop + Copy>(
-    fixture: &Fixture<R>,
-    flag: &Flag,
-) -> ([bool; 2], Ended, Counts) {
-    let (_, mut task) = calls::spawn_and_run(fixture, Behaviour::Pending);
-    let waits = calls::is_pending(&mut task, flag);
-    let shown = calls::task_shows(fixture, &task, 0x030);
-    calls::drop_task(task);
-    ([waits, shown], ends_of(flag), fixture.counts())
-}
-
-// The same of an idle task: the drop hands a Runnable over besides, which ends the task.
-#[test]
-fn the_drop_of_an_idle_task_wakes_its_awaiter(rt: HostRuntime) {
-    let fixture = calls::fixture(rt, rt.alloc());
-    let flag = calls::flag(&fixture, 1);
-    let seen = drop_awaited_idle(&fixture, &flag);
-    let closing = fixture.surroundings.infos_are(&[false]);
-    let ran = fixture.surroundings.run_next();
-    let last = (ends_of(&flag), fixture.counts());
-    assert!(rt; (closing, ran) == (true, Some(false)));
-    assert!(rt;
-        (seen, last)
-            == (
-                ([true; 2], WOKEN, Counts::new(1, 1, 0, 0)),
-                (WOKEN, Counts::new(1, 1, 1, 1))
-            )
-    );
-}
-
-// Takes the output, and polls twice more: what was answered and shown, and what is left before the detach.
-fn poll_past_the_output<R: Wait + Abort + Drop + Copy>(
-    fixture: &Fixture<R>,
-    flag: &Flag,
-) -> ([bool; 5], Counts) {
-    let (_, mut task) = calls::spawn_and_run(fixture, Behaviour::Ready(9));
-    let completed = calls::is_ready(&mut task, flag, 9);
-    let closed = calls::is_closed(&mut task, flag);
-    let still_closed = calls::is_closed(&mut task, flag);
-    let finished = calls::is_finished(&mut task);
-    let shown = calls::task_shows(fixture, &task, 0x01C);
-    let kept = fixture.counts();
-    calls::detach(task);
-    ([completed, closed, still_closed, finished, shown], kept)
-}
-
-// The output is handed out once: each later poll answers that the task is closed, and registers nothing.
-#[test]
-fn a_task_whose_output_was_taken_is_closed(rt: HostRuntime) {
-    let fixture = calls::fixture(rt, rt.alloc());
-    let flag = calls::flag(&fixture, 1);
-    let (answers, kept) = poll_past_the_output(&fixture, &flag);
-    let drops = fixture.output_drops();
-    assert!(rt; (answers, ends_of(&flag), drops) == ([true; 5], UNTOUCHED, 1));
-    assert!(rt; [kept, fixture.counts()] == [Counts::new(1, 0, 1, 0), Counts::new(1, 0, 1, 1)]);
+    let scheduled = drop_awaited(rt, rt.alloc(), false, 0x131);
+    let idle = drop_awaited(rt, rt.alloc(), true, 0x030);
+    let ran = Some((true, false));
+    let untouched = (WOKEN, Counts::new(0, 0, 0, 0));
+    assert!(rt; scheduled == ([true; 2], untouched, ran, (WOKEN, Counts::new(0, 0, 1, 1))));
+    let polled = (WOKEN, Counts::new(1, 1, 0, 0));
+    assert!(rt; idle == ([true; 2], polled, ran, (WOKEN, Counts::new(1, 1, 1, 1))));
 }
 
 // What is done first to a task that is awaited; the other handle follows.
@@ -212,72 +149,118 @@ enum First {
     Detach,
 }
 
-// Ends a task, by that first.
-fn end_by<R: Wait + Drop + Copy>(runnable: WatchedRunnable<R>, task: WatchedTask<R>, first: First) {
+// Ends a task, by that first: what its run answered, if there was one.
+fn end_by<R: Wait + Drop + Copy>(
+    runnable: BareRunnable<R>,
+    task: BareTask<R>,
+    first: First,
+) -> Option<bool> {
     match first {
         First::Run => {
-            runnable.run();
+            let rescheduled = runnable.run();
             drop(task);
+            Some(rescheduled)
         }
         First::DropRunnable => {
             drop(runnable);
             drop(task);
+            None
         }
         First::DropTask => {
             drop(task);
-            runnable.run();
+            Some(runnable.run())
         }
         First::Detach => {
             task.detach();
-            runnable.run();
+            Some(runnable.run())
         }
     }
 }
 
-// Polls the Task once, and then ends the task: how the awaiter ended.
-fn ends_after<R: Wait + Abort + Drop + Copy>(
-    rt: &R,
+// How an awaiter ended, what the run of its task answered, if there was one, and what was counted.
+type Life = (Ended, Option<bool>, Counts);
+
+// Spawns a task whose schedule value drops each Runnable, polls its Task once, and then ends the task.
+fn life_by<R: Wait + Abort + Drop + Copy>(
+    rt: R,
     alloc: Global,
     behaviour: Behaviour,
     first: First,
-) -> Ends {
-    let awaiter = Watched::new(rt, alloc);
-    let counters = granted(rt, Arc::new(alloc, Counters::new()));
-    let (runnable, mut task) = spawn_awaited(*rt, alloc, behaviour, &counters);
-    poll_awaited(&mut task, &awaiter, 1);
-    end_by(runnable, task, first);
-    awaiter.ends()
+) -> Life {
+    let fixture = calls::fixture(rt, alloc);
+    let flag = calls::flag(&fixture, 1);
+    let (runnable, mut task) = granted(&rt, fixture.spawn_bare(behaviour));
+    drop(task.poll(&flag));
+    let rescheduled = end_by(runnable, task, first);
+    (ends_of(&flag), rescheduled, fixture.counts())
 }
 
-const ENDS_BY_WAKE: Ends = Ends {
-    clones: 1,
-    wakes: 1,
-    wakes_by_ref: 0,
-    drops: 0,
+const UNPOLLED: Counts = Counts {
+    polls: 0,
+    schedules: 0,
+    future_drops: 1,
+    scheduler_drops: 1,
 };
 
-const ENDS_BY_DROP: Ends = Ends {
-    clones: 1,
-    wakes: 0,
-    wakes_by_ref: 0,
-    drops: 1,
+const COMPLETED: Counts = Counts {
+    polls: 1,
+    schedules: 0,
+    future_drops: 1,
+    scheduler_drops: 1,
 };
 
-const ENDS: [(Behaviour, First, Ends); 7] = [
-    (Behaviour::Ready(1), First::Run, ENDS_BY_WAKE),
-    (Behaviour::Ready(1), First::DropRunnable, ENDS_BY_WAKE),
-    (Behaviour::Ready(1), First::DropTask, ENDS_BY_WAKE),
-    (Behaviour::Ready(1), First::Detach, ENDS_BY_WAKE),
-    (Behaviour::Pending, First::DropTask, ENDS_BY_WAKE),
-    (Behaviour::Pending, First::Detach, ENDS_BY_DROP),
-    (Behaviour::Pending, First::Run, ENDS_BY_WAKE),
+const CLOSED: Counts = Counts {
+    polls: 1,
+    schedules: 1,
+    future_drops: 1,
+    scheduler_drops: 1,
+};
+
+// Where a pending task is detached before its run, or loses its Task after it, a closing Runnable is handed over, which the schedule value drops.
+const LIVES: [(Behaviour, First, Life); 7] = [
+    (
+        Behaviour::Ready(1),
+        First::Run,
+        (WOKEN, Some(false), COMPLETED),
+    ),
+    (
+        Behaviour::Ready(1),
+        First::DropRunnable,
+        (WOKEN, None, UNPOLLED),
+    ),
+    (
+        Behaviour::Ready(1),
+        First::DropTask,
+        (WOKEN, Some(false), UNPOLLED),
+    ),
+    (
+        Behaviour::Ready(1),
+        First::Detach,
+        (WOKEN, Some(false), COMPLETED),
+    ),
+    (
+        Behaviour::Pending,
+        First::DropTask,
+        (WOKEN, Some(false), UNPOLLED),
+    ),
+    (
+        Behaviour::Pending,
+        First::Detach,
+        (DROPPED, Some(false), CLOSED),
+    ),
+    (Behaviour::Pending, First::Run, (WOKEN, Some(false), CLOSED)),
 ];
+
+// Stops where an awaiter or its task ends in another way.
+fn each_lives_so<R: Wait + Abort + Drop + Copy>(rt: R, alloc: Global) {
+    for &(behaviour, first, expected) in &LIVES {
+        let life = life_by(rt, alloc, behaviour, first);
+        assert!(rt; life == expected, "{behaviour:?}, {first:?}");
+    }
+}
 
 // A stored clone ends once: woken by value where the task ends as an awaited one, and dropped where nobody holds the task.
 #[test]
 fn a_stored_awaiter_ends_once(rt: HostRuntime) {
-    for &(behaviour, first, expected) in &ENDS {
-        let ends = ends_after(&rt, rt.alloc(), behaviour, first);
-        assert!(rt; ends == expected, "{behaviour:?}, {first:?}");
-    }
+    each_lives_so(rt, rt.alloc());
 }

@@ -2,10 +2,10 @@
 ghost use Rattle.std.specs.Prelude.{◌≡◌, ◌==◌};
 ghost use Rattle.test_handles.specs.Stages.{Staged};
 
+use crate::granted::granted;
 use atomic_table::{Play, TableRule};
 use counted_block::{Bare, BlockRule, CountPlay, Inner, Share};
 use linked_list_allocator::LocalHeap;
-use std::test::Fail;
 
 /// The seat knows the stage: 0 with two shares, 1 with one, and 2 once it has noted the end.
 struct Stages;
@@ -63,9 +63,8 @@ fn halve_close_and_note(heap: &LocalHeap) -> Option<(u64, u64, u8, bool)> {
 }
 
 #[test]
-fn a_seat_notes_after_its_block_is_gone(rt: HostRuntime) -> Result<(), Fail> {
-    let heap = LocalHeap::new(rt.alloc(), 4096)?;
+fn a_seat_notes_after_its_block_is_gone(rt: HostRuntime) {
+    let heap = granted(&rt, LocalHeap::new(rt.alloc(), 4096));
     let seen = halve_close_and_note(&heap);
     assert!(rt; seen == Some((2, 7, 30, true)));
-    Ok(())
 }

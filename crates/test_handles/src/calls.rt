@@ -2,7 +2,7 @@
 //! by these while its handles live, lets them go, and compares at its end.
 
 use crate::granted::granted;
-use async_task::{Cancel, TaskClosed, TaskPoll};
+use async_task::{Cancel, FallibleTask, TaskPoll, Wake};
 use rows_fixtures::behaviour::Behaviour;
 use rows_fixtures::fixture::Fixture;
 use rows_fixtures::flag::Flag;
@@ -12,6 +12,9 @@ use rows_fixtures::surroundings::{RowRunnable, RowTask, RowWaker, Scheduler, Sur
 use std::alloc::Global;
 use std::process::Abort;
 use std::sync::Wait;
+
+/// A FallibleTask of the rows.
+pub type RowFallible<'x, R> = FallibleTask<R, RowFuture, Scheduler, (), Flag, &'x Surroundings<R>>;
 
 /// A Cancel of the rows.
 pub type RowCancel<'x, R> = Cancel<R, RowFuture, Scheduler, (), Flag, &'x Surroundings<R>>;
@@ -55,27 +58,15 @@ pub fn run<R: Wait + Drop + Copy>(runnable: RowRunnable<'_, R>) -> bool {
     runnable.run()
 }
 
-/// Runs the Runnable that has waited longest: whether it showed the flags and the count of that word, and what the run answered. Stops where there is none.
-pub fn run_received<R: Wait + Abort + Drop + Copy>(
-    fixture: &Fixture<R>,
-    word: u64,
-) -> (bool, bool) {
+/// Runs the Runnable that has waited longest, if there is one: whether it showed the flags and the count of that word, and what the run answered.
+pub fn run_queued<R: Wait + Drop + Copy>(fixture: &Fixture<R>, word: u64) -> Option<(bool, bool)> {
     match fixture.surroundings.receive() {
         Some(received) => {
             let shown = runnable_shows(fixture, &received, word);
-            (shown, run(received))
+            Some((shown, run(received)))
         }
-        None => panic!(fixture.rt; "nothing was queued"),
+        None => None,
     }
-}
-
-/// Spawns a task whose future behaves like that, and runs it: what the run answered, and its Task. Stops where there is no memory.
-pub fn spawn_and_run<'x, R: Wait + Abort + Drop + Copy>(
-    fixture: &'x Fixture<R>,
-    behaviour: Behaviour,
-) -> (bool, RowTask<'x, R>) {
-    let (runnable, task) = spawn(fixture, behaviour);
-    (run(runnable), task)
 }
 
 /// Runs a pending task: what the run answered, its Task, and a waker.
@@ -115,11 +106,6 @@ pub fn is_ready<R: Wait + Drop + Copy>(
     is_ready_with(&task.poll(awaiter), number)
 }
 
-/// Polls a Task: whether it is closed.
-pub fn is_closed<R: Wait + Drop + Copy>(task: &mut RowTask<'_, R>, awaiter: &Flag) -> bool {
-    matches!(task.poll(awaiter), TaskPoll::Ready(Err(TaskClosed)))
-}
-
 /// Whether the task of a Task is finished.
 pub fn is_finished<R: Wait + Drop + Copy>(task: &mut RowTask<'_, R>) -> bool {
     task.is_finished()
@@ -135,19 +121,34 @@ pub fn detach<R: Wait + Drop + Copy>(task: RowTask<'_, R>) {
     task.detach();
 }
 
-/// Discards a Task, or a FallibleTask made of it.
-pub fn discard<R: Wait + Drop + Copy>(task: RowTask<'_, R>, is_fallible: bool) {
-    if is_fallible {
-        task.fallible().discard();
-    } else {
-        task.discard();
-    }
+/// Detaches a FallibleTask.
+pub fn detach_fallible<R: Wait + Drop + Copy>(task: RowFallible<'_, R>) {
+    task.detach();
+}
+
+/// Discards a Task.
+pub fn discard<R: Wait + Drop + Copy>(task: RowTask<'_, R>) {
+    task.discard();
+}
+
+/// Discards a FallibleTask.
+pub fn discard_fallible<R: Wait + Drop + Copy>(task: RowFallible<'_, R>) {
+    task.discard();
 }
 
 /// Whether a Task shows the flags and the count of that word.
 pub fn task_shows<R: Wait + Drop + Copy>(
     fixture: &Fixture<R>,
     task: &RowTask<'_, R>,
+    word: u64,
+) -> bool {
+    matches!(fixture.shows(task, word), Ok(true))
+}
+
+/// Whether a FallibleTask shows the flags and the count of that word.
+pub fn fallible_shows<R: Wait + Drop + Copy>(
+    fixture: &Fixture<R>,
+    task: &RowFallible<'_, R>,
     word: u64,
 ) -> bool {
     matches!(fixture.shows(task, word), Ok(true))
@@ -220,4 +221,12 @@ pub fn wake_by_ref<R: Wait + Drop + Copy>(waker: &RowWaker<'_, R>) {
 /// Drops a waker.
 pub fn drop_waker<R: Wait + Drop + Copy>(waker: RowWaker<'_, R>) {
     drop(waker);
+}
+
+/// Clones an awaiter, and wakes the clone by value: whether the awaiter knew it, or `None` where it was refused.
+pub fn wake_clone<W: Wake>(awaiter: &W) -> Option<bool> {
+    let clone = awaiter.try_clone()?;
+    let known = awaiter.will_wake(&clone);
+    clone.wake();
+    Some(known)
 }

@@ -337,11 +337,43 @@ type BareTask<'m, R> = Task<R, EndFuture, EndScheduler, Tag, EndAwaiter, (), &'m
 
 type EndHandles<'x, 'm, R> = (EndRunnable<'x, 'm, R>, EndTask<'x, 'm, R>);
 
+// Where a handle lies.
+#[derive(Drop)]
+struct Place<H> {
+    handle: Mutex<Option<H>>,
+}
+
+impl<H> Place<H> {
+    // A place where none lies.
+    fn new() -> Place<H> {
+        Place {
+            handle: Mutex::new(None),
+        }
+    }
+
+    // Puts a handle down, and drops the one that lay there.
+    fn put<R: Wait>(&self, rt: &R, handle: H)
+    where
+        H: Drop,
+    {
+        let previous = {
+            let mut held = self.handle.lock(rt);
+            mem::replace(&mut *held, Some(handle))
+        };
+        drop(previous);
+    }
+
+    // Takes the handle.
+    fn take<R: Wait>(&self, rt: &R) -> Option<H> {
+        self.handle.lock(rt).take()
+    }
+}
+
 // Surroundings that hold the Runnable that was handed over, and the Task that a poll drops.
 struct Desk<'m, R: Wait + Drop + Copy> {
     rt: R,
-    runnable: Mutex<Option<BareRunnable<'m, R>>>,
-    task: Mutex<Option<BareTask<'m, R>>>,
+    runnable: Place<BareRunnable<'m, R>>,
+    task: Place<BareTask<'m, R>>,
 }
 
 impl<'m, R: Wait + Drop + Copy> Drop for Desk<'m, R> {
@@ -353,52 +385,13 @@ impl<'m, R: Wait + Drop + Copy> Drop for Desk<'m, R> {
     }
 }
 
-impl<'m, R: Wait + Drop + Copy> Desk<'m, R> {
-    fn new(rt: R) -> Desk<'m, R> {
-        Desk {
-            rt,
-            runnable: Mutex::new(None),
-            task: Mutex::new(None),
-        }
-    }
-
-    // Puts a Runnable down, and drops the one that lay there.
-    fn put<'x>(&'x self, runnable: EndRunnable<'x, 'm, R>) {
-        let previous = {
-            let mut held = self.runnable.lock(&self.rt);
-            mem::replace(&mut *held, Some(runnable.with_around(())))
-        };
-        drop(previous);
-    }
-
-    // Takes the Runnable that was handed over.
-    fn receive(&self) -> Option<EndRunnable<'_, 'm, R>> {
-        let handed = self.runnable.lock(&self.rt).take()?;
-        Some(handed.with_around(self))
-    }
-
-    // Keeps a Task for a poll to drop, and drops the one that was there.
-    fn keep_task<'x>(&'x self, task: EndTask<'x, 'm, R>) {
-        let previous = {
-            let mut kept = self.task.lock(&self.rt);
-            mem::replace(&mut *kept, Some(task.with_around(())))
-        };
-        drop(previous);
-    }
-
-    // Takes the Task that was kept.
-    fn take_task(&self) -> Option<EndTask<'_, 'm, R>> {
-        let task = self.task.lock(&self.rt).take()?;
-        Some(task.with_around(self))
-    }
-}
-
 impl<'x, 'm, R: Wait + Drop + Copy> Schedule<EndRunnable<'x, 'm, R>> for EndScheduler {
     ghost scheduled = { λ _ _ _. ⊤ };
 
     fn schedule(&self, runnable: EndRunnable<'x, 'm, R>, _info: ScheduleInfo) {
         self.journal.note(Event::Handed);
-        runnable.around().put(runnable);
+        let desk = runnable.around();
+        desk.runnable.put(&desk.rt, runnable.with_around(()));
     }
 }
 
@@ -429,7 +422,8 @@ impl<'x, 'm, R: Wait + Drop + Copy> async_task::Future<EndWaker<'x, 'm, R>> for 
             Act::Wait => Poll::Pending,
             Act::Cancel => {
                 waker.wake_by_ref();
-                drop(waker.around().take_task());
+                let desk = waker.around();
+                drop(desk.task.take(&desk.rt));
                 Poll::Pending
             }
         }
@@ -479,8 +473,8 @@ fn run<R: Wait + Abort + Drop + Copy>(ground: &Ground<R>, runnable: EndRunnable<
 
 // Runs what was handed over. Stops where nothing was.
 fn run_handed<R: Wait + Abort + Drop + Copy>(ground: &Ground<R>, desk: &Desk<'_, R>) {
-    match desk.receive() {
-        Some(handed) => run(ground, handed),
+    match desk.runnable.take(&ground.rt) {
+        Some(handed) => run(ground, handed.with_around(desk)),
         None => panic!(ground.rt; "nothing was handed over"),
     }
 }
@@ -511,6 +505,7 @@ fn poll<R: Wait + Abort + Drop + Copy>(ground: &Ground<R>, task: &mut EndTask<'_
 enum Way {
     Claimed,
     Detached,
+    DetachedWithWaker,
     WakersLeft,
     CancelledScheduled,
     CancelledIdle,
@@ -518,30 +513,38 @@ enum Way {
     RunnableDropped,
     Orphaned,
     DroppedByScheduler,
-    Awaited,
 }
 
 // A task completes, and its Task claims the output.
-fn claim<R: Wait + Abort + Drop + Copy>(ground: &Ground<R>) {
-    let desk = Desk::new(ground.rt);
-    let (runnable, mut task) = spawn_in(ground, &desk, Act::Complete);
+fn claim<'m, R: Wait + Abort + Drop + Copy>(ground: &'m Ground<R>, desk: &Desk<'m, R>) {
+    let (runnable, mut task) = spawn_in(ground, desk, Act::Complete);
     run(ground, runnable);
     poll(ground, &mut task);
     let_go(ground, task);
 }
 
 // A detached task completes.
-fn complete_detached<R: Wait + Abort + Drop + Copy>(ground: &Ground<R>) {
-    let desk = Desk::new(ground.rt);
-    let (runnable, task) = spawn_in(ground, &desk, Act::Complete);
+fn complete_detached<'m, R: Wait + Abort + Drop + Copy>(ground: &'m Ground<R>, desk: &Desk<'m, R>) {
+    let (runnable, task) = spawn_in(ground, desk, Act::Complete);
     detach(ground, task);
     run(ground, runnable);
 }
 
+// A detached task with a waker completes.
+fn complete_beside_waker<'m, R: Wait + Abort + Drop + Copy>(
+    ground: &'m Ground<R>,
+    desk: &Desk<'m, R>,
+) {
+    let (runnable, task) = spawn_in(ground, desk, Act::Complete);
+    let waker = waker_of(ground, &runnable);
+    detach(ground, task);
+    run(ground, runnable);
+    let_go(ground, waker);
+}
+
 // A task with two wakers completes, and its Task is dropped before them with the output.
-fn leave_wakers<R: Wait + Abort + Drop + Copy>(ground: &Ground<R>) {
-    let desk = Desk::new(ground.rt);
-    let (runnable, task) = spawn_in(ground, &desk, Act::Complete);
+fn leave_wakers<'m, R: Wait + Abort + Drop + Copy>(ground: &'m Ground<R>, desk: &Desk<'m, R>) {
+    let (runnable, task) = spawn_in(ground, desk, Act::Complete);
     let first = waker_of(ground, &runnable);
     let second = waker_of(ground, &runnable);
     run(ground, runnable);
@@ -551,165 +554,145 @@ fn leave_wakers<R: Wait + Abort + Drop + Copy>(ground: &Ground<R>) {
 }
 
 // A scheduled task with a waker loses its Task, and is run.
-fn cancel_scheduled<R: Wait + Abort + Drop + Copy>(ground: &Ground<R>) {
-    let desk = Desk::new(ground.rt);
-    let (runnable, task) = spawn_in(ground, &desk, Act::Complete);
+fn cancel_scheduled<'m, R: Wait + Abort + Drop + Copy>(ground: &'m Ground<R>, desk: &Desk<'m, R>) {
+    let (runnable, task) = spawn_in(ground, desk, Act::Complete);
     let waker = waker_of(ground, &runnable);
     let_go(ground, task);
     run(ground, runnable);
     let_go(ground, waker);
 }
 
-// An idle task loses its Task.
-fn cancel_idle<R: Wait + Abort + Drop + Copy>(ground: &Ground<R>) {
-    let desk = Desk::new(ground.rt);
-    let (runnable, task) = spawn_in(ground, &desk, Act::Wait);
+// An idle task loses its Task, which has registered an awaiter.
+fn cancel_idle<'m, R: Wait + Abort + Drop + Copy>(ground: &'m Ground<R>, desk: &Desk<'m, R>) {
+    let (runnable, mut task) = spawn_in(ground, desk, Act::Wait);
     run(ground, runnable);
+    poll(ground, &mut task);
     let_go(ground, task);
-    run_handed(ground, &desk);
+    run_handed(ground, desk);
 }
 
 // A task loses its Task in its poll, in which it was woken before.
-fn cancel_running<R: Wait + Abort + Drop + Copy>(ground: &Ground<R>) {
-    let desk = Desk::new(ground.rt);
-    let (runnable, task) = spawn_in(ground, &desk, Act::Cancel);
-    desk.keep_task(task);
+fn cancel_running<'m, R: Wait + Abort + Drop + Copy>(ground: &'m Ground<R>, desk: &Desk<'m, R>) {
+    let (runnable, task) = spawn_in(ground, desk, Act::Cancel);
+    desk.task.put(&ground.rt, task.with_around(()));
     run(ground, runnable);
 }
 
 // The Runnable of a task is dropped.
-fn drop_runnable<R: Wait + Abort + Drop + Copy>(ground: &Ground<R>) {
-    let desk = Desk::new(ground.rt);
-    let (runnable, task) = spawn_in(ground, &desk, Act::Complete);
+fn drop_runnable<'m, R: Wait + Abort + Drop + Copy>(ground: &'m Ground<R>, desk: &Desk<'m, R>) {
+    let (runnable, task) = spawn_in(ground, desk, Act::Complete);
     let_go(ground, runnable);
     let_go(ground, task);
 }
 
 // A pending task that was awaited is detached and loses its last waker, and is run.
-fn orphan<R: Wait + Abort + Drop + Copy>(ground: &Ground<R>) {
-    let desk = Desk::new(ground.rt);
-    let (runnable, mut task) = spawn_in(ground, &desk, Act::Wait);
+fn orphan<'m, R: Wait + Abort + Drop + Copy>(ground: &'m Ground<R>, desk: &Desk<'m, R>) {
+    let (runnable, mut task) = spawn_in(ground, desk, Act::Wait);
     let waker = waker_of(ground, &runnable);
     poll(ground, &mut task);
     detach(ground, task);
     run(ground, runnable);
     let_go(ground, waker);
-    run_handed(ground, &desk);
+    run_handed(ground, desk);
 }
 
 // An idle task without another handle is detached, and its schedule value drops the Runnable that it gets for that.
-fn drop_in_scheduler<R: Wait + Abort + Drop + Copy>(ground: &Ground<R>) {
-    let desk = Desk::new(ground.rt);
-    let (runnable, task) = spawn_in(ground, &desk, Act::Wait);
+fn drop_in_scheduler<'m, R: Wait + Abort + Drop + Copy>(ground: &'m Ground<R>, desk: &Desk<'m, R>) {
+    let (runnable, task) = spawn_in(ground, desk, Act::Wait);
     run(ground, runnable);
     task.with_around(()).detach();
     ground.mark();
 }
 
-// An idle task loses its Task, which has registered an awaiter.
-fn cancel_awaited<R: Wait + Abort + Drop + Copy>(ground: &Ground<R>) {
-    let desk = Desk::new(ground.rt);
-    let (runnable, mut task) = spawn_in(ground, &desk, Act::Wait);
-    run(ground, runnable);
-    poll(ground, &mut task);
-    let_go(ground, task);
-    run_handed(ground, &desk);
-}
-
 // What is seen of a task that ends in that way.
 fn live<R: Wait + Abort + Drop + Copy>(rt: R, alloc: Global, way: Way) -> Life {
     let ground = Ground::new(rt, alloc);
+    let desk = Desk {
+        rt,
+        runnable: Place::new(),
+        task: Place::new(),
+    };
     match way {
-        Way::Claimed => claim(&ground),
-        Way::Detached => complete_detached(&ground),
-        Way::WakersLeft => leave_wakers(&ground),
-        Way::CancelledScheduled => cancel_scheduled(&ground),
-        Way::CancelledIdle => cancel_idle(&ground),
-        Way::CancelledRunning => cancel_running(&ground),
-        Way::RunnableDropped => drop_runnable(&ground),
-        Way::Orphaned => orphan(&ground),
-        Way::DroppedByScheduler => drop_in_scheduler(&ground),
-        Way::Awaited => cancel_awaited(&ground),
+        Way::Claimed => claim(&ground, &desk),
+        Way::Detached => complete_detached(&ground, &desk),
+        Way::DetachedWithWaker => complete_beside_waker(&ground, &desk),
+        Way::WakersLeft => leave_wakers(&ground, &desk),
+        Way::CancelledScheduled => cancel_scheduled(&ground, &desk),
+        Way::CancelledIdle => cancel_idle(&ground, &desk),
+        Way::CancelledRunning => cancel_running(&ground, &desk),
+        Way::RunnableDropped => drop_runnable(&ground, &desk),
+        Way::Orphaned => orphan(&ground, &desk),
+        Way::DroppedByScheduler => drop_in_scheduler(&ground, &desk),
     }
     ground.life()
 }
 
-// Stops where a task that ends in that way does not live so: with those events, in one block, of which nothing is left.
-fn lives_so<R: Wait + Abort + Drop + Copy>(rt: R, alloc: Global, way: Way, events: &[Event]) {
-    let lived = live(rt, alloc, way);
-    assert!(rt; lived == Life::of(events), "{way:?}");
+// Each way, and the events of a life in one block, of which nothing is left.
+const LIVES: [(Way, &[Event]); 10] = [
+    // A poll that is ready hands the output out, and the poller drops it. The Task is the last handle.
+    (
+        Way::Claimed,
+        &[Held, Future, Held, Held, Output, Held, Kept, Kept, Freed],
+    ),
+    // The run drops an output that nobody can claim, after the future, and is the last handle.
+    (
+        Way::Detached,
+        &[Held, Held, Future, Output, Kept, Kept, Freed],
+    ),
+    // The run drops it also where a waker is left, which is the last handle.
+    (
+        Way::DetachedWithWaker,
+        &[Held, Held, Future, Output, Held, Kept, Kept, Freed],
+    ),
+    // The drop of the Task drops the output. The block stays until the last of two wakers is dropped.
+    (
+        Way::WakersLeft,
+        &[Held, Future, Held, Output, Held, Held, Kept, Kept, Freed],
+    ),
+    // The drop of the Task closes the task, and its Runnable, which is run, drops the future. The waker is the last handle.
+    (
+        Way::CancelledScheduled,
+        &[Held, Held, Future, Held, Kept, Kept, Freed],
+    ),
+    // The drop of the Task hands a Runnable over, and then wakes the awaiter. The future is dropped by that Runnable, the last handle.
+    (
+        Way::CancelledIdle,
+        &[
+            Held, Held, Held, Held, Handed, Woken, Held, Future, Kept, Kept, Freed,
+        ],
+    ),
+    // The run drops the future after its poll, and is the last handle. It hands nothing over, though the task was woken.
+    (Way::CancelledRunning, &[Held, Future, Kept, Kept, Freed]),
+    // The drop of the Runnable drops the future. The Task is the last handle.
+    (
+        Way::RunnableDropped,
+        &[Held, Future, Held, Kept, Kept, Freed],
+    ),
+    // The last waker hands a Runnable over, which drops the future and is the last handle. The awaiter is dropped unwoken as the slots are emptied, before the
+    // memory goes.
+    (
+        Way::Orphaned,
+        &[
+            Held, Held, Held, Held, Held, Handed, Held, Future, Unwoken, Kept, Kept, Freed,
+        ],
+    ),
+    // The detach hands a Runnable over, and has no handle left. The schedule value drops it, the last handle, and is kept with its block until it returns.
+    (
+        Way::DroppedByScheduler,
+        &[Held, Held, Handed, Future, Returned, Kept, Kept, Freed],
+    ),
+];
+
+// Stops where a task does not live so.
+fn each_lives_so<R: Wait + Abort + Drop + Copy>(rt: R, alloc: Global) {
+    for &(way, events) in &LIVES {
+        let lived = live(rt, alloc, way);
+        assert!(rt; lived == Life::of(events), "{way:?}");
+    }
 }
 
-// A poll that is ready hands the output out, and the poller drops it. The Task is the last handle.
+// The parts of a task are dropped once, in their order, and its block goes with the last handle, or with the call of the schedule value.
 #[test]
-fn the_task_of_a_claimed_output_is_the_last(rt: HostRuntime) {
-    let events = [Held, Future, Held, Held, Output, Held, Kept, Kept, Freed];
-    lives_so(rt, rt.alloc(), Way::Claimed, &events);
-}
-
-// The run drops an output that nobody can claim, after the future, and is the last handle.
-#[test]
-fn the_run_of_a_detached_task_is_the_last(rt: HostRuntime) {
-    let events = [Held, Held, Future, Output, Kept, Kept, Freed];
-    lives_so(rt, rt.alloc(), Way::Detached, &events);
-}
-
-// The drop of the Task drops the output. The block stays until the last of two wakers is dropped.
-#[test]
-fn wakers_keep_the_block_of_a_completed_task(rt: HostRuntime) {
-    let events = [Held, Future, Held, Output, Held, Held, Kept, Kept, Freed];
-    lives_so(rt, rt.alloc(), Way::WakersLeft, &events);
-}
-
-// The drop of the Task closes the task, and its Runnable, which is run, drops the future. The waker is the last handle.
-#[test]
-fn a_waker_keeps_the_block_of_a_cancelled_task(rt: HostRuntime) {
-    let events = [Held, Held, Future, Held, Kept, Kept, Freed];
-    lives_so(rt, rt.alloc(), Way::CancelledScheduled, &events);
-}
-
-// The drop of the Task hands a Runnable over, which drops the future and is the last handle.
-#[test]
-fn the_cancel_of_an_idle_task_hands_its_end_over(rt: HostRuntime) {
-    let events = [Held, Held, Handed, Held, Future, Kept, Kept, Freed];
-    lives_so(rt, rt.alloc(), Way::CancelledIdle, &events);
-}
-
-// The run drops the future after its poll, and is the last handle. It hands nothing over, though the task was woken.
-#[test]
-fn a_run_that_is_cancelled_is_the_last(rt: HostRuntime) {
-    let events = [Held, Future, Kept, Kept, Freed];
-    lives_so(rt, rt.alloc(), Way::CancelledRunning, &events);
-}
-
-// The drop of the Runnable drops the future. The Task is the last handle.
-#[test]
-fn the_task_of_a_dropped_runnable_is_the_last(rt: HostRuntime) {
-    let events = [Held, Future, Held, Kept, Kept, Freed];
-    lives_so(rt, rt.alloc(), Way::RunnableDropped, &events);
-}
-
-// The last waker hands a Runnable over, which drops the future and is the last handle. The awaiter is dropped unwoken as the slots are emptied, before the memory goes.
-#[test]
-fn the_last_waker_of_an_orphan_hands_its_end_over(rt: HostRuntime) {
-    let events = [
-        Held, Held, Held, Held, Held, Handed, Held, Future, Unwoken, Kept, Kept, Freed,
-    ];
-    lives_so(rt, rt.alloc(), Way::Orphaned, &events);
-}
-
-// The detach hands a Runnable over, and has no handle left. The schedule value drops it, the last handle, and is kept with its block until it returns.
-#[test]
-fn a_schedule_value_outlives_the_last_handle(rt: HostRuntime) {
-    let events = [Held, Held, Handed, Future, Returned, Kept, Kept, Freed];
-    lives_so(rt, rt.alloc(), Way::DroppedByScheduler, &events);
-}
-
-// The drop of the Task hands a Runnable over, and then wakes the awaiter. The future is dropped by that Runnable, the last handle.
-#[test]
-fn the_task_that_is_awaited_wakes_before_its_end(rt: HostRuntime) {
-    let events = [
-        Held, Held, Held, Held, Handed, Woken, Held, Future, Kept, Kept, Freed,
-    ];
-    lives_so(rt, rt.alloc(), Way::Awaited, &events);
+fn a_task_ends_in_order_and_its_block_goes_last(rt: HostRuntime) {
+    each_lives_so(rt, rt.alloc());
 }

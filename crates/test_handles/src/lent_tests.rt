@@ -1,7 +1,6 @@
 //! Tests of wakes that a call makes too often, which only a wake that is acted on at once shows, or a poll beside the end of a run.
 ghost use Rattle.std.specs.Prelude.{⊤};
 
-use crate::calls;
 use crate::calls::ends_of;
 use crate::granted::granted;
 use async_task::{Cancel, Future, Poll, Runnable, Schedule, ScheduleInfo, TaskPoll, Yields, spawn};
@@ -162,16 +161,22 @@ fn cancel_beside<'x, R: Wait + Threads + Abort + Drop + Copy + Send + Sync>(
     })
 }
 
-// The second poll takes its own awaiter before the run does that waits in the output's drop, and drops it unwoken: it answers by itself.
-#[test]
-fn a_poll_that_takes_its_own_awaiter_wakes_nobody(rt: HostRuntime) {
+// Lets a Cancel be polled at both meetings: what was seen there, whether the drop of the output met the second thread, and how the awaiter of the polls ended.
+fn poll_beside_the_end<R: Wait + Threads + Abort + Drop + Copy + Send + Sync>(
+    rt: R,
+    alloc: Global,
+) -> ([bool; 4], bool, (u64, u64, u64)) {
     let meetings = Meetings {
         poll: Rendezvous::new(),
         drop: Rendezvous::new(),
     };
-    let fixture = calls::fixture(rt, rt.alloc());
-    let flag = calls::flag(&fixture, 1);
-    let seen = cancel_beside(rt, rt.alloc(), &meetings, &flag);
-    assert!(rt; (seen, meetings.drop.met()) == ([true; 4], true));
-    assert!(rt; ends_of(&flag) == (1, 0, 1));
+    let flag = granted(&rt, Flag::new(alloc, 1));
+    let seen = cancel_beside(rt, alloc, &meetings, &flag);
+    (seen, meetings.drop.met(), ends_of(&flag))
+}
+
+// The second poll takes its own awaiter before the run does that waits in the output's drop, and drops it unwoken: it answers by itself.
+#[test]
+fn a_poll_that_takes_its_own_awaiter_wakes_nobody(rt: HostRuntime) {
+    assert!(rt; poll_beside_the_end(rt, rt.alloc()) == ([true; 4], true, (1, 0, 1)));
 }

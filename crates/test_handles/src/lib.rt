@@ -15,8 +15,6 @@ mod calls;
 mod ending_tests;
 #[cfg(test)]
 mod granted;
-#[cfg(test)]
-mod idle_tests;
 mod keeper;
 mod law;
 #[cfg(test)]

@@ -1,4 +1,4 @@
-//! A test of the metadata that a parked handle shows.
+//! A test of the metadata: what a builder's maker is called with, and a parked handle shows.
 //! Of what is only tested (docs/PROOFS.md): Drops.
 ghost use Rattle.std.specs.Prelude.{⊤};
 
@@ -12,16 +12,16 @@ use std::alloc::Global;
 use std::process::Abort;
 use std::sync::{Arc, Wait};
 
-// A metadata that counts its drop.
+// A metadata that counts the call of the maker, and its drop.
 struct Tag {
-    drops: Arc<Counter>,
+    counter: Arc<Counter>,
 }
 
 impl Drop for Tag {
     fn drop(self) {
-        let Tag { drops } = self;
-        drops.add_one();
-        drop(drops);
+        let Tag { counter } = self;
+        counter.add_one();
+        drop(counter);
     }
 }
 
@@ -41,52 +41,45 @@ impl<R: Wait + Drop + Copy> Schedule<TagRunnable<R>> for Dropper {
     }
 }
 
-// Spawns a task whose metadata counts its drop here.
+// Spawns a task whose metadata has that counter, by a maker that counts its call by the metadata that it is lent.
 fn spawn_tagged<R: Wait + Abort + Drop + Copy>(
     rt: R,
     alloc: Global,
-    drops: &Arc<Counter>,
+    counter: &Arc<Counter>,
 ) -> (TagRunnable<R>, TagTask<R>) {
     let counters = granted(&rt, Arc::new(alloc, Counters::new()));
-    let future = RowFuture::new(Behaviour::Pending, counters);
     let tag = Tag {
-        drops: granted(&rt, Arc::try_clone(drops)),
+        counter: granted(&rt, Arc::try_clone(counter)),
+    };
+    let maker = |tag: &Tag| {
+        tag.counter.add_one();
+        RowFuture::new(Behaviour::Pending, counters)
     };
     let spawned = Builder::new()
         .metadata(tag)
-        .spawn(rt, alloc, |_| future, Dropper, ());
+        .spawn(rt, alloc, maker, Dropper, ());
     granted(&rt, spawned)
 }
 
-fn drop_runnable<R: Wait + Drop + Copy>(runnable: TagRunnable<R>) {
-    drop(runnable);
-}
-
-fn drop_task<R: Wait + Drop + Copy>(task: TagTask<R>) {
+// Ends both handles of a task. Its Runnable is discarded.
+fn end_both<R: Wait + Drop + Copy>(runnable: TagRunnable<R>, task: TagTask<R>) {
+    runnable.discard();
     drop(task);
 }
 
-// Parks the Runnable and the Task of a task whose counter was set to 1, and drops them unparked: the counter that the metadata of each shows, and the
-// counter at the end.
-fn show_parked<R: Wait + Abort + Drop + Copy>(
-    rt: R,
-    alloc: Global,
-    drops: &Arc<Counter>,
-) -> [u64; 3] {
-    let (runnable, task) = spawn_tagged(rt, alloc, drops);
-    drops.add_one();
+// Parks the Runnable and the Task of a task, and ends them unparked: the counter that the metadata of each shows, and the counter at the end.
+fn show_parked<R: Wait + Abort + Drop + Copy>(rt: R, alloc: Global) -> [u64; 3] {
+    let counter = granted(&rt, Arc::new(alloc, Counter::new()));
+    let (runnable, task) = spawn_tagged(rt, alloc, &counter);
     let (runnable, task) = (runnable.park(), task.park());
-    let by_runnable = runnable.metadata().drops.get();
-    let by_task = task.metadata().drops.get();
-    drop_runnable(runnable.unpark(()));
-    drop_task(task.unpark(()));
-    [by_runnable, by_task, drops.get()]
+    let by_runnable = runnable.metadata().counter.get();
+    let by_task = task.metadata().counter.get();
+    end_both(runnable.unpark(()), task.unpark(()));
+    [by_runnable, by_task, counter.get()]
 }
 
-// A parked handle shows the metadata, and is the same handle once it is unparked.
+// The maker was called once, with the metadata. A parked handle shows the metadata, and is the same handle once it is unparked.
 #[test]
-fn parked_handles_show_the_metadata_and_go_on(rt: HostRuntime) {
-    let drops = granted(&rt, Arc::new(rt.alloc(), Counter::new()));
-    let seen = show_parked(rt, rt.alloc(), &drops);
-    assert!(rt; seen == [1, 1, 2]);
+fn parked_handles_show_what_the_maker_was_called_with(rt: HostRuntime) {
+    assert!(rt; show_parked(rt, rt.alloc()) == [1, 1, 2]);
 }

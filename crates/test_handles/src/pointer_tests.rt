@@ -1,72 +1,66 @@
 //! Tests of a pointer: its block is freed once, after the last owner or the last keeper, whichever thread ends that.
 
+use crate::granted::granted;
 use crate::keeper::Keeper;
 use crate::pointer::Pointer;
 use linked_list_allocator::LocalHeap;
 use std::alloc::Global;
+use std::process::Abort;
 use std::sync::Arc;
-use std::test::Fail;
 use std::thread::{self, Threads};
 
+// A heap with nothing in it.
+fn new_heap<R: Abort>(rt: &R, alloc: Global) -> LocalHeap {
+    granted(rt, LocalHeap::new(alloc, 4096))
+}
+
 // What two owners get as they give up, and whether the heap has the block before, between and after.
-fn end_two(heap: &LocalHeap) -> Option<([Option<u64>; 2], [bool; 3])> {
-    let first = Pointer::new(heap, 7).ok()?;
-    let second = first.try_clone()?;
+fn end_two<R: Abort>(rt: &R, alloc: Global) -> ([Option<u64>; 2], [bool; 3]) {
+    let heap = new_heap(rt, alloc);
+    let first = granted(rt, Pointer::new(&heap, 7));
+    let second = granted(rt, first.try_clone().ok_or(()));
     let both = heap.used() > 0;
     let early = first.give_up();
     let one = heap.used() > 0;
     let late = second.give_up();
-    Some(([early, late], [both, one, heap.used() > 0]))
-}
-
-#[test]
-fn the_last_owner_frees_the_block(rt: HostRuntime) -> Result<(), Fail> {
-    let heap = LocalHeap::new(rt.alloc(), 4096)?;
-    let ended = end_two(&heap);
-    assert!(rt; ended == Some(([None, Some(7)], [true, true, false])));
-    Ok(())
+    ([early, late], [both, one, heap.used() > 0])
 }
 
 // What the last owner and then a keeper get, and the keeper sees between; and whether the heap has the block then and at the end.
-fn outlive(heap: &LocalHeap) -> Option<([Option<u64>; 2], u64, [bool; 2])> {
-    let owner = Pointer::new(heap, 7).ok()?;
-    let keeper = owner.keep()?;
+fn outlive<R: Abort>(rt: &R, alloc: Global) -> ([Option<u64>; 2], u64, [bool; 2]) {
+    let heap = new_heap(rt, alloc);
+    let owner = granted(rt, Pointer::new(&heap, 7));
+    let keeper = granted(rt, owner.keep().ok_or(()));
     let early = owner.give_up();
     let seen = *keeper.value();
     let kept = heap.used() > 0;
     let late = keeper.give_up();
-    Some(([early, late], seen, [kept, heap.used() > 0]))
+    ([early, late], seen, [kept, heap.used() > 0])
 }
 
-#[test]
-fn a_keeper_outlives_the_last_owner(rt: HostRuntime) -> Result<(), Fail> {
-    let heap = LocalHeap::new(rt.alloc(), 4096)?;
-    let ended = outlive(&heap);
-    assert!(rt; ended == Some(([None, Some(7)], 7, [true, false])));
-    Ok(())
-}
-
-// How many have the counted value once two owners and a keeper of it are dropped, one after the other.
-fn drop_all(heap: &LocalHeap, counted: &Arc<u64>) -> Option<[usize; 3]> {
-    let value = Arc::try_clone(counted).ok()?;
-    let first = Pointer::new(heap, value).ok()?;
-    let second = first.try_clone()?;
-    let keeper = second.keep()?;
+// How many have a counted value once two owners and a keeper of it are dropped, one after the other; and whether the heap has the block then.
+fn drop_all<R: Abort>(rt: &R, alloc: Global) -> ([usize; 3], bool) {
+    let heap = new_heap(rt, alloc);
+    let counted = granted(rt, Arc::new(alloc, 7u64));
+    let value = granted(rt, Arc::try_clone(&counted));
+    let first = granted(rt, Pointer::new(&heap, value));
+    let second = granted(rt, first.try_clone().ok_or(()));
+    let keeper = granted(rt, second.keep().ok_or(()));
     drop(first);
-    let one = Arc::strong_count(counted);
+    let one = Arc::strong_count(&counted);
     drop(second);
-    let none = Arc::strong_count(counted);
+    let none = Arc::strong_count(&counted);
     drop(keeper);
-    Some([one, none, Arc::strong_count(counted)])
+    let last = Arc::strong_count(&counted);
+    ([one, none, last], heap.used() > 0)
 }
 
+// The last one gets the value, or drops it.
 #[test]
-fn the_value_is_dropped_once(rt: HostRuntime) -> Result<(), Fail> {
-    let heap = LocalHeap::new(rt.alloc(), 4096)?;
-    let counted = Arc::new(rt.alloc(), 7)?;
-    let counts = drop_all(&heap, &counted);
-    assert!(rt; counts == Some([2, 2, 1]) && heap.used() == 0);
-    Ok(())
+fn the_last_owner_or_keeper_frees_the_block(rt: HostRuntime) {
+    assert!(rt; end_two(&rt, rt.alloc()) == ([None, Some(7)], [true, true, false]));
+    assert!(rt; outlive(&rt, rt.alloc()) == ([None, Some(7)], 7, [true, false]));
+    assert!(rt; drop_all(&rt, rt.alloc()) == ([2, 2, 1], false));
 }
 
 // Makes some owners more and ends them, and then this one.
@@ -80,37 +74,33 @@ fn clone_and_end(owner: Pointer<u64, Global>) -> Option<u64> {
 }
 
 // Two owners on two threads: what each gets.
-fn end_on_two<R: Threads>(rt: &R, alloc: Global) -> Option<(Option<u64>, Option<u64>)> {
-    let first = Pointer::new(alloc, 7).ok()?;
-    let second = first.try_clone()?;
-    Some(thread::join(
+fn end_on_two<R: Threads + Abort>(rt: &R, alloc: Global) -> (Option<u64>, Option<u64>) {
+    let first = granted(rt, Pointer::new(alloc, 7));
+    let second = granted(rt, first.try_clone().ok_or(()));
+    thread::join(
         rt,
         move || clone_and_end(first),
         move || clone_and_end(second),
-    ))
-}
-
-#[test]
-fn one_of_two_threads_gets_the_value(rt: HostRuntime) -> Result<(), Fail> {
-    for _ in 0..20u32 {
-        let ends = end_on_two(&rt, rt.alloc());
-        assert!(rt; ends == Some((Some(7), None)) || ends == Some((None, Some(7))));
-    }
-    Ok(())
+    )
 }
 
 // An owner ends on one thread, and a keeper on another: what each gets.
-fn keep_on_two<R: Threads>(rt: &R, alloc: Global) -> Option<(Option<u64>, Option<u64>)> {
-    let owner = Pointer::new(alloc, 7).ok()?;
-    let keeper: Keeper<u64, Global> = owner.keep()?;
-    Some(thread::join(rt, move || clone_and_end(owner), move || keeper.give_up()))
+fn keep_on_two<R: Threads + Abort>(rt: &R, alloc: Global) -> (Option<u64>, Option<u64>) {
+    let owner = granted(rt, Pointer::new(alloc, 7));
+    let keeper: Keeper<u64, Global> = granted(rt, owner.keep().ok_or(()));
+    thread::join(rt, move || clone_and_end(owner), move || keeper.give_up())
+}
+
+// Stops where not one of the two gets the value, in 20 rounds of each.
+fn one_gets_the_value<R: Threads + Abort>(rt: &R, alloc: Global) {
+    for _ in 0..20u32 {
+        for ends in [end_on_two(rt, alloc), keep_on_two(rt, alloc)] {
+            assert!(rt; ends == (Some(7), None) || ends == (None, Some(7)));
+        }
+    }
 }
 
 #[test]
-fn the_owner_or_the_keeper_gets_the_value(rt: HostRuntime) -> Result<(), Fail> {
-    for _ in 0..20u32 {
-        let ends = keep_on_two(&rt, rt.alloc());
-        assert!(rt; ends == Some((Some(7), None)) || ends == Some((None, Some(7))));
-    }
-    Ok(())
+fn one_of_two_threads_gets_the_value(rt: HostRuntime) {
+    one_gets_the_value(&rt, rt.alloc());
 }

@@ -48,30 +48,52 @@ where
     })
 }
 
-// Wakes a task by value during its poll, with its only waker: what the second thread saw, what the run answered, whether the Task showed the wake, and what was queued before it was dropped.
-fn wake_in_poll<R>(fixture: &Fixture<R>) -> (Seen, bool, bool, usize)
+// What is seen of a task that is woken by value during its poll, with its only waker: what the second thread saw, and whether the poll met it; what the run
+// answered, whether the Task showed the wake, what was queued, what the run of that answered, and whether its schedule value was told true; and what was counted.
+#[derive(Drop)]
+struct WokenInPoll {
+    seen: Seen,
+    met: bool,
+    rescheduled: bool,
+    shown: bool,
+    queued: usize,
+    ran: Option<bool>,
+    told: bool,
+    counts: Counts,
+}
+
+fn wake_in_poll<R>(rt: R, alloc: Global) -> WokenInPoll
 where
     R: Wait + Threads + Abort + Drop + Copy + Send + Sync,
 {
-    let (runnable, task) = calls::spawn(fixture, Behaviour::Pending);
-    let waker = calls::waker_of(fixture.rt, &runnable);
-    let (rescheduled, seen, task) = wake_beside(fixture, runnable, waker, task);
-    let shown = calls::task_shows(fixture, &task, 0x111);
-    let queued = fixture.surroundings.queued();
+    let fixture = calls::fixture(rt, alloc);
+    let surroundings = &fixture.surroundings;
+    let (runnable, task) = calls::spawn(&fixture, Behaviour::Pending);
+    let waker = calls::waker_of(rt, &runnable);
+    let (rescheduled, seen, task) = wake_beside(&fixture, runnable, waker, task);
+    let shown = calls::task_shows(&fixture, &task, 0x111);
+    let queued = surroundings.queued();
     calls::drop_task(task);
-    (seen, rescheduled, shown, queued)
+    let ran = surroundings.run_next();
+    WokenInPoll {
+        seen,
+        met: surroundings.rendezvous.met(),
+        rescheduled,
+        shown,
+        queued,
+        ran,
+        told: surroundings.infos_are(&[true]),
+        counts: fixture.counts(),
+    }
 }
 
-// A task is woken by value during its poll, with its only waker: the run answers true, and hands over with true.
+// The run answers true, and hands over with true.
 #[test]
 fn a_wake_by_value_during_the_poll_reschedules(rt: HostRuntime) {
-    let fixture = calls::fixture(rt, rt.alloc());
-    let seen = wake_in_poll(&fixture);
-    let ran = fixture.surroundings.run_next();
-    let met = fixture.surroundings.rendezvous.met();
-    let told = fixture.surroundings.infos_are(&[true]);
-    assert!(rt; (seen, ran, met, told) == (([true; 3], true, true, 1), Some(false), true, true));
-    assert!(rt; fixture.counts() == Counts::new(1, 1, 1, 1));
+    let woken = wake_in_poll(rt, rt.alloc());
+    assert!(rt; woken.seen == [true; 3] && woken.met && woken.rescheduled && woken.shown);
+    assert!(rt; (woken.queued, woken.ran, woken.told) == (1, Some(false), true));
+    assert!(rt; woken.counts == Counts::new(1, 1, 1, 1));
 }
 
 // Runs, and polls the Cancel during the poll: what the run answers, whether the Cancel waits with its awaiter unwoken, and the Cancel. Stops where there is no thread.
@@ -104,40 +126,48 @@ where
     })
 }
 
-// What was seen of a Cancel that is polled during the poll of the future and after it: whether it waited and then was empty, what the run answered, how its awaiter was woken, and what was counted before its drop.
-type Cancelled = ([bool; 2], bool, (u64, u64, u64), Counts);
-
-// Polls a Cancel during the poll of the future, which then answers like that.
-fn cancel_in_poll<R>(fixture: &Fixture<R>, behaviour: Behaviour, flag: &Flag) -> Cancelled
-where
-    R: Wait + Threads + Abort + Drop + Copy + Send + Sync,
-{
-    let (runnable, task) = calls::spawn(fixture, behaviour);
-    let (rescheduled, waits, mut cancel) = cancel_beside(fixture, runnable, task.cancel(), flag);
-    let woken = calls::ends_of(flag);
-    let (_, empty) = calls::poll_cancel(&mut cancel, flag);
-    let ended = fixture.counts();
-    calls::drop_cancel(cancel);
-    ([waits, empty], rescheduled, woken, ended)
+// What is seen of a Cancel that is polled during the poll of the future and after it: whether it waited and then was empty, and whether the first poll met the
+// run; what the run answered; how its awaiter had been woken, and was at last; how many outputs were dropped; and what was counted before its drop and after it.
+#[derive(Drop)]
+struct Cancelled {
+    went: [bool; 3],
+    rescheduled: bool,
+    woken: [(u64, u64, u64); 2],
+    output_drops: u64,
+    counts: [Counts; 2],
 }
 
-// A Cancel waits as long as the future is polled, and no output comes of it.
-fn cancel_waits<R>(rt: R, alloc: Global, behaviour: Behaviour, output_drops: u64)
+// Polls a Cancel during the poll of the future, which then answers like that.
+fn cancel_in_poll<R>(rt: R, alloc: Global, behaviour: Behaviour) -> Cancelled
 where
     R: Wait + Threads + Abort + Drop + Copy + Send + Sync,
 {
     let fixture = calls::fixture(rt, alloc);
     let flag = calls::flag(&fixture, 1);
-    let seen = cancel_in_poll(&fixture, behaviour, &flag);
-    let met = fixture.surroundings.rendezvous.met();
-    let last = (met, flag.wakes(), fixture.output_drops(), fixture.counts());
-    assert!(rt;
-        (seen, last)
-            == (
-                ([true; 2], false, (1, 1, 0), Counts::new(1, 0, 1, 0)),
-                (true, 1, output_drops, Counts::new(1, 0, 1, 1))
-            )
-    );
+    let (runnable, task) = calls::spawn(&fixture, behaviour);
+    let (rescheduled, waits, mut cancel) = cancel_beside(&fixture, runnable, task.cancel(), &flag);
+    let woken = calls::ends_of(&flag);
+    let (_, empty) = calls::poll_cancel(&mut cancel, &flag);
+    let ended = fixture.counts();
+    calls::drop_cancel(cancel);
+    Cancelled {
+        went: [waits, empty, fixture.surroundings.rendezvous.met()],
+        rescheduled,
+        woken: [woken, calls::ends_of(&flag)],
+        output_drops: fixture.output_drops(),
+        counts: [ended, fixture.counts()],
+    }
+}
+
+// Stops where a Cancel does not wait as long as the future is polled, or an output comes of it.
+fn cancel_waits<R>(rt: R, alloc: Global, behaviour: Behaviour, output_drops: u64)
+where
+    R: Wait + Threads + Abort + Drop + Copy + Send + Sync,
+{
+    let seen = cancel_in_poll(rt, alloc, behaviour);
+    assert!(rt; seen.went == [true; 3] && !seen.rescheduled && seen.output_drops == output_drops);
+    assert!(rt; seen.woken == [(1, 1, 0); 2]);
+    assert!(rt; seen.counts == [Counts::new(1, 0, 1, 0), Counts::new(1, 0, 1, 1)]);
 }
 
 // It waits as long as the future is polled, and no output comes of it, whatever the poll answers.

@@ -1,10 +1,12 @@
-//! An awaiter that counts each kind of end apart, and whose drop may wait for a second thread.
+//! An awaiter whose drop may wait for a second thread, and tasks that any kind of awaiter may await.
 ghost use Rattle.std.specs.Prelude.{⊤};
 
+use crate::calls::ends_of;
 use crate::granted::granted;
 use async_task::{Runnable, Task, TaskClosed, TaskPoll, Wake, spawn};
 use rows_fixtures::behaviour::Behaviour;
-use rows_fixtures::counters::{Counter, Counters};
+use rows_fixtures::counters::Counters;
+use rows_fixtures::flag::Flag;
 use rows_fixtures::future::RowFuture;
 use rows_fixtures::output::is_ready_with;
 use rows_fixtures::rendezvous::Rendezvous;
@@ -13,83 +15,38 @@ use std::alloc::Global;
 use std::process::Abort;
 use std::sync::{Arc, Wait};
 
-/// How often an awaiter was cloned, and how the clones ended.
-#[derive(Clone, Copy, PartialEq, Eq)]
-pub struct Ends {
-    /// Clones.
-    pub clones: u64,
-    /// Wakes by value.
-    pub wakes: u64,
-    /// Wakes by reference, which end nothing.
-    pub wakes_by_ref: u64,
-    /// Drops of what was not woken by value.
-    pub drops: u64,
-}
-
-impl Ends {
-    /// The numbers, in the order in which they stand above.
-    pub fn new(clones: u64, wakes: u64, wakes_by_ref: u64, drops: u64) -> Ends {
-        Ends {
-            clones,
-            wakes,
-            wakes_by_ref,
-            drops,
-        }
-    }
-}
-
-// What an awaiter and its clones share.
-#[derive(Drop)]
-struct Tally {
-    clones: Counter,
-    wakes: Counter,
-    wakes_by_ref: Counter,
-    drops: Counter,
-    rendezvous: Rendezvous,
-}
-
-/// An awaiter that counts each kind of end apart, all clones together. A drop comes to the meeting where that is armed.
+/// An awaiter that counts as a flag does, and knows no other. A drop comes to the meeting where that is armed.
 pub struct Watched {
-    tally: Arc<Tally>,
+    flag: Flag,
+    rendezvous: Arc<Rendezvous>,
 }
 
 impl Watched {
     /// An awaiter with counters at zero. Stops where there is no memory.
     pub fn new<R: Abort>(rt: &R, alloc: Global) -> Watched {
-        let tally = Tally {
-            clones: Counter::new(),
-            wakes: Counter::new(),
-            wakes_by_ref: Counter::new(),
-            drops: Counter::new(),
-            rendezvous: Rendezvous::new(),
-        };
         Watched {
-            tally: granted(rt, Arc::new(alloc, tally)),
+            flag: granted(rt, Flag::new(alloc, 0)),
+            rendezvous: granted(rt, Arc::new(alloc, Rendezvous::new())),
         }
     }
 
-    /// The counters so far.
-    pub fn ends(&self) -> Ends {
-        Ends {
-            clones: self.tally.clones.get(),
-            wakes: self.tally.wakes.get(),
-            wakes_by_ref: self.tally.wakes_by_ref.get(),
-            drops: self.tally.drops.get(),
-        }
+    /// How often it was cloned and woken, and how many of its clones were dropped unwoken.
+    pub fn ends(&self) -> (u64, u64, u64) {
+        ends_of(&self.flag)
     }
 
     /// Where a drop meets a second thread.
     pub fn rendezvous(&self) -> &Rendezvous {
-        &self.tally.rendezvous
+        &self.rendezvous
     }
 }
 
 impl Drop for Watched {
     fn drop(self) {
-        let Watched { tally } = self;
-        tally.drops.add_one();
-        tally.rendezvous.meet();
-        drop(tally);
+        let Watched { flag, rendezvous } = self;
+        drop(flag);
+        rendezvous.meet();
+        drop(rendezvous);
     }
 }
 
@@ -103,21 +60,19 @@ impl Wake for Watched {
     ghost compared = { λ _ _ _. ⊤ };
 
     fn wake(self) {
-        let Watched { tally } = self;
-        tally.wakes.add_one();
-        drop(tally);
+        let Watched { flag, rendezvous } = self;
+        flag.wake();
+        drop(rendezvous);
     }
 
     fn wake_by_ref(&self) {
-        self.tally.wakes_by_ref.add_one();
+        self.flag.wake_by_ref();
     }
 
     fn try_clone(&self) -> Option<Watched> {
-        let Ok(tally) = Arc::try_clone(&self.tally) else {
-            return None;
-        };
-        tally.clones.add_one();
-        Some(Watched { tally })
+        let rendezvous = Arc::try_clone(&self.rendezvous).ok()?;
+        let flag = self.flag.try_clone()?;
+        Some(Watched { flag, rendezvous })
     }
 
     fn will_wake(&self, _other: &Watched) -> bool {
@@ -141,12 +96,6 @@ pub type AwaitedRunnable<R, A> = Runnable<R, RowFuture, Scheduler, (), A, ()>;
 
 /// A Task without surroundings that is awaited by such awaiters.
 pub type AwaitedTask<R, A> = Task<R, RowFuture, Scheduler, (), A, ()>;
-
-/// A Runnable of a task that is awaited by awaiters that count their ends.
-pub type WatchedRunnable<R> = AwaitedRunnable<R, Watched>;
-
-/// A Task that is awaited by awaiters that count their ends.
-pub type WatchedTask<R> = AwaitedTask<R, Watched>;
 
 /// What a poll of such a Task answered: whether it is pending, whether it is ready with the number that was asked for, and whether it is closed.
 pub type Polled = (bool, bool, bool);
