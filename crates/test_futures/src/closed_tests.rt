@@ -1,4 +1,5 @@
 //! Timers that are closed while futures await them.
+//! Of what is only tested (the page of `future_time`): that a clone which a poll made is woken by `close`.
 use crate::calls::{Answer, after, look, now, sleep_until, timers};
 use crate::counter::Counter;
 

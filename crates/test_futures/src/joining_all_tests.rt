@@ -1,4 +1,5 @@
 //! `join_all`: when a part is dropped, what is polled and woken until then, and that a drop leaves nothing.
+//! Of what is only tested (the page of `future_parts`): Parts.
 use crate::counter::{Counter, poll};
 use crate::granted::granted;
 use crate::steps::{Steps, after_polls, no_polls, seen};

@@ -1,7 +1,8 @@
 //! `join`: when a part is dropped, what is polled and woken until then, and that a drop leaves nothing.
+//! Of what is only tested (the page of `future_parts`): Parts.
 use crate::counter::{Counter, poll};
 use crate::steps::{after_polls, no_polls, seen};
-use future_parts::{join, ready, yield_now};
+use future_parts::join;
 use task_core::Poll;
 
 // The first one is ready at the second poll, and then dropped and not polled again. The second one is ready at the fourth.
@@ -39,12 +40,4 @@ fn a_join_that_is_dropped_half_way_leaves_nothing(rt: HostRuntime) {
     drop(both);
     assert!(rt; answer == Poll::Pending);
     assert!(rt; (halfway, seen(&polls)) == ((2, 1), (2, 0)));
-}
-
-#[test]
-fn joins_nest(rt: HostRuntime) {
-    let waker = Counter::new(&rt, rt.alloc());
-    let mut all = join(ready(1u64), join(yield_now(), ready(2u64)));
-    let answers = (poll(&mut all, &waker), poll(&mut all, &waker));
-    assert!(rt; answers == (Poll::Pending, Poll::Ready((1, ((), 2)))));
 }

@@ -1,4 +1,5 @@
 //! A mutex: its value, and who has it next.
+//! Of what is only tested (the page of `future_parts`): Outer calls.
 use crate::counter::{Counter, is_ready, output};
 use crate::granted::granted;
 use crate::token::{Token, make_token, no_tokens, tokens};

@@ -1,4 +1,5 @@
 //! `Notify`: whom it notifies, and what is kept.
+//! Of what is only tested (the page of `future_parts`): Outer calls.
 use crate::counter::{Counter, is_ready};
 use crate::granted::granted;
 use future_parts::{Notified, Notify};

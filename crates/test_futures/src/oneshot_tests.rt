@@ -1,4 +1,5 @@
 //! A oneshot: its value, and ends that go.
+//! Of what is only tested (the page of `future_parts`): Outer calls.
 use crate::counter::{Counter, poll};
 use crate::granted::granted;
 use crate::token::{Token, make_token, no_tokens, tokens};

@@ -1,4 +1,5 @@
 //! `race`: when a part is dropped, what is polled until then, and that a drop leaves nothing.
+//! Of what is only tested (the page of `future_parts`): Parts.
 use crate::counter::{Counter, poll};
 use crate::steps::{after_polls, no_polls, seen};
 use future_parts::{Raced, join, pending, race, ready};

@@ -1,4 +1,5 @@
 //! Memory that is refused: whichever request it is, no timer that was made is lost. Run them with each request failing in turn.
+//! Of what is only tested (the page of `future_time`): that a refused request for memory loses no timer.
 use crate::calls::{after, now};
 use crate::mark::Mark;
 use future_time::{Sleep, TimerError, Timers};

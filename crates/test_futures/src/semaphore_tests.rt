@@ -1,4 +1,5 @@
 //! A semaphore: who has the next permit, and that none is lost.
+//! Of what is only tested (the page of `future_parts`): Outer calls.
 use crate::counter::{Counter, is_ready, output};
 use crate::granted::granted;
 use future_parts::{Acquire, Permit, Semaphore};

@@ -1,4 +1,5 @@
 //! What the errors of futures say, and how those are shown that hold a value.
+//! Of what is only tested (the pages of `future_parts` and `future_time`): what errors say.
 use crate::granted::granted;
 use future_parts::{TryReceiveError, TrySendError};
 use future_time::{Closed, Refused, TimeoutError, TimerError};

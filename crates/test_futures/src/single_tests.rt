@@ -1,4 +1,5 @@
 //! `yield_now`: that it wakes no more often than once.
+//! Of what is only tested (the page of `future_parts`): Parts.
 use crate::counter::{Counter, poll};
 use future_parts::yield_now;
 use task_core::Poll;

@@ -1,4 +1,5 @@
 //! `sleep`, at times that the test gives: when it is ready, when its waker is woken, and what a drop leaves.
+//! Of what is only tested (the page of `future_time`): that a clone which a poll made is woken by `fire`.
 use crate::calls::{Answer, after, look, now, sleep_until, timers};
 use crate::counter::Counter;
 

@@ -1,4 +1,5 @@
 //! 64 threads at one channel, and at one semaphore.
+//! Of what is only tested (the page of `future_parts`): Threads.
 use crate::bell::{Bell, block_on, poll_once};
 use crate::granted::granted;
 use future_parts::{Permit, Receiver, Semaphore, Sender, channel};

@@ -1,4 +1,5 @@
 //! Timers that a thread drives, and futures that threads await. Nothing here depends on how fast the machine is: a sleep may last longer than its time.
+//! Of what is only tested (the page of `future_time`): what a driver does, and 64 threads that sleep.
 use crate::calls::now;
 use crate::granted::granted;
 use executor::shared_waker::block_on;

@@ -1,4 +1,5 @@
 //! Very many sleeps, half of which are dropped before their time.
+//! Of what is only tested (the page of `future_time`): 100,000 sleeps.
 
 use crate::calls::{after, look, now, sleep_until, timers};
 use crate::counter::Counter;

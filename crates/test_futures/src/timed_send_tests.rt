@@ -1,4 +1,5 @@
 //! Memory that is refused to a channel and a timer: whichever request it is, each message that was sent comes out once, and nothing is left. Run it with each request failing in turn.
+//! Of what is only tested (the page of `future_parts`): Refused memory.
 
 use crate::calls::{after, now};
 use crate::mark::Mark;

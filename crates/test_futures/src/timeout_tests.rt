@@ -1,4 +1,5 @@
 //! `timeout`: which of the two it answers, and that its parts are dropped then.
+//! Of what is only tested (the page of `future_time`): when the parts of a timeout are dropped.
 use crate::calls::{after, now, timers};
 use crate::counter::{Counter, poll};
 use crate::granted::granted;
