@@ -5,8 +5,6 @@
 #[cfg(test)]
 mod count_tests;
 #[cfg(test)]
-mod crowd;
-#[cfg(test)]
 mod execution_tests;
 #[cfg(test)]
 mod limited;
