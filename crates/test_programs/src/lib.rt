@@ -5,8 +5,6 @@
 #[cfg(test)]
 mod count_tests;
 #[cfg(test)]
-mod crowd;
-#[cfg(test)]
 mod limited;
 #[cfg(test)]
 mod lives;

@@ -1,6 +1,6 @@
 //! Worked lives of a task, replayed: who does what, and each new word after 0x111. So a replay gives the words that were settled before the machine was
 //! written, and allows the steps of the worked rows.
-//! Of what is only tested (docs/PROOFS.md): Programs.
+//! Of what is only tested (crates/task_replay/README.md): Lives.
 
 use crate::stops::{granted, holds};
 use crate::turns::{halves, steps_of, word_of};

@@ -1,14 +1,12 @@
-//! Replays and players answer if there is memory, and say so if there is none.
-//! Of what is only tested (docs/PROOFS.md): Programs.
+//! A replay comes to its end if there is memory, and says so if there is none; it keeps none.
+//! Of what is only tested (crates/task_replay/README.md): Memory.
 
 use crate::stops::granted;
 use crate::turns::{END, GAIN};
 use linked_list_allocator::LocalHeap;
-use std::alloc::{Allocator, Global};
+use std::alloc::Global;
 use std::process::Abort;
 use task_core::word::LIMIT;
-use task_laws::positions::{Position, Rest};
-use task_replay::player::{PlayError, Player};
 use task_replay::{ReplayError, Step, replay};
 
 // Whether a replay with so much memory comes to its end. Stops where it fails for another reason, ends at another word than that of nine references, or keeps
@@ -45,41 +43,4 @@ fn refused_memory_is_told(rt: HostRuntime) {
         refusals = refusals.saturating_add(1);
     }
     panic!(rt; "no heap was large enough")
-}
-
-// Whether a player that gains 8 references is refused memory for one. Stops where it does not stand as before then.
-fn is_refused<R: Abort, A: Allocator>(rt: &R, player: &mut Player<A>) -> bool {
-    for _ in 0..8 {
-        let word = player.machine().word();
-        let steps = player.steps();
-        if player.play(GAIN) == Err(PlayError::NoMemory) {
-            let machine = player.machine();
-            assert!(rt; machine.word() == word && player.steps() == steps);
-            assert!(rt; machine.position(0) == Some(Position::At(Rest::Runnable)));
-            return true;
-        }
-        granted(rt, player.play(END));
-    }
-    false
-}
-
-// .. one with so much memory.
-fn is_refused_memory<R: Abort>(rt: &R, alloc: Global, size: usize) -> bool {
-    let heap = granted(rt, LocalHeap::new(alloc, size));
-    match Player::new(&heap, LIMIT) {
-        Ok(mut player) => is_refused(rt, &mut player),
-        Err(_) => false,
-    }
-}
-
-// Each heap is one block larger than the one before. A step that is refused for want of memory leaves the player as it was.
-#[test]
-fn a_player_without_memory_stands_as_before(rt: HostRuntime) {
-    let mut refusals = 0u32;
-    for blocks in 0..64usize {
-        if is_refused_memory(&rt, rt.alloc(), 16 * blocks) {
-            refusals = refusals.saturating_add(1);
-        }
-    }
-    assert!(rt; refusals > 2);
 }

@@ -6,14 +6,13 @@
 //!
 //! What no run reaches has no case: COMPLETED beside SCHEDULED or RUNNING, and a word that does not fit EndClosed or EndRegisterNotified where a party is
 //! to make them. CloseOrphan, Unschedule and EndNotify ask for nothing. These five are refused by the position alone.
-//! Of what is only tested (docs/PROOFS.md): Programs.
+//! Of what is only tested (crates/task_replay/README.md): Refusals.
 
 use crate::stops::{granted, holds};
 use crate::turns::{halves, is_refused_at, player_after, step_of, steps_of, word_of};
 use std::alloc::Global;
 use std::process::Abort;
 use task_core::word::Word;
-use task_laws::positions::{NotifyingCall, Position, Rest, WithoutPoll};
 use task_replay::Step;
 use task_replay::input::{content, is_blank};
 use task_replay::player::PlayError;
@@ -138,29 +137,6 @@ const LIMITS: [(u64, &str); 6] = [
 // Turns, and an act that no word fits, at the limit 0.
 const NO_ROOM: [(&str, &str); 2] = [("0 starts", "2 gain-reference"), ("", "0 gain-reference")];
 
-// Turns, an act that is never made after them, and where its party stands.
-const NEVER: [(&str, Position); 10] = [
-    (": 1 gain-reference", Position::At(Rest::Task(0))),
-    (": 0 wake-scheduled", Position::At(Rest::Runnable)),
-    ("0 gains: 3 close-orphan", Position::At(Rest::Waker)),
-    ("0 gains: 3 look", Position::At(Rest::Waker)),
-    (": 0 look", Position::At(Rest::Runnable)),
-    (": 2 drop-waker", Position::At(Rest::Lent)),
-    (
-        "0 discard-open: 0 unschedule",
-        Position::FutureInHand(WithoutPoll::DroppedRunnable),
-    ),
-    ("0 pends: 0 end-closed", Position::Pending),
-    (
-        "1 polls, 0 unschedules, 0 begin-notify: 0 end-notify",
-        Position::Taker(NotifyingCall::OfDrop),
-    ),
-    (
-        "1 registers-and-stores: 1 end-register-notified",
-        Position::Registered(1),
-    ),
-];
-
 // A lent waker where the task has no handle left. In the first four a waker has given up the last reference of an open task, and is about to close it. The
 // word that is told has the Task: the count stays as it was found. Then, where the row alone refuses it, whether the task has a handle or none.
 const UNHELD: &str = "\
@@ -177,14 +153,6 @@ const UNHELD: &str = "\
 0 gains, 0 idles, 1 detaches, 3 orphan-task: 000: 2 wake-over: 004
 0 gains, 0 idles, 1 detaches, 3 orphan-task: 000: 2 find-limit: 400
 ";
-
-// What a lent waker does where no handle is left: it looks, it is refused a waker for want of memory, and it finds that the task is over.
-const ALLOWED: [&str; 4] = [
-    "0 gains, 0 idles, 1 detaches, 3 orphan-task: 2 look",
-    "0 gains, 0 idles, 1 detaches, 3 orphan-task: 2 refuse-gain",
-    "1 detaches, 0 drops-last: 2 wake-over",
-    "2 look, 1 detaches, 0 drops-last: 3 refuse-gain",
-];
 
 // Stops where this act, after these turns, is not refused for this reason, by a player and by a replay. The answer is the word found.
 fn refused<R: Abort>(
@@ -242,22 +210,6 @@ fn a_reference_is_refused_by_the_limit(rt: HostRuntime) {
 }
 
 #[test]
-fn each_act_is_refused_at_other_positions(rt: HostRuntime) {
-    for &(case, position) in &NEVER {
-        let (turns, turn) = halves(&rt, case);
-        let reason = Refusal::NeverThere(position);
-        refused(&rt, rt.alloc(), 4, turns, step_of(&rt, turn), reason);
-    }
-}
-
-#[test]
 fn a_lent_waker_is_refused_where_no_handle_is_left(rt: HostRuntime) {
     are_unfit(&rt, rt.alloc(), UNHELD);
-    for case in &ALLOWED {
-        let (turns, turn) = halves(&rt, case);
-        let step = step_of(&rt, turn);
-        let mut player = player_after(&rt, rt.alloc(), 4, turns);
-        let is_allowed = player.refusal(step).is_none() && player.play(step).is_ok();
-        holds(&rt, is_allowed, &case);
-    }
 }

@@ -1,5 +1,4 @@
 //! The lines that `replay_trace` reads, and what it prints: whole inputs, how far each party is, and writers that fail.
-//! Of what is only tested (docs/PROOFS.md): Programs.
 
 mod input_tests;
 mod progress_tests;

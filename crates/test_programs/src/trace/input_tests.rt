@@ -1,4 +1,5 @@
 //! What lines say, and what is expected where one cannot be read.
+//! Of what is only tested (crates/task_replay/README.md): Text.
 
 use crate::stops::{granted, holds};
 use task_core::acts::Act;

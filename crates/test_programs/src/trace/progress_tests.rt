@@ -1,4 +1,5 @@
 //! How far each party is in its call: how many steps it has left at most, and an act that it may make now.
+//! Of what is only tested (crates/task_replay/README.md): Text.
 
 use crate::trace::trace_tests::{READY, prints};
 use task_replay::row::Shown;

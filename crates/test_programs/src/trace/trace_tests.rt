@@ -1,4 +1,5 @@
 //! Whole inputs, and what is printed of them.
+//! Of what is only tested (crates/task_replay/README.md): Text.
 
 use crate::limited::Limited;
 use crate::stops::{granted, holds};
