@@ -1,8 +1,11 @@
 //! The program that plays the steps that it reads from standard input, and prints how the task stands after each.
-//! It stands on `task_replay`, which reads the arguments and the steps, and prints the rows.
+//! It stands on `task_replay`, which reads the arguments and the steps, and prints the rows; its tests, which are those of that library, on `rows_fixtures` as well.
 //! A user runs it. Nothing is public only to carry a claim.
 //! The page is README.md, beside the code.
 #![tactic(auto)]
+
+#[cfg(test)]
+mod tests;
 
 use std::io::{BufReader, BufWriter};
 use std::process::ExitCode;

@@ -2,8 +2,8 @@
 //! written, and allows the steps of the worked rows.
 //! Of what is only tested (crates/task_replay/README.md): Lives.
 
-use crate::stops::{granted, holds};
-use crate::turns::{halves, steps_of, word_of};
+use crate::tests::stops::{granted, holds};
+use crate::tests::turns::{halves, steps_of, word_of};
 use std::alloc::Global;
 use std::process::Abort;
 use task_core::word::LIMIT;

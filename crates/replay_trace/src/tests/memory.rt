@@ -1,8 +1,8 @@
 //! A replay comes to its end if there is memory, and says so if there is none; it keeps none.
 //! Of what is only tested (crates/task_replay/README.md): Memory.
 
-use crate::stops::granted;
-use crate::turns::{END, GAIN};
+use crate::tests::stops::granted;
+use crate::tests::turns::{END, GAIN};
 use linked_list_allocator::LocalHeap;
 use std::alloc::Global;
 use std::process::Abort;

@@ -1,17 +1,6 @@
-//! The words of a line of arguments, and what a program answers to them.
+//! What the program answers to an input.
 
-use std::alloc::{AllocError, Global};
 use std::test::Fail;
-
-/// The words between the spaces.
-pub fn words_of(alloc: Global, line: &str) -> Result<Vec<String>, AllocError> {
-    let mut words = Vec::new(alloc);
-    for word in line.split_whitespace() {
-        let word = String::from_str(alloc, word)?;
-        words.push(word).map_err(|_| AllocError)?;
-    }
-    Ok(words)
-}
 
 /// A status, and what was written to the output and for errors.
 #[derive(Drop)]

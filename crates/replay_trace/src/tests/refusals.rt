@@ -8,8 +8,8 @@
 //! to make them. CloseOrphan, Unschedule and EndNotify ask for nothing. These five are refused by the position alone.
 //! Of what is only tested (crates/task_replay/README.md): Refusals.
 
-use crate::stops::{granted, holds};
-use crate::turns::{halves, is_refused_at, player_after, step_of, steps_of, word_of};
+use crate::tests::stops::{granted, holds};
+use crate::tests::turns::{halves, is_refused_at, player_after, step_of, steps_of, word_of};
 use std::alloc::Global;
 use std::process::Abort;
 use task_core::word::Word;

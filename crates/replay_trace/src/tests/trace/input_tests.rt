@@ -1,7 +1,7 @@
 //! What lines say, and what is expected where one cannot be read.
 //! Of what is only tested (crates/task_replay/README.md): Text.
 
-use crate::stops::{granted, holds};
+use crate::tests::stops::{granted, holds};
 use task_core::acts::Act;
 use task_replay::input::{Expected, content, is_blank, read_limit, read_step};
 use task_replay::machine::Step;

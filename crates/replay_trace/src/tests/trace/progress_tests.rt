@@ -1,7 +1,7 @@
 //! How far each party is in its call: how many steps it has left at most, and an act that it may make now.
 //! Of what is only tested (crates/task_replay/README.md): Text.
 
-use crate::trace::trace_tests::{READY, prints};
+use crate::tests::trace::trace_tests::{READY, prints};
 use task_replay::row::Shown;
 
 // The rows of a run whose poll answers Ready, and of the Task that drops afterwards.

@@ -3,7 +3,7 @@
 //! Party 0 is the first Runnable, party 1 the Task, and party 2 the waker that is lent to each call by reference: a poll of the future gains by it. Those
 //! that are added follow: a waker, a waker that is lent to one call alone, a deliverer, a Runnable that is handed over.
 
-use crate::stops::granted;
+use crate::tests::stops::granted;
 use std::alloc::Global;
 use std::process::Abort;
 use task_core::acts::Act;

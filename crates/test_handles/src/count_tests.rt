@@ -1,7 +1,7 @@
 //! What the counting allocator counts.
 //! Of what is only tested (docs/PROOFS.md): Memory and limits.
 
-use crate::stops::granted;
+use crate::granted::granted;
 use rows_fixtures::counting::Counting;
 use std::alloc::{AllocError, Allocator};
 
