@@ -126,19 +126,25 @@ fn threads_of(word: &str) -> Option<usize> {
 
 /// Prints what may be written: the arguments, and the names of the benchmarks and lines.
 pub fn print_help<P: Print>(to: &P) -> io::Result<()> {
-    println!(to; "{HELP}\nThe benchmarks:\n")?;
+    println!(to; "{HELP}")?;
+    print_benchmarks(to)?;
+    print_lines(to)
+}
+
+fn print_benchmarks<P: Print>(to: &P) -> io::Result<()> {
+    println!(to; "The benchmarks:\n")?;
     for benchmark in Benchmark::ALL {
-        print_name(to, benchmark.name())?;
-    }
-    println!(to; "\nThe lines:\n")?;
-    for line in Line::ALL {
-        print_name(to, line.name())?;
+        println!(to; "    {}", benchmark.name())?;
     }
     Ok(())
 }
 
-fn print_name<P: Print>(to: &P, name: &str) -> io::Result<()> {
-    println!(to; "    {name}")
+fn print_lines<P: Print>(to: &P) -> io::Result<()> {
+    println!(to; "\nThe lines:\n")?;
+    for line in Line::ALL {
+        println!(to; "    {}", line.name())?;
+    }
+    Ok(())
 }
 
 /// Refuses the arguments by the help. The status is 2.
