@@ -1,9 +1,9 @@
 //! Whole inputs, and what is printed of them.
 //! Of what is only tested (crates/task_replay/README.md): Text.
 
-use rows_fixtures::limited::Limited;
 use crate::tests::stops::{granted, holds};
 use crate::tests::told::Told;
+use rows_fixtures::limited::Limited;
 use std::alloc::Global;
 use std::process::Abort;
 use task_replay::row::Shown;
