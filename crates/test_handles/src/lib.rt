@@ -12,6 +12,8 @@ mod builder_tests;
 #[cfg(test)]
 mod calls;
 #[cfg(test)]
+mod count_tests;
+#[cfg(test)]
 mod ending_tests;
 #[cfg(test)]
 mod granted;
@@ -30,6 +32,8 @@ mod pointer_tests;
 mod poll_tests;
 #[cfg(test)]
 mod registration_tests;
+#[cfg(test)]
+mod row_tests;
 #[cfg(test)]
 mod slot_tests;
 #[cfg(test)]
