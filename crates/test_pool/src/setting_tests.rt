@@ -42,7 +42,7 @@ fn count_two<R: Wait + Abort + Drop + Copy + 'static>(
     (ran, counted)
 }
 
-// The first turn takes half, and the second what it has taken.
+// The first turn takes half, and the second what that has taken.
 #[test]
 fn a_worker_counts_what_it_takes(rt: HostRuntime) {
     let counts = WorkerCounts {
@@ -53,12 +53,12 @@ fn a_worker_counts_what_it_takes(rt: HostRuntime) {
     assert!(rt; count_two(rt, rt.alloc(), Settings::new()) == ([true; 2], counts));
 }
 
-// Each turn takes one.
+// The first turn takes one, which gives way, and the second has that one again.
 #[test]
 fn a_batch_is_as_small_as_it_was_set(rt: HostRuntime) {
     let counts = WorkerCounts {
         found: 2,
-        stolen: 2,
+        stolen: 1,
         sleeps: 0,
     };
     assert!(rt; count_two(rt, rt.alloc(), Settings::new().batch(0)) == ([true; 2], counts));

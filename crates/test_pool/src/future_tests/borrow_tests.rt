@@ -71,15 +71,6 @@ fn output_of<'x, 'd, R: Wait + Drop + Copy>(mut task: SumTask<'x, 'd, R>) -> Opt
     }
 }
 
-// The sums of these are 1275 up to 50, and 5050 up to 100.
-fn numbers_up_to<R: Abort>(rt: &R, alloc: Global, last: u64) -> Vec<u64> {
-    let mut numbers = Vec::new(alloc);
-    for number in 1..=last {
-        granted(rt, numbers.push(number));
-    }
-    numbers
-}
-
 // Is the worker of a number until the shutdown. `Pool::run` would do the same, but the prover takes no call of it for futures that borrow.
 fn work<R: Wait + Abort + Drop + Copy>(pool: &SumPool<'_, R>, worker: usize) {
     let mut turns = granted(&pool.rt(), pool.turns(worker));
@@ -96,8 +87,8 @@ fn sums_of<R: Wait + Abort + Threads + Drop + Copy + Send + Sync>(
     rt: R,
     alloc: Global,
 ) -> (Option<u64>, Option<u64>) {
-    let low = numbers_up_to(&rt, alloc, 50);
-    let high = numbers_up_to(&rt, alloc, 100);
+    let low = [1u64, 2, 3, 4, 5];
+    let high = [10u64, 20, 30];
     let unfinished = AtomicU64::new(2);
     let pool = granted(&rt, SumPool::new(rt, alloc, 2));
     let first = spawned(&pool, low.as_slice(), &unfinished);
@@ -109,5 +100,5 @@ fn sums_of<R: Wait + Abort + Threads + Drop + Copy + Send + Sync>(
 #[test]
 fn two_workers_run_futures_that_borrow(rt: HostRuntime) {
     let sums = sums_of(rt, rt.alloc());
-    assert!(rt; sums == (Some(1275), Some(5050)));
+    assert!(rt; sums == (Some(15), Some(60)));
 }
