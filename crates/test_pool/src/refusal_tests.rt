@@ -4,7 +4,7 @@ ghost use Rattle.std.specs.Prelude.{⊤};
 use crate::granted::granted;
 use crate::guest::{Guests, shares_and_polls};
 use async_task::{Future, Poll, TaskPoll, Yields};
-use executor::{Pool, PoolSpawnError, PoolTask, SpawnRefusal, Turns};
+use executor::{Pool, PoolRunnable, PoolSpawnError, PoolTask, SpawnRefusal, Turns};
 use executor_parts::Nobody;
 use linked_list_allocator::LocalHeap;
 use std::alloc::{AllocError, Global};
@@ -162,6 +162,15 @@ fn count_ends<R: Wait + Drop + Copy>(tasks: &mut Vec<HeapTask<'_, '_, R>>) -> (u
     (answered, closed)
 }
 
+// Schedules a Runnable, if there is one.
+fn schedule<'x, 'heap, R: Wait + Drop + Copy>(
+    runnable: Option<PoolRunnable<'x, R, Prompt, Nobody, &'heap LocalHeap>>,
+) {
+    if let Some(runnable) = runnable {
+        runnable.schedule();
+    }
+}
+
 // What a pool comes to whose worker's queue is full while its heap is, and then has room again: why one more spawn was refused; how many tasks ran,
 // answered and were closed, among them one whose Runnable the queue refused; and whether one more ran and answered.
 fn fill_and_spawn<R: Wait + Abort + Drop + Copy>(
@@ -177,9 +186,7 @@ fn fill_and_spawn<R: Wait + Abort + Drop + Copy>(
     let filling = granted(&rt, fill(alloc, heap));
     let mut others = spawn_prompts(&pool, 0, guests, ROOM);
     let refused = refusal_of(&pool, guests);
-    if let Some(runnable) = runnable {
-        runnable.schedule();
-    }
+    schedule(runnable);
     granted(&rt, tasks.append(&mut others));
     let ran = run_prompts(&mut turns, ROOM + 1);
     let ends = count_ends(&mut tasks);

@@ -300,6 +300,22 @@ fn give_rounds<R: Wait + Clock + Drop + Copy>(
     true
 }
 
+// The rounds of two threads, after which the pool is shut down.
+fn give_by_two<R: Wait + Clock + Threads + Drop + Copy + Send + Sync>(
+    pool: &RingPool<R>,
+    ring: &Ring,
+    rounds: u64,
+    tickets: u64,
+) -> bool {
+    let (one, other) = thread::join(
+        &pool.rt(),
+        || give_rounds(pool, ring, 11, rounds, tickets),
+        || give_rounds(pool, ring, 12, rounds, tickets),
+    );
+    pool.shutdown();
+    one && other
+}
+
 // Gives all tickets, and shuts the pool down. False where a wake was lost.
 fn give_all<R: Wait + Clock + Threads + Drop + Copy + Send + Sync>(
     pool: &RingPool<R>,
@@ -307,15 +323,7 @@ fn give_all<R: Wait + Clock + Threads + Drop + Copy + Send + Sync>(
 ) -> bool {
     let rt = pool.rt();
     match ring.plan.giver {
-        Giver::Two(rounds, tickets) => {
-            let (one, other) = thread::join(
-                &rt,
-                || give_rounds(pool, ring, 11, rounds, tickets),
-                || give_rounds(pool, ring, 12, rounds, tickets),
-            );
-            pool.shutdown();
-            one && other
-        }
+        Giver::Two(rounds, tickets) => give_by_two(pool, ring, rounds, tickets),
         Giver::One(tasks) => {
             for task in 0..tasks {
                 ring.give((pool, ring.plan.workers), task);
