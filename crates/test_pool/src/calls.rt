@@ -2,12 +2,13 @@
 //! there once, and not in each test.
 
 use crate::granted::granted;
-use crate::guest::{
-    Errand, Guest, GuestPool, GuestTask, GuestTurns, Guests, spawn_guest, spawn_guests,
+use crate::guest::{Errand, Guest, GuestPool, GuestTask, GuestTurns, Guests};
+use executor::{
+    Key, PoolSpawnError, SpawnRefusal, TurnsError, keep_task, place_for_task, poll_kept,
 };
-use executor::{Key, PoolSpawnError, SpawnRefusal, keep_task, place_for_task, poll_kept};
 use executor_parts::Nobody;
 use std::alloc::{AllocError, Global};
+use std::collections::VecDeque;
 use std::process::Abort;
 use std::sync::{Arc, Wait};
 use std::thread::{self, Threads};
@@ -26,24 +27,33 @@ pub fn new_pool<R: Wait + Abort + Drop + Copy>(
     granted(&rt, GuestPool::new(rt, alloc, workers))
 }
 
-/// The Task of a guest, as `spawn_guest` spawns it. Stops where there is no memory.
+/// The Task of a guest at the queue of a worker, or from outside where there is no worker of this number. Stops where there is no memory.
 pub fn guest_task<'x, R: Wait + Abort + Drop + Copy>(
     pool: &'x GuestPool<R>,
     worker: usize,
     errand: Errand,
     guests: &Arc<Guests>,
 ) -> GuestTask<'x, R> {
-    granted(&pool.rt(), spawn_guest(pool, worker, errand, guests))
+    let guest = granted(&pool.rt(), Guest::new(errand, guests));
+    granted(&pool.rt(), pool.spawn_on(worker, guest))
 }
 
-/// The Tasks of so many guests, as `spawn_guests` spawns them. Stops where there is no memory.
+/// The Tasks of so many guests that give way ten times, spawned together. Stops where there is no memory.
 pub fn guest_tasks<'x, R: Wait + Abort + Drop + Copy>(
     pool: &'x GuestPool<R>,
     worker: usize,
     count: u64,
     guests: &Arc<Guests>,
 ) -> Vec<GuestTask<'x, R>> {
-    granted(&pool.rt(), spawn_guests(pool, worker, count, guests))
+    let rt = pool.rt();
+    let mut futures = VecDeque::new(pool.alloc());
+    for _ in 0..count {
+        let guest = granted(&rt, Guest::new(Errand::GiveWay(10), guests));
+        granted(&rt, futures.push_back(guest));
+    }
+    let mut tasks = Vec::new(pool.alloc());
+    granted(&rt, pool.spawn_many(worker, &mut futures, &mut tasks));
+    tasks
 }
 
 /// Why the spawn of a guest that gives way seven times is refused. `None` where it is not, or its future is not what the error has.
@@ -84,6 +94,14 @@ pub fn work<R: Wait + Drop + Copy + 'static>(turns: &mut GuestTurns<'_, R>) {
     turns.work();
 }
 
+/// Is the worker of a number until the pool is shut down, as `Pool::run` is: why it is refused, if it is.
+pub fn refusal_of_run<R: Wait + Drop + Copy + 'static>(
+    pool: &GuestPool<R>,
+    worker: usize,
+) -> Option<TurnsError> {
+    pool.run(worker).err()
+}
+
 /// Is both workers of a pool until it is shut down, each on a thread.
 pub fn work_both<R: Wait + Threads + Drop + Copy + Send + Sync + 'static>(
     rt: &R,
@@ -107,9 +125,9 @@ pub fn is_empty<R: Wait + Drop + Copy>(pool: &GuestPool<R>, key: &Key<R>) -> boo
     poll_kept((pool, 0), key, &Nobody).is_none()
 }
 
-/// Shuts a pool down.
-pub fn shut_down<R: Wait + Drop + Copy>(pool: &GuestPool<R>) {
-    pool.shutdown();
+/// Shuts a pool down: how many Runnables were queued.
+pub fn shut_down<R: Wait + Drop + Copy>(pool: &GuestPool<R>) -> usize {
+    pool.shutdown()
 }
 
 /// Drops a Task.

@@ -2,35 +2,31 @@
 
 use crate::calls::{drop_pool, drop_turns, new_pool, turns_of};
 use crate::granted::granted;
-use crate::guest::GuestTurns;
-use std::alloc::AllocError;
+use std::alloc::{AllocError, Global};
+use std::process::Abort;
 use std::sync::Wait;
 use std::time::{Clock, Duration, Instant};
 
-// Whether a worker finds no Runnable until the deadline.
-fn finds_none<R: Wait + Clock + Drop + Copy>(
-    turns: &mut GuestTurns<'_, R>,
-    deadline: Instant,
-) -> bool {
-    match turns.await_next_until(deadline) {
-        Some(runnable) => {
-            drop(runnable);
-            false
-        }
-        None => true,
-    }
+// Whether a worker finds no Runnable until a deadline, and how long that takes.
+fn rest_until<R: Wait + Clock + Abort + Drop + Copy>(
+    rt: R,
+    alloc: Global,
+    short: Duration,
+) -> (bool, Duration) {
+    let pool = new_pool(rt, alloc, 1);
+    let mut turns = turns_of(&pool, 0);
+    let begin = granted(&rt, Instant::now(&rt));
+    let deadline = granted(&rt, begin.checked_add(short).ok_or(AllocError));
+    let none = turns.await_next_until(deadline).is_none();
+    let rested = granted(&rt, begin.elapsed(&rt));
+    drop_turns(turns);
+    drop_pool(pool);
+    (none, rested)
 }
 
 #[test]
 fn a_worker_with_nothing_to_do_sleeps_until_its_deadline(rt: HostRuntime) {
-    let pool = new_pool(rt, rt.alloc(), 1);
-    let mut turns = turns_of(&pool, 0);
-    let begin = granted(&rt, Instant::now(&rt));
     let short = Duration::from_millis(20);
-    let deadline = granted(&rt, begin.checked_add(short).ok_or(AllocError));
-    let none = finds_none(&mut turns, deadline);
-    let rested = granted(&rt, begin.elapsed(&rt));
-    drop_turns(turns);
-    drop_pool(pool);
+    let (none, rested) = rest_until(rt, rt.alloc(), short);
     assert!(rt; none && short <= rested && rested.as_secs() < 20);
 }

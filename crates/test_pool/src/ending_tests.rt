@@ -2,24 +2,14 @@
 
 use crate::calls::{
     all_turns, drop_all, drop_pool, drop_tasks, guest_tasks, new_guests, new_pool,
-    refusal_of_spawn, work_both,
+    refusal_of_spawn, shut_down, work_both,
 };
-use crate::guest::{GuestPool, GuestTask, output_of, shares_and_polls};
+use crate::guest::{GuestTask, output_of, shares_and_polls};
 use executor::SpawnRefusal;
+use std::alloc::Global;
+use std::process::Abort;
 use std::sync::Wait;
-use std::thread;
-
-fn finish<R: Wait + Drop + Copy>(pool: &GuestPool<R>) {
-    pool.finish();
-}
-
-fn queued<R: Wait + Drop + Copy>(pool: &GuestPool<R>) -> usize {
-    pool.queued()
-}
-
-fn shut_down<R: Wait + Drop + Copy>(pool: &GuestPool<R>) -> usize {
-    pool.shutdown()
-}
+use std::thread::{self, Threads};
 
 // How many of the tasks have answered 1.
 fn answers<R: Wait + Drop + Copy>(tasks: &mut Vec<GuestTask<'_, R>>) -> usize {
@@ -32,14 +22,16 @@ fn answers<R: Wait + Drop + Copy>(tasks: &mut Vec<GuestTask<'_, R>>) -> usize {
     answered
 }
 
-// 100 tasks give way ten times each, and so are queued again after the call. Both workers end by themselves, and a second call changes nothing.
-#[test]
-fn a_pool_that_finishes_runs_what_is_queued(rt: HostRuntime) {
-    let guests = new_guests(&rt, rt.alloc(), 100);
-    let pool = new_pool(rt, rt.alloc(), 2);
+// Whether both workers of a pool that finishes run what is queued, and nothing is taken any more.
+fn finish_with_work<R: Wait + Abort + Threads + Drop + Copy + Send + Sync + 'static>(
+    rt: R,
+    alloc: Global,
+) -> bool {
+    let guests = new_guests(&rt, alloc, 100);
+    let pool = new_pool(rt, alloc, 2);
     let mut tasks = guest_tasks(&pool, 0, 100, &guests);
-    finish(&pool);
-    finish(&pool);
+    pool.finish();
+    pool.finish();
     let refused = refusal_of_spawn(&pool, 2, &guests);
     let mut all = all_turns(&pool);
     work_both(&rt, &mut all);
@@ -49,36 +41,53 @@ fn a_pool_that_finishes_runs_what_is_queued(rt: HostRuntime) {
     drop_all(all);
     drop_tasks(tasks);
     drop_pool(pool);
-    assert!(rt; refused == Some(SpawnRefusal::Stopped));
-    assert!(rt; answered == 100 && polls == 1100 && !is_shut_down);
+    refused == Some(SpawnRefusal::Stopped) && answered == 100 && polls == 1100 && !is_shut_down
+}
+
+// 100 tasks give way ten times each, and so are queued again after the call. Both workers end by themselves, and a second call changes nothing.
+#[test]
+fn a_pool_that_finishes_runs_what_is_queued(rt: HostRuntime) {
+    assert!(rt; finish_with_work(rt, rt.alloc()));
+}
+
+// Whether workers that have nothing to do end.
+fn finish_without_work<R: Wait + Abort + Threads + Drop + Copy + Send + Sync + 'static>(
+    rt: R,
+    alloc: Global,
+) -> bool {
+    let pool = new_pool(rt, alloc, 2);
+    let mut all = all_turns(&pool);
+    let _ = thread::join(&rt, || work_both(&rt, &mut all), || pool.finish());
+    let left = pool.queued();
+    drop_all(all);
+    drop_pool(pool);
+    left == 0
 }
 
 // Two workers may sleep already as the pool finishes: they end.
 #[test]
 fn workers_without_work_end_as_the_pool_finishes(rt: HostRuntime) {
-    let pool = new_pool(rt, rt.alloc(), 2);
-    let mut all = all_turns(&pool);
-    let _ = thread::join(&rt, || work_both(&rt, &mut all), || finish(&pool));
-    let left = queued(&pool);
-    drop_all(all);
+    assert!(rt; finish_without_work(rt, rt.alloc()));
+}
+
+// Whether two shutdowns say how much was queued, and nothing is left.
+fn shut_down_what_is_queued<R: Wait + Abort + Drop + Copy + 'static>(rt: R, alloc: Global) -> bool {
+    let guests = new_guests(&rt, alloc, 5);
+    let pool = new_pool(rt, alloc, 1);
+    let own = guest_tasks(&pool, 0, 3, &guests);
+    let outside = guest_tasks(&pool, 1, 2, &guests);
+    let before = pool.queued();
+    let cancelled = [shut_down(&pool), shut_down(&pool)];
+    let after = pool.queued();
+    let (shares, polls) = shares_and_polls(&guests);
+    drop_tasks(own);
+    drop_tasks(outside);
     drop_pool(pool);
-    assert!(rt; left == 0);
+    before == 5 && cancelled == [5, 0] && after == 0 && shares == 1 && polls == 0
 }
 
 // Three at a worker's queue and two from outside.
 #[test]
 fn a_shutdown_says_how_much_was_queued(rt: HostRuntime) {
-    let guests = new_guests(&rt, rt.alloc(), 5);
-    let pool = new_pool(rt, rt.alloc(), 1);
-    let own = guest_tasks(&pool, 0, 3, &guests);
-    let outside = guest_tasks(&pool, 1, 2, &guests);
-    let before = queued(&pool);
-    let cancelled = [shut_down(&pool), shut_down(&pool)];
-    let after = queued(&pool);
-    let (shares, polls) = shares_and_polls(&guests);
-    drop_tasks(own);
-    drop_tasks(outside);
-    drop_pool(pool);
-    assert!(rt; before == 5 && cancelled == [5, 0] && after == 0);
-    assert!(rt; shares == 1 && polls == 0);
+    assert!(rt; shut_down_what_is_queued(rt, rt.alloc()));
 }

@@ -5,7 +5,6 @@ use async_task::{Future, Poll, TaskPoll, Wake, Yields};
 use executor::{Pool, PoolTask, PoolWaker, Turns};
 use executor_parts::Nobody;
 use std::alloc::{AllocError, Global};
-use std::collections::VecDeque;
 use std::sync::atomic::{AtomicBool, AtomicU64, Ordering};
 use std::sync::{Arc, Wait};
 use std::thread::yield_now;
@@ -34,15 +33,6 @@ impl Guests {
         Ok(Arc::new(alloc, guests)?)
     }
 
-    // How many have ended, with one more.
-    fn end_one(&self) -> u64 {
-        let ended = self.ended.fetch_add(1, Ordering::SeqCst).wrapping_add(1);
-        if ended == self.wanted {
-            self.all_ended.store(true, Ordering::SeqCst);
-        }
-        ended
-    }
-
     // Keeps its thread until as many have ended as were wanted.
     fn spin<R: Wait>(&self, rt: &R) -> u64 {
         for _ in rt.forever() {
@@ -60,9 +50,7 @@ impl Guests {
 pub enum Errand {
     /// Gives way so often, and then answers 1.
     GiveWay(u64),
-    /// Does not return before all guests that give way have ended, and then answers how many they are.
-    Spin,
-    /// Spins, and ends the pool before it answers.
+    /// Does not return before all guests that give way have ended, then ends the pool, and answers how many they are.
     SpinAndEnd,
     /// Ends the pool, wakes itself, and is pending.
     ShutDown,
@@ -99,7 +87,10 @@ impl<'x, R: Wait + Drop + Copy, A: Wake> Future<PoolWaker<'x, R, Guest, A>> for 
         let (pool, _) = waker.around();
         match self.errand {
             Errand::GiveWay(0) => {
-                self.guests.end_one();
+                let before = self.guests.ended.fetch_add(1, Ordering::SeqCst);
+                if before.wrapping_add(1) == self.guests.wanted {
+                    self.guests.all_ended.store(true, Ordering::SeqCst);
+                }
                 Poll::Ready(1)
             }
             Errand::GiveWay(left) => {
@@ -107,7 +98,6 @@ impl<'x, R: Wait + Drop + Copy, A: Wake> Future<PoolWaker<'x, R, Guest, A>> for 
                 waker.wake_by_ref();
                 Poll::Pending
             }
-            Errand::Spin => Poll::Ready(self.guests.spin(&pool.rt())),
             Errand::SpinAndEnd => {
                 let ended = self.guests.spin(&pool.rt());
                 pool.shutdown();
@@ -131,34 +121,6 @@ pub type GuestTask<'x, R> = PoolTask<'x, R, Guest, Nobody>;
 
 /// The turns of a worker of such a pool.
 pub type GuestTurns<'x, R> = Turns<'x, R, Guest, Nobody>;
-
-/// Spawns a guest at the queue of a worker, or from outside where there is no worker of this number.
-pub fn spawn_guest<'x, R: Wait + Drop + Copy, A: Wake>(
-    pool: &'x Pool<R, Guest, A>,
-    worker: usize,
-    errand: Errand,
-    guests: &Arc<Guests>,
-) -> Result<PoolTask<'x, R, Guest, A>, AllocError> {
-    Ok(pool.spawn_on(worker, Guest::new(errand, guests)?)?)
-}
-
-/// Spawns so many guests that give way ten times, at the queue of a worker.
-pub fn spawn_guests<'x, R: Wait + Drop + Copy>(
-    pool: &'x GuestPool<R>,
-    worker: usize,
-    count: u64,
-    guests: &Arc<Guests>,
-) -> Result<Vec<GuestTask<'x, R>>, AllocError> {
-    let mut futures = VecDeque::new(pool.alloc());
-    for _ in 0..count {
-        futures.push_back(Guest::new(Errand::GiveWay(10), guests)?)?;
-    }
-    let mut tasks = Vec::new(pool.alloc());
-    match pool.spawn_many(worker, &mut futures, &mut tasks) {
-        Ok(()) => Ok(tasks),
-        Err(_) => Err(AllocError),
-    }
-}
 
 /// The output of a guest that has answered.
 pub fn output_of<'x, R: Wait + Drop + Copy>(task: &mut GuestTask<'x, R>) -> Option<u64> {

@@ -1,15 +1,14 @@
-//! What a pool keeps for futures: what is put there after a shutdown, and what a turn frees.
+//! What a pool keeps for futures: what is put there after a shutdown, by a key of another pool, or in the place of something else; and what a turn frees.
 ghost use Rattle.std.specs.Prelude.{⊤};
 
 use crate::calls::{
-    drop_pool, drop_turns, guest_task, is_empty, keep, new_guests, new_pool, place_of_task,
-    shut_down, tick, turns_of,
+    guest_task, is_empty, keep, new_guests, new_pool, place_of_task, tick, turns_of,
 };
 use crate::granted::granted;
-use crate::guest::{Errand, GuestPool, GuestTurns, Guests, shares_and_polls};
+use crate::guest::{Errand, shares_and_polls};
 use async_task::{Future, Poll, TaskPoll, Yields};
 use executor::{
-    Key, Pool, PoolTask, PoolWaker, collect, keep_new_waker, keep_waker, place_for_waker,
+    Key, Pool, PoolTask, PoolWaker, collect, keep_new_waker, keep_waker, place_for_waker, wake_kept,
 };
 use executor_parts::Nobody;
 use std::alloc::{AllocError, Global};
@@ -49,22 +48,22 @@ type KeepsPool<R> = Pool<R, Keeps<R>, Nobody>;
 
 type KeepsTask<'x, R> = PoolTask<'x, R, Keeps<R>, Nobody>;
 
+// Spawns a task that keeps its waker by this key, or at a new place.
 fn spawn_keeps<'x, R: Wait + Abort + Drop + Copy>(
     pool: &'x KeepsPool<R>,
     kept: &Arc<AtomicBool>,
-    has_key: bool,
+    key: Option<Key<R>>,
 ) -> KeepsTask<'x, R> {
     let rt = pool.rt();
-    let key = if has_key {
-        Some(granted(&rt, place_for_waker((pool, 0)).ok_or(AllocError)))
-    } else {
-        None
-    };
     let keeps = Keeps {
         key,
         kept: granted(&rt, Arc::try_clone(kept)),
     };
     granted(&rt, pool.spawn(keeps))
+}
+
+fn place_of_waker<R: Wait + Abort + Drop + Copy>(pool: &KeepsPool<R>) -> Key<R> {
+    granted(&pool.rt(), place_for_waker((pool, 0)).ok_or(AllocError))
 }
 
 // Runs the only task of a pool: whether it ran, and whether a poll of its Task answers that it is closed.
@@ -84,24 +83,19 @@ fn run_and_poll<R: Wait + Abort + Drop + Copy>(
     (ran, closed)
 }
 
-// Frees the places of keys that were dropped: how many places for wakers are taken then.
-fn places_left<R: Wait + Drop + Copy>(pool: &KeepsPool<R>) -> usize {
-    collect((pool, 0));
-    pool.kept_wakers()
-}
-
-// Whether a waker was kept, and how many owners that word has.
-fn kept_and_owners(kept: &Arc<AtomicBool>) -> (bool, usize) {
-    (kept.load(Ordering::SeqCst), Arc::strong_count(kept))
-}
-
 // Whether a task that keeps its waker after the shutdown is cancelled, and leaves nothing. The future, which is dropped, has the key: so a collect frees its place.
 fn is_cancelled<R: Wait + Abort + Drop + Copy>(rt: R, alloc: Global, has_key: bool) -> bool {
     let kept = granted(&rt, Arc::new(alloc, AtomicBool::new(false)));
     let pool = granted(&rt, KeepsPool::new(rt, alloc, 1));
-    let (ran, closed) = run_and_poll(&pool, spawn_keeps(&pool, &kept, has_key));
-    let (places, seen) = (places_left(&pool), kept_and_owners(&kept));
-    ran && closed && places == 0 && seen == (true, 1)
+    let key = if has_key {
+        Some(place_of_waker(&pool))
+    } else {
+        None
+    };
+    let (ran, closed) = run_and_poll(&pool, spawn_keeps(&pool, &kept, key));
+    collect((&pool, 0));
+    let seen = (kept.load(Ordering::SeqCst), Arc::strong_count(&kept));
+    ran && closed && pool.kept_wakers() == 0 && seen == (true, 1)
 }
 
 #[test]
@@ -114,56 +108,102 @@ fn a_waker_that_is_kept_at_a_new_place_after_the_shutdown_cancels_its_task(rt: H
     assert!(rt; is_cancelled(rt, rt.alloc(), false));
 }
 
-// The task was polled once and waits: it is neither queued nor kept as the pool is shut down, so it lives until its Task is put into the place. Its future, which then is dropped, has a share of what guests count.
+// Of a task that keeps its waker by a key of another pool: whether that key has the number of one of its own pool, whether the task ran, whether a waker was
+// kept, and whether one is at this number of the other pool.
+fn keep_elsewhere<R: Wait + Abort + Drop + Copy>(rt: R, alloc: Global) -> [bool; 4] {
+    let kept = granted(&rt, Arc::new(alloc, AtomicBool::new(true)));
+    let pool = granted(&rt, KeepsPool::new(rt, alloc, 1));
+    let other = granted(&rt, KeepsPool::new(rt, alloc, 1));
+    let own = place_of_waker(&pool);
+    let foreign = place_of_waker(&other);
+    let is_same = own.number() == foreign.number();
+    let (ran, _) = run_and_poll(&pool, spawn_keeps(&pool, &kept, Some(foreign)));
+    let is_there = wake_kept((&other, 0), own.number());
+    [is_same, ran, kept.load(Ordering::SeqCst), is_there]
+}
+
 #[test]
-fn a_task_that_is_kept_after_the_shutdown_is_cancelled(rt: HostRuntime) {
-    let guests = new_guests(&rt, rt.alloc(), 0);
-    let pool = new_pool(rt, rt.alloc(), 1);
+fn a_key_of_another_pool_keeps_no_waker(rt: HostRuntime) {
+    assert!(rt; keep_elsewhere(rt, rt.alloc()) == [true, true, false, false]);
+}
+
+// What is counted before and after the Task of a guest that waits is kept, after a shutdown; and whether it ran, was kept, and is gone.
+fn keep_after_shutdown<R: Wait + Abort + Drop + Copy + 'static>(
+    rt: R,
+    alloc: Global,
+) -> ([(usize, u64); 2], [bool; 3]) {
+    let guests = new_guests(&rt, alloc, 0);
+    let pool = new_pool(rt, alloc, 1);
     let key = place_of_task(&pool);
     let task = guest_task(&pool, 1, Errand::Stay, &guests);
     let mut turns = turns_of(&pool, 0);
     let ran = tick(&mut turns);
-    shut_down(&pool);
+    pool.shutdown();
     let before = shares_and_polls(&guests);
     let kept = keep(task, &key);
     let after = shares_and_polls(&guests);
-    let is_gone = is_empty(&pool, &key);
-    drop_turns(turns);
-    drop_pool(pool);
-    assert!(rt; ran && kept && is_gone && before == (2, 1) && after == (1, 1));
+    ([before, after], [ran, kept, is_empty(&pool, &key)])
 }
 
-// Keeps the Task of a guest, and drops the key: whether it was kept, and how many places for Tasks are taken.
-fn keep_and_drop_key<R: Wait + Abort + Drop + Copy>(
-    pool: &GuestPool<R>,
-    guests: &Arc<Guests>,
-) -> (bool, usize) {
-    let key = place_of_task(pool);
-    let kept = keep(guest_task(pool, 1, Errand::Stay, guests), &key);
+// The task is neither queued nor kept as the pool is shut down, so it lives until its Task is put into the place. Its future, which then is dropped, has a share of what guests count.
+#[test]
+fn a_task_that_is_kept_after_the_shutdown_is_cancelled(rt: HostRuntime) {
+    let (counted, went) = keep_after_shutdown(rt, rt.alloc());
+    assert!(rt; counted == [(2, 1), (1, 1)] && went == [true; 3]);
+}
+
+// What two guests count of which the second one's Task is kept in the place of the first one's; and whether both were kept and both Runnables ran, and a poll
+// finds a Task, once and no more.
+fn keep_two<R: Wait + Abort + Drop + Copy + 'static>(
+    rt: R,
+    alloc: Global,
+) -> ([(usize, u64); 2], [bool; 6]) {
+    let earlier = new_guests(&rt, alloc, 0);
+    let later = new_guests(&rt, alloc, 0);
+    let pool = new_pool(rt, alloc, 1);
+    let key = place_of_task(&pool);
+    let first = keep(guest_task(&pool, 1, Errand::GiveWay(0), &earlier), &key);
+    let second = keep(guest_task(&pool, 1, Errand::GiveWay(0), &later), &key);
+    let mut turns = turns_of(&pool, 0);
+    let (ran, ran_again) = (tick(&mut turns), tick(&mut turns));
+    let (is_gone, is_gone_then) = (is_empty(&pool, &key), is_empty(&pool, &key));
+    let counted = [shares_and_polls(&earlier), shares_and_polls(&later)];
+    (
+        counted,
+        [first, second, ran, ran_again, !is_gone, is_gone_then],
+    )
+}
+
+// The task of the earlier Task is never polled, and its future is dropped. That of the later one answers.
+#[test]
+fn a_task_that_is_kept_cancels_the_one_that_was_there(rt: HostRuntime) {
+    let (counted, went) = keep_two(rt, rt.alloc());
+    assert!(rt; counted == [(1, 0), (1, 1)] && went == [true; 6]);
+}
+
+// How many places for Tasks are taken before and after a turn, which an interruption keeps from a sleep, where a key was dropped whose Task was kept; and
+// what is counted then.
+fn turn_after_drop<R: Wait + Abort + Drop + Copy>(
+    rt: R,
+    alloc: Global,
+) -> (bool, [usize; 2], (usize, u64)) {
+    let guests = new_guests(&rt, alloc, 0);
+    let pool = new_pool(rt, alloc, 1);
+    let key = place_of_task(&pool);
+    let kept = keep(guest_task(&pool, 1, Errand::Stay, &guests), &key);
     drop(key);
-    (kept, pool.kept_tasks())
-}
-
-// One turn, which an interruption keeps from a sleep, and the run of what it answers: how many places for Tasks are taken then.
-fn take_turn<R: Wait + Drop + Copy>(pool: &GuestPool<R>, turns: &mut GuestTurns<'_, R>) -> usize {
+    let before = pool.kept_tasks();
+    let mut turns = turns_of(&pool, 0);
     let interruptions = pool.bells().interruptions();
     pool.bells().interrupt();
     if let Some(runnable) = turns.take_turn(interruptions) {
         runnable.run();
     }
-    pool.kept_tasks()
+    (kept, [before, pool.kept_tasks()], shares_and_polls(&guests))
 }
 
 // The turn answers the Runnable of the task that it cancelled, which drops the future.
 #[test]
 fn a_turn_frees_the_place_of_a_dropped_key(rt: HostRuntime) {
-    let guests = new_guests(&rt, rt.alloc(), 0);
-    let pool = new_pool(rt, rt.alloc(), 1);
-    let before = keep_and_drop_key(&pool, &guests);
-    let mut turns = turns_of(&pool, 0);
-    let after = take_turn(&pool, &mut turns);
-    let left = shares_and_polls(&guests);
-    drop_turns(turns);
-    drop_pool(pool);
-    assert!(rt; before == (true, 1) && after == 0 && left == (1, 0));
+    assert!(rt; turn_after_drop(rt, rt.alloc()) == (true, [1, 0], (1, 0)));
 }

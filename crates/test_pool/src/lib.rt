@@ -8,8 +8,6 @@ mod calls;
 #[cfg(test)]
 mod deadline_tests;
 #[cfg(test)]
-mod delay_tests;
-#[cfg(test)]
 mod dice;
 #[cfg(test)]
 mod ending_tests;
@@ -47,7 +45,5 @@ mod store_tests;
 mod storm_tests;
 #[cfg(test)]
 mod unclaimed_tests;
-#[cfg(test)]
-mod waiting_tests;
 #[cfg(test)]
 mod worker_tests;

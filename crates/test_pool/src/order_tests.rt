@@ -1,7 +1,9 @@
 //! The order of tasks: that in which they are spawned, and that of their turns on one worker.
 ghost use Rattle.std.specs.Prelude.{⊤};
 
-use crate::calls::{drop_pool, drop_task, drop_turns, guest_task, new_guests, new_pool, turns_of};
+use crate::calls::{
+    drop_pool, drop_task, drop_turns, guest_task, new_guests, new_pool, tick, turns_of,
+};
 use crate::granted::granted;
 use crate::guest::{Errand, output_of, shares_and_polls};
 use async_task::{Future, Poll, TaskPoll, Yields};
@@ -70,36 +72,48 @@ fn answers_of<R: Wait + Abort + Drop + Copy>(
     answers
 }
 
-// One Task is there before them.
-#[test]
-fn tasks_that_are_spawned_together_keep_their_order(rt: HostRuntime) {
-    let pool = granted(&rt, NumberedPool::new(rt, rt.alloc(), 1));
+// How many of seven turns ran a task, and what the tasks have answered.
+fn run_numbered<R: Wait + Abort + Drop + Copy>(rt: R, alloc: Global) -> (u8, Vec<u64>) {
+    let pool = granted(&rt, NumberedPool::new(rt, alloc, 1));
     let tasks = spawn_numbered(&pool);
     let mut turns = granted(&rt, pool.turns(0));
     let mut ran = 0u8;
     for _ in 0..7 {
         ran = ran.saturating_add(u8::from(turns.tick()));
     }
-    let answers = answers_of(&rt, rt.alloc(), tasks);
+    (ran, answers_of(&rt, alloc, tasks))
+}
+
+// One Task is there before them.
+#[test]
+fn tasks_that_are_spawned_together_keep_their_order(rt: HostRuntime) {
+    let (ran, answers) = run_numbered(rt, rt.alloc());
     assert!(rt; ran == 6 && answers.as_slice() == [9, 1, 2, 3, 4, 5].as_slice());
+}
+
+// What a task from outside answers beside one that wakes itself, and the polls, after 200 turns.
+fn run_beside_busy<R: Wait + Abort + Drop + Copy + 'static>(
+    rt: R,
+    alloc: Global,
+) -> (Option<u64>, (usize, u64)) {
+    let guests = new_guests(&rt, alloc, 0);
+    let pool = new_pool(rt, alloc, 1);
+    let busy = guest_task(&pool, 0, Errand::GiveWay(1000), &guests);
+    let mut task = guest_task(&pool, 1, Errand::GiveWay(0), &guests);
+    let mut turns = turns_of(&pool, 0);
+    for _ in 0..200 {
+        tick(&mut turns);
+    }
+    let seen = (output_of(&mut task), shares_and_polls(&guests));
+    drop_turns(turns);
+    drop_task(task);
+    drop_task(busy);
+    drop_pool(pool);
+    seen
 }
 
 // The one worker always has the task that wakes itself in its queue: each of the 200 turns is a poll. Once in 61 looks the worker looks outside first.
 #[test]
 fn a_task_that_wakes_itself_leaves_another_its_turn(rt: HostRuntime) {
-    let guests = new_guests(&rt, rt.alloc(), 0);
-    let pool = new_pool(rt, rt.alloc(), 1);
-    let busy = guest_task(&pool, 0, Errand::GiveWay(1000), &guests);
-    let mut task = guest_task(&pool, 1, Errand::GiveWay(0), &guests);
-    let mut turns = turns_of(&pool, 0);
-    for _ in 0..200 {
-        turns.tick();
-    }
-    let answer = output_of(&mut task);
-    let (shares, polls) = shares_and_polls(&guests);
-    drop_turns(turns);
-    drop_task(task);
-    drop_task(busy);
-    drop_pool(pool);
-    assert!(rt; answer == Some(1) && shares == 2 && polls == 200);
+    assert!(rt; run_beside_busy(rt, rt.alloc()) == (Some(1), (2, 200)));
 }

@@ -5,7 +5,6 @@ ghost use Rattle.work_queues.specs.Duties.{IsClaim};
 use crate::granted::granted;
 use linked_list_allocator::LocalHeap;
 use std::alloc::{AllocError, Global};
-use std::process::Abort;
 use std::sync::{Arc, Wait};
 use work_queues::bells::Claim;
 use work_queues::{Bells, Board, Crew, Worker};
@@ -163,34 +162,6 @@ fn a_thief_that_is_refused_memory_loses_nothing(rt: HostRuntime) {
     drop(crew);
     assert!(rt; taken && found == [1, 4, 5, 2, 3, 6, 7, 8, 9, 10, 0]);
     assert!(rt; heap.used() == 0);
-}
-
-// Whether a queue takes ten items, what a worker finds of them in one look, and what another one finds in eleven looks once the first has left with 4 and 5 in its hands.
-fn leave_and_find<R: Wait + Abort>(
-    rt: &R,
-    alloc: Global,
-    heap: &LocalHeap,
-) -> (bool, Option<u64>, [u64; 11]) {
-    let crew = granted(rt, HeapCrew::new(alloc, heap, 2, ROOM));
-    let mut worker = granted(rt, crew.worker(heap, 0));
-    let mut other = granted(rt, crew.worker(heap, 1));
-    let taken = push_ten(rt, &crew);
-    let filling = granted(rt, fill(alloc, heap));
-    let first = crew.find(rt, &mut worker);
-    drop(filling);
-    drop(crew.end_turns(rt, worker));
-    let found = find_eleven(rt, &crew, &mut other);
-    drop(crew.end_turns(rt, other));
-    (taken, first, found)
-}
-
-// Outside stand 6 to 10, and behind these 4 and 5, of which the other worker takes half at a time. Then it takes 2 and 3 out of the first one's queue.
-#[test]
-fn another_worker_finds_what_one_that_leaves_had_in_its_hands(rt: HostRuntime) {
-    let heap = granted(&rt, LocalHeap::new(rt.alloc(), 2 * HEAP));
-    let (taken, first, found) = leave_and_find(&rt, rt.alloc(), &heap);
-    let is_all = found == [6, 7, 8, 9, 10, 4, 5, 2, 3, 0, 0];
-    assert!(rt; taken && first == Some(1) && is_all);
 }
 
 // Pushes 11 at the queue for what comes from outside until it is refused memory, and takes its first item: then it has room for one.

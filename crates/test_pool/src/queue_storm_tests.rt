@@ -46,10 +46,6 @@ fn sum(counts: &[AtomicU64; 2]) -> u64 {
 }
 
 impl Storm {
-    fn is_over(&self) -> bool {
-        self.over.load(Ordering::SeqCst)
-    }
-
     // Pushes an item at a queue that is drawn, and may interrupt workers after it. False where it was refused.
     fn push<R: Wait>(&self, rt: &R, dice: &mut Dice) -> bool {
         let item = dice.draw(1000);
@@ -88,7 +84,10 @@ impl Storm {
 
     // All rounds. False where an item was lost.
     fn push_all<R: Wait + Clock>(&self, rt: &R, seed: u64) -> bool {
-        let mut dice = Dice(seed);
+        let mut dice = Dice {
+            state: seed,
+            delays: true,
+        };
         for _ in 0..ROUNDS {
             if !self.round(rt, &mut dice) {
                 return false;
@@ -99,10 +98,13 @@ impl Storm {
 
     // Takes items until the storm is over.
     fn find_all<R: Wait + Clock>(&self, rt: &R, worker: &mut Worker<u64>, seed: u64) {
-        let mut dice = Dice(seed);
+        let mut dice = Dice {
+            state: seed,
+            delays: true,
+        };
         for _ in rt.forever() {
             let interruptions = self.crew.bells().interruptions();
-            if self.is_over() {
+            if self.over.load(Ordering::SeqCst) {
                 return;
             }
             match self.crew.find(rt, worker) {

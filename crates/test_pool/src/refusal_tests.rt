@@ -162,25 +162,6 @@ fn count_ends<R: Wait + Drop + Copy>(tasks: &mut Vec<HeapTask<'_, '_, R>>) -> (u
     (answered, closed)
 }
 
-// Spawns one task more, and runs the next one: whether there was one, and whether the one more has answered.
-fn run_one_more<'x, 'heap, R: Wait + Abort + Drop + Copy>(
-    pool: &'x HeapPool<'heap, R>,
-    turns: &mut HeapTurns<'x, 'heap, R>,
-    guests: &Arc<Guests>,
-) -> (bool, bool) {
-    let mut later = spawn_prompt(pool, 1, guests);
-    let ran = tick(turns);
-    let answered = matches!(later.poll(&Nobody), TaskPoll::Ready(Ok(1)));
-    (ran, answered)
-}
-
-// Takes the next Runnable.
-fn next<'x, 'heap, R: Wait + Drop + Copy>(
-    turns: &mut HeapTurns<'x, 'heap, R>,
-) -> Option<PoolRunnable<'x, R, Prompt, Nobody, &'heap LocalHeap>> {
-    turns.next()
-}
-
 // Schedules a Runnable, if there is one.
 fn schedule<'x, 'heap, R: Wait + Drop + Copy>(
     runnable: Option<PoolRunnable<'x, R, Prompt, Nobody, &'heap LocalHeap>>,
@@ -201,7 +182,7 @@ fn fill_and_spawn<R: Wait + Abort + Drop + Copy>(
     let pool = new_pool(rt, alloc, heap);
     let mut turns = turns_of(&pool);
     let mut tasks = spawn_prompts(&pool, 0, guests, 1);
-    let runnable = next(&mut turns);
+    let runnable = turns.next();
     let filling = granted(&rt, fill(alloc, heap));
     let mut others = spawn_prompts(&pool, 0, guests, ROOM);
     let refused = refusal_of(&pool, guests);
@@ -210,12 +191,15 @@ fn fill_and_spawn<R: Wait + Abort + Drop + Copy>(
     let ran = run_prompts(&mut turns, ROOM + 1);
     let ends = count_ends(&mut tasks);
     drop(filling);
-    let later = run_one_more(&pool, &mut turns, guests);
+    let mut later = spawn_prompt(&pool, 1, guests);
+    let ran_later = tick(&mut turns);
+    let answered = matches!(later.poll(&Nobody), TaskPoll::Ready(Ok(1)));
+    drop(later);
     drop_turns(turns);
     drop_tasks(tasks);
     drop_tasks(others);
     drop_pool(pool);
-    (refused, ran, ends, later)
+    (refused, ran, ends, (ran_later, answered))
 }
 
 // The queue has room for 64 Runnables. A spawn that finds none has its future back; the Runnable of a wake that finds none is dropped, which closes its task. Nothing else is lost.

@@ -157,29 +157,6 @@ fn an_interruption_is_due_until_it_is_heard(rt: HostRuntime) {
     assert!(rt; sees && !lies && bells.interruptions() == 2);
 }
 
-// Two threads are never one worker.
-#[test]
-fn a_number_is_claimed_once_until_it_is_given_back(rt: HostRuntime) {
-    let crew = granted(&rt, Crew::<u64>::new(rt.alloc(), rt.alloc(), 1, ROOM));
-    let worker = granted(&rt, crew.worker(rt.alloc(), 0));
-    let taken = is_claimed(&rt, rt.alloc(), &crew, 0);
-    drop(crew.end_turns(&rt, worker));
-    let free = is_claimed(&rt, rt.alloc(), &crew, 0);
-    let missing = is_claimed(&rt, rt.alloc(), &crew, 1);
-    assert!(rt; taken && !free && missing);
-}
-
-// Whether there is no worker of this number to be had.
-fn is_claimed<R: Wait>(rt: &R, alloc: Global, crew: &Crew<u64>, number: usize) -> bool {
-    match crew.worker(alloc, number) {
-        Ok(worker) => {
-            drop(crew.end_turns(rt, worker));
-            false
-        }
-        Err(_) => true,
-    }
-}
-
 // Whether worker 0 and worker 1 see something to take.
 fn seen(board: &Board<u64>) -> (bool, bool) {
     (board.has_some_for(0), board.has_some_for(1))
@@ -284,17 +261,4 @@ fn an_interruption_ends_a_sleep(rt: HostRuntime) {
     );
     drop(crew.end_turns(&rt, worker));
     assert!(rt; slept && rested < LONG);
-}
-
-// A worker that has nothing to do sleeps as long as it may, and no longer.
-#[test]
-fn a_sleep_ends_at_its_time(rt: HostRuntime) {
-    let crew = granted(&rt, Crew::<u64>::new(rt.alloc(), rt.alloc(), 1, ROOM));
-    let mut worker = granted(&rt, crew.worker(rt.alloc(), 0));
-    let begin = granted(&rt, Instant::now(&rt));
-    let most = Some(Duration::from_millis(20));
-    crew.rest(&rt, &mut worker, crew.bells().interruptions(), most);
-    let rested = granted(&rt, begin.elapsed(&rt));
-    drop(crew.end_turns(&rt, worker));
-    assert!(rt; Duration::from_millis(20) <= rested && rested.as_secs() < LONG);
 }

@@ -6,7 +6,7 @@ use crate::calls::{
     turns_of,
 };
 use crate::granted::granted;
-use crate::guest::{Errand, GuestPool, GuestTurns, output_of};
+use crate::guest::{Errand, GuestPool, output_of};
 use async_task::{Future, Poll, Yields};
 use executor::{Pool, PoolWaker, Settings, WithShared, WorkerCounts};
 use executor_parts::Nobody;
@@ -24,52 +24,50 @@ fn pool_with<R: Wait + Abort + Drop + Copy>(
     granted(&rt, GuestPool::with_settings(rt, alloc, alloc, 2, settings))
 }
 
-fn counts_of<R: Wait + Drop + Copy>(turns: &GuestTurns<'_, R>) -> WorkerCounts {
-    turns.counts()
-}
-
-fn counts(found: u64, stolen: u64) -> WorkerCounts {
-    WorkerCounts {
-        found,
-        stolen,
-        sleeps: 0,
-    }
-}
-
-// Ten tasks wait at the queue of worker 1, which has no thread. Worker 0 takes half, or one where batches are of one, and then what it has taken.
-#[test]
-fn a_worker_counts_what_it_takes(rt: HostRuntime) {
-    let guests = new_guests(&rt, rt.alloc(), 0);
-    let pool = pool_with(rt, rt.alloc(), Settings::new());
+// What a worker counts of which two turns run tasks, where ten wait at the queue of another worker, which has no thread; and whether both turns did.
+fn count_two<R: Wait + Abort + Drop + Copy + 'static>(
+    rt: R,
+    alloc: Global,
+    settings: Settings,
+) -> ([bool; 2], WorkerCounts) {
+    let guests = new_guests(&rt, alloc, 0);
+    let pool = pool_with(rt, alloc, settings);
     let tasks = guest_tasks(&pool, 1, 10, &guests);
     let mut turns = turns_of(&pool, 0);
     let ran = [tick(&mut turns), tick(&mut turns)];
-    let counted = counts_of(&turns);
+    let counted = turns.counts();
     drop_turns(turns);
     drop_tasks(tasks);
     drop_pool(pool);
-    assert!(rt; ran == [true, true] && counted == counts(2, 5));
+    (ran, counted)
 }
 
+// The first turn takes half, and the second what that has taken.
+#[test]
+fn a_worker_counts_what_it_takes(rt: HostRuntime) {
+    let counts = WorkerCounts {
+        found: 2,
+        stolen: 5,
+        sleeps: 0,
+    };
+    assert!(rt; count_two(rt, rt.alloc(), Settings::new()) == ([true; 2], counts));
+}
+
+// The first turn takes one, which gives way, and the second has that one again.
 #[test]
 fn a_batch_is_as_small_as_it_was_set(rt: HostRuntime) {
-    let guests = new_guests(&rt, rt.alloc(), 0);
-    let pool = pool_with(rt, rt.alloc(), Settings::new().batch(0));
-    let tasks = guest_tasks(&pool, 1, 10, &guests);
-    let mut turns = turns_of(&pool, 0);
-    let ran = tick(&mut turns);
-    let counted = counts_of(&turns);
-    drop_turns(turns);
-    drop_tasks(tasks);
-    drop_pool(pool);
-    assert!(rt; ran && counted == counts(1, 1));
+    let counts = WorkerCounts {
+        found: 2,
+        stolen: 1,
+        sleeps: 0,
+    };
+    assert!(rt; count_two(rt, rt.alloc(), Settings::new().batch(0)) == ([true; 2], counts));
 }
 
-// The worker has a task of its own, and one waits outside.
-#[test]
-fn what_comes_from_outside_is_first_as_often_as_was_set(rt: HostRuntime) {
-    let guests = new_guests(&rt, rt.alloc(), 0);
-    let pool = pool_with(rt, rt.alloc(), Settings::new().outside_every(1));
+// Whether a worker that looks outside first at each look runs what waits there.
+fn look_outside_first<R: Wait + Abort + Drop + Copy + 'static>(rt: R, alloc: Global) -> bool {
+    let guests = new_guests(&rt, alloc, 0);
+    let pool = pool_with(rt, alloc, Settings::new().outside_every(1));
     let mut own = guest_task(&pool, 0, Errand::GiveWay(0), &guests);
     let mut outside = guest_task(&pool, 2, Errand::GiveWay(0), &guests);
     let mut turns = turns_of(&pool, 0);
@@ -79,7 +77,13 @@ fn what_comes_from_outside_is_first_as_often_as_was_set(rt: HostRuntime) {
     drop_task(own);
     drop_task(outside);
     drop_pool(pool);
-    assert!(rt; ran && answers == [None, Some(1)]);
+    ran && answers == [None, Some(1)]
+}
+
+// The worker has a task of its own, and one waits outside.
+#[test]
+fn what_comes_from_outside_is_first_as_often_as_was_set(rt: HostRuntime) {
+    assert!(rt; look_outside_first(rt, rt.alloc()));
 }
 
 /// A future that adds one to what its pool carries, and answers what was there.

@@ -1,7 +1,7 @@
 //! How a pool and what it gives are shown, and what its errors say.
 use crate::calls::{drop_pool, drop_turns, new_guests, new_pool, turns_of};
 use crate::granted::granted;
-use crate::guest::{Errand, Guest, GuestPool};
+use crate::guest::{Errand, Guest};
 use executor::{
     BellAwaiter, NextMemberError, PoolSpawnError, SpawnRefusal, Store, TurnsError, place_for_waker,
 };
@@ -45,36 +45,26 @@ fn a_pool_and_its_turns_are_shown(rt: HostRuntime) {
     assert!(rt; turns.as_str() == "Turns { worker: 0, .. }");
 }
 
-// An awaiter and the bell of a worker.
-fn show_bells<R: Wait + Abort + Drop + Copy>(
-    rt: R,
-    alloc: Global,
-    pool: &GuestPool<R>,
-) -> [String; 2] {
-    let awaiter: BellAwaiter<R> = granted(&rt, BellAwaiter::new(pool, 1).ok_or(AllocError));
-    let turns = turns_of(pool, 0);
+// An awaiter, the bell of a worker, a key, and a store.
+fn show_handles<R: Wait + Abort + Drop + Copy>(rt: R, alloc: Global) -> [String; 4] {
+    let pool = new_pool(rt, alloc, 2);
+    let awaiter: BellAwaiter<R> = granted(&rt, BellAwaiter::new(&pool, 1).ok_or(AllocError));
+    let turns = turns_of(&pool, 0);
     let bell = granted(&rt, turns.bell().ok_or(AllocError));
     drop_turns(turns);
-    [shown(&rt, alloc, &awaiter), shown(&rt, alloc, &bell)]
-}
-
-// A key, and a store.
-fn show_places<R: Wait + Abort + Drop + Copy>(
-    rt: R,
-    alloc: Global,
-    pool: &GuestPool<R>,
-) -> [String; 2] {
-    let key = granted(&rt, place_for_waker((pool, 1)).ok_or(AllocError));
+    let key = granted(&rt, place_for_waker((&pool, 1)).ok_or(AllocError));
     let store: Store<u64> = granted(&rt, Store::new(alloc));
-    [shown(&rt, alloc, &key), shown(&rt, alloc, &store)]
+    [
+        shown(&rt, alloc, &awaiter),
+        shown(&rt, alloc, &bell),
+        shown(&rt, alloc, &key),
+        shown(&rt, alloc, &store),
+    ]
 }
 
 #[test]
 fn handles_of_a_pool_are_shown(rt: HostRuntime) {
-    let pool = new_pool(rt, rt.alloc(), 2);
-    let [awaiter, bell] = show_bells(rt, rt.alloc(), &pool);
-    let [key, store] = show_places(rt, rt.alloc(), &pool);
-    drop_pool(pool);
+    let [awaiter, bell, key, store] = show_handles(rt, rt.alloc());
     assert!(rt; awaiter.as_str() == "BellAwaiter { wakes: Worker(1) }");
     assert!(rt; bell.as_str() == "PoolListener { tells: Worker(0) }");
     assert!(rt; key.as_str() == "Key { number: 1, .. }" && store.as_str() == "Store { .. }");

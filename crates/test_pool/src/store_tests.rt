@@ -69,18 +69,6 @@ fn a_key_of_another_store_is_refused(rt: HostRuntime) {
     assert!(rt; (there, of_other) == (Some(1), Ok(None)));
 }
 
-// How many owners a shared number has, and the number in a place, which is empty after it.
-fn owners_and_there<R: Wait + Drop + Copy>(
-    rt: R,
-    store: &Store<Arc<u8>>,
-    key: &Key<R>,
-    shared: &Arc<u8>,
-) -> (usize, Option<u8>) {
-    let owners = Arc::strong_count(shared);
-    let there = store.take_of(&rt, key).map(|there| *there);
-    (owners, there)
-}
-
 // The handle that was there has its owner still: it was not dropped.
 #[test]
 fn a_put_over_a_full_place_answers_what_was_there(rt: HostRuntime) {
@@ -91,7 +79,8 @@ fn a_put_over_a_full_place_answers_what_was_there(rt: HostRuntime) {
     let was_empty = put_share(rt, &store, &key, &first).is_none();
     let before = put_share(rt, &store, &key, &second);
     let answers = was_empty && before.is_some();
-    let (owners, there) = owners_and_there(rt, &store, &key, &first);
+    let owners = Arc::strong_count(&first);
+    let there = store.take_of(&rt, &key).map(|there| *there);
     drop(before);
     assert!(rt; answers && owners == 2 && there == Some(2) && Arc::strong_count(&first) == 1);
 }

@@ -1,10 +1,12 @@
-//! Storms of wakes by other threads: none is lost, and a shutdown in the middle leaves nothing.
+//! Storms of wakes: none is lost, also where threads delay at random within polls, between wakes, and between the turns of workers, which come and go; and a shutdown in the middle leaves nothing.
+//! A storm is over once all tickets are taken, and the workers may sleep then, so a wake that is lost stops it.
 ghost use Rattle.std.specs.Prelude.{⊤};
 
+use crate::dice::Dice;
 use crate::granted::granted;
 use async_task::{Future, Poll, TaskPoll, Yields};
 use executor::{
-    Key, Pool, PoolTask, PoolWaker, Turns, collect, keep_waker, place_for_waker, wake_kept,
+    Key, Place, Pool, PoolTask, PoolWaker, Turns, collect, keep_waker, place_for_waker, wake_kept,
 };
 use executor_parts::Nobody;
 use std::alloc::{AllocError, Global};
@@ -13,338 +15,454 @@ use std::process::Abort;
 use std::sync::atomic::{AtomicU64, Ordering};
 use std::sync::{Arc, Wait};
 use std::thread::{self, Threads};
+use std::time::{Clock, Duration};
 
-/// How many tasks a storm has.
-const TASKS: u64 = 100;
+/// How often a thread looks whether all tickets are taken, before it takes a wake for lost. It sleeps between two looks, for some ten seconds in all.
+const LOOKS: u64 = 100_000;
 
-/// How often each of two threads wakes each task. All wakes are `2 * ROUNDS * TASKS`.
-const ROUNDS: u64 = 500;
+/// How often a pool with delays is shut down.
+const SHUTDOWNS: u64 = 200;
 
-/// The workers of the pool.
-const WORKERS: usize = 4;
-
-/// Tickets for each task, which it takes when it is polled: one for each wake. And how many tasks have all of theirs.
-#[derive(Drop)]
-struct Storm {
-    tickets: Vec<AtomicU64>,
-    ended: AtomicU64,
+/// Who gives tickets to the tasks.
+#[derive(Clone, Copy)]
+enum Giver {
+    /// Two threads, each in so many rounds, give so many, and wait until all are taken.
+    Two(u64, u64),
+    /// One thread gives one to each of so many tasks, and waits until all are taken.
+    One(u64),
+    /// One thread gives so many, shuts the pool down, and gives as many again.
+    Ending(u64),
 }
 
-impl Storm {
-    fn new(alloc: Global) -> Result<Arc<Storm>, AllocError> {
-        let mut tickets = Vec::new(alloc);
-        for _ in 0..TASKS {
-            tickets.push(AtomicU64::new(0))?;
-        }
-        let storm = Storm {
-            tickets,
-            ended: AtomicU64::new(0),
-        };
-        Ok(Arc::new(alloc, storm)?)
-    }
+/// What a storm is made of.
+#[derive(Clone, Copy)]
+struct Plan {
+    workers: usize,
+    tasks: u64,
+    // How many tickets are passed on, each by the task that takes it to the next one.
+    passes: u64,
+    giver: Giver,
+    // Whether threads delay, and workers come and go.
+    delays: bool,
+    seed: u64,
+}
 
-    fn add_ticket(&self, task: usize) {
+/// What the tasks of a pool share: the tickets of each, where the waker of each is kept, and how many tickets were given and taken.
+#[derive(Drop)]
+struct Ring {
+    plan: Plan,
+    tickets: Vec<AtomicU64>,
+    places: Vec<usize>,
+    given: AtomicU64,
+    taken: AtomicU64,
+}
+
+impl Ring {
+    // Gives a task a ticket, and wakes it by the waker that is kept of it.
+    fn give<R: Wait + Clock + Drop + Copy>(&self, place: Place<'_, R, Link<R>, Nobody>, task: u64) {
+        self.given.fetch_add(1, Ordering::SeqCst);
+        let task = task.checked_rem(self.plan.tasks).unwrap_or(0) as usize;
         if let Some(tickets) = self.tickets.get(task) {
             tickets.fetch_add(1, Ordering::SeqCst);
         }
+        if let Some(kept) = self.places.get(task) {
+            wake_kept(place, *kept);
+        }
     }
 
-    fn take_tickets(&self, task: usize) -> u64 {
-        match self.tickets.get(task) {
+    // How many tickets this task had.
+    fn take(&self, task: u64) -> u64 {
+        match self.tickets.get(task as usize) {
             Some(tickets) => tickets.swap(0, Ordering::SeqCst),
             None => 0,
         }
     }
 
-    // Whether this was the last of all tasks.
-    fn ends(&self) -> bool {
-        self.ended.fetch_add(1, Ordering::SeqCst) == TASKS - 1
+    // Whether all tickets are taken in the end.
+    fn is_taken<R: Clock>(&self, rt: &R) -> bool {
+        for _ in 0..LOOKS {
+            let taken = self.taken.load(Ordering::SeqCst);
+            if taken > self.plan.passes && taken == self.given.load(Ordering::SeqCst) {
+                return true;
+            }
+            thread::sleep(rt, Duration::from_micros(50));
+        }
+        false
     }
 }
 
-/// A future that ends once it has taken `wanted` tickets. Until then its waker is kept, and a wake takes the waker out.
+/// A future that never ends. Each poll takes the tickets of its task, and may pass as many on to the next task. Its waker is kept, and a wake takes it out.
 #[derive(Drop)]
-struct Takes<R: Wait + Drop + Copy> {
-    task: usize,
-    taken: u64,
-    wanted: u64,
+struct Link<R: Wait + Drop + Copy> {
+    task: u64,
+    dice: Dice,
     key: Key<R>,
-    storm: Arc<Storm>,
+    ring: Arc<Ring>,
 }
 
-impl<R: Wait + Drop + Copy> Takes<R> {
-    // Whether it has all its tickets now.
-    fn take(&mut self) -> bool {
-        let found = self.storm.take_tickets(self.task);
-        self.taken = self.taken.saturating_add(found);
-        self.taken >= self.wanted
+impl<R: Wait + Clock + Drop + Copy> Link<R> {
+    fn pass_on(&mut self, place: Place<'_, R, Link<R>, Nobody>, tickets: u64) {
+        for _ in 0..tickets {
+            if self.ring.taken.fetch_add(1, Ordering::SeqCst) < self.ring.plan.passes {
+                self.dice.delay(&place.0.rt());
+                self.ring.give(place, self.task.wrapping_add(1));
+            }
+        }
     }
 }
 
-impl<R: Wait + Drop + Copy> Yields for Takes<R> {
+impl<R: Wait + Drop + Copy> Yields for Link<R> {
     type Output = u64;
 }
 
-impl<'x, R: Wait + Drop + Copy> Future<PoolWaker<'x, R, Takes<R>, Nobody>> for Takes<R> {
+impl<'x, R: Wait + Clock + Drop + Copy> Future<PoolWaker<'x, R, Link<R>, Nobody>> for Link<R> {
     ghost polled = { λ _ _ _ _. ⊤ };
 
     // A ticket that came before the waker was kept is taken by the second look.
-    fn poll(&mut self, waker: &PoolWaker<'x, R, Takes<R>, Nobody>) -> Poll<u64> {
-        if !self.take() {
-            if !keep_waker(waker, &self.key) {
-                waker.wake_by_ref();
-            }
-            if !self.take() {
-                return Poll::Pending;
-            }
+    fn poll(&mut self, waker: &PoolWaker<'x, R, Link<R>, Nobody>) -> Poll<u64> {
+        let place = waker.around();
+        let rt = place.0.rt();
+        self.dice.delay(&rt);
+        let before = self.ring.take(self.task);
+        if !keep_waker(waker, &self.key) {
+            waker.wake_by_ref();
         }
-        if self.storm.ends() {
-            waker.around().0.shutdown();
-        }
-        Poll::Ready(self.taken)
+        self.dice.delay(&rt);
+        let after = self.ring.take(self.task);
+        self.pass_on(place, before.saturating_add(after));
+        Poll::Pending
     }
 }
 
-type StormPool<R> = Pool<R, Takes<R>, Nobody>;
+type RingPool<R> = Pool<R, Link<R>, Nobody>;
 
-type StormTask<'x, R> = PoolTask<'x, R, Takes<R>, Nobody>;
+type RingTask<'x, R> = PoolTask<'x, R, Link<R>, Nobody>;
 
-type StormTurns<'x, R> = Turns<'x, R, Takes<R>, Nobody>;
+type RingTurns<'x, R> = Turns<'x, R, Link<R>, Nobody>;
 
-fn new_pool<R: Wait + Abort + Drop + Copy>(rt: R, alloc: Global, workers: usize) -> StormPool<R> {
-    granted(&rt, StormPool::new(rt, alloc, workers))
-}
-
-// The future of the task of this number, whose waker is to be kept at a place of this worker's part of a pool.
-fn new_takes<R: Wait + Abort + Drop + Copy>(
-    keeper: &StormPool<R>,
-    worker: usize,
-    task: usize,
-    storm: &Arc<Storm>,
-    wanted: u64,
-) -> Takes<R> {
-    let rt = keeper.rt();
-    Takes {
-        task,
-        taken: 0,
-        wanted,
-        key: granted(&rt, place_for_waker((keeper, worker)).ok_or(AllocError)),
-        storm: granted(&rt, Arc::try_clone(storm)),
-    }
-}
-
-// Spawns all tasks of a storm, each of which wants so many tickets: the places of their wakers, and their Tasks.
-fn spawn_storm<'x, R: Wait + Abort + Drop + Copy>(
-    pool: &'x StormPool<R>,
-    storm: &Arc<Storm>,
-    wanted: u64,
-) -> (Vec<usize>, Vec<StormTask<'x, R>>) {
+// A place for the waker of each task.
+fn new_keys<R: Wait + Abort + Drop + Copy>(pool: &RingPool<R>, plan: Plan) -> Vec<Key<R>> {
     let rt = pool.rt();
+    let mut keys = Vec::new(pool.alloc());
+    for task in 0..plan.tasks {
+        let key = place_for_waker((pool, task as usize)).ok_or(AllocError);
+        granted(&rt, keys.push(granted(&rt, key)));
+    }
+    keys
+}
+
+// What tasks share whose wakers are kept at these places.
+fn new_ring<R: Wait + Abort + Drop + Copy>(
+    pool: &RingPool<R>,
+    keys: &[Key<R>],
+    plan: Plan,
+) -> Arc<Ring> {
+    let rt = pool.rt();
+    let mut tickets = Vec::new(pool.alloc());
     let mut places = Vec::new(pool.alloc());
+    for key in keys {
+        granted(&rt, tickets.push(AtomicU64::new(0)));
+        granted(&rt, places.push(key.number()));
+    }
+    let ring = Ring {
+        plan,
+        tickets,
+        places,
+        given: AtomicU64::new(0),
+        taken: AtomicU64::new(0),
+    };
+    granted(&rt, Arc::new(pool.alloc(), ring))
+}
+
+// Spawns the tasks of a ring, from outside.
+fn spawn_all<'x, R: Wait + Abort + Drop + Copy>(
+    pool: &'x RingPool<R>,
+    keys: Vec<Key<R>>,
+    ring: &Arc<Ring>,
+) -> Vec<RingTask<'x, R>> {
+    let rt = pool.rt();
     let mut futures = VecDeque::new(pool.alloc());
-    for task in 0..TASKS as usize {
-        let takes = new_takes(pool, task, task, storm, wanted);
-        granted(&rt, places.push(takes.key.number()));
-        granted(&rt, futures.push_back(takes));
+    let mut task = 0u64;
+    for key in keys {
+        let dice = Dice {
+            state: task,
+            delays: ring.plan.delays,
+        };
+        let link = Link {
+            task,
+            dice,
+            key,
+            ring: granted(&rt, Arc::try_clone(ring)),
+        };
+        granted(&rt, futures.push_back(link));
+        task = task.wrapping_add(1);
     }
     let mut tasks = Vec::new(pool.alloc());
     granted(
         &rt,
         pool.spawn_many(pool.workers(), &mut futures, &mut tasks),
     );
-    (places, tasks)
-}
-
-// Spawns the task of this number, which wants one ticket, and keeps its waker at a place of `keeper`: its Task, and the number of that place.
-fn spawn_at<'x, R: Wait + Abort + Drop + Copy>(
-    pool: &'x StormPool<R>,
-    keeper: &StormPool<R>,
-    task: usize,
-    storm: &Arc<Storm>,
-) -> (StormTask<'x, R>, usize) {
-    let takes = new_takes(keeper, 0, task, storm, 1);
-    let number = takes.key.number();
-    (granted(&pool.rt(), pool.spawn(takes)), number)
+    tasks
 }
 
 // Is the worker of a number until the pool is shut down, as by `Pool::run`: whether there was such a worker.
-fn work<R: Wait + Drop + Copy + 'static>(pool: &StormPool<R>, worker: usize) -> bool {
+fn work<R: Wait + Clock + Drop + Copy + 'static>(pool: &RingPool<R>, worker: usize) -> bool {
     pool.run(worker).is_ok()
 }
 
-// Wakes each task once, with a ticket for it.
-fn wake_each<R: Wait + Drop + Copy>(
-    pool: &StormPool<R>,
-    storm: &Storm,
-    places: &[usize],
-    worker: usize,
-) {
-    for (task, place) in places.iter().enumerate() {
-        storm.add_ticket(task);
-        wake_kept((pool, worker), *place);
-    }
-}
-
-fn wake_often<R: Wait + Drop + Copy>(
-    pool: &StormPool<R>,
-    storm: &Storm,
-    places: &[usize],
-    worker: usize,
-) {
-    for _ in 0..ROUNDS {
-        wake_each(pool, storm, places, worker);
-    }
-}
-
-// Half of the rounds, a shutdown, and the other half.
-fn wake_and_shut_down<R: Wait + Drop + Copy>(pool: &StormPool<R>, storm: &Storm, places: &[usize]) {
-    for round in 0..ROUNDS {
-        if round == ROUNDS / 2 {
-            pool.shutdown();
+// Some turns of a worker, until the pool is shut down.
+fn take_some<R: Wait + Clock + Drop + Copy>(turns: &mut RingTurns<'_, R>, dice: &mut Dice) {
+    let pool = turns.place().0;
+    for _ in 0..dice.draw(20) {
+        let interruptions = pool.bells().interruptions();
+        if pool.is_shut_down() {
+            return;
         }
-        wake_each(pool, storm, places, pool.workers());
+        if let Some(runnable) = turns.take_turn(interruptions) {
+            runnable.run();
+        }
+        dice.delay(&pool.rt());
     }
 }
 
-// One of two threads wakes each task as often as there are rounds, at the queue of a worker. The other one does so from outside, and may shut the pool
-// down between.
-fn wake_by_two<R: Wait + Threads + Drop + Copy + Send + Sync>(
-    pool: &StormPool<R>,
-    storm: &Storm,
-    places: &[usize],
-    worker: usize,
-    shuts_down: bool,
-) {
-    thread::join(
-        &pool.rt(),
-        || wake_often(pool, storm, places, worker),
-        || {
-            if shuts_down {
-                wake_and_shut_down(pool, storm, places);
-            } else {
-                wake_often(pool, storm, places, pool.workers());
-            }
-        },
-    );
+// Is a worker again and again, until the pool is shut down. False where it could not be one.
+fn come_and_go<R: Wait + Clock + Drop + Copy>(pool: &RingPool<R>, worker: usize) -> bool {
+    let rt = pool.rt();
+    let mut dice = Dice {
+        state: worker as u64,
+        delays: true,
+    };
+    for _ in rt.forever() {
+        if pool.is_shut_down() {
+            return true;
+        }
+        let Ok(mut turns) = pool.turns(worker) else {
+            return false;
+        };
+        take_some(&mut turns, &mut dice);
+        drop(turns);
+        dice.delay(&rt);
+    }
+    unreachable!()
 }
 
-// All workers of a pool, each on a thread: whether all began.
-fn work_all<R: Wait + Abort + Threads + Drop + Copy + Send + Sync + 'static>(
-    pool: &StormPool<R>,
+// All workers of a pool, each on a thread: whether each could be one.
+fn work_all<R: Wait + Clock + Abort + Threads + Drop + Copy + Send + Sync + 'static>(
+    pool: &RingPool<R>,
+    delays: bool,
 ) -> bool {
     let rt = pool.rt();
-    let began = thread::map_indices(&rt, pool.alloc(), WORKERS, &|worker| work(pool, worker));
-    granted(&rt, began).iter().all(|began| *began)
+    let worked = thread::map_indices(
+        &rt,
+        pool.alloc(),
+        pool.workers(),
+        &|worker| if delays {
+            come_and_go(pool, worker)
+        } else {
+            work(pool, worker)
+        },
+    );
+    granted(&rt, worked).iter().all(|worked| *worked)
 }
 
-// How many tickets a task took that has ended, and 1 where a task is closed.
-fn taken_or_closed<R: Wait + Drop + Copy>(task: &mut StormTask<'_, R>) -> (u64, u64) {
-    match task.poll(&Nobody) {
-        TaskPoll::Ready(Ok(taken)) => (taken, 0),
-        TaskPoll::Ready(Err(_)) => (0, 1),
-        TaskPoll::Pending | TaskPoll::Refused => (0, 0),
+// Gives so many tickets, at queues and to tasks that are drawn.
+fn give_some<R: Wait + Clock + Drop + Copy>(
+    pool: &RingPool<R>,
+    ring: &Ring,
+    dice: &mut Dice,
+    tickets: u64,
+) {
+    for _ in 0..tickets {
+        let worker = dice.draw((ring.plan.workers as u64).saturating_add(1)) as usize;
+        ring.give((pool, worker), dice.draw(ring.plan.tasks));
+        dice.delay(&pool.rt());
     }
 }
 
-// How many tickets the tasks took that have ended, and how many tasks are closed.
-fn taken_and_closed<R: Wait + Drop + Copy>(mut tasks: Vec<StormTask<'_, R>>) -> (u64, u64) {
-    let mut seen = (0u64, 0u64);
-    for task in tasks.iter_mut() {
-        let (taken, closed) = taken_or_closed(task);
-        seen = (seen.0.saturating_add(taken), seen.1.saturating_add(closed));
-    }
-    seen
-}
-
-// How many places for wakers are taken, and how many shares there are of a storm.
-fn left_of<R: Wait + Drop + Copy>(pool: &StormPool<R>, storm: &Arc<Storm>) -> (usize, usize) {
-    (pool.kept_wakers(), Arc::strong_count(storm))
-}
-
-fn drop_pool<R: Wait + Drop + Copy>(pool: StormPool<R>) {
-    drop(pool);
-}
-
-#[test]
-fn a_storm_loses_no_wake(rt: HostRuntime) {
-    let storm = granted(&rt, Storm::new(rt.alloc()));
-    let pool = new_pool(rt, rt.alloc(), WORKERS);
-    let (places, tasks) = spawn_storm(&pool, &storm, 2 * ROUNDS);
-    let (ran, _) = thread::join(
-        &rt,
-        || work_all(&pool),
-        || wake_by_two(&pool, &storm, &places, 0, false),
-    );
-    let seen = taken_and_closed(tasks);
-    let left = left_of(&pool, &storm);
-    drop_pool(pool);
-    assert!(rt; ran && seen == (2 * ROUNDS * TASKS, 0) && left == (0, 1));
-}
-
-// One of two threads wakes to its end, the other shuts the pool down between. Each task wants one ticket more than there will be, so it is cancelled: by a worker, or by a thread that wakes it, after which the workers may have ended.
-#[test]
-fn a_shutdown_in_a_storm_leaves_nothing(rt: HostRuntime) {
-    let storm = granted(&rt, Storm::new(rt.alloc()));
-    let pool = new_pool(rt, rt.alloc(), WORKERS);
-    let (places, tasks) = spawn_storm(&pool, &storm, 2 * ROUNDS + 1);
-    let (ran, _) = thread::join(
-        &rt,
-        || work_all(&pool),
-        || wake_by_two(&pool, &storm, &places, 1, true),
-    );
-    let seen = taken_and_closed(tasks);
-    collect((&pool, 0));
-    let left = left_of(&pool, &storm);
-    drop_pool(pool);
-    assert!(rt; ran && seen == (0, TASKS) && left == (0, 1));
-}
-
-// Runs at most two tasks: how many there were.
-fn run_two<R: Wait + Drop + Copy>(turns: &mut StormTurns<'_, R>) -> u8 {
-    let mut ran = 0u8;
-    for _ in 0..2 {
-        if let Some(runnable) = turns.next() {
-            runnable.run();
-            ran = ran.saturating_add(1);
+// All rounds of one thread. False where a wake was lost.
+fn give_rounds<R: Wait + Clock + Drop + Copy>(
+    pool: &RingPool<R>,
+    ring: &Ring,
+    seed: u64,
+    rounds: u64,
+    tickets: u64,
+) -> bool {
+    let mut dice = Dice {
+        state: seed,
+        delays: ring.plan.delays,
+    };
+    for _ in 0..rounds {
+        give_some(pool, ring, &mut dice, tickets);
+        if !ring.is_taken(&pool.rt()) {
+            return false;
         }
     }
-    ran
+    true
 }
 
-// What `taken_or_closed` answers of a Task, which is dropped.
-fn end_of<R: Wait + Drop + Copy>(mut task: StormTask<'_, R>) -> (u64, u64) {
-    taken_or_closed(&mut task)
-}
-
-// Runs two tasks of a pool, adds a ticket for the first, wakes what is kept at places of this pool and of another one, and runs two: how many ran, and
-// whether a waker was there.
-fn run_and_wake<R: Wait + Abort + Drop + Copy>(
-    storm: &Storm,
-    own: (&StormPool<R>, usize),
-    foreign: (&StormPool<R>, usize),
-) -> (u8, (bool, bool)) {
-    let mut turns = granted(&own.0.rt(), own.0.turns(0));
-    let before = run_two(&mut turns);
-    storm.add_ticket(0);
-    let woken = (
-        wake_kept((own.0, 0), own.1),
-        wake_kept((foreign.0, 0), foreign.1),
+// The rounds of two threads, after which the pool is shut down.
+fn give_by_two<R: Wait + Clock + Threads + Drop + Copy + Send + Sync>(
+    pool: &RingPool<R>,
+    ring: &Ring,
+    rounds: u64,
+    tickets: u64,
+) -> bool {
+    let (one, other) = thread::join(
+        &pool.rt(),
+        || give_rounds(pool, ring, 11, rounds, tickets),
+        || give_rounds(pool, ring, 12, rounds, tickets),
     );
-    let after = run_two(&mut turns);
-    (before.saturating_add(after), woken)
+    pool.shutdown();
+    one && other
 }
 
-// Of two tasks the second has a key of another pool, with the number of the first one's place. Both are polled, and then the first is woken.
+// Gives all tickets, and shuts the pool down. False where a wake was lost.
+fn give_all<R: Wait + Clock + Threads + Drop + Copy + Send + Sync>(
+    pool: &RingPool<R>,
+    ring: &Ring,
+) -> bool {
+    let rt = pool.rt();
+    match ring.plan.giver {
+        Giver::Two(rounds, tickets) => give_by_two(pool, ring, rounds, tickets),
+        Giver::One(tasks) => {
+            for task in 0..tasks {
+                ring.give((pool, ring.plan.workers), task);
+            }
+            let is_taken = ring.is_taken(&rt);
+            pool.shutdown();
+            is_taken
+        }
+        Giver::Ending(tickets) => {
+            let mut dice = Dice {
+                state: ring.plan.seed,
+                delays: ring.plan.delays,
+            };
+            give_some(pool, ring, &mut dice, tickets);
+            pool.shutdown();
+            give_some(pool, ring, &mut dice, tickets);
+            true
+        }
+    }
+}
+
+// Whether each task is closed, and nothing is left of them.
+fn is_left_empty<R: Wait + Drop + Copy>(
+    pool: &RingPool<R>,
+    ring: &Arc<Ring>,
+    mut tasks: Vec<RingTask<'_, R>>,
+) -> bool {
+    let mut closed = 0u64;
+    for task in tasks.iter_mut() {
+        if matches!(task.poll(&Nobody), TaskPoll::Ready(Err(_))) {
+            closed = closed.wrapping_add(1);
+        }
+    }
+    collect((pool, 0));
+    closed == ring.plan.tasks
+        && pool.queued() == 0
+        && pool.kept_wakers() == 0
+        && Arc::strong_count(ring) == 1
+}
+
+// A storm from its beginning to its end: whether each worker could be one, no wake was lost, and nothing is left.
+fn rage<R: Wait + Clock + Abort + Threads + Drop + Copy + Send + Sync + 'static>(
+    rt: R,
+    alloc: Global,
+    plan: Plan,
+) -> [bool; 3] {
+    let pool = granted(&rt, RingPool::new(rt, alloc, plan.workers));
+    let keys = new_keys(&pool, plan);
+    let ring = new_ring(&pool, &keys, plan);
+    let tasks = spawn_all(&pool, keys, &ring);
+    let (worked, taken) = thread::join(
+        &rt,
+        || work_all(&pool, plan.delays),
+        || give_all(&pool, &ring),
+    );
+    let left = is_left_empty(&pool, &ring, tasks);
+    [worked, taken, left]
+}
+
+// All wakes are 100,000.
 #[test]
-fn a_key_of_another_pool_keeps_no_waker(rt: HostRuntime) {
-    let storm = granted(&rt, Storm::new(rt.alloc()));
-    let pool = new_pool(rt, rt.alloc(), 1);
-    let other = new_pool(rt, rt.alloc(), 1);
-    let (first, own) = spawn_at(&pool, &pool, 0, &storm);
-    let (second, foreign) = spawn_at(&pool, &other, 1, &storm);
-    let (ran, woken) = run_and_wake(&storm, (&pool, own), (&other, foreign));
-    let seen = (end_of(first), end_of(second));
-    drop_pool(pool);
-    drop_pool(other);
-    assert!(rt; own == foreign && ran == 4 && woken == (true, false) && seen == ((1, 0), (0, 0)));
+fn a_storm_loses_no_wake(rt: HostRuntime) {
+    let plan = Plan {
+        workers: 4,
+        tasks: 100,
+        passes: 0,
+        giver: Giver::Two(1, 50_000),
+        delays: false,
+        seed: 0,
+    };
+    assert!(rt; rage(rt, rt.alloc(), plan) == [true; 3]);
+}
+
+#[test]
+fn a_storm_with_delays_loses_no_wake(rt: HostRuntime) {
+    let plan = Plan {
+        workers: 3,
+        tasks: 8,
+        passes: 0,
+        giver: Giver::Two(200, 3),
+        delays: true,
+        seed: 0,
+    };
+    assert!(rt; rage(rt, rt.alloc(), plan) == [true; 3]);
+}
+
+// One ticket goes round 2,000 times.
+#[test]
+fn a_chain_with_delays_loses_no_wake(rt: HostRuntime) {
+    let plan = Plan {
+        workers: 3,
+        tasks: 8,
+        passes: 2_000,
+        giver: Giver::One(1),
+        delays: true,
+        seed: 0,
+    };
+    assert!(rt; rage(rt, rt.alloc(), plan) == [true; 3]);
+}
+
+// There are more workers than processors. A wake that is lost would leave a ticket lying, and it would not be passed on.
+#[test]
+fn sixty_four_workers_pass_all_tickets_on(rt: HostRuntime) {
+    let plan = Plan {
+        workers: 64,
+        tasks: 10_000,
+        passes: 40_000,
+        giver: Giver::One(10_000),
+        delays: false,
+        seed: 0,
+    };
+    assert!(rt; rage(rt, rt.alloc(), plan) == [true; 3]);
+}
+
+// Tickets are passed on without an end, and more are given before the shutdown and after it, as the workers end. So each task is cancelled by a worker, or by a thread that wakes it.
+#[test]
+fn a_shutdown_in_a_storm_leaves_nothing(rt: HostRuntime) {
+    let plan = Plan {
+        workers: 4,
+        tasks: 100,
+        passes: u64::MAX,
+        giver: Giver::Ending(20_000),
+        delays: false,
+        seed: 0,
+    };
+    assert!(rt; rage(rt, rt.alloc(), plan) == [true; 3]);
+}
+
+#[test]
+fn a_shutdown_with_delays_leaves_nothing(rt: HostRuntime) {
+    for seed in 0..SHUTDOWNS {
+        let plan = Plan {
+            workers: 3,
+            tasks: 8,
+            passes: u64::MAX,
+            giver: Giver::Ending(8),
+            delays: true,
+            seed,
+        };
+        assert!(rt; rage(rt, rt.alloc(), plan) == [true; 3]);
+    }
 }

@@ -1,13 +1,11 @@
-//! Programs of tasks on pools of one, two and four threads.
+//! Programs of tasks on pools of one and four threads, and a wake by another thread.
 ghost use Rattle.std.specs.Prelude.{⊤};
 
 use crate::granted::granted;
 use async_task::{Future, Poll, TaskPoll, Yields};
-use executor::{
-    Key, Pool, PoolTask, PoolWaker, keep_new_waker, keep_task, place_for_task, poll_kept, wake_kept,
-};
+use executor::{Key, Pool, PoolWaker, keep_new_waker, wake_kept};
 use executor_parts::Nobody;
-use std::alloc::{AllocError, Global};
+use std::alloc::Global;
 use std::process::Abort;
 use std::sync::atomic::{AtomicU64, Ordering};
 use std::sync::{Arc, Wait};
@@ -85,62 +83,18 @@ fn spawn_child<R: Wait + Drop + Copy>(
 
 /// A program of tasks.
 #[derive(Clone, Copy)]
-enum Program {
-    /// 100 tasks, each of which gives way three times.
-    Few,
-    /// 1000 tasks, each of which gives way ten times.
-    Many,
-    /// Four trees of depth 7, of 255 tasks each. A root gives way twice.
-    Trees,
-}
-
-impl Program {
+struct Program {
     // How many tasks are spawned from outside.
-    fn tasks(self) -> u64 {
-        match self {
-            Program::Few => 100,
-            Program::Many => 1000,
-            Program::Trees => 4,
-        }
-    }
-
+    tasks: u64,
     // How often each of these gives way.
-    fn left(self) -> u64 {
-        match self {
-            Program::Few => 3,
-            Program::Many => 10,
-            Program::Trees => 2,
-        }
-    }
-
+    left: u64,
     // The depth of the tree of which each of these is the root.
-    fn depth(self) -> u64 {
-        match self {
-            Program::Few | Program::Many => 0,
-            Program::Trees => 7,
-        }
-    }
-
+    depth: u64,
     // How many tasks there are in all.
-    fn wanted(self) -> u64 {
-        match self {
-            Program::Few => 100,
-            Program::Many => 1000,
-            Program::Trees => 1020,
-        }
-    }
+    wanted: u64,
 }
 
 type JobPool<R> = Pool<R, Job, Nobody>;
-
-// How many tasks have ended. `None` where one was refused memory.
-fn ended(counts: &Arc<Counts>) -> Option<u64> {
-    if counts.refused.load(Ordering::SeqCst) == 0 {
-        Some(counts.done.load(Ordering::SeqCst))
-    } else {
-        None
-    }
-}
 
 // Spawns the tasks of a program: what they count together.
 fn spawn_all<R: Wait + Abort + Drop + Copy>(pool: &JobPool<R>, program: Program) -> Arc<Counts> {
@@ -148,13 +102,13 @@ fn spawn_all<R: Wait + Abort + Drop + Copy>(pool: &JobPool<R>, program: Program)
     let counts = Counts {
         done: AtomicU64::new(0),
         refused: AtomicU64::new(0),
-        wanted: program.wanted(),
+        wanted: program.wanted,
     };
     let counts = granted(&rt, Arc::new(pool.alloc(), counts));
-    for _ in 0..program.tasks() {
+    for _ in 0..program.tasks {
         let job = Job {
-            left: program.left(),
-            depth: program.depth(),
+            left: program.left,
+            depth: program.depth,
             counts: granted(&rt, Arc::try_clone(&counts)),
         };
         granted(&rt, pool.spawn(job)).detach();
@@ -167,46 +121,53 @@ fn work<R: Wait + Drop + Copy + 'static>(pool: &JobPool<R>, worker: usize) -> bo
     pool.run(worker).is_ok()
 }
 
-// Whether all threads of a pool began.
-fn all_began<R: Abort>(rt: &R, began: Result<Vec<bool>, AllocError>) -> bool {
-    granted(rt, began).iter().all(|began| *began)
-}
-
-// Runs a program on so many threads: whether all began, and how many tasks have ended.
+// Runs a program on so many threads: whether all began, and how many tasks have ended and were refused memory.
 fn run_on<R: Wait + Abort + Threads + Drop + Copy + Send + Sync + 'static>(
     rt: R,
     alloc: Global,
     workers: usize,
     program: Program,
-) -> (bool, Option<u64>) {
+) -> (bool, (u64, u64)) {
     let pool = granted(&rt, JobPool::new(rt, alloc, workers));
     let counts = spawn_all(&pool, program);
     let began = thread::map_indices(&rt, alloc, workers, &|worker| work(&pool, worker));
-    (all_began(&rt, began), ended(&counts))
+    let began = granted(&rt, began).iter().all(|began| *began);
+    let done = counts.done.load(Ordering::SeqCst);
+    (began, (done, counts.refused.load(Ordering::SeqCst)))
 }
 
 #[test]
 fn every_task_ends_on_one_thread(rt: HostRuntime) {
-    let (began, ended) = run_on(rt, rt.alloc(), 1, Program::Few);
-    assert!(rt; began && ended == Some(100));
-}
-
-#[test]
-fn every_task_ends_on_two_threads(rt: HostRuntime) {
-    let (began, ended) = run_on(rt, rt.alloc(), 2, Program::Few);
-    assert!(rt; began && ended == Some(100));
+    let program = Program {
+        tasks: 100,
+        left: 3,
+        depth: 0,
+        wanted: 100,
+    };
+    assert!(rt; run_on(rt, rt.alloc(), 1, program) == (true, (100, 0)));
 }
 
 #[test]
 fn every_task_ends_on_four_threads(rt: HostRuntime) {
-    let (began, ended) = run_on(rt, rt.alloc(), 4, Program::Many);
-    assert!(rt; began && ended == Some(1000));
+    let program = Program {
+        tasks: 1000,
+        left: 10,
+        depth: 0,
+        wanted: 1000,
+    };
+    assert!(rt; run_on(rt, rt.alloc(), 4, program) == (true, (1000, 0)));
 }
 
+// Four trees of 255 tasks each.
 #[test]
 fn a_task_spawns_tasks(rt: HostRuntime) {
-    let (began, ended) = run_on(rt, rt.alloc(), 4, Program::Trees);
-    assert!(rt; began && ended == Some(1020));
+    let program = Program {
+        tasks: 4,
+        left: 2,
+        depth: 7,
+        wanted: 1020,
+    };
+    assert!(rt; run_on(rt, rt.alloc(), 4, program) == (true, (1020, 0)));
 }
 
 /// A future that waits until another thread wakes it, and then ends the pool. `number` is one more than the number under which its waker is kept.
@@ -240,32 +201,14 @@ impl<'x, R: Wait + Drop + Copy> Future<PoolWaker<'x, R, Waits<R>, Nobody>> for W
 
 type WaitsPool<R> = Pool<R, Waits<R>, Nobody>;
 
-type WaitsTask<'x, R> = PoolTask<'x, R, Waits<R>, Nobody>;
-
-fn new_pool<R: Wait + Abort + Drop + Copy>(rt: R, alloc: Global, workers: usize) -> WaitsPool<R> {
-    granted(&rt, WaitsPool::new(rt, alloc, workers))
-}
-
-fn spawn_waits<'x, R: Wait + Abort + Drop + Copy>(
-    pool: &'x WaitsPool<R>,
-    number: &Arc<AtomicU64>,
-) -> WaitsTask<'x, R> {
-    let waits = Waits {
-        key: None,
-        number: granted(&pool.rt(), Arc::try_clone(number)),
-    };
-    granted(&pool.rt(), pool.spawn(waits))
-}
-
-// Runs the only task of a pool: whether there was one.
-fn run_one<R: Wait + Abort + Drop + Copy>(pool: &WaitsPool<R>) -> bool {
+// Is the worker of a pool until the shutdown, as by `Pool::run`. The prover takes the calls of this loop without a proof.
+fn work_until_woken<R: Wait + Abort + Drop + Copy>(pool: &WaitsPool<R>) {
     let mut turns = granted(&pool.rt(), pool.turns(0));
-    match turns.next() {
-        Some(runnable) => {
-            runnable.run();
-            true
-        }
-        None => false,
+    for _ in pool.rt().forever() {
+        let Some(runnable) = turns.await_next() else {
+            break;
+        };
+        runnable.run();
     }
 }
 
@@ -280,76 +223,30 @@ fn wake_once<R: Wait + Drop + Copy>(pool: &WaitsPool<R>, number: &AtomicU64) -> 
     unreachable!()
 }
 
-// The output of a task that has answered. Its Task is dropped.
-fn output_of<R: Wait + Drop + Copy>(mut task: WaitsTask<'_, R>) -> Option<u64> {
+// Whether the waker of the only task was there, and what the task answers.
+fn wake_from_outside<R: Wait + Abort + Threads + Drop + Copy + Send + Sync>(
+    rt: R,
+    alloc: Global,
+) -> (bool, Option<u64>) {
+    let number = granted(&rt, Arc::new(alloc, AtomicU64::new(0)));
+    let pool = granted(&rt, WaitsPool::new(rt, alloc, 1));
+    let waits = Waits {
+        key: None,
+        number: granted(&rt, Arc::try_clone(&number)),
+    };
+    let mut task = granted(&rt, pool.spawn(waits));
+    let ((), woke) = thread::join(
+        &rt,
+        || work_until_woken(&pool),
+        || wake_once(&pool, &number),
+    );
     match task.poll(&Nobody) {
-        TaskPoll::Ready(Ok(output)) => Some(output),
-        _ => None,
+        TaskPoll::Ready(answer) => (woke, answer.ok()),
+        _ => (woke, None),
     }
-}
-
-fn is_closed<R: Wait + Drop + Copy>(task: &mut WaitsTask<'_, R>) -> bool {
-    matches!(task.poll(&Nobody), TaskPoll::Ready(Err(_)))
-}
-
-// How many places for wakers are taken.
-fn places<R: Wait + Drop + Copy>(pool: &WaitsPool<R>) -> usize {
-    pool.kept_wakers()
-}
-
-fn drop_pool<R: Wait + Drop + Copy>(pool: WaitsPool<R>) {
-    drop(pool);
 }
 
 #[test]
 fn another_thread_wakes_a_kept_waker(rt: HostRuntime) {
-    let number = granted(&rt, Arc::new(rt.alloc(), AtomicU64::new(0)));
-    let pool = new_pool(rt, rt.alloc(), 4);
-    let task = spawn_waits(&pool, &number);
-    let (began, woke) = thread::join(
-        &rt,
-        || thread::map_indices(&rt, rt.alloc(), 4, &|worker| pool.run(worker).is_ok()),
-        || wake_once(&pool, &number),
-    );
-    let began = all_began(&rt, began);
-    let answer = output_of(task);
-    drop_pool(pool);
-    assert!(rt; began && woke && answer == Some(7));
-}
-
-#[test]
-fn a_shutdown_cancels_a_task_that_waits(rt: HostRuntime) {
-    let number = granted(&rt, Arc::new(rt.alloc(), AtomicU64::new(0)));
-    let pool = new_pool(rt, rt.alloc(), 1);
-    let mut task = spawn_waits(&pool, &number);
-    let ran = run_one(&pool);
-    let before = places(&pool);
-    pool.shutdown();
-    let closed = is_closed(&mut task);
-    let (after, left) = (places(&pool), Arc::strong_count(&number));
-    drop(task);
-    drop_pool(pool);
-    assert!(rt; ran && before == 1 && closed && after == 0 && left == 1);
-}
-
-// Keeps a Task, and shuts the pool down: whether it was kept, and whether its place is empty then.
-fn keep_and_shut_down<R: Wait + Abort + Drop + Copy>(
-    pool: &WaitsPool<R>,
-    task: WaitsTask<'_, R>,
-) -> (bool, bool) {
-    let key = granted(&pool.rt(), place_for_task((pool, 0)).ok_or(AllocError));
-    let kept = keep_task(task, &key).is_ok();
-    pool.shutdown();
-    let is_gone = poll_kept((pool, 0), &key, &Nobody).is_none();
-    (kept, is_gone)
-}
-
-#[test]
-fn a_shutdown_cancels_a_task_that_is_kept(rt: HostRuntime) {
-    let number = granted(&rt, Arc::new(rt.alloc(), AtomicU64::new(0)));
-    let pool = new_pool(rt, rt.alloc(), 1);
-    let (kept, is_gone) = keep_and_shut_down(&pool, spawn_waits(&pool, &number));
-    let left = Arc::strong_count(&number);
-    drop_pool(pool);
-    assert!(rt; kept && is_gone && left == 1);
+    assert!(rt; wake_from_outside(rt, rt.alloc()) == (true, Some(7)));
 }

@@ -4,12 +4,11 @@
 //! where the runtime is known.
 
 use crate::future_tests::calls::{
-    Awaited, await_alone, await_chain, block_on, collect_all, drop_both, drop_pool, drop_task,
-    drop_turns, is_closed, knock, link_task, new_counts, new_pool, place_of_task, place_of_waker,
-    places_taken, poll_at, polls, shut_down, tick, turns_of, wake_number, wakes_posted, work,
-    work_turns,
+    await_chain, block_on, collect_all, drop_both, drop_pool, drop_task, drop_turns, is_closed,
+    knock, link_task, new_counts, new_pool, place_of_waker, places_taken, polls, shut_down, tick,
+    turns_of, wake_number, wakes_posted, work, work_turns,
 };
-use crate::future_tests::link::{Errand, KNOCKS, LinkPool, LinkTask, LinkTurns, keep, spawn_link};
+use crate::future_tests::link::{Errand, KNOCKS, LinkPool, LinkTask, LinkTurns};
 use crate::granted::granted;
 use executor::BlockOnError;
 use std::alloc::Global;
@@ -26,29 +25,16 @@ const TURNS: u64 = 1000;
 // The parent is polled as it is spawned, and once more for the output of its child, which gives way three times.
 #[test]
 fn a_task_awaits_a_task(rt: HostRuntime) {
-    let (answer, polls, places, left) = await_chain(rt, rt.alloc(), 1, Errand::GiveWay(3));
+    let (answer, polls, places, left) = await_chain(rt, rt.alloc(), 1, Errand::GiveWay(3), None);
     assert!(rt; answer == Ok(2));
     assert!(rt; (polls, places, left) == ((2, 4), (0, 0), 1));
-}
-
-// What comes of a link that awaits two, of which one gives way once and the other nine times.
-fn await_two<R: Wait + Abort + Drop + Copy + 'static>(rt: R, alloc: Global) -> Awaited {
-    let pool = new_pool(rt, alloc, 1);
-    let counts = new_counts(&pool);
-    let second = Some(Errand::GiveWay(9));
-    let task = granted(
-        &rt,
-        spawn_link(&pool, 1, 1, Errand::GiveWay(1), second, &counts),
-    );
-    let awaited = await_alone(&pool, task, &counts);
-    drop_pool(pool);
-    awaited
 }
 
 // One child ends long before the other: the parent is polled as it is spawned, and once more for each.
 #[test]
 fn a_task_awaits_two_tasks(rt: HostRuntime) {
-    let (answer, polls, _, _) = await_two(rt, rt.alloc());
+    let second = Some(Errand::GiveWay(9));
+    let (answer, polls, _, _) = await_chain(rt, rt.alloc(), 1, Errand::GiveWay(1), second);
     assert!(rt; (answer, polls) == (Ok(3), (3, 12)));
 }
 
@@ -83,42 +69,16 @@ fn a_loop_of_ticks_wakes_what_was_posted(rt: HostRuntime) {
     assert!(rt; (polls, answer) == ((2, 2), Ok(2)));
 }
 
-// What polls of a kept Task answer that gives way once: two before its first turn, one after it, and two after the second. And whether it was kept, and had
-// both turns.
-fn poll_kept_task<R: Wait + Abort + Drop + Copy + 'static>(
-    rt: R,
-    alloc: Global,
-) -> ([Option<u64>; 5], [bool; 3]) {
-    let pool = new_pool(rt, alloc, 1);
-    let counts = new_counts(&pool);
-    let key = place_of_task(&pool);
-    let task = link_task(&pool, 1, 0, Errand::GiveWay(1), &counts);
-    let kept = keep(task, &key);
-    let mut turns = turns_of(&pool);
-    let (first, second) = (poll_at(&pool, &key), poll_at(&pool, &key));
-    let ran = tick(&mut turns);
-    let third = poll_at(&pool, &key);
-    let ran_again = tick(&mut turns);
-    let (fourth, fifth) = (poll_at(&pool, &key), poll_at(&pool, &key));
-    drop_turns(turns);
-    drop_pool(pool);
-    (
-        [first, second, third, fourth, fifth],
-        [kept, ran, ran_again],
-    )
-}
-
-#[test]
-fn a_kept_task_stays_until_it_is_ready(rt: HostRuntime) {
-    let (polled, went) = poll_kept_task(rt, rt.alloc());
-    assert!(rt; polled == [Some(0), Some(0), Some(0), Some(1), None]);
-    assert!(rt; went == [true, true, true]);
-}
-
 // Each link is polled as it is spawned, and once more for the output of the next one.
 #[test]
 fn a_chain_of_tasks_on_one_worker(rt: HostRuntime) {
-    let (answer, polls, places, _) = await_chain(rt, rt.alloc(), CHAIN - 1, Errand::GiveWay(1));
+    let (answer, polls, places, _) = await_chain(
+        rt,
+        rt.alloc(),
+        CHAIN - 1,
+        Errand::GiveWay(1),
+        None,
+    );
     assert!(rt; answer == Ok(1000));
     assert!(rt; (polls, places) == ((1998, 2), (0, 0)));
 }
@@ -315,4 +275,26 @@ fn a_wake_of_an_empty_place_wakes_nothing(rt: HostRuntime) {
     let (went, answer) = wake_nothing(rt, rt.alloc());
     assert!(rt; went == [true, true, false, true, true, false]);
     assert!(rt; answer == Err(BlockOnError::ShutDown));
+}
+
+// What a start answers beside a link that awaits another one, which stays pending; whether the first is closed then; and what is left: Runnables in the queues,
+// places, and owners of what the links count.
+fn start_beside_links<R: Wait + Abort + Threads + Drop + Copy + Send + Sync + 'static>(
+    rt: R,
+    alloc: Global,
+) -> (usize, bool, usize, (usize, usize), usize) {
+    let pool = new_pool(rt, alloc, 2);
+    let counts = new_counts(&pool);
+    let mut task = link_task(&pool, 2, 1, Errand::Stay, &counts);
+    let team = granted(&rt, pool.team());
+    let worker = team.start(&rt, |turns| turns.place().1);
+    let closed = is_closed(&pool, &mut task);
+    drop_task(task);
+    let left = Arc::strong_count(&counts);
+    (worker, closed, pool.queued(), places_taken(&pool), left)
+}
+
+#[test]
+fn a_start_cancels_what_still_waits(rt: HostRuntime) {
+    assert!(rt; start_beside_links(rt, rt.alloc()) == (0, true, 0, (0, 0), 1));
 }

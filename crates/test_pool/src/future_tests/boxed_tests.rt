@@ -200,25 +200,13 @@ fn work<R: Wait + Abort + Drop + Copy, T: Step>(pool: &StepPool<R, T>, worker: u
     }
 }
 
-// All workers of a pool of one or two, each on a thread, until the last task has ended.
-fn work_all<R: Wait + Abort + Threads + Drop + Copy + Send + Sync, T: Step + Send>(
-    pool: &StepPool<R, T>,
-) {
-    if pool.workers() == 1 {
-        work(pool, 0);
-    } else {
-        thread::join(&pool.rt(), || work(pool, 0), || work(pool, 1));
-    }
-}
-
-// What two tasks of these steps answer, on one worker or two.
+// What two tasks of these steps answer, on two workers.
 fn answers_of<R: Wait + Abort + Threads + Drop + Copy + Send + Sync, T: Step + Send>(
     rt: R,
     alloc: Global,
-    workers: usize,
     steps: [T; 2],
 ) -> (Option<u64>, Option<u64>) {
-    let pool = granted(&rt, StepPool::new(rt, alloc, workers));
+    let pool = granted(&rt, StepPool::new(rt, alloc, 2));
     let shared = Shared {
         rung: AtomicU64::new(0),
         unfinished: AtomicU64::new(2),
@@ -227,7 +215,7 @@ fn answers_of<R: Wait + Abort + Threads + Drop + Copy + Send + Sync, T: Step + S
     let [first, second] = steps;
     let first = spawned(&pool, first, &shared);
     let second = spawned(&pool, second, &shared);
-    work_all(&pool);
+    thread::join(&rt, || work(&pool, 0), || work(&pool, 1));
     (output_of(first), output_of(second))
 }
 
@@ -236,41 +224,29 @@ fn boxed<R: Abort, T: Drop>(rt: &R, alloc: Global, step: T) -> Box<T> {
     granted(rt, Box::new(alloc, step))
 }
 
-// A share of a meeting. Stops where it has as many owners as can be counted.
-fn share_of<R: Abort>(rt: &R, meeting: &Arc<Meeting>) -> Arc<Meeting> {
-    granted(rt, Arc::try_clone(meeting))
-}
-
-// The answers of a step that doubles and of one that brings 21, in boxes, on one worker or two.
+// The answers of a step that doubles and of one that brings 21, in boxes.
 fn boxed_answers<R: Wait + Abort + Threads + Drop + Copy + Send + Sync>(
     rt: R,
     alloc: Global,
-    workers: usize,
 ) -> (Option<u64>, Option<u64>) {
     let meeting = Meeting {
         brought: AtomicU64::new(0),
         waits: AtomicU32::new(0),
     };
     let meeting = granted(&rt, Arc::new(alloc, meeting));
-    let doubles = Doubles(share_of(&rt, &meeting));
+    let doubles = Doubles(granted(&rt, Arc::try_clone(&meeting)));
     let brings = Brings {
         number: 21,
         gave_way: false,
-        meeting: share_of(&rt, &meeting),
+        meeting,
     };
     let doubles: Box<dyn Step + Send> = boxed(&rt, alloc, doubles);
     let brings: Box<dyn Step + Send> = boxed(&rt, alloc, brings);
-    answers_of(rt, alloc, workers, [doubles, brings])
-}
-
-#[test]
-fn one_worker_runs_boxed_futures(rt: HostRuntime) {
-    let answers = boxed_answers(rt, rt.alloc(), 1);
-    assert!(rt; answers == (Some(42), Some(21)));
+    answers_of(rt, alloc, [doubles, brings])
 }
 
 #[test]
 fn two_workers_run_boxed_futures(rt: HostRuntime) {
-    let answers = boxed_answers(rt, rt.alloc(), 2);
+    let answers = boxed_answers(rt, rt.alloc());
     assert!(rt; answers == (Some(42), Some(21)));
 }

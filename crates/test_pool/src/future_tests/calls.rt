@@ -7,10 +7,7 @@ use crate::future_tests::link::{
 };
 use crate::granted::granted;
 use async_task::{TaskPoll, Wake};
-use executor::{
-    BellAwaiter, BlockOnError, Key, collect, place_for_task, place_for_waker, poll_kept,
-    wake_posted,
-};
+use executor::{BellAwaiter, BlockOnError, Key, collect, place_for_waker, wake_posted};
 use std::alloc::{AllocError, Global};
 use std::process::Abort;
 use std::sync::atomic::Ordering;
@@ -48,11 +45,6 @@ pub fn link_task<'x, R: Wait + Abort + Drop + Copy>(
         &pool.rt(),
         spawn_link(pool, worker, below, errand, None, counts),
     )
-}
-
-/// An empty place for a Task. Stops where there is none.
-pub fn place_of_task<R: Wait + Abort + Drop + Copy>(pool: &LinkPool<R>) -> Key<R> {
-    granted(&pool.rt(), place_for_task((pool, 0)).ok_or(AllocError))
 }
 
 /// An empty place for a waker. Stops where there is none.
@@ -140,15 +132,6 @@ pub fn is_closed<R: Wait + Drop + Copy>(pool: &LinkPool<R>, task: &mut LinkTask<
     }
 }
 
-/// What a poll of the Task at the place of a key answers: its output, or 0 where it is pending. `None` where there is none, or where it is closed.
-pub fn poll_at<R: Wait + Drop + Copy>(pool: &LinkPool<R>, key: &Key<R>) -> Option<u64> {
-    let awaiter = BellAwaiter::new(pool, 0)?;
-    match poll_kept((pool, 0), key, &awaiter)? {
-        TaskPoll::Ready(answer) => answer.ok(),
-        TaskPoll::Pending | TaskPoll::Refused => Some(0),
-    }
-}
-
 /// Wakes by the awaiter of a number, by reference and by value. Answers false where the awaiter was refused.
 pub fn wake_number<R: Wait + Drop + Copy>(pool: &LinkPool<R>, number: usize) -> bool {
     match BellAwaiter::of_kept(pool, number) {
@@ -186,31 +169,25 @@ pub fn knock<R: Wait + Drop + Copy>(pool: &LinkPool<R>, counts: &Counts) -> bool
 /// wakers and for Tasks, and how many owners have what the links count.
 pub type Awaited = (Result<u64, BlockOnError>, (u64, u64), (usize, usize), usize);
 
-/// Awaits a Task as the only worker of a pool, drops it, and frees the places of keys that were dropped.
-pub fn await_alone<'x, R: Wait + Abort + Drop + Copy + 'static>(
-    pool: &'x LinkPool<R>,
-    mut task: LinkTask<'x, R>,
-    counts: &Arc<Counts>,
-) -> Awaited {
-    let mut turns = turns_of(pool);
-    let answer = block_on(&mut turns, &mut task);
-    drop_task(task);
-    collect_all(pool);
-    let left = Arc::strong_count(counts);
-    (answer, polls(counts), places_taken(pool), left)
-}
-
-/// What comes of a link with so many below it, on one worker.
+/// What comes of a link with so many below it, on one worker. Where there is a second errand it awaits one more, which does that.
 pub fn await_chain<R: Wait + Abort + Drop + Copy + 'static>(
     rt: R,
     alloc: Global,
     below: u64,
     errand: Errand,
+    second: Option<Errand>,
 ) -> Awaited {
     let pool = new_pool(rt, alloc, 1);
     let counts = new_counts(&pool);
-    let task = link_task(&pool, 1, below, errand, &counts);
-    let awaited = await_alone(&pool, task, &counts);
+    let task = spawn_link(&pool, 1, below, errand, second, &counts);
+    let mut task = granted(&rt, task);
+    let mut turns = turns_of(&pool);
+    let answer = block_on(&mut turns, &mut task);
+    drop_task(task);
+    collect_all(&pool);
+    let left = Arc::strong_count(&counts);
+    let awaited = (answer, polls(&counts), places_taken(&pool), left);
+    drop_turns(turns);
     drop_pool(pool);
     awaited
 }

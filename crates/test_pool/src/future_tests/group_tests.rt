@@ -79,14 +79,6 @@ fn all_of<R: Wait + Drop + Copy>(group: &mut LinkGroup<'_, R>) -> CameOut {
     (count, sum)
 }
 
-// Adds the output of a member that has ended, if there is one.
-fn add_next<R: Wait + Drop + Copy>(group: &mut LinkGroup<'_, R>, came_out: &mut CameOut) {
-    if let Ok(Some(ended)) = group.try_next() {
-        came_out.0 = came_out.0.wrapping_add(1);
-        came_out.1 = came_out.1.wrapping_add(ended.answer.unwrap_or(0));
-    }
-}
-
 // What comes out of a group at which a worker looks between its turns, and the answer of one more task, for which it waits then.
 fn look_between_turns<R: Wait + Abort + Drop + Copy + 'static>(
     rt: R,
@@ -97,9 +89,12 @@ fn look_between_turns<R: Wait + Abort + Drop + Copy + 'static>(
     let mut group = new_group(&pool, &counts);
     let mut last = link_task(&pool, 1, 1, Errand::GiveWay(2), &counts);
     let mut turns = turns_of(&pool);
-    let mut came_out = (0, 0);
+    let mut came_out = (0u64, 0u64);
     for _ in 0..TURNS {
-        add_next(&mut group, &mut came_out);
+        if let Ok(Some(ended)) = group.try_next() {
+            came_out.0 = came_out.0.saturating_add(1);
+            came_out.1 = came_out.1.saturating_add(ended.answer.unwrap_or(0));
+        }
         wakes_posted(&pool);
         tick(&mut turns);
     }
@@ -235,48 +230,21 @@ fn wait_for_groups<'x, R: Wait + Abort + Drop + Copy + 'static>(
     sum
 }
 
-// Waits as worker 0 of a pool for groups of tasks of another one, or of the same, while another thread is a worker of that: whether this began, and the
-// sum of what came out.
-fn wait_beside<'x, R: Wait + Abort + Threads + Drop + Copy + Send + Sync + 'static>(
-    pool: &'x LinkPool<R>,
-    other: &'x LinkPool<R>,
-    worker: usize,
-) -> (bool, u64) {
-    let counts = new_counts(pool);
-    let mut turns = turns_of(pool);
-    thread::join(
-        &pool.rt(),
-        || work(other, worker),
-        || wait_for_groups(&mut turns, other, &counts),
-    )
-}
-
-// What `wait_beside` answers of two workers of one pool.
-fn wait_in_one_pool<R: Wait + Abort + Threads + Drop + Copy + Send + Sync + 'static>(
-    rt: R,
-    alloc: Global,
-) -> (bool, u64) {
-    let pool = new_pool(rt, alloc, 2);
-    let seen = wait_beside(&pool, &pool, 1);
-    drop_pool(pool);
-    seen
-}
-
-// A worker that waits sleeps while another one runs the member, and is woken by its end.
-#[test]
-fn a_member_that_ends_elsewhere_wakes_the_worker_that_waits(rt: HostRuntime) {
-    let (ran, sum) = wait_in_one_pool(rt, rt.alloc());
-    assert!(rt; ran && sum == GROUPS);
-}
-
-// What `wait_beside` answers of the workers of two pools.
+// Waits as the worker of a pool for groups of tasks of another one, while another thread is the worker of that: whether this began, and the sum of what came out.
 fn wait_across_pools<R: Wait + Abort + Threads + Drop + Copy + Send + Sync + 'static>(
     rt: R,
     alloc: Global,
 ) -> (bool, u64) {
     let pool = new_pool(rt, alloc, 1);
     let other = new_pool(rt, alloc, 1);
-    let seen = wait_beside(&pool, &other, 0);
+    let counts = new_counts(&other);
+    let mut turns = turns_of(&pool);
+    let seen = thread::join(
+        &rt,
+        || work(&other, 0),
+        || wait_for_groups(&mut turns, &other, &counts),
+    );
+    drop_turns(turns);
     drop_pool(pool);
     drop_pool(other);
     seen
@@ -292,14 +260,16 @@ fn a_member_of_another_pool_wakes_the_worker_that_waits(rt: HostRuntime) {
 // Whether a member ran that stays pending; what a wait for it answers; and how many members are left.
 type Waited = (bool, Result<Option<u64>, NextMemberError>, usize);
 
-// A wait that another thread ends by a shutdown.
-fn wait_until_shutdown<R: Wait + Clock + Abort + Threads + Drop + Copy + Send + Sync + 'static>(
+// A wait that another thread ends by an abort of the member, or by a shutdown.
+fn wait_until_ended<R: Wait + Clock + Abort + Threads + Drop + Copy + Send + Sync + 'static>(
     rt: R,
     alloc: Global,
+    aborts: bool,
 ) -> Waited {
     let pool = new_pool(rt, alloc, 1);
     let counts = new_counts(&pool);
     let mut group = new_lone(&pool, 0, Errand::Stay, &counts);
+    let handle = granted(&rt, group.abort_handle(0).ok_or(()));
     let mut turns = turns_of(&pool);
     let ran = tick(&mut turns);
     let (_, ended) = thread::join(
@@ -307,10 +277,15 @@ fn wait_until_shutdown<R: Wait + Clock + Abort + Threads + Drop + Copy + Send + 
         || {
             // By then the worker sleeps.
             thread::sleep(&rt, Duration::from_millis(20));
-            shut_down(&pool);
+            if aborts {
+                handle.abort();
+            } else {
+                shut_down(&pool);
+            }
         },
         || next_output(&mut turns, &mut group),
     );
+    drop(handle);
     drop_turns(turns);
     let left = drop_group(group);
     drop_pool(pool);
@@ -320,41 +295,14 @@ fn wait_until_shutdown<R: Wait + Clock + Abort + Threads + Drop + Copy + Send + 
 // A shutdown ends the wait for a member that nothing will wake; it stays in the group.
 #[test]
 fn a_wait_for_a_member_ends_with_the_pool(rt: HostRuntime) {
-    let (ran, ended, left) = wait_until_shutdown(rt, rt.alloc());
+    let (ran, ended, left) = wait_until_ended(rt, rt.alloc(), false);
     assert!(rt; ran && matches!(ended, Err(NextMemberError::ShutDown)) && left == 1);
-}
-
-// A wait that another thread ends by an abort of the member.
-fn wait_until_abort<R: Wait + Clock + Abort + Threads + Drop + Copy + Send + Sync + 'static>(
-    rt: R,
-    alloc: Global,
-) -> Waited {
-    let pool = new_pool(rt, alloc, 1);
-    let counts = new_counts(&pool);
-    let mut group = new_lone(&pool, 0, Errand::Stay, &counts);
-    let handle = granted(&rt, group.abort_handle(0).ok_or(()));
-    let mut turns = turns_of(&pool);
-    let ran = tick(&mut turns);
-    let (_, output) = thread::join(
-        &rt,
-        || {
-            // By then the worker sleeps.
-            thread::sleep(&rt, Duration::from_millis(20));
-            handle.abort();
-        },
-        || next_output(&mut turns, &mut group),
-    );
-    drop(handle);
-    drop_turns(turns);
-    let left = drop_group(group);
-    drop_pool(pool);
-    (ran, output, left)
 }
 
 // The only worker sleeps as another thread aborts the member, which nothing else ends, and then runs it.
 #[test]
 fn an_abort_wakes_the_worker_that_waits_for_a_member(rt: HostRuntime) {
-    let (ran, output, left) = wait_until_abort(rt, rt.alloc());
+    let (ran, output, left) = wait_until_ended(rt, rt.alloc(), true);
     assert!(rt; ran && output == Ok(Some(0)) && left == 0);
 }
 
@@ -419,7 +367,7 @@ fn a_wait_for_a_member_elapses_at_its_deadline(rt: HostRuntime) {
 // A link awaits a hundred others as a group: it and the others are polled little more than thrice each, together.
 #[test]
 fn a_task_awaits_a_group_in_few_polls(rt: HostRuntime) {
-    let (answer, (_, all), taken, _) = await_chain(rt, rt.alloc(), 0, Errand::Group(100));
+    let (answer, (_, all), taken, _) = await_chain(rt, rt.alloc(), 0, Errand::Group(100), None);
     assert!(rt; answer == Ok(100) && taken == (0, 0));
     assert!(rt; all >= 302 && all < 310);
 }
@@ -427,6 +375,6 @@ fn a_task_awaits_a_group_in_few_polls(rt: HostRuntime) {
 // A link aborts the members of its group, which are closed at once and never polled.
 #[test]
 fn a_task_aborts_the_members_of_its_group(rt: HostRuntime) {
-    let (answer, (_, all), taken, _) = await_chain(rt, rt.alloc(), 0, Errand::Abort(3));
+    let (answer, (_, all), taken, _) = await_chain(rt, rt.alloc(), 0, Errand::Abort(3), None);
     assert!(rt; answer == Ok(3) && taken == (0, 0) && all == 1);
 }

@@ -1,38 +1,22 @@
-//! Tasks that a pool keeps at a place: one that takes the place of another one, and one whose poll is refused its awaiter.
+//! A Task that a pool keeps stays at its place after a poll that is refused its awaiter, and after one that is pending, until one is ready.
 ghost use Rattle.std.specs.Prelude.{⊤};
 
+use crate::calls::new_guests;
 use crate::granted::granted;
-use async_task::{Future, Poll, TaskPoll, Wake, Yields};
+use crate::guest::{Errand, Guest};
+use async_task::{TaskClosed, TaskPoll, Wake};
 use executor::{Key, Pool, Turns, keep_task, place_for_task, poll_kept};
 use std::alloc::{AllocError, Global};
 use std::process::Abort;
-use std::sync::atomic::{AtomicU64, Ordering};
-use std::sync::{Arc, Wait};
+use std::sync::Wait;
 
-/// Answers 7 at its first poll, and counts its polls.
+/// An awaiter that nobody hears. Of one that is single there is no clone: a poll that would keep one is refused.
 #[derive(Drop)]
-struct Seven {
-    polls: Arc<AtomicU64>,
+struct Deaf {
+    is_single: bool,
 }
 
-impl Yields for Seven {
-    type Output = u64;
-}
-
-impl<W> Future<W> for Seven {
-    ghost polled = { λ _ _ _ _. ⊤ };
-
-    fn poll(&mut self, _waker: &W) -> Poll<u64> {
-        self.polls.fetch_add(1, Ordering::SeqCst);
-        Poll::Ready(7)
-    }
-}
-
-/// An awaiter of which there is no clone: a poll that would keep one is refused.
-#[derive(Drop)]
-struct Single;
-
-impl Wake for Single {
+impl Wake for Deaf {
     ghost woken = { λ _. ⊤ };
 
     ghost woken_by_ref = { λ _. ⊤ };
@@ -45,102 +29,61 @@ impl Wake for Single {
 
     fn wake_by_ref(&self) {}
 
-    fn try_clone(&self) -> Option<Single> {
-        None
+    fn try_clone(&self) -> Option<Deaf> {
+        if self.is_single {
+            return None;
+        }
+        Some(Deaf { is_single: false })
     }
 
-    fn will_wake(&self, _other: &Single) -> bool {
+    fn will_wake(&self, _other: &Deaf) -> bool {
         false
     }
 }
 
-type SevenPool<R> = Pool<R, Seven, Single>;
-
-type SevenTurns<'x, R> = Turns<'x, R, Seven, Single>;
-
-// No polls yet.
-fn no_polls<R: Abort>(rt: &R, alloc: Global) -> Arc<AtomicU64> {
-    granted(rt, Arc::new(alloc, AtomicU64::new(0)))
-}
-
-fn new_pool<R: Wait + Abort + Drop + Copy>(rt: R, alloc: Global) -> SevenPool<R> {
-    granted(&rt, SevenPool::new(rt, alloc, 1))
-}
-
-fn turns_of<R: Wait + Abort + Drop + Copy>(pool: &SevenPool<R>) -> SevenTurns<'_, R> {
-    granted(&pool.rt(), pool.turns(0))
-}
-
-fn place_of_task<R: Wait + Abort + Drop + Copy>(pool: &SevenPool<R>) -> Key<R> {
-    granted(&pool.rt(), place_for_task((pool, 0)).ok_or(AllocError))
-}
-
-fn drop_turns<R: Wait + Drop + Copy>(turns: SevenTurns<'_, R>) {
-    drop(turns);
-}
-
-fn drop_pool<R: Wait + Drop + Copy>(pool: SevenPool<R>) {
-    drop(pool);
-}
+type DeafPool<R> = Pool<R, Guest, Deaf>;
 
 // Runs the next task: whether there was one.
-fn tick<R: Wait + Drop + Copy>(turns: &mut SevenTurns<'_, R>) -> bool {
-    turns.tick()
-}
-
-// Spawns a task that counts its polls there, and keeps its Task at the place of a key: whether it was kept.
-fn keep_seven<R: Wait + Abort + Drop + Copy>(
-    pool: &SevenPool<R>,
-    key: &Key<R>,
-    polls: &Arc<AtomicU64>,
-) -> bool {
-    let polls = granted(&pool.rt(), Arc::try_clone(polls));
-    let task = granted(&pool.rt(), pool.spawn(Seven { polls }));
-    keep_task(task, key).is_ok()
-}
-
-// What a poll of the Task at the place of a key answers: its output, or 0 where its awaiter was refused. `None` where there is no Task, or none that will answer.
-fn poll_at<R: Wait + Drop + Copy>(pool: &SevenPool<R>, key: &Key<R>) -> Option<u64> {
-    match poll_kept((pool, 0), key, &Single)? {
-        TaskPoll::Ready(answer) => answer.ok(),
-        TaskPoll::Refused => Some(0),
-        TaskPoll::Pending => None,
+fn run_next<R: Wait + Drop + Copy>(turns: &mut Turns<'_, R, Guest, Deaf>) -> bool {
+    match turns.next() {
+        Some(runnable) => {
+            runnable.run();
+            true
+        }
+        None => false,
     }
 }
 
-// The task of the earlier Task is never polled, and its future is dropped. That of the later one answers.
-#[test]
-fn a_task_that_is_kept_cancels_the_one_that_was_there(rt: HostRuntime) {
-    let earlier = no_polls(&rt, rt.alloc());
-    let later = no_polls(&rt, rt.alloc());
-    let pool = new_pool(rt, rt.alloc());
-    let key = place_of_task(&pool);
-    let first = keep_seven(&pool, &key, &earlier);
-    let second = keep_seven(&pool, &key, &later);
-    let mut turns = turns_of(&pool);
-    let ran = (tick(&mut turns), tick(&mut turns));
-    let polls = (earlier.load(Ordering::SeqCst), later.load(Ordering::SeqCst));
-    let owners = Arc::strong_count(&earlier);
-    let answer = poll_at(&pool, &key);
-    drop_turns(turns);
-    drop_pool(pool);
-    assert!(rt; first && second && ran == (true, true));
-    assert!(rt; (polls, owners, answer) == ((0, 1), 1, Some(7)));
+fn poll_at<R: Wait + Drop + Copy>(
+    pool: &DeafPool<R>,
+    key: &Key<R>,
+    is_single: bool,
+) -> Option<TaskPoll<Result<u64, TaskClosed>>> {
+    poll_kept((pool, 0), key, &Deaf { is_single })
 }
 
-// It is refused twice before the task has run. The poll after that needs no awaiter, and the last one finds no Task.
+// Whether the Task of a guest that gives way once was kept; what polls of it answer before, between and after its two turns; and whether it had these.
+fn keep_and_poll<R: Wait + Abort + Drop + Copy>(rt: R, alloc: Global) -> ([bool; 3], [bool; 5]) {
+    let guests = new_guests(&rt, alloc, 0);
+    let pool = granted(&rt, DeafPool::new(rt, alloc, 1));
+    let key = granted(&rt, place_for_task((&pool, 0)).ok_or(AllocError));
+    let guest = granted(&rt, Guest::new(Errand::GiveWay(1), &guests));
+    let kept = keep_task(granted(&rt, pool.spawn(guest)), &key).is_ok();
+    let mut turns = granted(&rt, pool.turns(0));
+    let refused = matches!(poll_at(&pool, &key, true), Some(TaskPoll::Refused));
+    let waits = matches!(poll_at(&pool, &key, false), Some(TaskPoll::Pending));
+    let ran = run_next(&mut turns);
+    let still_waits = matches!(poll_at(&pool, &key, false), Some(TaskPoll::Pending));
+    let ran_again = run_next(&mut turns);
+    let answers = matches!(poll_at(&pool, &key, true), Some(TaskPoll::Ready(Ok(1))));
+    let is_gone = poll_at(&pool, &key, true).is_none();
+    let polls = [refused, waits, still_waits, answers, is_gone];
+    ([kept, ran, ran_again], polls)
+}
+
+// A poll that is ready needs no awaiter, and the last one finds no Task.
 #[test]
-fn a_kept_task_stays_where_its_awaiter_is_refused(rt: HostRuntime) {
-    let polls = no_polls(&rt, rt.alloc());
-    let pool = new_pool(rt, rt.alloc());
-    let key = place_of_task(&pool);
-    let kept = keep_seven(&pool, &key, &polls);
-    let mut turns = turns_of(&pool);
-    let before = (poll_at(&pool, &key), poll_at(&pool, &key));
-    let ran = tick(&mut turns);
-    let after = (poll_at(&pool, &key), poll_at(&pool, &key));
-    drop_turns(turns);
-    drop_pool(pool);
-    assert!(rt; kept && ran);
-    assert!(rt; (before, after) == ((Some(0), Some(0)), (Some(7), None)));
+fn a_kept_task_stays_until_it_is_ready(rt: HostRuntime) {
+    let (went, polls) = keep_and_poll(rt, rt.alloc());
+    assert!(rt; went == [true; 3] && polls == [true; 5]);
 }

@@ -48,6 +48,8 @@ pub enum Errand {
     Knocks(u64),
     /// Stays pending, and keeps no waker.
     Stay,
+    /// Ends the pool, wakes itself, and is pending.
+    ShutDown,
     /// Spawns so many links that give way twice, awaits them as a group, and answers what they do together.
     Group(u64),
     /// Spawns so many links that stay pending, aborts one of them and then all, and answers how many come out closed.
@@ -113,16 +115,6 @@ pub fn spawn_link<'x, R: Wait + Drop + Copy>(
     Ok(pool.spawn_on(worker, link)?)
 }
 
-/// Keeps a Task at a place: whether it was kept.
-pub fn keep<R: Wait + Drop + Copy>(task: LinkTask<'_, R>, key: &Key<R>) -> bool {
-    keep_task(task, key).is_ok()
-}
-
-// Takes a place for the waker of a link.
-fn own_place<'x, R: Wait + Drop + Copy>(waker: &LinkWaker<'x, R>) -> Option<Key<R>> {
-    place_for_waker(waker.around())
-}
-
 // Spawns a link for another one, and keeps its Task.
 fn spawn_kept<'x, R: Wait + Drop + Copy>(
     waker: &LinkWaker<'x, R>,
@@ -133,7 +125,7 @@ fn spawn_kept<'x, R: Wait + Drop + Copy>(
     let place = waker.around();
     let key = place_for_task(place)?;
     match spawn_link(place.0, place.1, below, errand, None, counts) {
-        Ok(task) => keep(task, &key).then_some(key),
+        Ok(task) => keep_task(task, &key).is_ok().then_some(key),
         Err(_) => None,
     }
 }
@@ -171,7 +163,7 @@ fn add_answer(sum: &mut u64, answer: Poll<u64>) -> bool {
 impl<R: Wait + Drop + Copy> Link<R> {
     // Spawns the links that this one awaits.
     fn spawn_next<'x>(&self, waker: &LinkWaker<'x, R>) -> Option<Places<R>> {
-        let own = own_place(waker)?;
+        let own = place_for_waker(waker.around())?;
         let below = self.below.saturating_sub(1);
         let first = spawn_kept(waker, below, self.errand, &self.counts);
         let second = match self.second {
@@ -202,7 +194,7 @@ impl<R: Wait + Drop + Copy> Link<R> {
     // Keeps the waker, and then says that it was kept once more.
     fn waits_for_knock<'x>(&mut self, waker: &LinkWaker<'x, R>) -> bool {
         if self.own.is_none() {
-            self.own = own_place(waker);
+            self.own = place_for_waker(waker.around());
         }
         let Some(own) = &self.own else {
             return false;
@@ -235,6 +227,11 @@ impl<R: Wait + Drop + Copy> Link<R> {
                 }
             }
             Errand::Stay => Poll::Pending,
+            Errand::ShutDown => {
+                waker.around().0.shutdown();
+                waker.wake_by_ref();
+                Poll::Pending
+            }
             Errand::Group(links) => self.await_group(waker, links),
             Errand::Abort(links) => abort_group(waker, links, &self.counts),
         }

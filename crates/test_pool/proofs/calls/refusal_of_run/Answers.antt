@@ -1,5 +1,5 @@
 use contract.BorrowLft.{⊑_static, ⊑_trans}
-use Rattle.test_pool.proofs.start_tests.work.Goals as goal
+use Rattle.test_pool.proofs.calls.refusal_of_run.Goals as goal
 
 -- The runtime lives for ever, so it outlives the pool.
 pub run-requires-lives-F-Future : goal.run-requires-lives-F-Future
