@@ -1,5 +1,5 @@
 //! `block_on` of a future that no task runs.
-//! Of what is only tested (the page of `shared_waker`): that `block_on` polls again after a wake of another thread.
+//! Of what is only tested (the page of shared wakers): that `block_on` polls again after a wake of another thread.
 use crate::gate::{Gate, new_gate, waits_at};
 use executor::shared_waker::block_on;
 use executor_parts::Awaiter;

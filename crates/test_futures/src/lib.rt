@@ -1,6 +1,6 @@
 //! The tests of the futures of `future_parts`: on one thread by a waker that counts its wakes, and on many;
-//! and of timers, by such a waker and times that the test gives, by the `block_on` of `shared_waker` and by threads; and of that `block_on`.
-//! It stands on these two, `future_time` and `awaiters`. Nothing is public. The pages are those of the first three.
+//! and of timers, by such a waker and times that the test gives, by the `block_on` of shared wakers and by threads; and of that `block_on`.
+//! It stands on `future_parts`, `future_time`, `executor_parts` and `executor`. Nothing is public. The pages are those of the first two crates, and that of shared wakers.
 #![tactic(auto)]
 
 #[cfg(test)]

@@ -1,5 +1,5 @@
 //! The heap of priorities and the queue over it: memory that is refused, and what is dropped with a queue. Of what is only tested: the page of
-//! `priority_heap`.
+//! `executor_parts`.
 
 use crate::executors::calls;
 use crate::granted::granted;
