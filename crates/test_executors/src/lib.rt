@@ -1,4 +1,4 @@
-//! The tests of tasks under executors of other kinds (a queue by priority, a slot, a heap), of what awaits them (awaiters, groups, the kit's futures),
+//! The tests of tasks under executors of other kinds (a queue by priority, a heap), of what awaits them (awaiters, groups, the kit's futures),
 //! of refused memory, and of threads that race.
 //! It stands on `rows_fixtures`, `priority_heap`, `awaiters`, `task_group`, `kit_bridge` and `bench_report`. Nothing is public. The page is docs/PROOFS.md.
 #![tactic(auto)]
@@ -19,8 +19,6 @@ mod races;
 mod refusal_tests;
 #[cfg(test)]
 mod shared_tests;
-#[cfg(test)]
-mod slot_tests;
 #[cfg(test)]
 mod storm_tests;
 #[cfg(test)]
