@@ -277,15 +277,15 @@ fn a_wake_of_an_empty_place_wakes_nothing(rt: HostRuntime) {
     assert!(rt; answer == Err(BlockOnError::ShutDown));
 }
 
-// What a start answers beside a link that awaits another one, which stays pending; whether the first is closed then; and what is left: Runnables in the queues,
-// places, and owners of what the links count.
-fn start_beside_links<R: Wait + Abort + Threads + Drop + Copy + Send + Sync + 'static>(
+// What a start answers beside a link that keeps its waker, which nobody wakes; whether it is closed then; and what is left: Runnables in the queues, places, and
+// owners of what the links count.
+fn start_beside_a_link<R: Wait + Abort + Threads + Drop + Copy + Send + Sync + 'static>(
     rt: R,
     alloc: Global,
 ) -> (usize, bool, usize, (usize, usize), usize) {
     let pool = new_pool(rt, alloc, 2);
     let counts = new_counts(&pool);
-    let mut task = link_task(&pool, 2, 1, Errand::Stay, &counts);
+    let mut task = link_task(&pool, 2, 0, Errand::Knocks(KNOCKS), &counts);
     let team = granted(&rt, pool.team());
     let worker = team.start(&rt, |turns| turns.place().1);
     let closed = is_closed(&pool, &mut task);
@@ -296,5 +296,5 @@ fn start_beside_links<R: Wait + Abort + Threads + Drop + Copy + Send + Sync + 's
 
 #[test]
 fn a_start_cancels_what_still_waits(rt: HostRuntime) {
-    assert!(rt; start_beside_links(rt, rt.alloc()) == (0, true, 0, (0, 0), 1));
+    assert!(rt; start_beside_a_link(rt, rt.alloc()) == (0, true, 0, (0, 0), 1));
 }
