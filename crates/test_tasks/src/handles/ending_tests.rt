@@ -604,26 +604,31 @@ fn drop_in_scheduler<'m, R: Wait + Abort + Drop + Copy>(ground: &'m Ground<R>, d
     ground.mark();
 }
 
-// What is seen of a task that ends in that way.
-fn live<R: Wait + Abort + Drop + Copy>(rt: R, alloc: Global, way: Way) -> Life {
-    let ground = Ground::new(rt, alloc);
+// Has a task end in that way.
+fn end<'m, R: Wait + Abort + Drop + Copy>(ground: &'m Ground<R>, way: Way) {
     let desk = Desk {
-        rt,
+        rt: ground.rt,
         runnable: Place::new(),
         task: Place::new(),
     };
     match way {
-        Way::Claimed => claim(&ground, &desk),
-        Way::Detached => complete_detached(&ground, &desk),
-        Way::DetachedWithWaker => complete_beside_waker(&ground, &desk),
-        Way::WakersLeft => leave_wakers(&ground, &desk),
-        Way::CancelledScheduled => cancel_scheduled(&ground, &desk),
-        Way::CancelledIdle => cancel_idle(&ground, &desk),
-        Way::CancelledRunning => cancel_running(&ground, &desk),
-        Way::RunnableDropped => drop_runnable(&ground, &desk),
-        Way::Orphaned => orphan(&ground, &desk),
-        Way::DroppedByScheduler => drop_in_scheduler(&ground, &desk),
+        Way::Claimed => claim(ground, &desk),
+        Way::Detached => complete_detached(ground, &desk),
+        Way::DetachedWithWaker => complete_beside_waker(ground, &desk),
+        Way::WakersLeft => leave_wakers(ground, &desk),
+        Way::CancelledScheduled => cancel_scheduled(ground, &desk),
+        Way::CancelledIdle => cancel_idle(ground, &desk),
+        Way::CancelledRunning => cancel_running(ground, &desk),
+        Way::RunnableDropped => drop_runnable(ground, &desk),
+        Way::Orphaned => orphan(ground, &desk),
+        Way::DroppedByScheduler => drop_in_scheduler(ground, &desk),
     }
+}
+
+// What is seen of a task that ends in that way.
+fn live<R: Wait + Abort + Drop + Copy>(rt: R, alloc: Global, way: Way) -> Life {
+    let ground = Ground::new(rt, alloc);
+    end(&ground, way);
     ground.life()
 }
 
