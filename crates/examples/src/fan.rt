@@ -1,8 +1,8 @@
 //! Fan-out and fan-in on a pool of two workers: eight tasks add up parts of a list, and one thread adds up what they answer. Where one of them fails, the others are cancelled.
 ghost use Rattle.std.specs.Prelude.{⊤};
 
-use async_task::{Future, Poll, Wake, Yields};
-use executor::{BellAwaiter, Pool, PoolGroup, Turns};
+use async_task::{Future, Poll, Yields};
+use executor::{BellAwaiter, Pool, PoolGroup, PoolWaker, Turns};
 use std::alloc::Global;
 use std::ops::Range;
 use std::sync::Wait;
@@ -31,10 +31,12 @@ impl Yields for Sum {
     type Output = Result<u64, Failed>;
 }
 
-impl<W: Wake> Future<W> for Sum {
+type SumWaker<'x, R> = PoolWaker<'x, R, Sum, BellAwaiter<R>>;
+
+impl<'x, R: Wait + Drop + Copy> Future<SumWaker<'x, R>> for Sum {
     ghost polled = { λ _ _ _ _. ⊤ };
 
-    fn poll(&mut self, waker: &W) -> Poll<Result<u64, Failed>> {
+    fn poll(&mut self, waker: &SumWaker<'x, R>) -> Poll<Result<u64, Failed>> {
         match self.numbers.next() {
             None => return Poll::Ready(Ok(self.sum)),
             Some(number) if self.fails && number % 10 == 5 => {
