@@ -20,6 +20,17 @@ struct SumOf<'d> {
     unfinished: &'d AtomicU64,
 }
 
+impl<'d> SumOf<'d> {
+    fn new(numbers: &'d [u64], unfinished: &'d AtomicU64) -> SumOf<'d> {
+        SumOf {
+            numbers,
+            next: 0,
+            sum: 0,
+            unfinished,
+        }
+    }
+}
+
 impl<'d> Yields for SumOf<'d> {
     type Output = u64;
 }
@@ -54,13 +65,7 @@ fn spawned<'x, 'd, R: Wait + Abort + Drop + Copy>(
     numbers: &'d [u64],
     unfinished: &'d AtomicU64,
 ) -> SumTask<'x, 'd, R> {
-    let future = SumOf {
-        numbers,
-        next: 0,
-        sum: 0,
-        unfinished,
-    };
-    granted(&pool.rt(), pool.spawn(future))
+    granted(&pool.rt(), pool.spawn(SumOf::new(numbers, unfinished)))
 }
 
 // The output of a Task, which is dropped.
@@ -69,6 +74,15 @@ fn output_of<'x, 'd, R: Wait + Drop + Copy>(mut task: SumTask<'x, 'd, R>) -> Opt
         TaskPoll::Ready(Ok(output)) => Some(output),
         _ => None,
     }
+}
+
+// The sums of these are 1275 up to 50, and 5050 up to 100.
+fn numbers_up_to<R: Abort>(rt: &R, alloc: Global, last: u64) -> Vec<u64> {
+    let mut numbers = Vec::new(alloc);
+    for number in 1..=last {
+        granted(rt, numbers.push(number));
+    }
+    numbers
 }
 
 // Is the worker of a number until the shutdown. `Pool::run` would do the same, but the prover takes no call of it for futures that borrow.
@@ -82,23 +96,39 @@ fn work<R: Wait + Abort + Drop + Copy>(pool: &SumPool<'_, R>, worker: usize) {
     }
 }
 
-// The sums that two tasks answer, whose futures borrow from here, on two workers.
+// All workers of a pool of one or two, each on a thread, until the shutdown.
+fn work_all<R: Wait + Abort + Threads + Drop + Copy + Send + Sync>(pool: &SumPool<'_, R>) {
+    if pool.workers() == 1 {
+        work(pool, 0);
+    } else {
+        thread::join(&pool.rt(), || work(pool, 0), || work(pool, 1));
+    }
+}
+
+// The sums that two tasks answer, whose futures borrow from here, on one worker or two.
 fn sums_of<R: Wait + Abort + Threads + Drop + Copy + Send + Sync>(
     rt: R,
     alloc: Global,
+    workers: usize,
 ) -> (Option<u64>, Option<u64>) {
-    let low = [1u64, 2, 3, 4, 5];
-    let high = [10u64, 20, 30];
+    let low = numbers_up_to(&rt, alloc, 50);
+    let high = numbers_up_to(&rt, alloc, 100);
     let unfinished = AtomicU64::new(2);
-    let pool = granted(&rt, SumPool::new(rt, alloc, 2));
+    let pool = granted(&rt, SumPool::new(rt, alloc, workers));
     let first = spawned(&pool, low.as_slice(), &unfinished);
     let second = spawned(&pool, high.as_slice(), &unfinished);
-    thread::join(&rt, || work(&pool, 0), || work(&pool, 1));
+    work_all(&pool);
     (output_of(first), output_of(second))
 }
 
 #[test]
+fn one_worker_runs_futures_that_borrow(rt: HostRuntime) {
+    let sums = sums_of(rt, rt.alloc(), 1);
+    assert!(rt; sums == (Some(1275), Some(5050)));
+}
+
+#[test]
 fn two_workers_run_futures_that_borrow(rt: HostRuntime) {
-    let sums = sums_of(rt, rt.alloc());
-    assert!(rt; sums == (Some(15), Some(60)));
+    let sums = sums_of(rt, rt.alloc(), 2);
+    assert!(rt; sums == (Some(1275), Some(5050)));
 }

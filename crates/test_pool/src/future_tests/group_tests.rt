@@ -230,21 +230,48 @@ fn wait_for_groups<'x, R: Wait + Abort + Drop + Copy + 'static>(
     sum
 }
 
-// Waits as the worker of a pool for groups of tasks of another one, while another thread is the worker of that: whether this began, and the sum of what came out.
+// Waits as worker 0 of a pool for groups of tasks of another one, or of the same, while another thread is a worker of that: whether this began, and the
+// sum of what came out.
+fn wait_beside<'x, R: Wait + Abort + Threads + Drop + Copy + Send + Sync + 'static>(
+    pool: &'x LinkPool<R>,
+    other: &'x LinkPool<R>,
+    worker: usize,
+) -> (bool, u64) {
+    let counts = new_counts(pool);
+    let mut turns = turns_of(pool);
+    thread::join(
+        &pool.rt(),
+        || work(other, worker),
+        || wait_for_groups(&mut turns, other, &counts),
+    )
+}
+
+// What `wait_beside` answers of two workers of one pool.
+fn wait_in_one_pool<R: Wait + Abort + Threads + Drop + Copy + Send + Sync + 'static>(
+    rt: R,
+    alloc: Global,
+) -> (bool, u64) {
+    let pool = new_pool(rt, alloc, 2);
+    let seen = wait_beside(&pool, &pool, 1);
+    drop_pool(pool);
+    seen
+}
+
+// A worker that waits sleeps while another one runs the member, and is woken by its end.
+#[test]
+fn a_member_that_ends_elsewhere_wakes_the_worker_that_waits(rt: HostRuntime) {
+    let (ran, sum) = wait_in_one_pool(rt, rt.alloc());
+    assert!(rt; ran && sum == GROUPS);
+}
+
+// What `wait_beside` answers of the workers of two pools.
 fn wait_across_pools<R: Wait + Abort + Threads + Drop + Copy + Send + Sync + 'static>(
     rt: R,
     alloc: Global,
 ) -> (bool, u64) {
     let pool = new_pool(rt, alloc, 1);
     let other = new_pool(rt, alloc, 1);
-    let counts = new_counts(&other);
-    let mut turns = turns_of(&pool);
-    let seen = thread::join(
-        &rt,
-        || work(&other, 0),
-        || wait_for_groups(&mut turns, &other, &counts),
-    );
-    drop_turns(turns);
+    let seen = wait_beside(&pool, &other, 0);
     drop_pool(pool);
     drop_pool(other);
     seen
