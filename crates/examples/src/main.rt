@@ -13,7 +13,6 @@ mod kit_thread;
 mod last;
 mod line;
 mod new_thread;
-mod one_thread;
 mod parallel_sum;
 mod pooled;
 mod priorities;
@@ -113,7 +112,6 @@ fn main(rt: HostRuntime) -> io::Result<()> {
     print_first(rt, alloc)?;
     print_boxed(rt, alloc)?;
     print_of_kit(rt, alloc)?;
-    print(rt, "one_thread", one_thread::answers_in_order(rt, alloc))?;
     // A pool of two workers: this thread is one, and waits for two tasks.
     let pool = JobPool::new(rt, alloc, 2)?;
     let (mut sum, mut average) = pooled::spawn_both(&pool, 100, 9)?;

@@ -1,4 +1,6 @@
 //! A single-threaded executor with three priorities and `block_on`; another thread may wake its tasks.
+#![tactic(auto)]
+
 ghost use Rattle.std.specs.Prelude.{⊤};
 
 use async_task::{
@@ -8,9 +10,9 @@ use async_task::{
 use executor_parts::Nobody;
 use std::alloc::{AllocError, Global};
 use std::collections::VecDeque;
-use std::mem;
 use std::sync::{Condvar, Mutex, Wait};
 use std::thread::{self, Threads};
+use std::{io, mem};
 
 // The priorities, as numbers of queues: the metadata of a task.
 const HIGH: usize = 0;
@@ -181,11 +183,8 @@ fn take_log<R: Wait + Drop + Copy>(executor: &Executor<R>) -> Vec<&'static str> 
     mem::replace(&mut *log, Vec::new(executor.alloc))
 }
 
-/// What the message and the last of the tasks answered, and in what order the tasks ran. `None` in the first where memory was refused.
-pub fn answers_in_order<R: Wait + Threads + Drop + Copy + Send + Sync>(
-    rt: R,
-    alloc: Global,
-) -> (Option<(u64, u64)>, Vec<&'static str>) {
+fn main(rt: HostRuntime) -> io::Result<()> {
+    let alloc = rt.alloc();
     let executor = Executor {
         rt,
         alloc,
@@ -199,5 +198,6 @@ pub fn answers_in_order<R: Wait + Threads + Drop + Copy + Send + Sync>(
         inbox: Mutex::new((None, None)),
     };
     let answers = run_both(rt, &executor);
-    (answers, take_log(&executor))
+    println!(rt; "{answers:?}")?;
+    println!(rt; "{:?}", take_log(&executor))
 }
