@@ -101,7 +101,9 @@ fn wake_in_full_heap<R: Wait + Abort + Drop + Copy>(
     let filling = tray::fill(rt, alloc, heap);
     let used = heap.used();
     let waker = tray::waker_of(rt, &runnable);
-    let clone = tray::clone_of(rt, &waker);
+    let Some(clone) = waker.try_clone() else {
+        panic!(rt; "a clone of a waker was refused");
+    };
     let first = tray::run(runnable);
     waker.wake_by_ref();
     let second = tray.run_next();

@@ -3,9 +3,7 @@
 ghost use Rattle.std.specs.Prelude.{⊤};
 
 use crate::granted::granted;
-use async_task::{
-    Future, Poll, Runnable, Schedule, ScheduleInfo, TaskWaker, WithInfo, Yields, spawn,
-};
+use async_task::{Future, Poll, Runnable, Schedule, ScheduleInfo, TaskWaker, Yields, spawn};
 use executor_parts::Nobody;
 use rows_fixtures::counters::Counter;
 use std::alloc::Global;
@@ -47,9 +45,9 @@ impl<W> Future<W> for Idle {
 #[derive(Drop)]
 struct Stops;
 
-type StoppedRunnable<'x, R> = Runnable<R, Idle, WithInfo<Stops>, (), Nobody, &'x Meeting>;
+type StoppedRunnable<'x, R> = Runnable<R, Idle, Stops, (), Nobody, &'x Meeting>;
 
-type SharedWaker<'x, R> = TaskWaker<R, Idle, WithInfo<Stops>, (), Nobody, &'x Meeting>;
+type SharedWaker<'x, R> = TaskWaker<R, Idle, Stops, (), Nobody, &'x Meeting>;
 
 impl<'x, R: Wait + Drop + Copy> Schedule<StoppedRunnable<'x, R>> for Stops {
     ghost scheduled = { λ _ _ _. ⊤ };
@@ -107,8 +105,7 @@ fn wakes_go_on<'x, R: Wait + Threads + Abort + Drop + Copy + Send + Sync>(
     alloc: Global,
     meeting: &'x Meeting,
 ) -> bool {
-    let schedule = WithInfo::from(Stops);
-    let (runnable, task) = granted(&rt, spawn(rt, alloc, Idle, schedule, meeting));
+    let (runnable, task) = granted(&rt, spawn(rt, alloc, Idle, Stops, meeting));
     let Some(waker) = runnable.waker() else {
         return false;
     };

@@ -10,7 +10,7 @@ use async_task::{
 };
 use linked_list_allocator::LocalHeap;
 use rows_fixtures::behaviour::Behaviour;
-use rows_fixtures::counters::{Counter, Counters, Counts};
+use rows_fixtures::counters::{Counters, Counts};
 use rows_fixtures::flag::Flag;
 use rows_fixtures::future::RowFuture;
 use rows_fixtures::output::{Output, is_ready_with};
@@ -22,8 +22,6 @@ use std::sync::{Arc, Mutex, Wait};
 
 /// Surroundings that hold one Runnable, parked: room that was there before any task.
 pub struct Tray<'heap, R: Wait + Drop + Copy> {
-    /// How many clones of the waker that it was lent a poll was refused.
-    pub refused_clones: Counter,
     rt: R,
     held: Mutex<Option<TrayParked<'heap, R>>>,
 }
@@ -92,14 +90,12 @@ type TrayParked<'heap, R> = ParkedRunnable<
     &'heap LocalHeap,
 >;
 
-/// Both.
-pub type TrayHandles<'x, 'heap, R> = (TrayRunnable<'x, 'heap, R>, TrayTask<'x, 'heap, R>);
+type TrayHandles<'x, 'heap, R> = (TrayRunnable<'x, 'heap, R>, TrayTask<'x, 'heap, R>);
 
 impl<'heap, R: Wait + Drop + Copy> Tray<'heap, R> {
     /// An empty tray.
     pub fn new(rt: R) -> Tray<'heap, R> {
         Tray {
-            refused_clones: Counter::new(),
             rt,
             held: Mutex::new(None),
         }
@@ -140,15 +136,10 @@ fn drop_parked<R: Wait + Drop + Copy>(parked: TrayParked<'_, R>) {
 
 impl<'heap, R: Wait + Drop + Copy> Drop for Tray<'heap, R> {
     fn drop(self) {
-        let Tray {
-            refused_clones,
-            rt,
-            held,
-        } = self;
+        let Tray { rt, held } = self;
         if let Some(parked) = held.into_inner() {
             drop_parked(parked);
         }
-        drop(refused_clones);
         drop(rt);
     }
 }
@@ -168,7 +159,7 @@ impl<'x, 'heap, R: Wait + Drop + Copy> Schedule<TrayRunnable<'x, 'heap, R>> for 
     }
 }
 
-/// The future of such a task: one of the rows. Each poll clones the waker that it is lent, and drops the clone.
+/// The future of such a task: one of the rows, which does nothing but answer.
 #[derive(Drop)]
 pub struct TrayFuture {
     inner: RowFuture,
@@ -181,11 +172,7 @@ impl Yields for TrayFuture {
 impl<'x, 'heap, R: Wait + Drop + Copy> Future<TrayWaker<'x, 'heap, R>> for TrayFuture {
     ghost polled = { λ old _ answer new. IsPolled old.inner.behaviour answer new.inner.behaviour };
 
-    fn poll(&mut self, waker: &TrayWaker<'x, 'heap, R>) -> Poll<Output> {
-        match waker.try_clone() {
-            Some(clone) => drop(clone),
-            None => waker.around().refused_clones.add_one(),
-        }
+    fn poll(&mut self, _waker: &TrayWaker<'x, 'heap, R>) -> Poll<Output> {
         self.inner.answer_alone()
     }
 }
@@ -208,38 +195,23 @@ pub fn fill<R: Abort + Drop + Copy>(rt: R, alloc: Global, heap: &LocalHeap) -> F
     panic!(rt; "the heap is larger than it was made")
 }
 
-/// Spawns a task in a heap, with metadata 7, a future that behaves like that, and at most so many references. `None` where there is no memory.
-pub fn try_spawn<'x, 'heap, R: Wait + Abort + Drop + Copy>(
-    heap: &'heap LocalHeap,
-    tray: &'x Tray<'heap, R>,
-    counters: &Arc<Counters>,
-    behaviour: Behaviour,
-    references: u64,
-) -> Option<TrayHandles<'x, 'heap, R>> {
-    let future = TrayFuture {
-        inner: RowFuture::new(behaviour, calls::share(tray.rt, counters)),
-    };
-    let scheduler = TrayScheduler {
-        inner: Scheduler::new(calls::share(tray.rt, counters)),
-    };
-    Builder::new()
-        .metadata(7)
-        .reference_limit(references)
-        .spawn(tray.rt, heap, |_| future, scheduler, tray)
-        .ok()
-}
-
-/// The same without a limit. Stops where there is no memory.
+/// Spawns a task in a heap, with metadata 7 and a future that behaves like that. Stops where it is refused.
 pub fn spawn_in<'x, 'heap, R: Wait + Abort + Drop + Copy>(
     heap: &'heap LocalHeap,
     tray: &'x Tray<'heap, R>,
     counters: &Arc<Counters>,
     behaviour: Behaviour,
 ) -> TrayHandles<'x, 'heap, R> {
-    match try_spawn(heap, tray, counters, behaviour, u64::MAX) {
-        Some(handles) => handles,
-        None => panic!(tray.rt; "a task was refused"),
-    }
+    let future = TrayFuture {
+        inner: RowFuture::new(behaviour, calls::share(tray.rt, counters)),
+    };
+    let scheduler = TrayScheduler {
+        inner: Scheduler::new(calls::share(tray.rt, counters)),
+    };
+    let spawned = Builder::new()
+        .metadata(7)
+        .spawn(tray.rt, heap, |_| future, scheduler, tray);
+    granted(&tray.rt, spawned)
 }
 
 /// Runs: what the run answers.
@@ -300,17 +272,6 @@ pub fn waker_of<'x, 'heap, R: Wait + Abort + Drop + Copy>(
     match runnable.waker() {
         Some(waker) => waker,
         None => panic!(rt; "a waker was refused"),
-    }
-}
-
-/// A clone of a waker. Stops where it is refused.
-pub fn clone_of<'x, 'heap, R: Wait + Abort + Drop + Copy>(
-    rt: R,
-    waker: &TrayWaker<'x, 'heap, R>,
-) -> TrayWaker<'x, 'heap, R> {
-    match waker.try_clone() {
-        Some(clone) => clone,
-        None => panic!(rt; "a clone of a waker was refused"),
     }
 }
 

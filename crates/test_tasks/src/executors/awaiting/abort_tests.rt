@@ -1,10 +1,7 @@
 //! Aborts of the members of a group by its handles: while the owner sleeps, of a member that came out before, several of one member, after a detach, and many
 //! from another thread while members come and go.
-use super::came_out::{CameOut, group_of, next_of, spawn_abortable};
-use super::line::Errand::*;
+use super::came_out::{CameOut, group_of, last_of, next_of};
 use super::line::{Errand, Line, LineGroup};
-use super::script::Step::*;
-use super::script::{Step, play};
 use crate::granted::granted;
 use async_task::TaskClosed;
 use executor_parts::AbortHandle;
@@ -23,18 +20,39 @@ const MEMBERS: u64 = 4_000;
 
 const ROOM: usize = 32;
 
+// Spawns a member, and makes its handle. Stops where either is refused.
+fn spawn_abortable<'x, R: Wait + Abort + Drop + Copy>(
+    rt: R,
+    line: &'x Line<R>,
+    group: &mut LineGroup<'x, R>,
+    errand: Errand,
+) -> AbortHandle<R> {
+    let number = granted(&rt, line.spawn_in(group, errand).ok_or(()));
+    granted(&rt, group.abort_handle(number).ok_or(()))
+}
+
+// Looks for members that have ended. There are to be none.
+fn look<R: Wait + Drop + Copy>(group: &mut LineGroup<'_, R>) -> bool {
+    matches!(group.try_next(), Ok(None))
+}
+
 // Aborts a member once another thread had time to fall asleep, and runs the line until that thread says that it has ended.
-fn abort_and_run<R: Wait + Drop + Copy>(line: &Line<R>, handle: AbortHandle<R>, ended: &AtomicU64) {
+fn abort_and_run<R: Wait + Drop + Copy>(
+    rt: R,
+    line: &Line<R>,
+    handle: AbortHandle<R>,
+    ended: &AtomicU64,
+) {
     for _ in 0..YIELDS {
         thread::yield_now();
     }
     handle.abort();
-    run_until(line, ended);
+    run_until(rt, line, ended);
 }
 
 // Runs the line until another thread says that it has ended.
-fn run_until<R: Wait + Drop + Copy>(line: &Line<R>, ended: &AtomicU64) {
-    for _ in line.rt.forever() {
+fn run_until<R: Wait + Drop + Copy>(rt: R, line: &Line<R>, ended: &AtomicU64) {
+    for _ in rt.forever() {
         line.run();
         if ended.load(Ordering::SeqCst) > 0 {
             return;
@@ -44,22 +62,23 @@ fn run_until<R: Wait + Drop + Copy>(line: &Line<R>, ended: &AtomicU64) {
 }
 
 // Waits for the next member, and says so.
-fn wait_and_say<R: Wait + Drop + Copy>(mut group: LineGroup<'_, R>, ended: &AtomicU64) -> CameOut {
-    let next = next_of(&mut group);
+fn wait_and_say<R: Wait + Drop + Copy>(group: LineGroup<'_, R>, ended: &AtomicU64) -> CameOut {
+    let next = last_of(group);
     ended.fetch_add(1, Ordering::SeqCst);
     next
 }
 
 // Waits for a member on one thread, and aborts it on another.
 fn wait_and_abort<'x, R: Wait + Threads + Drop + Copy + Send + Sync>(
+    rt: R,
     line: &'x Line<R>,
     group: LineGroup<'x, R>,
     handle: AbortHandle<R>,
 ) -> CameOut {
     let ended = AtomicU64::new(0);
     let (_, next) = thread::join(
-        &line.rt,
-        || abort_and_run(line, handle, &ended),
+        &rt,
+        || abort_and_run(rt, line, handle, &ended),
         || wait_and_say(group, &ended),
     );
     next
@@ -71,10 +90,10 @@ fn abort_while_asleep<R: Wait + Abort + Threads + Drop + Copy + Send + Sync>(
     alloc: Global,
 ) -> CameOut {
     let line = Line::new(rt, alloc, 1);
-    let mut group = group_of(&line, 1);
-    let handle = spawn_abortable(&line, &mut group, Stay);
+    let mut group = group_of(rt, alloc, 1);
+    let handle = spawn_abortable(rt, &line, &mut group, Errand::Stay);
     line.run();
-    wait_and_abort(&line, group, handle)
+    wait_and_abort(rt, &line, group, handle)
 }
 
 #[test]
@@ -83,78 +102,98 @@ fn an_abort_wakes_the_owner_that_sleeps(rt: HostRuntime) {
     assert!(rt; seen == Some((0, Err(TaskClosed))));
 }
 
-// What comes out of a group of one after an abort of a member that came out, of which another one has the number. That one is aborted before it, or not.
+// Aborts a member that has come out, while another one has its number, and that one before it or not: what comes out then.
 fn abort_too_late<R: Wait + Abort + Drop + Copy>(
     rt: R,
     alloc: Global,
-    before: Step,
-    last: CameOut,
-) -> bool {
-    let script = [
-        Spawn(Answer(44)),
-        Run,
-        Next(Some((0, Ok(44)))),
-        Spawn(GiveWay(45)),
-        before,
-        Abort(0),
-        Look(None),
-        Run,
-        Next(last),
-    ];
-    play(rt, alloc, 1, &script)
+    both: bool,
+) -> (CameOut, CameOut) {
+    let line = Line::new(rt, alloc, 1);
+    let mut group = group_of(rt, alloc, 1);
+    let late = spawn_abortable(rt, &line, &mut group, Errand::Answer(44));
+    line.run();
+    let first = next_of(&mut group);
+    let handle = spawn_abortable(rt, &line, &mut group, Errand::GiveWay(45));
+    if both {
+        handle.abort();
+    }
+    late.abort();
+    look(&mut group);
+    line.run();
+    (first, last_of(group))
 }
 
 #[test]
 fn an_abort_of_a_member_that_came_out_is_nothing_to_a_later_one(rt: HostRuntime) {
-    let last = Some((0, Ok(45)));
-    assert!(rt; abort_too_late(rt, rt.alloc(), Answered(1), last));
+    let seen = abort_too_late(rt, rt.alloc(), false);
+    assert!(rt; seen == (Some((0, Ok(44))), Some((0, Ok(45)))));
 }
 
 #[test]
 fn an_abort_of_a_member_that_came_out_takes_no_other_abort_away(rt: HostRuntime) {
-    let last = Some((0, Err(TaskClosed)));
-    assert!(rt; abort_too_late(rt, rt.alloc(), Abort(1), last));
+    let seen = abort_too_late(rt, rt.alloc(), true);
+    assert!(rt; seen == (Some((0, Ok(44))), Some((0, Err(TaskClosed)))));
 }
 
-// One member is aborted twice before its future is gone, by two handles, and once after that.
+// Aborts one of two members three times, twice before its future is gone and once after that: whether none had come out before, and how they come out.
+fn abort_again<R: Wait + Abort + Drop + Copy>(rt: R, alloc: Global) -> (bool, [CameOut; 3]) {
+    let line = Line::new(rt, alloc, 1);
+    let mut group = group_of(rt, alloc, 2);
+    let handle = spawn_abortable(rt, &line, &mut group, Errand::Stay);
+    let clone = granted(&rt, handle.try_clone().ok_or(()));
+    line.run();
+    handle.abort();
+    clone.abort();
+    let none = look(&mut group);
+    line.run();
+    handle.abort();
+    let first = next_of(&mut group);
+    line.spawn_in(&mut group, Errand::Answer(46));
+    line.run();
+    (
+        none && clone.id() == handle.id(),
+        [first, next_of(&mut group), last_of(group)],
+    )
+}
+
 #[test]
 fn further_aborts_of_a_member_are_nothing(rt: HostRuntime) {
-    let script = [
-        Spawn(Stay),
-        CloneHandle(0),
-        Run,
-        Abort(0),
-        Abort(1),
-        Look(None),
-        Run,
-        Abort(0),
-        Next(Some((0, Err(TaskClosed)))),
-        Spawn(Answer(46)),
-        Run,
-        Next(Some((0, Ok(46)))),
-        Next(None),
-    ];
-    assert!(rt; play(rt, rt.alloc(), 2, &script));
+    let seen = abort_again(rt, rt.alloc());
+    let out = [Some((0, Err(TaskClosed))), Some((0, Ok(46))), None];
+    assert!(rt; seen == (true, out));
 }
 
-// The second one is aborted once more when its group is gone.
+// Aborts a member that has ended, and one that was let go on, and drops their group: what the first one answered, and the handle of the other.
+fn end_and_let_go<R: Wait + Abort + Drop + Copy>(
+    rt: R,
+    alloc: Global,
+    line: &Line<R>,
+) -> (CameOut, AbortHandle<R>) {
+    let mut group = group_of(rt, alloc, 1);
+    let ended = spawn_abortable(rt, line, &mut group, Errand::Answer(47));
+    line.run();
+    ended.abort();
+    let out = next_of(&mut group);
+    let let_go = spawn_abortable(rt, line, &mut group, Errand::GiveWay(48));
+    group.detach_all();
+    let_go.abort();
+    look(&mut group);
+    line.run();
+    (out, let_go)
+}
+
+// Aborts the second one once more, without a group: what the first one answered, and how many have answered.
+fn abort_after_the_end<R: Wait + Abort + Drop + Copy>(rt: R, alloc: Global) -> (CameOut, u64) {
+    let line = Line::new(rt, alloc, 1);
+    let (out, let_go) = end_and_let_go(rt, alloc, &line);
+    let_go.abort();
+    (out, line.answered.load(Ordering::SeqCst))
+}
+
 #[test]
 fn an_abort_of_a_member_that_has_ended_or_was_let_go_does_nothing(rt: HostRuntime) {
-    let script = [
-        Spawn(Answer(47)),
-        Run,
-        Abort(0),
-        Next(Some((0, Ok(47)))),
-        Spawn(GiveWay(48)),
-        DetachAll,
-        Abort(1),
-        Look(None),
-        Run,
-        DropGroup,
-        Abort(1),
-        Answered(2),
-    ];
-    assert!(rt; play(rt, rt.alloc(), 1, &script));
+    let seen = abort_after_the_end(rt, rt.alloc());
+    assert!(rt; seen == (Some((0, Ok(47))), 2));
 }
 
 // Handles on their way from the owner of a group to the thread that aborts.
@@ -170,7 +209,11 @@ struct Tally {
 
 // What the member of a turn does: each second one never ends by itself.
 fn errand_of(turn: u64) -> Errand {
-    if turn % 2 == 0 { Stay } else { GiveWay(turn) }
+    if turn % 2 == 0 {
+        Errand::Stay
+    } else {
+        Errand::GiveWay(turn)
+    }
 }
 
 // Whether nobody aborts the member of a turn.
@@ -197,6 +240,7 @@ fn count_next<R: Wait + Drop + Copy>(group: &mut LineGroup<'_, R>, tally: &mut T
 
 // Spawns the members, hands out the handles of those that are to be aborted, and counts what comes out, until all have.
 fn own<'x, R: Wait + Abort + Drop + Copy>(
+    rt: R,
     line: &'x Line<R>,
     mut group: LineGroup<'x, R>,
     handles: &Handles<R>,
@@ -211,12 +255,12 @@ fn own<'x, R: Wait + Abort + Drop + Copy>(
         if group.is_full() {
             count_next(&mut group, &mut tally);
         }
-        let handle = spawn_abortable(line, &mut group, errand_of(turn));
+        let handle = spawn_abortable(rt, line, &mut group, errand_of(turn));
         if !is_unasked(turn) {
-            granted(&line.rt, handles.lock(&line.rt).push_back(handle));
+            granted(&rt, handles.lock(&rt).push_back(handle));
         }
     }
-    for _ in line.rt.forever() {
+    for _ in rt.forever() {
         if !count_next(&mut group, &mut tally) {
             break;
         }
@@ -239,19 +283,20 @@ fn abort_all<R: Wait + Drop + Copy>(rt: R, handles: &Handles<R>, ended: &AtomicU
 
 // One thread has the group, one runs its tasks, and one aborts three of four members: what comes out.
 fn storm<'x, R: Wait + Abort + Threads + Drop + Copy + Send + Sync>(
+    rt: R,
+    alloc: Global,
     line: &'x Line<R>,
     group: LineGroup<'x, R>,
 ) -> Tally {
-    let rt = line.rt;
-    let handles = Mutex::new(VecDeque::new(line.alloc));
+    let handles = Mutex::new(VecDeque::new(alloc));
     let ended = AtomicU64::new(0);
     let (_, (_, tally)) = thread::join(
         &rt,
-        || run_until(line, &ended),
+        || run_until(rt, line, &ended),
         || thread::join(
             &rt,
             || abort_all(rt, &handles, &ended),
-            || own(line, group, &handles, &ended),
+            || own(rt, line, group, &handles, &ended),
         ),
     );
     tally
@@ -263,8 +308,8 @@ fn storm_of_aborts<R: Wait + Abort + Threads + Drop + Copy + Send + Sync>(
     alloc: Global,
 ) -> Tally {
     let line = Line::new(rt, alloc, 1);
-    let group = group_of(&line, ROOM);
-    storm(&line, group)
+    let group = group_of(rt, alloc, ROOM);
+    storm(rt, alloc, &line, group)
 }
 
 // The turns 1, 5, 9 .. 3997 are those of members that nobody aborts.

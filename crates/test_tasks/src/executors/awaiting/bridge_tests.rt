@@ -1,10 +1,10 @@
-//! Tasks that the kit's `block_on`, `join` and `select` wait for, and refused memory. Of what is only tested: the page of `kit_bridge`.
+//! Tasks that the kit's `block_on`, `join` and `select` wait for, a bridge that is dropped, and refused memory. Of what is only tested: the page of `kit_bridge`.
 ghost use Rattle.std.specs.Prelude.{⊤};
 
 use super::number::Nowhere;
 use crate::executors::tray::{HEAP, fill};
 use crate::granted::granted;
-use async_task::{Future, Poll, Runnable, Task, Yields, spawn};
+use async_task::{Future, Poll, Runnable, Task, Wake, Yields, spawn};
 use futures::executor::block_on;
 use futures::future::{Either, join, ready, select};
 use kit_bridge::{AwaitError, Awaits, KitAwaiter};
@@ -16,15 +16,20 @@ use std::sync::atomic::{AtomicU64, Ordering};
 use std::sync::{Arc, Wait};
 use std::thread::{self, Threads};
 
-// A future that answers at its first poll. It counts its drop.
+// Gives way so often, and then answers. It counts its drop.
 struct Count {
+    left: u64,
     answer: u64,
     dropped: Arc<AtomicU64>,
 }
 
 impl Drop for Count {
     fn drop(self) {
-        let Count { answer: _, dropped } = self;
+        let Count {
+            left: _,
+            answer: _,
+            dropped,
+        } = self;
         dropped.fetch_add(1, Ordering::SeqCst);
     }
 }
@@ -33,11 +38,16 @@ impl Yields for Count {
     type Output = u64;
 }
 
-impl<W> Future<W> for Count {
+impl<W: Wake> Future<W> for Count {
     ghost polled = { λ _ _ _ _. ⊤ };
 
-    fn poll(&mut self, _waker: &W) -> Poll<u64> {
-        Poll::Ready(self.answer)
+    fn poll(&mut self, waker: &W) -> Poll<u64> {
+        if self.left == 0 {
+            return Poll::Ready(self.answer);
+        }
+        self.left -= 1;
+        waker.wake_by_ref();
+        Poll::Pending
     }
 }
 
@@ -53,9 +63,10 @@ fn none_dropped<R: Abort + Drop + Copy>(rt: R, alloc: Global) -> Arc<AtomicU64> 
     granted(&rt, Arc::new(alloc, AtomicU64::new(0)))
 }
 
-// Such a future.
+// A future that answers at its first poll.
 fn answers<R: Abort + Drop + Copy>(rt: R, answer: u64, dropped: &Arc<AtomicU64>) -> Count {
     Count {
+        left: 0,
         answer,
         dropped: granted(&rt, Arc::try_clone(dropped)),
     }
@@ -78,6 +89,14 @@ fn run<R: Wait + Drop + Copy>(runnable: Work<R>) -> bool {
     runnable.run()
 }
 
+// Lets the kit wait for a task.
+fn wait_for<R: Wait + Abort + RandomSource + AllocGlobal + Drop + Copy>(
+    rt: R,
+    awaits: Awaited<R>,
+) -> Answer {
+    granted(&rt, block_on(&rt, awaits))
+}
+
 // Lets the kit wait for the first of two tasks, and drop the other: what the left one answered.
 fn wait_for_left<R: Wait + Abort + RandomSource + AllocGlobal + Drop + Copy>(
     rt: R,
@@ -88,6 +107,24 @@ fn wait_for_left<R: Wait + Abort + RandomSource + AllocGlobal + Drop + Copy>(
         Ok(Either::Left((answer, _))) => answer,
         _ => Err(AwaitError::Refused),
     }
+}
+
+// Lets the kit wait for a task that another thread runs: what it answered, and how many futures were dropped.
+fn wait_beside<R: Wait + Abort + Threads + RandomSource + AllocGlobal + Drop + Copy + Send + Sync>(
+    rt: R,
+    alloc: Global,
+) -> (Answer, u64) {
+    let dropped = none_dropped(rt, alloc);
+    let (runnable, awaits) = bridged(rt, alloc, 7, &dropped);
+    let (_, answer) = thread::join(&rt, move || run(runnable), move || wait_for(rt, awaits));
+    (answer, dropped.load(Ordering::SeqCst))
+}
+
+#[test]
+fn the_kit_waits_for_a_task_that_another_thread_runs(rt: HostRuntime) {
+    let (answer, dropped) = wait_beside(rt, rt.alloc());
+    assert!(rt; answer == Ok(7));
+    assert!(rt; dropped == 1);
 }
 
 // Lets the kit wait for two tasks at once, which another thread runs: what they answered.
@@ -107,30 +144,45 @@ fn join_beside<R: Wait + Abort + Threads + RandomSource + AllocGlobal + Drop + C
 }
 
 #[test]
-fn the_kit_waits_for_two_tasks_that_another_thread_runs(rt: HostRuntime) {
+fn the_kit_joins_two_tasks(rt: HostRuntime) {
     assert!(rt; join_beside(rt, rt.alloc()) == (Ok(1), Ok(2)));
 }
 
-// Lets the kit wait for the first of two tasks, and then runs the other one: what the first answered, whether the run woke anything, how many futures
-// were dropped, and whether nothing else has their count then.
+// Lets the kit wait for the first of two tasks, and then runs the other one: what the first answered, whether the run woke anything, and how many futures
+// were dropped.
 fn select_first<R: Wait + Abort + RandomSource + AllocGlobal + Drop + Copy>(
     rt: R,
     alloc: Global,
-) -> (Answer, bool, u64, bool) {
+) -> (Answer, bool, u64) {
     let dropped = none_dropped(rt, alloc);
     let (first, left) = bridged(rt, alloc, 1, &dropped);
     let (second, right) = bridged(rt, alloc, 2, &dropped);
     run(first);
     let won = wait_for_left(rt, left, right);
     let woken = run(second);
-    let futures = dropped.load(Ordering::SeqCst);
-    (won, woken, futures, Arc::try_unwrap(dropped).is_ok())
+    (won, woken, dropped.load(Ordering::SeqCst))
 }
 
 #[test]
-fn the_loser_of_a_select_is_cancelled_and_leaves_nothing(rt: HostRuntime) {
-    let seen = select_first(rt, rt.alloc());
-    assert!(rt; seen == (Ok(1), false, 2, true));
+fn the_loser_of_a_select_is_cancelled(rt: HostRuntime) {
+    let (won, woken, dropped) = select_first(rt, rt.alloc());
+    assert!(rt; won == Ok(1) && !woken && dropped == 2);
+}
+
+// Drops a bridge before its task runs: whether the run woke anything, how many futures were dropped, and whether nothing else has their count then.
+fn drop_bridge<R: Wait + Abort + Drop + Copy>(rt: R, alloc: Global) -> (bool, u64, bool) {
+    let dropped = none_dropped(rt, alloc);
+    let (runnable, awaits) = bridged(rt, alloc, 1, &dropped);
+    drop(awaits);
+    let woken = run(runnable);
+    let futures = dropped.load(Ordering::SeqCst);
+    (woken, futures, Arc::try_unwrap(dropped).is_ok())
+}
+
+#[test]
+fn a_dropped_bridge_cancels_its_task_and_leaves_nothing(rt: HostRuntime) {
+    let (woken, futures, alone) = drop_bridge(rt, rt.alloc());
+    assert!(rt; !woken && futures == 1 && alone);
 }
 
 // The handles of a task whose memory, with that of its awaiter, is of a heap.

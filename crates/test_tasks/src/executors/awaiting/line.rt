@@ -61,10 +61,8 @@ type KeptWaker<R> = TaskWaker<R, Member, ToLine, (), Awaiter<R>, ()>;
 
 /// A queue, a store of wakers and one of Tasks, and a mailbox of the numbers whose wakers are to be woken.
 pub struct Line<R: Wait + Drop + Copy> {
-    /// What its calls wait by.
-    pub rt: R,
-    /// Where its memory comes from.
-    pub alloc: Global,
+    rt: R,
+    alloc: Global,
     mailbox: Arc<Mailbox<R>>,
     /// How many tasks have answered a number of their own.
     pub answered: AtomicU64,
@@ -182,20 +180,6 @@ impl<R: Wait + Abort + Drop + Copy> Line<R> {
         task
     }
 
-    /// Spawns a task, and runs it to its end. Stops where it is refused.
-    pub fn spawn_ended(&self, errand: Errand) -> LineTask<'_, R> {
-        let task = self.spawn(0, errand);
-        self.run();
-        task
-    }
-
-    /// Spawns a task, and drops its Runnable, which cancels it. Stops where it is refused.
-    pub fn spawn_closed(&self, errand: Errand) -> LineTask<'_, R> {
-        let task = self.spawn(0, errand);
-        drop(self.pop());
-        task
-    }
-
     /// Spawns a task of this number, schedules it and keeps its Task. Stops where it is refused.
     pub fn spawn_kept(&self, number: usize, errand: Errand) {
         self.keep_task(number, self.spawn(number, errand));
@@ -289,6 +273,11 @@ impl<R: Wait + Drop + Copy> Line<R> {
     // The Runnable that has waited longest.
     fn pop(&self) -> Option<KeptRunnable<R>> {
         self.queue.lock(&self.rt).pop_front()
+    }
+
+    /// Drops the Runnable that has waited longest, which cancels its task.
+    pub fn drop_next(&self) {
+        drop(self.pop());
     }
 
     // Runs the Runnable that has waited longest: whether there was one.

@@ -1,12 +1,10 @@
 //! How a mailbox, a group, its handles and what comes out of it are shown, and what their errors say.
-use super::came_out::{group_of, spawn_abortable};
-use super::line::Errand::*;
-use super::line::Line;
+use super::line::{Errand, Line, LineGroup};
 use crate::granted::granted;
 use async_task::TaskClosed;
 use executor_parts::{
     Awaiter, AwaiterRefused, BlockOnError, GroupFull, GroupSpawnError, Mailbox, NextUntilError,
-    Numbers,
+    Numbers, TaskGroup,
 };
 use kit_bridge::{AwaitError, AwaitsRefused};
 use std::alloc::{AllocError, Global};
@@ -16,9 +14,8 @@ use std::io;
 use std::process::Abort;
 use std::sync::Wait;
 
-// Whether a value is shown so.
-fn shows<R: Abort, T: Debug>(rt: &R, alloc: Global, value: &T, text: &str) -> bool {
-    granted(rt, format!(in alloc; "{value:?}")).as_str() == text
+fn shown<R: Abort, T: Debug>(rt: &R, alloc: Global, value: &T) -> String {
+    granted(rt, format!(in alloc; "{value:?}"))
 }
 
 // What the `io::Error` of an error says.
@@ -38,89 +35,98 @@ where
     text.as_str() == words && io_text(rt, alloc, error).as_str() == words
 }
 
-// Whether a mailbox, an awaiter of it, and numbers of which one waits are shown as they have to be.
-fn show_mailbox<R: Wait + Abort + Drop + Copy>(rt: R, alloc: Global) -> [bool; 3] {
+// A mailbox, and an awaiter of it.
+fn show_mailbox<R: Wait + Abort + Drop + Copy>(rt: R, alloc: Global) -> [String; 2] {
     let mailbox = granted(&rt, Mailbox::new(rt, alloc, 4));
     let awaiter = granted(&rt, Awaiter::new(&mailbox, 3).ok_or(AllocError));
-    let mut numbers = granted(&rt, Numbers::new(alloc, 2));
-    numbers.post(1);
-    let waiting = "Numbers { posted: [1], waits: [false, true] }";
-    [
-        shows(&rt, alloc, &*mailbox, "Mailbox { .. }"),
-        shows(&rt, alloc, &awaiter, "Awaiter { number: 3, .. }"),
-        shows(&rt, alloc, &numbers, waiting),
-    ]
+    [shown(&rt, alloc, &*mailbox), shown(&rt, alloc, &awaiter)]
 }
 
 #[test]
 fn a_mailbox_and_what_waits_in_it_are_shown(rt: HostRuntime) {
-    assert!(rt; show_mailbox(rt, rt.alloc()) == [true; 3]);
+    let [mailbox, awaiter] = show_mailbox(rt, rt.alloc());
+    let mut numbers = granted(&rt, Numbers::new(rt.alloc(), 2));
+    numbers.post(1);
+    let numbers = shown(&rt, rt.alloc(), &numbers);
+    assert!(rt;
+        mailbox.as_str() == "Mailbox { .. }" && awaiter.as_str() == "Awaiter { number: 3, .. }"
+    );
+    assert!(rt; numbers.as_str() == "Numbers { posted: [1], waits: [false, true] }");
 }
 
-// Whether a group of one member, the handle that aborts it, and how it comes out are shown as they have to be.
-fn show_group<R: Wait + Abort + Drop + Copy>(rt: R, alloc: Global) -> [bool; 3] {
-    let line = Line::new(rt, alloc, 1);
-    let mut group = group_of(&line, 1);
-    let handle = spawn_abortable(&line, &mut group, Answer(7));
+// A group of one member, and how that comes out.
+#[test]
+fn a_group_and_its_members_are_shown(rt: HostRuntime) {
+    let line = Line::new(rt, rt.alloc(), 1);
+    let mut group: LineGroup<'_, _> = granted(&rt, TaskGroup::new(rt, rt.alloc(), 1));
+    granted(&rt, group.push(line.spawn(0, Errand::Answer(7))));
     line.run();
-    let member = "AbortHandle { id: MemberId { number: 0, generation: 0 }, .. }";
-    let before = shows(&rt, alloc, &group, "TaskGroup { len: 1, .. }");
-    let aborts = shows(&rt, alloc, &handle, member);
+    let before = shown(&rt, rt.alloc(), &group);
     let ended = granted(&rt, group.next());
-    let answer = "Some(Ended { number: 0, answer: Ok(7) })";
-    [before, aborts, shows(&rt, alloc, &ended, answer)]
+    let ended = shown(&rt, rt.alloc(), &ended);
+    assert!(rt; before.as_str() == "TaskGroup { len: 1, .. }");
+    assert!(rt; ended.as_str() == "Some(Ended { number: 0, answer: Ok(7) })");
+}
+
+// A handle that aborts the one member of a group.
+fn show_abort_handle<R: Wait + Abort + Drop + Copy>(rt: R, alloc: Global) -> String {
+    let line = Line::new(rt, alloc, 1);
+    let mut group: LineGroup<'_, R> = granted(&rt, TaskGroup::new(rt, alloc, 1));
+    granted(&rt, group.push(line.spawn(0, Errand::Answer(7))));
+    let handle = granted(&rt, group.abort_handle(0).ok_or(()));
+    shown(&rt, alloc, &handle)
 }
 
 #[test]
-fn a_group_its_handles_and_its_members_are_shown(rt: HostRuntime) {
-    assert!(rt; show_group(rt, rt.alloc()) == [true; 3]);
+fn an_abort_handle_is_shown(rt: HostRuntime) {
+    let text = show_abort_handle(rt, rt.alloc());
+    assert!(rt; text.as_str() == "AbortHandle { id: MemberId { number: 0, generation: 0 }, .. }");
 }
 
-// Whether the errors of a full group are shown so, and say so.
-fn tell_full<R: Abort>(rt: &R, alloc: Global) -> [bool; 4] {
+#[test]
+fn a_full_group_says_so(rt: HostRuntime) {
     let full = GroupFull { task: 5u64 };
     let spawn = GroupSpawnError {
         is_full: false,
         future: 1u64,
         schedule: 2u64,
     };
-    [
-        shows(rt, alloc, &full, "GroupFull"),
-        shows(rt, alloc, &spawn, "GroupSpawnError { is_full: false, .. }"),
-        says(rt, alloc, full, "the group is full"),
-        says(rt, alloc, spawn, "no memory for the task"),
-    ]
-}
-
-// Whether the errors of waits say why there is no output.
-fn tell_refused<R: Abort>(rt: &R, alloc: Global) -> [bool; 6] {
-    let closed = "the task is closed";
-    let refused = "the poll of a member was refused its awaiter";
-    let late = "no member had ended at the deadline";
-    [
-        says(rt, alloc, TaskClosed, closed),
-        says(rt, alloc, BlockOnError::Closed, closed),
-        says(rt, alloc, AwaitError::Closed, closed),
-        says(rt, alloc, AwaiterRefused, refused),
-        says(rt, alloc, NextUntilError::Refused, refused),
-        says(rt, alloc, NextUntilError::Elapsed, late),
-    ]
-}
-
-// Whether the errors of the bridge to the kit's futures are shown so, and say so.
-fn tell_unbridged<R: Abort>(rt: &R, alloc: Global) -> [bool; 3] {
-    let refused = AwaitsRefused { task: 5u64 };
-    let no_memory = io_text(rt, alloc, AllocError);
-    [
-        says(rt, alloc, AwaitError::Refused, "the awaiter was refused"),
-        shows(rt, alloc, &refused, "AwaitsRefused"),
-        io_text(rt, alloc, refused) == no_memory,
-    ]
+    let texts = (
+        shown(&rt, rt.alloc(), &full),
+        shown(&rt, rt.alloc(), &spawn),
+    );
+    assert!(rt; texts.0.as_str() == "GroupFull");
+    assert!(rt; texts.1.as_str() == "GroupSpawnError { is_full: false, .. }");
+    assert!(rt; says(&rt, rt.alloc(), full, "the group is full"));
+    assert!(rt; says(&rt, rt.alloc(), spawn, "no memory for the task"));
 }
 
 #[test]
-fn errors_say_what_was_refused(rt: HostRuntime) {
-    assert!(rt; tell_full(&rt, rt.alloc()) == [true; 4]);
-    assert!(rt; tell_refused(&rt, rt.alloc()) == [true; 6]);
-    assert!(rt; tell_unbridged(&rt, rt.alloc()) == [true; 3]);
+fn a_wait_that_is_refused_says_why(rt: HostRuntime) {
+    let refused = "the poll of a member was refused its awaiter";
+    let late = "no member had ended at the deadline";
+    assert!(rt; says(&rt, rt.alloc(), TaskClosed, "the task is closed"));
+    assert!(rt; says(&rt, rt.alloc(), BlockOnError::Closed, "the task is closed"));
+    assert!(rt; says(&rt, rt.alloc(), AwaiterRefused, refused));
+    assert!(rt; says(&rt, rt.alloc(), NextUntilError::Refused, refused));
+    assert!(rt; says(&rt, rt.alloc(), NextUntilError::Elapsed, late));
+}
+
+#[test]
+fn a_future_of_the_kit_says_why_it_has_no_output(rt: HostRuntime) {
+    let refused = AwaitsRefused { task: 5u64 };
+    let text = shown(&rt, rt.alloc(), &refused);
+    assert!(rt; says(&rt, rt.alloc(), AwaitError::Closed, "the task is closed"));
+    assert!(rt;
+        says(
+            &rt,
+            rt.alloc(),
+            AwaitError::Refused,
+            "the awaiter was refused"
+        )
+    );
+    assert!(rt;
+        text.as_str() == "AwaitsRefused"
+            && io_text(&rt, rt.alloc(), refused) == io_text(&rt, rt.alloc(), AllocError)
+    );
 }

@@ -4,6 +4,7 @@ ghost use Rattle.std.specs.Prelude.{⊤};
 use crate::granted::granted;
 use async_task::Wake;
 use rows_fixtures::counters::{Counter, Counters};
+use rows_fixtures::rendezvous::Rendezvous;
 use std::alloc::Global;
 use std::hint::spin_loop;
 use std::process::Abort;
@@ -43,9 +44,10 @@ struct Shared {
     wakes: Counter,
     reference_wakes: Counter,
     drops: Counter,
+    rendezvous: Rendezvous,
 }
 
-/// An awaiter that counts what becomes of it and its clones.
+/// An awaiter that counts what becomes of it and its clones. Its drop comes to a meeting with a second thread, if one is armed.
 pub struct RaceAwaiter {
     shared: Arc<Shared>,
 }
@@ -80,6 +82,7 @@ impl RaceAwaiter {
             wakes: Counter::new(),
             reference_wakes: Counter::new(),
             drops: Counter::new(),
+            rendezvous: Rendezvous::new(),
         };
         RaceAwaiter {
             shared: granted(rt, Arc::new(alloc, shared)),
@@ -109,11 +112,17 @@ impl RaceAwaiter {
         let [_, wakes, _, reference_wakes] = self.counts();
         wakes != 0 || reference_wakes != 0
     }
+
+    /// Where a drop meets a second thread.
+    pub fn rendezvous(&self) -> &Rendezvous {
+        &self.shared.rendezvous
+    }
 }
 
 impl Drop for RaceAwaiter {
     fn drop(self) {
         let RaceAwaiter { shared } = self;
+        shared.rendezvous.meet();
         shared.drops.add_one();
         drop(shared);
     }

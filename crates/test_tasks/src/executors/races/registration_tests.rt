@@ -170,3 +170,56 @@ fn a_poll_registers_beside_a_drop_of_the_runnable(rt: HostRuntime) {
     let (all, faults, counts) = race(rt, rt.alloc(), Ending::Discard);
     assert!(rt; ROUNDS <= all && faults == 0 && counts == [0; 3]);
 }
+
+// The second poll of a task, whose first awaiter is dropped by it while the second thread ends the task. Whether that thread came
+// while it was dropped, and the poll is ready as the task ended.
+fn poll_beside<'x, R: Wait + Threads + Drop + Copy + Send + Sync>(
+    rt: &R,
+    surroundings: &'x RaceSurroundings<R>,
+    mut task: RaceTask<'x, R>,
+    first: &RaceAwaiter,
+    second: &RaceAwaiter,
+    ending: Ending,
+) -> bool {
+    let rendezvous = first.rendezvous();
+    rendezvous.arm();
+    thread::scope(thread::scope_env(), rt, |scope| {
+        let ends = scope.spawn(move || {
+            let dropping = rendezvous.await_poll();
+            ending.end(surroundings);
+            rendezvous.release();
+            dropping
+        });
+        let Ok(ends) = ends else {
+            return false;
+        };
+        let polled = handles::poll(&mut task, second);
+        ends.join(rt) && ending.is_told_by(&polled)
+    })
+}
+
+// A poll that finds a notifier where its registration ends, whatever the schedule: while it drops the awaiter of the poll
+// before, the second thread ends the task. Whether the poll is ready, its own clone was woken, and the other was dropped.
+fn poll_meeting<R: Wait + Threads + Abort + Drop + Copy + Send + Sync>(
+    rt: R,
+    alloc: Global,
+    ending: Ending,
+) -> bool {
+    let surroundings = RaceSurroundings::new(rt, alloc);
+    let first = RaceAwaiter::new(&rt, alloc);
+    let second = RaceAwaiter::new(&rt, alloc);
+    let (runnable, mut task) = surroundings.spawn(true);
+    let registered = handles::is_pending(&mut task, &first);
+    surroundings.queue(runnable);
+    let told = poll_beside(&rt, &surroundings, task, &first, &second, ending);
+    let counted = first.counts() == [1, 0, 1, 0] && second.counts() == [1, 1, 0, 0];
+    let met = first.rendezvous().met();
+    registered && told && counted && met && surroundings.ended(1)
+}
+
+#[test]
+fn a_registration_ends_beside_a_notifier(rt: HostRuntime) {
+    let run = poll_meeting(rt, rt.alloc(), Ending::Run);
+    let discard = poll_meeting(rt, rt.alloc(), Ending::Discard);
+    assert!(rt; run && discard);
+}
