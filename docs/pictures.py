@@ -225,7 +225,6 @@ TAKEN = {
     "async_task": "a task for executors: spawn, run, wake, cancel, poll",
     "local_task": "a task of one thread, as one value",
     "executor_parts": "block_on, groups and awaiters, for executors of your own",
-    "kit_bridge": "a Task as a future of the kit",
     "work_queues": "queues and sleeping workers, of any items",
     "executor": "a pool of threads; wakers to keep",
     "future_parts": "futures for every executor: join, race, channel, mutex",

@@ -17,8 +17,8 @@ PATH = re.compile(r"`(crates/[\w./]+|crates\.txt)`")
 FENCED = re.compile(r"^```\w*\n(.*?)^```\n", re.MULTILINE | re.DOTALL)
 WHOLE = ("README.md", "docs/GUIDE.md")
 # crates with a page of their own, which is looked at as the other pages are
-CRATES = ("task_core", "task_atomic", "task_replay", "executor_parts", "kit_bridge", "future_parts", "local_task", "executor", "async_task")
-EXCERPTS = ("docs/EXECUTOR_POOL.md",) + tuple(f"crates/{name}/README.md" for name in CRATES)
+CRATES = ("task_core", "task_atomic", "task_replay", "executor_parts", "future_parts", "local_task", "executor", "async_task")
+EXCERPTS = ("docs/EXECUTOR_POOL.md", "crates/executor_parts/KIT.md") + tuple(f"crates/{name}/README.md" for name in CRATES)
 # the pages that name hardly anything but what this repository has, and what they name of the kit
 NAMING = WHOLE + EXCERPTS + (
     "docs/API.md", "docs/ARCHITECTURE.md", "docs/DEVELOPING.md", "docs/EXAMPLES.md",

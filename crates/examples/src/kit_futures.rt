@@ -1,13 +1,13 @@
-//! Tasks beside futures of the kit: a Task becomes one by `kit_bridge`, and the kit's combinators and `block_on` wait for it.
+//! Tasks beside futures of the kit: a Task becomes one by `executor_parts::kit`, and the kit's combinators and `block_on` wait for it.
 //! One thread runs the tasks, and this one sleeps until what it awaits is there.
 ghost use Rattle.std.specs.Prelude.{⊤};
 
 use crate::borrowed::SumOf;
 use crate::last::DropsRunnables;
 use async_task::{Runnable, spawn};
+use executor_parts::kit::{Awaits, KitAwaiter};
 use futures::executor::block_on;
 use futures::future::{Either, join, ready, select};
-use kit_bridge::{Awaits, KitAwaiter};
 use std::alloc::{AllocGlobal, Global};
 use std::random::RandomSource;
 use std::sync::Wait;

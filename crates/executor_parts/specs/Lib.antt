@@ -8,3 +8,4 @@ pub mod Next
 pub mod Requested
 pub mod Priority
 pub mod PriorityHeap
+pub mod KitAnswers

@@ -1,7 +1,6 @@
 //! A thread that waits for a future, and the waker that ends its sleep.
 ghost use Rattle.std.specs.Prelude.{⊤};
 
-use crate::granted::granted;
 use std::alloc::Global;
 use std::process::Abort;
 use std::sync::{Arc, Condvar, Mutex, Wait};
@@ -70,7 +69,7 @@ fn new_bell<R: Wait + Abort + Drop + Copy>(rt: R, alloc: Global) -> Bell<R> {
     };
     Bell {
         rt,
-        rung: granted(&rt, Arc::new(alloc, rung)),
+        rung: Arc::new(alloc, rung).expect(&rt, "refused"),
     }
 }
 

@@ -2,7 +2,6 @@
 ghost use Rattle.std.specs.Prelude.{⊤};
 
 use crate::counter::Counter;
-use crate::granted::granted;
 use future_time::{Sleep, Timers};
 use std::alloc::Global;
 use std::process::Abort;
@@ -12,20 +11,19 @@ use task_core::{Future, Poll};
 
 /// Timers of the futures that a counting waker polls. Stops where there is no memory or no clock.
 pub fn timers<R: Wait + Clock + Abort + Drop + Copy>(rt: R, alloc: Global) -> Timers<R, Counter> {
-    granted(&rt, Timers::new(rt, alloc))
+    Timers::new(rt, alloc).expect(&rt, "refused")
 }
 
 /// The time. Stops where there is no clock.
 pub fn now<R: Clock + Abort>(rt: &R) -> Instant {
-    granted(rt, Instant::now(rt))
+    Instant::now(rt).expect(rt, "refused")
 }
 
 /// So many milliseconds after an instant. Stops where the clock ends before.
 pub fn after<R: Abort>(rt: &R, start: Instant, millis: u64) -> Instant {
-    granted(
-        rt,
-        start.checked_add(Duration::from_millis(millis)).ok_or(()),
-    )
+    start
+        .checked_add(Duration::from_millis(millis))
+        .expect(rt, "refused")
 }
 
 /// A sleep until so many milliseconds after an instant. Stops where it is refused.
@@ -35,7 +33,9 @@ pub fn sleep_until<R: Wait + Clock + Abort + Drop + Copy>(
     start: Instant,
     millis: u64,
 ) -> Sleep<R, Counter> {
-    granted(rt, timers.sleep_until(after(rt, start, millis)))
+    timers
+        .sleep_until(after(rt, start, millis))
+        .expect(rt, "refused")
 }
 
 /// What a poll answered: nothing, that the time is over, or an error.

@@ -1,7 +1,6 @@
 //! A channel: the order of messages, room, and ends that go.
 //! Of what is only tested (the page of `future_parts`): Outer calls.
 use crate::counter::{Counter, is_ready, output, poll};
-use crate::granted::granted;
 use crate::token::{Token, make_token, no_tokens, tokens};
 use future_parts::{Receiver, Sender, TryReceiveError, TrySendError, channel};
 use std::alloc::Global;
@@ -13,7 +12,7 @@ type Ends<R, T> = (Sender<R, T, Counter>, Receiver<R, T, Counter>);
 
 // A channel with room for so many messages, and for two waiters on each side. Stops where there is no memory.
 fn ends<R: Wait + Abort + Drop + Copy, T: Drop>(rt: R, alloc: Global, bound: usize) -> Ends<R, T> {
-    granted(&rt, channel(rt, alloc, bound, 2))
+    channel(rt, alloc, bound, 2).expect(&rt, "refused")
 }
 
 #[test]
@@ -62,7 +61,7 @@ fn a_message_of_a_receive_that_is_dropped_is_not_lost(rt: HostRuntime) {
     let waker = Counter::new(&rt, rt.alloc());
     let other = Counter::new(&rt, rt.alloc());
     let (sender, mut receiver): Ends<HostRuntime, u64> = ends(rt, rt.alloc(), 1);
-    let mut second = granted(&rt, receiver.try_clone().ok_or(()));
+    let mut second = receiver.try_clone().expect(&rt, "refused");
     let mut waits = receiver.receive();
     let early = (is_ready(&mut waits, &waker), second.poll_receive(&other));
     let sent = sender.try_send(7);
@@ -139,8 +138,8 @@ fn a_receiver_that_goes_leaves_no_message_and_hands_sends_back(rt: HostRuntime) 
 fn the_last_sender_that_goes_wakes_all_receivers(rt: HostRuntime) {
     let waker = Counter::new(&rt, rt.alloc());
     let (sender, mut receiver): Ends<HostRuntime, u64> = ends(rt, rt.alloc(), 1);
-    let mut second = granted(&rt, receiver.try_clone().ok_or(()));
-    let other = granted(&rt, sender.try_clone().ok_or(()));
+    let mut second = receiver.try_clone().expect(&rt, "refused");
+    let other = sender.try_clone().expect(&rt, "refused");
     let early = (receiver.poll_receive(&waker), second.poll_receive(&waker));
     drop(sender);
     let one_left = waker.seen();
@@ -159,7 +158,7 @@ fn room_of_a_send_that_is_dropped_is_not_lost(rt: HostRuntime) {
     let other = Counter::new(&rt, rt.alloc());
     let count = no_tokens(&rt, rt.alloc());
     let (mut sender, receiver): Ends<HostRuntime, Token> = ends(rt, rt.alloc(), 1);
-    let mut second = granted(&rt, sender.try_clone().ok_or(()));
+    let mut second = sender.try_clone().expect(&rt, "refused");
     let sent = sender.try_send(make_token(&rt, &count, 1)).is_ok();
     let mut waits = sender.send(make_token(&rt, &count, 2));
     let mut next = second.send(make_token(&rt, &count, 3));

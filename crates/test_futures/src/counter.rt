@@ -1,7 +1,6 @@
 //! A waker that counts its wakes, and one that may be refused its clones.
 ghost use Rattle.std.specs.Prelude.{⊤};
 
-use crate::granted::granted;
 use std::alloc::Global;
 use std::process::Abort;
 use std::sync::Arc;
@@ -19,7 +18,7 @@ impl Counter {
     /// A waker that was not woken yet. Stops where there is no memory.
     pub fn new<R: Abort>(rt: &R, alloc: Global) -> Counter {
         Counter {
-            wakes: granted(rt, Arc::new(alloc, AtomicU64::new(0))),
+            wakes: Arc::new(alloc, AtomicU64::new(0)).expect(rt, "refused"),
             clones: true,
         }
     }
@@ -27,7 +26,7 @@ impl Counter {
     /// The same, of which no clone is to be had.
     pub fn alone<R: Abort>(rt: &R, alloc: Global) -> Counter {
         Counter {
-            wakes: granted(rt, Arc::new(alloc, AtomicU64::new(0))),
+            wakes: Arc::new(alloc, AtomicU64::new(0)).expect(rt, "refused"),
             clones: false,
         }
     }

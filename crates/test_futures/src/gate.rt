@@ -1,7 +1,6 @@
 //! A gate that futures wait at. It has the waker of the first poll alone: each later wake is by that one.
 ghost use Rattle.std.specs.Prelude.{⊤};
 
-use crate::granted::granted;
 use std::alloc::Global;
 use std::process::Abort;
 use std::sync::{Arc, Mutex, Wait};
@@ -30,7 +29,7 @@ pub fn new_gate<R: Abort, W: Wake>(rt: &R, alloc: Global) -> Arc<Gate<W>> {
     let gate = Gate {
         waiting: Mutex::new(waiting),
     };
-    granted(rt, Arc::new(alloc, gate))
+    Arc::new(alloc, gate).expect(rt, "refused")
 }
 
 impl<W: Wake> Gate<W> {
@@ -78,7 +77,7 @@ pub fn waits_at<R: Wait + Abort + Drop + Copy, W: Wake>(
 ) -> Passes<R, W> {
     Passes {
         rt,
-        gate: granted(&rt, Arc::try_clone(gate)),
+        gate: Arc::try_clone(gate).expect(&rt, "refused"),
         answer,
     }
 }

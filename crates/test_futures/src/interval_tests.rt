@@ -2,7 +2,6 @@
 //! Of what is only tested (the page of `future_time`): that a clone which a poll made is woken by `fire`.
 use crate::calls::{Answer, after, look, now, timers};
 use crate::counter::Counter;
-use crate::granted::granted;
 use future_time::Interval;
 use std::sync::Wait;
 use std::time::{Clock, Duration};
@@ -12,7 +11,9 @@ use std::time::{Clock, Duration};
 fn an_interval_leaves_no_time_out(rt: HostRuntime) {
     let timers = timers(rt, rt.alloc());
     let waker = Counter::new(&rt, rt.alloc());
-    let mut interval = granted(&rt, timers.interval(Duration::from_millis(100)));
+    let mut interval = timers
+        .interval(Duration::from_millis(100))
+        .expect(&rt, "refused");
     let start = now(&rt);
     let early = look(&mut interval.tick(), &waker);
     timers.fire(after(&rt, start, 350));
@@ -50,7 +51,7 @@ fn times_over<R: Wait + Clock + Drop + Copy>(
 fn an_interval_of_no_time_is_one_of_a_millisecond(rt: HostRuntime) {
     let timers = timers(rt, rt.alloc());
     let waker = Counter::new(&rt, rt.alloc());
-    let mut interval = granted(&rt, timers.interval(Duration::ZERO));
+    let mut interval = timers.interval(Duration::ZERO).expect(&rt, "refused");
     timers.fire(after(&rt, now(&rt), 5));
     let times = times_over(&mut interval, &waker);
     assert!(rt; times.is_some_and(|times| times > 0));

@@ -1,7 +1,6 @@
 //! `join_all`: when a part is dropped, what is polled and woken until then, and that a drop leaves nothing.
 //! Of what is only tested (the page of `future_parts`): Parts.
 use crate::counter::{Counter, poll};
-use crate::granted::granted;
 use crate::steps::{Steps, after_polls, no_polls, seen};
 use future_parts::{JoinAll, join_all};
 use std::alloc::Global;
@@ -21,9 +20,9 @@ fn join_steps<R: Abort>(
     let mut futures = VecDeque::new(alloc);
     for &left in lefts {
         let future = after_polls(rt, left, left.wrapping_mul(10), polls);
-        granted(rt, futures.push_back(future));
+        futures.push_back(future).expect(rt, "refused");
     }
-    granted(rt, join_all(alloc, futures))
+    join_all(alloc, futures).expect(rt, "refused")
 }
 
 // The outputs, in order.

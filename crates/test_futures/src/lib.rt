@@ -18,7 +18,6 @@ mod counter;
 #[cfg(test)]
 mod gate;
 #[cfg(test)]
-mod granted;
 #[cfg(test)]
 mod interval_tests;
 #[cfg(test)]

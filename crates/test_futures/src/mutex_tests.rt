@@ -1,7 +1,6 @@
 //! A mutex: its value, and who has it next.
 //! Of what is only tested (the page of `future_parts`): Outer calls.
 use crate::counter::{Counter, is_ready, output};
-use crate::granted::granted;
 use crate::token::{Token, make_token, no_tokens, tokens};
 use future_parts::{AsyncMutex, Guard, Lock};
 use std::alloc::Global;
@@ -12,14 +11,14 @@ fn lock_of<R: Wait + Abort + Drop + Copy, T: Drop>(
     rt: R,
     mutex: &AsyncMutex<R, T, Counter>,
 ) -> Lock<R, T, Counter> {
-    granted(&rt, mutex.try_clone().ok_or(())).lock()
+    mutex.try_clone().expect(&rt, "refused").lock()
 }
 
 fn guard_of<R: Wait + Abort + Drop + Copy, T: Drop>(
     rt: R,
     mutex: &AsyncMutex<R, T, Counter>,
 ) -> Option<Guard<R, T, Counter>> {
-    granted(&rt, mutex.try_clone().ok_or(())).try_lock().ok()
+    mutex.try_clone().expect(&rt, "refused").try_lock().ok()
 }
 
 // Adds to the number that a guard holds, and answers it.
@@ -38,7 +37,7 @@ fn add<R: Wait + Drop + Copy>(guard: Option<Guard<R, u64, Counter>>, more: u64) 
 fn who_has_waited_longest_has_the_value_next(rt: HostRuntime) {
     let waker = Counter::new(&rt, rt.alloc());
     let other = Counter::new(&rt, rt.alloc());
-    let mutex = granted(&rt, AsyncMutex::new(rt, rt.alloc(), 1u64, 2));
+    let mutex = AsyncMutex::new(rt, rt.alloc(), 1u64, 2).expect(&rt, "refused");
     let held = guard_of(rt, &mutex);
     let mut first = lock_of(rt, &mutex);
     let mut second = lock_of(rt, &mutex);
@@ -59,10 +58,7 @@ fn cancel<R: Wait + Abort + Drop + Copy>(
     count: &Arc<()>,
 ) -> (bool, Option<u64>, usize) {
     let waker = Counter::new(&rt, alloc);
-    let mutex = granted(
-        &rt,
-        AsyncMutex::new(rt, alloc, make_token(&rt, count, 5), 0),
-    );
+    let mutex = AsyncMutex::new(rt, alloc, make_token(&rt, count, 5), 0).expect(&rt, "refused");
     let held = guard_of(rt, &mutex);
     let mut first = lock_of(rt, &mutex);
     let mut second = lock_of(rt, &mutex);

@@ -1,21 +1,20 @@
 //! `Notify`: whom it notifies, and what is kept.
 //! Of what is only tested (the page of `future_parts`): Outer calls.
 use crate::counter::{Counter, is_ready};
-use crate::granted::granted;
 use future_parts::{Notified, Notify};
 use std::alloc::Global;
 use std::process::Abort;
 use std::sync::Wait;
 
 fn notify<R: Wait + Abort + Drop + Copy>(rt: R, alloc: Global) -> Notify<R, Counter> {
-    granted(&rt, Notify::new(rt, alloc, 2))
+    Notify::new(rt, alloc, 2).expect(&rt, "refused")
 }
 
 fn notified<R: Wait + Abort + Drop + Copy>(
     rt: R,
     notify: &Notify<R, Counter>,
 ) -> Notified<R, Counter> {
-    granted(&rt, notify.try_clone().ok_or(())).notified()
+    notify.try_clone().expect(&rt, "refused").notified()
 }
 
 #[test]

@@ -1,7 +1,6 @@
 //! A oneshot: its value, and ends that go.
 //! Of what is only tested (the page of `future_parts`): Outer calls.
 use crate::counter::{Counter, poll};
-use crate::granted::granted;
 use crate::token::{Token, make_token, no_tokens, tokens};
 use future_parts::{OneReceiver, OneSender, oneshot};
 use std::alloc::Global;
@@ -12,7 +11,7 @@ use task_core::Poll;
 type Ends<R, T> = (OneSender<R, T, Counter>, OneReceiver<R, T, Counter>);
 
 fn ends<R: Wait + Abort + Drop + Copy, T: Drop>(rt: R, alloc: Global) -> Ends<R, T> {
-    granted(&rt, oneshot(rt, alloc))
+    oneshot(rt, alloc).expect(&rt, "refused")
 }
 
 #[test]

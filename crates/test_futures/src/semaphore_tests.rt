@@ -1,7 +1,6 @@
 //! A semaphore: who has the next permit, and that none is lost.
 //! Of what is only tested (the page of `future_parts`): Outer calls.
 use crate::counter::{Counter, is_ready, output};
-use crate::granted::granted;
 use future_parts::{Acquire, Permit, Semaphore};
 use std::alloc::Global;
 use std::process::Abort;
@@ -13,7 +12,7 @@ fn semaphore<R: Wait + Abort + Drop + Copy>(
     alloc: Global,
     permits: usize,
 ) -> Semaphore<R, Counter> {
-    granted(&rt, Semaphore::new(rt, alloc, permits, 2))
+    Semaphore::new(rt, alloc, permits, 2).expect(&rt, "refused")
 }
 
 // A future that waits for a permit of it.
@@ -21,7 +20,7 @@ fn acquires<R: Wait + Abort + Drop + Copy>(
     rt: R,
     semaphore: &Semaphore<R, Counter>,
 ) -> Acquire<R, Counter> {
-    granted(&rt, semaphore.try_clone().ok_or(())).acquire()
+    semaphore.try_clone().expect(&rt, "refused").acquire()
 }
 
 // A permit, where one is free.
@@ -29,7 +28,9 @@ fn permit<R: Wait + Abort + Drop + Copy>(
     rt: R,
     semaphore: &Semaphore<R, Counter>,
 ) -> Option<Permit<R, Counter>> {
-    granted(&rt, semaphore.try_clone().ok_or(()))
+    semaphore
+        .try_clone()
+        .expect(&rt, "refused")
         .try_acquire()
         .ok()
 }

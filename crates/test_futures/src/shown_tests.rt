@@ -1,6 +1,5 @@
 //! What the errors of futures say, and how those are shown that hold a value.
 //! Of what is only tested (the pages of `future_parts` and `future_time`): what errors say.
-use crate::granted::granted;
 use future_parts::{TryReceiveError, TrySendError};
 use future_time::{Closed, Refused, TimeoutError, TimerError};
 use std::alloc::Global;
@@ -10,7 +9,7 @@ use std::io;
 use std::process::Abort;
 
 fn shown<R: Abort, T: Debug>(rt: &R, alloc: Global, value: &T) -> String {
-    granted(rt, format!(in alloc; "{value:?}"))
+    format!(in alloc; "{value:?}").expect(rt, "refused")
 }
 
 // Whether an error says this, and its `io::Error` as well.
@@ -18,8 +17,8 @@ fn says<R: Abort, E: Error>(rt: &R, alloc: Global, error: E, words: &str) -> boo
 where
     io::Error: From<E>,
 {
-    let text = granted(rt, format!(in alloc; "{error}"));
-    let of_io = granted(rt, format!(in alloc; "{}", io::Error::from(error)));
+    let text = format!(in alloc; "{error}").expect(rt, "refused");
+    let of_io = format!(in alloc; "{}", io::Error::from(error)).expect(rt, "refused");
     text.as_str() == words && of_io.as_str() == words
 }
 

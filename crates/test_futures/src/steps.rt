@@ -1,7 +1,6 @@
 //! A future that is ready after so many polls, counts them, and has a share of a token as long as it is there.
 ghost use Rattle.std.specs.Prelude.{⊤};
 
-use crate::granted::granted;
 use std::alloc::Global;
 use std::process::Abort;
 use std::sync::Arc;
@@ -18,7 +17,7 @@ pub struct Steps {
 
 /// A count of polls. Its owners tell which futures that share it are there. Stops where there is no memory.
 pub fn no_polls<R: Abort>(rt: &R, alloc: Global) -> Arc<AtomicU64> {
-    granted(rt, Arc::new(alloc, AtomicU64::new(0)))
+    Arc::new(alloc, AtomicU64::new(0)).expect(rt, "refused")
 }
 
 /// A future that counts its polls there. Stops where the count has as many owners as can be counted.
@@ -26,7 +25,7 @@ pub fn after_polls<R: Abort>(rt: &R, left: u64, answer: u64, polls: &Arc<AtomicU
     Steps {
         left,
         answer,
-        polls: granted(rt, Arc::try_clone(polls)),
+        polls: Arc::try_clone(polls).expect(rt, "refused"),
     }
 }
 

@@ -1,7 +1,6 @@
 //! 64 threads at one channel, and at one semaphore.
 //! Of what is only tested (the page of `future_parts`): Threads.
 use crate::bell::{Bell, block_on, poll_once};
-use crate::granted::granted;
 use future_parts::{Permit, Receiver, Semaphore, Sender, channel};
 use std::alloc::Global;
 use std::process::Abort;
@@ -20,7 +19,7 @@ const PERMITS: u64 = 3;
 
 // Sends the numbers from 1 on.
 fn send_all<R: Wait + Abort + Drop + Copy>(rt: R, alloc: Global, sender: &Sender<R, u64, Bell<R>>) {
-    let mut own = granted(&rt, sender.try_clone().ok_or(()));
+    let mut own = sender.try_clone().expect(&rt, "refused");
     for number in 0..ROUNDS {
         drop(block_on(rt, alloc, own.send(number + 1)));
     }
@@ -32,7 +31,7 @@ fn receive_all<R: Wait + Abort + Drop + Copy>(
     alloc: Global,
     receiver: &Receiver<R, u64, Bell<R>>,
 ) -> u64 {
-    let mut own = granted(&rt, receiver.try_clone().ok_or(()));
+    let mut own = receiver.try_clone().expect(&rt, "refused");
     let mut sum = 0u64;
     for _ in rt.forever() {
         if let Some(early) = poll_once(rt, alloc, own.receive()) {
@@ -51,10 +50,9 @@ fn receive_all<R: Wait + Abort + Drop + Copy>(
 
 // 32 threads send, beside 32 that receive: the sum of what they received.
 fn pass_all<R: Wait + Abort + Threads + Drop + Copy + Send + Sync>(rt: R, alloc: Global) -> u64 {
-    let ends: (Sender<R, u64, Bell<R>>, Receiver<R, u64, Bell<R>>) = granted(
-        &rt,
-        channel(rt, alloc, 4, SIDE),
-    );
+    let ends: (Sender<R, u64, Bell<R>>, Receiver<R, u64, Bell<R>>) = channel(
+        rt, alloc, 4, SIDE,
+    ).expect(&rt, "refused");
     let (sender, receiver) = ends;
     let (_, sums) = thread::join(
         &rt,
@@ -70,7 +68,7 @@ fn pass_all<R: Wait + Abort + Threads + Drop + Copy + Send + Sync>(rt: R, alloc:
         ),
     );
     let mut all = 0u64;
-    for sum in granted(&rt, sums).iter() {
+    for sum in sums.expect(&rt, "refused").iter() {
         all = all.saturating_add(*sum);
     }
     all
@@ -91,9 +89,9 @@ fn take_all<R: Wait + Abort + Drop + Copy>(
 ) -> u64 {
     let mut most = 0;
     for _ in 0..ROUNDS {
-        let asked = granted(&rt, semaphore.try_clone().ok_or(())).acquire();
+        let asked = semaphore.try_clone().expect(&rt, "refused").acquire();
         drop(poll_once(rt, alloc, asked));
-        let asked = granted(&rt, semaphore.try_clone().ok_or(())).acquire();
+        let asked = semaphore.try_clone().expect(&rt, "refused").acquire();
         let permit: Permit<R, Bell<R>> = block_on(rt, alloc, asked);
         let others = out.fetch_add(1, Ordering::SeqCst);
         most = most.max(others.saturating_add(1));
@@ -108,10 +106,12 @@ fn share_permits<R: Wait + Abort + Threads + Drop + Copy + Send + Sync>(
     rt: R,
     alloc: Global,
 ) -> (u64, bool) {
-    let semaphore: Semaphore<R, Bell<R>> = granted(
-        &rt,
-        Semaphore::new(rt, alloc, PERMITS as usize, 2 * SIDE),
-    );
+    let semaphore: Semaphore<R, Bell<R>> = Semaphore::new(
+        rt,
+        alloc,
+        PERMITS as usize,
+        2 * SIDE,
+    ).expect(&rt, "refused");
     let out = AtomicU64::new(0);
     let most = thread::map_indices(
         &rt,
@@ -120,7 +120,7 @@ fn share_permits<R: Wait + Abort + Threads + Drop + Copy + Send + Sync>(
         &|_: usize| { take_all(rt, alloc, &semaphore, &out) },
     );
     let mut all = 0u64;
-    for one in granted(&rt, most).iter() {
+    for one in most.expect(&rt, "refused").iter() {
         all = all.max(*one);
     }
     (all, are_all_free(rt, &semaphore))
@@ -128,10 +128,10 @@ fn share_permits<R: Wait + Abort + Threads + Drop + Copy + Send + Sync>(
 
 // Whether all permits are free: takes one after the other.
 fn are_all_free<R: Wait + Abort + Drop + Copy>(rt: R, semaphore: &Semaphore<R, Bell<R>>) -> bool {
-    let first = granted(&rt, semaphore.try_clone().ok_or(())).try_acquire();
-    let second = granted(&rt, semaphore.try_clone().ok_or(())).try_acquire();
-    let third = granted(&rt, semaphore.try_clone().ok_or(())).try_acquire();
-    let fourth = granted(&rt, semaphore.try_clone().ok_or(())).try_acquire();
+    let first = semaphore.try_clone().expect(&rt, "refused").try_acquire();
+    let second = semaphore.try_clone().expect(&rt, "refused").try_acquire();
+    let third = semaphore.try_clone().expect(&rt, "refused").try_acquire();
+    let fourth = semaphore.try_clone().expect(&rt, "refused").try_acquire();
     first.is_ok() && second.is_ok() && third.is_ok() && fourth.is_err()
 }
 

@@ -1,7 +1,6 @@
 //! Timers that a thread drives, and futures that threads await. Nothing here depends on how fast the machine is: a sleep may last longer than its time.
 //! Of what is only tested (the page of `future_time`): what a driver does, and 64 threads that sleep.
 use crate::calls::now;
-use crate::granted::granted;
 use executor::shared_waker::block_on;
 use executor_parts::Awaiter;
 use future_parts::join;
@@ -27,8 +26,8 @@ fn sleep_for<R: Wait + Clock + Abort + Drop + Copy>(
 ) -> bool {
     let duration = Duration::from_millis(millis);
     let start = now(&rt);
-    let sleep = granted(&rt, timers.sleep(duration));
-    let output = granted(&rt, block_on(rt, alloc, sleep));
+    let sleep = timers.sleep(duration).expect(&rt, "refused");
+    let output = block_on(rt, alloc, sleep).expect(&rt, "refused");
     output.is_ok() && now(&rt).duration_since(start) >= duration
 }
 
@@ -82,7 +81,7 @@ fn drive_and_sleep<R: Wait + Clock + Abort + Threads + Drop + Copy + Send + Sync
 
 #[test]
 fn many_threads_sleep_by_one_driver(rt: HostRuntime) {
-    let timers = granted(&rt, Timers::new(rt, rt.alloc()));
+    let timers = Timers::new(rt, rt.alloc()).expect(&rt, "refused");
     let right = AtomicU64::new(0);
     let ended = drive_and_sleep(rt, rt.alloc(), &timers, &right);
     assert!(rt; ended && right.load(Ordering::SeqCst) == SLEEPERS * TIMES);
@@ -95,7 +94,9 @@ fn sleep_beside_an_hour<R: Wait + Clock + Abort + Drop + Copy>(
     alloc: Global,
     timers: &Timers<R, Awaiter<R>>,
 ) -> bool {
-    let hour = granted(&rt, timers.sleep(Duration::from_secs(3_600)));
+    let hour = timers
+        .sleep(Duration::from_secs(3_600))
+        .expect(&rt, "refused");
     thread::sleep(&rt, Duration::from_millis(20));
     let right = sleep_for(rt, alloc, timers, 5);
     drop(hour);
@@ -117,7 +118,7 @@ fn drive_beside_an_hour<R: Wait + Clock + Abort + Threads + Drop + Copy + Send +
 
 #[test]
 fn a_driver_is_told_of_an_earlier_timer(rt: HostRuntime) {
-    let timers = granted(&rt, Timers::new(rt, rt.alloc()));
+    let timers = Timers::new(rt, rt.alloc()).expect(&rt, "refused");
     let ended = drive_beside_an_hour(rt, rt.alloc(), &timers);
     assert!(rt; ended == (true, true));
 }
@@ -129,9 +130,13 @@ fn sleep_twice<R: Wait + Clock + Abort + Drop + Copy>(
     timers: &Timers<R, Awaiter<R>>,
 ) -> bool {
     let start = now(&rt);
-    let first = granted(&rt, timers.sleep(Duration::from_millis(3)));
-    let second = granted(&rt, timers.sleep(Duration::from_millis(9)));
-    let outputs = granted(&rt, block_on(rt, alloc, join(first, second)));
+    let first = timers
+        .sleep(Duration::from_millis(3))
+        .expect(&rt, "refused");
+    let second = timers
+        .sleep(Duration::from_millis(9))
+        .expect(&rt, "refused");
+    let outputs = block_on(rt, alloc, join(first, second)).expect(&rt, "refused");
     timers.close();
     let lasted = now(&rt).duration_since(start);
     outputs.0.is_ok() && outputs.1.is_ok() && lasted >= Duration::from_millis(9)
@@ -151,7 +156,7 @@ fn drive_two<R: Wait + Clock + Abort + Threads + Drop + Copy + Send + Sync>(
 
 #[test]
 fn sleeps_are_joined(rt: HostRuntime) {
-    let timers = granted(&rt, Timers::new(rt, rt.alloc()));
+    let timers = Timers::new(rt, rt.alloc()).expect(&rt, "refused");
     let ended = drive_two(rt, rt.alloc(), &timers);
     assert!(rt; ended == (true, true));
 }

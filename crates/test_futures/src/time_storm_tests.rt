@@ -3,7 +3,6 @@
 
 use crate::calls::{after, look, now, sleep_until, timers};
 use crate::counter::Counter;
-use crate::granted::granted;
 use future_time::{Sleep, Timers};
 use std::alloc::Global;
 use std::process::Abort;
@@ -49,12 +48,11 @@ fn sleepers<R: Wait + Clock + Abort + Drop + Copy>(
     timers: &Timers<R, Counter>,
     start: Instant,
 ) -> Vec<Sleeper<R>> {
-    let mut sleepers = granted(rt, Vec::with_capacity(alloc, SLEEPS as usize));
+    let mut sleepers = Vec::with_capacity(alloc, SLEEPS as usize).expect(rt, "refused");
     for index in 0..SLEEPS {
-        granted(
-            rt,
-            sleepers.push(make_sleeper(rt, alloc, timers, start, index)),
-        );
+        sleepers
+            .push(make_sleeper(rt, alloc, timers, start, index))
+            .expect(rt, "refused");
     }
     sleepers
 }

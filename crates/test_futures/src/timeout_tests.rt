@@ -2,7 +2,6 @@
 //! Of what is only tested (the page of `future_time`): when the parts of a timeout are dropped.
 use crate::calls::{after, now, timers};
 use crate::counter::{Counter, poll};
-use crate::granted::granted;
 use future_parts::{pending, yield_now};
 use future_time::TimeoutError;
 use std::time::Duration;
@@ -13,7 +12,7 @@ fn a_timeout_answers_the_output(rt: HostRuntime) {
     let timers = timers(rt, rt.alloc());
     let waker = Counter::new(&rt, rt.alloc());
     let made = timers.timeout(Duration::from_secs(60), yield_now());
-    let mut timeout = granted(&rt, made);
+    let mut timeout = made.expect(&rt, "refused");
     let first = poll(&mut timeout, &waker);
     let kept = waker.owners();
     let second = poll(&mut timeout, &waker);
@@ -30,7 +29,7 @@ fn a_timeout_answers_that_the_time_is_over(rt: HostRuntime) {
     let timers = timers(rt, rt.alloc());
     let waker = Counter::new(&rt, rt.alloc());
     let made = timers.timeout(Duration::from_millis(100), pending::<u64>());
-    let mut timeout = granted(&rt, made);
+    let mut timeout = made.expect(&rt, "refused");
     let start = now(&rt);
     let first = poll(&mut timeout, &waker);
     timers.fire(after(&rt, start, 101));
@@ -45,7 +44,7 @@ fn a_timeout_of_closed_timers_says_so(rt: HostRuntime) {
     let timers = timers(rt, rt.alloc());
     let waker = Counter::new(&rt, rt.alloc());
     let made = timers.timeout(Duration::from_secs(60), pending::<u64>());
-    let mut timeout = granted(&rt, made);
+    let mut timeout = made.expect(&rt, "refused");
     let first = poll(&mut timeout, &waker);
     timers.close();
     let second = poll(&mut timeout, &waker);

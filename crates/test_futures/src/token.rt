@@ -1,5 +1,4 @@
 //! Values that tell how many of them are there.
-use crate::granted::granted;
 use std::alloc::Global;
 use std::process::Abort;
 use std::sync::Arc;
@@ -13,14 +12,14 @@ pub struct Token {
 
 /// A count of tokens. Stops where there is no memory.
 pub fn no_tokens<R: Abort>(rt: &R, alloc: Global) -> Arc<()> {
-    granted(rt, Arc::new(alloc, ()))
+    Arc::new(alloc, ()).expect(rt, "refused")
 }
 
 /// A token of this count. Stops where there are as many as can be counted.
 pub fn make_token<R: Abort>(rt: &R, count: &Arc<()>, number: u64) -> Token {
     Token {
         number,
-        count: granted(rt, Arc::try_clone(count)),
+        count: Arc::try_clone(count).expect(rt, "refused"),
     }
 }
 

@@ -1,13 +1,12 @@
 //! Calls of a pool of guests and of its handles, each in a function of its own, generic in the runtime alone: what such a call asks of its types is shown
 //! there once, and not in each test.
 
-use crate::granted::granted;
 use crate::guest::{Errand, Guest, GuestPool, GuestTask, GuestTurns, Guests};
 use executor::{
     Key, PoolSpawnError, SpawnRefusal, TurnsError, keep_task, place_for_task, poll_kept,
 };
 use executor_parts::Nobody;
-use std::alloc::{AllocError, Global};
+use std::alloc::Global;
 use std::collections::VecDeque;
 use std::process::Abort;
 use std::sync::{Arc, Wait};
@@ -15,7 +14,7 @@ use std::thread::{self, Threads};
 
 /// Guests of which so many are to end. Stops where there is no memory.
 pub fn new_guests<R: Abort>(rt: &R, alloc: Global, wanted: u64) -> Arc<Guests> {
-    granted(rt, Guests::new(alloc, wanted))
+    Guests::new(alloc, wanted).expect(rt, "refused")
 }
 
 /// A pool of so many workers. Stops where there is no memory.
@@ -24,7 +23,7 @@ pub fn new_pool<R: Wait + Abort + Drop + Copy>(
     alloc: Global,
     workers: usize,
 ) -> GuestPool<R> {
-    granted(&rt, GuestPool::new(rt, alloc, workers))
+    GuestPool::new(rt, alloc, workers).expect(&rt, "refused")
 }
 
 /// The Task of a guest at the queue of a worker, or from outside where there is no worker of this number. Stops where there is no memory.
@@ -34,8 +33,8 @@ pub fn guest_task<'x, R: Wait + Abort + Drop + Copy>(
     errand: Errand,
     guests: &Arc<Guests>,
 ) -> GuestTask<'x, R> {
-    let guest = granted(&pool.rt(), Guest::new(errand, guests));
-    granted(&pool.rt(), pool.spawn_on(worker, guest))
+    let guest = Guest::new(errand, guests).expect(&pool.rt(), "refused");
+    pool.spawn_on(worker, guest).expect(&pool.rt(), "refused")
 }
 
 /// The Tasks of so many guests that give way ten times, spawned together. Stops where there is no memory.
@@ -48,11 +47,12 @@ pub fn guest_tasks<'x, R: Wait + Abort + Drop + Copy>(
     let rt = pool.rt();
     let mut futures = VecDeque::new(pool.alloc());
     for _ in 0..count {
-        let guest = granted(&rt, Guest::new(Errand::GiveWay(10), guests));
-        granted(&rt, futures.push_back(guest));
+        let guest = Guest::new(Errand::GiveWay(10), guests).expect(&rt, "refused");
+        futures.push_back(guest).expect(&rt, "refused");
     }
     let mut tasks = Vec::new(pool.alloc());
-    granted(&rt, pool.spawn_many(worker, &mut futures, &mut tasks));
+    pool.spawn_many(worker, &mut futures, &mut tasks)
+        .expect(&rt, "refused");
     tasks
 }
 
@@ -62,7 +62,7 @@ pub fn refusal_of_spawn<R: Wait + Abort + Drop + Copy>(
     worker: usize,
     guests: &Arc<Guests>,
 ) -> Option<SpawnRefusal> {
-    let guest = granted(&pool.rt(), Guest::new(Errand::GiveWay(7), guests));
+    let guest = Guest::new(Errand::GiveWay(7), guests).expect(&pool.rt(), "refused");
     match pool.spawn_on(worker, guest) {
         Ok(_) => None,
         Err(PoolSpawnError { given, reason }) => {
@@ -76,12 +76,12 @@ pub fn turns_of<R: Wait + Abort + Drop + Copy>(
     pool: &GuestPool<R>,
     worker: usize,
 ) -> GuestTurns<'_, R> {
-    granted(&pool.rt(), pool.turns(worker))
+    pool.turns(worker).expect(&pool.rt(), "refused")
 }
 
 /// The turns of all workers. Stops where they are refused.
 pub fn all_turns<R: Wait + Abort + Drop + Copy>(pool: &GuestPool<R>) -> Vec<GuestTurns<'_, R>> {
-    granted(&pool.rt(), pool.all_turns())
+    pool.all_turns().expect(&pool.rt(), "refused")
 }
 
 /// Runs the next task, as `Turns::tick` does: whether there was one. The prover takes that call as it is told that the runtime lives for ever.
@@ -112,7 +112,7 @@ pub fn work_both<R: Wait + Threads + Drop + Copy + Send + Sync + 'static>(
 
 /// An empty place for a Task. Stops where there is none.
 pub fn place_of_task<R: Wait + Abort + Drop + Copy>(pool: &GuestPool<R>) -> Key<R> {
-    granted(&pool.rt(), place_for_task((pool, 0)).ok_or(AllocError))
+    place_for_task((pool, 0)).expect(&pool.rt(), "refused")
 }
 
 /// Keeps a Task at a place: whether it was kept.

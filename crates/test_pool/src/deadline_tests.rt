@@ -1,8 +1,7 @@
 //! A test of turns that end at a deadline.
 
 use crate::calls::{drop_pool, drop_turns, new_pool, turns_of};
-use crate::granted::granted;
-use std::alloc::{AllocError, Global};
+use std::alloc::Global;
 use std::process::Abort;
 use std::sync::Wait;
 use std::time::{Clock, Duration, Instant};
@@ -15,10 +14,10 @@ fn rest_until<R: Wait + Clock + Abort + Drop + Copy>(
 ) -> (bool, Duration) {
     let pool = new_pool(rt, alloc, 1);
     let mut turns = turns_of(&pool, 0);
-    let begin = granted(&rt, Instant::now(&rt));
-    let deadline = granted(&rt, begin.checked_add(short).ok_or(AllocError));
+    let begin = Instant::now(&rt).expect(&rt, "refused");
+    let deadline = begin.checked_add(short).expect(&rt, "refused");
     let none = turns.await_next_until(deadline).is_none();
-    let rested = granted(&rt, begin.elapsed(&rt));
+    let rested = begin.elapsed(&rt).expect(&rt, "refused");
     drop_turns(turns);
     drop_pool(pool);
     (none, rested)

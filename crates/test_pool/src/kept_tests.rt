@@ -4,14 +4,13 @@ ghost use Rattle.std.specs.Prelude.{⊤};
 use crate::calls::{
     guest_task, is_empty, keep, new_guests, new_pool, place_of_task, tick, turns_of,
 };
-use crate::granted::granted;
 use crate::guest::{Errand, shares_and_polls};
 use async_task::{Future, Poll, TaskPoll, Yields};
 use executor::{
     Key, Pool, PoolTask, PoolWaker, collect, keep_new_waker, keep_waker, place_for_waker, wake_kept,
 };
 use executor_parts::Nobody;
-use std::alloc::{AllocError, Global};
+use std::alloc::Global;
 use std::process::Abort;
 use std::sync::atomic::{AtomicBool, Ordering};
 use std::sync::{Arc, Wait};
@@ -57,13 +56,13 @@ fn spawn_keeps<'x, R: Wait + Abort + Drop + Copy>(
     let rt = pool.rt();
     let keeps = Keeps {
         key,
-        kept: granted(&rt, Arc::try_clone(kept)),
+        kept: Arc::try_clone(kept).expect(&rt, "refused"),
     };
-    granted(&rt, pool.spawn(keeps))
+    pool.spawn(keeps).expect(&rt, "refused")
 }
 
 fn place_of_waker<R: Wait + Abort + Drop + Copy>(pool: &KeepsPool<R>) -> Key<R> {
-    granted(&pool.rt(), place_for_waker((pool, 0)).ok_or(AllocError))
+    place_for_waker((pool, 0)).expect(&pool.rt(), "refused")
 }
 
 // Runs the only task of a pool: whether it ran, and whether a poll of its Task answers that it is closed.
@@ -71,7 +70,7 @@ fn run_and_poll<R: Wait + Abort + Drop + Copy>(
     pool: &KeepsPool<R>,
     mut task: KeepsTask<'_, R>,
 ) -> (bool, bool) {
-    let mut turns = granted(&pool.rt(), pool.turns(0));
+    let mut turns = pool.turns(0).expect(&pool.rt(), "refused");
     let ran = match turns.next() {
         Some(runnable) => {
             runnable.run();
@@ -85,8 +84,8 @@ fn run_and_poll<R: Wait + Abort + Drop + Copy>(
 
 // Whether a task that keeps its waker after the shutdown is cancelled, and leaves nothing. The future, which is dropped, has the key: so a collect frees its place.
 fn is_cancelled<R: Wait + Abort + Drop + Copy>(rt: R, alloc: Global, has_key: bool) -> bool {
-    let kept = granted(&rt, Arc::new(alloc, AtomicBool::new(false)));
-    let pool = granted(&rt, KeepsPool::new(rt, alloc, 1));
+    let kept = Arc::new(alloc, AtomicBool::new(false)).expect(&rt, "refused");
+    let pool = KeepsPool::new(rt, alloc, 1).expect(&rt, "refused");
     let key = if has_key {
         Some(place_of_waker(&pool))
     } else {
@@ -111,9 +110,9 @@ fn a_waker_that_is_kept_at_a_new_place_after_the_shutdown_cancels_its_task(rt: H
 // Of a task that keeps its waker by a key of another pool: whether that key has the number of one of its own pool, whether the task ran, whether a waker was
 // kept, and whether one is at this number of the other pool.
 fn keep_elsewhere<R: Wait + Abort + Drop + Copy>(rt: R, alloc: Global) -> [bool; 4] {
-    let kept = granted(&rt, Arc::new(alloc, AtomicBool::new(true)));
-    let pool = granted(&rt, KeepsPool::new(rt, alloc, 1));
-    let other = granted(&rt, KeepsPool::new(rt, alloc, 1));
+    let kept = Arc::new(alloc, AtomicBool::new(true)).expect(&rt, "refused");
+    let pool = KeepsPool::new(rt, alloc, 1).expect(&rt, "refused");
+    let other = KeepsPool::new(rt, alloc, 1).expect(&rt, "refused");
     let own = place_of_waker(&pool);
     let foreign = place_of_waker(&other);
     let is_same = own.number() == foreign.number();

@@ -1,7 +1,6 @@
 //! Tests of the metadata of tasks of a pool: what the handles show.
 ghost use Rattle.std.specs.Prelude.{⊤};
 
-use crate::granted::granted;
 use async_task::{Builder, Future, Poll, TaskPoll, Yields};
 use executor::{Pool, PoolTask, Turns};
 use executor_parts::Nobody;
@@ -59,27 +58,25 @@ fn run_two<R: Wait + Abort + Drop + Copy>(
     rt: R,
     alloc: Global,
 ) -> ([Option<u64>; 3], [(u64, u64); 2]) {
-    let pool = granted(&rt, NumberedPool::new(rt, alloc, 1));
-    let first = granted(
-        &rt,
-        pool.spawn_with(
+    let pool = NumberedPool::new(rt, alloc, 1).expect(&rt, "refused");
+    let first = pool
+        .spawn_with(
             Builder::new().metadata(7),
             |number: &u64| Numbered {
                 number: number.saturating_mul(10),
             },
-        ),
-    );
-    let second = granted(
-        &rt,
-        pool.spawn_on_with(
+        )
+        .expect(&rt, "refused");
+    let second = pool
+        .spawn_on_with(
             1,
             Builder::new().metadata(9),
             |number: &u64| Numbered {
                 number: number.saturating_mul(10),
             },
-        ),
-    );
-    let mut turns = granted(&rt, pool.turns(0));
+        )
+        .expect(&rt, "refused");
+    let mut turns = pool.turns(0).expect(&rt, "refused");
     let ran = [
         run_next(&mut turns),
         run_next(&mut turns),

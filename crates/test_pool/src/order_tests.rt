@@ -4,7 +4,6 @@ ghost use Rattle.std.specs.Prelude.{⊤};
 use crate::calls::{
     drop_pool, drop_task, drop_turns, guest_task, new_guests, new_pool, tick, turns_of,
 };
-use crate::granted::granted;
 use crate::guest::{Errand, output_of, shares_and_polls};
 use async_task::{Future, Poll, TaskPoll, Yields};
 use executor::{Pool, PoolTask};
@@ -43,15 +42,15 @@ fn spawn_numbered<'x, R: Wait + Abort + Drop + Copy>(
     let rt = pool.rt();
     let mut futures = VecDeque::new(pool.alloc());
     for number in 1..6u64 {
-        granted(&rt, futures.push_back(Numbered { number }));
+        futures
+            .push_back(Numbered { number })
+            .expect(&rt, "refused");
     }
     let mut tasks = Vec::new(pool.alloc());
-    let first = granted(&rt, pool.spawn(Numbered { number: 9 }));
-    granted(&rt, tasks.push(first));
-    granted(
-        &rt,
-        pool.spawn_many(pool.workers(), &mut futures, &mut tasks),
-    );
+    let first = pool.spawn(Numbered { number: 9 }).expect(&rt, "refused");
+    tasks.push(first).expect(&rt, "refused");
+    pool.spawn_many(pool.workers(), &mut futures, &mut tasks)
+        .expect(&rt, "refused");
     tasks
 }
 
@@ -67,16 +66,16 @@ fn answers_of<R: Wait + Abort + Drop + Copy>(
             TaskPoll::Ready(Ok(number)) => number,
             _ => 0,
         };
-        granted(rt, answers.push(answer));
+        answers.push(answer).expect(rt, "refused");
     }
     answers
 }
 
 // How many of seven turns ran a task, and what the tasks have answered.
 fn run_numbered<R: Wait + Abort + Drop + Copy>(rt: R, alloc: Global) -> (u8, Vec<u64>) {
-    let pool = granted(&rt, NumberedPool::new(rt, alloc, 1));
+    let pool = NumberedPool::new(rt, alloc, 1).expect(&rt, "refused");
     let tasks = spawn_numbered(&pool);
-    let mut turns = granted(&rt, pool.turns(0));
+    let mut turns = pool.turns(0).expect(&rt, "refused");
     let mut ran = 0u8;
     for _ in 0..7 {
         ran = ran.saturating_add(u8::from(turns.tick()));

@@ -2,7 +2,6 @@
 
 ghost use Rattle.work_queues.specs.Duties.{IsClaim};
 
-use crate::granted::granted;
 use linked_list_allocator::LocalHeap;
 use std::alloc::{AllocError, Global};
 use std::sync::{Arc, Wait};
@@ -57,10 +56,10 @@ fn pop_four<R: Wait>(rt: &R, crew: &HeapCrew<'_>) -> [Option<u64>; 4] {
 // The queue has room for two items. Each time the third is the one that is refused.
 #[test]
 fn a_refused_push_hands_the_item_back(rt: HostRuntime) {
-    let heap = granted(&rt, LocalHeap::new(rt.alloc(), HEAP));
-    let crew = granted(&rt, HeapCrew::new(rt.alloc(), &heap, 1, ROOM));
+    let heap = LocalHeap::new(rt.alloc(), HEAP).expect(&rt, "refused");
+    let crew = HeapCrew::new(rt.alloc(), &heap, 1, ROOM).expect(&rt, "refused");
     let two = push_two(&rt, &crew);
-    let filling = granted(&rt, fill(rt.alloc(), &heap));
+    let filling = fill(rt.alloc(), &heap).expect(&rt, "refused");
     let refused = crew.push(&rt, 0, 3);
     let left = pop_four(&rt, &crew);
     let two_again = push_two(&rt, &crew);
@@ -88,15 +87,15 @@ fn push_and_ring<R: Wait>(rt: &R, board: &HeapBoard<'_>, item: u64) -> (Result<(
 // The worker counts as asleep beside a full queue, so the push makes it awake, though the queue is refused memory.
 #[test]
 fn a_refused_push_wakes_a_worker(rt: HostRuntime) {
-    let heap = granted(&rt, LocalHeap::new(rt.alloc(), HEAP));
-    let bells = granted(&rt, Bells::new(rt.alloc(), 1));
-    let bells = granted(&rt, Arc::new(rt.alloc(), bells));
-    let own = granted(&rt, Arc::try_clone(&bells));
-    let board = granted(&rt, HeapBoard::new(rt.alloc(), &heap, own, ROOM));
-    let claim = granted(&rt, bells.claim(0).ok_or(AllocError));
+    let heap = LocalHeap::new(rt.alloc(), HEAP).expect(&rt, "refused");
+    let bells = Bells::new(rt.alloc(), 1).expect(&rt, "refused");
+    let bells = Arc::new(rt.alloc(), bells).expect(&rt, "refused");
+    let own = Arc::try_clone(&bells).expect(&rt, "refused");
+    let board = HeapBoard::new(rt.alloc(), &heap, own, ROOM).expect(&rt, "refused");
+    let claim = bells.claim(0).expect(&rt, "refused");
     let first = push_and_ring(&rt, &board, 1);
     let second = push_and_ring(&rt, &board, 2);
-    let filling = granted(&rt, fill(rt.alloc(), &heap));
+    let filling = fill(rt.alloc(), &heap).expect(&rt, "refused");
     let lies = lie_down_and_push(&rt, &board, &bells, &claim);
     bells.settle(bells.give_back(claim));
     drop(filling);
@@ -151,11 +150,11 @@ fn find_eleven<'heap, R: Wait>(
 // The first batch is 1 to 5: it runs 1, its queue has room for 2 and 3, and 4 and 5 stay in its hands. The second is 6 to 8.
 #[test]
 fn a_thief_that_is_refused_memory_loses_nothing(rt: HostRuntime) {
-    let heap = granted(&rt, LocalHeap::new(rt.alloc(), HEAP));
-    let crew = granted(&rt, HeapCrew::new(rt.alloc(), &heap, 1, ROOM));
-    let mut worker = granted(&rt, crew.worker(&heap, 0));
+    let heap = LocalHeap::new(rt.alloc(), HEAP).expect(&rt, "refused");
+    let crew = HeapCrew::new(rt.alloc(), &heap, 1, ROOM).expect(&rt, "refused");
+    let mut worker = crew.worker(&heap, 0).expect(&rt, "refused");
     let taken = push_ten(&rt, &crew);
-    let filling = granted(&rt, fill(rt.alloc(), &heap));
+    let filling = fill(rt.alloc(), &heap).expect(&rt, "refused");
     let found = find_eleven(&rt, &crew, &mut worker);
     drop(filling);
     drop(crew.end_turns(&rt, worker));
@@ -189,11 +188,11 @@ fn last_outside<R: Wait>(rt: &R, crew: &HeapCrew<'_>) -> Option<u64> {
 // It has 4 and 5 in its hands, and the queue for what comes from outside has room for one.
 #[test]
 fn a_worker_that_leaves_keeps_what_does_not_fit(rt: HostRuntime) {
-    let heap = granted(&rt, LocalHeap::new(rt.alloc(), HEAP));
-    let crew = granted(&rt, HeapCrew::new(rt.alloc(), &heap, 1, ROOM));
-    let mut worker = granted(&rt, crew.worker(&heap, 0));
+    let heap = LocalHeap::new(rt.alloc(), HEAP).expect(&rt, "refused");
+    let crew = HeapCrew::new(rt.alloc(), &heap, 1, ROOM).expect(&rt, "refused");
+    let mut worker = crew.worker(&heap, 0).expect(&rt, "refused");
     let pushed = push_ten(&rt, &crew);
-    let filling = granted(&rt, fill(rt.alloc(), &heap));
+    let filling = fill(rt.alloc(), &heap).expect(&rt, "refused");
     let first = crew.find(&rt, &mut worker);
     let popped = leave_room_for_one(&rt, &crew);
     let mut kept = crew.end_turns(&rt, worker);
@@ -228,17 +227,17 @@ fn refuses_a_worker<'heap, R: Wait>(
 // Of the heap of one block the first of two queues takes it, and the second is refused.
 #[test]
 fn a_crew_without_memory_is_refused(rt: HostRuntime) {
-    let heap = granted(&rt, LocalHeap::new(rt.alloc(), HEAP));
-    let crew = granted(&rt, HeapCrew::new(rt.alloc(), &heap, 1, ROOM));
-    let filling = granted(&rt, fill(rt.alloc(), &heap));
+    let heap = LocalHeap::new(rt.alloc(), HEAP).expect(&rt, "refused");
+    let crew = HeapCrew::new(rt.alloc(), &heap, 1, ROOM).expect(&rt, "refused");
+    let filling = fill(rt.alloc(), &heap).expect(&rt, "refused");
     let full = heap.used();
     let refused = refuses_a_crew(rt.alloc(), &heap) && refuses_a_worker(&rt, &crew, &heap);
     let left = heap.used();
     drop(filling);
     drop(crew);
-    let one_block = granted(&rt, LocalHeap::new(rt.alloc(), BLOCK));
+    let one_block = LocalHeap::new(rt.alloc(), BLOCK).expect(&rt, "refused");
     let half_refused = refuses_a_crew(rt.alloc(), &one_block);
-    let two_blocks = granted(&rt, LocalHeap::new(rt.alloc(), 2 * BLOCK));
+    let two_blocks = LocalHeap::new(rt.alloc(), 2 * BLOCK).expect(&rt, "refused");
     let built = !refuses_a_crew(rt.alloc(), &two_blocks);
     assert!(rt; refused && left == full && heap.used() == 0);
     assert!(rt; half_refused && one_block.used() == 0);
@@ -266,12 +265,12 @@ fn looks_outside<R: Wait>(
 // The worker always has items of its own, and two wait outside.
 #[test]
 fn each_61st_look_is_first_for_what_came_from_outside(rt: HostRuntime) {
-    let crew = granted(&rt, Crew::new(rt.alloc(), rt.alloc(), 1, ROOM));
+    let crew = Crew::new(rt.alloc(), rt.alloc(), 1, ROOM).expect(&rt, "refused");
     let mut taken = crew.push(&rt, 1, 0).is_ok() && crew.push(&rt, 1, 0).is_ok();
     for own in 1..201u64 {
         taken = crew.push(&rt, 0, own).is_ok() && taken;
     }
-    let mut worker = granted(&rt, crew.worker(rt.alloc(), 0));
+    let mut worker = crew.worker(rt.alloc(), 0).expect(&rt, "refused");
     let found = looks_outside(&rt, &crew, &mut worker, 150);
     drop(crew.end_turns(&rt, worker));
     assert!(rt; taken && found == [2, 61, 122]);
@@ -299,10 +298,10 @@ fn look_beside_others<R: Wait>(
 // Nobody runs workers 1 and 2. At each 976th look the queue of one of the three workers is first, of each in turn.
 #[test]
 fn a_busy_worker_finds_what_stands_in_the_queues_of_others(rt: HostRuntime) {
-    let crew = granted(&rt, Crew::new(rt.alloc(), rt.alloc(), 3, ROOM));
+    let crew = Crew::new(rt.alloc(), rt.alloc(), 3, ROOM).expect(&rt, "refused");
     let others = crew.push(&rt, 1, 0).is_ok() && crew.push(&rt, 2, 0).is_ok();
     let own = crew.push(&rt, 0, 1).is_ok();
-    let mut worker = granted(&rt, crew.worker(rt.alloc(), 0));
+    let mut worker = crew.worker(rt.alloc(), 0).expect(&rt, "refused");
     let found = look_beside_others(&rt, &crew, &mut worker, 3 * 976);
     drop(crew.end_turns(&rt, worker));
     assert!(rt; others && own && found == (2, 2));

@@ -2,7 +2,6 @@
 //! A round is over once all items are taken, so a wake that is lost in any round stops the storm.
 
 use crate::dice::Dice;
-use crate::granted::granted;
 use std::alloc::Global;
 use std::process::Abort;
 use std::sync::Wait;
@@ -135,7 +134,7 @@ impl Storm {
 
 fn new_storm<R: Abort>(rt: &R, alloc: Global) -> Storm {
     Storm {
-        crew: granted(rt, Crew::new(alloc, alloc, WORKERS, ROOM)),
+        crew: Crew::new(alloc, alloc, WORKERS, ROOM).expect(rt, "refused"),
         pushed: [AtomicU64::new(0), AtomicU64::new(0)],
         taken: [AtomicU64::new(0), AtomicU64::new(0)],
         over: AtomicBool::new(false),
@@ -155,7 +154,7 @@ fn a_storm_loses_no_item_and_no_wake(rt: HostRuntime) {
         ),
         || storm.rage(&rt),
     );
-    let worked = granted(&rt, worked).iter().all(|worked| *worked);
+    let worked = worked.expect(&rt, "refused").iter().all(|worked| *worked);
     let is_same = count(&storm.taken) == count(&storm.pushed)
         && sum(&storm.taken) == sum(&storm.pushed);
     assert!(rt; worked && ended && is_same);

@@ -1,7 +1,6 @@
 //! Tests of pools whose queues are refused memory: what the Runnables stand in is of a small heap, which is filled.
 ghost use Rattle.std.specs.Prelude.{⊤};
 
-use crate::granted::granted;
 use crate::guest::{Guests, shares_and_polls};
 use async_task::{Future, Poll, TaskPoll, Yields};
 use executor::{Pool, PoolRunnable, PoolSpawnError, PoolTask, SpawnRefusal, Turns};
@@ -67,13 +66,13 @@ fn new_pool<'heap, R: Wait + Abort + Drop + Copy>(
     alloc: Global,
     heap: &'heap LocalHeap,
 ) -> HeapPool<'heap, R> {
-    granted(&rt, HeapPool::with_queues_in(rt, alloc, heap, 1))
+    HeapPool::with_queues_in(rt, alloc, heap, 1).expect(&rt, "refused")
 }
 
 fn turns_of<'x, 'heap, R: Wait + Abort + Drop + Copy>(
     pool: &'x HeapPool<'heap, R>,
 ) -> HeapTurns<'x, 'heap, R> {
-    granted(&pool.rt(), pool.turns(0))
+    pool.turns(0).expect(&pool.rt(), "refused")
 }
 
 // Spawns one task at the queue of a worker, or from outside.
@@ -82,8 +81,9 @@ fn spawn_prompt<'x, 'heap, R: Wait + Abort + Drop + Copy>(
     worker: usize,
     guests: &Arc<Guests>,
 ) -> HeapTask<'x, 'heap, R> {
-    let guests = granted(&pool.rt(), Arc::try_clone(guests));
-    granted(&pool.rt(), pool.spawn_on(worker, Prompt { guests }))
+    let guests = Arc::try_clone(guests).expect(&pool.rt(), "refused");
+    pool.spawn_on(worker, Prompt { guests })
+        .expect(&pool.rt(), "refused")
 }
 
 // Why one more is refused at the queue of the worker. `None` where it is not, or the error has not its future.
@@ -92,7 +92,7 @@ fn refusal_of<R: Wait + Abort + Drop + Copy>(
     guests: &Arc<Guests>,
 ) -> Option<SpawnRefusal> {
     let before = Arc::strong_count(guests);
-    let guests = granted(&pool.rt(), Arc::try_clone(guests));
+    let guests = Arc::try_clone(guests).expect(&pool.rt(), "refused");
     match pool.spawn_on(0, Prompt { guests }) {
         Ok(_) => None,
         Err(PoolSpawnError { given, reason }) => {
@@ -111,7 +111,9 @@ fn spawn_prompts<'x, 'heap, R: Wait + Abort + Drop + Copy>(
     let rt = pool.rt();
     let mut tasks = Vec::new(pool.alloc());
     for _ in 0..count {
-        granted(&rt, tasks.push(spawn_prompt(pool, worker, guests)));
+        tasks
+            .push(spawn_prompt(pool, worker, guests))
+            .expect(&rt, "refused");
     }
     tasks
 }
@@ -183,11 +185,11 @@ fn fill_and_spawn<R: Wait + Abort + Drop + Copy>(
     let mut turns = turns_of(&pool);
     let mut tasks = spawn_prompts(&pool, 0, guests, 1);
     let runnable = turns.next();
-    let filling = granted(&rt, fill(alloc, heap));
+    let filling = fill(alloc, heap).expect(&rt, "refused");
     let mut others = spawn_prompts(&pool, 0, guests, ROOM);
     let refused = refusal_of(&pool, guests);
     schedule(runnable);
-    granted(&rt, tasks.append(&mut others));
+    tasks.append(&mut others).expect(&rt, "refused");
     let ran = run_prompts(&mut turns, ROOM + 1);
     let ends = count_ends(&mut tasks);
     drop(filling);
@@ -205,8 +207,8 @@ fn fill_and_spawn<R: Wait + Abort + Drop + Copy>(
 // The queue has room for 64 Runnables. A spawn that finds none has its future back; the Runnable of a wake that finds none is dropped, which closes its task. Nothing else is lost.
 #[test]
 fn a_pool_goes_on_past_what_its_queue_refuses(rt: HostRuntime) {
-    let heap = granted(&rt, LocalHeap::new(rt.alloc(), POOL_HEAP));
-    let guests = granted(&rt, Guests::new(rt.alloc(), 0));
+    let heap = LocalHeap::new(rt.alloc(), POOL_HEAP).expect(&rt, "refused");
+    let guests = Guests::new(rt.alloc(), 0).expect(&rt, "refused");
     let (refused, ran, ends, later) = fill_and_spawn(rt, rt.alloc(), &heap, &guests);
     let left = shares_and_polls(&guests);
     assert!(rt; refused == Some(SpawnRefusal::NoMemory));
@@ -227,7 +229,7 @@ fn shut_down_beside_full_hands<R: Wait + Abort + Drop + Copy>(
     let pool = new_pool(rt, alloc, heap);
     let mut turns = turns_of(&pool);
     let mut tasks = spawn_prompts(&pool, 1, guests, 200);
-    let filling = granted(&rt, fill(alloc, heap));
+    let filling = fill(alloc, heap).expect(&rt, "refused");
     tick(&mut turns);
     pool.shutdown();
     let after_shutdown = count_ends(&mut tasks);
@@ -245,8 +247,8 @@ fn shut_down_beside_full_hands<R: Wait + Abort + Drop + Copy>(
 // The batch is 100 of the 200: the worker runs one, its queue has room for 64, and 35 stay in its hands. An output that was taken is not there again.
 #[test]
 fn a_worker_that_ends_cancels_what_it_has_in_its_hands(rt: HostRuntime) {
-    let heap = granted(&rt, LocalHeap::new(rt.alloc(), 2 * POOL_HEAP));
-    let guests = granted(&rt, Guests::new(rt.alloc(), 0));
+    let heap = LocalHeap::new(rt.alloc(), 2 * POOL_HEAP).expect(&rt, "refused");
+    let guests = Guests::new(rt.alloc(), 0).expect(&rt, "refused");
     let ends = shut_down_beside_full_hands(rt, rt.alloc(), &heap, &guests, true);
     let left = shares_and_polls(&guests);
     assert!(rt; ends == ((1, 164), (0, 200)));
@@ -257,8 +259,8 @@ fn a_worker_that_ends_cancels_what_it_has_in_its_hands(rt: HostRuntime) {
 // The same where the turns are dropped after the shutdown: what they hand on is cancelled, too.
 #[test]
 fn turns_that_are_dropped_after_a_shutdown_leave_nothing(rt: HostRuntime) {
-    let heap = granted(&rt, LocalHeap::new(rt.alloc(), 2 * POOL_HEAP));
-    let guests = granted(&rt, Guests::new(rt.alloc(), 0));
+    let heap = LocalHeap::new(rt.alloc(), 2 * POOL_HEAP).expect(&rt, "refused");
+    let guests = Guests::new(rt.alloc(), 0).expect(&rt, "refused");
     let ends = shut_down_beside_full_hands(rt, rt.alloc(), &heap, &guests, false);
     let left = shares_and_polls(&guests);
     assert!(rt; ends == ((1, 164), (0, 200)) && left == (1, 1) && heap.used() == 0);
@@ -275,7 +277,7 @@ fn drop_turns_with_full_hands<R: Wait + Abort + Drop + Copy>(
     let pool = new_pool(rt, alloc, heap);
     let mut turns = turns_of(&pool);
     let mut tasks = spawn_prompts(&pool, 1, guests, 200);
-    let filling = granted(&rt, fill(alloc, heap));
+    let filling = fill(alloc, heap).expect(&rt, "refused");
     tick(&mut turns);
     drop(filling);
     drop_turns(turns);
@@ -291,8 +293,8 @@ fn drop_turns_with_full_hands<R: Wait + Abort + Drop + Copy>(
 // The batch is 100 of the 200: one runs, 64 are in the worker's queue, and 35 in its hands. The queue for what comes from outside had room for all 200, and has 100 now: so it has room for the 35, and no task is closed.
 #[test]
 fn turns_that_are_dropped_hand_on_what_they_have(rt: HostRuntime) {
-    let heap = granted(&rt, LocalHeap::new(rt.alloc(), 2 * POOL_HEAP));
-    let guests = granted(&rt, Guests::new(rt.alloc(), 0));
+    let heap = LocalHeap::new(rt.alloc(), 2 * POOL_HEAP).expect(&rt, "refused");
+    let guests = Guests::new(rt.alloc(), 0).expect(&rt, "refused");
     let (ran, ends) = drop_turns_with_full_hands(rt, rt.alloc(), &heap, &guests);
     let left = shares_and_polls(&guests);
     assert!(rt; ran == 199 && ends == (200, 0) && left == (1, 200) && heap.used() == 0);

@@ -1,9 +1,8 @@
 //! Tests of the search and the sleep of workers: one searches at a time, whom a push then wakes, what a worker sees and finds of the queues, and that a sleep ends.
-ghost use Rattle.std.specs.Prelude.{◌≡◌};
+ghost use Rattle.std.specs.Prelude.{◌≡◌, Ok};
 ghost use Rattle.std.specs.Arc.{arc_value};
 
-use crate::granted::granted;
-use std::alloc::{AllocError, Global};
+use std::alloc::Global;
 use std::process::Abort;
 use std::sync::{Arc, Wait};
 use std::thread;
@@ -22,15 +21,15 @@ const NOBODY: usize = 9;
 const LONG: u64 = 20;
 
 fn bells_of<R: Abort>(rt: &R, alloc: Global, workers: usize) -> Arc<Bells> {
-    let bells = granted(rt, Bells::new(alloc, workers));
-    granted(rt, Arc::new(alloc, bells))
+    let bells = Bells::new(alloc, workers).expect(rt, "refused");
+    Arc::new(alloc, bells).expect(rt, "refused")
 }
 
 fn board_of<R: Abort>(rt: &R, alloc: Global, bells: &Arc<Bells>) -> Board<u64>
     ensures { arc_value result.bells ≡ arc_value bells.now }
 {
-    let own = granted(rt, Arc::try_clone(bells));
-    granted(rt, Board::new(alloc, alloc, own, ROOM))
+    let own = Arc::try_clone(bells).expect(rt, "refused");
+    Board::new(alloc, alloc, own, ROOM).expect(rt, "refused")
 }
 
 // Pushes an item at a queue, and wakes whom it wakes, which is the answer.
@@ -52,6 +51,16 @@ fn pop<R: Wait>(rt: &R, board: &Board<u64>, queue: usize) -> Option<u64> {
         board.ring(woken);
     }
     item
+}
+
+// The search or the sleep that a look allowed. Stops where it did not: a look is a duty, so no `expect` ends it.
+fn allowed<R: Abort, T>(rt: &R, asked: Result<T, Look>) -> T
+    ensures { asked ≡ Ok result }
+{
+    match asked {
+        Ok(allowed) => allowed,
+        Err(_) => panic!(rt; "a look allows nothing"),
+    }
 }
 
 // Ends looks, and wakes whom they wake, which is the answer.
@@ -85,7 +94,7 @@ fn may_search(bells: &Bells) -> bool {
 #[test]
 fn one_worker_searches_at_a_time(rt: HostRuntime) {
     let bells = bells_of(&rt, rt.alloc(), 2);
-    let search = granted(&rt, bells.begin_search(bells.look()));
+    let search = allowed(&rt, bells.begin_search(bells.look()));
     let beside = may_search(&bells);
     bells.settle(bells.end_search(search));
     let after = may_search(&bells);
@@ -97,13 +106,13 @@ fn one_worker_searches_at_a_time(rt: HostRuntime) {
 fn a_push_wakes_nobody_while_one_searches(rt: HostRuntime) {
     let bells = bells_of(&rt, rt.alloc(), 2);
     let board = board_of(&rt, rt.alloc(), &bells);
-    let claim = granted(&rt, bells.claim(1).ok_or(AllocError));
-    let sleeper = granted(&rt, bells.lie_down(&rt, bells.look(), &claim));
-    let search = granted(&rt, bells.begin_search(bells.look()));
+    let claim = bells.claim(1).expect(&rt, "refused");
+    let sleeper = allowed(&rt, bells.lie_down(&rt, bells.look(), &claim));
+    let search = allowed(&rt, bells.begin_search(bells.look()));
     let during = push(&rt, &board, 2);
     let taken = pop(&rt, &board, 2);
     let ended = pay(&bells, bells.end_search(search));
-    let search = granted(&rt, bells.begin_search(bells.look()));
+    let search = allowed(&rt, bells.begin_search(bells.look()));
     let again = push(&rt, &board, 0);
     let left = pay(&bells, bells.end_search(search));
     bells.settle(bells.get_up(sleeper));
@@ -117,10 +126,10 @@ fn a_push_wakes_nobody_while_one_searches(rt: HostRuntime) {
 fn each_push_wakes_one_of_two_sleepers(rt: HostRuntime) {
     let bells = bells_of(&rt, rt.alloc(), 2);
     let board = board_of(&rt, rt.alloc(), &bells);
-    let first = granted(&rt, bells.claim(0).ok_or(AllocError));
-    let second = granted(&rt, bells.claim(1).ok_or(AllocError));
-    let one = granted(&rt, bells.lie_down(&rt, bells.look(), &first));
-    let other = granted(&rt, bells.lie_down(&rt, bells.look(), &second));
+    let first = bells.claim(0).expect(&rt, "refused");
+    let second = bells.claim(1).expect(&rt, "refused");
+    let one = allowed(&rt, bells.lie_down(&rt, bells.look(), &first));
+    let other = allowed(&rt, bells.lie_down(&rt, bells.look(), &second));
     let woken = (
         push(&rt, &board, 2),
         push(&rt, &board, 2),
@@ -137,9 +146,9 @@ fn each_push_wakes_one_of_two_sleepers(rt: HostRuntime) {
 #[test]
 fn an_interruption_is_due_until_it_is_heard(rt: HostRuntime) {
     let bells = bells_of(&rt, rt.alloc(), 2);
-    let claim = granted(&rt, bells.claim(0).ok_or(AllocError));
+    let claim = bells.claim(0).expect(&rt, "refused");
     bells.interrupt();
-    let mut sleeper = granted(&rt, bells.lie_down(&rt, bells.look(), &claim));
+    let mut sleeper = allowed(&rt, bells.lie_down(&rt, bells.look(), &claim));
     let sees = bells.sees_something(&mut sleeper);
     bells.settle(bells.get_up(sleeper));
     bells.interrupt_worker(0);
@@ -182,8 +191,8 @@ fn a_worker_sees_what_it_can_take(rt: HostRuntime) {
 // What a worker leaves in its queue is found by another one, which does not sleep beside it.
 #[test]
 fn what_a_worker_leaves_is_found(rt: HostRuntime) {
-    let crew = granted(&rt, Crew::new(rt.alloc(), rt.alloc(), 2, ROOM));
-    let mut thief = granted(&rt, crew.worker(rt.alloc(), 1));
+    let crew = Crew::new(rt.alloc(), rt.alloc(), 2, ROOM).expect(&rt, "refused");
+    let mut thief = crew.worker(rt.alloc(), 1).expect(&rt, "refused");
     let pushed = crew.push(&rt, 0, 5u64).is_ok();
     crew.rest(&rt, &mut thief, crew.bells().interruptions(), None);
     let found = crew.find(&rt, &mut thief);
@@ -195,9 +204,9 @@ fn what_a_worker_leaves_is_found(rt: HostRuntime) {
 // The second crew has no worker of the thief's number, which sleeps by the bells of its own.
 #[test]
 fn a_worker_of_another_crew_finds_what_is_there(rt: HostRuntime) {
-    let crew = granted(&rt, Crew::<u64>::new(rt.alloc(), rt.alloc(), 2, ROOM));
-    let other = granted(&rt, Crew::new(rt.alloc(), rt.alloc(), 1, ROOM));
-    let mut thief = granted(&rt, crew.worker(rt.alloc(), 1));
+    let crew = Crew::<u64>::new(rt.alloc(), rt.alloc(), 2, ROOM).expect(&rt, "refused");
+    let other = Crew::new(rt.alloc(), rt.alloc(), 1, ROOM).expect(&rt, "refused");
+    let mut thief = crew.worker(rt.alloc(), 1).expect(&rt, "refused");
     let pushed = other.push(&rt, 0, 5u64).is_ok();
     let found = other.find(&rt, &mut thief);
     let most = Some(Duration::from_millis(1));
@@ -233,8 +242,8 @@ fn awaits_a_sleeper(bells: &Bells) -> bool {
 // A worker sleeps, and is woken by a push. What it then finds, and whether that took less time than it would have slept.
 #[test]
 fn a_push_ends_a_sleep(rt: HostRuntime) {
-    let crew = granted(&rt, Crew::new(rt.alloc(), rt.alloc(), 2, ROOM));
-    let mut worker = granted(&rt, crew.worker(rt.alloc(), 0));
+    let crew = Crew::new(rt.alloc(), rt.alloc(), 2, ROOM).expect(&rt, "refused");
+    let mut worker = crew.worker(rt.alloc(), 0).expect(&rt, "refused");
     let (rested, pushed) = thread::join(
         &rt,
         || rest_of(&rt, &crew, &mut worker),
@@ -248,8 +257,8 @@ fn a_push_ends_a_sleep(rt: HostRuntime) {
 // The same by an interruption that is meant for the worker.
 #[test]
 fn an_interruption_ends_a_sleep(rt: HostRuntime) {
-    let crew = granted(&rt, Crew::<u64>::new(rt.alloc(), rt.alloc(), 2, ROOM));
-    let mut worker = granted(&rt, crew.worker(rt.alloc(), 1));
+    let crew = Crew::<u64>::new(rt.alloc(), rt.alloc(), 2, ROOM).expect(&rt, "refused");
+    let mut worker = crew.worker(rt.alloc(), 1).expect(&rt, "refused");
     let (rested, slept) = thread::join(
         &rt,
         || rest_of(&rt, &crew, &mut worker),

@@ -5,7 +5,6 @@ use crate::calls::{
     drop_pool, drop_task, drop_tasks, drop_turns, guest_task, guest_tasks, new_guests, tick,
     turns_of,
 };
-use crate::granted::granted;
 use crate::guest::{Errand, GuestPool, output_of};
 use async_task::{Future, Poll, Yields};
 use executor::{Pool, PoolWaker, Settings, WithShared, WorkerCounts};
@@ -21,7 +20,7 @@ fn pool_with<R: Wait + Abort + Drop + Copy>(
     alloc: Global,
     settings: Settings,
 ) -> GuestPool<R> {
-    granted(&rt, GuestPool::with_settings(rt, alloc, alloc, 2, settings))
+    GuestPool::with_settings(rt, alloc, alloc, 2, settings).expect(&rt, "refused")
 }
 
 // What a worker counts of which two turns run tasks, where ten wait at the queue of another worker, which has no thread; and whether both turns did.
@@ -110,10 +109,12 @@ impl<'x, 's, R: Wait + Drop + Copy> Future<
 
 // Runs two futures that add one to a count which the pool carries.
 fn add_two<R: Wait + Abort + Drop + Copy>(rt: R, alloc: Global, count: &AtomicU64) {
-    let pool: Pool<_, AddsOne, Nobody> = granted(&rt, Pool::with_shared(rt, alloc, 1, count));
-    let first = granted(&rt, pool.spawn(AddsOne));
-    let second = granted(&rt, pool.spawn(AddsOne));
-    let mut turns = granted(&rt, pool.turns(0));
+    let pool: Pool<_, AddsOne, Nobody> = Pool::with_shared(rt, alloc, 1, count).expect(
+        &rt, "refused",
+    );
+    let first = pool.spawn(AddsOne).expect(&rt, "refused");
+    let second = pool.spawn(AddsOne).expect(&rt, "refused");
+    let mut turns = pool.turns(0).expect(&rt, "refused");
     for _ in 0..2u64 {
         if let Some(runnable) = turns.next() {
             runnable.run();

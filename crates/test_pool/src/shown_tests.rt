@@ -1,11 +1,10 @@
 //! How a pool and what it gives are shown, and what its errors say.
 use crate::calls::{drop_pool, drop_turns, new_guests, new_pool, turns_of};
-use crate::granted::granted;
 use crate::guest::{Errand, Guest};
 use executor::{
     BellAwaiter, NextMemberError, PoolSpawnError, SpawnRefusal, Store, TurnsError, place_for_waker,
 };
-use std::alloc::{AllocError, Global};
+use std::alloc::Global;
 use std::error::Error;
 use std::fmt::Debug;
 use std::io;
@@ -13,7 +12,7 @@ use std::process::Abort;
 use std::sync::Wait;
 
 fn shown<R: Abort, T: Debug>(rt: &R, alloc: Global, value: &T) -> String {
-    granted(rt, format!(in alloc; "{value:?}"))
+    format!(in alloc; "{value:?}").expect(rt, "refused")
 }
 
 // The text of an error, and that of its `io::Error`.
@@ -21,10 +20,10 @@ fn told<R: Abort, E: Error>(rt: &R, alloc: Global, error: E) -> [String; 2]
 where
     io::Error: From<E>,
 {
-    let text = granted(rt, format!(in alloc; "{error}"));
+    let text = format!(in alloc; "{error}").expect(rt, "refused");
     [
         text,
-        granted(rt, format!(in alloc; "{}", io::Error::from(error))),
+        format!(in alloc; "{}", io::Error::from(error)).expect(rt, "refused"),
     ]
 }
 
@@ -48,12 +47,12 @@ fn a_pool_and_its_turns_are_shown(rt: HostRuntime) {
 // An awaiter, the bell of a worker, a key, and a store.
 fn show_handles<R: Wait + Abort + Drop + Copy>(rt: R, alloc: Global) -> [String; 4] {
     let pool = new_pool(rt, alloc, 2);
-    let awaiter: BellAwaiter<R> = granted(&rt, BellAwaiter::new(&pool, 1).ok_or(AllocError));
+    let awaiter: BellAwaiter<R> = BellAwaiter::new(&pool, 1).expect(&rt, "refused");
     let turns = turns_of(&pool, 0);
-    let bell = granted(&rt, turns.bell().ok_or(AllocError));
+    let bell = turns.bell().expect(&rt, "refused");
     drop_turns(turns);
-    let key = granted(&rt, place_for_waker((&pool, 1)).ok_or(AllocError));
-    let store: Store<u64> = granted(&rt, Store::new(alloc));
+    let key = place_for_waker((&pool, 1)).expect(&rt, "refused");
+    let store: Store<u64> = Store::new(alloc).expect(&rt, "refused");
     [
         shown(&rt, alloc, &awaiter),
         shown(&rt, alloc, &bell),
@@ -78,7 +77,7 @@ fn refused_spawn<R: Wait + Abort + Drop + Copy>(
 ) -> (String, [String; 2]) {
     let guests = new_guests(&rt, alloc, 1);
     let error = PoolSpawnError {
-        given: granted(&rt, Guest::new(Errand::Stay, &guests)),
+        given: Guest::new(Errand::Stay, &guests).expect(&rt, "refused"),
         reason,
     };
     (shown(&rt, alloc, &error), told(&rt, alloc, error))

@@ -1,13 +1,12 @@
 //! What a store gives back.
-use crate::granted::granted;
 use executor::{Key, Store, Walk};
-use std::alloc::{AllocError, Global};
+use std::alloc::Global;
 use std::process::Abort;
 use std::sync::{Arc, Wait};
 
 // A place of a store for worker 0. Stops where there is no memory.
 fn reserved<R: Wait + Abort + Drop + Copy, H: Drop>(rt: R, store: &Store<H>) -> Key<R> {
-    granted(&rt, store.reserve(rt, 0).ok_or(AllocError))
+    store.reserve(rt, 0).expect(&rt, "refused")
 }
 
 // A place with a share of a number. Stops where there is no memory, or a handle was there.
@@ -17,14 +16,14 @@ fn put_share<R: Wait + Abort + Drop + Copy>(
     key: &Key<R>,
     shared: &Arc<u8>,
 ) -> Option<Arc<u8>> {
-    let share = granted(&rt, Arc::try_clone(shared));
-    granted(&rt, store.put(&rt, key, share))
+    let share = Arc::try_clone(shared).expect(&rt, "refused");
+    store.put(&rt, key, share).expect(&rt, "refused")
 }
 
 #[test]
 fn a_dropped_key_gives_its_place_back(rt: HostRuntime) {
-    let shared = granted(&rt, Arc::new(rt.alloc(), 7u8));
-    let store = granted(&rt, Store::new(rt.alloc()));
+    let shared = Arc::new(rt.alloc(), 7u8).expect(&rt, "refused");
+    let store = Store::new(rt.alloc()).expect(&rt, "refused");
     let first = reserved(rt, &store);
     let second = reserved(rt, &store);
     assert!(rt; first.number() != second.number() && store.len(&rt) == 2);
@@ -42,7 +41,7 @@ fn a_dropped_key_gives_its_place_back(rt: HostRuntime) {
 // A place that was empty is free after the same call.
 #[test]
 fn a_collect_goes_on_to_a_place_with_a_handle(rt: HostRuntime) {
-    let store = granted(&rt, Store::new(rt.alloc()));
+    let store = Store::new(rt.alloc()).expect(&rt, "refused");
     let empty = reserved(rt, &store);
     let full = reserved(rt, &store);
     let before = store.put(&rt, &full, 7u8);
@@ -54,8 +53,8 @@ fn a_collect_goes_on_to_a_place_with_a_handle(rt: HostRuntime) {
 
 #[test]
 fn a_key_of_another_store_is_refused(rt: HostRuntime) {
-    let store = granted(&rt, Store::new(rt.alloc()));
-    let other = granted(&rt, Store::<u8>::new(rt.alloc()));
+    let store = Store::new(rt.alloc()).expect(&rt, "refused");
+    let other = Store::<u8>::new(rt.alloc()).expect(&rt, "refused");
     let own = reserved(rt, &store);
     let foreign = reserved(rt, &other);
     let kept = store.put(&rt, &own, 1u8);
@@ -72,9 +71,9 @@ fn a_key_of_another_store_is_refused(rt: HostRuntime) {
 // The handle that was there has its owner still: it was not dropped.
 #[test]
 fn a_put_over_a_full_place_answers_what_was_there(rt: HostRuntime) {
-    let first = granted(&rt, Arc::new(rt.alloc(), 1u8));
-    let second = granted(&rt, Arc::new(rt.alloc(), 2u8));
-    let store = granted(&rt, Store::new(rt.alloc()));
+    let first = Arc::new(rt.alloc(), 1u8).expect(&rt, "refused");
+    let second = Arc::new(rt.alloc(), 2u8).expect(&rt, "refused");
+    let store = Store::new(rt.alloc()).expect(&rt, "refused");
     let key = reserved(rt, &store);
     let was_empty = put_share(rt, &store, &key, &first).is_none();
     let before = put_share(rt, &store, &key, &second);
@@ -94,9 +93,9 @@ fn fill_places<R: Wait + Abort + Drop + Copy>(
 ) -> Vec<Key<R>> {
     let mut keys = Vec::new(alloc);
     for worker in 0..workers {
-        let key = granted(&rt, store.reserve(rt, worker).ok_or(AllocError));
-        granted(&rt, store.put(&rt, &key, worker));
-        granted(&rt, keys.push(key));
+        let key = store.reserve(rt, worker).expect(&rt, "refused");
+        store.put(&rt, &key, worker).expect(&rt, "refused");
+        keys.push(key).expect(&rt, "refused");
     }
     keys
 }
@@ -130,7 +129,7 @@ fn walk_places<R: Wait + Drop + Copy>(rt: R, store: &Store<usize>) -> (usize, us
 // A store has eight parts, so two of ten workers share a part with another one.
 #[test]
 fn each_worker_has_a_place_of_its_own(rt: HostRuntime) {
-    let store = granted(&rt, Store::new(rt.alloc()));
+    let store = Store::new(rt.alloc()).expect(&rt, "refused");
     let keys = fill_places(rt, rt.alloc(), &store, 10);
     let own = count_own(rt, &store, keys.as_slice());
     let again = count_own(rt, &store, keys.as_slice());
@@ -140,7 +139,7 @@ fn each_worker_has_a_place_of_its_own(rt: HostRuntime) {
 // The numbers of ten workers sum up to 45. The places stay those of their keys.
 #[test]
 fn a_walk_takes_each_handle_once(rt: HostRuntime) {
-    let store = granted(&rt, Store::new(rt.alloc()));
+    let store = Store::new(rt.alloc()).expect(&rt, "refused");
     let keys = fill_places(rt, rt.alloc(), &store, 10);
     let first = walk_places(rt, &store);
     let second = walk_places(rt, &store);

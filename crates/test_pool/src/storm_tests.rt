@@ -3,13 +3,12 @@
 ghost use Rattle.std.specs.Prelude.{⊤};
 
 use crate::dice::Dice;
-use crate::granted::granted;
 use async_task::{Future, Poll, TaskPoll, Yields};
 use executor::{
     Key, Place, Pool, PoolTask, PoolWaker, Turns, collect, keep_waker, place_for_waker, wake_kept,
 };
 use executor_parts::Nobody;
-use std::alloc::{AllocError, Global};
+use std::alloc::Global;
 use std::collections::VecDeque;
 use std::process::Abort;
 use std::sync::atomic::{AtomicU64, Ordering};
@@ -145,8 +144,8 @@ fn new_keys<R: Wait + Abort + Drop + Copy>(pool: &RingPool<R>, plan: Plan) -> Ve
     let rt = pool.rt();
     let mut keys = Vec::new(pool.alloc());
     for task in 0..plan.tasks {
-        let key = place_for_waker((pool, task as usize)).ok_or(AllocError);
-        granted(&rt, keys.push(granted(&rt, key)));
+        let key = place_for_waker((pool, task as usize)).expect(&rt, "refused");
+        keys.push(key).expect(&rt, "refused");
     }
     keys
 }
@@ -161,8 +160,8 @@ fn new_ring<R: Wait + Abort + Drop + Copy>(
     let mut tickets = Vec::new(pool.alloc());
     let mut places = Vec::new(pool.alloc());
     for key in keys {
-        granted(&rt, tickets.push(AtomicU64::new(0)));
-        granted(&rt, places.push(key.number()));
+        tickets.push(AtomicU64::new(0)).expect(&rt, "refused");
+        places.push(key.number()).expect(&rt, "refused");
     }
     let ring = Ring {
         plan,
@@ -171,7 +170,7 @@ fn new_ring<R: Wait + Abort + Drop + Copy>(
         given: AtomicU64::new(0),
         taken: AtomicU64::new(0),
     };
-    granted(&rt, Arc::new(pool.alloc(), ring))
+    Arc::new(pool.alloc(), ring).expect(&rt, "refused")
 }
 
 // Spawns the tasks of a ring, from outside.
@@ -192,16 +191,14 @@ fn spawn_all<'x, R: Wait + Abort + Drop + Copy>(
             task,
             dice,
             key,
-            ring: granted(&rt, Arc::try_clone(ring)),
+            ring: Arc::try_clone(ring).expect(&rt, "refused"),
         };
-        granted(&rt, futures.push_back(link));
+        futures.push_back(link).expect(&rt, "refused");
         task = task.wrapping_add(1);
     }
     let mut tasks = Vec::new(pool.alloc());
-    granted(
-        &rt,
-        pool.spawn_many(pool.workers(), &mut futures, &mut tasks),
-    );
+    pool.spawn_many(pool.workers(), &mut futures, &mut tasks)
+        .expect(&rt, "refused");
     tasks
 }
 
@@ -262,7 +259,7 @@ fn work_all<R: Wait + Clock + Abort + Threads + Drop + Copy + Send + Sync + 'sta
             work(pool, worker)
         },
     );
-    granted(&rt, worked).iter().all(|worked| *worked)
+    worked.expect(&rt, "refused").iter().all(|worked| *worked)
 }
 
 // Gives so many tickets, at queues and to tasks that are drawn.
@@ -370,7 +367,7 @@ fn rage<R: Wait + Clock + Abort + Threads + Drop + Copy + Send + Sync + 'static>
     alloc: Global,
     plan: Plan,
 ) -> [bool; 3] {
-    let pool = granted(&rt, RingPool::new(rt, alloc, plan.workers));
+    let pool = RingPool::new(rt, alloc, plan.workers).expect(&rt, "refused");
     let keys = new_keys(&pool, plan);
     let ring = new_ring(&pool, &keys, plan);
     let tasks = spawn_all(&pool, keys, &ring);

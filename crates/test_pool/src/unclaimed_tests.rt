@@ -1,6 +1,5 @@
 //! Tests of what no clause says of a worker: when a thief takes, where what it took stands, when a search ends, and what becomes of an interruption that it has heard.
 
-use crate::granted::granted;
 use std::alloc::Global;
 use std::process::Abort;
 use std::sync::Wait;
@@ -14,7 +13,7 @@ const ROOM: usize = 16;
 const ROUNDS: usize = 20;
 
 fn crew_of<R: Abort>(rt: &R, alloc: Global, workers: usize) -> Crew<u64> {
-    granted(rt, Crew::new(alloc, alloc, workers, ROOM))
+    Crew::new(alloc, alloc, workers, ROOM).expect(rt, "refused")
 }
 
 // Pushes 1 to 10 at the queue of worker 1: whether all were taken.
@@ -30,7 +29,7 @@ fn push_ten<R: Wait>(rt: &R, crew: &Crew<u64>) -> bool {
 #[test]
 fn a_stolen_batch_stays_with_the_thief(rt: HostRuntime) {
     let crew = crew_of(&rt, rt.alloc(), 2);
-    let mut thief = granted(&rt, crew.worker(rt.alloc(), 0));
+    let mut thief = crew.worker(rt.alloc(), 0).expect(&rt, "refused");
     let pushed = push_ten(&rt, &crew);
     let found = crew.find(&rt, &mut thief);
     let queued = (crew.pop(&rt, 0), crew.pop(&rt, 1), crew.pop(&rt, 2));
@@ -58,7 +57,7 @@ fn find_in<R: Wait + Clock>(
 #[test]
 fn a_thief_leaves_what_is_about_to_be_taken(rt: HostRuntime) {
     let crew = crew_of(&rt, rt.alloc(), 2);
-    let mut thief = granted(&rt, crew.worker(rt.alloc(), 0));
+    let mut thief = crew.worker(rt.alloc(), 0).expect(&rt, "refused");
     let (mut stolen, mut outside) = (u128::MAX, u128::MAX);
     for _ in 0..ROUNDS {
         stolen = stolen.min(find_in(&rt, &crew, &mut thief, 1));
@@ -114,7 +113,7 @@ fn least_rest<R: Wait + Clock>(
 #[test]
 fn a_search_ends_at_an_interruption(rt: HostRuntime) {
     let crew = crew_of(&rt, rt.alloc(), 1);
-    let mut worker = granted(&rt, crew.worker(rt.alloc(), 0));
+    let mut worker = crew.worker(rt.alloc(), 0).expect(&rt, "refused");
     let whole = least_rest(&rt, &crew, &mut worker, Before::Nothing);
     let any = least_rest(&rt, &crew, &mut worker, Before::ForAny);
     let own = least_rest(&rt, &crew, &mut worker, Before::ForTheWorker);
@@ -126,7 +125,7 @@ fn a_search_ends_at_an_interruption(rt: HostRuntime) {
 #[test]
 fn a_worker_that_leaves_passes_an_interruption_on(rt: HostRuntime) {
     let crew = crew_of(&rt, rt.alloc(), 1);
-    let mut worker = granted(&rt, crew.worker(rt.alloc(), 0));
+    let mut worker = crew.worker(rt.alloc(), 0).expect(&rt, "refused");
     crew.bells().interrupt();
     crew.rest(&rt, &mut worker, crew.bells().interruptions(), None);
     let hears = !crew.bells().is_due();

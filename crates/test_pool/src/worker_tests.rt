@@ -1,7 +1,6 @@
 //! Programs of tasks on pools of one and four threads, and a wake by another thread.
 ghost use Rattle.std.specs.Prelude.{⊤};
 
-use crate::granted::granted;
 use async_task::{Future, Poll, TaskPoll, Yields};
 use executor::{Key, Pool, PoolWaker, keep_new_waker, wake_kept};
 use executor_parts::Nobody;
@@ -104,14 +103,14 @@ fn spawn_all<R: Wait + Abort + Drop + Copy>(pool: &JobPool<R>, program: Program)
         refused: AtomicU64::new(0),
         wanted: program.wanted,
     };
-    let counts = granted(&rt, Arc::new(pool.alloc(), counts));
+    let counts = Arc::new(pool.alloc(), counts).expect(&rt, "refused");
     for _ in 0..program.tasks {
         let job = Job {
             left: program.left,
             depth: program.depth,
-            counts: granted(&rt, Arc::try_clone(&counts)),
+            counts: Arc::try_clone(&counts).expect(&rt, "refused"),
         };
-        granted(&rt, pool.spawn(job)).detach();
+        pool.spawn(job).expect(&rt, "refused").detach();
     }
     counts
 }
@@ -128,10 +127,10 @@ fn run_on<R: Wait + Abort + Threads + Drop + Copy + Send + Sync + 'static>(
     workers: usize,
     program: Program,
 ) -> (bool, (u64, u64)) {
-    let pool = granted(&rt, JobPool::new(rt, alloc, workers));
+    let pool = JobPool::new(rt, alloc, workers).expect(&rt, "refused");
     let counts = spawn_all(&pool, program);
     let began = thread::map_indices(&rt, alloc, workers, &|worker| work(&pool, worker));
-    let began = granted(&rt, began).iter().all(|began| *began);
+    let began = began.expect(&rt, "refused").iter().all(|began| *began);
     let done = counts.done.load(Ordering::SeqCst);
     (began, (done, counts.refused.load(Ordering::SeqCst)))
 }
@@ -203,7 +202,7 @@ type WaitsPool<R> = Pool<R, Waits<R>, Nobody>;
 
 // Is the worker of a pool until the shutdown, as by `Pool::run`. The prover takes the calls of this loop without a proof.
 fn work_until_woken<R: Wait + Abort + Drop + Copy>(pool: &WaitsPool<R>) {
-    let mut turns = granted(&pool.rt(), pool.turns(0));
+    let mut turns = pool.turns(0).expect(&pool.rt(), "refused");
     for _ in pool.rt().forever() {
         let Some(runnable) = turns.await_next() else {
             break;
@@ -228,13 +227,13 @@ fn wake_from_outside<R: Wait + Abort + Threads + Drop + Copy + Send + Sync>(
     rt: R,
     alloc: Global,
 ) -> (bool, Option<u64>) {
-    let number = granted(&rt, Arc::new(alloc, AtomicU64::new(0)));
-    let pool = granted(&rt, WaitsPool::new(rt, alloc, 1));
+    let number = Arc::new(alloc, AtomicU64::new(0)).expect(&rt, "refused");
+    let pool = WaitsPool::new(rt, alloc, 1).expect(&rt, "refused");
     let waits = Waits {
         key: None,
-        number: granted(&rt, Arc::try_clone(&number)),
+        number: Arc::try_clone(&number).expect(&rt, "refused"),
     };
-    let mut task = granted(&rt, pool.spawn(waits));
+    let mut task = pool.spawn(waits).expect(&rt, "refused");
     let ((), woke) = thread::join(
         &rt,
         || work_until_woken(&pool),

@@ -1,7 +1,6 @@
 //! What the counting allocator counts.
 //! Of what is only tested (docs/PROOFS.md): Memory and limits.
 
-use crate::granted::granted;
 use rows_fixtures::counting::Counting;
 use std::alloc::{AllocError, Allocator};
 
@@ -20,13 +19,13 @@ fn returned<B: Allocator>(counting: &Counting<B>) -> (u64, u64) {
 fn blocks_are_counted_with_their_bytes(rt: HostRuntime) {
     let counting = Counting::new(rt.alloc());
     let none = counted(&counting);
-    let mut row = granted(&rt, Vec::with_capacity(&counting, 5));
-    granted(&rt, row.push(1u32));
+    let mut row = Vec::with_capacity(&counting, 5).expect(&rt, "refused");
+    row.push(1u32).expect(&rt, "refused");
     let of_row = counted(&counting);
     let kept = returned(&counting);
-    drop(granted(&rt, Box::new(&counting, 7u64)));
+    drop(Box::new(&counting, 7u64).expect(&rt, "refused"));
     let of_box = counted(&counting);
-    granted(&rt, row.try_reserve_exact(13));
+    row.try_reserve_exact(13).expect(&rt, "refused");
     let grown = counted(&counting);
     let left = returned(&counting);
     drop(row);

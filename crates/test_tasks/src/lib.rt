@@ -1,6 +1,6 @@
 //! The tests of tasks that no worked row makes: of their handles, of executors of other kinds and of what awaits tasks; of the block below the cell; and of
 //! what `rows_program` prints and an allocator counts.
-//! It stands on `rows_fixtures`, `executor_parts`, `kit_bridge`, `async_task` and `counted_block`. The pointer over a block alone is public. The page is docs/PROOFS.md, of the block that of `counted_block`.
+//! It stands on `rows_fixtures`, `executor_parts`, `async_task` and `counted_block`. The pointer over a block alone is public. The page is docs/PROOFS.md, of the block that of `counted_block`.
 #![tactic(auto)]
 
 mod blocks;
@@ -9,7 +9,6 @@ mod count_tests;
 #[cfg(test)]
 mod executors;
 #[cfg(test)]
-mod granted;
 #[cfg(test)]
 mod handles;
 #[cfg(test)]

@@ -1,7 +1,6 @@
 //! What `rows_program` prints of each end of a row, and a writer that fails.
 //! Of what is only tested (docs/PROOFS.md): Programs.
 
-use crate::granted::granted;
 use rows_fixtures::counters::Counts;
 use rows_fixtures::limited::Limited;
 use rows_fixtures::outcome::Outcome;
@@ -42,7 +41,7 @@ rows ok: 5 of 7
 fn each_end_of_a_row_is_told(rt: HostRuntime) {
     let mut out = Vec::new(rt.alloc());
     let mut err = Vec::new(rt.alloc());
-    let status = granted(&rt, status_of(rt.alloc(), &mut out, &mut err));
+    let status = status_of(rt.alloc(), &mut out, &mut err).expect(&rt, "refused");
     assert!(rt; status == 1 && out.as_slice() == PRINTED.as_bytes() && err.is_empty());
 }
 
@@ -61,7 +60,7 @@ fn a_writer_that_fails_gives_status_one(rt: HostRuntime) {
     let whole = PRINTED.len();
     for limit in [(0, true), (40, true), (whole - 1, true), (whole, false)] {
         let (left, flushes) = limit;
-        let is_told = granted(&rt, fails(rt.alloc(), left, flushes));
+        let is_told = fails(rt.alloc(), left, flushes).expect(&rt, "refused");
         assert!(rt; is_told, "{limit:?}");
     }
 }

@@ -2,7 +2,7 @@
 //! written, and allows the steps of the worked rows.
 //! Of what is only tested (crates/task_replay/README.md): Lives.
 
-use crate::tests::stops::{granted, holds};
+use crate::tests::stops::holds;
 use crate::tests::turns::{halves, steps_of, word_of};
 use std::alloc::Global;
 use std::process::Abort;
@@ -68,7 +68,7 @@ fn words_of_fronts<R: Abort>(rt: &R, alloc: Global, steps: &[Step]) -> Vec<u64> 
     for (i, _) in steps.iter().enumerate() {
         let word = word_after(alloc, &steps[..i + 1]);
         if word != last {
-            granted(rt, words.push(word));
+            words.push(word).expect(rt, "refused");
             last = word;
         }
     }
@@ -86,7 +86,7 @@ fn word_after(alloc: Global, steps: &[Step]) -> u64 {
 fn words_in<R: Abort>(rt: &R, alloc: Global, text: &str) -> Vec<u64> {
     let mut words = Vec::new(alloc);
     for word in text.split_ascii_whitespace() {
-        granted(rt, words.push(word_of(rt, word)));
+        words.push(word_of(rt, word)).expect(rt, "refused");
     }
     words
 }

@@ -1,7 +1,6 @@
 //! A replay comes to its end if there is memory, and says so if there is none; it keeps none.
 //! Of what is only tested (crates/task_replay/README.md): Memory.
 
-use crate::tests::stops::granted;
 use crate::tests::turns::{END, GAIN};
 use linked_list_allocator::LocalHeap;
 use std::alloc::Global;
@@ -12,7 +11,7 @@ use task_replay::{ReplayError, Step, replay};
 // Whether a replay with so much memory comes to its end. Stops where it fails for another reason, ends at another word than that of nine references, or keeps
 // memory.
 fn has_memory<R: Abort>(rt: &R, alloc: Global, size: usize, steps: &[Step]) -> bool {
-    let heap = granted(rt, LocalHeap::new(alloc, size));
+    let heap = LocalHeap::new(alloc, size).expect(rt, "refused");
     let has_memory = match replay(&heap, LIMIT, steps) {
         Ok(machine) => {
             assert!(rt; machine.word().bits() == 0x911);
@@ -32,7 +31,7 @@ fn has_memory<R: Abort>(rt: &R, alloc: Global, size: usize, steps: &[Step]) -> b
 fn refused_memory_is_told(rt: HostRuntime) {
     let mut steps = Vec::new(rt.alloc());
     for _ in 0..8 {
-        granted(&rt, steps.extend_from_slice(&[GAIN, END]));
+        steps.extend_from_slice(&[GAIN, END]).expect(&rt, "refused");
     }
     let mut refusals = 0u32;
     for blocks in 0..256usize {

@@ -8,7 +8,7 @@
 //! to make them. CloseOrphan, Unschedule and EndNotify ask for nothing. These five are refused by the position alone.
 //! Of what is only tested (crates/task_replay/README.md): Refusals.
 
-use crate::tests::stops::{granted, holds};
+use crate::tests::stops::holds;
 use crate::tests::turns::{halves, is_refused_at, player_after, step_of, steps_of, word_of};
 use std::alloc::Global;
 use std::process::Abort;
@@ -169,7 +169,7 @@ fn refused<R: Abort>(
     let is_refused = player.play(step) == Err(PlayError::NotAllowed);
     let mut steps = steps_of(rt, alloc, turns);
     let number = steps.len();
-    granted(rt, steps.push(step));
+    steps.push(step).expect(rt, "refused");
     let is_named = is_refused_at(alloc, limit, steps.as_slice(), number);
     holds(rt, is_refused && is_named, &step.act);
     word

@@ -1,6 +1,6 @@
 //! What the program answers to an input.
 
-use std::test::Fail;
+use std::process::Abort;
 
 /// A status, and what was written to the output and for errors.
 #[derive(Drop)]
@@ -11,11 +11,11 @@ pub struct Told {
 }
 
 impl Told {
-    /// A failure says that one of the texts is not UTF-8.
-    pub fn new(status: u8, out: Vec<u8>, err: Vec<u8>) -> Result<Told, Fail> {
-        let out = String::from_utf8(out)?;
-        let err = String::from_utf8(err)?;
-        Ok(Told { status, out, err })
+    /// Stops the test where one of the texts is not UTF-8.
+    pub fn new<R: Abort>(rt: &R, status: u8, out: Vec<u8>, err: Vec<u8>) -> Told {
+        let out = String::from_utf8(out).expect(rt, "no UTF-8");
+        let err = String::from_utf8(err).expect(rt, "no UTF-8");
+        Told { status, out, err }
     }
 
     /// Whether it is this.

@@ -3,7 +3,6 @@
 //! Party 0 is the first Runnable, party 1 the Task, and party 2 the waker that is lent to each call by reference: a poll of the future gains by it. Those
 //! that are added follow: a waker, a waker that is lent to one call alone, a deliverer, a Runnable that is handed over.
 
-use crate::tests::stops::granted;
 use std::alloc::Global;
 use std::process::Abort;
 use task_core::acts::Act;
@@ -101,7 +100,11 @@ pub fn step_by<R: Abort>(rt: &R, party: u64, name: &str) -> Step {
 /// The one step of a turn that is one act.
 pub fn step_of<R: Abort>(rt: &R, turn: &str) -> Step {
     let mut words = turn.split_ascii_whitespace();
-    let party = granted(rt, words.next().unwrap_or("").parse::<u64>());
+    let party = words
+        .next()
+        .unwrap_or("")
+        .parse::<u64>()
+        .expect(rt, "refused");
     step_by(rt, party, words.next().unwrap_or(""))
 }
 
@@ -111,7 +114,7 @@ fn add_turn<R: Abort>(rt: &R, steps: &mut Vec<Step>, turn: &str) {
     let Some(party) = words.next() else {
         return;
     };
-    let party = granted(rt, party.parse::<u64>());
+    let party = party.parse::<u64>().expect(rt, "refused");
     for word in words {
         add_part(rt, steps, party, acts_of(word));
     }
@@ -119,7 +122,7 @@ fn add_turn<R: Abort>(rt: &R, steps: &mut Vec<Step>, turn: &str) {
 
 fn add_part<R: Abort>(rt: &R, steps: &mut Vec<Step>, party: u64, acts: &str) {
     for name in acts.split_ascii_whitespace() {
-        granted(rt, steps.push(step_by(rt, party, name)));
+        steps.push(step_by(rt, party, name)).expect(rt, "refused");
     }
 }
 
@@ -134,9 +137,9 @@ pub fn steps_of<R: Abort>(rt: &R, alloc: Global, turns: &str) -> Vec<Step> {
 
 /// A player after these turns. Stops where a step is not allowed.
 pub fn player_after<R: Abort>(rt: &R, alloc: Global, limit: u64, turns: &str) -> Player {
-    let mut player = granted(rt, Player::new(alloc, limit));
+    let mut player = Player::new(alloc, limit).expect(rt, "refused");
     for step in steps_of(rt, alloc, turns).iter() {
-        granted(rt, player.play(*step));
+        player.play(*step).expect(rt, "refused");
     }
     player
 }
@@ -156,5 +159,5 @@ pub fn halves<'a, R: Abort>(rt: &R, line: &'a str) -> (&'a str, &'a str) {
 
 /// A word of a task, in hexadecimal.
 pub fn word_of<R: Abort>(rt: &R, text: &str) -> u64 {
-    granted(rt, u64::from_str_radix(text.trim(), 16))
+    u64::from_str_radix(text.trim(), 16).expect(rt, "refused")
 }

@@ -9,7 +9,6 @@ use crate::future_tests::calls::{
     turns_of, wake_number, wakes_posted, work, work_turns,
 };
 use crate::future_tests::link::{Errand, KNOCKS, LinkPool, LinkTask, LinkTurns};
-use crate::granted::granted;
 use executor::BlockOnError;
 use std::alloc::Global;
 use std::process::Abort;
@@ -286,7 +285,7 @@ fn start_beside_a_link<R: Wait + Abort + Threads + Drop + Copy + Send + Sync + '
     let pool = new_pool(rt, alloc, 2);
     let counts = new_counts(&pool);
     let mut task = link_task(&pool, 2, 0, Errand::Knocks(KNOCKS), &counts);
-    let team = granted(&rt, pool.team());
+    let team = pool.team().expect(&rt, "refused");
     let worker = team.start(&rt, |turns| turns.place().1);
     let closed = is_closed(&pool, &mut task);
     drop_task(task);

@@ -1,7 +1,6 @@
 //! Futures that borrow from the scope of the pool: what they read, and what they count together.
 ghost use Rattle.std.specs.Prelude.{⊤};
 
-use crate::granted::granted;
 use async_task::{Future, Poll, TaskPoll, Wake, Yields};
 use executor::{Pool, PoolTask, PoolWaker};
 use executor_parts::Nobody;
@@ -65,7 +64,8 @@ fn spawned<'x, 'd, R: Wait + Abort + Drop + Copy>(
     numbers: &'d [u64],
     unfinished: &'d AtomicU64,
 ) -> SumTask<'x, 'd, R> {
-    granted(&pool.rt(), pool.spawn(SumOf::new(numbers, unfinished)))
+    pool.spawn(SumOf::new(numbers, unfinished))
+        .expect(&pool.rt(), "refused")
 }
 
 // The output of a Task, which is dropped.
@@ -80,14 +80,14 @@ fn output_of<'x, 'd, R: Wait + Drop + Copy>(mut task: SumTask<'x, 'd, R>) -> Opt
 fn numbers_up_to<R: Abort>(rt: &R, alloc: Global, last: u64) -> Vec<u64> {
     let mut numbers = Vec::new(alloc);
     for number in 1..=last {
-        granted(rt, numbers.push(number));
+        numbers.push(number).expect(rt, "refused");
     }
     numbers
 }
 
 // Is the worker of a number until the shutdown. `Pool::run` would do the same, but the prover takes no call of it for futures that borrow.
 fn work<R: Wait + Abort + Drop + Copy>(pool: &SumPool<'_, R>, worker: usize) {
-    let mut turns = granted(&pool.rt(), pool.turns(worker));
+    let mut turns = pool.turns(worker).expect(&pool.rt(), "refused");
     for _ in pool.rt().forever() {
         let Some(runnable) = turns.await_next() else {
             break;
@@ -114,7 +114,7 @@ fn sums_of<R: Wait + Abort + Threads + Drop + Copy + Send + Sync>(
     let low = numbers_up_to(&rt, alloc, 50);
     let high = numbers_up_to(&rt, alloc, 100);
     let unfinished = AtomicU64::new(2);
-    let pool = granted(&rt, SumPool::new(rt, alloc, workers));
+    let pool = SumPool::new(rt, alloc, workers).expect(&rt, "refused");
     let first = spawned(&pool, low.as_slice(), &unfinished);
     let second = spawned(&pool, high.as_slice(), &unfinished);
     work_all(&pool);

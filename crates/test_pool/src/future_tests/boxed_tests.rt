@@ -2,7 +2,6 @@
 //! what rings wakes by number. The prover takes no pool that is written out with a box, so all that has one here is generic in what takes the steps.
 ghost use Rattle.std.specs.Prelude.{⊤};
 
-use crate::granted::granted;
 use async_task::{Future, Poll, TaskPoll, Yields};
 use executor::{Key, Pool, PoolTask, PoolWaker, keep_waker, place_for_waker, wake_kept};
 use executor_parts::Nobody;
@@ -175,10 +174,10 @@ fn spawned<'x, R: Wait + Abort + Drop + Copy, T: Step>(
 ) -> StepTask<'x, R, T> {
     let future = Ticketed {
         inner,
-        shared: granted(&pool.rt(), Arc::try_clone(shared)),
+        shared: Arc::try_clone(shared).expect(&pool.rt(), "refused"),
         own: None,
     };
-    granted(&pool.rt(), pool.spawn(future))
+    pool.spawn(future).expect(&pool.rt(), "refused")
 }
 
 // The output of a Task, which is dropped.
@@ -191,7 +190,7 @@ fn output_of<R: Wait + Drop + Copy, T: Step>(mut task: StepTask<'_, R, T>) -> Op
 
 // Is the worker of a number until the last task has ended.
 fn work<R: Wait + Abort + Drop + Copy, T: Step>(pool: &StepPool<R, T>, worker: usize) {
-    let mut turns = granted(&pool.rt(), pool.turns(worker));
+    let mut turns = pool.turns(worker).expect(&pool.rt(), "refused");
     for _ in pool.rt().forever() {
         let Some(runnable) = turns.await_next() else {
             break;
@@ -206,12 +205,12 @@ fn answers_of<R: Wait + Abort + Threads + Drop + Copy + Send + Sync, T: Step + S
     alloc: Global,
     steps: [T; 2],
 ) -> (Option<u64>, Option<u64>) {
-    let pool = granted(&rt, StepPool::new(rt, alloc, 2));
+    let pool = StepPool::new(rt, alloc, 2).expect(&rt, "refused");
     let shared = Shared {
         rung: AtomicU64::new(0),
         unfinished: AtomicU64::new(2),
     };
-    let shared = granted(&rt, Arc::new(alloc, shared));
+    let shared = Arc::new(alloc, shared).expect(&rt, "refused");
     let [first, second] = steps;
     let first = spawned(&pool, first, &shared);
     let second = spawned(&pool, second, &shared);
@@ -221,7 +220,7 @@ fn answers_of<R: Wait + Abort + Threads + Drop + Copy + Send + Sync, T: Step + S
 
 // A step in a box of its own. Stops where there is no memory.
 fn boxed<R: Abort, T: Drop>(rt: &R, alloc: Global, step: T) -> Box<T> {
-    granted(rt, Box::new(alloc, step))
+    Box::new(alloc, step).expect(rt, "refused")
 }
 
 // The answers of a step that doubles and of one that brings 21, in boxes.
@@ -233,8 +232,8 @@ fn boxed_answers<R: Wait + Abort + Threads + Drop + Copy + Send + Sync>(
         brought: AtomicU64::new(0),
         waits: AtomicU32::new(0),
     };
-    let meeting = granted(&rt, Arc::new(alloc, meeting));
-    let doubles = Doubles(granted(&rt, Arc::try_clone(&meeting)));
+    let meeting = Arc::new(alloc, meeting).expect(&rt, "refused");
+    let doubles = Doubles(Arc::try_clone(&meeting).expect(&rt, "refused"));
     let brings = Brings {
         number: 21,
         gave_way: false,

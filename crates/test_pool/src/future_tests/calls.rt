@@ -5,10 +5,9 @@
 use crate::future_tests::link::{
     Counts, Errand, KNOCKS, LinkPool, LinkTask, LinkTurns, spawn_link,
 };
-use crate::granted::granted;
 use async_task::{TaskPoll, Wake};
 use executor::{BellAwaiter, BlockOnError, Key, collect, place_for_waker, wake_posted};
-use std::alloc::{AllocError, Global};
+use std::alloc::Global;
 use std::process::Abort;
 use std::sync::atomic::Ordering;
 use std::sync::{Arc, Wait};
@@ -20,17 +19,17 @@ pub fn new_pool<R: Wait + Abort + Drop + Copy>(
     alloc: Global,
     workers: usize,
 ) -> LinkPool<R> {
-    granted(&rt, LinkPool::new(rt, alloc, workers))
+    LinkPool::new(rt, alloc, workers).expect(&rt, "refused")
 }
 
 /// What the links of this pool count together: nothing yet. Stops where there is no memory.
 pub fn new_counts<R: Wait + Abort + Drop + Copy>(pool: &LinkPool<R>) -> Arc<Counts> {
-    granted(&pool.rt(), Counts::new(pool.alloc()))
+    Counts::new(pool.alloc()).expect(&pool.rt(), "refused")
 }
 
 /// The turns of worker 0. Stops where they are refused.
 pub fn turns_of<R: Wait + Abort + Drop + Copy>(pool: &LinkPool<R>) -> LinkTurns<'_, R> {
-    granted(&pool.rt(), pool.turns(0))
+    pool.turns(0).expect(&pool.rt(), "refused")
 }
 
 /// The Task of a link that awaits at most one, as `spawn_link` spawns it. Stops where there is no memory.
@@ -41,15 +40,12 @@ pub fn link_task<'x, R: Wait + Abort + Drop + Copy>(
     errand: Errand,
     counts: &Arc<Counts>,
 ) -> LinkTask<'x, R> {
-    granted(
-        &pool.rt(),
-        spawn_link(pool, worker, below, errand, None, counts),
-    )
+    spawn_link(pool, worker, below, errand, None, counts).expect(&pool.rt(), "refused")
 }
 
 /// An empty place for a waker. Stops where there is none.
 pub fn place_of_waker<R: Wait + Abort + Drop + Copy>(pool: &LinkPool<R>) -> Key<R> {
-    granted(&pool.rt(), place_for_waker((pool, 0)).ok_or(AllocError))
+    place_for_waker((pool, 0)).expect(&pool.rt(), "refused")
 }
 
 /// Runs the next task, as `Turns::tick` does: whether there was one.
@@ -180,7 +176,7 @@ pub fn await_chain<R: Wait + Abort + Drop + Copy + 'static>(
     let pool = new_pool(rt, alloc, 1);
     let counts = new_counts(&pool);
     let task = spawn_link(&pool, 1, below, errand, second, &counts);
-    let mut task = granted(&rt, task);
+    let mut task = task.expect(&rt, "refused");
     let mut turns = turns_of(&pool);
     let answer = block_on(&mut turns, &mut task);
     drop_task(task);

@@ -6,10 +6,9 @@ use crate::future_tests::calls::{
     shut_down, tick, turns_of, wakes_posted, work,
 };
 use crate::future_tests::link::{Counts, Errand, Link, LinkPool, LinkTurns};
-use crate::granted::granted;
 use executor::{BlockOnError, NextMemberError, PoolGroup};
 use executor_parts::{TaskGroup, left_until};
-use std::alloc::{AllocError, Global};
+use std::alloc::Global;
 use std::process::Abort;
 use std::sync::{Arc, Wait};
 use std::thread::{self, Threads};
@@ -31,7 +30,7 @@ fn empty_group<'x, R: Wait + Abort + Drop + Copy>(
     pool: &'x LinkPool<R>,
     room: usize,
 ) -> LinkGroup<'x, R> {
-    granted(&pool.rt(), TaskGroup::new(pool.rt(), pool.alloc(), room))
+    TaskGroup::new(pool.rt(), pool.alloc(), room).expect(&pool.rt(), "refused")
 }
 
 // Spawns a link, and puts its Task into a group.
@@ -44,7 +43,7 @@ fn push_link<'x, R: Wait + Abort + Drop + Copy>(
     counts: &Arc<Counts>,
 ) {
     let task = link_task(pool, worker, below, errand, counts);
-    granted(&pool.rt(), group.push(task));
+    group.push(task).expect(&pool.rt(), "refused");
 }
 
 // A group of three links, the first with none below it, the second with one and the third with two: they answer 1, 2 and 3.
@@ -296,7 +295,7 @@ fn wait_until_ended<R: Wait + Clock + Abort + Threads + Drop + Copy + Send + Syn
     let pool = new_pool(rt, alloc, 1);
     let counts = new_counts(&pool);
     let mut group = new_lone(&pool, 0, Errand::Stay, &counts);
-    let handle = granted(&rt, group.abort_handle(0).ok_or(()));
+    let handle = group.abort_handle(0).expect(&rt, "refused");
     let mut turns = turns_of(&pool);
     let ran = tick(&mut turns);
     let (_, ended) = thread::join(
@@ -341,9 +340,9 @@ fn output_within<'x, R: Wait + Clock + Abort + Drop + Copy + 'static>(
     millis: u64,
 ) -> (Result<Option<u64>, NextMemberError>, bool) {
     let rt = turns.place().0.rt();
-    let begin = granted(&rt, Instant::now(&rt));
+    let begin = Instant::now(&rt).expect(&rt, "refused");
     let deadline = begin.checked_add(Duration::from_millis(millis));
-    let deadline = granted(&rt, deadline.ok_or(AllocError));
+    let deadline = deadline.expect(&rt, "refused");
     let output = output_until(turns, group, deadline);
     (output, left_until(&rt, deadline).is_zero())
 }

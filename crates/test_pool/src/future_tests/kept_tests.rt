@@ -2,11 +2,10 @@
 ghost use Rattle.std.specs.Prelude.{⊤};
 
 use crate::calls::new_guests;
-use crate::granted::granted;
 use crate::guest::{Errand, Guest};
 use async_task::{TaskClosed, TaskPoll, Wake};
 use executor::{Key, Pool, Turns, keep_task, place_for_task, poll_kept};
-use std::alloc::{AllocError, Global};
+use std::alloc::Global;
 use std::process::Abort;
 use std::sync::Wait;
 
@@ -65,11 +64,11 @@ fn poll_at<R: Wait + Drop + Copy>(
 // Whether the Task of a guest that gives way once was kept; what polls of it answer before, between and after its two turns; and whether it had these.
 fn keep_and_poll<R: Wait + Abort + Drop + Copy>(rt: R, alloc: Global) -> ([bool; 3], [bool; 5]) {
     let guests = new_guests(&rt, alloc, 0);
-    let pool = granted(&rt, DeafPool::new(rt, alloc, 1));
-    let key = granted(&rt, place_for_task((&pool, 0)).ok_or(AllocError));
-    let guest = granted(&rt, Guest::new(Errand::GiveWay(1), &guests));
-    let kept = keep_task(granted(&rt, pool.spawn(guest)), &key).is_ok();
-    let mut turns = granted(&rt, pool.turns(0));
+    let pool = DeafPool::new(rt, alloc, 1).expect(&rt, "refused");
+    let key = place_for_task((&pool, 0)).expect(&rt, "refused");
+    let guest = Guest::new(Errand::GiveWay(1), &guests).expect(&rt, "refused");
+    let kept = keep_task(pool.spawn(guest).expect(&rt, "refused"), &key).is_ok();
+    let mut turns = pool.turns(0).expect(&rt, "refused");
     let refused = matches!(poll_at(&pool, &key, true), Some(TaskPoll::Refused));
     let waits = matches!(poll_at(&pool, &key, false), Some(TaskPoll::Pending));
     let ran = run_next(&mut turns);

@@ -1,12 +1,11 @@
 //! The mail of a pool goes round its parts: a number that is posted again and again keeps no other one waiting.
 ghost use Rattle.std.specs.Prelude.{⊤};
 
-use crate::granted::granted;
 use async_task::{Future, Poll, Wake, Yields};
 use executor::{
     BellAwaiter, Key, Pool, PoolWaker, Turns, keep_waker, place_for_waker, wake_posted,
 };
-use std::alloc::{AllocError, Global};
+use std::alloc::Global;
 use std::process::Abort;
 use std::sync::atomic::{AtomicU64, Ordering};
 use std::sync::{Arc, Wait};
@@ -61,18 +60,18 @@ fn spawn_poster<R: Wait + Abort + Drop + Copy>(
     is_eager: bool,
 ) -> Arc<Seen> {
     let rt = pool.rt();
-    let key = granted(&rt, place_for_waker((pool, worker)).ok_or(AllocError));
+    let key = place_for_waker((pool, worker)).expect(&rt, "refused");
     let seen = Seen {
         polls: AtomicU64::new(0),
         number: AtomicU64::new(key.number() as u64),
     };
-    let seen = granted(&rt, Arc::new(pool.alloc(), seen));
+    let seen = Arc::new(pool.alloc(), seen).expect(&rt, "refused");
     let poster = Poster {
         key,
         is_eager,
-        seen: granted(&rt, Arc::try_clone(&seen)),
+        seen: Arc::try_clone(&seen).expect(&rt, "refused"),
     };
-    granted(&rt, pool.spawn(poster)).detach();
+    pool.spawn(poster).expect(&rt, "refused").detach();
     seen
 }
 
@@ -93,10 +92,10 @@ fn post_beside_an_eager_one<R: Wait + Abort + Drop + Copy>(
     rt: R,
     alloc: Global,
 ) -> ((bool, bool), u8, (u64, u64)) {
-    let pool = granted(&rt, PosterPool::new(rt, alloc, 1));
+    let pool = PosterPool::new(rt, alloc, 1).expect(&rt, "refused");
     let eager = spawn_poster(&pool, 0, true);
     let patient = spawn_poster(&pool, 1, false);
-    let mut turns = granted(&rt, pool.turns(0));
+    let mut turns = pool.turns(0).expect(&rt, "refused");
     let first = (tick(&mut turns), tick(&mut turns));
     post(&pool, patient.number.load(Ordering::SeqCst) as usize);
     let mut woken = 0u8;

@@ -2,7 +2,6 @@
 ghost use Rattle.std.specs.Prelude.{◌≡◌, ◌==◌};
 ghost use Rattle.test_tasks.specs.Stages.{Staged};
 
-use crate::granted::granted;
 use atomic_table::{Play, TableRule};
 use counted_block::{Bare, BlockRule, CountPlay, Inner, Share};
 use linked_list_allocator::LocalHeap;
@@ -64,7 +63,7 @@ fn halve_close_and_note(heap: &LocalHeap) -> Option<(u64, u64, u8, bool)> {
 
 #[test]
 fn a_seat_notes_after_its_block_is_gone(rt: HostRuntime) {
-    let heap = granted(&rt, LocalHeap::new(rt.alloc(), 4096));
+    let heap = LocalHeap::new(rt.alloc(), 4096).expect(&rt, "refused");
     let seen = halve_close_and_note(&heap);
     assert!(rt; seen == Some((2, 7, 30, true)));
 }

@@ -2,7 +2,6 @@
 
 use crate::blocks::keeper::Keeper;
 use crate::blocks::pointer::Pointer;
-use crate::granted::granted;
 use linked_list_allocator::LocalHeap;
 use std::alloc::Global;
 use std::process::Abort;
@@ -11,14 +10,14 @@ use std::thread::{self, Threads};
 
 // A heap with nothing in it.
 fn new_heap<R: Abort>(rt: &R, alloc: Global) -> LocalHeap {
-    granted(rt, LocalHeap::new(alloc, 4096))
+    LocalHeap::new(alloc, 4096).expect(rt, "refused")
 }
 
 // What two owners get as they give up, and whether the heap has the block before, between and after.
 fn end_two<R: Abort>(rt: &R, alloc: Global) -> ([Option<u64>; 2], [bool; 3]) {
     let heap = new_heap(rt, alloc);
-    let first = granted(rt, Pointer::new(&heap, 7));
-    let second = granted(rt, first.try_clone().ok_or(()));
+    let first = Pointer::new(&heap, 7).expect(rt, "refused");
+    let second = first.try_clone().expect(rt, "refused");
     let both = heap.used() > 0;
     let early = first.give_up();
     let one = heap.used() > 0;
@@ -29,8 +28,8 @@ fn end_two<R: Abort>(rt: &R, alloc: Global) -> ([Option<u64>; 2], [bool; 3]) {
 // What the last owner and then a keeper get, and the keeper sees between; and whether the heap has the block then and at the end.
 fn outlive<R: Abort>(rt: &R, alloc: Global) -> ([Option<u64>; 2], u64, [bool; 2]) {
     let heap = new_heap(rt, alloc);
-    let owner = granted(rt, Pointer::new(&heap, 7));
-    let keeper = granted(rt, owner.keep().ok_or(()));
+    let owner = Pointer::new(&heap, 7).expect(rt, "refused");
+    let keeper = owner.keep().expect(rt, "refused");
     let early = owner.give_up();
     let seen = *keeper.value();
     let kept = heap.used() > 0;
@@ -41,11 +40,11 @@ fn outlive<R: Abort>(rt: &R, alloc: Global) -> ([Option<u64>; 2], u64, [bool; 2]
 // How many have a counted value once two owners and a keeper of it are dropped, one after the other; and whether the heap has the block then.
 fn drop_all<R: Abort>(rt: &R, alloc: Global) -> ([usize; 3], bool) {
     let heap = new_heap(rt, alloc);
-    let counted = granted(rt, Arc::new(alloc, 7u64));
-    let value = granted(rt, Arc::try_clone(&counted));
-    let first = granted(rt, Pointer::new(&heap, value));
-    let second = granted(rt, first.try_clone().ok_or(()));
-    let keeper = granted(rt, second.keep().ok_or(()));
+    let counted = Arc::new(alloc, 7u64).expect(rt, "refused");
+    let value = Arc::try_clone(&counted).expect(rt, "refused");
+    let first = Pointer::new(&heap, value).expect(rt, "refused");
+    let second = first.try_clone().expect(rt, "refused");
+    let keeper = second.keep().expect(rt, "refused");
     drop(first);
     let one = Arc::strong_count(&counted);
     drop(second);
@@ -75,8 +74,8 @@ fn clone_and_end(owner: Pointer<u64, Global>) -> Option<u64> {
 
 // Two owners on two threads: what each gets.
 fn end_on_two<R: Threads + Abort>(rt: &R, alloc: Global) -> (Option<u64>, Option<u64>) {
-    let first = granted(rt, Pointer::new(alloc, 7));
-    let second = granted(rt, first.try_clone().ok_or(()));
+    let first = Pointer::new(alloc, 7).expect(rt, "refused");
+    let second = first.try_clone().expect(rt, "refused");
     thread::join(
         rt,
         move || clone_and_end(first),
@@ -86,8 +85,8 @@ fn end_on_two<R: Threads + Abort>(rt: &R, alloc: Global) -> (Option<u64>, Option
 
 // An owner ends on one thread, and a keeper on another: what each gets.
 fn keep_on_two<R: Threads + Abort>(rt: &R, alloc: Global) -> (Option<u64>, Option<u64>) {
-    let owner = granted(rt, Pointer::new(alloc, 7));
-    let keeper: Keeper<u64, Global> = granted(rt, owner.keep().ok_or(()));
+    let owner = Pointer::new(alloc, 7).expect(rt, "refused");
+    let keeper: Keeper<u64, Global> = owner.keep().expect(rt, "refused");
     thread::join(rt, move || clone_and_end(owner), move || keeper.give_up())
 }
 

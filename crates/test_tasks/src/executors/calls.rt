@@ -1,6 +1,5 @@
 //! What the tests begin with, each in a function that stops where there is no memory.
 
-use crate::granted::granted;
 use linked_list_allocator::LocalHeap;
 use rows_fixtures::counters::Counters;
 use rows_fixtures::fixture::Fixture;
@@ -11,25 +10,25 @@ use std::sync::{Arc, Wait};
 
 /// Surroundings of a test's own.
 pub fn fixture<R: Wait + Abort + Drop + Copy>(rt: R, alloc: Global) -> Fixture<R> {
-    granted(&rt, Fixture::new(rt, alloc))
+    Fixture::new(rt, alloc).expect(&rt, "refused")
 }
 
 /// Counters at zero.
 pub fn counters<R: Abort + Drop + Copy>(rt: R, alloc: Global) -> Arc<Counters> {
-    granted(&rt, Arc::new(alloc, Counters::new()))
+    Arc::new(alloc, Counters::new()).expect(&rt, "refused")
 }
 
 /// One more share of these counters.
 pub fn share<R: Abort + Drop + Copy>(rt: R, counters: &Arc<Counters>) -> Arc<Counters> {
-    granted(&rt, Arc::try_clone(counters))
+    Arc::try_clone(counters).expect(&rt, "refused")
 }
 
 /// A heap of that size.
 pub fn heap<R: Abort + Drop + Copy>(rt: R, alloc: Global, size: usize) -> LocalHeap {
-    granted(&rt, LocalHeap::new(alloc, size))
+    LocalHeap::new(alloc, size).expect(&rt, "refused")
 }
 
 /// An awaiter of that number.
 pub fn flag<R: Abort + Drop + Copy>(rt: R, alloc: Global, number: u64) -> Flag {
-    granted(&rt, Flag::new(alloc, number))
+    Flag::new(alloc, number).expect(&rt, "refused")
 }

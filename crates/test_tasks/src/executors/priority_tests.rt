@@ -2,7 +2,6 @@
 //! `executor_parts`.
 
 use crate::executors::calls;
-use crate::granted::granted;
 use executor_parts::PriorityHeap;
 use rows_fixtures::behaviour::Behaviour;
 use rows_fixtures::counters::Counts;
@@ -21,7 +20,7 @@ const TOO_MUCH: usize = usize::MAX;
 
 // An empty queue with that room. Stops where there is no memory.
 fn queue_of<R: Wait + Abort + Drop + Copy>(fixture: &Fixture<R>, room: usize) -> PriorityQueue<R> {
-    granted(&fixture.rt, fixture.priorities(room))
+    fixture.priorities(room).expect(&fixture.rt, "refused")
 }
 
 // Spawns a task of that priority. Stops where there is no memory.
@@ -31,7 +30,7 @@ fn spawn<'x, R: Wait + Abort + Drop + Copy>(
     priority: u64,
 ) -> (PriorityRunnable<'x, R>, PriorityTask<'x, R>) {
     let spawned = fixture.spawn_prior(queue, priority, Behaviour::Ready(priority));
-    granted(&fixture.rt, spawned)
+    spawned.expect(&fixture.rt, "refused")
 }
 
 // Detaches a Task.

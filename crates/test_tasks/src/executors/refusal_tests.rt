@@ -3,7 +3,6 @@
 ghost use Rattle.std.specs.Prelude.{⊤};
 
 use crate::executors::calls;
-use crate::granted::granted;
 use async_task::{
     Builder, Future, Poll, Runnable, Schedule, ScheduleInfo, SpawnError, Task, TaskWaker, Yields,
     spawn,
@@ -128,7 +127,7 @@ fn succeeds<R: Wait + Abort + Drop + Copy>(
     let heap = calls::heap(rt, alloc, HEAP);
     let refused_clones = Counter::new();
     let spawned = spawn(rt, &heap, future, schedule, &refused_clones);
-    let (runnable, mut task) = granted(&rt, spawned);
+    let (runnable, mut task) = spawned.expect(&rt, "refused");
     runnable.run();
     let is_ready = is_ready_with(&task.poll(&flag), 4);
     drop(task);
@@ -275,7 +274,9 @@ fn spawn_limited<'x, 'heap, R: Wait + Abort + Drop + Copy>(
     let future = WideFuture::new(rt, Behaviour::Pending, counters);
     let schedule = WideScheduler::new(rt, counters);
     let builder = Builder::new().reference_limit(2);
-    granted(&rt, builder.spawn(rt, heap, |_| future, schedule, around))
+    builder
+        .spawn(rt, heap, |_| future, schedule, around)
+        .expect(&rt, "refused")
 }
 
 // Whether a waker is refused a clone. One that is given is dropped.

@@ -2,7 +2,6 @@
 //! Of what is only tested (docs/PROOFS.md): Threads.
 ghost use Rattle.std.specs.Prelude.{⊤};
 
-use crate::granted::granted;
 use async_task::{Future, Poll, Runnable, Schedule, ScheduleInfo, TaskWaker, Yields, spawn};
 use executor_parts::Nobody;
 use rows_fixtures::counters::Counter;
@@ -105,7 +104,7 @@ fn wakes_go_on<'x, R: Wait + Threads + Abort + Drop + Copy + Send + Sync>(
     alloc: Global,
     meeting: &'x Meeting,
 ) -> bool {
-    let (runnable, task) = granted(&rt, spawn(rt, alloc, Idle, Stops, meeting));
+    let (runnable, task) = spawn(rt, alloc, Idle, Stops, meeting).expect(&rt, "refused");
     let Some(waker) = runnable.waker() else {
         return false;
     };

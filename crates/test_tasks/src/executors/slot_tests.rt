@@ -1,7 +1,6 @@
 //! A test of a schedule value that keeps the last Runnable in a slot before its list.
 ghost use Rattle.std.specs.Prelude.{⊤};
 
-use crate::granted::granted;
 use async_task::{
     Builder, Future, ParkedRunnable, Poll, Runnable, Schedule, ScheduleInfo, Task, TaskWaker,
     WithInfo, Yields,
@@ -150,7 +149,7 @@ fn spawn_scheduled<R: Wait + Abort + Drop + Copy>(
     let spawned = Builder::new()
         .metadata(number)
         .spawn(rt, alloc, |_| Yielding, schedule, slots);
-    let (runnable, task) = granted(&rt, spawned);
+    let (runnable, task) = spawned.expect(&rt, "refused");
     runnable.schedule();
     task
 }

@@ -2,7 +2,6 @@
 //! Of what is only tested (docs/PROOFS.md): Threads.
 
 use crate::executors::calls;
-use crate::granted::granted;
 use rows_fixtures::behaviour::Behaviour;
 use rows_fixtures::counters::{Counter, Counts};
 use rows_fixtures::fixture::Fixture;
@@ -69,7 +68,7 @@ fn wake_by_four<R: Wait + Threads + Abort + Drop + Copy + Send + Sync>(
     alloc: Global,
 ) -> (bool, [Counts; 2]) {
     let fixture = calls::fixture(rt, alloc);
-    let (runnable, task) = granted(&rt, fixture.spawn(Behaviour::Pending));
+    let (runnable, task) = fixture.spawn(Behaviour::Pending).expect(&rt, "refused");
     let ended = Counter::new();
     let all_ended = storm(&rt, &fixture, &ended, runnable);
     let idle = fixture.counts();

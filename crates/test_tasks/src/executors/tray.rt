@@ -3,7 +3,6 @@ ghost use Rattle.std.specs.Prelude.{⊤};
 ghost use Rattle.rows_fixtures.specs.Behaviour.{IsPolled};
 
 use crate::executors::calls;
-use crate::granted::granted;
 use async_task::{
     Builder, Cancel, FallibleTask, Future, ParkedRunnable, Poll, Runnable, Schedule, ScheduleInfo,
     Task, TaskPoll, TaskWaker, Yields,
@@ -190,7 +189,7 @@ pub fn fill<R: Abort + Drop + Copy>(rt: R, alloc: Global, heap: &LocalHeap) -> F
         let Ok(block) = Vec::with_capacity(heap, 1) else {
             return filling;
         };
-        granted(&rt, filling.push(block));
+        filling.push(block).expect(&rt, "refused");
     }
     panic!(rt; "the heap is larger than it was made")
 }
@@ -211,7 +210,7 @@ pub fn spawn_in<'x, 'heap, R: Wait + Abort + Drop + Copy>(
     let spawned = Builder::new()
         .metadata(7)
         .spawn(tray.rt, heap, |_| future, scheduler, tray);
-    granted(&tray.rt, spawned)
+    spawned.expect(&tray.rt, "refused")
 }
 
 /// Runs: what the run answers.

@@ -1,7 +1,6 @@
 //! Tests of stored awaiters: which one a task keeps, and how each clone ends.
 //! Of what is only tested (docs/PROOFS.md): Drops.
 
-use crate::granted::granted;
 use crate::handles::calls;
 use crate::handles::calls::ends_of;
 use rows_fixtures::behaviour::Behaviour;
@@ -189,7 +188,7 @@ fn life_by<R: Wait + Abort + Drop + Copy>(
 ) -> Life {
     let fixture = calls::fixture(rt, alloc);
     let flag = calls::flag(&fixture, 1);
-    let (runnable, mut task) = granted(&rt, fixture.spawn_bare(behaviour));
+    let (runnable, mut task) = fixture.spawn_bare(behaviour).expect(&rt, "refused");
     drop(task.poll(&flag));
     let rescheduled = end_by(runnable, task, first);
     (ends_of(&flag), rescheduled, fixture.counts())

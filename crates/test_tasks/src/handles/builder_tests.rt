@@ -1,7 +1,6 @@
 //! Tests of what handles and builders show.
 //! Of what is only tested (docs/PROOFS.md): Handles.
 
-use crate::granted::granted;
 use crate::handles::calls;
 use async_task::Builder;
 use rows_fixtures::behaviour::Behaviour;
@@ -21,7 +20,10 @@ const WITH_WAKER: &str =
 
 // Whether a value shows that text. Stops where there is no memory.
 fn shows<R: Abort, T: fmt::Debug>(rt: &R, alloc: Global, value: &T, expected: &str) -> bool {
-    granted(rt, format!(in alloc; "{value:?}")).as_str() == expected
+    format!(in alloc; "{value:?}")
+        .expect(rt, "refused")
+        .as_str()
+        == expected
 }
 
 // Whether a handle of that name shows a task with this header.
@@ -32,7 +34,7 @@ fn shows_as<R: Abort, T: fmt::Debug>(
     name: &str,
     header: &str,
 ) -> bool {
-    let expected = granted(rt, format!(in alloc; "{name}{header}"));
+    let expected = format!(in alloc; "{name}{header}").expect(rt, "refused");
     shows(rt, alloc, handle, expected.as_str())
 }
 

@@ -1,7 +1,6 @@
 //! Calls of handles of the rows, each in a function of its own that answers plain data. A test sees all that it looks at
 //! by these while its handles live, lets them go, and compares at its end.
 
-use crate::granted::granted;
 use async_task::{Cancel, FallibleTask, TaskPoll, Wake};
 use rows_fixtures::behaviour::Behaviour;
 use rows_fixtures::fixture::Fixture;
@@ -21,12 +20,12 @@ pub type RowCancel<'x, R> = Cancel<R, RowFuture, Scheduler, (), Flag, &'x Surrou
 
 /// Surroundings of a test's own. Stops where there is no memory.
 pub fn fixture<R: Wait + Abort + Drop + Copy>(rt: R, alloc: Global) -> Fixture<R> {
-    granted(&rt, Fixture::new(rt, alloc))
+    Fixture::new(rt, alloc).expect(&rt, "refused")
 }
 
 /// An awaiter of that number. Stops where there is no memory.
 pub fn flag<R: Wait + Abort + Drop + Copy>(fixture: &Fixture<R>, number: u64) -> Flag {
-    granted(&fixture.rt, fixture.flag(number))
+    fixture.flag(number).expect(&fixture.rt, "refused")
 }
 
 /// How often a flag was cloned and woken, and how many of its clones were dropped unwoken.
@@ -39,7 +38,7 @@ pub fn spawn<'x, R: Wait + Abort + Drop + Copy>(
     fixture: &'x Fixture<R>,
     behaviour: Behaviour,
 ) -> (RowRunnable<'x, R>, RowTask<'x, R>) {
-    granted(&fixture.rt, fixture.spawn(behaviour))
+    fixture.spawn(behaviour).expect(&fixture.rt, "refused")
 }
 
 /// Spawns a task that may have that many references. Stops where there is no memory.
@@ -47,10 +46,9 @@ pub fn spawn_limited<'x, R: Wait + Abort + Drop + Copy>(
     fixture: &'x Fixture<R>,
     references: u64,
 ) -> (RowRunnable<'x, R>, RowTask<'x, R>) {
-    granted(
-        &fixture.rt,
-        fixture.spawn_limited(Behaviour::Pending, references),
-    )
+    fixture
+        .spawn_limited(Behaviour::Pending, references)
+        .expect(&fixture.rt, "refused")
 }
 
 /// Runs: what the run answers.

@@ -2,7 +2,6 @@
 //! Of what is only tested (docs/PROOFS.md): Drops.
 ghost use Rattle.std.specs.Prelude.{⊤};
 
-use crate::granted::granted;
 use Event::{Freed, Future, Handed, Held, Kept, Output, Returned, Unwoken, Woken};
 use async_task::{Builder, Poll, Runnable, Schedule, ScheduleInfo, Task, TaskWaker, Wake, Yields};
 use rows_fixtures::counters::Counter;
@@ -137,13 +136,13 @@ impl<R: Abort + Drop + Copy> Ground<R> {
         Ground {
             rt,
             counting: Counting::new(alloc),
-            journal: granted(&rt, Arc::new(alloc, Journal::new())),
+            journal: Arc::new(alloc, Journal::new()).expect(&rt, "refused"),
         }
     }
 
     // One more share of the journal.
     fn share(&self) -> Arc<Journal> {
-        granted(&self.rt, Arc::try_clone(&self.journal))
+        Arc::try_clone(&self.journal).expect(&self.rt, "refused")
     }
 
     // An awaiter that notes how its clones end.
@@ -449,7 +448,7 @@ fn spawn_in<'x, 'm, R: Wait + Abort + Drop + Copy>(
     let spawned = Builder::new()
         .metadata(tag)
         .spawn(ground.rt, &ground.counting, |_| future, scheduler, desk);
-    let handles = granted(&ground.rt, spawned);
+    let handles = spawned.expect(&ground.rt, "refused");
     ground.mark();
     handles
 }

@@ -1,7 +1,6 @@
 //! Tests of wakes that a call makes too often, which only a wake that is acted on at once shows, or a poll beside the end of a run.
 ghost use Rattle.std.specs.Prelude.{⊤};
 
-use crate::granted::granted;
 use crate::handles::calls::ends_of;
 use async_task::{Cancel, Future, Poll, Runnable, Schedule, ScheduleInfo, TaskPoll, Yields, spawn};
 use rows_fixtures::counters::Counter;
@@ -62,8 +61,8 @@ impl<'x, R: Wait + Drop + Copy> Schedule<Runnable<R, Polls<'x>, AtOnce, (), Flag
 // Wakes an idle task by value whose Runnable runs before the wake returns. Stops where there is no waker.
 fn wake_at_once<'x, R: Wait + Abort + Drop + Copy>(rt: R, alloc: Global, polls: &'x Counter) {
     let spawned = spawn(rt, alloc, Polls(polls), AtOnce, true);
-    let (runnable, task) = granted(&rt, spawned);
-    let waker = granted(&rt, runnable.waker().ok_or(()));
+    let (runnable, task) = spawned.expect(&rt, "refused");
+    let waker = runnable.waker().expect(&rt, "refused");
     runnable.run();
     waker.wake();
     task.detach();
@@ -151,7 +150,7 @@ fn cancel_beside<'x, R: Wait + Threads + Abort + Drop + Copy + Send + Sync>(
 ) -> [bool; 4] {
     meetings.poll.arm();
     meetings.drop.arm();
-    let (runnable, task) = granted(&rt, spawn(rt, alloc, Meets(meetings), Nowhere, ()));
+    let (runnable, task) = spawn(rt, alloc, Meets(meetings), Nowhere, ()).expect(&rt, "refused");
     let mut cancel = task.cancel();
     thread::scope(thread::scope_env(), &rt, |scope| {
         if scope.spawn(move || runnable.run()).is_err() {
@@ -170,7 +169,7 @@ fn poll_beside_the_end<R: Wait + Threads + Abort + Drop + Copy + Send + Sync>(
         poll: Rendezvous::new(),
         drop: Rendezvous::new(),
     };
-    let flag = granted(&rt, Flag::new(alloc, 1));
+    let flag = Flag::new(alloc, 1).expect(&rt, "refused");
     let seen = cancel_beside(rt, alloc, &meetings, &flag);
     (seen, meetings.drop.met(), ends_of(&flag))
 }

@@ -2,7 +2,6 @@
 //! Of what is only tested (docs/PROOFS.md): Drops.
 ghost use Rattle.std.specs.Prelude.{⊤};
 
-use crate::granted::granted;
 use async_task::{Builder, Runnable, Schedule, ScheduleInfo, Task};
 use rows_fixtures::behaviour::Behaviour;
 use rows_fixtures::counters::{Counter, Counters};
@@ -47,9 +46,9 @@ fn spawn_tagged<R: Wait + Abort + Drop + Copy>(
     alloc: Global,
     counter: &Arc<Counter>,
 ) -> (TagRunnable<R>, TagTask<R>) {
-    let counters = granted(&rt, Arc::new(alloc, Counters::new()));
+    let counters = Arc::new(alloc, Counters::new()).expect(&rt, "refused");
     let tag = Tag {
-        counter: granted(&rt, Arc::try_clone(counter)),
+        counter: Arc::try_clone(counter).expect(&rt, "refused"),
     };
     let maker = |tag: &Tag| {
         tag.counter.add_one();
@@ -58,7 +57,7 @@ fn spawn_tagged<R: Wait + Abort + Drop + Copy>(
     let spawned = Builder::new()
         .metadata(tag)
         .spawn(rt, alloc, maker, Dropper, ());
-    granted(&rt, spawned)
+    spawned.expect(&rt, "refused")
 }
 
 // Ends both handles of a task. Its Runnable is discarded.
@@ -69,7 +68,7 @@ fn end_both<R: Wait + Drop + Copy>(runnable: TagRunnable<R>, task: TagTask<R>) {
 
 // Parks the Runnable and the Task of a task, and ends them unparked: the counter that the metadata of each shows, and the counter at the end.
 fn show_parked<R: Wait + Abort + Drop + Copy>(rt: R, alloc: Global) -> [u64; 3] {
-    let counter = granted(&rt, Arc::new(alloc, Counter::new()));
+    let counter = Arc::new(alloc, Counter::new()).expect(&rt, "refused");
     let (runnable, task) = spawn_tagged(rt, alloc, &counter);
     let (runnable, task) = (runnable.park(), task.park());
     let by_runnable = runnable.metadata().counter.get();

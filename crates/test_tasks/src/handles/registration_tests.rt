@@ -1,7 +1,6 @@
 //! Tests of what is done while a Task registers: the drop of the older awaiter is the one place for it.
 //! Of what is only tested (docs/PROOFS.md): Threads.
 
-use crate::granted::granted;
 use crate::handles::calls;
 use crate::handles::watched::{
     AwaitedRunnable, AwaitedTask, Polled, Watched, poll_awaited, spawn_awaited,
@@ -84,7 +83,7 @@ where
     R: Wait + Threads + Abort + Drop + Copy + Send + Sync,
 {
     let fixture = calls::fixture(rt, alloc);
-    let counters = granted(&rt, Arc::new(alloc, Counters::new()));
+    let counters = Arc::new(alloc, Counters::new()).expect(&rt, "refused");
     let older = Watched::new(&rt, alloc);
     let newer = Watched::new(&rt, alloc);
     let (runnable, mut task) = spawn_awaited(rt, alloc, Behaviour::Ready(6), &counters);

@@ -1,7 +1,6 @@
 //! Tests of wakers and of an awaiter, and of handles that are forgotten.
 //! Of what is only tested (docs/PROOFS.md): Handles.
 
-use crate::granted::granted;
 use crate::handles::calls;
 use crate::handles::watched::{AwaitedRunnable, AwaitedTask, Polled, poll_awaited, spawn_awaited};
 use async_task::Wake;
@@ -101,7 +100,7 @@ fn await_by<R: Wait + Drop + Copy, A: Wake>(
 
 // Awaits a task by the waker of another one, which is idle: what was seen of it, and what both counted.
 fn await_another<R: Wait + Abort + Drop + Copy>(rt: R, alloc: Global) -> (Awaited, [Counts; 2]) {
-    let counters = granted(&rt, Arc::new(alloc, Counters::new()));
+    let counters = Arc::new(alloc, Counters::new()).expect(&rt, "refused");
     let fixture = calls::fixture(rt, alloc);
     let (awaited_runnable, awaited) = spawn_awaited(rt, alloc, Behaviour::Ready(5), &counters);
     let (_, task, waker) = calls::go_idle(&fixture);
@@ -203,7 +202,7 @@ fn use_flag(flag: &Flag) -> ([(u64, u64, u64); 2], Option<bool>, [bool; 3]) {
 
 #[test]
 fn a_flag_counts_what_is_done_to_it(rt: HostRuntime) {
-    let flag = granted(&rt, Flag::new(rt.alloc(), 7));
+    let flag = Flag::new(rt.alloc(), 7).expect(&rt, "refused");
     let seen = use_flag(&flag);
     assert!(rt; seen == ([(0, 1, 0), (2, 2, 1)], Some(true), [true, false, true]));
 }

@@ -1,7 +1,6 @@
 //! An awaiter whose drop may wait for a second thread, and tasks that any kind of awaiter may await.
 ghost use Rattle.std.specs.Prelude.{⊤};
 
-use crate::granted::granted;
 use crate::handles::calls::ends_of;
 use async_task::{Runnable, Task, TaskClosed, TaskPoll, Wake, spawn};
 use rows_fixtures::behaviour::Behaviour;
@@ -25,8 +24,8 @@ impl Watched {
     /// An awaiter with counters at zero. Stops where there is no memory.
     pub fn new<R: Abort>(rt: &R, alloc: Global) -> Watched {
         Watched {
-            flag: granted(rt, Flag::new(alloc, 0)),
-            rendezvous: granted(rt, Arc::new(alloc, Rendezvous::new())),
+            flag: Flag::new(alloc, 0).expect(rt, "refused"),
+            rendezvous: Arc::new(alloc, Rendezvous::new()).expect(rt, "refused"),
         }
     }
 
@@ -86,8 +85,8 @@ fn counted<R: Abort>(
     behaviour: Behaviour,
     counters: &Arc<Counters>,
 ) -> (RowFuture, Scheduler) {
-    let future = RowFuture::new(behaviour, granted(rt, Arc::try_clone(counters)));
-    let scheduler = Scheduler::new(granted(rt, Arc::try_clone(counters)));
+    let future = RowFuture::new(behaviour, Arc::try_clone(counters).expect(rt, "refused"));
+    let scheduler = Scheduler::new(Arc::try_clone(counters).expect(rt, "refused"));
     (future, scheduler)
 }
 
@@ -122,5 +121,5 @@ pub fn spawn_awaited<R: Wait + Abort + Drop + Copy, A: Wake>(
     counters: &Arc<Counters>,
 ) -> (AwaitedRunnable<R, A>, AwaitedTask<R, A>) {
     let (future, scheduler) = counted(&rt, behaviour, counters);
-    granted(&rt, spawn(rt, alloc, future, scheduler, ()))
+    spawn(rt, alloc, future, scheduler, ()).expect(&rt, "refused")
 }

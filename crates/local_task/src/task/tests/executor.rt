@@ -7,14 +7,6 @@ use std::collections::VecDeque;
 use std::process::Abort;
 use task_core::traits::{Poll, ScheduleInfo, TaskPoll};
 
-// What was asked for. An `Err` stops the test.
-fn granted<R: Abort, T, E>(rt: &R, asked: Result<T, E>) -> T {
-    match asked {
-        Ok(granted) => granted,
-        Err(_) => panic!(rt; "a request was refused"),
-    }
-}
-
 // A future that wakes the task `next` at each poll, and its own at the first, if it says so. It answers its number after some polls.
 #[derive(Debug, PartialEq, Eq, Drop)]
 struct Relay {
@@ -234,11 +226,11 @@ const READY: [Option<TaskPoll<Option<usize>>>; 3] = [
 
 #[test]
 fn tasks_of_one_thread_wake_each_other(rt: HostRuntime) {
-    let mut executor = granted(&rt, Executor::new(rt.alloc()));
-    let before = granted(&rt, poll_tasks(&rt, &mut executor));
-    granted(&rt, executor.run_all(&rt));
+    let mut executor = Executor::new(rt.alloc()).expect(&rt, "refused");
+    let before = poll_tasks(&rt, &mut executor).expect(&rt, "refused");
+    executor.run_all(&rt).expect(&rt, "refused");
     let in_order = executor.queue.is_empty() && is_in_order(&executor);
-    let after = granted(&rt, poll_tasks(&rt, &mut executor));
+    let after = poll_tasks(&rt, &mut executor).expect(&rt, "refused");
     let ended = detach_all(&rt, &mut executor);
     assert!(rt; before == PENDING && after == READY);
     assert!(rt; in_order && ended);

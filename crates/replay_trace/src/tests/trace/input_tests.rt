@@ -1,7 +1,7 @@
 //! What lines say, and what is expected where one cannot be read.
 //! Of what is only tested (crates/task_replay/README.md): Text.
 
-use crate::tests::stops::{granted, holds};
+use crate::tests::stops::holds;
 use task_core::acts::Act;
 use task_replay::input::{Expected, content, is_blank, read_limit, read_step};
 use task_replay::machine::Step;
@@ -91,7 +91,7 @@ const MEANT: [(&str, Option<Act>); 12] = [
 #[test]
 fn the_act_of_the_nearest_name_is_meant(rt: HostRuntime) {
     for &(word, act) in &MEANT {
-        let found = granted(&rt, nearest(rt.alloc(), word));
+        let found = nearest(rt.alloc(), word).expect(&rt, "refused");
         holds(&rt, found == act, &word);
     }
 }

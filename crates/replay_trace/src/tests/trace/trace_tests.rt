@@ -1,7 +1,7 @@
 //! Whole inputs, and what is printed of them.
 //! Of what is only tested (crates/task_replay/README.md): Text.
 
-use crate::tests::stops::{granted, holds};
+use crate::tests::stops::holds;
 use crate::tests::told::Told;
 use rows_fixtures::limited::Limited;
 use std::alloc::Global;
@@ -13,7 +13,7 @@ fn traced<R: Abort>(rt: &R, alloc: Global, shown: Shown, input: &[u8]) -> Told {
     let mut out = Vec::new(alloc);
     let mut err = Vec::new(alloc);
     let status = trace(alloc, shown, input, &mut out, &mut err);
-    granted(rt, Told::new(status, out, err))
+    Told::new(rt, status, out, err)
 }
 
 // Stops where not all steps are played, or other rows are printed below the head.
@@ -188,10 +188,10 @@ const REFUSED: [(u64, &str, &str); 7] = [
 // Stops where this step is not refused for this reason, or more is printed before that than the head.
 fn is_refused<R: Abort>(rt: &R, alloc: Global, limit: u64, step: &str, reason: &str) {
     let input = format!(in alloc; "limit {limit}\n{step}\n1 look\n");
-    let input = granted(rt, input);
+    let input = input.expect(rt, "refused");
     let told = traced(rt, alloc, Shown::All, input.as_str().as_bytes());
     let wanted = format!(in alloc; "{HEAD}\nStep 1, `{step}`, is not allowed: {reason}\n");
-    let wanted = granted(rt, wanted);
+    let wanted = wanted.expect(rt, "refused");
     holds(rt, told.is(1, wanted.as_str(), ""), &step);
 }
 

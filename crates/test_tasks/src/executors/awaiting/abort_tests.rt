@@ -2,7 +2,6 @@
 //! from another thread while members come and go.
 use super::came_out::{CameOut, group_of, last_of, next_of};
 use super::line::{Errand, Line, LineGroup};
-use crate::granted::granted;
 use async_task::TaskClosed;
 use executor_parts::AbortHandle;
 use std::alloc::Global;
@@ -27,8 +26,8 @@ fn spawn_abortable<'x, R: Wait + Abort + Drop + Copy>(
     group: &mut LineGroup<'x, R>,
     errand: Errand,
 ) -> AbortHandle<R> {
-    let number = granted(&rt, line.spawn_in(group, errand).ok_or(()));
-    granted(&rt, group.abort_handle(number).ok_or(()))
+    let number = line.spawn_in(group, errand).expect(&rt, "refused");
+    group.abort_handle(number).expect(&rt, "refused")
 }
 
 // Looks for members that have ended. There are to be none.
@@ -140,7 +139,7 @@ fn abort_again<R: Wait + Abort + Drop + Copy>(rt: R, alloc: Global) -> (bool, [C
     let line = Line::new(rt, alloc, 1);
     let mut group = group_of(rt, alloc, 2);
     let handle = spawn_abortable(rt, &line, &mut group, Errand::Stay);
-    let clone = granted(&rt, handle.try_clone().ok_or(()));
+    let clone = handle.try_clone().expect(&rt, "refused");
     line.run();
     handle.abort();
     clone.abort();
@@ -257,7 +256,7 @@ fn own<'x, R: Wait + Abort + Drop + Copy>(
         }
         let handle = spawn_abortable(rt, line, &mut group, errand_of(turn));
         if !is_unasked(turn) {
-            granted(&rt, handles.lock(&rt).push_back(handle));
+            handles.lock(&rt).push_back(handle).expect(&rt, "refused");
         }
     }
     for _ in rt.forever() {

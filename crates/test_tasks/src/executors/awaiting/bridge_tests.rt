@@ -1,13 +1,12 @@
-//! Tasks that the kit's `block_on`, `join` and `select` wait for, a bridge that is dropped, and refused memory. Of what is only tested: the page of `kit_bridge`.
+//! Tasks that the kit's `block_on`, `join` and `select` wait for, a bridge that is dropped, and refused memory. Of what is only tested: the page of `executor_parts::kit`.
 ghost use Rattle.std.specs.Prelude.{⊤};
 
 use super::number::Nowhere;
 use crate::executors::tray::{HEAP, fill};
-use crate::granted::granted;
 use async_task::{Future, Poll, Runnable, Task, Wake, Yields, spawn};
+use executor_parts::kit::{AwaitError, Awaits, KitAwaiter};
 use futures::executor::block_on;
 use futures::future::{Either, join, ready, select};
-use kit_bridge::{AwaitError, Awaits, KitAwaiter};
 use linked_list_allocator::LocalHeap;
 use std::alloc::{AllocGlobal, Global};
 use std::process::Abort;
@@ -60,7 +59,7 @@ type Answer = Result<u64, AwaitError>;
 
 // Nothing dropped yet.
 fn none_dropped<R: Abort + Drop + Copy>(rt: R, alloc: Global) -> Arc<AtomicU64> {
-    granted(&rt, Arc::new(alloc, AtomicU64::new(0)))
+    Arc::new(alloc, AtomicU64::new(0)).expect(&rt, "refused")
 }
 
 // A future that answers at its first poll.
@@ -68,7 +67,7 @@ fn answers<R: Abort + Drop + Copy>(rt: R, answer: u64, dropped: &Arc<AtomicU64>)
     Count {
         left: 0,
         answer,
-        dropped: granted(&rt, Arc::try_clone(dropped)),
+        dropped: Arc::try_clone(dropped).expect(&rt, "refused"),
     }
 }
 
@@ -80,8 +79,8 @@ fn bridged<R: Wait + Abort + Drop + Copy>(
     dropped: &Arc<AtomicU64>,
 ) -> (Work<R>, Awaited<R>) {
     let spawned = spawn(rt, alloc, answers(rt, answer, dropped), Nowhere, ());
-    let (runnable, task) = granted(&rt, spawned);
-    (runnable, granted(&rt, Awaits::new(alloc, task)))
+    let (runnable, task) = spawned.expect(&rt, "refused");
+    (runnable, Awaits::new(alloc, task).expect(&rt, "refused"))
 }
 
 // Runs: what the run answers.
@@ -94,7 +93,7 @@ fn wait_for<R: Wait + Abort + RandomSource + AllocGlobal + Drop + Copy>(
     rt: R,
     awaits: Awaited<R>,
 ) -> Answer {
-    granted(&rt, block_on(&rt, awaits))
+    block_on(&rt, awaits).expect(&rt, "refused")
 }
 
 // Lets the kit wait for the first of two tasks, and drop the other: what the left one answered.
@@ -140,7 +139,7 @@ fn join_beside<R: Wait + Abort + Threads + RandomSource + AllocGlobal + Drop + C
         run(second)
     };
     let (_, answers) = thread::join(&rt, run_both, move || block_on(&rt, join(left, right)));
-    granted(&rt, answers)
+    answers.expect(&rt, "refused")
 }
 
 #[test]
@@ -232,9 +231,13 @@ fn bridged_later<'heap, R: Wait + Abort + Drop + Copy>(
     dropped: &Arc<AtomicU64>,
 ) -> (bool, HeapWork<'heap, R>, HeapAwaited<'heap, R>) {
     let spawned = spawn(rt, heap, answers(rt, 6, dropped), Nowhere, ());
-    let (runnable, task) = granted(&rt, spawned);
+    let (runnable, task) = spawned.expect(&rt, "refused");
     let (refused, task) = wrap_in_full_heap(rt, alloc, heap, task);
-    (refused, runnable, granted(&rt, Awaits::new(heap, task)))
+    (
+        refused,
+        runnable,
+        Awaits::new(heap, task).expect(&rt, "refused"),
+    )
 }
 
 // Lets the kit poll such a task once, runs it and waits for it: whether the first bridge was refused, whether the second one was
@@ -249,14 +252,14 @@ fn wait_after_refusal<R: Wait + Abort + RandomSource + AllocGlobal + Drop + Copy
     let polled = block_on(&rt, select(&mut awaits, ready(())));
     let pending = matches!(polled, Ok(Either::Right(_)));
     runnable.run();
-    let answer = granted(&rt, block_on(&rt, awaits));
+    let answer = block_on(&rt, awaits).expect(&rt, "refused");
     (refused, pending, answer)
 }
 
 #[test]
 fn a_bridge_that_was_refused_memory_is_made_later(rt: HostRuntime) {
     let dropped = none_dropped(rt, rt.alloc());
-    let heap = granted(&rt, LocalHeap::new(rt.alloc(), HEAP));
+    let heap = LocalHeap::new(rt.alloc(), HEAP).expect(&rt, "refused");
     let seen = wait_after_refusal(rt, rt.alloc(), &heap, &dropped);
     assert!(rt; seen == (true, true, Ok(6)));
     assert!(rt; heap.used() == 0 && dropped.load(Ordering::SeqCst) == 1);

@@ -1,6 +1,5 @@
 //! Groups of a line, and what comes out of them.
 use super::line::LineGroup;
-use crate::granted::granted;
 use async_task::TaskClosed;
 use executor_parts::TaskGroup;
 use std::alloc::Global;
@@ -16,7 +15,7 @@ pub fn group_of<'x, R: Wait + Abort + Drop + Copy>(
     alloc: Global,
     room: usize,
 ) -> LineGroup<'x, R> {
-    granted(&rt, TaskGroup::new(rt, alloc, room))
+    TaskGroup::new(rt, alloc, room).expect(&rt, "refused")
 }
 
 /// Waits for the next member: `None` where there is none.

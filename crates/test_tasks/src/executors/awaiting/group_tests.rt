@@ -1,7 +1,6 @@
 //! Groups: the order in which members come out, those that ended before their push, a group that is full, the ways to let all go, and what waits after them.
 use super::came_out::{CameOut, group_of, last_of, next_of};
 use super::line::{Errand, Line, LineGroup, LineTask};
-use crate::granted::granted;
 use async_task::TaskClosed;
 use executor_parts::{AwaiterRefused, MemberId, NextUntilError, TaskGroup, left_until};
 use std::alloc::{AllocError, Global};
@@ -209,9 +208,9 @@ fn wait_twice<R: Wait + Clock + Abort + Drop + Copy>(rt: R, alloc: Global) -> ([
     let line = Line::new(rt, alloc, 1);
     let mut group = group_of(rt, alloc, 1);
     push(&line, &mut group, Errand::GiveWay(50));
-    let begin = granted(&rt, Instant::now(&rt));
+    let begin = Instant::now(&rt).expect(&rt, "refused");
     let deadline = begin.checked_add(Duration::from_millis(20));
-    let deadline = granted(&rt, deadline.ok_or(AllocError));
+    let deadline = deadline.expect(&rt, "refused");
     let elapsed = has_elapsed(&mut group, deadline);
     let passed = left_until(&rt, deadline).is_zero();
     line.run();
@@ -230,7 +229,7 @@ fn id_of<R: Wait + Abort + Drop + Copy>(
     group: &LineGroup<'_, R>,
     number: usize,
 ) -> MemberId {
-    granted(&rt, group.id(number).ok_or(()))
+    group.id(number).expect(&rt, "refused")
 }
 
 // Cancels a member of a group, and then all members: what the calls answer.

@@ -1,7 +1,6 @@
 //! An executor of one queue, with a waker and a Task kept for each number, and the mailbox that awaiters post to.
 ghost use Rattle.std.specs.Prelude.{⊤};
 
-use crate::granted::granted;
 use async_task::{
     Future, Poll, Runnable, Schedule, ScheduleInfo, Task, TaskPoll, TaskWaker, Yields, spawn,
 };
@@ -147,9 +146,9 @@ fn swap_at<R: Wait, V: Drop>(
 
 // A store with so many empty places. Stops where there is no memory.
 fn empty_store<R: Abort, V: Drop>(rt: &R, alloc: Global, room: usize) -> Vec<Option<V>> {
-    let mut store = granted(rt, Vec::with_capacity(alloc, room));
+    let mut store = Vec::with_capacity(alloc, room).expect(rt, "refused");
     for _ in 0..room {
-        granted(rt, store.push(None));
+        store.push(None).expect(rt, "refused");
     }
     store
 }
@@ -157,7 +156,7 @@ fn empty_store<R: Abort, V: Drop>(rt: &R, alloc: Global, room: usize) -> Vec<Opt
 impl<R: Wait + Abort + Drop + Copy> Line<R> {
     /// A line for the numbers below `room`. Stops where there is no memory.
     pub fn new(rt: R, alloc: Global, room: usize) -> Line<R> {
-        let mailbox = granted(&rt, Mailbox::new(rt, alloc, room));
+        let mailbox = Mailbox::new(rt, alloc, room).expect(&rt, "refused");
         let wakers = empty_store(&rt, alloc, room);
         let tasks = empty_store(&rt, alloc, room);
         Line {
@@ -175,7 +174,7 @@ impl<R: Wait + Abort + Drop + Copy> Line<R> {
     pub fn spawn(&self, number: usize, errand: Errand) -> LineTask<'_, R> {
         let future = Member { number, errand };
         let spawned = spawn(self.rt, self.alloc, future, ToLine, self);
-        let (runnable, task) = granted(&self.rt, spawned);
+        let (runnable, task) = spawned.expect(&self.rt, "refused");
         runnable.schedule();
         task
     }

@@ -1,5 +1,4 @@
 //! Who listens at a mailbox: when a listener is told of a post, and what becomes of one that is replaced.
-use crate::granted::granted;
 use executor_parts::{Listener, Mailbox};
 use rows_fixtures::rendezvous::Rendezvous;
 use std::alloc::{AllocError, Global};
@@ -62,15 +61,15 @@ fn listen_and_post<R: Wait + Abort + Drop + Copy>(rt: R, alloc: Global) -> [(boo
         told: AtomicU64::new(0),
         untold: AtomicU64::new(0),
     };
-    let counts = granted(&rt, Arc::new(alloc, counts));
-    let mailbox = granted(&rt, Mailbox::new(rt, alloc, 2));
-    granted(&rt, listen(&mailbox, &counts));
+    let counts = Arc::new(alloc, counts).expect(&rt, "refused");
+    let mailbox = Mailbox::new(rt, alloc, 2).expect(&rt, "refused");
+    listen(&mailbox, &counts).expect(&rt, "refused");
     let first = post(&mailbox, &counts, 0);
     let second = post(&mailbox, &counts, 1);
-    granted(&rt, listen(&mailbox, &counts));
+    listen(&mailbox, &counts).expect(&rt, "refused");
     let again = post(&mailbox, &counts, 0);
-    granted(&rt, listen(&mailbox, &counts));
-    granted(&rt, listen(&mailbox, &counts));
+    listen(&mailbox, &counts).expect(&rt, "refused");
+    listen(&mailbox, &counts).expect(&rt, "refused");
     let outside = post(&mailbox, &counts, 2);
     let last = post(&mailbox, &counts, 1);
     [first, second, again, outside, last]
@@ -119,11 +118,11 @@ fn post_and_take<R: Wait + Abort + Threads + Drop + Copy + Send + Sync>(
     rt: R,
     alloc: Global,
 ) -> (Option<usize>, bool) {
-    let rendezvous = granted(&rt, Arc::new(alloc, Rendezvous::new()));
-    let mailbox = granted(&rt, Mailbox::new(rt, alloc, 2));
+    let rendezvous = Arc::new(alloc, Rendezvous::new()).expect(&rt, "refused");
+    let mailbox = Mailbox::new(rt, alloc, 2).expect(&rt, "refused");
     rendezvous.arm();
     let listener = Meets {
-        rendezvous: granted(&rt, Arc::try_clone(&rendezvous)),
+        rendezvous: Arc::try_clone(&rendezvous).expect(&rt, "refused"),
     };
     mailbox.listen(listener);
     let (_, taken) = thread::join(

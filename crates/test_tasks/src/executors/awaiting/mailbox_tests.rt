@@ -1,5 +1,4 @@
 //! The mailbox: order, numbers that wait already, the room, and two threads that sleep at it.
-use crate::granted::granted;
 use async_task::Wake;
 use executor_parts::{Awaiter, Mailbox};
 use std::alloc::{AllocError, Global};
@@ -17,8 +16,8 @@ const YIELDS: usize = 500;
 // Posts 2, 0, 2 and 3 to a mailbox with room for three numbers, one by an awaiter, and takes out what is there: whether each post
 // but the last was answered yes, and 2 and 0 came out, and no more before the awaiter posted again.
 fn post_and_take<R: Wait + Abort + Drop + Copy>(rt: R, alloc: Global) -> bool {
-    let mailbox = granted(&rt, Mailbox::new(rt, alloc, 3));
-    let awaiter = granted(&rt, Awaiter::new(&mailbox, 0).ok_or(AllocError));
+    let mailbox = Mailbox::new(rt, alloc, 3).expect(&rt, "refused");
+    let awaiter = Awaiter::new(&mailbox, 0).expect(&rt, "refused");
     let first = mailbox.post(2);
     awaiter.wake_by_ref();
     let again = mailbox.post(2);
@@ -69,7 +68,7 @@ fn wait_in_two<R: Wait + Abort + Threads + Drop + Copy + Send + Sync>(
     rt: R,
     alloc: Global,
 ) -> (usize, usize) {
-    let mailbox: Arc<Mailbox<R>> = granted(&rt, Mailbox::new(rt, alloc, 2));
+    let mailbox: Arc<Mailbox<R>> = Mailbox::new(rt, alloc, 2).expect(&rt, "refused");
     let said = AtomicU64::new(0);
     let (_, numbers) = thread::join(
         &rt,

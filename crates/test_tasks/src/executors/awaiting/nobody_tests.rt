@@ -1,7 +1,6 @@
 //! The awaiter that wakes nobody.
 //! Of what is only tested (docs/PROOFS.md): Whose.
 use super::number::{Nowhere, Number};
-use crate::granted::granted;
 use async_task::{Task, TaskPoll, Wake, spawn};
 use executor_parts::Nobody;
 use std::alloc::Global;
@@ -11,7 +10,7 @@ use std::sync::Wait;
 // Polls a task before and after its run: whether the first poll was pending, and the second had the output.
 fn await_by_nobody<R: Wait + Abort + Drop + Copy>(rt: R, alloc: Global) -> [bool; 2] {
     let spawned = spawn(rt, alloc, Number(5), Nowhere, ());
-    let (runnable, mut task): (_, Task<_, _, _, _, Nobody, ()>) = granted(&rt, spawned);
+    let (runnable, mut task): (_, Task<_, _, _, _, Nobody, ()>) = spawned.expect(&rt, "refused");
     let pending = matches!(task.poll(&Nobody), TaskPoll::Pending);
     runnable.run();
     let ready = matches!(task.poll(&Nobody), TaskPoll::Ready(Ok(5)));

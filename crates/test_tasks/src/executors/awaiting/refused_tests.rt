@@ -2,7 +2,6 @@
 ghost use Rattle.std.specs.Prelude.{⊤};
 
 use super::number::{Nowhere, Number};
-use crate::granted::granted;
 use async_task::{Runnable, Wake, spawn};
 use executor_parts::{AwaiterRefused, Mailbox, Nobody, Posts, TaskGroup};
 use std::alloc::Global;
@@ -80,8 +79,8 @@ fn push<R: Wait + Abort + Drop + Copy>(
     group: &mut OnlyGroup<R>,
     answer: u64,
 ) -> OnlyRunnable<R> {
-    let (runnable, task) = granted(&rt, spawn(rt, alloc, Number(answer), Nowhere, ()));
-    granted(&rt, group.push(task));
+    let (runnable, task) = spawn(rt, alloc, Number(answer), Nowhere, ()).expect(&rt, "refused");
+    group.push(task).expect(&rt, "refused");
     runnable
 }
 
@@ -95,7 +94,7 @@ fn look_before_and_after<R: Wait + Abort + Drop + Copy>(
     rt: R,
     alloc: Global,
 ) -> (usize, [Found; 4]) {
-    let mut group: OnlyGroup<R> = granted(&rt, TaskGroup::new(rt, alloc, 2));
+    let mut group: OnlyGroup<R> = TaskGroup::new(rt, alloc, 2).expect(&rt, "refused");
     let first = push(rt, alloc, &mut group, 5);
     let second = push(rt, alloc, &mut group, 6);
     let refused = look(&mut group);

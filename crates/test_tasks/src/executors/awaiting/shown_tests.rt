@@ -1,12 +1,11 @@
 //! How a mailbox, a group, its handles and what comes out of it are shown, and what their errors say.
 use super::line::{Errand, Line, LineGroup};
-use crate::granted::granted;
 use async_task::TaskClosed;
+use executor_parts::kit::{AwaitError, AwaitsRefused};
 use executor_parts::{
     Awaiter, AwaiterRefused, BlockOnError, GroupFull, GroupSpawnError, Mailbox, NextUntilError,
     Numbers, TaskGroup,
 };
-use kit_bridge::{AwaitError, AwaitsRefused};
 use std::alloc::{AllocError, Global};
 use std::error::Error;
 use std::fmt::Debug;
@@ -15,7 +14,7 @@ use std::process::Abort;
 use std::sync::Wait;
 
 fn shown<R: Abort, T: Debug>(rt: &R, alloc: Global, value: &T) -> String {
-    granted(rt, format!(in alloc; "{value:?}"))
+    format!(in alloc; "{value:?}").expect(rt, "refused")
 }
 
 // What the `io::Error` of an error says.
@@ -23,7 +22,7 @@ fn io_text<R: Abort, E: Drop>(rt: &R, alloc: Global, error: E) -> String
 where
     io::Error: From<E>,
 {
-    granted(rt, format!(in alloc; "{}", io::Error::from(error)))
+    format!(in alloc; "{}", io::Error::from(error)).expect(rt, "refused")
 }
 
 // Whether an error says this, and its `io::Error` as well.
@@ -31,21 +30,21 @@ fn says<R: Abort, E: Error>(rt: &R, alloc: Global, error: E, words: &str) -> boo
 where
     io::Error: From<E>,
 {
-    let text = granted(rt, format!(in alloc; "{error}"));
+    let text = format!(in alloc; "{error}").expect(rt, "refused");
     text.as_str() == words && io_text(rt, alloc, error).as_str() == words
 }
 
 // A mailbox, and an awaiter of it.
 fn show_mailbox<R: Wait + Abort + Drop + Copy>(rt: R, alloc: Global) -> [String; 2] {
-    let mailbox = granted(&rt, Mailbox::new(rt, alloc, 4));
-    let awaiter = granted(&rt, Awaiter::new(&mailbox, 3).ok_or(AllocError));
+    let mailbox = Mailbox::new(rt, alloc, 4).expect(&rt, "refused");
+    let awaiter = Awaiter::new(&mailbox, 3).expect(&rt, "refused");
     [shown(&rt, alloc, &*mailbox), shown(&rt, alloc, &awaiter)]
 }
 
 #[test]
 fn a_mailbox_and_what_waits_in_it_are_shown(rt: HostRuntime) {
     let [mailbox, awaiter] = show_mailbox(rt, rt.alloc());
-    let mut numbers = granted(&rt, Numbers::new(rt.alloc(), 2));
+    let mut numbers = Numbers::new(rt.alloc(), 2).expect(&rt, "refused");
     numbers.post(1);
     let numbers = shown(&rt, rt.alloc(), &numbers);
     assert!(rt;
@@ -58,11 +57,13 @@ fn a_mailbox_and_what_waits_in_it_are_shown(rt: HostRuntime) {
 #[test]
 fn a_group_and_its_members_are_shown(rt: HostRuntime) {
     let line = Line::new(rt, rt.alloc(), 1);
-    let mut group: LineGroup<'_, _> = granted(&rt, TaskGroup::new(rt, rt.alloc(), 1));
-    granted(&rt, group.push(line.spawn(0, Errand::Answer(7))));
+    let mut group: LineGroup<'_, _> = TaskGroup::new(rt, rt.alloc(), 1).expect(&rt, "refused");
+    group
+        .push(line.spawn(0, Errand::Answer(7)))
+        .expect(&rt, "refused");
     line.run();
     let before = shown(&rt, rt.alloc(), &group);
-    let ended = granted(&rt, group.next());
+    let ended = group.next().expect(&rt, "refused");
     let ended = shown(&rt, rt.alloc(), &ended);
     assert!(rt; before.as_str() == "TaskGroup { len: 1, .. }");
     assert!(rt; ended.as_str() == "Some(Ended { number: 0, answer: Ok(7) })");
@@ -71,9 +72,11 @@ fn a_group_and_its_members_are_shown(rt: HostRuntime) {
 // A handle that aborts the one member of a group.
 fn show_abort_handle<R: Wait + Abort + Drop + Copy>(rt: R, alloc: Global) -> String {
     let line = Line::new(rt, alloc, 1);
-    let mut group: LineGroup<'_, R> = granted(&rt, TaskGroup::new(rt, alloc, 1));
-    granted(&rt, group.push(line.spawn(0, Errand::Answer(7))));
-    let handle = granted(&rt, group.abort_handle(0).ok_or(()));
+    let mut group: LineGroup<'_, R> = TaskGroup::new(rt, alloc, 1).expect(&rt, "refused");
+    group
+        .push(line.spawn(0, Errand::Answer(7)))
+        .expect(&rt, "refused");
+    let handle = group.abort_handle(0).expect(&rt, "refused");
     shown(&rt, alloc, &handle)
 }
 

@@ -2,7 +2,6 @@
 ghost use Rattle.std.specs.Prelude.{⊤};
 
 use super::number::Number;
-use crate::granted::granted;
 use async_task::{Schedule, ScheduleInfo};
 use executor_parts::{Awaiter, GroupSpawnError, TaskGroup};
 use linked_list_allocator::LocalHeap;
@@ -43,7 +42,7 @@ type Spawned = Result<CameOut, bool>;
 
 // A heap of that many blocks of 16 bytes.
 fn heap_of<R: Abort + Drop + Copy>(rt: R, alloc: Global, blocks: u16) -> Heap {
-    Counting::new(granted(&rt, LocalHeap::new(alloc, 16 * usize::from(blocks))))
+    Counting::new(LocalHeap::new(alloc, 16 * usize::from(blocks)).expect(&rt, "refused"))
 }
 
 // Whether nothing of a heap of that many blocks is taken: all of it can be had at once.
@@ -108,7 +107,7 @@ fn spawn_once<'heap, R: Wait + Abort + Drop + Copy>(
     blocks: u16,
     roomy: &'heap Heap,
 ) -> (u64, Spawned) {
-    let mut group: HeapGroup<'heap, R> = granted(&rt, TaskGroup::new(rt, alloc, 1));
+    let mut group: HeapGroup<'heap, R> = TaskGroup::new(rt, alloc, 1).expect(&rt, "refused");
     let schedule = Nowhere {
         numbers: [3; WIDTH],
     };

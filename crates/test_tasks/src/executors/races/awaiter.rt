@@ -1,7 +1,6 @@
 //! The awaiter of a race.
 ghost use Rattle.std.specs.Prelude.{⊤};
 
-use crate::granted::granted;
 use async_task::Wake;
 use rows_fixtures::counters::{Counter, Counters};
 use rows_fixtures::rendezvous::Rendezvous;
@@ -85,7 +84,7 @@ impl RaceAwaiter {
             rendezvous: Rendezvous::new(),
         };
         RaceAwaiter {
-            shared: granted(rt, Arc::new(alloc, shared)),
+            shared: Arc::new(alloc, shared).expect(rt, "refused"),
         }
     }
 

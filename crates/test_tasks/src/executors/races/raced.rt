@@ -3,7 +3,6 @@ ghost use Rattle.std.specs.Prelude.{⊤};
 
 use crate::executors::calls;
 use crate::executors::races::awaiter::RaceAwaiter;
-use crate::granted::granted;
 use async_task::{
     Cancel, Future, ParkedRunnable, ParkedWaker, Poll, Runnable, Schedule, ScheduleInfo, Task,
     TaskWaker, Yields, spawn,
@@ -199,7 +198,7 @@ impl<R: Wait + Abort + Drop + Copy> RaceSurroundings<R> {
             counters: calls::share(self.rt, &self.counters),
         };
         let spawned = spawn(self.rt, self.alloc, future, schedule, self);
-        granted(&self.rt, spawned)
+        spawned.expect(&self.rt, "refused")
     }
 }
 

@@ -1,6 +1,6 @@
 //! How the bridge is shown.
-use crate::awaiter::KitAwaiter;
-use crate::awaits::{Awaits, AwaitsRefused};
+use crate::kit::awaiter::KitAwaiter;
+use crate::kit::awaits::{Awaits, AwaitsRefused};
 use async_task::{Runnable, Schedule, Yields};
 use std::alloc::Allocator;
 use std::fmt;

@@ -5,9 +5,9 @@ ghost use Rattle.futures.specs.Poll.{IfReady, OnPending};
 ghost use Rattle.futures.specs.Task.{Covers, Keeps};
 ghost use Rattle.task_steps.specs.Steps.{saw_ended};
 ghost use Rattle.task_cell.specs.Calls.{deeds};
-ghost use Rattle.kit_bridge.specs.Answers.{PollsTask};
+ghost use Rattle.executor_parts.specs.KitAnswers.{PollsTask};
 
-use crate::awaiter::KitAwaiter;
+use crate::kit::awaiter::KitAwaiter;
 use async_task::{Runnable, Schedule, Task, TaskPoll, Yields};
 use futures::Future;
 use futures::task::{Context, Poll};

@@ -2,7 +2,7 @@
 ghost use Rattle.std.specs.Prelude.{⊤, ◌≡◌, false, IfSome};
 ghost use Rattle.std.specs.Arc.{arc_value};
 ghost use Rattle.futures.specs.Task.{Hears, IsArmed, Keeps};
-ghost use Rattle.kit_bridge.specs.Answers.{SharesSlot};
+ghost use Rattle.executor_parts.specs.KitAnswers.{SharesSlot};
 
 use async_task::Wake;
 use futures::spin;

@@ -1,9 +1,7 @@
 //! A Task as a future of the kit's crate `futures`, which sleeps until the task is over.
-//! It stands on the Task of `async_task`, on the futures, wakers and spin lock of the kit's `futures`, and on its `thiserror`.
 //! A user spawns a task whose type of awaiter is `KitAwaiter`, and wraps its Task in an `Awaits`, which makes that awaiter.
 //! The reverse is left out: a wake of the kit rings a `Doorbell`, a closed type that calls no code of a user.
-//! The page is README.md, beside the code.
-#![tactic(auto)]
+//! The page is KIT.md.
 
 mod awaiter;
 mod awaits;

@@ -7,9 +7,9 @@ use Rattle.task_core.specs.declared.traits.TaskPoll.{TaskPoll}
 use Rattle.task_core.specs.declared.traits.TaskPoll.TheVariants.{Pending as Waits, Ready as Ends, Refused as Refuses}
 use Rattle.task_cell.specs.declared.cell.Party.{Party}
 use Rattle.async_task.specs.HandlePaths.{PollsOnce}
-use Rattle.kit_bridge.specs.declared.awaiter.KitAwaiter.{KitAwaiter}
-use Rattle.kit_bridge.specs.declared.awaits.AwaitError.{AwaitError}
-use Rattle.kit_bridge.specs.declared.awaits.AwaitError.TheVariants.{Closed, Refused}
+use Rattle.executor_parts.specs.declared.kit.awaiter.KitAwaiter.{KitAwaiter}
+use Rattle.executor_parts.specs.declared.kit.awaits.AwaitError.{AwaitError}
+use Rattle.executor_parts.specs.declared.kit.awaits.AwaitError.TheVariants.{Closed, Refused}
 
 -- a clone of an awaiter has its slot
 abbrev pub SharesSlot : {B : Type 0} → KitAwaiter B → Option (KitAwaiter B) → Type 0
