@@ -9,16 +9,6 @@ pub struct Limited {
     pub flushes: bool,
 }
 
-impl Limited {
-    /// It takes nothing.
-    pub fn full() -> Limited {
-        Limited {
-            left: 0,
-            flushes: true,
-        }
-    }
-}
-
 impl io::Write for Limited {
     fn write(&mut self, bytes: &[u8]) -> io::Result<usize> {
         if self.left < bytes.len() {
