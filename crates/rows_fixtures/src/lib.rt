@@ -1,4 +1,4 @@
-//! What rows and tests stand on: futures and schedule values that count what happens to them, a queue, and stores of handles;
+//! What rows and tests stand on: futures and schedule values that count what happens to them, a queue, and stores of handles; calls of handles;
 //! what they look at afterwards, as counters, an awaiter, outputs, how a row ended, and what an allocator was asked for; a writer that fails;
 //! and the names of the rows, with what `rows_program` prints of them.
 //! It stands on `async_task` and `executor_parts`.
@@ -8,6 +8,7 @@
 #![tactic(auto)]
 
 pub mod behaviour;
+pub mod calls;
 pub mod counters;
 pub mod counting;
 pub mod executor;

@@ -1,26 +1,21 @@
-//! Calls of handles of the rows, and looks at what they left, each in a function of its own that is generic in `R` alone:
-//! so each is proved once, and a row costs little more.
+//! Calls of handles of the rows beside those of `rows_fixtures`, and looks at what they left.
 ghost use Rattle.std.specs.Prelude.{IfOk};
 ghost use Rattle.rows_program.specs.Agreement.{AgreesAt};
 
-use async_task::{Cancel, FallibleTask, TaskClosed, TaskPoll};
+use async_task::{TaskClosed, TaskPoll};
 use rows_fixtures::behaviour::Behaviour;
+pub use rows_fixtures::calls::{
+    RowCancel, RowFallible, detach, drop_cancel, drop_given, drop_runnable, drop_task, drop_waker,
+    is_finished, is_pending, is_ready, run, wake, wake_by_ref,
+};
 use rows_fixtures::counters::Counts;
 use rows_fixtures::executor::{PriorityQueue, PriorityTask};
 use rows_fixtures::fixture::Fixture;
 use rows_fixtures::flag::Flag;
-use rows_fixtures::future::RowFuture;
 use rows_fixtures::outcome::Outcome;
-use rows_fixtures::output::is_ready_with;
-use rows_fixtures::surroundings::{RowRunnable, RowTask, RowWaker, Scheduler, Surroundings};
+use rows_fixtures::surroundings::{RowRunnable, RowTask, RowWaker, Surroundings};
 use std::alloc::AllocError;
 use std::sync::Wait;
-
-/// A Cancel of the rows.
-pub type RowCancel<'x, R> = Cancel<R, RowFuture, Scheduler, (), Flag, &'x Surroundings<R>>;
-
-/// A FallibleTask of the rows.
-pub type RowFallible<'x, R> = FallibleTask<R, RowFuture, Scheduler, (), Flag, &'x Surroundings<R>>;
 
 /// Spawns a task whose future behaves like that.
 pub fn spawn<R: Wait + Drop + Copy>(
@@ -198,19 +193,9 @@ pub fn ended_if<R: Wait + Drop + Copy>(
     )
 }
 
-/// Runs: what the run answers.
-pub fn run<R: Wait + Drop + Copy>(runnable: RowRunnable<'_, R>) -> bool {
-    runnable.run()
-}
-
 /// Schedules a Runnable.
 pub fn schedule<R: Wait + Drop + Copy>(runnable: RowRunnable<'_, R>) {
     runnable.schedule();
-}
-
-/// Drops a Runnable.
-pub fn drop_runnable<R: Wait + Drop + Copy>(runnable: RowRunnable<'_, R>) {
-    drop(runnable);
 }
 
 /// Whether a Runnable shows the flags and the count of that word.
@@ -222,43 +207,14 @@ pub fn runnable_shows<R: Wait + Drop + Copy>(
     fixture.shows(runnable, word)
 }
 
-/// Polls a Task: whether it is pending.
-pub fn is_pending<R: Wait + Drop + Copy>(task: &mut RowTask<'_, R>, awaiter: &Flag) -> bool {
-    matches!(task.poll(awaiter), TaskPoll::Pending)
-}
-
 /// Polls a Task: whether its awaiter was refused.
 pub fn is_refused<R: Wait + Drop + Copy>(task: &mut RowTask<'_, R>, awaiter: &Flag) -> bool {
     matches!(task.poll(awaiter), TaskPoll::Refused)
 }
 
-/// Polls a Task: whether it is ready with that number.
-pub fn is_ready<R: Wait + Drop + Copy>(
-    task: &mut RowTask<'_, R>,
-    awaiter: &Flag,
-    number: u64,
-) -> bool {
-    is_ready_with(&task.poll(awaiter), number)
-}
-
 /// Polls a Task: whether it is closed.
 pub fn is_closed<R: Wait + Drop + Copy>(task: &mut RowTask<'_, R>, awaiter: &Flag) -> bool {
     matches!(task.poll(awaiter), TaskPoll::Ready(Err(TaskClosed)))
-}
-
-/// Whether the task of a Task is finished.
-pub fn is_finished<R: Wait + Drop + Copy>(task: &mut RowTask<'_, R>) -> bool {
-    task.is_finished()
-}
-
-/// Drops a Task.
-pub fn drop_task<R: Wait + Drop + Copy>(task: RowTask<'_, R>) {
-    drop(task);
-}
-
-/// Detaches a Task.
-pub fn detach<R: Wait + Drop + Copy>(task: RowTask<'_, R>) {
-    task.detach();
 }
 
 /// Whether a Task shows the flags and the count of that word.
@@ -307,11 +263,6 @@ pub fn is_cancel_finished<R: Wait + Drop + Copy>(cancel: &mut RowCancel<'_, R>) 
     cancel.is_finished()
 }
 
-/// Drops a Cancel.
-pub fn drop_cancel<R: Wait + Drop + Copy>(cancel: RowCancel<'_, R>) {
-    drop(cancel);
-}
-
 /// A waker of a Runnable, unless it is refused.
 pub fn waker_of<'x, R: Wait + Drop + Copy>(
     runnable: &RowRunnable<'x, R>,
@@ -324,27 +275,7 @@ pub fn clone_of<'x, R: Wait + Drop + Copy>(waker: &RowWaker<'x, R>) -> Option<Ro
     waker.try_clone()
 }
 
-/// Drops a waker, if one was given: whether it was.
-pub fn drop_given<R: Wait + Drop + Copy>(given: Option<RowWaker<'_, R>>) -> bool {
-    given.is_some()
-}
-
 /// Takes the oldest Runnable out of the queue, and drops it: whether there was one.
 pub fn drop_received<R: Wait + Drop + Copy>(surroundings: &Surroundings<R>) -> bool {
     surroundings.receive().is_some()
-}
-
-/// Wakes by value.
-pub fn wake<R: Wait + Drop + Copy>(waker: RowWaker<'_, R>) {
-    waker.wake();
-}
-
-/// Wakes by reference.
-pub fn wake_by_ref<R: Wait + Drop + Copy>(waker: &RowWaker<'_, R>) {
-    waker.wake_by_ref();
-}
-
-/// Drops a waker.
-pub fn drop_waker<R: Wait + Drop + Copy>(waker: RowWaker<'_, R>) {
-    drop(waker);
 }

@@ -2,7 +2,7 @@
 
 mod awaiter_tests;
 mod builder_tests;
-mod calls;
+pub mod calls;
 mod ending_tests;
 mod lent_tests;
 mod limit_tests;

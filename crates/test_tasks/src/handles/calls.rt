@@ -1,22 +1,18 @@
-//! Calls of handles of the rows, each in a function of its own that answers plain data. A test sees all that it looks at
+//! Calls of handles of the rows beside those of `rows_fixtures`, each in a function of its own that answers plain data. A test sees all that it looks at
 //! by these while its handles live, lets them go, and compares at its end.
 
-use async_task::{Cancel, FallibleTask, TaskPoll, Wake};
+use async_task::{TaskPoll, Wake};
 use rows_fixtures::behaviour::Behaviour;
+pub use rows_fixtures::calls::{
+    RowCancel, RowFallible, detach, drop_cancel, drop_given, drop_runnable, drop_task, drop_waker,
+    is_finished, is_pending, is_ready, run, wake, wake_by_ref,
+};
 use rows_fixtures::fixture::Fixture;
 use rows_fixtures::flag::Flag;
-use rows_fixtures::future::RowFuture;
-use rows_fixtures::output::is_ready_with;
-use rows_fixtures::surroundings::{RowRunnable, RowTask, RowWaker, Scheduler, Surroundings};
+use rows_fixtures::surroundings::{RowRunnable, RowTask, RowWaker};
 use std::alloc::Global;
 use std::process::Abort;
 use std::sync::Wait;
-
-/// A FallibleTask of the rows.
-pub type RowFallible<'x, R> = FallibleTask<R, RowFuture, Scheduler, (), Flag, &'x Surroundings<R>>;
-
-/// A Cancel of the rows.
-pub type RowCancel<'x, R> = Cancel<R, RowFuture, Scheduler, (), Flag, &'x Surroundings<R>>;
 
 /// Surroundings of a test's own. Stops where there is no memory.
 pub fn fixture<R: Wait + Abort + Drop + Copy>(rt: R, alloc: Global) -> Fixture<R> {
@@ -51,11 +47,6 @@ pub fn spawn_limited<'x, R: Wait + Abort + Drop + Copy>(
         .expect(&fixture.rt, "refused")
 }
 
-/// Runs: what the run answers.
-pub fn run<R: Wait + Drop + Copy>(runnable: RowRunnable<'_, R>) -> bool {
-    runnable.run()
-}
-
 /// Runs the Runnable that has waited longest, if there is one: whether it showed the flags and the count of that word, and what the run answered.
 pub fn run_queued<R: Wait + Drop + Copy>(fixture: &Fixture<R>, word: u64) -> Option<(bool, bool)> {
     match fixture.surroundings.receive() {
@@ -76,11 +67,6 @@ pub fn go_idle<'x, R: Wait + Abort + Drop + Copy>(
     (run(runnable), task, waker)
 }
 
-/// Drops a Runnable.
-pub fn drop_runnable<R: Wait + Drop + Copy>(runnable: RowRunnable<'_, R>) {
-    drop(runnable);
-}
-
 /// Whether a Runnable shows the flags and the count of that word.
 pub fn runnable_shows<R: Wait + Drop + Copy>(
     fixture: &Fixture<R>,
@@ -88,35 +74,6 @@ pub fn runnable_shows<R: Wait + Drop + Copy>(
     word: u64,
 ) -> bool {
     matches!(fixture.shows(runnable, word), Ok(true))
-}
-
-/// Polls a Task: whether it is pending.
-pub fn is_pending<R: Wait + Drop + Copy>(task: &mut RowTask<'_, R>, awaiter: &Flag) -> bool {
-    matches!(task.poll(awaiter), TaskPoll::Pending)
-}
-
-/// Polls a Task: whether it is ready with that number.
-pub fn is_ready<R: Wait + Drop + Copy>(
-    task: &mut RowTask<'_, R>,
-    awaiter: &Flag,
-    number: u64,
-) -> bool {
-    is_ready_with(&task.poll(awaiter), number)
-}
-
-/// Whether the task of a Task is finished.
-pub fn is_finished<R: Wait + Drop + Copy>(task: &mut RowTask<'_, R>) -> bool {
-    task.is_finished()
-}
-
-/// Drops a Task.
-pub fn drop_task<R: Wait + Drop + Copy>(task: RowTask<'_, R>) {
-    drop(task);
-}
-
-/// Detaches a Task.
-pub fn detach<R: Wait + Drop + Copy>(task: RowTask<'_, R>) {
-    task.detach();
 }
 
 /// Detaches a FallibleTask.
@@ -164,20 +121,12 @@ pub fn poll_cancel<R: Wait + Drop + Copy>(
     )
 }
 
-/// Drops a Cancel.
-pub fn drop_cancel<R: Wait + Drop + Copy>(cancel: RowCancel<'_, R>) {
-    drop(cancel);
-}
-
 /// A waker of a Runnable. Stops where it is refused.
 pub fn waker_of<'x, R: Wait + Abort + Drop + Copy>(
     rt: R,
     runnable: &RowRunnable<'x, R>,
 ) -> RowWaker<'x, R> {
-    match runnable.waker() {
-        Some(waker) => waker,
-        None => panic!(rt; "a waker was refused"),
-    }
+    runnable.waker().expect(&rt, "refused")
 }
 
 /// Whether a Runnable is refused a waker. One that is given is dropped.
@@ -190,35 +139,12 @@ pub fn clone_of<'x, R: Wait + Abort + Drop + Copy>(
     rt: R,
     waker: &RowWaker<'x, R>,
 ) -> RowWaker<'x, R> {
-    match waker.try_clone() {
-        Some(clone) => clone,
-        None => panic!(rt; "a clone of a waker was refused"),
-    }
+    waker.try_clone().expect(&rt, "refused")
 }
 
 /// Whether a waker is refused a clone. One that is given is dropped.
 pub fn refuses_clone<R: Wait + Drop + Copy>(waker: &RowWaker<'_, R>) -> bool {
     !drop_given(waker.try_clone())
-}
-
-/// Drops a waker, if one was given: whether it was.
-pub fn drop_given<R: Wait + Drop + Copy>(given: Option<RowWaker<'_, R>>) -> bool {
-    given.is_some()
-}
-
-/// Wakes by value.
-pub fn wake<R: Wait + Drop + Copy>(waker: RowWaker<'_, R>) {
-    waker.wake();
-}
-
-/// Wakes by reference.
-pub fn wake_by_ref<R: Wait + Drop + Copy>(waker: &RowWaker<'_, R>) {
-    waker.wake_by_ref();
-}
-
-/// Drops a waker.
-pub fn drop_waker<R: Wait + Drop + Copy>(waker: RowWaker<'_, R>) {
-    drop(waker);
 }
 
 /// Clones an awaiter, and wakes the clone by value: whether the awaiter knew it, or `None` where it was refused.
