@@ -18,7 +18,6 @@ mod counter;
 #[cfg(test)]
 mod gate;
 #[cfg(test)]
-#[cfg(test)]
 mod interval_tests;
 #[cfg(test)]
 mod joining_all_tests;

@@ -14,7 +14,6 @@ mod ending_tests;
 #[cfg(test)]
 mod future_tests;
 #[cfg(test)]
-#[cfg(test)]
 mod guest;
 #[cfg(test)]
 mod hostile_tests;

@@ -9,7 +9,6 @@ mod count_tests;
 #[cfg(test)]
 mod executors;
 #[cfg(test)]
-#[cfg(test)]
 mod handles;
 #[cfg(test)]
 mod row_tests;
