@@ -17,7 +17,7 @@ PATH = re.compile(r"`(crates/[\w./]+|crates\.txt)`")
 FENCED = re.compile(r"^```\w*\n(.*?)^```\n", re.MULTILINE | re.DOTALL)
 WHOLE = ("README.md", "docs/GUIDE.md")
 # crates with a page of their own, which is looked at as the other pages are
-CRATES = ("task_core", "task_atomic", "task_replay", "executor_parts", "future_parts", "local_task", "executor", "async_task")
+CRATES = ("task_core", "task_laws", "task_progress", "task_steps", "task_cell", "task_atomic", "task_replay", "executor_parts", "future_parts", "local_task", "executor", "async_task")
 EXCERPTS = ("docs/EXECUTOR_POOL.md", "crates/executor_parts/KIT.md") + tuple(f"crates/{name}/README.md" for name in CRATES)
 # the pages that name hardly anything but what this repository has, and what they name of the kit
 NAMING = WHOLE + EXCERPTS + (

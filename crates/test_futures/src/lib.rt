@@ -1,5 +1,5 @@
 //! The tests of the futures of `future_parts`: on one thread by a waker that counts its wakes, and on many;
-//! and of timers, by such a waker and times that the test gives, by the `block_on` of shared wakers and by threads; and of that `block_on`.
+//! and of timers, by such a waker and times that the test gives, by the `block_on` of shared wakers and by threads; of that `block_on`, and of a desk.
 //! It stands on `future_parts`, `future_time`, `executor_parts` and `executor`. Nothing is public. The pages are those of the first two crates, and that of shared wakers.
 #![tactic(auto)]
 
@@ -15,6 +15,8 @@ mod channel_tests;
 mod closed_tests;
 #[cfg(test)]
 mod counter;
+#[cfg(test)]
+mod desk_tests;
 #[cfg(test)]
 mod gate;
 #[cfg(test)]
