@@ -11,6 +11,17 @@ fn new_desk<R: Wait + Abort + Drop + Copy>(rt: R, alloc: Global, tasks: usize) -
     Desk::new(rt, alloc, tasks).expect(&rt, "refused")
 }
 
+// Keeps the token of this number for the task of a shared waker, which is made where there is none: whether it is kept.
+fn keep<R: Wait + Abort + Drop + Copy>(
+    rt: R,
+    desk: &Desk<R, Token>,
+    count: &Arc<()>,
+    number: u64,
+    shared: &mut Option<MailWaker<R>>,
+) -> bool {
+    desk.keep(make_token(&rt, count, number), shared)
+}
+
 // The shared waker of a new task, whose waker is the token of this number. `None` where it is refused.
 fn keep_new<R: Wait + Abort + Drop + Copy>(
     rt: R,
@@ -19,19 +30,8 @@ fn keep_new<R: Wait + Abort + Drop + Copy>(
     number: u64,
 ) -> Option<MailWaker<R>> {
     let mut shared = None;
-    let _is_kept = desk.keep(make_token(&rt, count, number), &mut shared);
+    keep(rt, desk, count, number, &mut shared);
     shared
-}
-
-// Keeps the token of this number for the task of a shared waker: whether it is kept.
-fn keep_again<R: Wait + Abort + Drop + Copy>(
-    rt: R,
-    desk: &Desk<R, Token>,
-    count: &Arc<()>,
-    number: u64,
-    shared: &mut Option<MailWaker<R>>,
-) -> bool {
-    desk.keep(make_token(&rt, count, number), shared)
 }
 
 fn wake<R: Wait + Drop + Copy>(shared: &Option<MailWaker<R>>) {
@@ -59,7 +59,7 @@ fn woken_of_two<R: Wait + Abort + Drop + Copy>(
     let mut second = keep_new(rt, &desk, count, 2);
     wake(&second);
     let once = [number_of(desk.next()), number_of(desk.next())];
-    let is_kept = keep_again(rt, &desk, count, 3, &mut second);
+    let is_kept = keep(rt, &desk, count, 3, &mut second);
     wake(&second);
     wake(&second);
     let again = [number_of(desk.next()), number_of(desk.next())];
