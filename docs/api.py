@@ -58,14 +58,14 @@ def filled(text):
             known = {}
             for crate in re.findall(r"`(\w+)(?:::\w+)?`", line):
                 for below in BELOW.get(crate, (crate,)):
-                    known.update(sentences(below) if (HERE / "crates" / below).is_dir() else {})
+                    known.update(sentences(below))
         call = CALL.fullmatch(line)
         if call and known:
             sentence = known.get((call[2] or "", call[3]))
             if sentence:
                 line = f"{call[1]} {sentence}{call[4] or ''}"
             else:
-                lost.append(line.split(":")[0])
+                lost.append(line.split("`")[1])
         lines.append(line)
     return "\n".join(lines) + "\n", lost
 
@@ -73,7 +73,7 @@ def filled(text):
 page = PAGE.read_text(encoding="utf-8")
 new, lost = filled(page)
 for call in lost:
-    print(f"docs/API.md: no call {call} with a doc comment")
+    print(f"docs/API.md: no call `{call}` with a doc comment")
 if sys.argv[1:] != ["--check"]:
     PAGE.write_text(new, encoding="utf-8")
 elif new != page:
