@@ -2,7 +2,7 @@
 //! It stands on the steps of `task_steps`.
 //! A user calls `Runnable`, `TaskWaker`, and the forms in which they are kept, by way of `async_task`.
 //! `Cell`, `Party`, `EndedCall`, `Share` and `Kept` are public for `async_task`, and to carry the claims on the path of each call.
-//! The pages are docs/RULES.md and docs/PROOFS.md.
+//! The pages are README.md, beside the code, and docs/RULES.md.
 #![tactic(auto)]
 
 pub mod cell;

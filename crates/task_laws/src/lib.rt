@@ -2,7 +2,7 @@
 //! It stands on the word and the acts of `task_core`.
 //! A user calls nothing of it: the contract of `laws` is the theorem, and `specs/Lib.antt` gives the order in which to read its definitions.
 //! `positions` is public to carry the claims of the crates above.
-//! The page is docs/MACHINE.md.
+//! The pages are README.md, beside the code, and docs/MACHINE.md.
 #![tactic(auto)]
 
 pub mod positions;

@@ -2,7 +2,7 @@
 //! It stands on the machine of `task_laws`.
 //! A user calls nothing of it: the contract of `progress` is the theorem.
 //! `wrong_tables` is public to show that two tables which spin or wait are refused.
-//! The page is docs/PROOFS.md.
+//! The page is README.md, beside the code.
 #![tactic(auto)]
 
 ghost use Rattle.task_progress.specs.StepsLeft.{OpenCallsBoundSteps, StepsAreBounded};

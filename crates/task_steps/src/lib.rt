@@ -2,7 +2,7 @@
 //! It stands on the machine of `task_laws`, on the kit's `atomic_table`, and on `counted_block`.
 //! A user calls nothing of it; `task_cell` builds its calls of these steps.
 //! All that is public is so for `task_cell` and its claims.
-//! The pages are docs/ARCHITECTURE.md and docs/PROOFS.md.
+//! The page is README.md, beside the code.
 #![tactic(auto)]
 
 pub mod attempt;

@@ -60,7 +60,13 @@ fn a_batch_is_as_small_as_it_was_set(rt: HostRuntime) {
         stolen: 1,
         sleeps: 0,
     };
-    assert!(rt; count_two(rt, rt.alloc(), Settings::new().batch(0)) == ([true; 2], counts));
+    assert!(rt;
+        count_two(
+            rt,
+            rt.alloc(),
+            Settings::new().batch(0).room(16).search_looks(0)
+        ) == ([true; 2], counts)
+    );
 }
 
 // Whether a worker that looks outside first at each look runs what waits there.
