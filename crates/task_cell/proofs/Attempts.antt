@@ -2,7 +2,7 @@
 use Rattle.task_cell.proofs.Vocabulary.{◌≡◌, ℕ, Bool, true, Option, Some, None, List, [], sym, refl, ap, ◌∙◌, subst, ◌==◌, none, Me, step, Allows, State, state_of, number_of, Act, Slot, View}
 use Rattle.task_cell.proofs.Vocabulary.{RuleHolds, head_of, Makes, Position, Party, deeds, limit_of, StandsWith, OwesEnd, may_try, looked, missed, Names, having_seen, observed}
 use Rattle.task_cell.proofs.Vocabulary.{attempted, MayTry, HasChanged, HasEnded, HasSeen}
-use Rattle.std.proofs.Common.{◌&&◌, eq-eqb}
+use Rattle.std.proofs.Common.{◌&&◌, ◌≢◌, false, eq-eqb, ne_eqb}
 use Rattle.counted_block.specs.Counts.{More, Less}
 use Rattle.task_steps.specs.Attempt.{Attempt, word_after, acts_on, counts_on, next_of}
 use Rattle.task_steps.proofs.Acts.{written_if}
@@ -28,6 +28,10 @@ answered change limit key w made e same = written_if (change.applies key w) made
 pub counts_made : {Row : Type 0} (change : Attempt Row) (n old : ℕ) (w : State) (row : Row) → n ≡ old → old ≡ number_of w → row ≡ change.row w → ((n == old) && counts_on change (state_of n)) ≡ change.counts row
 counts_made change n old w row e is found = ap (λ b. b && counts_on change (state_of n)) (eq-eqb n old e)
     ∙ ap (λ x. change.counts x) (ap (λ k. change.row (state_of k)) (e ∙ is) ∙ (ap (λ v. change.row v) (state_of_number_of w) ∙ sym found))
+
+-- one that missed counts nothing
+pub counts_missed : {Row : Type 0} (change : Attempt Row) (n old : ℕ) → n ≢ old → ((n == old) && counts_on change (state_of n)) ≡ false
+counts_missed change n old other = ap (λ b. b && counts_on change (state_of n)) (ne_eqb n old other)
 
 module _ {F T A : Type 0} where
   pub seeing_first : (w : State) (me : Me (Slot F T A) View) (t : Option Tries) → Names w t → me.0 ≡ having_seen t me.0 → HasSeen w me me
@@ -125,6 +129,17 @@ module _ {F T A : Type 0} where
     applied = ap (λ l. change.applies l c.word) (sym a) ∙ c.applied;
     made = made_of (acts_on change c.word) c.word s.tries me after (subst (λ (m : Me (Slot F T A) View). Makes (acts_on change c.word) c.word m after) s.is c.made);
     knows = subst (λ (m : Me (Slot F T A) View). Knows (head_of m.0.members).deeds c.word) s.is c.knows;
+  }
+
+  -- .. made by an exchange of the word that it names
+  pub changed_by : {Row : Type 0} (limit : ℕ) (change : Attempt Row) (n old new : ℕ) (w : State) (row : Row) (me after : Me (Slot F T A) View) → n ≡ old → old ≡ number_of w → change.applies limit w ≡ true → row ≡ change.row w
+      → attempted change (step 3 0 old new none) me n after → HasChanged limit change row me after
+  changed_by limit change n old new w row me after e is applied found x = let at = ap state_of (e ∙ is) ∙ state_of_number_of w in record {
+    word = w;
+    is = found;
+    applied = applied;
+    made = subst (λ v. Makes (acts_on change v) v me after) at (x.0 e);
+    knows = subst (λ v. Knows (head_of me.0.members).deeds v) at x.2;
   }
 
   pub ended_after : {Row : Type 0} (limit key : ℕ) (change : Attempt Row) (v w : State) (me now after : Me (Slot F T A) View) → key ≡ limit → HasSeen v me now → HasEnded key change w now after → HasEnded limit change w me after

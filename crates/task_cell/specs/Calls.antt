@@ -1,7 +1,7 @@
 -- What a call of the cell asks of its party, and says of it.
 use Rattle.std.specs.Prelude.{◌≡◌, ◌<◌, ℕ, List, [], ◌∷◌, Bool, true, false, Option, Some, None}
-use Rattle.atomic_table.specs.Table.{Allows}
-use Rattle.counted_block.specs.Counts.{Same, Less, Notes}
+use Rattle.atomic_table.specs.Table.{Me, Allows, Splits}
+use Rattle.counted_block.specs.Counts.{Same, More, Less, Notes}
 use Rattle.task_core.specs.Word.{State, state_of}
 use Rattle.task_core.specs.Rows.{found}
 use Rattle.task_core.specs.declared.acts.Act.{Act}
@@ -10,6 +10,7 @@ use Rattle.task_core.specs.declared.acts.Act.TheVariants.{MissNotify, BeginNotif
 use Rattle.task_laws.specs.Table.{after_taking}
 use Rattle.task_steps.specs.declared.table.Slot.{Slot}
 use Rattle.task_steps.specs.declared.table.Deed.{Deed}
+use Rattle.task_steps.specs.declared.table.View.{View}
 use Rattle.task_cell.specs.declared.cell.Party.{Party}
 use Rattle.task_steps.specs.Rule.{member, view, fresh, RuleHolds}
 use Rattle.task_steps.specs.Deeds.{row, act, after}
@@ -56,6 +57,24 @@ module _ {F T A : Type 0} where
   MayGiveUp limit acts gives write p = Allows (RuleHolds {F = F} {T = T} {A = A} limit) 3 p.seat.id p.seat.me 0 write
       (λ n me. Makes (acts (state_of n)) (state_of n) p.seat.me me × Knows (deeds p) (state_of n))
       × Less (RuleHolds {F = F} {T = T} {A = A} limit) shares_out p.seat.id p.seat.me.0 write (λ n. gives (state_of n))
+
+  -- .. a seat to write this, and to go on like this
+  abbrev pub MayWrite : ℕ → ℕ → Me (Slot F T A) View → (ℕ → ℕ) → (ℕ → Me (Slot F T A) View → Type 0) → Type 0
+  MayWrite limit id me write then = Allows (RuleHolds {F = F} {T = T} {A = A} limit) 3 id me 0 write then
+
+  -- .. which leaves as many shares out, or brings one, or ends one, where this says so
+  abbrev pub KeepsShares : ℕ → ℕ → Me (Slot F T A) View → (ℕ → ℕ) → Type 0
+  KeepsShares limit id me write = Same (RuleHolds {F = F} {T = T} {A = A} limit) shares_out id me.0 write
+
+  abbrev pub BringsShare : ℕ → ℕ → Me (Slot F T A) View → (ℕ → ℕ) → (ℕ → Bool) → Type 0
+  BringsShare limit id me write counts = More (RuleHolds {F = F} {T = T} {A = A} limit) shares_out id me.0 write counts
+
+  abbrev pub EndsShare : ℕ → ℕ → Me (Slot F T A) View → (ℕ → ℕ) → (ℕ → Bool) → Type 0
+  EndsShare limit id me write counts = Less (RuleHolds {F = F} {T = T} {A = A} limit) shares_out id me.0 write counts
+
+  -- .. to cut its view in two: it keeps the left part
+  abbrev pub MaySplit : ℕ → (View → View) → (View → View) → Party F T A → Type 0
+  MaySplit limit left right p = Splits (RuleHolds {F = F} {T = T} {A = A} limit) p.seat.id p.seat.me.0 (left p.seat.me.0) (right p.seat.me.0)
 
   -- .. and private acts, without a step
   abbrev pub MayNote : ℕ → (State → List Act) → Party F T A → Type 0

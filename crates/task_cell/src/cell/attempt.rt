@@ -28,7 +28,7 @@ impl<R: Drop, F: Yields, Q: Drop, M: Drop, A: Drop, B: Allocator + Copy> Share<R
         ensures again { IfOk result (λ w. (w.references < 72057594037927935) × HasSeen w party.old.seat.me party.new.seat.me) }
         ensures ended { IfErr result (λ w. HasEnded (limit_in self.now) P.attempt w party.old.seat.me party.new.seat.me) }
     {
-        let word = Word::from_bits(self.block.load::<Observing<P>>(&mut party.seat));
+        let word = Word::from_bits(self.load_at::<Observing<P>>(&mut party.seat));
         if P::is_end(word, self.cell().limit) {
             Err(word)
         } else {
@@ -59,11 +59,13 @@ impl<R: Drop, F: Yields, Q: Drop, M: Drop, A: Drop, B: Allocator + Copy> Share<R
                 Err(found) => TriedOnce::Ended(found, ()),
             };
         };
-        let (found, maybe) = self
-            .block
-            .gain::<Attempting<P>>(&mut party.seat, word.bits(), made.0.bits());
+        let (found, maybe) = self.gain_at::<Attempting<P>>(
+            &mut party.seat,
+            word.bits(),
+            made.0.bits(),
+        );
         if found == word.bits() {
-            return TriedOnce::Made(made.1, MaybeShare { maybe });
+            return TriedOnce::Made(made.1, maybe);
         }
         maybe.none();
         TriedOnce::Again(Word::from_bits(found), ())
@@ -92,19 +94,15 @@ impl<R: Drop, F: Yields, Q: Drop, M: Drop, A: Drop, B: Allocator + Copy> Share<R
                 Err(found) => TriedOnce::Ended(found, self),
             };
         };
-        let Share { block } = self;
-        let (found, maybe) = block.part_exchange::<Attempting<P>>(
+        let (found, maybe) = self.part_at::<Attempting<P>>(
             &mut party.seat,
             word.bits(),
             made.0.bits(),
         );
         if found == word.bits() {
-            return TriedOnce::Made(made.1, MaybeShare { maybe });
+            return TriedOnce::Made(made.1, maybe);
         }
-        let share = Share {
-            block: maybe.share(),
-        };
-        TriedOnce::Again(Word::from_bits(found), share)
+        TriedOnce::Again(Word::from_bits(found), maybe.share())
     }
 }
 

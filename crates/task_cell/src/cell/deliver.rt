@@ -34,8 +34,7 @@ impl<R: Wait + Drop + Copy, F: Yields, Q: Drop, M: Drop, A: Drop, B: Allocator +
         ensures path { Did (act HandOver ∷ []) (handed_over (position party.old)) party.old party.new }
         ensures runnable { IsNew as_runnable party.old result }
     {
-        let seat = self.block.split_seat::<HandingOver>(&mut party.seat);
-        Party { seat }
+        self.split::<HandingOver>(party)
     }
 }
 

@@ -17,7 +17,6 @@ use std::alloc::Allocator;
 use std::sync::Wait;
 use task_core::word::{CLOSED, REFERENCE, SCHEDULED};
 use task_core::{Schedule, Wake, Yields};
-use task_steps::Knowing;
 use task_steps::table::Kept;
 use task_steps::waker::{ClosingOrphan, Dropped, DroppingWaker, dropped_as};
 
@@ -52,8 +51,7 @@ impl<R: Wait + Drop + Copy, F: Yields, Q: Drop, M: Drop, A: Drop, B: Allocator +
         requires party { Stands OrphanHolder party.old }
         ensures { (v : State) × Did (row CloseOrphan v ∷ []) as_deliverer party.old party.new }
     {
-        self.block
-            .swap::<Knowing<ClosingOrphan>>(&mut party.seat, ORPHAN);
+        self.swap::<ClosingOrphan>(party, ORPHAN);
     }
 }
 

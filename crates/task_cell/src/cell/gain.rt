@@ -39,8 +39,8 @@ impl<R: Wait + Drop + Copy, F: Yields, Q: Drop, M: Drop, A: Drop, B: Allocator +
     {
         match self.attempt_from::<Gaining>(party, word) {
             Ok((_, maybe)) => {
-                let seat = self.block.split_seat::<Parting>(&mut party.seat);
-                Some((maybe.share(), Party { seat }))
+                let gained = self.split::<Parting>(party);
+                Some((maybe.share(), gained))
             }
             Err(_) => None,
         }

@@ -73,7 +73,7 @@ impl<R: Wait + Drop + Copy, F: Yields, Q: Drop, M: Drop, A: Drop, B: Allocator +
 impl<R, F: Yields, Q, M, A, B: Allocator + Copy> MaybeShare<R, F, Q, M, A, B> {
     // The share, where the step made or left one.
     pub(crate) fn share(self) -> Share<R, F, Q, M, A, B>
-        requires { self.maybe.there ≡ true }
+        requires there { self.maybe.there ≡ true }
         ensures { (result.block.id ≡ self.maybe.id) × (result.block.key ≡ self.maybe.key) × (result.block.value ≡ self.maybe.value) }
     {
         let MaybeShare { maybe } = self;
@@ -84,7 +84,7 @@ impl<R, F: Yields, Q, M, A, B: Allocator + Copy> MaybeShare<R, F, Q, M, A, B> {
 
     // There is none: the party may note what it does next, and no more.
     pub(crate) fn none(self) -> Ledger<R, F, Q, M, A, B>
-        requires { self.maybe.there ≡ false }
+        requires there { self.maybe.there ≡ false }
         ensures { result.ledger.id ≡ self.maybe.id }
     {
         let MaybeShare { maybe } = self;

@@ -34,11 +34,12 @@ impl<R: Wait + Drop + Copy, F: Yields, Q: Drop, M: Drop, A: Drop, B: Allocator +
         ensures runnable { Stands as_runnable result.0 × (deeds result.0 ≡ []) }
         ensures task { Stands (as_task 0) result.1 × (deeds result.1 ≡ []) }
     {
-        self.block.load::<Filling>(&mut seat);
+        self.load_at::<Filling>(&mut seat);
         put_future(&self.block, &mut seat, Held::new(future)).discard();
-        self.block.load::<Spawning>(&mut seat);
-        let task = self.block.split_seat::<Opening>(&mut seat);
-        (Party { seat }, Party { seat: task })
+        self.load_at::<Spawning>(&mut seat);
+        let mut runnable = Party { seat };
+        let task = self.split::<Opening>(&mut runnable);
+        (runnable, task)
     }
 
     /// Two shares of a cell, for the Runnable and for the Task, and the seat by which it is filled; or what was given, where memory was refused.

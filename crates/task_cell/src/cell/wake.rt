@@ -49,8 +49,8 @@ impl<R: Drop, F: Yields, Q: Drop, M: Drop, A: Drop, B: Allocator + Copy> Share<R
                 None
             }
             Woken::Idle => {
-                let seat = self.block.split_seat::<Parting>(&mut party.seat);
-                Some((maybe.share(), Party { seat }))
+                let deliverer = self.split::<Parting>(party);
+                Some((maybe.share(), deliverer))
             }
         }
     }

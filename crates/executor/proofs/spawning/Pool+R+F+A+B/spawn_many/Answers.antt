@@ -1,4 +1,5 @@
-use Rattle.std.proofs.Common.{arith, rules}
+use Rattle.std.proofs.Common.{◌≡◌, ◌-◌, ◌∙◌, arith, rules, ap, drop, length}
+use Rattle.std.specs.Prelude.{vec_len}
 use Rattle.executor.proofs.Counted.{appends-more, dropped-more}
 use Rattle.executor.proofs.spawning.Pool+R+F+A+B.spawn_many.Goals as goal
 
@@ -13,3 +14,19 @@ loop-preserved g c =
       added = appends-more c.loop.invariant.added (c.spawn_first.ensures.added (search rules));
       room = omega (arith, spawned.2, room);
     }
+
+pub returns-clause-left : goal.returns-clause-left
+returns-clause-left g c =
+    let many = c.loop.invariant.many in
+    let n : c.loop.counter ≡ vec_len c.loop.tasks - vec_len c.args.tasks.now = omega (arith, many, c.reserve.ensures.len) in
+    c.loop.invariant.left ∙ ap (λ k. drop k c.args.futures.now.items) n
+
+pub returns-in-Some-clause-left : goal.returns-in-Some-clause-left
+returns-in-Some-clause-left g c =
+    let many = c.loop.invariant.many in
+    let same = c.spawn_first.ensures.refused (search rules) in
+    let len : length c.spawn_first.new.tasks.items ≡ length c.loop.tasks.items = ap length same.1 in
+    let new = c.spawn_first.new.tasks.ok in
+    let old = c.loop.tasks.ok in
+    let n : c.loop.counter ≡ vec_len c.spawn_first.new.tasks - vec_len c.args.tasks.now = omega (arith, many, len, new, old, c.reserve.ensures.len) in
+    same.0 ∙ (c.loop.invariant.left ∙ ap (λ k. drop k c.args.futures.now.items) n)

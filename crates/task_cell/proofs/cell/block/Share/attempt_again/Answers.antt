@@ -1,4 +1,4 @@
-use Rattle.task_cell.proofs.Vocabulary.{refl}
+use Rattle.task_cell.proofs.Vocabulary.{refl, ap, ◌∙◌}
 use Rattle.task_cell.proofs.Attempts.{seeing_first, may_still, changed_after}
 use Rattle.task_cell.proofs.cell.block.Share.attempt_again.Goals as goal
 
@@ -10,3 +10,15 @@ try_once-requires-clause-allowed g c = let i = c.loop.invariant in may_still _ _
 
 pub returns-in-Made-clause-changed : goal.returns-in-Made-clause-changed
 returns-in-Made-clause-changed g c = changed_after _ _ g.P.Change.attempt c.loop.word c.in-Made.row _ _ _ refl c.loop.invariant.seeing c.in-Made.ensures.tried
+
+pub try_once-requires-clause-cell : goal.try_once-requires-clause-cell
+try_once-requires-clause-cell g c = c.loop.invariant.cell ∙ c.requires.cell
+
+pub try_once-requires-clause-limit : goal.try_once-requires-clause-limit
+try_once-requires-clause-limit g c = let ends = g.P.Change.attempt.ends in λ w. ap (λ m. ends m.0.limit w) c.loop.invariant.seeing.is ∙ c.requires.limit w
+
+pub returns-in-Made-clause-cell : goal.returns-in-Made-clause-cell
+returns-in-Made-clause-cell g c = c.in-Made.ensures.seat.0 ∙ c.loop.invariant.cell
+
+pub returns-in-Ended-clause-cell : goal.returns-in-Ended-clause-cell
+returns-in-Ended-clause-cell g c = c.in-Ended.ensures.seat.0 ∙ c.loop.invariant.cell

@@ -7,10 +7,10 @@ use Rattle.task_cell.proofs.cell.block.Share.deliverer_of.Goals as goal
 pub returns-in-Scheduled : goal.returns-in-Scheduled
 returns-in-Scheduled g c = record { path = λ p s cell x. wakes_busy _ c.args.found p c.args.party.now s cell x (⊎_elim (λ e. ap brings_runnable e) (λ e. ap brings_runnable e) c.in-Scheduled.is); share = tt }
 
-pub split_seat-seat-requires : goal.split_seat-seat-requires
-split_seat-seat-requires g c = let m = c.requires.made in
-    (c.requires.cell, parts_newest _ _ _ _ _ _ _ _ _ [] (ap (λ m. m.0) (beside_deliverer _ c.args.found m.0 c.args.party.now m.1 m.2 (ap brings_runnable c.in-Idle.is)).1))
+pub split-deliverer-requires-clause-allowed : goal.split-deliverer-requires-clause-allowed
+split-deliverer-requires-clause-allowed g c = let m = c.requires.made in
+    parts_newest _ _ _ _ _ _ _ _ _ [] (ap (λ m. m.0) (beside_deliverer _ c.args.found m.0 c.args.party.now m.1 m.2 (ap brings_runnable c.in-Idle.is)).1)
 
 pub returns-in-Idle-clause-path : goal.returns-in-Idle-clause-path
-returns-in-Idle-clause-path g c = λ p s cell x. let t = c.split_seat-seat.ensures in
-    wakes_idle _ c.args.found p c.args.party.now (record { seat = c.split_seat-seat.new.seat }) (record { seat = c.split_seat-seat.result }) s cell x (ap brings_runnable c.in-Idle.is) t.0 t.2 t.3 t.4
+returns-in-Idle-clause-path g c = λ p s cell x. let t = c.split-deliverer.ensures in
+    wakes_idle _ c.args.found p c.args.party.now c.split-deliverer.new.party c.split-deliverer.result s cell x (ap brings_runnable c.in-Idle.is) t.cell.0 t.left t.cell.1 t.right

@@ -6,13 +6,13 @@ use Rattle.task_cell.proofs.WakerCalls.{drops_shared, drops_last, orphan_closed,
 use Rattle.task_cell.proofs.cell.block.Share.drop_waker.Goals as goal
 
 pub none-requires : goal.none-requires
-none-requires g c = c.drop_reference-found.ensures.share.is_there ∙ ap (λ x. not (ends_waker x)) c.in-Shared.is
+none-requires g c = record { there = c.drop_reference-found.ensures.share.is_there ∙ ap (λ x. not (ends_waker x)) c.in-Shared.is }
 
 pub returns-in-Shared : goal.returns-in-Shared
 returns-in-Shared g c = record { path = drops_shared _ c.args.party.now c.drop_reference-found.new.party (subst (DropsWaker c.args.party.now c.drop_reference-found.new.party) c.in-Shared.is c.drop_reference-found.ensures.path) }
 
 pub share-requires : goal.share-requires
-share-requires g c = c.drop_reference-found.ensures.share.is_there ∙ ap (λ x. not (ends_waker x)) c.in-Last.is
+share-requires g c = record { there = c.drop_reference-found.ensures.share.is_there ∙ ap (λ x. not (ends_waker x)) c.in-Last.is }
 
 pub empty_at_end-requires-clause-cell : goal.empty_at_end-requires-clause-cell
 empty_at_end-requires-clause-cell g c = let x = subst (DropsWaker c.args.party.now c.drop_reference-found.new.party) c.in-Last.is c.drop_reference-found.ensures.path in x.4.cell ∙ (c.requires.cell.0 ∙ sym (same_block c.args.self c.share.result c.drop_reference-found.result.1 _ c.drop_reference-found.ensures.share c.share.ensures))

@@ -1,4 +1,4 @@
-use Rattle.task_cell.proofs.Vocabulary.{refl}
+use Rattle.task_cell.proofs.Vocabulary.{sym, refl, ap, ◌∙◌}
 use Rattle.task_cell.proofs.Attempts.{seeing_first, may_still, give_still, changed_after, ended_after}
 use Rattle.task_cell.proofs.cell.block.Share.give_again.Goals as goal
 
@@ -16,3 +16,21 @@ returns-in-Made-clause-changed g c = let i = c.loop.invariant in changed_after _
 
 pub returns-in-Ended-clause-ended : goal.returns-in-Ended-clause-ended
 returns-in-Ended-clause-ended g c = let i = c.loop.invariant in ended_after _ _ g.P.Change.attempt c.loop.word c.in-Ended.found _ _ _ i.same.2 i.seeing c.in-Ended.ensures.tried
+
+pub try_giving-requires-clause-cell : goal.try_giving-requires-clause-cell
+try_giving-requires-clause-cell g c = let i = c.loop.invariant in i.cell ∙ (c.requires.cell ∙ sym i.same.0)
+
+pub try_giving-requires-clause-limit : goal.try_giving-requires-clause-limit
+try_giving-requires-clause-limit g c = let i = c.loop.invariant in let ends = g.P.Change.attempt.ends in λ w. ap (λ m. ends m.0.limit w) i.seeing.is ∙ (c.requires.limit w ∙ ap (λ l. ends l w) (sym i.same.2))
+
+pub returns-in-Made-clause-cell : goal.returns-in-Made-clause-cell
+returns-in-Made-clause-cell g c = c.in-Made.ensures.seat.0 ∙ c.loop.invariant.cell
+
+pub returns-in-Made-clause-share : goal.returns-in-Made-clause-share
+returns-in-Made-clause-share g c = let i = c.loop.invariant in let e = c.in-Made.ensures.share in record { cell = (e.cell.0 ∙ i.same.0, e.cell.1 ∙ i.same.1); limit = e.limit ∙ i.same.2; is_there = e.is_there }
+
+pub returns-in-Ended-clause-cell : goal.returns-in-Ended-clause-cell
+returns-in-Ended-clause-cell g c = c.in-Ended.ensures.seat.0 ∙ c.loop.invariant.cell
+
+pub returns-in-Ended-clause-kept : goal.returns-in-Ended-clause-kept
+returns-in-Ended-clause-kept g c = let i = c.loop.invariant in let e = c.in-Ended.ensures.share in (e.0 ∙ i.same.0, e.1 ∙ i.same.1, e.2 ∙ i.same.2)
