@@ -26,8 +26,9 @@ refuse {T} {E} result is P = subst (λ (r : Result T E). IfErr r P) is
 
 pub returns-in-Err-clause-refused : goal.returns-in-Err-clause-refused
 returns-in-Err-clause-refused g c = elim c.match-get.branch [
-  in-Some w ↦ refuse w.keep_task-kept.result (sym w.kept-is ∙ c.in-Err.is) (λ back. (back.inner ≡ c.args.task.inner) × (back.around ≡ c.args.task.around)) w.keep_task-kept.ensures.refused |
-  in-None w ↦ refuse (Err c.args.task) (sym w.kept-is ∙ c.in-Err.is) (λ back. (back.inner ≡ c.args.task.inner) × (back.around ≡ c.args.task.around)) (refl, refl) ]
+  | in-Some w ↦ refuse w.keep_task-kept.result (sym w.kept-is ∙ c.in-Err.is) (λ back. (back.inner ≡ c.args.task.inner) × (back.around ≡ c.args.task.around)) w.keep_task-kept.ensures.refused
+  | in-None w ↦ refuse (Err c.args.task) (sym w.kept-is ∙ c.in-Err.is) (λ back. (back.inner ≡ c.args.task.inner) × (back.around ≡ c.args.task.around)) (refl, refl)
+]
 
 pub returns-in-Err-clause-unchanged : goal.returns-in-Err-clause-unchanged
 returns-in-Err-clause-unchanged g c = elim c.match-get.branch [ in-Some w ↦ ap (λ s. s.members) w.self-is | in-None w ↦ ap (λ s. s.members) w.self-is ]

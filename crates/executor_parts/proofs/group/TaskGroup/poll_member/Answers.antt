@@ -24,5 +24,6 @@ apart poll refused waits = cc
 
 pub returns-after-awaiter_of-2-clause-cancelled : goal.returns-after-awaiter_of-2-clause-cancelled
 returns-after-awaiter_of-2-clause-cancelled g c = elim c.match-awaiter_of-2.branch [
-  in-Some-awaiter_of w ↦ err c.settle-in-Cancelled.result c.settle-in-Cancelled.ensures.member (λ stays is cancels pending. subst (λ m. WasCancelled m) (sym is) (ap (λ k. k.cancelled) w.cancel-is ∙ w.poll.ensures.cancelled)) |
-  in-None-awaiter_of w ↦ err c.settle-in-Cancelled.result c.settle-in-Cancelled.ensures.pending (λ stays waits cancels pending. absurd (apart c.match-awaiter_of-2.polled w.polled-is (waits pending))) ]
+  | in-Some-awaiter_of w ↦ err c.settle-in-Cancelled.result c.settle-in-Cancelled.ensures.member (λ stays is cancels pending. subst (λ m. WasCancelled m) (sym is) (ap (λ k. k.cancelled) w.cancel-is ∙ w.poll.ensures.cancelled))
+  | in-None-awaiter_of w ↦ err c.settle-in-Cancelled.result c.settle-in-Cancelled.ensures.pending (λ stays waits cancels pending. absurd (apart c.match-awaiter_of-2.polled w.polled-is (waits pending)))
+]
