@@ -22,6 +22,7 @@ mod web;
 
 use boxed::Step;
 use boxed_steps::{Brings, Doubles, Place};
+use pooled::JobPool;
 use std::alloc::{AllocGlobal, Global};
 use std::fmt::Debug;
 use std::io::{self, Print};
@@ -100,7 +101,6 @@ fn print_of_pools<R>(rt: R, alloc: Global) -> io::Result<()>
 where
     R: Print + Wait + Clock + Threads + Drop + Copy + Send + Sync + 'static,
 {
-    print(rt, "pooled", pooled::sum_and_average(rt, alloc, 100, 9))?;
     print(rt, "sharing", sharing::sum_of_numbers(rt, alloc))?;
     print(rt, "fan", fan::sum_in_parts(rt, alloc, None))?;
     print(rt, "fan", fan::sum_in_parts(rt, alloc, Some(3)))?;
@@ -112,5 +112,13 @@ fn main(rt: HostRuntime) -> io::Result<()> {
     print_first(rt, alloc)?;
     print_boxed(rt, alloc)?;
     print_of_kit(rt, alloc)?;
+    // A pool of two workers: this thread is one, and waits for two tasks.
+    let pool = JobPool::new(rt, alloc, 2)?;
+    let (mut sum, mut average) = pooled::spawn_both(&pool, 100, 9)?;
+    let answers = pool.team()?.start(
+        &rt,
+        |turns| (turns.block_on(&mut sum), turns.block_on(&mut average)),
+    );
+    print(rt, "pooled", answers)?;
     print_of_pools(rt, alloc)
 }

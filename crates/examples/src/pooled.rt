@@ -1,12 +1,13 @@
 //! What the tasks of a pool do: futures of two types are the variants of an enum, and one spawns a task and awaits it.
+//! `main` starts the workers, since it knows the type of the runtime: where that is a parameter, a call of `run` needs a proof that it outlives the pool.
 ghost use Rattle.std.specs.Prelude.{⊤};
 
 use async_task::{Future, Poll, TaskPoll, Yields};
 use executor::{
-    BellAwaiter, Key, Pool, PoolTask, PoolWaker, Turns, await_kept, keep_task, place_for_task,
+    BellAwaiter, Key, Pool, PoolTask, PoolWaker, await_kept, keep_task, place_for_task,
     place_for_waker,
 };
-use std::alloc::{AllocError, Global};
+use std::alloc::AllocError;
 use std::sync::Wait;
 
 /// Adds up the numbers from the next one to the last, and gives way after each.
@@ -40,9 +41,11 @@ pub enum Job<R: Wait + Drop + Copy> {
     Average(Average<R>),
 }
 
-type JobPool<R> = Pool<R, Job<R>, BellAwaiter<R>>;
+/// The pool of these futures.
+pub type JobPool<R> = Pool<R, Job<R>, BellAwaiter<R>>;
 
-type JobTask<'x, R> = PoolTask<'x, R, Job<R>, BellAwaiter<R>>;
+/// The Task of one of them.
+pub type JobTask<'x, R> = PoolTask<'x, R, Job<R>, BellAwaiter<R>>;
 
 type JobWaker<'x, R> = PoolWaker<'x, R, Job<R>, BellAwaiter<R>>;
 
@@ -116,8 +119,8 @@ fn spawn<R: Wait + Drop + Copy>(
     Ok(pool.spawn(job)?)
 }
 
-// Spawns the sum of the numbers from 1 to `summed`, and the average of those from 1 to `averaged`. An error says that there was no memory.
-fn spawn_both<R: Wait + Drop + Copy>(
+/// Spawns the sum of the numbers from 1 to `summed`, and the average of those from 1 to `averaged`. An error says that there was no memory.
+pub fn spawn_both<R: Wait + Drop + Copy>(
     pool: &JobPool<R>,
     summed: u64,
     averaged: u64,
@@ -128,28 +131,4 @@ fn spawn_both<R: Wait + Drop + Copy>(
         places: None,
     });
     Ok((sum, spawn(pool, average)?))
-}
-
-// What a task answers: this thread, a worker, runs tasks until then.
-fn answer_of<'x, R: Wait + Drop + Copy + 'static>(
-    turns: &mut Turns<'x, R, Job<R>, BellAwaiter<R>>,
-    task: &mut JobTask<'x, R>,
-) -> Option<u64> {
-    turns.block_on(task).ok()
-}
-
-/// The sum of the numbers from 1 to `summed`, and the average of those from 1 to `averaged`, by a pool of one worker. `None` where there was no memory.
-pub fn sum_and_average<R: Wait + Drop + Copy + 'static>(
-    rt: R,
-    alloc: Global,
-    summed: u64,
-    averaged: u64,
-) -> Option<[Option<u64>; 2]> {
-    let pool = JobPool::new(rt, alloc, 1).ok()?;
-    let (mut sum, mut average) = spawn_both(&pool, summed, averaged).ok()?;
-    let mut turns = pool.turns(0).ok()?;
-    Some([
-        answer_of(&mut turns, &mut sum),
-        answer_of(&mut turns, &mut average),
-    ])
 }
