@@ -25,7 +25,8 @@ impl<S, V, K, P: BlockRule<S, V, K>, T, A: Allocator> Share<S, V, K, P, T, A> {
         self,
         seat: &mut Seat<S, V>,
     ) -> (u64, MaybeShare<S, V, K, P, T, A>, Remains<S, V, K, P, T, A>)
-        requires { (seat.old.block ≡ self.id) × Last (P.holds self.key) P.out seat.old.id seat.old.me.0 }
+        requires block { seat.old.block ≡ self.id }
+        requires last { Last (P.holds self.key) P.out seat.old.id seat.old.me.0 }
         ensures seat { (seat.new.block ≡ seat.old.block) × (seat.new.id ≡ seat.old.id) × (seat.new.me ≡ seat.old.me) }
         ensures share { (result.1.id ≡ self.id) × (result.1.key ≡ self.key) × (result.1.value ≡ self.value) × (result.1.heap ≡ self.heap) × (result.1.there ≡ not (result.0 == 0)) }
         ensures remains { (result.2.key ≡ self.key) × (result.2.value ≡ self.value) × (result.2.heap ≡ self.heap) × (result.2.there ≡ result.0 == 0) × (result.2.seat ≡ some (seat.old.id, seat.old.me.0)) }
@@ -45,7 +46,8 @@ impl<S, V, K, P: BlockRule<S, V, K>, T, A: Allocator> Share<S, V, K, P, T, A> {
 
     // Ends the share, and the block too if the last hold was released meanwhile.
     fn leave(self, seat: &mut Seat<S, V>) -> (u64, Remains<S, V, K, P, T, A>)
-        requires { (seat.old.block ≡ self.id) × Last (P.holds self.key) P.out seat.old.id seat.old.me.0 }
+        requires block { seat.old.block ≡ self.id }
+        requires last { Last (P.holds self.key) P.out seat.old.id seat.old.me.0 }
         ensures seat { (seat.new.block ≡ seat.old.block) × (seat.new.id ≡ seat.old.id) × (seat.new.me ≡ seat.old.me) }
         ensures remains { (result.1.key ≡ self.key) × (result.1.value ≡ self.value) × (result.1.heap ≡ self.heap) × (result.1.there ≡ result.0 == 0) × (result.1.seat ≡ some (seat.old.id, seat.old.me.0)) }
     {
@@ -63,7 +65,8 @@ impl<S, V, K, P: BlockRule<S, V, K>, T, A: Allocator> Share<S, V, K, P, T, A> {
     /// `seat` is one whose view says that no other share is out. None if there is a hold: then the last one gets the block, from `release`.
     /// It costs one load where nobody holds, and an addition more where somebody does.
     pub fn close(self, seat: &mut Seat<S, V>) -> Option<Bare<Inner<S, T>, A>>
-        requires { (seat.old.block ≡ self.id) × Last (P.holds self.key) P.out seat.old.id seat.old.me.0 }
+        requires block { seat.old.block ≡ self.id }
+        requires last { Last (P.holds self.key) P.out seat.old.id seat.old.me.0 }
         ensures seat { (seat.new.block ≡ seat.old.block) × (seat.new.id ≡ seat.old.id) × (seat.new.me ≡ seat.old.me) }
         ensures block { IfSome result (λ b. (b.value.value ≡ self.value) × (b.heap ≡ self.heap) × Final (Seen (P.holds self.key) seat.old.id seat.old.me.0) (b.value.word ∷ []) (b.value.first ∷ b.value.second ∷ b.value.third ∷ [])) }
     {

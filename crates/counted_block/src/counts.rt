@@ -25,7 +25,9 @@ impl<S, V, K, P: BlockRule<S, V, K>, T, A: Allocator> Share<S, V, K, P, T, A> {
         old: u64,
         new: u64,
     ) -> (u64, MaybeShare<S, V, K, P, T, A>)
-        requires { (seat.old.block ≡ self.now.id) × Allows (P.holds self.now.key) 3 seat.old.id seat.old.me 0 (λ n. either (n == old) new n) (M.then (step 3 0 old new none) seat.old.me) × More (P.holds self.now.key) P.out seat.old.id seat.old.me.0 (λ n. either (n == old) new n) (M.counts (step 3 0 old new none)) }
+        requires block { seat.old.block ≡ self.now.id }
+        requires allowed { Allows (P.holds self.now.key) 3 seat.old.id seat.old.me 0 (λ n. either (n == old) new n) (M.then (step 3 0 old new none) seat.old.me) }
+        requires shares { More (P.holds self.now.key) P.out seat.old.id seat.old.me.0 (λ n. either (n == old) new n) (M.counts (step 3 0 old new none)) }
         ensures seat { (seat.new.block ≡ seat.old.block) × (seat.new.id ≡ seat.old.id) × M.then (step 3 0 old new none) seat.old.me result.0 seat.new.me }
         ensures share { (result.1.id ≡ self.now.id) × (result.1.key ≡ self.now.key) × (result.1.value ≡ self.now.value) × (result.1.heap ≡ self.now.heap) × (result.1.there ≡ M.counts (step 3 0 old new none) result.0) }
     {
@@ -45,7 +47,9 @@ impl<S, V, K, P: BlockRule<S, V, K>, T, A: Allocator> Share<S, V, K, P, T, A> {
         seat: &mut Seat<S, V>,
         k: u64,
     ) -> (u64, MaybeShare<S, V, K, P, T, A>)
-        requires { (seat.old.block ≡ self.id) × Allows (P.holds self.key) 3 seat.old.id seat.old.me 0 (λ n. (n + (2 ^ 64 - k)) % 2 ^ 64) (M.then (step 3 0 k 0 none) seat.old.me) × Less (P.holds self.key) P.out seat.old.id seat.old.me.0 (λ n. (n + (2 ^ 64 - k)) % 2 ^ 64) (M.counts (step 3 0 k 0 none)) }
+        requires block { seat.old.block ≡ self.id }
+        requires allowed { Allows (P.holds self.key) 3 seat.old.id seat.old.me 0 (λ n. (n + (2 ^ 64 - k)) % 2 ^ 64) (M.then (step 3 0 k 0 none) seat.old.me) }
+        requires shares { Less (P.holds self.key) P.out seat.old.id seat.old.me.0 (λ n. (n + (2 ^ 64 - k)) % 2 ^ 64) (M.counts (step 3 0 k 0 none)) }
         ensures seat { (seat.new.block ≡ seat.old.block) × (seat.new.id ≡ seat.old.id) × M.then (step 3 0 k 0 none) seat.old.me result.0 seat.new.me }
         ensures share { (result.1.id ≡ self.id) × (result.1.key ≡ self.key) × (result.1.value ≡ self.value) × (result.1.heap ≡ self.heap) × (result.1.there ≡ not (M.counts (step 3 0 k 0 none) result.0)) }
     {
@@ -67,7 +71,9 @@ impl<S, V, K, P: BlockRule<S, V, K>, T, A: Allocator> Share<S, V, K, P, T, A> {
         old: u64,
         new: u64,
     ) -> (u64, MaybeShare<S, V, K, P, T, A>)
-        requires { (seat.old.block ≡ self.id) × Allows (P.holds self.key) 3 seat.old.id seat.old.me 0 (λ n. either (n == old) new n) (M.then (step 3 0 old new none) seat.old.me) × Less (P.holds self.key) P.out seat.old.id seat.old.me.0 (λ n. either (n == old) new n) (M.counts (step 3 0 old new none)) }
+        requires block { seat.old.block ≡ self.id }
+        requires allowed { Allows (P.holds self.key) 3 seat.old.id seat.old.me 0 (λ n. either (n == old) new n) (M.then (step 3 0 old new none) seat.old.me) }
+        requires shares { Less (P.holds self.key) P.out seat.old.id seat.old.me.0 (λ n. either (n == old) new n) (M.counts (step 3 0 old new none)) }
         ensures seat { (seat.new.block ≡ seat.old.block) × (seat.new.id ≡ seat.old.id) × M.then (step 3 0 old new none) seat.old.me result.0 seat.new.me }
         ensures share { (result.1.id ≡ self.id) × (result.1.key ≡ self.key) × (result.1.value ≡ self.value) × (result.1.heap ≡ self.heap) × (result.1.there ≡ not (M.counts (step 3 0 old new none) result.0)) }
     {

@@ -17,7 +17,8 @@ impl<S, V> Seat<S, V> {
         &'a mut self,
         share: &'a Share<S, V, K, P, T, A>,
     ) -> &'a mut S
-        requires { (self.old.block ≡ share.now.id) × ((old : S) × (self.old.me.1 ≡ (0, old) ∷ rest self.old.me.1)) }
+        requires block { self.old.block ≡ share.now.id }
+        requires taken { (old : S) × (self.old.me.1 ≡ (0, old) ∷ rest self.old.me.1) }
         ensures* writes_back { sem 𝓛 (follows (the_row S.row V.row) S.row self.entry.ghost_name result.ghost_name (seat_with self.old 0)) }
         ensures value { self.old.me.1 ≡ (0, result.now) ∷ rest self.old.me.1 }
     {

@@ -15,7 +15,9 @@ impl<S, V, K, P: BlockRule<S, V, K>, T, A: Allocator> Share<S, V, K, P, T, A> {
     ///
     /// The rule has to hold of the state at the start, the word has to stand for one share, and there is no hold yet.
     pub fn new(bare: Bare<Inner<S, T>, A>, about: &K) -> (Share<S, V, K, P, T, A>, Seat<S, V>)
-        requires { (P.out bare.value.word ≡ 1) × (bare.value.holds ≡ 0) × P.holds about.now (opening (bare.value.word ∷ []) (bare.value.first ∷ bare.value.second ∷ bare.value.third ∷ []) (P.first about.now)) }
+        requires shares { P.out bare.value.word ≡ 1 }
+        requires holds { bare.value.holds ≡ 0 }
+        requires rule { P.holds about.now (opening (bare.value.word ∷ []) (bare.value.first ∷ bare.value.second ∷ bare.value.third ∷ []) (P.first about.now)) }
         ensures share { (result.0.key ≡ about.now) × (result.0.value ≡ bare.value.value) × (result.0.heap ≡ bare.heap) }
         ensures seat { (result.1.block ≡ result.0.id) × (result.1.id ≡ 0) × (result.1.me ≡ (P.first about.now, [])) }
     {
@@ -36,7 +38,9 @@ impl<S, V, K, P: BlockRule<S, V, K>, T, A: Allocator> Share<S, V, K, P, T, A> {
         bare: Bare<Inner<S, T>, A>,
         about: &K,
     ) -> (Share<S, V, K, P, T, A>, Share<S, V, K, P, T, A>, Seat<S, V>)
-        requires { (P.out bare.value.word ≡ 2) × (bare.value.holds ≡ 0) × P.holds about.now (opening (bare.value.word ∷ []) (bare.value.first ∷ bare.value.second ∷ bare.value.third ∷ []) (P.first about.now)) }
+        requires shares { P.out bare.value.word ≡ 2 }
+        requires holds { bare.value.holds ≡ 0 }
+        requires rule { P.holds about.now (opening (bare.value.word ∷ []) (bare.value.first ∷ bare.value.second ∷ bare.value.third ∷ []) (P.first about.now)) }
         ensures share { (result.0.key ≡ about.now) × (result.0.value ≡ bare.value.value) × (result.0.heap ≡ bare.heap) }
         ensures other { (result.1.id ≡ result.0.id) × (result.1.key ≡ about.now) × (result.1.value ≡ bare.value.value) × (result.1.heap ≡ bare.heap) }
         ensures seat { (result.2.block ≡ result.0.id) × (result.2.id ≡ 0) × (result.2.me ≡ (P.first about.now, [])) }

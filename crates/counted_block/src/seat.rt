@@ -58,7 +58,8 @@ impl<S, V, K, P: BlockRule<S, V, K>, T, A: Allocator> Ledger<S, V, K, P, T, A> {
     ///
     /// `M` says what becomes of the view. It is told of some number that the word may have had, which nobody read.
     pub fn note<M: Play<S, V>>(&self, seat: &mut Seat<S, V>)
-        requires { (seat.old.block ≡ self.now.id) × Notes (P.holds self.now.key) seat.old.id seat.old.me (M.then (step 3 0 0 0 none) seat.old.me) }
+        requires block { seat.old.block ≡ self.now.id }
+        requires allowed { Notes (P.holds self.now.key) seat.old.id seat.old.me (M.then (step 3 0 0 0 none) seat.old.me) }
         ensures { (seat.new.block ≡ seat.old.block) × (seat.new.id ≡ seat.old.id) × ((n : ℕ) × M.then (step 3 0 0 0 none) seat.old.me n seat.new.me) }
     {}
 }

@@ -9,7 +9,8 @@ use std::alloc::Allocator;
 
 impl<S, V, K, P: BlockRule<S, V, K>, T, A: Allocator> Share<S, V, K, P, T, A> {
     fn swap_first(&self, seat: &mut Seat<S, V>, new: S) -> S
-        requires { (seat.old.block ≡ self.now.id) × ((old : S) × (seat.old.me.1 ≡ (0, old) ∷ rest seat.old.me.1)) }
+        requires block { seat.old.block ≡ self.now.id }
+        requires taken { (old : S) × (seat.old.me.1 ≡ (0, old) ∷ rest seat.old.me.1) }
         ensures { (seat.new.block ≡ seat.old.block) × (seat.new.id ≡ seat.old.id) × (seat.old.me.1 ≡ (0, result) ∷ rest seat.old.me.1) × (seat.new.me ≡ (seat.old.me.0, (0, new) ∷ rest seat.old.me.1)) }
     {
         unsafe {
@@ -21,7 +22,8 @@ impl<S, V, K, P: BlockRule<S, V, K>, T, A: Allocator> Share<S, V, K, P, T, A> {
     }
 
     fn swap_second(&self, seat: &mut Seat<S, V>, new: S) -> S
-        requires { (seat.old.block ≡ self.now.id) × ((old : S) × (seat.old.me.1 ≡ (1, old) ∷ rest seat.old.me.1)) }
+        requires block { seat.old.block ≡ self.now.id }
+        requires taken { (old : S) × (seat.old.me.1 ≡ (1, old) ∷ rest seat.old.me.1) }
         ensures { (seat.new.block ≡ seat.old.block) × (seat.new.id ≡ seat.old.id) × (seat.old.me.1 ≡ (1, result) ∷ rest seat.old.me.1) × (seat.new.me ≡ (seat.old.me.0, (1, new) ∷ rest seat.old.me.1)) }
     {
         unsafe {
@@ -33,7 +35,8 @@ impl<S, V, K, P: BlockRule<S, V, K>, T, A: Allocator> Share<S, V, K, P, T, A> {
     }
 
     fn swap_third(&self, seat: &mut Seat<S, V>, new: S) -> S
-        requires { (seat.old.block ≡ self.now.id) × ((old : S) × (seat.old.me.1 ≡ (2, old) ∷ rest seat.old.me.1)) }
+        requires block { seat.old.block ≡ self.now.id }
+        requires taken { (old : S) × (seat.old.me.1 ≡ (2, old) ∷ rest seat.old.me.1) }
         ensures { (seat.new.block ≡ seat.old.block) × (seat.new.id ≡ seat.old.id) × (seat.old.me.1 ≡ (2, result) ∷ rest seat.old.me.1) × (seat.new.me ≡ (seat.old.me.0, (2, new) ∷ rest seat.old.me.1)) }
     {
         unsafe {
@@ -48,7 +51,9 @@ impl<S, V, K, P: BlockRule<S, V, K>, T, A: Allocator> Share<S, V, K, P, T, A> {
     ///
     /// `seat` took the slot last, and `slot` is its number, 0 to 2.
     pub fn exchange(&self, seat: &mut Seat<S, V>, slot: usize, new: S) -> S
-        requires { (slot < 3) × (seat.old.block ≡ self.now.id) × ((old : S) × (seat.old.me.1 ≡ (slot, old) ∷ rest seat.old.me.1)) }
+        requires slot { slot < 3 }
+        requires block { seat.old.block ≡ self.now.id }
+        requires taken { (old : S) × (seat.old.me.1 ≡ (slot, old) ∷ rest seat.old.me.1) }
         ensures { (seat.new.block ≡ seat.old.block) × (seat.new.id ≡ seat.old.id) × (seat.old.me.1 ≡ (slot, result) ∷ rest seat.old.me.1) × (seat.new.me ≡ (seat.old.me.0, (slot, new) ∷ rest seat.old.me.1)) }
     {
         match slot {

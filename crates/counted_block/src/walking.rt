@@ -22,7 +22,9 @@ impl<S, V, K, P: BlockRule<S, V, K>, T, A: Allocator> Share<S, V, K, P, T, A> {
 
     /// Loads the word. `seat` may learn from the number, and may take or give a slot.
     pub fn load<M: Play<S, V>>(&self, seat: &mut Seat<S, V>) -> u64
-        requires { (seat.old.block ≡ self.now.id) × Allows (P.holds self.now.key) 3 seat.old.id seat.old.me 0 (λ n. n) (M.then (step 3 0 0 0 none) seat.old.me) × Same (P.holds self.now.key) P.out seat.old.id seat.old.me.0 (λ n. n) }
+        requires block { seat.old.block ≡ self.now.id }
+        requires allowed { Allows (P.holds self.now.key) 3 seat.old.id seat.old.me 0 (λ n. n) (M.then (step 3 0 0 0 none) seat.old.me) }
+        requires shares { Same (P.holds self.now.key) P.out seat.old.id seat.old.me.0 (λ n. n) }
         ensures { (seat.new.block ≡ seat.old.block) × (seat.new.id ≡ seat.old.id) × M.then (step 3 0 0 0 none) seat.old.me result seat.new.me }
     {
         unsafe { raw::load::<Brand>(&raw const (*self.at).word, SeqCst) }
@@ -30,7 +32,7 @@ impl<S, V, K, P: BlockRule<S, V, K>, T, A: Allocator> Share<S, V, K, P, T, A> {
 
     /// Loads the word, and makes a new seat, whose view the rule has to allow whatever the number is.
     pub fn load_new_seat<M: Play<S, V>>(&self) -> (u64, Seat<S, V>)
-        requires { Enters (P.holds self.now.key) 3 0 (λ n w. M.then (step 3 0 0 0 none) (P.first self.now.key, []) n (w, [])) }
+        requires allowed { Enters (P.holds self.now.key) 3 0 (λ n w. M.then (step 3 0 0 0 none) (P.first self.now.key, []) n (w, [])) }
         ensures { (result.1.block ≡ self.now.id) × (result.1.me.1 ≡ []) × M.then (step 3 0 0 0 none) (P.first self.now.key, []) result.0 result.1.me }
     {
         let found = unsafe { raw::load::<Brand>(&raw const (*self.at).word, SeqCst) };
@@ -44,7 +46,8 @@ impl<S, V, K, P: BlockRule<S, V, K>, T, A: Allocator> Share<S, V, K, P, T, A> {
 
     /// Cuts the view of `seat` in two, as `M` says, and makes a new seat of the second part. The slots stay with the first. It is no step of the machine.
     pub fn split_seat<M: Split<V>>(&self, seat: &mut Seat<S, V>) -> Seat<S, V>
-        requires { (seat.old.block ≡ self.now.id) × Splits (P.holds self.now.key) seat.old.id seat.old.me.0 (M.left seat.old.me.0) (M.right seat.old.me.0) }
+        requires block { seat.old.block ≡ self.now.id }
+        requires allowed { Splits (P.holds self.now.key) seat.old.id seat.old.me.0 (M.left seat.old.me.0) (M.right seat.old.me.0) }
         ensures { (seat.new.block ≡ seat.old.block) × (seat.new.id ≡ seat.old.id) × (seat.new.me ≡ (M.left seat.old.me.0, seat.old.me.1)) × (result.block ≡ seat.old.block) × (result.me ≡ (M.right seat.old.me.0, [])) }
     {
         Seat {
@@ -54,7 +57,9 @@ impl<S, V, K, P: BlockRule<S, V, K>, T, A: Allocator> Share<S, V, K, P, T, A> {
 
     /// Writes `new` into the word. Answers the word as it was.
     pub fn swap<M: Play<S, V>>(&self, seat: &mut Seat<S, V>, new: u64) -> u64
-        requires { (seat.old.block ≡ self.now.id) × Allows (P.holds self.now.key) 3 seat.old.id seat.old.me 0 (λ _. new) (M.then (step 3 0 new 0 none) seat.old.me) × Same (P.holds self.now.key) P.out seat.old.id seat.old.me.0 (λ _. new) }
+        requires block { seat.old.block ≡ self.now.id }
+        requires allowed { Allows (P.holds self.now.key) 3 seat.old.id seat.old.me 0 (λ _. new) (M.then (step 3 0 new 0 none) seat.old.me) }
+        requires shares { Same (P.holds self.now.key) P.out seat.old.id seat.old.me.0 (λ _. new) }
         ensures { (seat.new.block ≡ seat.old.block) × (seat.new.id ≡ seat.old.id) × M.then (step 3 0 new 0 none) seat.old.me result seat.new.me }
     {
         unsafe { raw::swap::<Brand>(&raw const (*self.at).word, new, SeqCst) }
@@ -62,7 +67,9 @@ impl<S, V, K, P: BlockRule<S, V, K>, T, A: Allocator> Share<S, V, K, P, T, A> {
 
     /// Takes `k` from the word, modulo 2^64. Answers the word as it was.
     pub fn fetch_sub<M: Play<S, V>>(&self, seat: &mut Seat<S, V>, k: u64) -> u64
-        requires { (seat.old.block ≡ self.now.id) × Allows (P.holds self.now.key) 3 seat.old.id seat.old.me 0 (λ n. (n + (2 ^ 64 - k)) % 2 ^ 64) (M.then (step 3 0 k 0 none) seat.old.me) × Same (P.holds self.now.key) P.out seat.old.id seat.old.me.0 (λ n. (n + (2 ^ 64 - k)) % 2 ^ 64) }
+        requires block { seat.old.block ≡ self.now.id }
+        requires allowed { Allows (P.holds self.now.key) 3 seat.old.id seat.old.me 0 (λ n. (n + (2 ^ 64 - k)) % 2 ^ 64) (M.then (step 3 0 k 0 none) seat.old.me) }
+        requires shares { Same (P.holds self.now.key) P.out seat.old.id seat.old.me.0 (λ n. (n + (2 ^ 64 - k)) % 2 ^ 64) }
         ensures { (seat.new.block ≡ seat.old.block) × (seat.new.id ≡ seat.old.id) × M.then (step 3 0 k 0 none) seat.old.me result seat.new.me }
     {
         unsafe { raw::fetch_sub::<Brand>(&raw const (*self.at).word, k, SeqCst) }
@@ -70,7 +77,9 @@ impl<S, V, K, P: BlockRule<S, V, K>, T, A: Allocator> Share<S, V, K, P, T, A> {
 
     /// Keeps the bits of `k` in the word. Answers the word as it was.
     pub fn fetch_and<M: Play<S, V>>(&self, seat: &mut Seat<S, V>, k: u64) -> u64
-        requires { (seat.old.block ≡ self.now.id) × Allows (P.holds self.now.key) 3 seat.old.id seat.old.me 0 (λ n. bit_and n k) (M.then (step 3 0 k 0 none) seat.old.me) × Same (P.holds self.now.key) P.out seat.old.id seat.old.me.0 (λ n. bit_and n k) }
+        requires block { seat.old.block ≡ self.now.id }
+        requires allowed { Allows (P.holds self.now.key) 3 seat.old.id seat.old.me 0 (λ n. bit_and n k) (M.then (step 3 0 k 0 none) seat.old.me) }
+        requires shares { Same (P.holds self.now.key) P.out seat.old.id seat.old.me.0 (λ n. bit_and n k) }
         ensures { (seat.new.block ≡ seat.old.block) × (seat.new.id ≡ seat.old.id) × M.then (step 3 0 k 0 none) seat.old.me result seat.new.me }
     {
         unsafe { raw::fetch_and::<Brand>(&raw const (*self.at).word, k, SeqCst) }
@@ -78,7 +87,9 @@ impl<S, V, K, P: BlockRule<S, V, K>, T, A: Allocator> Share<S, V, K, P, T, A> {
 
     /// Sets the bits of `k` in the word. Answers the word as it was.
     pub fn fetch_or<M: Play<S, V>>(&self, seat: &mut Seat<S, V>, k: u64) -> u64
-        requires { (seat.old.block ≡ self.now.id) × Allows (P.holds self.now.key) 3 seat.old.id seat.old.me 0 (λ n. bit_or n k) (M.then (step 3 0 k 0 none) seat.old.me) × Same (P.holds self.now.key) P.out seat.old.id seat.old.me.0 (λ n. bit_or n k) }
+        requires block { seat.old.block ≡ self.now.id }
+        requires allowed { Allows (P.holds self.now.key) 3 seat.old.id seat.old.me 0 (λ n. bit_or n k) (M.then (step 3 0 k 0 none) seat.old.me) }
+        requires shares { Same (P.holds self.now.key) P.out seat.old.id seat.old.me.0 (λ n. bit_or n k) }
         ensures { (seat.new.block ≡ seat.old.block) × (seat.new.id ≡ seat.old.id) × M.then (step 3 0 k 0 none) seat.old.me result seat.new.me }
     {
         unsafe { raw::fetch_or::<Brand>(&raw const (*self.at).word, k, SeqCst) }
@@ -86,7 +97,9 @@ impl<S, V, K, P: BlockRule<S, V, K>, T, A: Allocator> Share<S, V, K, P, T, A> {
 
     /// Writes `new` into the word if it was `old`. Answers the word as it was, so the exchange was made exactly if that is `old`.
     pub fn compare_exchange<M: Play<S, V>>(&self, seat: &mut Seat<S, V>, old: u64, new: u64) -> u64
-        requires { (seat.old.block ≡ self.now.id) × Allows (P.holds self.now.key) 3 seat.old.id seat.old.me 0 (λ n. either (n == old) new n) (M.then (step 3 0 old new none) seat.old.me) × Same (P.holds self.now.key) P.out seat.old.id seat.old.me.0 (λ n. either (n == old) new n) }
+        requires block { seat.old.block ≡ self.now.id }
+        requires allowed { Allows (P.holds self.now.key) 3 seat.old.id seat.old.me 0 (λ n. either (n == old) new n) (M.then (step 3 0 old new none) seat.old.me) }
+        requires shares { Same (P.holds self.now.key) P.out seat.old.id seat.old.me.0 (λ n. either (n == old) new n) }
         ensures { (seat.new.block ≡ seat.old.block) × (seat.new.id ≡ seat.old.id) × M.then (step 3 0 old new none) seat.old.me result seat.new.me }
     {
         unsafe { exchange::<Brand>(&raw const (*self.at).word, old, new) }

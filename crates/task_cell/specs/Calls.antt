@@ -46,19 +46,7 @@ module _ {F T A : Type 0} where
   abbrev pub Stands : Position → Party F T A → Type 0
   Stands at p = StandsWith at [] p
 
-  -- the rule allows the party these acts by the word that is found, of which it knows what it has seen before, and this number in its place, which leaves as many shares out
-  abbrev pub MayMake : ℕ → (State → List Act) → (ℕ → ℕ) → Party F T A → Type 0
-  MayMake limit acts write p = Allows (RuleHolds {F = F} {T = T} {A = A} limit) 3 p.seat.id p.seat.me 0 write
-      (λ n me. Makes (acts (state_of n)) (state_of n) p.seat.me me × Knows (deeds p) (state_of n))
-      × Same (RuleHolds {F = F} {T = T} {A = A} limit) shares_out p.seat.id p.seat.me.0 write
-
-  -- .. where the party gives a handle up, and its share with it where it says so
-  abbrev pub MayGiveUp : ℕ → (State → List Act) → (State → Bool) → (ℕ → ℕ) → Party F T A → Type 0
-  MayGiveUp limit acts gives write p = Allows (RuleHolds {F = F} {T = T} {A = A} limit) 3 p.seat.id p.seat.me 0 write
-      (λ n me. Makes (acts (state_of n)) (state_of n) p.seat.me me × Knows (deeds p) (state_of n))
-      × Less (RuleHolds {F = F} {T = T} {A = A} limit) shares_out p.seat.id p.seat.me.0 write (λ n. gives (state_of n))
-
-  -- .. a seat to write this, and to go on like this
+  -- the rule allows a seat to write this number in the place of the one that it finds, and to go on like this
   abbrev pub MayWrite : ℕ → ℕ → Me (Slot F T A) View → (ℕ → ℕ) → (ℕ → Me (Slot F T A) View → Type 0) → Type 0
   MayWrite limit id me write then = Allows (RuleHolds {F = F} {T = T} {A = A} limit) 3 id me 0 write then
 
@@ -72,14 +60,25 @@ module _ {F T A : Type 0} where
   abbrev pub EndsShare : ℕ → ℕ → Me (Slot F T A) View → (ℕ → ℕ) → (ℕ → Bool) → Type 0
   EndsShare limit id me write counts = Less (RuleHolds {F = F} {T = T} {A = A} limit) shares_out id me.0 write counts
 
+  -- the party has made these acts by the word that was found, of which it knows what it has seen before
+  abbrev pub HasActed : (State → List Act) → Party F T A → ℕ → Me (Slot F T A) View → Type 0
+  HasActed acts p n me = Makes (acts (state_of n)) (state_of n) p.seat.me me × Knows (deeds p) (state_of n)
+
+  -- the rule allows the party these acts, which leave as many shares out
+  abbrev pub MayMake : ℕ → (State → List Act) → (ℕ → ℕ) → Party F T A → Type 0
+  MayMake limit acts write p = MayWrite limit p.seat.id p.seat.me write (HasActed acts p) × KeepsShares limit p.seat.id p.seat.me write
+
+  -- .. where the party gives a handle up, and its share with it where it says so
+  abbrev pub MayGiveUp : ℕ → (State → List Act) → (State → Bool) → (ℕ → ℕ) → Party F T A → Type 0
+  MayGiveUp limit acts gives write p = MayWrite limit p.seat.id p.seat.me write (HasActed acts p) × EndsShare limit p.seat.id p.seat.me write (λ n. gives (state_of n))
+
   -- .. to cut its view in two: it keeps the left part
   abbrev pub MaySplit : ℕ → (View → View) → (View → View) → Party F T A → Type 0
   MaySplit limit left right p = Splits (RuleHolds {F = F} {T = T} {A = A} limit) p.seat.id p.seat.me.0 (left p.seat.me.0) (right p.seat.me.0)
 
   -- .. and private acts, without a step
   abbrev pub MayNote : ℕ → (State → List Act) → Party F T A → Type 0
-  MayNote limit acts p = Notes (RuleHolds {F = F} {T = T} {A = A} limit) p.seat.id p.seat.me
-      (λ n me. Makes (acts (state_of n)) (state_of n) p.seat.me me × Knows (deeds p) (state_of n))
+  MayNote limit acts p = Notes (RuleHolds {F = F} {T = T} {A = A} limit) p.seat.id p.seat.me (HasActed acts p)
 
   -- p did this path, and is q now: it stands here, and has these places
   pub record DidWith (path : List Deed) (at : Position) (held : List (ℕ × Slot F T A)) (p q : Party F T A) : Type 0 where

@@ -28,7 +28,7 @@ impl<R: Drop, F: Yields, Q: Drop, M: Drop, A: Drop, B: Allocator + Copy> Share<R
         ensures again { IfOk result (λ w. (w.references < 72057594037927935) × HasSeen w party.old.seat.me party.new.seat.me) }
         ensures ended { IfErr result (λ w. HasEnded (limit_in self.now) P.attempt w party.old.seat.me party.new.seat.me) }
     {
-        let word = Word::from_bits(self.load_at::<Observing<P>>(&mut party.seat));
+        let word = Word::from_bits(self.block.load::<Observing<P>>(&mut party.seat));
         if P::is_end(word, self.cell().limit) {
             Err(word)
         } else {

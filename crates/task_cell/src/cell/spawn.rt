@@ -34,9 +34,9 @@ impl<R: Wait + Drop + Copy, F: Yields, Q: Drop, M: Drop, A: Drop, B: Allocator +
         ensures runnable { Stands as_runnable result.0 × (deeds result.0 ≡ []) }
         ensures task { Stands (as_task 0) result.1 × (deeds result.1 ≡ []) }
     {
-        self.load_at::<Filling>(&mut seat);
+        self.block.load::<Filling>(&mut seat);
         put_future(&self.block, &mut seat, Held::new(future)).discard();
-        self.load_at::<Spawning>(&mut seat);
+        self.block.load::<Spawning>(&mut seat);
         let mut runnable = Party { seat };
         let task = self.split::<Opening>(&mut runnable);
         (runnable, task)

@@ -9,7 +9,7 @@ ghost use Rattle.task_cell.specs.Calls.{BringsShare, EndsShare, KeepsShares, May
 ghost use Rattle.task_cell.specs.Belongs.{IsOf, Leaves, limit_in};
 
 use super::{MaybeShare, Party, Share};
-use atomic_table::{Play, Split};
+use atomic_table::Split;
 use counted_block::CountPlay;
 use std::alloc::Allocator;
 use task_core::Yields;
@@ -28,20 +28,6 @@ impl<R: Drop, F: Yields, Q: Drop, M: Drop, A: Drop, B: Allocator + Copy> Share<R
         ensures knows { Knows (deeds party.old) result }
     {
         Word::from_bits(self.block.load::<Knowing<S>>(&mut party.seat))
-    }
-
-    // Loads the word by a seat of this cell, which goes on as `P` says.
-    #[inline(always)]
-    pub(crate) fn load_at<P: Play<Slot<F, Kept<F>, A>, View>>(
-        &self,
-        seat: &mut TaskSeat<F, Kept<F>, A>,
-    ) -> u64
-        requires cell { seat.old.block ≡ self.now.block.id }
-        requires allowed { MayWrite (limit_in self.now) seat.old.id seat.old.me (λ n. n) (P.then (step 3 0 0 0 none) seat.old.me) }
-        requires shares { KeepsShares (limit_in self.now) seat.old.id seat.old.me (λ n. n) }
-        ensures { (seat.new.block ≡ seat.old.block) × (seat.new.id ≡ seat.old.id) × P.then (step 3 0 0 0 none) seat.old.me result seat.new.me }
-    {
-        self.block.load::<P>(seat)
     }
 
     // Exchanges the word by a seat of this cell, which goes on as `P` says: the number found, and the share, where `P` counts it.

@@ -1,4 +1,4 @@
-use Rattle.std.proofs.Common.{◌≡◌, [], ◌∷◌, refl, sym, ◌∙◌, subst}
+use Rattle.std.proofs.Common.{[], ◌∷◌, refl, sym, ap, ◌∙◌, subst}
 use Rattle.atomic_table.specs.Table.{opening}
 use Rattle.counted_block.specs.declared.inner.Inner.{Inner}
 use Rattle.task_steps.specs.declared.table.Slot.{Slot}
@@ -8,6 +8,12 @@ use Rattle.task_steps.specs.Rule.{laid_view, RuleHolds}
 use Rattle.task_steps.proofs.Laid.{laid}
 use Rattle.task_steps.proofs.table.lay.Goals as goal
 
-pub new_pair-requires : goal.new_pair-requires
-new_pair-requires g c = subst (λ (z : Inner (Slot g.row.F.Denot g.row.T.Denot g.row.A.Denot) g.row.V.Denot). (shares_out z.word ≡ 2) × (z.holds ≡ 0) × RuleHolds c.args.limit (opening (z.word ∷ []) (z.first ∷ z.second ∷ z.third ∷ []) (laid_view c.args.limit)))
-    (sym (c.of.ensures.0 ∙ c.in-Ok.ensures.ok)) (refl, refl, laid g.row.F.Denot g.row.T.Denot g.row.A.Denot c.args.limit (Empty ∷ Empty ∷ Empty ∷ []) c.requires refl)
+pub new_pair-requires-clause-shares : goal.new_pair-requires-clause-shares
+new_pair-requires-clause-shares g c = ap (λ z. shares_out z.word) (c.of.ensures.0 ∙ c.in-Ok.ensures.ok)
+
+pub new_pair-requires-clause-holds : goal.new_pair-requires-clause-holds
+new_pair-requires-clause-holds g c = ap (λ z. z.holds) (c.of.ensures.0 ∙ c.in-Ok.ensures.ok)
+
+pub new_pair-requires-clause-rule : goal.new_pair-requires-clause-rule
+new_pair-requires-clause-rule g c = subst (λ (z : Inner (Slot g.row.F.Denot g.row.T.Denot g.row.A.Denot) g.row.V.Denot). RuleHolds c.args.limit (opening (z.word ∷ []) (z.first ∷ z.second ∷ z.third ∷ []) (laid_view c.args.limit)))
+    (sym (c.of.ensures.0 ∙ c.in-Ok.ensures.ok)) (laid g.row.F.Denot g.row.T.Denot g.row.A.Denot c.args.limit (Empty ∷ Empty ∷ Empty ∷ []) c.requires refl)

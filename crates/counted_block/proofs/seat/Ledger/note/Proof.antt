@@ -32,19 +32,19 @@ note_spec 𝓤 𝓛 𝓜 𝓡 wired S₀ V₀ K₀ Y₀ T₀ A₀ M₀ _ _ _ _ _
     let Beside : Fml = tokens ((κs.1.1.0, qs.1.1.0) ∷ (κs.1.1.1.0, qs.1.1.1.0) ∷ (κs.1.1.1.1.0, qs.1.1.1.1.0) ∷ (κs.1.1.1.1.1.0, qs.1.1.1.1.1.0) ∷ (κs.1.1.1.1.1.1.0, qs.1.1.1.1.1.1.0) ∷ (κs.1.1.1.1.1.1.1.0, qs.1.1.1.1.1.1.1.0) ∷ (κs.1.1.1.1.1.1.1.1.0, qs.1.1.1.1.1.1.1.1.0) ∷ []) in let holds = g'.holds s.key in let P : Fml = content S R k z x in let J : Fml = block S V.coded.code holds g.out P z in
     let start : (walk_of 𝓛 promise staying claims).Ghost = ((κs, qs, bounds, a, (vptr self_block self_offset ∷ [], (vptr seat_block seat_offset ∷ [], tt))), gh) in let returned : Val → SProp 𝓤 = (walk_of 𝓛 promise staying claims).post start in
     let then : ℕ → Me S.Denot V.Denot → Type 0 = m.then (step 3 0 0 0 maybe.none) v in
-    qed 𝓛 (((‵ (flft κ qs.0) ⊛ ‵ (flft κs.1.0 qs.1.0) ⊛ ‵ Beside) ⊛ ‵ (owns (types_at promise.signature.params κs) a start.0.4)) ∷ raw (fact 𝓤 _) ∷ raw (fact 𝓤 _) ∷ raw (fact 𝓤 _) ∷ raw (fact 𝓤 _) ∷ raw (fact 𝓤 _) ∷ raw (fact 𝓤 _) ∷ raw (fact 𝓤 _) ∷ given ((t.block ≡ z) × Notes holds id v then) (‵ ftrue) ∷ []) ∵
-    keep ! (8 ∷ 0 ∷ []) $ learn ! (λ asked. drop ! $ split ! $ split3 ! $ move ! (3 ∷ []) $ fsplit3 ! $ fsplit ! $ move ! (2 ∷ []) $ fsplit3 ! $ keep ! (4 ∷ 6 ∷ 1 ∷ 2 ∷ 7 ∷ 8 ∷ []) $
+    qed 𝓛 (((‵ (flft κ qs.0) ⊛ ‵ (flft κs.1.0 qs.1.0) ⊛ ‵ Beside) ⊛ ‵ (owns (types_at promise.signature.params κs) a start.0.4)) ∷ raw (fact 𝓤 _) ∷ raw (fact 𝓤 _) ∷ raw (fact 𝓤 _) ∷ raw (fact 𝓤 _) ∷ raw (fact 𝓤 _) ∷ raw (fact 𝓤 _) ∷ raw (fact 𝓤 _) ∷ given (t.block ≡ z) (‵ ftrue) ∷ given (Notes holds id v then) (‵ ftrue) ∷ []) ∵
+    keep ! (8 ∷ 9 ∷ 0 ∷ []) $ learn ! (λ same. drop ! $ learn ! (λ allows. drop ! $ split ! $ split3 ! $ move ! (3 ∷ []) $ fsplit3 ! $ fsplit ! $ move ! (2 ∷ []) $ fsplit3 ! $ keep ! (4 ∷ 6 ∷ 1 ∷ 2 ∷ 7 ∷ 8 ∷ []) $
     enter ! machine.C machine.Λ routine (vptr self_block self_offset ∷ vptr seat_block seat_offset ∷ []) returned $ alloc_all ! (λ l. pass_all ! refl ((tt, tt), ((tt, tt), tt)) $
     use1 𝓛 (‵ (hidden_shr D κ (tt, tt) self_block self_offset) ⊛ ‵ (fhide (kept_of S R V.coded.code holds g.out k z x)))
     (lent_out 𝓛 (ledger.struct S V K Y R A g g' h) (ledger.the_codes S.Denot V.Denot K.Denot Y.Denot R.Denot A.Denot S.coded V.coded K.coded Y.coded R.coded A.coded (phantom.the_row (LedgerMarked S V K Y R A g g' h)).coded) (ledger.the_heap S V K Y R A g g' h) (ledger.the_lent S V K Y R A g g' h) κ s self_block self_offset) $
     split ! $ move ! (1 ∷ []) $ unhide ! $ use1 𝓛 (‵ (finv J)) (kept_inv S V.coded.code holds g.out P z 𝓛) $ move ! (1 ∷ []) $ drop ! $
     -- [the invariant; the token; the seat, in two; its token; the others]
-    let New : ℕ × V.Denot → Fml = entering.noted 𝓛 S V.coded holds g.out P z id v then asked.1 in
-    move ! (2 ∷ 3 ∷ 4 ∷ []) $ opens ! tt SeatRow seat_block seat_offset (λ bits. move ! (1 ∷ []) $ fsplit ! $ rewrite ! 1 (λ (w : BlockId). ‵ (seat_owns S w V.coded.code id v)) asked.0 refl $ move ! (6 ∷ 1 ∷ []) $
-    use2 𝓛 (later (‵ (fex (ℕ × V.Denot) New))) (entering.notes 𝓛 S V.coded holds g.out P z id v then asked.1) $ await ! tt $ fpick ! (λ u. fsplit ! $ fpick ! (λ so. drop ! $
+    let New : ℕ × V.Denot → Fml = entering.noted 𝓛 S V.coded holds g.out P z id v then allows in
+    move ! (2 ∷ 3 ∷ 4 ∷ []) $ opens ! tt SeatRow seat_block seat_offset (λ bits. move ! (1 ∷ []) $ fsplit ! $ rewrite ! 1 (λ (w : BlockId). ‵ (seat_owns S w V.coded.code id v)) same refl $ move ! (6 ∷ 1 ∷ []) $
+    use2 𝓛 (later (‵ (fex (ℕ × V.Denot) New))) (entering.notes 𝓛 S V.coded holds g.out P z id v then allows) $ await ! tt $ fpick ! (λ u. fsplit ! $ fpick ! (λ so. drop ! $
     let t' : SeatRow.Denot = record { marker = t.marker; block = z; id = id; me = (u.1, v.1) } in let Told : Type 0 = (z ≡ t.block) × (id ≡ id) × ((n : ℕ) × then n (u.1, v.1)) in
     -- [the seat; its fields, its cell and three more; the token; the others]
     move ! (1 ∷ 0 ∷ []) $ fjoin ! $ move ! (1 ∷ 0 ∷ 2 ∷ 3 ∷ 4 ∷ []) $ closes ! tt SeatRow t' bits seat_block seat_offset $ feq_i ! (List Val) (vptr seat_block seat_offset ∷ []) (vptr seat_block seat_offset ∷ []) refl $ fjoin3 ! $
     nothing ! $ move ! (1 ∷ 0 ∷ []) $ fjoin ! $ nothing ! $ fjoin ! $ move ! (1 ∷ 3 ∷ []) $ join ! $ move ! (2 ∷ 0 ∷ []) $ join ! $
-    use0 𝓛 (raw (fact 𝓤 Told)) (fact_i 𝓤 Told (emp 𝓤) (sym asked.0, refl, (u.0, so))) $ feq_i ! (List Val) (vunit ∷ []) (vunit ∷ []) refl $
-    sets ! (of_opd ! (unit_lit !)) refl (tt, tt) $ returns ! (look_at ! 0 refl) $ free_all ! refl $ keep ! (2 ∷ 3 ∷ 0 ∷ 1 ∷ []) $ by ! (leaves 𝓛 promise staying claims start vunit tt (tt, (t', tt)) (tt, (tt, tt)))))))))
+    use0 𝓛 (raw (fact 𝓤 Told)) (fact_i 𝓤 Told (emp 𝓤) (sym same, refl, (u.0, so))) $ feq_i ! (List Val) (vunit ∷ []) (vunit ∷ []) refl $
+    sets ! (of_opd ! (unit_lit !)) refl (tt, tt) $ returns ! (look_at ! 0 refl) $ free_all ! refl $ keep ! (2 ∷ 3 ∷ 0 ∷ 1 ∷ []) $ by ! (leaves 𝓛 promise staying claims start vunit tt (tt, (t', tt)) (tt, (tt, tt))))))))))

@@ -43,15 +43,15 @@ first_mut_spec 𝓤 𝓛 𝓜 𝓡 wired S₀ V₀ K₀ Y₀ T₀ A₀ _ _ _ _ _
     let F : S.Denot → Sr.Denot = seat_with t n in let Mark : Fml = part_at (SeatData S V) full_share (tt, tt) seat_block seat_offset in let Back : S.Denot → SProp 𝓤 = Swapped 𝓛 S z V.coded.code id v.0 n more in let Rest : SProp 𝓤 = sep 𝓤 (all 𝓤 Back) (sem 𝓛 Mark) in let In : Fml = slot_body S z n in
     let start : (walk_of 𝓛 promise staying claims).Ghost = ((κs, qs, bounds, a, (vptr seat_block seat_offset ∷ [], (vptr self_block self_offset ∷ [], tt))), gh) in let returned : Val → SProp 𝓤 = (walk_of 𝓛 promise staying claims).post start in
     let Beside : Fml = tokens ((κs.1.0, qs.1.0) ∷ (κs.1.1.0, qs.1.1.0) ∷ (κs.1.1.1.0, qs.1.1.1.0) ∷ (κs.1.1.1.1.0, qs.1.1.1.1.0) ∷ (κs.1.1.1.1.1.0, qs.1.1.1.1.1.0) ∷ (κs.1.1.1.1.1.1.0, qs.1.1.1.1.1.1.0) ∷ []) in
-    qed 𝓛 (((‵ (flft κ q) ⊛ ‵ Beside) ⊛ ‵ (owns (types_at promise.signature.params κs) a start.0.4)) ∷ raw (fact 𝓤 _) ∷ raw (fact 𝓤 _) ∷ raw (fact 𝓤 _) ∷ raw (fact 𝓤 _) ∷ raw (fact 𝓤 _) ∷ raw (fact 𝓤 _) ∷ given ((t.block ≡ z) × ((old : S.Denot) × (v.1 ≡ (n, old) ∷ more))) (‵ ftrue) ∷ []) ∵
-    keep ! (7 ∷ 0 ∷ []) $ learn ! (λ asked. let old : S.Denot = asked.1.0 in
+    qed 𝓛 (((‵ (flft κ q) ⊛ ‵ Beside) ⊛ ‵ (owns (types_at promise.signature.params κs) a start.0.4)) ∷ raw (fact 𝓤 _) ∷ raw (fact 𝓤 _) ∷ raw (fact 𝓤 _) ∷ raw (fact 𝓤 _) ∷ raw (fact 𝓤 _) ∷ raw (fact 𝓤 _) ∷ given (t.block ≡ z) (‵ ftrue) ∷ given ((old : S.Denot) × (v.1 ≡ (n, old) ∷ more)) (‵ ftrue) ∷ []) ∵
+    keep ! (7 ∷ 8 ∷ 0 ∷ []) $ learn ! (λ same. drop ! $ learn ! (λ taken. let old : S.Denot = taken.0 in
     let cut : ent 𝓤 (sem 𝓛 (part_at Sr full_share t seat_block seat_offset)) (sep 𝓤 (𝓛.A.obs δ (S.coded.code old)) (sep 𝓤 (𝓛.A.bor α In) Rest)) =
     qed 𝓛 (‵ (part_at Sr full_share t seat_block seat_offset) ∷ []) ∵ use1 𝓛 (‵ Mark ⊛ ‵ (seat_owns S t.block V.coded.code id v)) (part_out 𝓛 (seat.the_type S V) full_share t seat_block seat_offset) $ split ! $
-    rewrite ! 1 (λ (u : BlockId × List (ℕ × S.Denot)). ‵ (seat_owns S u.0 V.coded.code id (v.0, u.1))) (λ i. (asked.0 i, asked.1.1 i)) refl $ move ! (1 ∷ []) $
+    rewrite ! 1 (λ (u : BlockId × List (ℕ × S.Denot)). ‵ (seat_owns S u.0 V.coded.code id (v.0, u.1))) (λ i. (same i, taken.1 i)) refl $ move ! (1 ∷ []) $
     use1 𝓛 (given (n < 3) (‵ (tracked S z n old) ⊛ raw (all 𝓤 Back))) (holding 𝓛 S z V.coded.code id v.0 n old more) $ learn ! (λ near. split ! $ fsplit ! $ done !) in
     let back : (w : S.Denot) → ent 𝓤 (sep 𝓤 (𝓛.A.obs δ (S.coded.code w)) (sep 𝓤 (𝓛.A.bor α In) Rest)) (sem 𝓛 (part_at Sr full_share (F w) seat_block seat_offset)) = λ w. let Mine : BlockId → Fml = λ u. seat_owns S u V.coded.code id (v.0, (n, w) ∷ more) in
     qed 𝓛 (‵ (fobs δ (S.coded.code w)) ∷ ‵ (fbor α In) ∷ raw (all 𝓤 Back) ∷ ‵ Mark ∷ []) ∵ fjoin ! $ move ! (1 ∷ []) $ use1 𝓛 (raw (Back w)) (all_e 𝓤 Back w) $ move ! (1 ∷ 0 ∷ []) $
-    use2 𝓛 (‵ (Mine z)) (apply∗ 𝓤 (sem 𝓛 (tracked S z n w)) (sem 𝓛 (Mine z))) $ rewrite ! 0 (λ (u : BlockId). ‵ (Mine u)) (sym asked.0) refl $ move ! (1 ∷ 0 ∷ []) $ by ! (part_in 𝓛 (seat.the_type S V) full_share (F w) seat_block seat_offset) in
+    use2 𝓛 (‵ (Mine z)) (apply∗ 𝓤 (sem 𝓛 (tracked S z n w)) (sem 𝓛 (Mine z))) $ rewrite ! 0 (λ (u : BlockId). ‵ (Mine u)) (sym same) refl $ move ! (1 ∷ 0 ∷ []) $ by ! (part_in 𝓛 (seat.the_type S V) full_share (F w) seat_block seat_offset) in
     drop ! $ split ! $ split ! $ move ! (2 ∷ []) $ fsplit ! $ fsplit3 ! $ move ! (3 ∷ []) $ fsplit ! $ fsplit ! $ keep ! (1 ∷ 4 ∷ 5 ∷ 6 ∷ 7 ∷ []) $
     enter ! machine.C machine.Λ routine (vptr seat_block seat_offset ∷ vptr self_block self_offset ∷ []) returned $ alloc_all ! (λ l. pass_all ! refl ((tt, tt), ((tt, tt), tt)) $ let here = env routine.locals l in
     use1 𝓛 (‵ (hidden_shr D κ (p, (tt, tt)) self_block self_offset) ⊛ ‵ (fhide (share_shown S R V.coded.code (g'.holds s.key) g.out k z x p κ)))
@@ -69,5 +69,5 @@ first_mut_spec 𝓤 𝓛 𝓜 𝓡 wired S₀ V₀ K₀ Y₀ T₀ A₀ _ _ _ _ _
     use1 𝓛 (later (some (λ (γ' : ℕ). ‵ (fobs γ' (S.coded.code old)) ⊛ ‵ (fbor κ (Body (mem S) pb e γ')) ⊛ ‵ (flft κ q) ⊛ ‵ (follows Sr S γ γ' F))))
     (hands_out 𝓛 (mem Sr) (mem S) F (λ w u same. ap (λ (r : Sr.Denot). (lib.ListN.get_or r.me.1 0 (n, w)).1) same) seat_block seat_offset pb e γ α δ κ Rest back q t old cut) $ await ! tt $ pick ! (λ γ'. split3 ! $
     let val : Val = vptr pb e in let Told : Type 0 = v.1 ≡ (n, old) ∷ more in feq_i ! (List Val) (val ∷ []) (val ∷ []) refl $ fjoin3 ! $ move ! (1 ∷ []) $ split ! $ move ! (0 ∷ 4 ∷ []) $ join ! $
-    use0 𝓛 (raw (fact 𝓤 Told)) (fact_i 𝓤 Told (emp 𝓤) asked.1.1) $ move ! (2 ∷ 0 ∷ []) $ join ! $ nothing ! $ nothing ! $ fjoin ! $ nothing ! $ fjoin ! $
-    returns ! (look_at ! 0 refl) $ free_all ! refl $ keep ! (2 ∷ 0 ∷ 3 ∷ 1 ∷ []) $ by ! (leaves 𝓛 promise staying claims start val (record { ref_ptr = (pb, e); ghost_name = γ'; now = old }) (tt, (tt, tt)) (tt, (tt, tt))))))))))
+    use0 𝓛 (raw (fact 𝓤 Told)) (fact_i 𝓤 Told (emp 𝓤) taken.1) $ move ! (2 ∷ 0 ∷ []) $ join ! $ nothing ! $ nothing ! $ fjoin ! $ nothing ! $ fjoin ! $
+    returns ! (look_at ! 0 refl) $ free_all ! refl $ keep ! (2 ∷ 0 ∷ 3 ∷ 1 ∷ []) $ by ! (leaves 𝓛 promise staying claims start val (record { ref_ptr = (pb, e); ghost_name = γ'; now = old }) (tt, (tt, tt)) (tt, (tt, tt)))))))))))

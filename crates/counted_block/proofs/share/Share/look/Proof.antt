@@ -33,16 +33,16 @@ look_spec 𝓤 𝓛 𝓜 𝓡 wired S₀ V₀ K₀ Y₀ T₀ A₀ _ _ _ _ _ _ g 
     let Beside : Fml = tokens ((κs.1.0, qs.1.0) ∷ (κs.1.1.0, qs.1.1.0) ∷ (κs.1.1.1.0, qs.1.1.1.0) ∷ (κs.1.1.1.1.0, qs.1.1.1.1.0) ∷ (κs.1.1.1.1.1.0, qs.1.1.1.1.1.0) ∷ (κs.1.1.1.1.1.1.0, qs.1.1.1.1.1.1.0) ∷ []) in
     let pb : ℕ = z.block in let P : Fml = content S R k z x in let holds = g'.holds s.key in let J : Fml = block S V.coded.code holds g.out P z in let Kp : Fml = kept_of S R V.coded.code holds g.out k z x in
     let start : (walk_of 𝓛 promise staying claims).Ghost = ((κs, qs, bounds, a, (ptr_and_marker p ∷ [], (vptr seat_block seat_offset ∷ [], tt))), gh) in let returned : Val → SProp 𝓤 = (walk_of 𝓛 promise staying claims).post start in
-    qed 𝓛 (((‵ (flft κs.0 qs.0) ⊛ ‵ Beside) ⊛ ‵ (owns (types_at promise.signature.params κs) a start.0.4)) ∷ raw (fact 𝓤 _) ∷ raw (fact 𝓤 _) ∷ raw (fact 𝓤 _) ∷ raw (fact 𝓤 _) ∷ raw (fact 𝓤 _) ∷ raw (fact 𝓤 _) ∷ given ((t.block ≡ z) × Last holds g.out id v.0) (‵ ftrue) ∷ []) ∵
-    keep ! (7 ∷ 0 ∷ []) $ learn ! (λ asked. drop ! $ split ! $ split ! $ move ! (2 ∷ []) $ fsplit3 ! $ fsplit ! $ move ! (2 ∷ []) $ fsplit3 ! $ keep ! (4 ∷ 1 ∷ 2 ∷ 6 ∷ 7 ∷ []) $
+    qed 𝓛 (((‵ (flft κs.0 qs.0) ⊛ ‵ Beside) ⊛ ‵ (owns (types_at promise.signature.params κs) a start.0.4)) ∷ raw (fact 𝓤 _) ∷ raw (fact 𝓤 _) ∷ raw (fact 𝓤 _) ∷ raw (fact 𝓤 _) ∷ raw (fact 𝓤 _) ∷ raw (fact 𝓤 _) ∷ given (t.block ≡ z) (‵ ftrue) ∷ given (Last holds g.out id v.0) (‵ ftrue) ∷ []) ∵
+    keep ! (7 ∷ 8 ∷ 0 ∷ []) $ learn ! (λ same. drop ! $ learn ! (λ alone. drop ! $ split ! $ split ! $ move ! (2 ∷ []) $ fsplit3 ! $ fsplit ! $ move ! (2 ∷ []) $ fsplit3 ! $ keep ! (4 ∷ 1 ∷ 2 ∷ 6 ∷ 7 ∷ []) $
     fsplit ! $ fpick ! (λ at. drop ! $ fsplit3 ! $ move ! (1 ∷ []) $ use1 𝓛 (‵ (finv J) ⊛ ‵ Kp) (kept_shows S V.coded.code holds g.out P z 𝓛) $ split ! $
     -- [the invariant; what is kept; the parts; the value; the seat, in two; its token; the others]
     enter ! machine.C machine.Λ routine (ptr_and_marker p ∷ vptr seat_block seat_offset ∷ []) returned $ alloc_all ! (λ l. pass_all ! refl (pair_typed p (in_place p z at), ((tt, tt), tt)) $ let here = env routine.locals l in
     sets ! (is ! (of_opd ! (get_in ! (fld ! refl (stop !)) (sub ! 0 refl (whole !)))) (ap ptr_val at)) refl (tt, tt) $ first ! $ blocks ! $ sets ! (addr ! (through ! refl (fld ! refl (stop !)))) refl (tt, tt) $
-    let out : ℕ → Fml = ending.looked 𝓛 S V.coded holds g.out P z id v asked.1 in
-    move ! (4 ∷ 5 ∷ 6 ∷ []) $ opens ! tt SeatRow seat_block seat_offset (λ bits. move ! (1 ∷ []) $ fsplit ! $ rewrite ! 1 (λ (u : BlockId). ‵ (seat_owns S u V.coded.code id v)) asked.0 refl $ move ! (6 ∷ 8 ∷ 1 ∷ []) $
+    let out : ℕ → Fml = ending.looked 𝓛 S V.coded holds g.out P z id v alone in
+    move ! (4 ∷ 5 ∷ 6 ∷ []) $ opens ! tt SeatRow seat_block seat_offset (λ bits. move ! (1 ∷ []) $ fsplit ! $ rewrite ! 1 (λ (u : BlockId). ‵ (seat_owns S u V.coded.code id v)) same refl $ move ! (6 ∷ 8 ∷ 1 ∷ []) $
     use3 𝓛 (raw (machine.C _ (vptr pb e ∷ seq_cst ∷ []) (λ u. mean 𝓛 (found out u))))
-    (via 𝓤 _ (ending.looks_last 𝓛 S V.coded holds g.out P z id v asked.1) (loads 𝓛 𝓜 𝓡 (code.calls-std::sync::atomic::raw::load 𝓡.env wired) (block_ptr pb e) out)) $
+    (via 𝓤 _ (ending.looks_last 𝓛 S V.coded holds g.out P z id v alone) (loads 𝓛 𝓜 𝓡 (code.calls-std::sync::atomic::raw::load 𝓡.env wired) (block_ptr pb e) out)) $
     sets ! (agg ! (and_then ! (lit ! tt) (no_more !))) refl (tt, (record { fits = lit< tt }, tt)) $
     Calls-last ! (fm 𝓛 𝓜 𝓡) (found out) (and_then ! (get ! refl) (and_then ! (get ! refl) (no_more !))) (λ u. finds ! out (λ n fits.
     lands_last ! refl (tt, record { fits = fits }) $ exec ! machine.C machine.Λ here (after 2 routine.body) (at_ret here returned) $ sets ! (of_opd ! (get ! refl)) refl (tt, record { fits = fits }) $
@@ -64,5 +64,5 @@ look_spec 𝓤 𝓛 𝓜 𝓡 wired S₀ V₀ K₀ Y₀ T₀ A₀ _ _ _ _ _ _ g 
     move ! (2 ∷ 1 ∷ []) $ fjoin ! $ move ! (2 ∷ 0 ∷ 3 ∷ 4 ∷ 5 ∷ []) $ closes ! tt SeatRow t' bits seat_block seat_offset $ feq_i ! (List Val) (vptr seat_block seat_offset ∷ []) (vptr seat_block seat_offset ∷ []) refl $ fjoin3 ! $
     nothing ! $ move ! (1 ∷ 0 ∷ []) $ fjoin ! $ nothing ! $ fjoin ! $ move ! (1 ∷ 3 ∷ []) $ join ! $
     let A₁ : Type 0 = (z ≡ t.block) × (id ≡ id) × (v ≡ v) in let A₂ : Type 0 = (z ≡ z) × (s.key ≡ s.key) × (x ≡ x) × (s.heap ≡ s.heap) × (not (eqb n 0) ≡ not (eqb n 0)) in let A₃ : Type 0 = (s.key ≡ s.key) × (x ≡ x) × (s.heap ≡ s.heap) × (eqb n 0 ≡ eqb n 0) × (is 0 ≡ is 0) in
-    use0 𝓛 (raw (fact 𝓤 A₃)) (fact_i 𝓤 A₃ (emp 𝓤) (refl, refl, refl, refl, refl)) $ use0 𝓛 (raw (fact 𝓤 A₂)) (fact_i 𝓤 A₂ (emp 𝓤) (refl, refl, refl, refl, refl)) $ join ! $ use0 𝓛 (raw (fact 𝓤 A₁)) (fact_i 𝓤 A₁ (emp 𝓤) (sym asked.0, refl, refl)) $ join ! $
-    returns ! (look_at ! 0 refl) $ free_all ! refl $ keep ! (1 ∷ 2 ∷ 3 ∷ 0 ∷ []) $ by ! (leaves 𝓛 promise staying claims start r (n, mh, rh) (tt, (t', tt)) (tt, (tt, tt))))))))))
+    use0 𝓛 (raw (fact 𝓤 A₃)) (fact_i 𝓤 A₃ (emp 𝓤) (refl, refl, refl, refl, refl)) $ use0 𝓛 (raw (fact 𝓤 A₂)) (fact_i 𝓤 A₂ (emp 𝓤) (refl, refl, refl, refl, refl)) $ join ! $ use0 𝓛 (raw (fact 𝓤 A₁)) (fact_i 𝓤 A₁ (emp 𝓤) (sym same, refl, refl)) $ join ! $
+    returns ! (look_at ! 0 refl) $ free_all ! refl $ keep ! (1 ∷ 2 ∷ 3 ∷ 0 ∷ []) $ by ! (leaves 𝓛 promise staying claims start r (n, mh, rh) (tt, (t', tt)) (tt, (tt, tt)))))))))))

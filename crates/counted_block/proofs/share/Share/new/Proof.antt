@@ -39,16 +39,16 @@ new_spec 𝓤 𝓛 𝓜 𝓡 wired S₀ V₀ K₀ Y₀ T₀ A₀ LS _ _ _ LT _ g
     let key : K.Denot = a.1.0.now in let holds = g'.holds key in let v : V.Denot = g'.first key in let κ : Lft = κs.1.1.1.1.1.0 in let inT : Type 0 = κ ⊑ T₀.lives in
     let start : (walk_of 𝓛 promise staying claims).Ghost = ((κs, qs, bounds, a, (ptr_and_marker p₀ ∷ [], (about_at ∷ [], tt))), gh) in let returned : Val → SProp 𝓤 = (walk_of 𝓛 promise staying claims).post start in
     qed 𝓛 (((‵ (flft κs.0 qs.0) ⊛ ‵ (flft κs.1.0 qs.1.0) ⊛ ‵ (flft κs.1.1.0 qs.1.1.0) ⊛ ‵ (flft κs.1.1.1.0 qs.1.1.1.0) ⊛ ‵ (flft κs.1.1.1.1.0 qs.1.1.1.1.0) ⊛ ‵ (flft κ qs.1.1.1.1.1.0) ⊛ ‵ (fsep (flft κs.1.1.1.1.1.1.0 qs.1.1.1.1.1.1.0) ftrue)) ⊛ ‵ (owns (types_at promise.signature.params κs) a start.0.4))
-    ∷ raw (fact 𝓤 _) ∷ raw (fact 𝓤 _) ∷ raw (fact 𝓤 _) ∷ raw (fact 𝓤 _) ∷ raw (fact 𝓤 inT) ∷ raw (fact 𝓤 _) ∷ given ((g.out n ≡ 1) × (i.holds ≡ 0) × holds (opening (n ∷ []) (i.first ∷ i.second ∷ i.third ∷ []) v)) (‵ ftrue) ∷ []) ∵
-    keep ! (5 ∷ 7 ∷ 0 ∷ []) $ heard ! inT (λ leT. learn ! (λ asked. drop ! $ split ! $ move ! (1 ∷ []) $ fsplit ! $ fsplit ! $ keep ! (1 ∷ 3 ∷ []) $
+    ∷ raw (fact 𝓤 _) ∷ raw (fact 𝓤 _) ∷ raw (fact 𝓤 _) ∷ raw (fact 𝓤 _) ∷ raw (fact 𝓤 inT) ∷ raw (fact 𝓤 _) ∷ given (g.out n ≡ 1) (‵ ftrue) ∷ given (i.holds ≡ 0) (‵ ftrue) ∷ given (holds (opening (n ∷ []) (i.first ∷ i.second ∷ i.third ∷ []) v)) (‵ ftrue) ∷ []) ∵
+    keep ! (5 ∷ 7 ∷ 8 ∷ 9 ∷ 0 ∷ []) $ heard ! inT (λ leT. learn ! (λ counted. drop ! $ learn ! (λ unheld. drop ! $ learn ! (λ kept. drop ! $ split ! $ move ! (1 ∷ []) $ fsplit ! $ fsplit ! $ keep ! (1 ∷ 3 ∷ []) $
     in_a_block ! p₀ (λ q. box_owns k Ir q i) (fst∗ 𝓤 (never 𝓤) (sem 𝓛 (k (bare_ty (lone Ir.mir)) null_ptr))) (λ b o at. let z₀ : BlockId = unnamed 𝓛 S R V.coded holds g.out k x b o in let P : Fml = content S R k z₀ x in
     let inb = denote.RawPtr.InBlock p₀ in let inb' : inb = Rattle.std.proofs.Common.subst denote.RawPtr.InBlock (sym at) tt in
-    use1 𝓛 (‵ (words_in z₀ n i.holds) ⊛ ‵ (slots_there S R k z₀ x m) ⊛ ‵ P) (unboxes 0 4 S₀ T₀ LS LT 𝓛 z₀ x k ((n, i.holds), m)) $ split3 ! $ rewrite ! 0 (λ (j : ℕ). ‵ (words_in z₀ n j)) asked.1 refl $
+    use1 𝓛 (‵ (words_in z₀ n i.holds) ⊛ ‵ (slots_there S R k z₀ x m) ⊛ ‵ P) (unboxes 0 4 S₀ T₀ LS LT 𝓛 z₀ x k ((n, i.holds), m)) $ split3 ! $ rewrite ! 0 (λ (j : ℕ). ‵ (words_in z₀ n j)) unheld refl $
     move ! (3 ∷ []) $ split ! $ move ! (1 ∷ []) $ split ! $ move ! (1 ∷ []) $ split ! $ move ! (1 ∷ []) $ split ! $ move ! (1 ∷ []) $ split ! $ move ! (1 ∷ []) $ split ! $
     -- [the value's token; the rest of the tokens, backwards; the words; the slots; the content]
     move ! (7 ∷ 8 ∷ 9 ∷ 0 ∷ []) $ group ! 4 $
     use1 𝓛 (later (some (λ (z : BlockId). given (place z ≡ block_ptr b o) (‵ (parts z) ⊛ ‵ (parts_if false z) ⊛ ‵ (kept_of S R V.coded.code holds g.out k z x) ⊛ ‵ (looked_at S R k z x (life z)) ⊛ ‵ (seat_owns S z V.coded.code 0 (v, [])))) ⊛ ‵ (flft κ qs.1.1.1.1.1.0)))
-    (begun 𝓛 S R V.coded holds g.out k x b o false n m v asked.0 asked.2 R.lives
+    (begun 𝓛 S R V.coded holds g.out k x b o false n m v counted kept R.lives
     (Lends-first 𝓛 (value_there S R k z₀ x) (rebox S R k z₀ x) (looked_at S R k z₀ x) R.lives (Lends-lies 𝓛 R R.lives (place z₀ +ₚ at_value S R) x (LR.shares 𝓛 x))) κ qs.1.1.1.1.1.0 leT) $
     enter ! machine.C machine.Λ routine (ptr_and_marker p₀ ∷ about_at ∷ []) returned $ alloc_all ! (λ l. pass_all ! refl (pair_typed p₀ inb', ((tt, tt), tt)) $
     await ! tt $ split ! $ pick ! (λ z. learn ! (λ at'. split3 ! $ move ! (2 ∷ []) $ split3 ! $
@@ -66,4 +66,4 @@ new_spec 𝓤 𝓛 𝓜 𝓡 wired S₀ V₀ K₀ Y₀ T₀ A₀ LS _ _ _ LT _ g
     fpack ! (Valss (OwnRow ∷ SeatRow ∷ [])) (λ uss. fsep (feq (List Val) (u ∷ []) (vstruct (of_list (uss.0 ++ (uss.1.0 ++ []))) ∷ [])) (owns (OwnRow ∷ SeatRow ∷ []) (sh, (st, tt)) uss)) (q ∷ [], (marker_val ∷ [], tt)) $
     let A₁ : Type 0 = (key ≡ key) × (x ≡ x) × (s.heap ≡ s.heap) in let A₂ : Type 0 = (z ≡ z) × (0 ≡ 0) × ((v, []) ≡ (v, [])) in
     use0 𝓛 (raw (fact 𝓤 A₂)) (fact_i 𝓤 A₂ (emp 𝓤) (refl, refl, refl)) $ use0 𝓛 (raw (fact 𝓤 A₁)) (fact_i 𝓤 A₁ (emp 𝓤) (refl, refl, refl)) $ join ! $ nothing ! $ nothing ! $ fjoin ! $ nothing ! $ fjoin ! $
-    returns ! (look_at ! 0 refl) $ free_all ! refl $ keep ! (3 ∷ 0 ∷ 2 ∷ 1 ∷ []) $ by ! (leaves 𝓛 promise staying claims start u (sh, st) (tt, (tt, tt)) (tt, (tt, tt))))))))))
+    returns ! (look_at ! 0 refl) $ free_all ! refl $ keep ! (3 ∷ 0 ∷ 2 ∷ 1 ∷ []) $ by ! (leaves 𝓛 promise staying claims start u (sh, st) (tt, (tt, tt)) (tt, (tt, tt))))))))))))

@@ -33,16 +33,16 @@ part_exchange_spec 𝓤 𝓛 𝓜 𝓡 wired S₀ V₀ K₀ Y₀ T₀ A₀ M₀ 
     let Beside : Fml = tokens ((κs.1.0, qs.1.0) ∷ (κs.1.1.0, qs.1.1.0) ∷ (κs.1.1.1.0, qs.1.1.1.0) ∷ (κs.1.1.1.1.0, qs.1.1.1.1.0) ∷ (κs.1.1.1.1.1.0, qs.1.1.1.1.1.0) ∷ (κs.1.1.1.1.1.1.0, qs.1.1.1.1.1.1.0) ∷ (κs.1.1.1.1.1.1.1.0, qs.1.1.1.1.1.1.1.0) ∷ []) in
     let pb : ℕ = z.block in let P : Fml = content S R k z x in let holds = g'.holds s.key in let J : Fml = block S V.coded.code holds g.out P z in let Kp : Fml = kept_of S R V.coded.code holds g.out k z x in
     let start : (walk_of 𝓛 promise staying claims).Ghost = ((κs, qs, bounds, a, (ptr_and_marker p ∷ [], (vptr seat_block seat_offset ∷ [], (vint w64 old ∷ [], (vint w64 new ∷ [], tt))))), gh) in let returned : Val → SProp 𝓤 = (walk_of 𝓛 promise staying claims).post start in
-    qed 𝓛 (((‵ (flft κs.0 qs.0) ⊛ ‵ Beside) ⊛ ‵ (owns (types_at promise.signature.params κs) a start.0.4)) ∷ raw (fact 𝓤 _) ∷ raw (fact 𝓤 _) ∷ raw (fact 𝓤 _) ∷ raw (fact 𝓤 _) ∷ raw (fact 𝓤 _) ∷ raw (fact 𝓤 _) ∷ raw (fact 𝓤 _) ∷ given ((t.block ≡ z) × Allows holds 3 id v 0 f then × Less holds g.out id v.0 f counts) (‵ ftrue) ∷ []) ∵
-    keep ! (8 ∷ 0 ∷ []) $ learn ! (λ asked. drop ! $ split ! $ split ! $ move ! (2 ∷ []) $ fsplit3 ! $ fsplit ! $ move ! (2 ∷ []) $ fsplit3 ! $ keep ! (4 ∷ 1 ∷ 2 ∷ 6 ∷ 7 ∷ []) $
+    qed 𝓛 (((‵ (flft κs.0 qs.0) ⊛ ‵ Beside) ⊛ ‵ (owns (types_at promise.signature.params κs) a start.0.4)) ∷ raw (fact 𝓤 _) ∷ raw (fact 𝓤 _) ∷ raw (fact 𝓤 _) ∷ raw (fact 𝓤 _) ∷ raw (fact 𝓤 _) ∷ raw (fact 𝓤 _) ∷ raw (fact 𝓤 _) ∷ given (t.block ≡ z) (‵ ftrue) ∷ given (Allows holds 3 id v 0 f then) (‵ ftrue) ∷ given (Less holds g.out id v.0 f counts) (‵ ftrue) ∷ []) ∵
+    keep ! (8 ∷ 9 ∷ 10 ∷ 0 ∷ []) $ learn ! (λ same. drop ! $ learn ! (λ allows. drop ! $ learn ! (λ counted. drop ! $ split ! $ split ! $ move ! (2 ∷ []) $ fsplit3 ! $ fsplit ! $ move ! (2 ∷ []) $ fsplit3 ! $ keep ! (4 ∷ 1 ∷ 2 ∷ 6 ∷ 7 ∷ []) $
     fsplit ! $ fpick ! (λ at. drop ! $ fsplit3 ! $ move ! (1 ∷ []) $ use1 𝓛 (‵ (finv J) ⊛ ‵ Kp) (kept_shows S V.coded.code holds g.out P z 𝓛) $ split ! $
     -- [the invariant; what is kept; the parts; the value; the seat, in two; its token; the others]
     enter ! machine.C machine.Λ routine (ptr_and_marker p ∷ vptr seat_block seat_offset ∷ vint w64 old ∷ vint w64 new ∷ []) returned $ alloc_all ! (λ l. pass_all ! refl (pair_typed p (in_place p z at), ((tt, tt), ((tt, record { fits = are.1.1.0.1 }), ((tt, record { fits = are.1.1.1.0.1 }), tt)))) $ let here = env routine.locals l in
     sets ! (is ! (of_opd ! (get_in ! (fld ! refl (stop !)) (sub ! 0 refl (whole !)))) (ap ptr_val at)) refl (tt, tt) $ first ! $ blocks ! $ sets ! (addr ! (through ! refl (fld ! refl (stop !)))) refl (tt, tt) $
-    let out : ℕ → Fml = moving.after 𝓛 S V.coded holds g.out P z id v f then asked.1 (λ n. parts_if (not (counts n)) z) in
-    move ! (4 ∷ 5 ∷ 6 ∷ []) $ opens ! tt SeatRow seat_block seat_offset (λ bits. move ! (1 ∷ []) $ fsplit ! $ rewrite ! 1 (λ (u : BlockId). ‵ (seat_owns S u V.coded.code id v)) asked.0 refl $ move ! (6 ∷ 8 ∷ 1 ∷ []) $
+    let out : ℕ → Fml = moving.after 𝓛 S V.coded holds g.out P z id v f then allows (λ n. parts_if (not (counts n)) z) in
+    move ! (4 ∷ 5 ∷ 6 ∷ []) $ opens ! tt SeatRow seat_block seat_offset (λ bits. move ! (1 ∷ []) $ fsplit ! $ rewrite ! 1 (λ (u : BlockId). ‵ (seat_owns S u V.coded.code id v)) same refl $ move ! (6 ∷ 8 ∷ 1 ∷ []) $
     use3 𝓛 (raw (machine.C _ (vptr pb e ∷ vint w64 old ∷ vint w64 new ∷ []) (λ u. mean 𝓛 (found out u))))
-    (via 𝓤 _ (moving.ends_one 𝓛 S V.coded holds g.out P z id v f then asked.1 counts asked.2) (exchanges 𝓛 𝓜 𝓡 (code.calls-atomic_table::exchange 𝓡.env wired) (block_ptr pb e) old new are.1.1.0.1 are.1.1.1.0.1 out)) $
+    (via 𝓤 _ (moving.ends_one 𝓛 S V.coded holds g.out P z id v f then allows counts counted) (exchanges 𝓛 𝓜 𝓡 (code.calls-atomic_table::exchange 𝓡.env wired) (block_ptr pb e) old new are.1.1.0.1 are.1.1.1.0.1 out)) $
     Calls-last ! (fm 𝓛 𝓜 𝓡) (found out) (and_then ! (get ! refl) (and_then ! (get ! refl) (and_then ! (get ! refl) (no_more !)))) (λ u. finds ! out (λ n fits.
     lands_last ! refl (tt, record { fits = fits }) $ exec ! machine.C machine.Λ here (after 2 routine.body) (at_ret here returned) $ sets ! (of_opd ! (get ! refl)) refl (tt, record { fits = fits }) $
     sets ! (agg ! (no_more !)) refl (tt, tt) $ sets ! (agg ! (and_then ! (get ! refl) (and_then ! (get ! refl) (no_more !)))) refl (tt, (tt, (tt, tt))) $ sets ! (of_opd ! (get ! refl)) refl (tt, (tt, (tt, tt))) $
@@ -57,5 +57,5 @@ part_exchange_spec 𝓤 𝓛 𝓜 𝓡 wired S₀ V₀ K₀ Y₀ T₀ A₀ M₀ 
     move ! (2 ∷ 0 ∷ []) $ fjoin ! $ move ! (2 ∷ 0 ∷ 3 ∷ 4 ∷ 5 ∷ []) $ closes ! tt SeatRow t' bits seat_block seat_offset $ feq_i ! (List Val) (vptr seat_block seat_offset ∷ []) (vptr seat_block seat_offset ∷ []) refl $ fjoin3 ! $
     nothing ! $ nothing ! $ fjoin ! $ nothing ! $ fjoin ! $ move ! (1 ∷ 0 ∷ []) $ fjoin ! $ nothing ! $ fjoin ! $ move ! (1 ∷ 3 ∷ []) $ join ! $
     let A₁ : Type 0 = (z ≡ t.block) × (id ≡ id) × then n v' in let A₂ : Type 0 = (z ≡ z) × (s.key ≡ s.key) × (x ≡ x) × (s.heap ≡ s.heap) × (not (counts n) ≡ not (counts n)) in
-    use0 𝓛 (raw (fact 𝓤 A₂)) (fact_i 𝓤 A₂ (emp 𝓤) (refl, refl, refl, refl, refl)) $ use0 𝓛 (raw (fact 𝓤 A₁)) (fact_i 𝓤 A₁ (emp 𝓤) (sym asked.0, refl, so)) $ join ! $
-    returns ! (look_at ! 0 refl) $ free_all ! refl $ keep ! (1 ∷ 2 ∷ 3 ∷ 0 ∷ []) $ by ! (leaves 𝓛 promise staying claims start r (n, mh) (tt, (t', (tt, (tt, tt)))) (tt, (tt, (tt, (tt, tt))))))))))))))
+    use0 𝓛 (raw (fact 𝓤 A₂)) (fact_i 𝓤 A₂ (emp 𝓤) (refl, refl, refl, refl, refl)) $ use0 𝓛 (raw (fact 𝓤 A₁)) (fact_i 𝓤 A₁ (emp 𝓤) (sym same, refl, so)) $ join ! $
+    returns ! (look_at ! 0 refl) $ free_all ! refl $ keep ! (1 ∷ 2 ∷ 3 ∷ 0 ∷ []) $ by ! (leaves 𝓛 promise staying claims start r (n, mh) (tt, (t', (tt, (tt, tt)))) (tt, (tt, (tt, (tt, tt))))))))))))))))

@@ -29,21 +29,21 @@ split_seat_spec 𝓤 𝓛 𝓜 𝓡 wired S₀ V₀ K₀ Y₀ T₀ A₀ M₀ _ _
     let Beside : Fml = tokens ((κs.1.1.0, qs.1.1.0) ∷ (κs.1.1.1.0, qs.1.1.1.0) ∷ (κs.1.1.1.1.0, qs.1.1.1.1.0) ∷ (κs.1.1.1.1.1.0, qs.1.1.1.1.1.0) ∷ (κs.1.1.1.1.1.1.0, qs.1.1.1.1.1.1.0) ∷ (κs.1.1.1.1.1.1.1.0, qs.1.1.1.1.1.1.1.0) ∷ (κs.1.1.1.1.1.1.1.1.0, qs.1.1.1.1.1.1.1.1.0) ∷ []) in let holds = g'.holds s.key in let P : Fml = content S R k z x in let J : Fml = block S V.coded.code holds g.out P z in
     let start : (walk_of 𝓛 promise staying claims).Ghost = ((κs, qs, bounds, a, (vptr self_block self_offset ∷ [], (vptr seat_block seat_offset ∷ [], tt))), gh) in let returned : Val → SProp 𝓤 = (walk_of 𝓛 promise staying claims).post start in
     let lv : V.Denot = m.left v.0 in let rv : V.Denot = m.right v.0 in
-    qed 𝓛 (((‵ (flft κ qs.0) ⊛ ‵ (flft κs.1.0 qs.1.0) ⊛ ‵ Beside) ⊛ ‵ (owns (types_at promise.signature.params κs) a start.0.4)) ∷ raw (fact 𝓤 _) ∷ raw (fact 𝓤 _) ∷ raw (fact 𝓤 _) ∷ raw (fact 𝓤 _) ∷ raw (fact 𝓤 _) ∷ raw (fact 𝓤 _) ∷ raw (fact 𝓤 _) ∷ given ((t.block ≡ z) × Splits holds id v.0 lv rv) (‵ ftrue) ∷ []) ∵
-    keep ! (8 ∷ 0 ∷ []) $ learn ! (λ asked. drop ! $ split ! $ split3 ! $ move ! (3 ∷ []) $ fsplit3 ! $ fsplit ! $ move ! (2 ∷ []) $ fsplit3 ! $ keep ! (4 ∷ 6 ∷ 1 ∷ 2 ∷ 7 ∷ 8 ∷ []) $
+    qed 𝓛 (((‵ (flft κ qs.0) ⊛ ‵ (flft κs.1.0 qs.1.0) ⊛ ‵ Beside) ⊛ ‵ (owns (types_at promise.signature.params κs) a start.0.4)) ∷ raw (fact 𝓤 _) ∷ raw (fact 𝓤 _) ∷ raw (fact 𝓤 _) ∷ raw (fact 𝓤 _) ∷ raw (fact 𝓤 _) ∷ raw (fact 𝓤 _) ∷ raw (fact 𝓤 _) ∷ given (t.block ≡ z) (‵ ftrue) ∷ given (Splits holds id v.0 lv rv) (‵ ftrue) ∷ []) ∵
+    keep ! (8 ∷ 9 ∷ 0 ∷ []) $ learn ! (λ same. drop ! $ learn ! (λ allows. drop ! $ split ! $ split3 ! $ move ! (3 ∷ []) $ fsplit3 ! $ fsplit ! $ move ! (2 ∷ []) $ fsplit3 ! $ keep ! (4 ∷ 6 ∷ 1 ∷ 2 ∷ 7 ∷ 8 ∷ []) $
     enter ! machine.C machine.Λ routine (vptr self_block self_offset ∷ vptr seat_block seat_offset ∷ []) returned $ alloc_all ! (λ l. pass_all ! refl ((tt, tt), ((tt, tt), tt)) $
     use1 𝓛 (‵ (hidden_shr D κ (p, (tt, tt)) self_block self_offset) ⊛ ‵ (fhide (share_shown S R V.coded.code (g'.holds s.key) g.out k z x p κ)))
     (lent_out 𝓛 (share.struct S V K Y R A g g' h) (share.the_codes S.Denot V.Denot K.Denot Y.Denot R.Denot A.Denot S.coded V.coded K.coded Y.coded R.coded A.coded (phantom.the_row (Marked S V K Y R A g g' h)).coded) (share.the_heap S V K Y R A g g' h) (share.the_lent S V K Y R A g g' h) κ s self_block self_offset) $
     split ! $ move ! (1 ∷ []) $ unhide ! $ fsplit ! $ fpick ! (λ at. drop ! $ fsplit ! $ drop ! $ fsplit ! $ use1 𝓛 (‵ (finv J)) (kept_inv S V.coded.code holds g.out P z 𝓛) $ move ! (1 ∷ []) $ drop ! $ move ! (1 ∷ []) $ drop ! $
     -- [the invariant; the token; the seat, in two; its token; the others]
-    let Two : ℕ → Fml = entering.both 𝓛 S V.coded holds g.out P z id v lv rv asked.1 in
-    move ! (2 ∷ 3 ∷ 4 ∷ []) $ opens ! tt SeatRow seat_block seat_offset (λ bits. move ! (1 ∷ []) $ fsplit ! $ rewrite ! 1 (λ (w : BlockId). ‵ (seat_owns S w V.coded.code id v)) asked.0 refl $ move ! (6 ∷ 1 ∷ []) $
-    use2 𝓛 (later (‵ (fex ℕ Two))) (entering.splits 𝓛 S V.coded holds g.out P z id v lv rv asked.1) $ await ! tt $ fpick ! (λ j. fsplit ! $
+    let Two : ℕ → Fml = entering.both 𝓛 S V.coded holds g.out P z id v lv rv allows in
+    move ! (2 ∷ 3 ∷ 4 ∷ []) $ opens ! tt SeatRow seat_block seat_offset (λ bits. move ! (1 ∷ []) $ fsplit ! $ rewrite ! 1 (λ (w : BlockId). ‵ (seat_owns S w V.coded.code id v)) same refl $ move ! (6 ∷ 1 ∷ []) $
+    use2 𝓛 (later (‵ (fex ℕ Two))) (entering.splits 𝓛 S V.coded holds g.out P z id v lv rv allows) $ await ! tt $ fpick ! (λ j. fsplit ! $
     let t' : SeatRow.Denot = record { marker = t.marker; block = z; id = id; me = (lv, v.1) } in let n : SeatRow.Denot = record { marker = record {}; block = z; id = j; me = (rv, []) } in
     let Told : Type 0 = (z ≡ t.block) × (id ≡ id) × (t'.me ≡ t'.me) × (z ≡ t.block) × (n.me ≡ n.me) in
     -- [the seat; the new seat; its fields, its cell and three more; the token; the others]
     move ! (2 ∷ 0 ∷ []) $ fjoin ! $ move ! (2 ∷ 0 ∷ 3 ∷ 4 ∷ 5 ∷ []) $ closes ! tt SeatRow t' bits seat_block seat_offset $ feq_i ! (List Val) (vptr seat_block seat_offset ∷ []) (vptr seat_block seat_offset ∷ []) refl $ fjoin3 ! $
     nothing ! $ move ! (1 ∷ 0 ∷ []) $ fjoin ! $ nothing ! $ fjoin ! $ move ! (1 ∷ 4 ∷ []) $ join ! $ move ! (3 ∷ 0 ∷ []) $ join ! $ move ! (2 ∷ []) $ use0 𝓛 (‵ ((SeatData S V).own_val (tt, tt) (marker_val ∷ []))) (seat_made S V 𝓛) $ fjoin ! $
-    use0 𝓛 (raw (fact 𝓤 Told)) (fact_i 𝓤 Told (emp 𝓤) (sym asked.0, refl, refl, sym asked.0, refl)) $
+    use0 𝓛 (raw (fact 𝓤 Told)) (fact_i 𝓤 Told (emp 𝓤) (sym same, refl, refl, sym same, refl)) $
     sets ! (agg ! (no_more !)) refl (tt, tt) $ sets ! (agg ! (and_then ! (get ! refl) (no_more !))) refl (tt, (tt, tt)) $
-    returns ! (look_at ! 0 refl) $ free_all ! refl $ keep ! (2 ∷ 3 ∷ 1 ∷ 0 ∷ []) $ by ! (leaves 𝓛 promise staying claims start marker_val n (tt, (t', tt)) (tt, (tt, tt)))))))))
+    returns ! (look_at ! 0 refl) $ free_all ! refl $ keep ! (2 ∷ 3 ∷ 1 ∷ 0 ∷ []) $ by ! (leaves 𝓛 promise staying claims start marker_val n (tt, (t', tt)) (tt, (tt, tt))))))))))

@@ -36,8 +36,8 @@ swap_second_spec 𝓤 𝓛 𝓜 𝓡 wired S₀ V₀ K₀ Y₀ T₀ A₀ LS _ _ 
     let Beside : Fml = tokens ((κs.1.1.0, qs.1.1.0) ∷ (κs.1.1.1.0, qs.1.1.1.0) ∷ (κs.1.1.1.1.0, qs.1.1.1.1.0) ∷ (κs.1.1.1.1.1.0, qs.1.1.1.1.1.0) ∷ (κs.1.1.1.1.1.1.0, qs.1.1.1.1.1.1.0) ∷ (κs.1.1.1.1.1.1.1.0, qs.1.1.1.1.1.1.1.0) ∷ []) in
     subst (λ (vss : List Val × (List Val × (List Val × Unit {0}))). ent 𝓤 ((walk_of 𝓛 promise staying claims).pre (At vss)) (WpFn 𝓤 H machine.C machine.Λ routine ((walk_of 𝓛 promise staying claims).args (At vss)) ((walk_of 𝓛 promise staying claims).post (At vss))))
     (λ i. (sym are.0.0 i, (sym are.1.0.0 i, (sym got.1 i, tt)))) (
-    qed 𝓛 (((‵ (flft κs.0 qs.0) ⊛ ‵ (flft κs.1.0 qs.1.0) ⊛ ‵ Beside) ⊛ ‵ (owns (types_at promise.signature.params κs) a start.0.4)) ∷ raw (fact 𝓤 _) ∷ raw (fact 𝓤 _) ∷ raw (fact 𝓤 _) ∷ raw (fact 𝓤 _) ∷ raw (fact 𝓤 _) ∷ raw (fact 𝓤 _) ∷ given ((t.block ≡ z) × ((old : S.Denot) × (v.1 ≡ (n, old) ∷ more))) (‵ ftrue) ∷ []) ∵
-    keep ! (7 ∷ 0 ∷ []) $ learn ! (λ asked. let old : S.Denot = asked.1.0 in drop ! $ split ! $ split3 ! $ move ! (3 ∷ []) $ fsplit ! $ fsplit ! $ move ! (2 ∷ []) $ fsplit ! $ fsplit3 ! $ move ! (3 ∷ []) $ fsplit ! $ keep ! (6 ∷ 7 ∷ 3 ∷ 4 ∷ 8 ∷ 9 ∷ 0 ∷ []) $
+    qed 𝓛 (((‵ (flft κs.0 qs.0) ⊛ ‵ (flft κs.1.0 qs.1.0) ⊛ ‵ Beside) ⊛ ‵ (owns (types_at promise.signature.params κs) a start.0.4)) ∷ raw (fact 𝓤 _) ∷ raw (fact 𝓤 _) ∷ raw (fact 𝓤 _) ∷ raw (fact 𝓤 _) ∷ raw (fact 𝓤 _) ∷ raw (fact 𝓤 _) ∷ given (t.block ≡ z) (‵ ftrue) ∷ given ((old : S.Denot) × (v.1 ≡ (n, old) ∷ more)) (‵ ftrue) ∷ []) ∵
+    keep ! (7 ∷ 8 ∷ 0 ∷ []) $ learn ! (λ same. drop ! $ learn ! (λ taken. let old : S.Denot = taken.0 in drop ! $ split ! $ split3 ! $ move ! (3 ∷ []) $ fsplit ! $ fsplit ! $ move ! (2 ∷ []) $ fsplit ! $ fsplit3 ! $ move ! (3 ∷ []) $ fsplit ! $ keep ! (6 ∷ 7 ∷ 3 ∷ 4 ∷ 8 ∷ 9 ∷ 0 ∷ []) $
     enter ! machine.C machine.Λ routine (vptr self_block self_offset ∷ vptr seat_block seat_offset ∷ vy ∷ []) returned $ alloc_all ! (λ l. pass_all ! refl ((tt, tt), ((tt, tt), (fy, tt))) $ let here = env routine.locals l in
     use1 𝓛 (‵ (hidden_shr D κ (p, (tt, tt)) self_block self_offset) ⊛ ‵ (fhide (share_shown S R V.coded.code (g'.holds s.key) g.out k z x p κ)))
     (lent_out 𝓛 (share.struct S V K Y R A g g' h) (share.the_codes S.Denot V.Denot K.Denot Y.Denot R.Denot A.Denot S.coded V.coded K.coded Y.coded R.coded A.coded (phantom.the_row (Marked S V K Y R A g g' h)).coded) (share.the_heap S V K Y R A g g' h) (share.the_lent S V K Y R A g g' h) κ s self_block self_offset) $
@@ -49,8 +49,8 @@ swap_second_spec 𝓤 𝓛 𝓜 𝓡 wired S₀ V₀ K₀ Y₀ T₀ A₀ LS _ _ 
     rewrite ! 1 (λ (ws : List Val). ‵ (cell_at q D.mir ws self_block self_offset)) (sym ev) refl $ move ! (1 ∷ 0 ∷ 2 ∷ []) $ shuts ! tt D q (p, (tt, tt)) vs self_block self_offset $
     -- [the token; the fields; the age's token, lent; the seat, in two; its token; the others; the new value]
     move ! (2 ∷ 0 ∷ []) $ shr_bor-open ! tt (tokens_halve 𝓛 α) (λ r.
-    move ! (3 ∷ 4 ∷ 5 ∷ []) $ opens ! tt SeatRow seat_block seat_offset (λ bits. move ! (1 ∷ []) $ fsplit ! $ rewrite ! 1 (λ (u : BlockId). ‵ (seat_owns S u V.coded.code id v)) asked.0 refl $
-    rewrite ! 1 (λ (cs : List (ℕ × S.Denot)). ‵ (seat_owns S z V.coded.code id (v.0, cs))) asked.1.1 refl $ move ! (1 ∷ []) $ let Back : S.Denot → SProp 𝓤 = Swapped 𝓛 S z V.coded.code id v.0 n more in
+    move ! (3 ∷ 4 ∷ 5 ∷ []) $ opens ! tt SeatRow seat_block seat_offset (λ bits. move ! (1 ∷ []) $ fsplit ! $ rewrite ! 1 (λ (u : BlockId). ‵ (seat_owns S u V.coded.code id v)) same refl $
+    rewrite ! 1 (λ (cs : List (ℕ × S.Denot)). ‵ (seat_owns S z V.coded.code id (v.0, cs))) taken.1 refl $ move ! (1 ∷ []) $ let Back : S.Denot → SProp 𝓤 = Swapped 𝓛 S z V.coded.code id v.0 n more in
     use1 𝓛 (given (n < 3) (‵ (tracked S z n old) ⊛ raw (all 𝓤 Back))) (holding 𝓛 S z V.coded.code id v.0 n old more) $ learn ! (λ near. split ! $ fsplit ! $
     -- [the slot's value; its borrow; the way back; the seat's fields, its cell and three more; the open token, in two; the fields; the others; the new value]
     move ! (0 ∷ 1 ∷ 9 ∷ []) $ opens_one E ! tt old pb e (λ vo tv.
@@ -63,5 +63,5 @@ swap_second_spec 𝓤 𝓛 𝓜 𝓡 wired S₀ V₀ K₀ Y₀ T₀ A₀ LS _ _ 
     let t' : SeatRow.Denot = record { marker = t.marker; block = z; id = id; me = v' } in let Told : Type 0 = (z ≡ t.block) × (id ≡ id) × (v.1 ≡ (n, old) ∷ more) × (v' ≡ v') in
     -- [the token; the seat; the old value; the seat's fields, its cell and three more; the fields; the others]
     move ! (3 ∷ 1 ∷ []) $ fjoin ! $ move ! (3 ∷ 0 ∷ 4 ∷ 5 ∷ 6 ∷ []) $ closes ! tt SeatRow t' bits seat_block seat_offset $ feq_i ! (List Val) (vptr seat_block seat_offset ∷ []) (vptr seat_block seat_offset ∷ []) refl $ fjoin3 ! $
-    nothing ! $ nothing ! $ fjoin ! $ move ! (1 ∷ 0 ∷ []) $ fjoin ! $ nothing ! $ fjoin ! $ move ! (1 ∷ 5 ∷ []) $ join ! $ move ! (2 ∷ 0 ∷ []) $ join ! $ use0 𝓛 (raw (fact 𝓤 Told)) (fact_i 𝓤 Told (emp 𝓤) (sym asked.0, refl, asked.1.1, refl)) $
-    returns ! (look_at ! 0 refl) $ free_all ! refl $ keep ! (1 ∷ 2 ∷ 3 ∷ 0 ∷ []) $ by ! (leaves 𝓛 promise staying claims start vo old (tt, (t', (tt, tt))) (tt, (tt, (tt, tt)))))))))))))))
+    nothing ! $ nothing ! $ fjoin ! $ move ! (1 ∷ 0 ∷ []) $ fjoin ! $ nothing ! $ fjoin ! $ move ! (1 ∷ 5 ∷ []) $ join ! $ move ! (2 ∷ 0 ∷ []) $ join ! $ use0 𝓛 (raw (fact 𝓤 Told)) (fact_i 𝓤 Told (emp 𝓤) (sym same, refl, taken.1, refl)) $
+    returns ! (look_at ! 0 refl) $ free_all ! refl $ keep ! (1 ∷ 2 ∷ 3 ∷ 0 ∷ []) $ by ! (leaves 𝓛 promise staying claims start vo old (tt, (t', (tt, tt))) (tt, (tt, (tt, tt))))))))))))))))

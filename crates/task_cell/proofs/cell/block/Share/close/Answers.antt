@@ -3,8 +3,8 @@ use Rattle.task_steps.proofs.Shares.{has_last}
 use Rattle.task_cell.proofs.Spawned.{last_word}
 use Rattle.task_cell.proofs.cell.block.Share.close.Goals as goal
 
-pub close-requires : goal.close-requires
-close-requires g c = let s = c.requires.party in (c.requires.cell, has_last _ _ _ _ _ _ _ s.0 _ [] (ap (λ m. m.0) s.1) c.requires.last)
+pub close-requires-clause-last : goal.close-requires-clause-last
+close-requires-clause-last g c = let s = c.requires.party in has_last _ _ _ _ _ _ _ s.0 _ [] (ap (λ m. m.0) s.1) c.requires.last
 
 pub returns-clause-word : goal.returns-clause-word
 returns-clause-word g c = let s = c.requires.party in let b = c.in_ok-close.field-0.value in
