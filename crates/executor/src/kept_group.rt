@@ -38,10 +38,7 @@ impl<R: Wait + Drop + Copy> KeptGroup<R> {
         let pool = place.0;
         let members = Slab::with_capacity(pool.alloc(), room).ok()?;
         let mailbox = Mailbox::new(pool.rt(), pool.alloc(), members.capacity()).ok()?;
-        let mut keys = Vec::new(pool.alloc());
-        for _ in 0..members.capacity() {
-            keys.push(place_for_task(place)?).ok()?;
-        }
+        let keys = places_for_tasks(place, members.capacity())?;
         Some(KeptGroup {
             own: place_for_waker(place)?,
             mailbox,
@@ -212,4 +209,16 @@ impl<R: Wait + Drop + Copy> KeptGroup<R> {
             None => TaskPoll::Ready(Err(TaskClosed)),
         }
     }
+}
+
+// So many places for Tasks. `None` where there was no memory for them.
+fn places_for_tasks<'x, R: Wait + Drop + Copy, F: Yields, A: Wake, B: Allocator + Copy, M: Drop>(
+    place: Place<'x, R, F, A, B, M>,
+    count: usize,
+) -> Option<Vec<Key<R>>> {
+    let mut keys = Vec::new(place.0.alloc());
+    for _ in 0..count {
+        keys.push(place_for_task(place)?).ok()?;
+    }
+    Some(keys)
 }

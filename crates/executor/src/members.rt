@@ -7,8 +7,8 @@ use crate::bell_awaiter::BellAwaiter;
 use crate::errors::NextMemberError;
 use crate::pool::{Place, PoolWaker, ToPool};
 use crate::turns::{Turns, run_if_any};
-use async_task::{Future, Runnable, Schedule, Yields};
-use executor_parts::{Ended, Posts, TaskGroup, left_until};
+use async_task::{Future, Yields};
+use executor_parts::{Ended, TaskGroup, left_until};
 use std::alloc::{Allocator, Global};
 use std::sync::Wait;
 use std::time::{Clock, Instant};
@@ -53,13 +53,41 @@ impl<'x, R: Wait + Drop + Copy, F: Yields, B: Allocator + Copy, M: Drop> Turns<
         let bells: &Bells = pool.bells();
         for _ in pool.rt.forever() {
             let interruptions = bells.interruptions();
-            let ends = self.ends();
-            if let Some(next) = look(group, self.bell(), bells, ends) {
+            if let Some(next) = self.look(group) {
                 return next;
             }
             run_if_any(self.take_turn(interruptions));
         }
         unreachable!()
+    }
+
+    // Takes the next member that has ended out of the group, as `TaskGroup::try_next` does, and has the next end of one ring the bell of this worker; without a bell it refuses. `None` where none has ended yet, unless the pool ends.
+    fn look(
+        &mut self,
+        group: &mut PoolGroup<'x, R, F, B, M>,
+    ) -> Option<Result<Option<Ended<F>>, NextMemberError>>
+        ensures found { IfSome result (λ next. is_over next ≡ false) }
+        ensures leaves { IfSome result (λ next. IfNext next (λ ended. Leaves group.old.members group.new.members ended.number)) }
+        ensures refused { IfSome result (λ next. OnErr next (SameMembers group.old.members group.new.members)) }
+        ensures no_deadline { IfSome result (λ next. next ≢ Err NextMemberError.Elapsed) }
+        ensures stays { IsNone result → SameMembers group.old.members group.new.members }
+        ensures len { IsNone result → slab_len group.new.members ≡ slab_len group.old.members }
+        ensures room { group.new.members.capacity ≡ group.old.members.capacity }
+    {
+        let ends = self.ends();
+        let Some(bell) = self.bell() else {
+            return Some(Err(NextMemberError::Refused));
+        };
+        group.listen(bell);
+        let next = match group.try_next() {
+            Ok(Some(ended)) => Ok(Some(ended)),
+            Ok(None) if ends => return Some(Err(NextMemberError::ShutDown)),
+            Ok(None) => return None,
+            Err(_) => Err(NextMemberError::Refused),
+        };
+        // What woke this worker may have been meant for a task that another one has to run now.
+        self.pool.bells().interrupt();
+        Some(next)
     }
 }
 
@@ -92,8 +120,7 @@ impl<'x, R: Wait + Clock + Drop + Copy, F: Yields, B: Allocator + Copy, M: Drop>
         let bells: &Bells = pool.bells();
         for _ in pool.rt.forever() {
             let interruptions = bells.interruptions();
-            let ends = self.ends();
-            if let Some(next) = look(group, self.bell(), bells, ends) {
+            if let Some(next) = self.look(group) {
                 return next;
             }
             let left = left_until(&pool.rt, deadline);
@@ -106,36 +133,4 @@ impl<'x, R: Wait + Clock + Drop + Copy, F: Yields, B: Allocator + Copy, M: Drop>
         }
         unreachable!()
     }
-}
-
-// Takes the next member that has ended out of a group, as `TaskGroup::try_next` does, and has the next end of one ring this bell; without a bell it refuses. `None` where none has ended yet, unless the pool ends.
-fn look<R: Wait + Drop + Copy, F: Yields, Q: Drop, M: Drop, A: Posts<R>, X: Copy>(
-    group: &mut TaskGroup<R, F, Q, M, A, X>,
-    bell: Option<A::Listener>,
-    bells: &Bells,
-    ends: bool,
-) -> Option<Result<Option<Ended<F>>, NextMemberError>>
-where
-    Q: Schedule<Runnable<R, F, Q, M, A, X>>,
-    ensures found { IfSome result (λ next. is_over next ≡ false) }
-    ensures leaves { IfSome result (λ next. IfNext next (λ ended. Leaves group.old.members group.new.members ended.number)) }
-    ensures refused { IfSome result (λ next. OnErr next (SameMembers group.old.members group.new.members)) }
-    ensures no_deadline { IfSome result (λ next. next ≢ Err NextMemberError.Elapsed) }
-    ensures stays { IsNone result → SameMembers group.old.members group.new.members }
-    ensures len { IsNone result → slab_len group.new.members ≡ slab_len group.old.members }
-    ensures room { group.new.members.capacity ≡ group.old.members.capacity }
-{
-    let Some(bell) = bell else {
-        return Some(Err(NextMemberError::Refused));
-    };
-    group.listen(bell);
-    let next = match group.try_next() {
-        Ok(Some(ended)) => Ok(Some(ended)),
-        Ok(None) if ends => return Some(Err(NextMemberError::ShutDown)),
-        Ok(None) => return None,
-        Err(_) => Err(NextMemberError::Refused),
-    };
-    // What woke this worker may have been meant for a task that another one has to run now.
-    bells.interrupt();
-    Some(next)
 }
