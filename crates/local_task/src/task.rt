@@ -298,17 +298,13 @@ impl<F: Drop, T: Drop, M, A: Drop> LocalTask<F, T, M, A> {
         ensures effect { started_of self.new.task result ≡ starts self.old.task }
         ensures metadata { self.new.metadata ≡ self.old.metadata }
     {
-        match mem::replace(&mut self.stage, Stage::Ended) {
-            Stage::Queued(future, Open) => {
-                self.stage = Stage::Polling(Open);
-                Start::Poll(future)
-            }
-            Stage::Queued(future, Closed) => Start::Ended(self.finish(future, None)),
-            stage => {
-                self.stage = stage;
-                Start::NotDue
-            }
-        }
+        let (stage, start) = match mem::replace(&mut self.stage, Stage::Ended) {
+            Stage::Queued(future, Open) => (Stage::Polling(Open), Start::Poll(future)),
+            Stage::Queued(future, Closed) => return Start::Ended(self.finish(future, None)),
+            stage => (stage, Start::NotDue),
+        };
+        self.stage = stage;
+        start
     }
 
     /// `future`, which `start` handed out, was polled and has answered `polled`. One that answered Pending stays in the task, unless the task was closed
@@ -330,12 +326,13 @@ impl<F: Drop, T: Drop, M, A: Drop> LocalTask<F, T, M, A> {
         ensures effect { effect_of self.new.task result ≡ settles future (Poll.Ready output) self.old.task }
         ensures metadata { self.new.metadata ≡ self.old.metadata }
     {
-        if self.has_task && !self.is_finished() {
-            self.stage = Stage::Completed(output);
-            return self.finish(future, None);
-        }
-        self.stage = Stage::Ended;
-        self.finish(future, Some(output))
+        let (stage, output) = if self.has_task && !self.is_finished() {
+            (Stage::Completed(output), None)
+        } else {
+            (Stage::Ended, Some(output))
+        };
+        self.stage = stage;
+        self.finish(future, output)
     }
 
     // The future answered Pending.
@@ -344,17 +341,16 @@ impl<F: Drop, T: Drop, M, A: Drop> LocalTask<F, T, M, A> {
         ensures effect { effect_of self.new.task result ≡ settles future Poll.Pending self.old.task }
         ensures metadata { self.new.metadata ≡ self.old.metadata }
     {
-        match mem::replace(&mut self.stage, Stage::Ended) {
-            Stage::Polling(Closed) | Stage::Woken(Closed) => self.finish(future, None),
-            Stage::Woken(Open) => {
-                self.stage = Stage::Queued(future, Open);
-                Settled::queued(true)
-            }
-            _ => {
-                self.stage = Stage::Idle(future);
-                self.end_if_abandoned()
-            }
+        if self.is_finished() {
+            self.stage = Stage::Ended;
+            return self.finish(future, None);
         }
+        if matches!(self.stage, Stage::Woken(_)) {
+            self.stage = Stage::Queued(future, Open);
+            return Settled::queued(true);
+        }
+        self.stage = Stage::Idle(future);
+        self.end_if_abandoned()
     }
 
     /// The Runnable was dropped in place of being run: the task is closed and ends, and its future is not polled.
@@ -383,15 +379,13 @@ impl<F: Drop, T: Drop, M, A: Drop> LocalTask<F, T, M, A> {
         ensures effect { queued_of self.new.task result ≡ wakes self.old.task }
         ensures metadata { self.new.metadata ≡ self.old.metadata }
     {
-        match mem::replace(&mut self.stage, Stage::Ended) {
-            Stage::Idle(future) => {
-                self.stage = Stage::Queued(future, Open);
-                return Some(info(false));
-            }
-            Stage::Polling(Open) => self.stage = Stage::Woken(Open),
-            stage => self.stage = stage,
-        }
-        None
+        let is_idle = matches!(self.stage, Stage::Idle(_));
+        self.stage = match mem::replace(&mut self.stage, Stage::Ended) {
+            Stage::Idle(future) => Stage::Queued(future, Open),
+            Stage::Polling(Open) => Stage::Woken(Open),
+            stage => stage,
+        };
+        if is_idle { Some(info(false)) } else { None }
     }
 
     /// There is one waker more. `false` where the references, the wakers and that of a Runnable or a run, have reached `LIMIT`: nothing has changed.
@@ -558,17 +552,12 @@ impl<F: Drop, T: Drop, M, A: Drop> LocalTask<F, T, M, A> {
         ensures effect { effect_of self.new.task result ≡ empties (loses_at self.old.task.phase self.old.task) }
         ensures metadata { self.new.metadata ≡ self.old.metadata }
     {
-        match mem::replace(&mut self.stage, Stage::Ended) {
-            Stage::Idle(future) if !self.has_task && self.wakers == 0 => {
-                self.stage = Stage::Queued(future, Closed);
-                self.forgotten = true;
-                Settled::queued(false)
-            }
-            stage => {
-                self.stage = stage;
-                self.empty(Settled::nothing())
-            }
+        let is_idle = matches!(self.stage, Stage::Idle(_));
+        if self.has_task || self.wakers > 0 || !is_idle {
+            return self.empty(Settled::nothing());
         }
+        self.forgotten = true;
+        self.close()
     }
 
     // The task is closed, if it is not over, and queued if it is idle.
@@ -576,16 +565,17 @@ impl<F: Drop, T: Drop, M, A: Drop> LocalTask<F, T, M, A> {
         ensures effect { effect_of self.new.task result ≡ cancels_at self.old.task.phase self.old.task }
         ensures metadata { self.new.metadata ≡ self.old.metadata }
     {
-        match mem::replace(&mut self.stage, Stage::Ended) {
-            Stage::Idle(future) => {
-                self.stage = Stage::Queued(future, Closed);
-                return Settled::queued(false);
-            }
-            Stage::Queued(future, _) => self.stage = Stage::Queued(future, Closed),
-            Stage::Polling(_) => self.stage = Stage::Polling(Closed),
-            Stage::Woken(_) => self.stage = Stage::Woken(Closed),
-            stage => self.stage = stage,
+        let is_idle = matches!(self.stage, Stage::Idle(_));
+        self.stage = match mem::replace(&mut self.stage, Stage::Ended) {
+            Stage::Idle(future) | Stage::Queued(future, _) => Stage::Queued(future, Closed),
+            Stage::Polling(_) => Stage::Polling(Closed),
+            Stage::Woken(_) => Stage::Woken(Closed),
+            stage => stage,
+        };
+        if is_idle {
+            Settled::queued(false)
+        } else {
+            Settled::nothing()
         }
-        Settled::nothing()
     }
 }

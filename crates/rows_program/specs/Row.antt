@@ -1,7 +1,6 @@
-use Rattle.std.specs.Prelude.{◌≡◌, IsTrue}
+use Rattle.std.specs.Prelude.{◌≡◌, ℕ, IsTrue}
 use Rattle.rows_fixtures.specs.declared.counters.Counts.{Counts}
 use Rattle.rows_fixtures.specs.declared.outcome.Outcome.{Outcome}
-use Rattle.rows_program.specs.Agreement.{counts}
 use Rattle.rows_fixtures.specs.declared.row.Row.{Row}
 use Rattle.rows_fixtures.specs.declared.row.Row.TheVariants.{DropAndDetach, DetachAndDrop, DetachAndRun, RunAndDetach}
 use Rattle.rows_fixtures.specs.declared.row.Row.TheVariants.{CancelAndRun, CancelJoin, LastRun, RefusedClone}
@@ -12,6 +11,11 @@ use Rattle.rows_fixtures.specs.declared.row.Row.TheVariants.{Limit, ClosedPoll, 
 use Rattle.rows_fixtures.specs.declared.row.Row.TheVariants.{WakeAndCancel, CancelAndWake, DetachDuringRun, DropDuringRun, PollDuringRun}
 use Rattle.rows_fixtures.specs.declared.row.Row.TheVariants.{CancelRefused, ClearQueue, WakeIntoDrop, DropInPoll, Priority, PriorityYield}
 use Rattle.rows_fixtures.specs.declared.row.Row.TheVariants.{PriorityFull}
+
+-- these polls, schedule calls, drops of the future and drops of the schedule value
+abbrev pub counts : ℕ → ℕ → ℕ → ℕ → Counts
+counts polls schedules futures schedulers =
+    record { polls = polls; schedules = schedules; future_drops = futures; scheduler_drops = schedulers }
 
 -- the numbers that the table of the rows has for a row
 abbrev pub counts_of : Row → Counts
@@ -54,6 +58,10 @@ counts_of Priority = counts 4 4 4 0
 counts_of PriorityYield = counts 3 3 2 0
 counts_of PriorityFull = counts 1 2 2 0
 
--- a row that agrees ends with the numbers that the table of the rows has for it
+-- a row that agrees ends with these numbers
+abbrev pub AgreesAt : Counts → Outcome → Type 0
+AgreesAt expected outcome = IsTrue outcome.agrees → outcome.counts ≡ expected
+
+-- .. with those that the table of the rows has for it
 abbrev pub AgreesAs : Row → Outcome → Type 0
-AgreesAs row outcome = IsTrue outcome.agrees → outcome.counts ≡ counts_of row
+AgreesAs row = AgreesAt (counts_of row)

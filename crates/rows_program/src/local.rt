@@ -1,8 +1,8 @@
 //! The row of a task of one thread.
 ghost use Rattle.std.specs.Prelude.{IfOk};
-ghost use Rattle.rows_program.specs.Agreement.{AgreesAt};
+ghost use Rattle.rows_program.specs.Row.{AgreesAt};
 
-use async_task::{TaskPoll, Wake};
+use async_task::{ScheduleInfo, TaskPoll, Wake};
 use local_task::{LocalTask, Settled, Start};
 use rows_fixtures::behaviour::Behaviour;
 use rows_fixtures::counters::Counts;
@@ -20,7 +20,7 @@ type Local = LocalTask<RowFuture, Output, (), Flag>;
 #[derive(Clone, Copy, PartialEq, Eq)]
 struct Done {
     future: bool,
-    queue: Option<bool>,
+    queue: Option<ScheduleInfo>,
     wake: bool,
     emptied: bool,
 }
@@ -48,7 +48,7 @@ fn act<R: Wait + Drop + Copy>(
     } = settled;
     let done = Done {
         future: future.is_some(),
-        queue: queue.map(|info| info.woken_while_running),
+        queue,
         wake: wake.is_some(),
         emptied,
     };
@@ -74,8 +74,11 @@ fn is_woken_while_running<R: Wait + Drop + Copy>(fixture: &Fixture<R>, task: &mu
     if !task.is_started() {
         return false;
     }
+    let info = ScheduleInfo {
+        woken_while_running: true,
+    };
     let again = Done {
-        queue: Some(true),
+        queue: Some(info),
         ..NOTHING
     };
     act(fixture, task.settle(future, polled)) == again && unqueued
@@ -117,16 +120,19 @@ fn is_emptied<R: Wait + Drop + Copy>(fixture: &Fixture<R>, task: &mut Local) -> 
 }
 
 /// A task of one thread is woken while its future is polled, cancelled while it is queued again, and ends without a second poll.
-pub fn local<R: Wait + Drop + Copy>(fixture: &Fixture<R>) -> Result<Outcome, AllocError>
-    ensures { IfOk result (AgreesAt 1 1 1 0) }
+pub fn local<R: Wait + Drop + Copy>(
+    fixture: &Fixture<R>,
+    counts: Counts,
+) -> Result<Outcome, AllocError>
+    ensures { IfOk result (AgreesAt counts) }
 {
     let flag = fixture.flag(1)?;
     let mut task = LocalTask::new((), fixture.future(Behaviour::Pending)?);
     let agrees = task.is_queued()
-        && is_woken_while_running(fixture, &mut task)
-        && is_cancelled(fixture, &mut task)
-        && ends_unpolled(fixture, &mut task)
-        && is_closed(fixture, &mut task, &flag)
-        && is_emptied(fixture, &mut task);
-    Ok(fixture.end(agrees, Counts::new(1, 1, 1, 0)))
+        & is_woken_while_running(fixture, &mut task)
+        & is_cancelled(fixture, &mut task)
+        & ends_unpolled(fixture, &mut task)
+        & is_closed(fixture, &mut task, &flag)
+        & is_emptied(fixture, &mut task);
+    Ok(fixture.end(agrees, counts))
 }

@@ -2,21 +2,16 @@
 //! It stands on `rows_fixtures`, also for the arguments and what is printed, on `async_task`, and on `local_task` for one row.
 //! A user runs it. Nothing is public only to carry a claim.
 //! The page is README.md, beside the code.
-//!
-//! A row asks by `let .. else`, since a `?` is two calls at the types of the handles that it asks for,
-//! and joins what it saw by `&`, which makes no branch: both are far shorter to prove.
 #![tactic(auto)]
 
-mod awaiting;
-mod calls;
-mod cancelling;
-mod detaching;
+mod dropping;
+mod hands;
 mod local;
 mod priority;
-mod racing;
-mod scheduling;
+mod script;
+mod scripts;
+mod step;
 mod table;
-mod waking;
 
 use rows_fixtures::report::{answer, refuse};
 use rows_fixtures::row::Row;
@@ -34,10 +29,7 @@ fn main(rt: HostRuntime) -> io::Result<ExitCode> {
         }
         Err(error) => return Err(error),
     };
-    let mut args = Vec::new(alloc);
-    for arg in words.skip(1) {
-        args.push(arg)?;
-    }
+    let args: Vec<String> = words.skip(1).collect(alloc)?;
     let mut out = io::writer(&rt);
     let run = |row: Row| table::run(row, rt, alloc);
     let status = answer(args.as_slice(), &run, &mut out, &mut err);

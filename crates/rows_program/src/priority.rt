@@ -1,123 +1,183 @@
 //! The rows of the executor by priority. In each, the tasks are spawned and scheduled in the order given.
 ghost use Rattle.std.specs.Prelude.{IfOk};
-ghost use Rattle.rows_program.specs.Agreement.{AgreesAt};
+ghost use Rattle.rows_program.specs.Row.{AgreesAt};
 
-use crate::calls;
 use async_task::{TaskClosed, TaskPoll};
 use rows_fixtures::behaviour::Behaviour;
+use rows_fixtures::counters::Counts;
 use rows_fixtures::executor::{PriorityQueue, PriorityTask};
 use rows_fixtures::fixture::Fixture;
 use rows_fixtures::flag::Flag;
 use rows_fixtures::outcome::Outcome;
-use std::alloc::AllocError;
+use rows_fixtures::output::is_ready_with;
+use std::alloc::{AllocError, Global};
 use std::sync::Wait;
 
-/// Four tasks of priority 2, 3, 2 and 1 are run in descending order.
-pub fn priority<R: Wait + Drop + Copy>(fixture: &Fixture<R>) -> Result<Outcome, AllocError>
-    ensures { IfOk result (AgreesAt 4 4 4 0) }
-{
-    let Ok(queue) = fixture.priorities(4) else {
-        return Err(AllocError);
-    };
-    run_four(fixture, &queue)
+/// Tasks that are run by priority.
+pub struct Order {
+    room: usize,
+    /// Of each the priority, and what its future does.
+    tasks: &'static [(u64, Behaviour)],
+    turns: &'static [Turn],
 }
 
-// The same with that queue.
-fn run_four<R: Wait + Drop + Copy>(
-    fixture: &Fixture<R>,
-    queue: &PriorityQueue<R>,
-) -> Result<Outcome, AllocError>
-    ensures { IfOk result (AgreesAt 4 4 4 0) }
-{
-    let Ok(first) = calls::schedule_prior(fixture, queue, 2, Behaviour::Ready(2)) else {
-        return Err(AllocError);
-    };
-    let Ok((second, third, fourth)) = calls::schedule_three(fixture, queue, 3, 2, 1) else {
-        return Err(AllocError);
-    };
-    let upper = calls::runs_prior(queue, 3);
-    let middle = calls::runs_prior(queue, 2) & calls::runs_prior(queue, 2);
-    let lower = calls::runs_prior(queue, 1);
-    let empty = queue.run_next().is_none();
-    let outcome = calls::ended(fixture, upper & middle & lower & empty, 4, 4, 4, 0);
-    calls::drop_prior(first);
-    calls::drop_prior(second);
-    calls::drop_prior(third);
-    calls::drop_prior(fourth);
-    outcome
+/// What is done then, and seen.
+enum Turn {
+    /// Runs the Runnable of greatest priority: that priority, and what the run answers.
+    Runs(u64, bool),
+    /// There is no Runnable.
+    Empty,
+    /// So many schedule calls there were, and in so many the task was woken while it ran.
+    Scheduled(u64, u64),
+    /// Polls the Task of that place, which answers ready with that number.
+    Gives(usize, u64),
+    /// .. that the task is closed.
+    Closed(usize),
 }
+
+use Turn::*;
+
+/// Three tasks are scheduled in ascending order of priority, and run in descending order.
+pub const PRIORITIES: &Order = &Order {
+    room: 3,
+    tasks: &[
+        (1, Behaviour::Ready(1)),
+        (2, Behaviour::Ready(2)),
+        (3, Behaviour::Ready(3)),
+    ],
+    turns: &[
+        Runs(3, false),
+        Runs(2, false),
+        Runs(1, false),
+        Empty,
+        Gives(0, 1),
+        Gives(1, 2),
+        Gives(2, 3),
+    ],
+};
+
+/// Four tasks of priority 2, 3, 2 and 1 are run in descending order.
+pub const PRIORITY: &Order = &Order {
+    room: 4,
+    tasks: &[
+        (2, Behaviour::Ready(2)),
+        (3, Behaviour::Ready(3)),
+        (2, Behaviour::Ready(2)),
+        (1, Behaviour::Ready(1)),
+    ],
+    turns: &[
+        Runs(3, false),
+        Runs(2, false),
+        Runs(2, false),
+        Runs(1, false),
+        Empty,
+    ],
+};
 
 /// A task that is woken while it runs goes through the queue again, and comes before one of lower priority.
-pub fn priority_yield<R: Wait + Drop + Copy>(fixture: &Fixture<R>) -> Result<Outcome, AllocError>
-    ensures { IfOk result (AgreesAt 3 3 2 0) }
-{
-    let Ok(queue) = fixture.priorities(2) else {
-        return Err(AllocError);
-    };
-    run_yielding(fixture, &queue)
-}
-
-// The same with that queue.
-fn run_yielding<R: Wait + Drop + Copy>(
-    fixture: &Fixture<R>,
-    queue: &PriorityQueue<R>,
-) -> Result<Outcome, AllocError>
-    ensures { IfOk result (AgreesAt 3 3 2 0) }
-{
-    let Ok(upper) = calls::schedule_prior(fixture, queue, 5, Behaviour::Yield(5)) else {
-        return Err(AllocError);
-    };
-    let Ok(lower) = calls::schedule_prior(fixture, queue, 1, Behaviour::Ready(1)) else {
-        return Err(AllocError);
-    };
-    let unwoken = (fixture.counts().schedules == 2) & (fixture.woken_calls() == 0);
-    let yielded = queue.run_next() == Some((5, true));
-    let woken = (fixture.counts().schedules == 3) & (fixture.woken_calls() == 1);
-    let ended = calls::runs_prior(queue, 5) & calls::runs_prior(queue, 1);
-    let empty = queue.run_next().is_none();
-    let agrees = unwoken & yielded & woken & ended & empty;
-    let outcome = calls::ended(fixture, agrees, 3, 3, 2, 0);
-    calls::drop_prior(upper);
-    calls::drop_prior(lower);
-    outcome
-}
+pub const PRIORITY_YIELD: &Order = &Order {
+    room: 2,
+    tasks: &[(5, Behaviour::Yield(5)), (1, Behaviour::Ready(1))],
+    turns: &[
+        Scheduled(2, 0),
+        Runs(5, true),
+        Scheduled(3, 1),
+        Runs(5, false),
+        Runs(1, false),
+        Empty,
+    ],
+};
 
 /// A Runnable that finds the queue full is dropped, which closes its task, though its priority is greater.
-pub fn priority_full<R: Wait + Drop + Copy>(fixture: &Fixture<R>) -> Result<Outcome, AllocError>
-    ensures { IfOk result (AgreesAt 1 2 2 0) }
+pub const PRIORITY_FULL: &Order = &Order {
+    room: 1,
+    tasks: &[(1, Behaviour::Ready(1)), (2, Behaviour::Ready(2))],
+    turns: &[Runs(1, false), Empty, Closed(1)],
+};
+
+/// Spawns and schedules the tasks, and takes the turns: the row's end, which agrees where each was as it says.
+pub fn play<R: Wait + Drop + Copy>(
+    fixture: &Fixture<R>,
+    alloc: Global,
+    order: &Order,
+    counts: Counts,
+) -> Result<Outcome, AllocError>
+    ensures { IfOk result (AgreesAt counts) }
 {
-    let Ok(flag) = fixture.flag(1) else {
-        return Err(AllocError);
-    };
-    let Ok(queue) = fixture.priorities(1) else {
-        return Err(AllocError);
-    };
-    run_one(fixture, &queue, &flag)
+    let queue = fixture.priorities(order.room)?;
+    play_by(fixture, alloc, &queue, order, counts)
 }
 
-// The same with that queue and that awaiter.
-fn run_one<R: Wait + Drop + Copy>(
+// .. with that queue.
+fn play_by<R: Wait + Drop + Copy>(
+    fixture: &Fixture<R>,
+    alloc: Global,
+    queue: &PriorityQueue<R>,
+    order: &Order,
+    counts: Counts,
+) -> Result<Outcome, AllocError>
+    ensures { IfOk result (AgreesAt counts) }
+{
+    let flag = fixture.flag(1)?;
+    let mut tasks = Vec::new(alloc);
+    for &(priority, behaviour) in order.tasks {
+        schedule(fixture, queue, &mut tasks, priority, behaviour)?;
+    }
+    let mut agrees = true;
+    for turn in order.turns {
+        agrees &= takes(fixture, queue, &mut tasks, &flag, turn);
+    }
+    Ok(fixture.end(agrees, counts))
+}
+
+// Spawns such a task, schedules its Runnable and keeps its Task.
+fn schedule<'x, R: Wait + Drop + Copy>(
+    fixture: &Fixture<R>,
+    queue: &'x PriorityQueue<R>,
+    tasks: &mut Vec<PriorityTask<'x, R>>,
+    priority: u64,
+    behaviour: Behaviour,
+) -> Result<(), AllocError> {
+    let Ok((runnable, task)) = fixture.spawn_prior(queue, priority, behaviour) else {
+        return Err(AllocError);
+    };
+    runnable.schedule();
+    tasks.push(task).or(Err(AllocError))
+}
+
+// Whether a turn is as it says.
+fn takes<R: Wait + Drop + Copy>(
     fixture: &Fixture<R>,
     queue: &PriorityQueue<R>,
+    tasks: &mut Vec<PriorityTask<'_, R>>,
     flag: &Flag,
-) -> Result<Outcome, AllocError>
-    ensures { IfOk result (AgreesAt 1 2 2 0) }
-{
-    let Ok(first) = calls::schedule_prior(fixture, queue, 1, Behaviour::Ready(1)) else {
-        return Err(AllocError);
-    };
-    let Ok(mut second) = calls::schedule_prior(fixture, queue, 2, Behaviour::Ready(2)) else {
-        return Err(AllocError);
-    };
-    let one = calls::runs_prior(queue, 1) & queue.run_next().is_none();
-    let closed = is_closed(&mut second, flag);
-    let outcome = calls::ended(fixture, one & closed, 1, 2, 2, 0);
-    calls::drop_prior(first);
-    calls::drop_prior(second);
-    outcome
+    turn: &Turn,
+) -> bool {
+    match *turn {
+        Runs(priority, answer) => queue.run_next() == Some((priority, answer)),
+        Empty => queue.run_next().is_none(),
+        Scheduled(calls, woken) => {
+            fixture.counts().schedules == calls && fixture.woken_calls() == woken
+        }
+        Gives(place, number) => gives(tasks.get_mut(place), flag, number),
+        Closed(place) => is_closed(tasks.get_mut(place), flag),
+    }
 }
 
-// Whether a poll of the Task answers that the task is closed.
-fn is_closed<R: Wait + Drop + Copy>(task: &mut PriorityTask<'_, R>, flag: &Flag) -> bool {
-    matches!(task.poll(flag), TaskPoll::Ready(Err(TaskClosed)))
+fn gives<R: Wait + Drop + Copy>(
+    task: Option<&mut PriorityTask<'_, R>>,
+    flag: &Flag,
+    number: u64,
+) -> bool {
+    match task {
+        Some(task) => is_ready_with(&task.poll(flag), number),
+        None => false,
+    }
+}
+
+fn is_closed<R: Wait + Drop + Copy>(task: Option<&mut PriorityTask<'_, R>>, flag: &Flag) -> bool {
+    match task {
+        Some(task) => matches!(task.poll(flag), TaskPoll::Ready(Err(TaskClosed))),
+        None => false,
+    }
 }

@@ -1,8 +1,11 @@
-//! Which function each row is.
-ghost use Rattle.std.specs.Prelude.{IfOk};
-ghost use Rattle.rows_program.specs.Row.{AgreesAs};
+//! What each row does, and the counters at its end.
+ghost use Rattle.std.specs.Prelude.{◌≡◌, IfOk};
+ghost use Rattle.rows_program.specs.Row.{AgreesAt, AgreesAs};
+ghost use Rattle.rows_program.specs.Row as rows;
 
-use crate::{awaiting, cancelling, detaching, local, priority, racing, scheduling, waking};
+use crate::script::Script;
+use crate::{dropping, local, priority, script, scripts};
+use rows_fixtures::counters::Counts;
 use rows_fixtures::fixture::Fixture;
 use rows_fixtures::outcome::Outcome;
 use rows_fixtures::row::Row;
@@ -17,56 +20,97 @@ where
     ensures { IfOk result (AgreesAs row) }
 {
     let fixture = Fixture::new(rt, alloc)?;
+    run_in(&fixture, alloc, row, counts_of(row))
+}
+
+fn run_in<R>(
+    fixture: &Fixture<R>,
+    alloc: Global,
+    row: Row,
+    counts: Counts,
+) -> Result<Outcome, AllocError>
+where
+    R: Wait + Threads + Drop + Copy + Send + Sync,
+    ensures { IfOk result (AgreesAt counts) }
+{
     match row {
-        Row::DropAndDetach => detaching::drop_and_detach(&fixture),
-        Row::DetachAndDrop => detaching::detach_and_drop(&fixture),
-        Row::DetachAndRun => detaching::detach_and_run(&fixture),
-        Row::RunAndDetach => detaching::run_and_detach(&fixture),
-        Row::CancelAndRun => cancelling::cancel_and_run(&fixture),
-        Row::CancelJoin => awaiting::cancel_join(&fixture),
-        Row::Waker => waking::waker(&fixture),
-        Row::WakerClone => waking::clone(&fixture),
-        Row::WakerWake => waking::wake(&fixture),
-        Row::WakeDropped => waking::wake_dropped(&fixture),
-        Row::DropLastWaker => waking::drop_last_waker(&fixture),
-        Row::Limit => waking::limit(&fixture),
-        Row::LastRun => detaching::last_run(&fixture),
-        Row::ClosedPoll => awaiting::closed_poll(&fixture),
-        Row::RefusedClone => awaiting::refused_clone(&fixture),
-        Row::CancelFuture => cancelling::cancel_future(&fixture),
-        Row::Priorities => scheduling::priorities(&fixture),
-        Row::Local => local::local(&fixture),
-        Row::AwaiterCompletes => awaiting::awaiter_completes(&fixture),
-        Row::AwaiterOrphan => awaiting::awaiter_orphan(&fixture),
-        Row::ScheduleCounter => scheduling::schedule_counter(&fixture),
-        Row::Sum => awaiting::sum(&fixture),
-        Row::RunAndCancel => cancelling::run_and_cancel(&fixture),
-        Row::DropInSchedule => scheduling::drop_in_schedule(&fixture),
-        Row::CancelRefused => cancelling::cancel_refused(&fixture),
-        Row::ClearQueue => scheduling::clear_queue(&fixture),
-        Row::WakeIntoDrop => waking::wake_into_drop(&fixture),
-        Row::DropInPoll => cancelling::drop_in_poll(&fixture),
-        Row::Priority => priority::priority(&fixture),
-        Row::PriorityYield => priority::priority_yield(&fixture),
-        Row::PriorityFull => priority::priority_full(&fixture),
-        _ => run_with_threads(row, &fixture),
+        Row::Local => local::local(fixture, counts),
+        Row::DropInSchedule => dropping::drop_in_schedule(fixture, counts),
+        Row::WakeIntoDrop => dropping::wake_into_drop(fixture, counts),
+        Row::Priorities => priority::play(fixture, alloc, priority::PRIORITIES, counts),
+        Row::Priority => priority::play(fixture, alloc, priority::PRIORITY, counts),
+        Row::PriorityYield => priority::play(fixture, alloc, priority::PRIORITY_YIELD, counts),
+        Row::PriorityFull => priority::play(fixture, alloc, priority::PRIORITY_FULL, counts),
+        _ => match script_of(row) {
+            Some(script) => script::play(fixture, alloc, script, counts),
+            None => Ok(fixture.give_up()),
+        },
     }
 }
 
-// Runs one of the rows that need threads. Any other does not agree here.
-fn run_with_threads<R>(row: Row, fixture: &Fixture<R>) -> Result<Outcome, AllocError>
-where
-    R: Wait + Threads + Drop + Copy + Send + Sync,
-    ensures { IfOk result (AgreesAs row) }
+// The script of a row that has one.
+fn script_of(row: Row) -> Option<&'static Script> {
+    let script = match row {
+        Row::DropAndDetach => scripts::DROP_AND_DETACH,
+        Row::DetachAndDrop => scripts::DETACH_AND_DROP,
+        Row::DetachAndRun => scripts::DETACH_AND_RUN,
+        Row::RunAndDetach => scripts::RUN_AND_DETACH,
+        Row::CancelAndRun => scripts::CANCEL_AND_RUN,
+        Row::CancelJoin => scripts::CANCEL_JOIN,
+        Row::Waker => scripts::WAKER,
+        Row::WakerClone => scripts::CLONE,
+        Row::WakerWake => scripts::WAKE,
+        Row::WakeDropped => scripts::WAKE_DROPPED,
+        Row::DropLastWaker => scripts::DROP_LAST_WAKER,
+        Row::Limit => scripts::LIMIT,
+        Row::LastRun => scripts::LAST_RUN,
+        Row::ClosedPoll => scripts::CLOSED_POLL,
+        Row::RefusedClone => scripts::REFUSED_CLONE,
+        Row::WakeDuringRun => scripts::WAKE_DURING_RUN,
+        Row::CancelFuture => scripts::CANCEL_FUTURE,
+        Row::AwaiterCompletes => scripts::AWAITER_COMPLETES,
+        Row::AwaiterOrphan => scripts::AWAITER_ORPHAN,
+        Row::ScheduleCounter => scripts::SCHEDULE_COUNTER,
+        Row::Sum => scripts::SUM,
+        Row::RunAndCancel => scripts::RUN_AND_CANCEL,
+        Row::CancelDuringRun => scripts::CANCEL_DURING_RUN,
+        Row::WakeAndCancel => scripts::WAKE_AND_CANCEL,
+        Row::CancelAndWake => scripts::CANCEL_AND_WAKE,
+        Row::DetachDuringRun => scripts::DETACH_DURING_RUN,
+        Row::DropDuringRun => scripts::DROP_DURING_RUN,
+        Row::PollDuringRun => scripts::POLL_DURING_RUN,
+        Row::CancelRefused => scripts::CANCEL_REFUSED,
+        Row::ClearQueue => scripts::CLEAR_QUEUE,
+        Row::DropInPoll => scripts::DROP_IN_POLL,
+        _ => return None,
+    };
+    Some(script)
+}
+
+// Polls, schedule calls, drops of futures and drops of schedule values.
+fn counts_of(row: Row) -> Counts
+    ensures { result ≡ rows.counts_of row }
 {
     match row {
-        Row::WakeDuringRun => racing::wake_during_run(fixture),
-        Row::CancelDuringRun => racing::cancel_during_run(fixture),
-        Row::WakeAndCancel => racing::wake_and_cancel(fixture),
-        Row::CancelAndWake => racing::cancel_and_wake(fixture),
-        Row::DetachDuringRun => racing::detach_during_run(fixture),
-        Row::DropDuringRun => racing::drop_during_run(fixture),
-        Row::PollDuringRun => racing::poll_during_run(fixture),
-        _ => Ok(fixture.give_up()),
+        Row::DropAndDetach | Row::DetachAndDrop | Row::CancelAndRun => Counts::new(0, 0, 1, 1),
+        Row::DetachAndRun | Row::RunAndDetach | Row::CancelJoin => Counts::new(1, 0, 1, 1),
+        Row::AwaiterCompletes | Row::RunAndCancel | Row::DropInPoll => Counts::new(1, 0, 1, 1),
+        Row::DetachDuringRun | Row::DropDuringRun => Counts::new(1, 0, 1, 1),
+        Row::Waker => Counts::new(2, 2, 0, 0),
+        Row::WakerClone | Row::WakerWake | Row::CancelDuringRun => Counts::new(2, 1, 1, 1),
+        Row::WakeAndCancel | Row::CancelAndWake => Counts::new(2, 1, 1, 1),
+        Row::WakeDropped | Row::DropLastWaker | Row::LastRun => Counts::new(1, 1, 1, 1),
+        Row::AwaiterOrphan | Row::WakeIntoDrop => Counts::new(1, 1, 1, 1),
+        Row::Limit | Row::WakeDuringRun => Counts::new(1, 1, 0, 0),
+        Row::ClosedPoll | Row::CancelFuture | Row::CancelRefused => Counts::new(0, 0, 1, 0),
+        Row::RefusedClone | Row::Sum | Row::PollDuringRun => Counts::new(1, 0, 1, 0),
+        Row::Priorities => Counts::new(3, 3, 3, 0),
+        Row::Local => Counts::new(1, 1, 1, 0),
+        Row::ScheduleCounter => Counts::new(0, 3, 0, 0),
+        Row::DropInSchedule => Counts::new(0, 1, 1, 0),
+        Row::ClearQueue => Counts::new(0, 3, 3, 0),
+        Row::Priority => Counts::new(4, 4, 4, 0),
+        Row::PriorityYield => Counts::new(3, 3, 2, 0),
+        Row::PriorityFull => Counts::new(1, 2, 2, 0),
     }
 }

@@ -1,5 +1,6 @@
 //! What no clause of a call says: whole lives of a task, what each call does to awaiters, and an executor over such tasks. The future is 7, its
 //! output 3. It shows what the page of this crate lists as only tested.
+ghost use Rattle.std.specs.Prelude.{IsTrue};
 
 use super::*;
 use std::process::Abort;
@@ -9,15 +10,15 @@ mod counted;
 mod executor;
 mod whole_lives;
 
-use awaiter::Awaiter;
+use awaiter::{Awaiter, Pair};
 
-type Task = LocalTask<u8, u8, &'static str, Awaiter>;
+type Task<'c> = LocalTask<u8, u8, &'static str, Awaiter<'c>>;
 
 const FUTURE: u8 = 7;
 
 const OUTPUT: u8 = 3;
 
-#[derive(Clone, Copy, Debug, PartialEq, Eq)]
+#[derive(Clone, Copy, Debug)]
 enum Call {
     Start,
     Pending,
@@ -32,156 +33,102 @@ enum Call {
     RefusedPoll,
 }
 
-// What a call left to do: an awaiter is told by its number.
+// What a call answers, beside what it leaves to do.
 #[derive(Clone, Copy, PartialEq, Eq)]
-struct Left {
-    future: bool,
-    output: bool,
-    queue: Option<bool>,
-    wake: Option<usize>,
-    dropped: Option<usize>,
-    emptied: bool,
-}
-
-const NOTHING: Left = Left {
-    future: false,
-    output: false,
-    queue: None,
-    wake: None,
-    dropped: None,
-    emptied: false,
-};
-
-#[derive(Clone, Copy, PartialEq, Eq)]
-enum Answer {
+enum Said {
     Polls,
-    Ends(Left),
+    Ends,
     Idle,
-    Leaves(Left),
-    Queues(Option<bool>),
+    Leaves,
+    Queues(Option<ScheduleInfo>),
     Adds(bool),
-    Pends(Left),
-    Readies(Option<u8>, Left),
+    Pends,
+    Readies(Option<u8>),
     Refuses,
 }
 
-use Answer::*;
 use Call::*;
+use Said::*;
 
-fn left_of(rt: &impl Abort, settled: Settled<u8, u8, Awaiter>) -> Left {
-    assert!(rt; settled.future.is_none_or(|future| future == FUTURE));
-    assert!(rt; settled.output.is_none_or(|output| output == OUTPUT));
-    Left {
-        future: settled.future.is_some(),
-        output: settled.output.is_some(),
-        queue: settled.queue.map(|info| info.woken_while_running),
-        wake: settled.wake.map(|awaiter| awaiter.number),
-        dropped: settled.dropped.map(|awaiter| awaiter.number),
-        emptied: settled.emptied,
-    }
+// .. and that.
+type Answer<'c> = (Said, Settled<u8, u8, Awaiter<'c>>);
+
+// Stops the test where this is false.
+fn holds(rt: &impl Abort, is_so: bool)
+    ensures { IsTrue is_so }
+{
+    assert!(rt; is_so);
 }
 
-fn started(rt: &impl Abort, task: &mut Task) -> Answer {
+fn started<'c>(rt: &impl Abort, task: &mut Task<'c>) -> Answer<'c> {
     match task.start() {
         super::Start::Poll(future) => {
-            assert!(rt; future == FUTURE);
-            Polls
+            holds(rt, future == FUTURE);
+            (Polls, Settled::nothing())
         }
-        super::Start::Ended(settled) => Ends(left_of(rt, settled)),
-        super::Start::NotDue => Idle,
+        super::Start::Ended(settled) => (Ends, settled),
+        super::Start::NotDue => (Idle, Settled::nothing()),
     }
 }
 
-fn settled(rt: &impl Abort, task: &mut Task, polled: super::Poll<u8>) -> Answer {
-    assert!(rt; task.is_started());
-    Leaves(left_of(rt, task.settle(FUTURE, polled)))
+fn settled<'c>(rt: &impl Abort, task: &mut Task<'c>, polled: super::Poll<u8>) -> Answer<'c> {
+    holds(rt, task.is_started());
+    (Leaves, task.settle(FUTURE, polled))
 }
 
-fn polled(rt: &impl Abort, task: &mut Task, awaiter: Awaiter) -> Answer {
-    assert!(rt; task.has_task());
+fn discarded<'c>(rt: &impl Abort, task: &mut Task<'c>) -> Answer<'c> {
+    holds(rt, task.is_queued());
+    (Leaves, task.discard_runnable())
+}
+
+fn woken<'c>(task: &mut Task<'c>) -> Answer<'c> {
+    (Queues(task.wake()), Settled::nothing())
+}
+
+fn waker_added<'c>(rt: &impl Abort, task: &mut Task<'c>) -> Answer<'c> {
+    holds(rt, !task.is_emptied());
+    (Adds(task.add_waker()), Settled::nothing())
+}
+
+fn waker_dropped<'c>(rt: &impl Abort, task: &mut Task<'c>) -> Answer<'c> {
+    holds(rt, task.wakers() > 0);
+    (Leaves, task.drop_waker())
+}
+
+fn cancelled<'c>(rt: &impl Abort, task: &mut Task<'c>) -> Answer<'c> {
+    holds(rt, task.has_task());
+    (Leaves, task.cancel())
+}
+
+fn detached<'c>(rt: &impl Abort, task: &mut Task<'c>) -> Answer<'c> {
+    holds(rt, task.has_task());
+    (Leaves, task.detach())
+}
+
+fn polled<'c>(rt: &impl Abort, task: &mut Task<'c>, awaiter: Awaiter<'c>) -> Answer<'c> {
+    holds(rt, task.has_task());
     let (answer, settled) = task.poll(&awaiter);
-    let left = left_of(rt, settled);
+    awaiter.go();
     match answer {
-        TaskPoll::Pending => Pends(left),
-        TaskPoll::Ready(output) => Readies(output, left),
-        TaskPoll::Refused => {
-            assert!(rt; left == NOTHING);
-            Refuses
-        }
+        TaskPoll::Pending => (Pends, settled),
+        TaskPoll::Ready(output) => (Readies(output), settled),
+        TaskPoll::Refused => (Refuses, settled),
     }
 }
 
-fn cancelled(rt: &impl Abort, task: &mut Task) -> Answer {
-    assert!(rt; task.has_task());
-    Leaves(left_of(rt, task.cancel()))
-}
-
-fn detached(rt: &impl Abort, task: &mut Task) -> Answer {
-    assert!(rt; task.has_task());
-    Leaves(left_of(rt, task.detach()))
-}
-
-fn answer_of(rt: &impl Abort, task: &mut Task, call: Call) -> Answer {
+// Makes the call. An awaiter that refuses to be cloned is the second one.
+fn answer_of<'c>(rt: &impl Abort, task: &mut Task<'c>, call: Call, pair: &'c Pair) -> Answer<'c> {
     match call {
         Start => started(rt, task),
         Pending => settled(rt, task, super::Poll::Pending),
         Ready => settled(rt, task, super::Poll::Ready(OUTPUT)),
-        Discard => {
-            assert!(rt; task.is_queued());
-            Leaves(left_of(rt, task.discard_runnable()))
-        }
-        Wake => Queues(task.wake().map(|info| info.woken_while_running)),
-        AddWaker => {
-            assert!(rt; !task.is_emptied());
-            Adds(task.add_waker())
-        }
-        DropWaker => {
-            assert!(rt; task.wakers() > 0);
-            Leaves(left_of(rt, task.drop_waker()))
-        }
+        Discard => discarded(rt, task),
+        Wake => woken(task),
+        AddWaker => waker_added(rt, task),
+        DropWaker => waker_dropped(rt, task),
         Cancel => cancelled(rt, task),
         Detach => detached(rt, task),
-        Poll(number) => polled(rt, task, Awaiter::new(number)),
-        RefusedPoll => polled(rt, task, Awaiter::refusing(9)),
+        Poll(number) => polled(rt, task, pair.awaiter(number, false)),
+        RefusedPoll => polled(rt, task, pair.awaiter(2, true)),
     }
 }
-
-// The calls, one after another, and the answer of each.
-fn answers(rt: &impl Abort, task: &mut Task, calls: &[(Call, Answer)]) {
-    for (i, (call, answer)) in calls.iter().enumerate() {
-        assert!(rt; answer_of(rt, task, *call) == *answer, "call {i}: {call:?}");
-    }
-}
-
-// .. of a new task.
-fn lives(rt: &impl Abort, calls: &[(Call, Answer)]) {
-    let mut task = LocalTask::new("metadata", FUTURE);
-    answers(rt, &mut task, calls);
-    assert!(rt; *task.metadata() == "metadata");
-}
-
-const ENDS: Left = Left {
-    future: true,
-    ..NOTHING
-};
-
-const QUEUED: Left = Left {
-    queue: Some(false),
-    ..NOTHING
-};
-
-const QUEUED_AGAIN: Left = Left {
-    queue: Some(true),
-    ..NOTHING
-};
-
-// The future is dropped, and nobody is left.
-const ENDS_EMPTIED: Left = Left {
-    emptied: true,
-    ..ENDS
-};
-
-const EMPTIED: Left = Left {
-    emptied: true,
-    ..NOTHING
-};

@@ -1,14 +1,14 @@
 //! An executor of one thread: a queue of indices, and three tasks that wake each other.
 
-use crate::task::tests::awaiter::Awaiter;
+use super::{Awaiter, Pair, holds};
 use crate::task::{LocalTask, Settled, Start};
-use std::alloc::{AllocError, Global};
+use std::alloc::Global;
 use std::collections::VecDeque;
 use std::process::Abort;
 use task_core::traits::{Poll, ScheduleInfo, TaskPoll};
 
 // A future that wakes the task `next` at each poll, and its own at the first, if it says so. It answers its number after some polls.
-#[derive(Debug, PartialEq, Eq, Drop)]
+#[derive(Drop)]
 struct Relay {
     number: usize,
     next: usize,
@@ -16,222 +16,203 @@ struct Relay {
     wakes_itself: bool,
 }
 
-impl Relay {
-    fn new(number: usize, next: usize) -> Relay {
-        Relay {
+type Task<'c> = LocalTask<Relay, usize, (), Awaiter<'c>>;
+
+// What happened, and to which task.
+type Event = (&'static str, usize);
+
+#[derive(Drop)]
+struct Executor<'c> {
+    awaiters: &'c Pair,
+    tasks: Vec<Task<'c>>,
+    queue: VecDeque<usize>,
+    events: Vec<Event>,
+}
+
+fn new_executor<'c>(rt: &impl Abort, alloc: Global, awaiters: &'c Pair) -> Executor<'c> {
+    let mut executor = Executor {
+        awaiters,
+        tasks: Vec::new(alloc),
+        queue: VecDeque::new(alloc),
+        events: Vec::new(alloc),
+    };
+    for (number, next) in [(0, 1), (1, 2), (2, 0)] {
+        let future = Relay {
             number,
             next,
             polls_left: 2,
             wakes_itself: number == 2,
-        }
-    }
-}
-
-// What an order to queue was for: the task, and whether it was woken while it ran.
-type Order = (usize, bool);
-
-#[derive(Drop)]
-struct Executor {
-    tasks: Vec<LocalTask<Relay, usize, (), Awaiter>>,
-    queue: VecDeque<usize>,
-    polled: Vec<usize>,
-    orders: Vec<Order>,
-    woken: Vec<usize>,
-    dropped: Vec<usize>,
-}
-
-impl Executor {
-    fn new(alloc: Global) -> Result<Executor, AllocError> {
-        let mut executor = Executor {
-            tasks: Vec::new(alloc),
-            queue: VecDeque::new(alloc),
-            polled: Vec::new(alloc),
-            orders: Vec::new(alloc),
-            woken: Vec::new(alloc),
-            dropped: Vec::new(alloc),
         };
-        for (number, next) in [(0, 1), (1, 2), (2, 0)] {
-            let future = Relay::new(number, next);
-            executor.tasks.push(LocalTask::new((), future))?;
-            executor.queue.push_back(number)?;
-        }
-        Ok(executor)
+        executor
+            .tasks
+            .push(LocalTask::new((), future))
+            .expect(rt, "refused");
+        executor.queue.push_back(number).expect(rt, "refused");
+    }
+    executor
+}
+
+impl<'c> Executor<'c> {
+    fn task(&mut self, rt: &impl Abort, number: usize) -> &mut Task<'c> {
+        self.tasks.get_mut(number).expect(rt, "no such task")
+    }
+
+    fn note(&mut self, rt: &impl Abort, event: &'static str, number: usize) {
+        self.events.push((event, number)).expect(rt, "refused");
     }
 
     // In the order that `Settled` states.
-    fn act(
-        &mut self,
-        number: usize,
-        settled: Settled<Relay, usize, Awaiter>,
-    ) -> Result<(), AllocError> {
-        let Settled {
-            future,
-            output,
-            queue,
-            wake,
-            dropped,
-            emptied: _,
-        } = settled;
-        if let Some(future) = future {
-            self.dropped.push(future.number)?;
+    fn act(&mut self, rt: &impl Abort, number: usize, settled: Settled<Relay, usize, Awaiter<'c>>) {
+        if let Some(future) = settled.future {
+            self.note(rt, "dropped", future.number);
         }
-        drop(output);
-        self.queue_task(number, queue)?;
-        if let Some(awaiter) = wake {
-            self.woken.push(awaiter.number)?;
+        drop(settled.output);
+        self.queue_task(rt, number, settled.queue);
+        if let Some(awaiter) = settled.wake {
+            self.note(rt, "awaiter woken", awaiter.number);
         }
-        drop(dropped);
-        Ok(())
+        drop(settled.dropped);
     }
 
-    fn queue_task(&mut self, number: usize, queue: Option<ScheduleInfo>) -> Result<(), AllocError> {
+    fn queue_task(&mut self, rt: &impl Abort, number: usize, queue: Option<ScheduleInfo>) {
         if let Some(info) = queue {
-            self.orders.push((number, info.woken_while_running))?;
-            self.queue.push_back(number)?;
+            let event = if info.woken_while_running {
+                "queued again"
+            } else {
+                "queued"
+            };
+            self.note(rt, event, number);
+            self.queue.push_back(number).expect(rt, "refused");
         }
-        Ok(())
     }
 
-    fn wake(&mut self, number: usize) -> Result<(), AllocError> {
-        let Some(task) = self.tasks.get_mut(number) else {
-            return Ok(());
-        };
-        let queue = task.wake();
-        self.queue_task(number, queue)
+    fn wake(&mut self, rt: &impl Abort, number: usize) {
+        let queue = self.task(rt, number).wake();
+        self.queue_task(rt, number, queue);
     }
 
-    fn poll(&mut self, future: &mut Relay) -> Result<Poll<usize>, AllocError> {
-        self.polled.push(future.number)?;
-        self.wake(future.next)?;
+    fn poll(&mut self, rt: &impl Abort, future: &mut Relay) -> Poll<usize> {
+        self.note(rt, "polled", future.number);
+        self.wake(rt, future.next);
         if future.wakes_itself {
             future.wakes_itself = false;
-            self.wake(future.number)?;
+            self.wake(rt, future.number);
         }
         if future.polls_left == 0 {
-            return Ok(Poll::Ready(future.number));
+            return Poll::Ready(future.number);
         }
         future.polls_left -= 1;
-        Ok(Poll::Pending)
+        Poll::Pending
     }
 
-    fn settle(
-        &mut self,
-        rt: &impl Abort,
-        number: usize,
-        future: Relay,
-        polled: Poll<usize>,
-    ) -> Result<(), AllocError> {
-        let Some(task) = self.tasks.get_mut(number) else {
-            return Ok(());
-        };
-        assert!(rt; task.is_started());
-        let settled = task.settle(future, polled);
-        self.act(number, settled)
-    }
-
-    fn run(&mut self, rt: &impl Abort, number: usize) -> Result<(), AllocError> {
-        let Some(task) = self.tasks.get_mut(number) else {
-            return Ok(());
-        };
-        match task.start() {
-            Start::Poll(mut future) => {
-                let polled = self.poll(&mut future)?;
-                self.settle(rt, number, future, polled)
-            }
-            Start::Ended(settled) => self.act(number, settled),
-            Start::NotDue => Ok(()),
+    fn run(&mut self, rt: &impl Abort, number: usize) {
+        match self.task(rt, number).start() {
+            Start::Poll(future) => self.run_future(rt, number, future),
+            Start::Ended(settled) => self.act(rt, number, settled),
+            Start::NotDue => {}
         }
     }
 
-    fn run_all(&mut self, rt: &impl Abort) -> Result<(), AllocError> {
+    fn run_future(&mut self, rt: &impl Abort, number: usize, future: Relay) {
+        let mut future = future;
+        let polled = self.poll(rt, &mut future);
+        let task = self.task(rt, number);
+        holds(rt, task.is_started());
+        let settled = task.settle(future, polled);
+        self.act(rt, number, settled);
+    }
+
+    fn run_all(&mut self, rt: &impl Abort) {
         for _ in 0..20 {
             let Some(number) = self.queue.pop_front() else {
                 break;
             };
-            self.run(rt, number)?;
+            self.run(rt, number);
         }
-        Ok(())
     }
 
-    // The Task is polled. `None` where there is no task of this number.
-    fn poll_task(
-        &mut self,
-        rt: &impl Abort,
-        number: usize,
-    ) -> Result<Option<TaskPoll<Option<usize>>>, AllocError> {
-        let Some(task) = self.tasks.get_mut(number) else {
-            return Ok(None);
-        };
-        assert!(rt; task.has_task());
-        let (answer, settled) = task.poll(&Awaiter::new(number));
-        self.act(number, settled)?;
-        Ok(Some(answer))
+    // The Task is polled.
+    fn poll_task(&mut self, rt: &impl Abort, number: usize) -> TaskPoll<Option<usize>> {
+        let awaiter = self.awaiters.awaiter(number, false);
+        let task = self.task(rt, number);
+        holds(rt, task.has_task());
+        let (answer, settled) = task.poll(&awaiter);
+        self.act(rt, number, settled);
+        answer
     }
 
-    // The Task is dropped, and whether nobody is left then.
+    // .. of all three.
+    fn poll_tasks(&mut self, rt: &impl Abort) -> [TaskPoll<Option<usize>>; 3] {
+        [
+            self.poll_task(rt, 0),
+            self.poll_task(rt, 1),
+            self.poll_task(rt, 2),
+        ]
+    }
+
+    // The Task is dropped: whether nobody is left then.
     fn detach(&mut self, rt: &impl Abort, number: usize) -> bool {
-        let Some(task) = self.tasks.get_mut(number) else {
-            return false;
-        };
-        assert!(rt; task.has_task());
+        let task = self.task(rt, number);
+        holds(rt, task.has_task());
         task.detach().emptied
     }
 }
 
-// Polls the Tasks of all three: what they answer.
-fn poll_tasks(
-    rt: &impl Abort,
-    executor: &mut Executor,
-) -> Result<[Option<TaskPoll<Option<usize>>>; 3], AllocError> {
-    let mut answers = [None, None, None];
-    for number in 0..3 {
-        answers[number] = executor.poll_task(rt, number)?;
-    }
-    Ok(answers)
-}
-
-// Drops the Tasks of all three: whether nobody is left of each.
-fn detach_all(rt: &impl Abort, executor: &mut Executor) -> bool {
-    executor.detach(rt, 0) && executor.detach(rt, 1) && executor.detach(rt, 2)
-}
-
-const ORDERS: [Order; 6] = [
-    (0, false),
-    (2, true),
-    (1, false),
-    (0, false),
-    (2, false),
-    (1, false),
+// The tasks are polled, queued, woken and ended in the order that their futures ask for.
+const EVENTS: [Event; 21] = [
+    ("polled", 0),
+    ("polled", 1),
+    ("polled", 2),
+    ("queued", 0),
+    ("queued again", 2),
+    ("polled", 0),
+    ("queued", 1),
+    ("polled", 2),
+    ("queued", 0),
+    ("polled", 1),
+    ("queued", 2),
+    ("polled", 0),
+    ("queued", 1),
+    ("dropped", 0),
+    ("awaiter woken", 0),
+    ("polled", 2),
+    ("dropped", 2),
+    ("awaiter woken", 2),
+    ("polled", 1),
+    ("dropped", 1),
+    ("awaiter woken", 1),
 ];
 
-// Whether the tasks were polled, queued, woken and ended in the order that their futures ask for.
-fn is_in_order(executor: &Executor) -> bool {
-    executor.polled.as_slice() == [0, 1, 2, 0, 2, 1, 0, 2, 1].as_slice()
-        && executor.orders.as_slice() == ORDERS.as_slice()
-        && executor.woken.as_slice() == [0, 2, 1].as_slice()
-        && executor.dropped.as_slice() == [0, 2, 1].as_slice()
+const PENDING: [TaskPoll<Option<usize>>; 3] = [
+    TaskPoll::Pending,
+    TaskPoll::Pending,
+    TaskPoll::Pending,
+];
+
+const READY: [TaskPoll<Option<usize>>; 3] = [
+    TaskPoll::Ready(Some(0)),
+    TaskPoll::Ready(Some(1)),
+    TaskPoll::Ready(Some(2)),
+];
+
+// Stops where the Tasks are not pending, all tasks run in that order, and the Tasks then are ready.
+fn run_in_order(rt: &impl Abort, alloc: Global) {
+    let awaiters = Pair::new();
+    let mut executor = new_executor(rt, alloc, &awaiters);
+    holds(rt, executor.poll_tasks(rt) == PENDING);
+    executor.run_all(rt);
+    holds(
+        rt,
+        executor.queue.is_empty() && executor.events.as_slice() == EVENTS.as_slice(),
+    );
+    holds(rt, executor.poll_tasks(rt) == READY);
+    holds(
+        rt,
+        executor.detach(rt, 0) && executor.detach(rt, 1) && executor.detach(rt, 2),
+    );
 }
-
-const PENDING: [Option<TaskPoll<Option<usize>>>; 3] = [
-    Some(TaskPoll::Pending),
-    Some(TaskPoll::Pending),
-    Some(TaskPoll::Pending),
-];
-
-const READY: [Option<TaskPoll<Option<usize>>>; 3] = [
-    Some(TaskPoll::Ready(Some(0))),
-    Some(TaskPoll::Ready(Some(1))),
-    Some(TaskPoll::Ready(Some(2))),
-];
 
 #[test]
 fn tasks_of_one_thread_wake_each_other(rt: HostRuntime) {
-    let mut executor = Executor::new(rt.alloc()).expect(&rt, "refused");
-    let before = poll_tasks(&rt, &mut executor).expect(&rt, "refused");
-    executor.run_all(&rt).expect(&rt, "refused");
-    let in_order = executor.queue.is_empty() && is_in_order(&executor);
-    let after = poll_tasks(&rt, &mut executor).expect(&rt, "refused");
-    let ended = detach_all(&rt, &mut executor);
-    assert!(rt; before == PENDING && after == READY);
-    assert!(rt; in_order && ended);
+    run_in_order(&rt, rt.alloc());
 }

@@ -2,74 +2,94 @@
 
 use super::*;
 
-// A start of an open task, one of a task that is not queued, and one of a closed task: with the Task, and detached.
+// An open task, one that is not queued, and a closed one: with the Task, and detached.
+const STARTS: [Case; 7] = [
+    (&[Poll(1)], Kept),
+    (&[Poll(1), Start], Kept),
+    (&[Poll(1), Start, Pending], Kept),
+    (&[Cancel], Unknown),
+    (&[Cancel, Poll(1)], Woken),
+    (&[Cancel, Poll(1), Detach], Woken),
+    (&[Poll(1), Cancel], WokenBefore),
+];
+
 #[test]
 fn a_start_wakes_the_awaiter_of_a_closed_task(rt: HostRuntime) {
-    first_meets(&rt, &[Poll(1)], Start, Kept);
-    first_meets(&rt, &[Poll(1), Start], Start, Kept);
-    first_meets(&rt, &[Poll(1), Start, Pending], Start, Kept);
-    first_meets(&rt, &[Cancel], Start, Unknown);
-    first_meets(&rt, &[Cancel, Poll(1)], Start, Woken);
-    first_meets(&rt, &[Cancel, Poll(1), Detach], Start, Woken);
-    first_meets(&rt, &[Poll(1), Cancel], Start, WokenBefore);
+    all_meet(&rt, &STARTS, Start, Unknown);
     meets(&rt, &[Poll(1), Cancel, Poll(2)], Start, WokenBefore, Woken);
 }
+
+const ORPHANS: [Case; 3] = [
+    (&[Poll(1), Start, Pending, Detach], Dropped),
+    (&[Poll(1), Start, Detach, Pending], Dropped),
+    (&[Poll(1), Start, Pending, Detach, AddWaker], Kept),
+];
 
 // Whoever ends an orphaned task drops its awaiter, unless a waker was added meanwhile.
 #[test]
 fn an_orphaned_task_drops_its_awaiter_at_its_end(rt: HostRuntime) {
-    let orphan = [Poll(1), Start, Pending, Detach];
-    first_meets(&rt, &orphan, Start, Dropped);
-    first_meets(&rt, &orphan, Discard, Dropped);
-    first_meets(&rt, &[Poll(1), Start, Detach, Pending], Start, Dropped);
-    first_meets(&rt, &[Poll(1), Start, Detach, Pending], Discard, Dropped);
-    let held = [Poll(1), Start, Pending, Detach, AddWaker];
-    first_meets(&rt, &held, Start, Kept);
-    first_meets(&rt, &held, Discard, Kept);
+    all_meet(&rt, &ORPHANS, Start, Unknown);
+    all_meet(&rt, &ORPHANS, Discard, Unknown);
 }
 
 // Open, woken, closed, and without Task: alone and with a waker.
+const READIES: [Case; 8] = [
+    (&[Start], Unknown),
+    (&[Poll(1), Start], Woken),
+    (&[Start, Poll(1)], Woken),
+    (&[Poll(1), Start, Wake], Woken),
+    (&[Start, Cancel, Poll(1)], Woken),
+    (&[Poll(1), Start, Cancel], WokenBefore),
+    (&[Poll(1), Start, Detach], Woken),
+    (&[Poll(1), AddWaker, Start, Detach], Woken),
+];
+
 #[test]
 fn a_settle_with_ready_wakes_the_awaiter(rt: HostRuntime) {
-    first_meets(&rt, &[Start], Ready, Unknown);
-    first_meets(&rt, &[Poll(1), Start], Ready, Woken);
-    first_meets(&rt, &[Start, Poll(1)], Ready, Woken);
-    first_meets(&rt, &[Poll(1), Start, Wake], Ready, Woken);
-    first_meets(&rt, &[Start, Cancel, Poll(1)], Ready, Woken);
-    first_meets(&rt, &[Poll(1), Start, Cancel], Ready, WokenBefore);
-    first_meets(&rt, &[Poll(1), Start, Detach], Ready, Woken);
-    first_meets(&rt, &[Poll(1), AddWaker, Start, Detach], Ready, Woken);
+    all_meet(&rt, &READIES, Ready, Unknown);
     meets(&rt, &[Poll(1), Start, Poll(2)], Ready, DroppedBefore, Woken);
 }
 
-// A closed task: with the Task, and detached.
+// With the Task, and detached.
+const CLOSED: [Case; 5] = [
+    (&[Start, Cancel], Unknown),
+    (&[Start, Cancel, Poll(1)], Woken),
+    (&[Start, Wake, Cancel, Poll(1)], Woken),
+    (&[Start, Cancel, Poll(1), Detach], Woken),
+    (&[Poll(1), Start, Cancel], WokenBefore),
+];
+
 #[test]
 fn a_settle_with_pending_wakes_the_awaiter_of_a_closed_task(rt: HostRuntime) {
-    first_meets(&rt, &[Start, Cancel], Pending, Unknown);
-    first_meets(&rt, &[Start, Cancel, Poll(1)], Pending, Woken);
-    first_meets(&rt, &[Start, Wake, Cancel, Poll(1)], Pending, Woken);
-    first_meets(&rt, &[Start, Cancel, Poll(1), Detach], Pending, Woken);
-    first_meets(&rt, &[Poll(1), Start, Cancel], Pending, WokenBefore);
+    all_meet(&rt, &CLOSED, Pending, Unknown);
 }
 
 // Woken, with its Task, with a waker alone, and orphaned.
+const OPEN: [Case; 5] = [
+    (&[Poll(1), Start, Wake], Kept),
+    (&[Poll(1), Start], Kept),
+    (&[Poll(1), Start, AddWaker, Detach], Kept),
+    (&[Poll(1), Start, Wake, Detach], Kept),
+    (&[Poll(1), Start, Detach], Kept),
+];
+
 #[test]
 fn a_settle_with_pending_keeps_the_awaiter_of_an_open_task(rt: HostRuntime) {
-    first_meets(&rt, &[Poll(1), Start, Wake], Pending, Kept);
-    first_meets(&rt, &[Poll(1), Start], Pending, Kept);
-    first_meets(&rt, &[Poll(1), Start, AddWaker, Detach], Pending, Kept);
-    first_meets(&rt, &[Poll(1), Start, Wake, Detach], Pending, Kept);
-    first_meets(&rt, &[Poll(1), Start, Detach], Pending, Kept);
+    all_meet(&rt, &OPEN, Pending, Unknown);
 }
 
 // Open, closed, detached, and detached with a waker left.
+const DISCARDS: [Case; 6] = [
+    (&[], Unknown),
+    (&[Poll(1)], Woken),
+    (&[Cancel, Poll(1)], Woken),
+    (&[Poll(1), Detach], Woken),
+    (&[Poll(1), AddWaker, Detach], Woken),
+    (&[Poll(1), Cancel], WokenBefore),
+];
+
 #[test]
 fn a_discard_wakes_the_awaiter(rt: HostRuntime) {
-    first_meets(&rt, &[], Discard, Unknown);
-    first_meets(&rt, &[Poll(1)], Discard, Woken);
-    first_meets(&rt, &[Cancel, Poll(1)], Discard, Woken);
-    first_meets(&rt, &[Poll(1), Detach], Discard, Woken);
-    first_meets(&rt, &[Poll(1), AddWaker, Detach], Discard, Woken);
-    first_meets(&rt, &[Poll(1), Cancel], Discard, WokenBefore);
+    all_meet(&rt, &DISCARDS, Discard, Unknown);
     meets(&rt, &[Poll(1), Poll(2)], Discard, DroppedBefore, Woken);
 }
