@@ -5,10 +5,10 @@ use Rattle.test_tasks.proofs.blocks.slot_tests.Writer.write_and_close.Goals as g
 
 -- src/slot_tests.rt:58:9
 pub load-requires : goal.load-requires
-load-requires c = let seat = c.args.self.seat in let is = c.args.self.seated in (is.1, may_take seat.id seat.me is.2 is.3, (λ s h at. refl))
+load-requires c = let seat = c.args.self.seat in let is = c.args.self.seated in record { block = is.1; allowed = may_take seat.id seat.me is.2 is.3; shares = λ s h at. refl }
 
 -- src/slot_tests.rt:60:10
 pub first_mut-requires : goal.first_mut-requires
 first_mut-requires c =
     let has : c.exchange-was.new.seat.me.1 ≡ (0, 7) ∷ rest c.load.new.seat.me.1 = ap (λ (me : Me ℕ Bool). me.1) c.exchange-was.ensures.3 in
-    (c.exchange-was.ensures.0 ∙ c.load.ensures.0 ∙ c.args.self.seated.1, (7, has ∙ ap (λ (xs : List (ℕ × ℕ)). (0, 7) ∷ xs) (sym (ap rest has))))
+    record { block = c.exchange-was.ensures.0 ∙ c.load.ensures.0 ∙ c.args.self.seated.1; taken = (7, has ∙ ap (λ (xs : List (ℕ × ℕ)). (0, 7) ∷ xs) (sym (ap rest has))) }
