@@ -13,5 +13,6 @@ mod mailbox_tests;
 mod nobody_tests;
 mod number;
 mod refused_tests;
+mod script;
 mod shown_tests;
 mod spawn_tests;

@@ -2,6 +2,7 @@
 //! Of what is only tested (docs/PROOFS.md): Handles.
 
 use crate::handles::calls;
+use crate::handles::calls::shows;
 use async_task::Builder;
 use rows_fixtures::behaviour::Behaviour;
 use rows_fixtures::fixture::Fixture;
@@ -17,14 +18,6 @@ const SPAWNED: &str =
 // .. with one waker.
 const WITH_WAKER: &str =
     " { header: Header { scheduled: true, running: false, completed: false, closed: false, awaiter: false, task: true, ref_count: 2, metadata: () } }";
-
-// Whether a value shows that text. Stops where there is no memory.
-fn shows<R: Abort, T: fmt::Debug>(rt: &R, alloc: Global, value: &T, expected: &str) -> bool {
-    format!(in alloc; "{value:?}")
-        .expect(rt, "refused")
-        .as_str()
-        == expected
-}
 
 // Whether a handle of that name shows a task with this header.
 fn shows_as<R: Abort, T: fmt::Debug>(

@@ -11,8 +11,17 @@ use rows_fixtures::fixture::Fixture;
 use rows_fixtures::flag::Flag;
 use rows_fixtures::surroundings::{RowRunnable, RowTask, RowWaker};
 use std::alloc::Global;
+use std::fmt;
 use std::process::Abort;
 use std::sync::Wait;
+
+/// Whether a value shows that text. Stops where there is no memory.
+pub fn shows<R: Abort, T: fmt::Debug>(rt: &R, alloc: Global, value: &T, expected: &str) -> bool {
+    format!(in alloc; "{value:?}")
+        .expect(rt, "refused")
+        .as_str()
+        == expected
+}
 
 /// Surroundings of a test's own. Stops where there is no memory.
 pub fn fixture<R: Wait + Abort + Drop + Copy>(rt: R, alloc: Global) -> Fixture<R> {

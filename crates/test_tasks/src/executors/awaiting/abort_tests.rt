@@ -1,7 +1,10 @@
 //! Aborts of the members of a group by its handles: while the owner sleeps, of a member that came out before, several of one member, after a detach, and many
 //! from another thread while members come and go.
-use super::came_out::{CameOut, group_of, last_of, next_of};
+use super::came_out::{CameOut, abort_handle_of, group_of, next_of};
+use super::line::Errand::{Answer, GiveWay, Stay};
 use super::line::{Errand, Line, LineGroup};
+use super::script::Step::{Answered, CloneHandle, DetachAll, DropGroup, Look, Next, Run, Spawn};
+use super::script::{Script, Step, play};
 use async_task::TaskClosed;
 use executor_parts::AbortHandle;
 use std::alloc::Global;
@@ -21,37 +24,26 @@ const ROOM: usize = 32;
 
 // Spawns a member, and makes its handle. Stops where either is refused.
 fn spawn_abortable<'x, R: Wait + Abort + Drop + Copy>(
-    rt: R,
     line: &'x Line<R>,
     group: &mut LineGroup<'x, R>,
     errand: Errand,
 ) -> AbortHandle<R> {
-    let number = line.spawn_in(group, errand).expect(&rt, "refused");
-    group.abort_handle(number).expect(&rt, "refused")
-}
-
-// Looks for members that have ended. There are to be none.
-fn look<R: Wait + Drop + Copy>(group: &mut LineGroup<'_, R>) -> bool {
-    matches!(group.try_next(), Ok(None))
+    let number = line.spawn_in(group, errand).expect(&line.rt, "refused");
+    abort_handle_of(line, group, number)
 }
 
 // Aborts a member once another thread had time to fall asleep, and runs the line until that thread says that it has ended.
-fn abort_and_run<R: Wait + Drop + Copy>(
-    rt: R,
-    line: &Line<R>,
-    handle: AbortHandle<R>,
-    ended: &AtomicU64,
-) {
+fn abort_and_run<R: Wait + Drop + Copy>(line: &Line<R>, handle: AbortHandle<R>, ended: &AtomicU64) {
     for _ in 0..YIELDS {
         thread::yield_now();
     }
     handle.abort();
-    run_until(rt, line, ended);
+    run_until(line, ended);
 }
 
 // Runs the line until another thread says that it has ended.
-fn run_until<R: Wait + Drop + Copy>(rt: R, line: &Line<R>, ended: &AtomicU64) {
-    for _ in rt.forever() {
+fn run_until<R: Wait + Drop + Copy>(line: &Line<R>, ended: &AtomicU64) {
+    for _ in line.rt.forever() {
         line.run();
         if ended.load(Ordering::SeqCst) > 0 {
             return;
@@ -61,23 +53,22 @@ fn run_until<R: Wait + Drop + Copy>(rt: R, line: &Line<R>, ended: &AtomicU64) {
 }
 
 // Waits for the next member, and says so.
-fn wait_and_say<R: Wait + Drop + Copy>(group: LineGroup<'_, R>, ended: &AtomicU64) -> CameOut {
-    let next = last_of(group);
+fn wait_and_say<R: Wait + Drop + Copy>(group: &mut LineGroup<'_, R>, ended: &AtomicU64) -> CameOut {
+    let next = next_of(group);
     ended.fetch_add(1, Ordering::SeqCst);
     next
 }
 
 // Waits for a member on one thread, and aborts it on another.
-fn wait_and_abort<'x, R: Wait + Threads + Drop + Copy + Send + Sync>(
-    rt: R,
-    line: &'x Line<R>,
-    group: LineGroup<'x, R>,
+fn wait_and_abort<R: Wait + Threads + Drop + Copy + Send + Sync>(
+    line: &Line<R>,
+    group: &mut LineGroup<'_, R>,
     handle: AbortHandle<R>,
 ) -> CameOut {
     let ended = AtomicU64::new(0);
     let (_, next) = thread::join(
-        &rt,
-        || abort_and_run(rt, line, handle, &ended),
+        &line.rt,
+        || abort_and_run(line, handle, &ended),
         || wait_and_say(group, &ended),
     );
     next
@@ -89,10 +80,10 @@ fn abort_while_asleep<R: Wait + Abort + Threads + Drop + Copy + Send + Sync>(
     alloc: Global,
 ) -> CameOut {
     let line = Line::new(rt, alloc, 1);
-    let mut group = group_of(rt, alloc, 1);
-    let handle = spawn_abortable(rt, &line, &mut group, Errand::Stay);
+    let mut group = group_of(&line, 1);
+    let handle = spawn_abortable(&line, &mut group, Stay);
     line.run();
-    wait_and_abort(rt, &line, group, handle)
+    wait_and_abort(&line, &mut group, handle)
 }
 
 #[test]
@@ -101,98 +92,79 @@ fn an_abort_wakes_the_owner_that_sleeps(rt: HostRuntime) {
     assert!(rt; seen == Some((0, Err(TaskClosed))));
 }
 
-// Aborts a member that has come out, while another one has its number, and that one before it or not: what comes out then.
-fn abort_too_late<R: Wait + Abort + Drop + Copy>(
-    rt: R,
-    alloc: Global,
-    both: bool,
-) -> (CameOut, CameOut) {
-    let line = Line::new(rt, alloc, 1);
-    let mut group = group_of(rt, alloc, 1);
-    let late = spawn_abortable(rt, &line, &mut group, Errand::Answer(44));
-    line.run();
-    let first = next_of(&mut group);
-    let handle = spawn_abortable(rt, &line, &mut group, Errand::GiveWay(45));
-    if both {
-        handle.abort();
-    }
-    late.abort();
-    look(&mut group);
-    line.run();
-    (first, last_of(group))
-}
+const SCRIPTS: [Script; 4] = [
+    Script {
+        name: "an abort of a member that came out is nothing to a later one of its number",
+        room: 1,
+        steps: &[
+            Spawn(Answer(44), Some(0)),
+            Run,
+            Next(Some((0, Ok(44)))),
+            Spawn(GiveWay(45), Some(0)),
+            Step::Abort(0),
+            Look(None),
+            Run,
+            Next(Some((0, Ok(45)))),
+        ],
+    },
+    Script {
+        name: "an abort of a member that came out takes no other abort away",
+        room: 1,
+        steps: &[
+            Spawn(Answer(44), Some(0)),
+            Run,
+            Next(Some((0, Ok(44)))),
+            Spawn(GiveWay(45), Some(0)),
+            Step::Abort(1),
+            Step::Abort(0),
+            Look(None),
+            Run,
+            Next(Some((0, Err(TaskClosed)))),
+        ],
+    },
+    // Two aborts before the future of the member is gone, and one after that.
+    Script {
+        name: "further aborts of a member are nothing",
+        room: 2,
+        steps: &[
+            Spawn(Stay, Some(0)),
+            CloneHandle(0),
+            Run,
+            Step::Abort(0),
+            Step::Abort(1),
+            Look(None),
+            Run,
+            Step::Abort(0),
+            Next(Some((0, Err(TaskClosed)))),
+            Spawn(Answer(46), Some(0)),
+            Run,
+            Next(Some((0, Ok(46)))),
+            Next(None),
+        ],
+    },
+    Script {
+        name: "an abort of a member that has ended or was let go does nothing, also without its group",
+        room: 1,
+        steps: &[
+            Spawn(Answer(47), Some(0)),
+            Run,
+            Step::Abort(0),
+            Next(Some((0, Ok(47)))),
+            Spawn(GiveWay(48), Some(0)),
+            DetachAll,
+            Step::Abort(1),
+            Look(None),
+            Run,
+            DropGroup(true),
+            Step::Abort(1),
+            Answered(2),
+        ],
+    },
+];
 
 #[test]
-fn an_abort_of_a_member_that_came_out_is_nothing_to_a_later_one(rt: HostRuntime) {
-    let seen = abort_too_late(rt, rt.alloc(), false);
-    assert!(rt; seen == (Some((0, Ok(44))), Some((0, Ok(45)))));
-}
-
-#[test]
-fn an_abort_of_a_member_that_came_out_takes_no_other_abort_away(rt: HostRuntime) {
-    let seen = abort_too_late(rt, rt.alloc(), true);
-    assert!(rt; seen == (Some((0, Ok(44))), Some((0, Err(TaskClosed)))));
-}
-
-// Aborts one of two members three times, twice before its future is gone and once after that: whether none had come out before, and how they come out.
-fn abort_again<R: Wait + Abort + Drop + Copy>(rt: R, alloc: Global) -> (bool, [CameOut; 3]) {
-    let line = Line::new(rt, alloc, 1);
-    let mut group = group_of(rt, alloc, 2);
-    let handle = spawn_abortable(rt, &line, &mut group, Errand::Stay);
-    let clone = handle.try_clone().expect(&rt, "refused");
-    line.run();
-    handle.abort();
-    clone.abort();
-    let none = look(&mut group);
-    line.run();
-    handle.abort();
-    let first = next_of(&mut group);
-    line.spawn_in(&mut group, Errand::Answer(46));
-    line.run();
-    (
-        none && clone.id() == handle.id(),
-        [first, next_of(&mut group), last_of(group)],
-    )
-}
-
-#[test]
-fn further_aborts_of_a_member_are_nothing(rt: HostRuntime) {
-    let seen = abort_again(rt, rt.alloc());
-    let out = [Some((0, Err(TaskClosed))), Some((0, Ok(46))), None];
-    assert!(rt; seen == (true, out));
-}
-
-// Aborts a member that has ended, and one that was let go on, and drops their group: what the first one answered, and the handle of the other.
-fn end_and_let_go<R: Wait + Abort + Drop + Copy>(
-    rt: R,
-    alloc: Global,
-    line: &Line<R>,
-) -> (CameOut, AbortHandle<R>) {
-    let mut group = group_of(rt, alloc, 1);
-    let ended = spawn_abortable(rt, line, &mut group, Errand::Answer(47));
-    line.run();
-    ended.abort();
-    let out = next_of(&mut group);
-    let let_go = spawn_abortable(rt, line, &mut group, Errand::GiveWay(48));
-    group.detach_all();
-    let_go.abort();
-    look(&mut group);
-    line.run();
-    (out, let_go)
-}
-
-// Aborts the second one once more, without a group: what the first one answered, and how many have answered.
-fn abort_after_the_end<R: Wait + Abort + Drop + Copy>(rt: R, alloc: Global) -> (CameOut, u64) {
-    let line = Line::new(rt, alloc, 1);
-    let (out, let_go) = end_and_let_go(rt, alloc, &line);
-    let_go.abort();
-    (out, line.answered.load(Ordering::SeqCst))
-}
-
-#[test]
-fn an_abort_of_a_member_that_has_ended_or_was_let_go_does_nothing(rt: HostRuntime) {
-    let seen = abort_after_the_end(rt, rt.alloc());
-    assert!(rt; seen == (Some((0, Ok(47))), 2));
+fn aborts_answer_as_their_scripts_say(rt: HostRuntime) {
+    play(rt, rt.alloc(), &SCRIPTS);
 }
 
 // Handles on their way from the owner of a group to the thread that aborts.
@@ -237,29 +209,39 @@ fn count_next<R: Wait + Drop + Copy>(group: &mut LineGroup<'_, R>, tally: &mut T
     true
 }
 
-// Spawns the members, hands out the handles of those that are to be aborted, and counts what comes out, until all have.
-fn own<'x, R: Wait + Abort + Drop + Copy>(
-    rt: R,
+// Spawns the members, and hands out the handles of those that are to be aborted. Where the group is full, it counts what comes out first.
+fn spawn_all<'x, R: Wait + Abort + Drop + Copy>(
     line: &'x Line<R>,
-    mut group: LineGroup<'x, R>,
+    group: &mut LineGroup<'x, R>,
+    handles: &Handles<R>,
+    tally: &mut Tally,
+) {
+    for turn in 0..MEMBERS {
+        if group.is_full() {
+            count_next(group, tally);
+        }
+        let handle = spawn_abortable(line, group, errand_of(turn));
+        if !is_unasked(turn) {
+            let pushed = handles.lock(&line.rt).push_back(handle);
+            pushed.expect(&line.rt, "refused");
+        }
+    }
+}
+
+// Has all members come and go, and then says so: what came out.
+fn own<R: Wait + Abort + Drop + Copy>(
+    line: &Line<R>,
     handles: &Handles<R>,
     ended: &AtomicU64,
 ) -> Tally {
+    let mut group = group_of(line, ROOM);
     let mut tally = Tally {
         closed: 0,
         answered: 0,
         unasked: 0,
     };
-    for turn in 0..MEMBERS {
-        if group.is_full() {
-            count_next(&mut group, &mut tally);
-        }
-        let handle = spawn_abortable(rt, line, &mut group, errand_of(turn));
-        if !is_unasked(turn) {
-            handles.lock(&rt).push_back(handle).expect(&rt, "refused");
-        }
-    }
-    for _ in rt.forever() {
+    spawn_all(line, &mut group, handles, &mut tally);
+    for _ in line.rt.forever() {
         if !count_next(&mut group, &mut tally) {
             break;
         }
@@ -280,41 +262,36 @@ fn abort_all<R: Wait + Drop + Copy>(rt: R, handles: &Handles<R>, ended: &AtomicU
     }
 }
 
-// One thread has the group, one runs its tasks, and one aborts three of four members: what comes out.
-fn storm<'x, R: Wait + Abort + Threads + Drop + Copy + Send + Sync>(
-    rt: R,
-    alloc: Global,
-    line: &'x Line<R>,
-    group: LineGroup<'x, R>,
+// One thread has the group, and one aborts three of four members: what comes out.
+fn own_beside_aborts<R: Wait + Abort + Threads + Drop + Copy + Send + Sync>(
+    line: &Line<R>,
+    ended: &AtomicU64,
 ) -> Tally {
-    let handles = Mutex::new(VecDeque::new(alloc));
-    let ended = AtomicU64::new(0);
-    let (_, (_, tally)) = thread::join(
-        &rt,
-        || run_until(rt, line, &ended),
-        || thread::join(
-            &rt,
-            || abort_all(rt, &handles, &ended),
-            || own(rt, line, group, &handles, &ended),
-        ),
+    let handles = Mutex::new(VecDeque::new(line.alloc));
+    let (_, tally) = thread::join(
+        &line.rt,
+        || abort_all(line.rt, &handles, ended),
+        || own(line, &handles, ended),
     );
     tally
 }
 
-// The same, of a group of its own.
-fn storm_of_aborts<R: Wait + Abort + Threads + Drop + Copy + Send + Sync>(
-    rt: R,
-    alloc: Global,
-) -> Tally {
+// The same, while a third thread runs the tasks.
+fn storm<R: Wait + Abort + Threads + Drop + Copy + Send + Sync>(rt: R, alloc: Global) -> Tally {
     let line = Line::new(rt, alloc, 1);
-    let group = group_of(rt, alloc, ROOM);
-    storm(rt, alloc, &line, group)
+    let ended = AtomicU64::new(0);
+    let (_, tally) = thread::join(
+        &rt,
+        || run_until(&line, &ended),
+        || own_beside_aborts(&line, &ended),
+    );
+    tally
 }
 
 // The turns 1, 5, 9 .. 3997 are those of members that nobody aborts.
 #[test]
 fn members_that_are_aborted_beside_others_come_out_once(rt: HostRuntime) {
-    let tally = storm_of_aborts(rt, rt.alloc());
+    let tally = storm(rt, rt.alloc());
     assert!(rt; tally.unasked == 1_999_000);
     assert!(rt; tally.closed >= 2_000 && tally.closed <= 3_000);
     assert!(rt; tally.closed.wrapping_add(tally.answered) == MEMBERS);

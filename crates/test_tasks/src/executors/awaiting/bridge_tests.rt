@@ -88,23 +88,38 @@ fn run<R: Wait + Drop + Copy>(runnable: Work<R>) -> bool {
     runnable.run()
 }
 
-// Lets the kit wait for a task.
-fn wait_for<R: Wait + Abort + RandomSource + AllocGlobal + Drop + Copy>(
-    rt: R,
-    awaits: Awaited<R>,
-) -> Answer {
-    block_on(&rt, awaits).expect(&rt, "refused")
+// Lets the kit wait for a future.
+fn wait_for<R: Wait + Abort + RandomSource + AllocGlobal, A: futures::Future>(
+    rt: &R,
+    awaited: A,
+) -> A::Output
+    requires { A.can_poll awaited }
+{
+    block_on(rt, awaited).expect(rt, "refused")
 }
 
-// Lets the kit wait for the first of two tasks, and drop the other: what the left one answered.
-fn wait_for_left<R: Wait + Abort + RandomSource + AllocGlobal + Drop + Copy>(
-    rt: R,
-    mut left: Awaited<R>,
-    mut right: Awaited<R>,
-) -> Answer {
-    match block_on(&rt, select(&mut left, &mut right)) {
-        Ok(Either::Left((answer, _))) => answer,
-        _ => Err(AwaitError::Refused),
+// Lets the kit wait for two futures at once.
+fn wait_for_both<
+    R: Wait + Abort + RandomSource + AllocGlobal,
+    A: futures::Future<Output: Drop>,
+    B: futures::Future<Output: Drop>,
+>(rt: &R, left: A, right: B) -> (A::Output, B::Output)
+    requires { A.can_poll left × B.can_poll right }
+{
+    block_on(rt, join(left, right)).expect(rt, "refused")
+}
+
+// Lets the kit wait for the first of two futures: what the left one gave, if it was the first.
+fn wait_for_left<
+    R: Wait + Abort + RandomSource + AllocGlobal,
+    A: futures::Future,
+    B: futures::Future<Output: Drop>,
+>(rt: &R, left: &mut A, right: &mut B) -> Option<A::Output>
+    requires { A.can_poll left.old × B.can_poll right.old }
+{
+    match block_on(rt, select(left, right)).expect(rt, "refused") {
+        Either::Left((output, _)) => Some(output),
+        Either::Right(_) => None,
     }
 }
 
@@ -115,7 +130,7 @@ fn wait_beside<R: Wait + Abort + Threads + RandomSource + AllocGlobal + Drop + C
 ) -> (Answer, u64) {
     let dropped = none_dropped(rt, alloc);
     let (runnable, awaits) = bridged(rt, alloc, 7, &dropped);
-    let (_, answer) = thread::join(&rt, move || run(runnable), move || wait_for(rt, awaits));
+    let (_, answer) = thread::join(&rt, move || run(runnable), move || wait_for(&rt, awaits));
     (answer, dropped.load(Ordering::SeqCst))
 }
 
@@ -138,8 +153,8 @@ fn join_beside<R: Wait + Abort + Threads + RandomSource + AllocGlobal + Drop + C
         run(first);
         run(second)
     };
-    let (_, answers) = thread::join(&rt, run_both, move || block_on(&rt, join(left, right)));
-    answers.expect(&rt, "refused")
+    let (_, answers) = thread::join(&rt, run_both, move || wait_for_both(&rt, left, right));
+    answers
 }
 
 #[test]
@@ -152,12 +167,13 @@ fn the_kit_joins_two_tasks(rt: HostRuntime) {
 fn select_first<R: Wait + Abort + RandomSource + AllocGlobal + Drop + Copy>(
     rt: R,
     alloc: Global,
-) -> (Answer, bool, u64) {
+) -> (Option<Answer>, bool, u64) {
     let dropped = none_dropped(rt, alloc);
-    let (first, left) = bridged(rt, alloc, 1, &dropped);
-    let (second, right) = bridged(rt, alloc, 2, &dropped);
+    let (first, mut left) = bridged(rt, alloc, 1, &dropped);
+    let (second, mut right) = bridged(rt, alloc, 2, &dropped);
     run(first);
-    let won = wait_for_left(rt, left, right);
+    let won = wait_for_left(&rt, &mut left, &mut right);
+    drop(right);
     let woken = run(second);
     (won, woken, dropped.load(Ordering::SeqCst))
 }
@@ -165,7 +181,7 @@ fn select_first<R: Wait + Abort + RandomSource + AllocGlobal + Drop + Copy>(
 #[test]
 fn the_loser_of_a_select_is_cancelled(rt: HostRuntime) {
     let (won, woken, dropped) = select_first(rt, rt.alloc());
-    assert!(rt; won == Ok(1) && !woken && dropped == 2);
+    assert!(rt; won == Some(Ok(1)) && !woken && dropped == 2);
 }
 
 // Drops a bridge before its task runs: whether the run woke anything, how many futures were dropped, and whether nothing else has their count then.
@@ -240,20 +256,28 @@ fn bridged_later<'heap, R: Wait + Abort + Drop + Copy>(
     )
 }
 
-// Lets the kit poll such a task once, runs it and waits for it: whether the first bridge was refused, whether the second one was
-// pending at its first poll, and what it answered.
+// Lets the kit poll a future once, runs the task of it, and lets the kit wait for it: whether it was pending at its first poll, and what it gave.
+fn wait_after_poll<
+    R: Wait + Abort + RandomSource + AllocGlobal + Drop + Copy,
+    A: futures::Future<Output: Drop>,
+>(rt: R, mut awaited: A, runnable: HeapWork<'_, R>) -> (bool, A::Output)
+    requires { (future : A) → A.can_poll future }
+{
+    let pending = wait_for_left(&rt, &mut awaited, &mut ready(())).is_none();
+    runnable.run();
+    (pending, wait_for(&rt, awaited))
+}
+
+// Wraps a Task, while its heap is full and later, and waits for it: whether the first bridge was refused, whether the second one was pending at its first
+// poll, and what it answered.
 fn wait_after_refusal<R: Wait + Abort + RandomSource + AllocGlobal + Drop + Copy>(
     rt: R,
     alloc: Global,
     heap: &LocalHeap,
     dropped: &Arc<AtomicU64>,
-) -> (bool, bool, Answer) {
-    let (refused, runnable, mut awaits) = bridged_later(rt, alloc, heap, dropped);
-    let polled = block_on(&rt, select(&mut awaits, ready(())));
-    let pending = matches!(polled, Ok(Either::Right(_)));
-    runnable.run();
-    let answer = block_on(&rt, awaits).expect(&rt, "refused");
-    (refused, pending, answer)
+) -> (bool, (bool, Answer)) {
+    let (refused, runnable, awaits) = bridged_later(rt, alloc, heap, dropped);
+    (refused, wait_after_poll(rt, awaits, runnable))
 }
 
 #[test]
@@ -261,6 +285,6 @@ fn a_bridge_that_was_refused_memory_is_made_later(rt: HostRuntime) {
     let dropped = none_dropped(rt, rt.alloc());
     let heap = LocalHeap::new(rt.alloc(), HEAP).expect(&rt, "refused");
     let seen = wait_after_refusal(rt, rt.alloc(), &heap, &dropped);
-    assert!(rt; seen == (true, true, Ok(6)));
+    assert!(rt; seen == (true, (true, Ok(6))));
     assert!(rt; heap.used() == 0 && dropped.load(Ordering::SeqCst) == 1);
 }

@@ -60,8 +60,10 @@ type KeptWaker<R> = TaskWaker<R, Member, ToLine, (), Awaiter<R>, ()>;
 
 /// A queue, a store of wakers and one of Tasks, and a mailbox of the numbers whose wakers are to be woken.
 pub struct Line<R: Wait + Drop + Copy> {
-    rt: R,
-    alloc: Global,
+    /// What the line may wait by.
+    pub rt: R,
+    /// Where its tasks have their memory.
+    pub alloc: Global,
     mailbox: Arc<Mailbox<R>>,
     /// How many tasks have answered a number of their own.
     pub answered: AtomicU64,

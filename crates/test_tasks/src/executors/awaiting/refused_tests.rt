@@ -8,9 +8,9 @@ use std::alloc::Global;
 use std::process::Abort;
 use std::sync::{Arc, Wait};
 
-// An awaiter that is refused while the mailbox has another one: as if no more owners could be counted.
+/// An awaiter that is refused while the mailbox has another one: as if no more owners could be counted.
 #[derive(Drop)]
-struct OnlyAwaiter<R: Wait + Drop + Copy> {
+pub struct OnlyAwaiter<R: Wait + Drop + Copy> {
     mailbox: Arc<Mailbox<R>>,
     number: usize,
 }
@@ -57,9 +57,11 @@ impl<R: Wait + Drop + Copy> Posts<R> for OnlyAwaiter<R> {
     }
 }
 
-type OnlyGroup<R> = TaskGroup<R, Number, Nowhere, (), OnlyAwaiter<R>, ()>;
+/// A group of tasks that are awaited so.
+pub type OnlyGroup<R> = TaskGroup<R, Number, Nowhere, (), OnlyAwaiter<R>, ()>;
 
-type OnlyRunnable<R> = Runnable<R, Number, Nowhere, (), OnlyAwaiter<R>, ()>;
+/// A Runnable of such a task.
+pub type OnlyRunnable<R> = Runnable<R, Number, Nowhere, (), OnlyAwaiter<R>, ()>;
 
 // What a look at a group finds: the number and the output of a member, or no member.
 type Found = Result<Option<(usize, u64)>, AwaiterRefused>;
@@ -72,8 +74,8 @@ fn look<R: Wait + Drop + Copy>(group: &mut OnlyGroup<R>) -> Found {
     }
 }
 
-// Pushes a task that answers a number to a group: its Runnable.
-fn push<R: Wait + Abort + Drop + Copy>(
+/// Pushes a task that answers a number to a group: its Runnable. Stops where it is refused.
+pub fn push<R: Wait + Abort + Drop + Copy>(
     rt: R,
     alloc: Global,
     group: &mut OnlyGroup<R>,
@@ -84,8 +86,8 @@ fn push<R: Wait + Abort + Drop + Copy>(
     runnable
 }
 
-// Runs.
-fn run<R: Wait + Drop + Copy>(runnable: OnlyRunnable<R>) {
+/// Runs.
+pub fn run<R: Wait + Drop + Copy>(runnable: OnlyRunnable<R>) {
     runnable.run();
 }
 

@@ -1,5 +1,6 @@
 //! How a mailbox, a group, its handles and what comes out of it are shown, and what their errors say.
-use super::line::{Errand, Line, LineGroup};
+use super::refused_tests::{OnlyGroup, push, run};
+use crate::handles::calls::shows;
 use async_task::TaskClosed;
 use executor_parts::kit::{AwaitError, AwaitsRefused};
 use executor_parts::{
@@ -8,14 +9,9 @@ use executor_parts::{
 };
 use std::alloc::{AllocError, Global};
 use std::error::Error;
-use std::fmt::Debug;
 use std::io;
 use std::process::Abort;
 use std::sync::Wait;
-
-fn shown<R: Abort, T: Debug>(rt: &R, alloc: Global, value: &T) -> String {
-    format!(in alloc; "{value:?}").expect(rt, "refused")
-}
 
 // What the `io::Error` of an error says.
 fn io_text<R: Abort, E: Drop>(rt: &R, alloc: Global, error: E) -> String
@@ -34,102 +30,102 @@ where
     text.as_str() == words && io_text(rt, alloc, error).as_str() == words
 }
 
-// A mailbox, and an awaiter of it.
-fn show_mailbox<R: Wait + Abort + Drop + Copy>(rt: R, alloc: Global) -> [String; 2] {
+// A mailbox, an awaiter of it, and its numbers.
+fn shows_mailbox<R: Wait + Abort + Drop + Copy>(rt: R, alloc: Global) -> [bool; 3] {
     let mailbox = Mailbox::new(rt, alloc, 4).expect(&rt, "refused");
     let awaiter = Awaiter::new(&mailbox, 3).expect(&rt, "refused");
-    [shown(&rt, alloc, &*mailbox), shown(&rt, alloc, &awaiter)]
+    let mut numbers = Numbers::new(alloc, 2).expect(&rt, "refused");
+    numbers.post(1);
+    [
+        shows(&rt, alloc, &*mailbox, "Mailbox { .. }"),
+        shows(&rt, alloc, &awaiter, "Awaiter { number: 3, .. }"),
+        shows(
+            &rt,
+            alloc,
+            &numbers,
+            "Numbers { posted: [1], waits: [false, true] }",
+        ),
+    ]
 }
 
 #[test]
 fn a_mailbox_and_what_waits_in_it_are_shown(rt: HostRuntime) {
-    let [mailbox, awaiter] = show_mailbox(rt, rt.alloc());
-    let mut numbers = Numbers::new(rt.alloc(), 2).expect(&rt, "refused");
-    numbers.post(1);
-    let numbers = shown(&rt, rt.alloc(), &numbers);
-    assert!(rt;
-        mailbox.as_str() == "Mailbox { .. }" && awaiter.as_str() == "Awaiter { number: 3, .. }"
-    );
-    assert!(rt; numbers.as_str() == "Numbers { posted: [1], waits: [false, true] }");
+    assert!(rt; shows_mailbox(rt, rt.alloc()) == [true; 3]);
 }
 
-// A group of one member, and how that comes out.
-#[test]
-fn a_group_and_its_members_are_shown(rt: HostRuntime) {
-    let line = Line::new(rt, rt.alloc(), 1);
-    let mut group: LineGroup<'_, _> = TaskGroup::new(rt, rt.alloc(), 1).expect(&rt, "refused");
-    group
-        .push(line.spawn(0, Errand::Answer(7)))
-        .expect(&rt, "refused");
-    line.run();
-    let before = shown(&rt, rt.alloc(), &group);
-    let ended = group.next().expect(&rt, "refused");
-    let ended = shown(&rt, rt.alloc(), &ended);
-    assert!(rt; before.as_str() == "TaskGroup { len: 1, .. }");
-    assert!(rt; ended.as_str() == "Some(Ended { number: 0, answer: Ok(7) })");
-}
-
-// A handle that aborts the one member of a group.
-fn show_abort_handle<R: Wait + Abort + Drop + Copy>(rt: R, alloc: Global) -> String {
-    let line = Line::new(rt, alloc, 1);
-    let mut group: LineGroup<'_, R> = TaskGroup::new(rt, alloc, 1).expect(&rt, "refused");
-    group
-        .push(line.spawn(0, Errand::Answer(7)))
-        .expect(&rt, "refused");
+// A group of one member, the handle that aborts it, and how it comes out.
+fn shows_group<R: Wait + Abort + Drop + Copy>(rt: R, alloc: Global) -> [bool; 3] {
+    let mut group: OnlyGroup<R> = TaskGroup::new(rt, alloc, 1).expect(&rt, "refused");
+    let runnable = push(rt, alloc, &mut group, 7);
     let handle = group.abort_handle(0).expect(&rt, "refused");
-    shown(&rt, alloc, &handle)
+    run(runnable);
+    let full = shows(&rt, alloc, &group, "TaskGroup { len: 1, .. }");
+    let ended = group.next().expect(&rt, "refused");
+    [
+        full,
+        shows(
+            &rt,
+            alloc,
+            &handle,
+            "AbortHandle { id: MemberId { number: 0, generation: 0 }, .. }",
+        ),
+        shows(
+            &rt,
+            alloc,
+            &ended,
+            "Some(Ended { number: 0, answer: Ok(7) })",
+        ),
+    ]
 }
 
 #[test]
-fn an_abort_handle_is_shown(rt: HostRuntime) {
-    let text = show_abort_handle(rt, rt.alloc());
-    assert!(rt; text.as_str() == "AbortHandle { id: MemberId { number: 0, generation: 0 }, .. }");
+fn a_group_its_handle_and_its_members_are_shown(rt: HostRuntime) {
+    assert!(rt; shows_group(rt, rt.alloc()) == [true; 3]);
 }
 
-#[test]
-fn a_full_group_says_so(rt: HostRuntime) {
+// A group that is full, and a spawn that was refused memory.
+fn groups_say<R: Abort>(rt: &R, alloc: Global) -> [bool; 4] {
     let full = GroupFull { task: 5u64 };
     let spawn = GroupSpawnError {
         is_full: false,
         future: 1u64,
         schedule: 2u64,
     };
-    let texts = (
-        shown(&rt, rt.alloc(), &full),
-        shown(&rt, rt.alloc(), &spawn),
-    );
-    assert!(rt; texts.0.as_str() == "GroupFull");
-    assert!(rt; texts.1.as_str() == "GroupSpawnError { is_full: false, .. }");
-    assert!(rt; says(&rt, rt.alloc(), full, "the group is full"));
-    assert!(rt; says(&rt, rt.alloc(), spawn, "no memory for the task"));
+    [
+        shows(rt, alloc, &full, "GroupFull"),
+        shows(rt, alloc, &spawn, "GroupSpawnError { is_full: false, .. }"),
+        says(rt, alloc, full, "the group is full"),
+        says(rt, alloc, spawn, "no memory for the task"),
+    ]
 }
 
-#[test]
-fn a_wait_that_is_refused_says_why(rt: HostRuntime) {
+// A wait that is refused.
+fn waits_say<R: Abort>(rt: &R, alloc: Global) -> [bool; 5] {
     let refused = "the poll of a member was refused its awaiter";
     let late = "no member had ended at the deadline";
-    assert!(rt; says(&rt, rt.alloc(), TaskClosed, "the task is closed"));
-    assert!(rt; says(&rt, rt.alloc(), BlockOnError::Closed, "the task is closed"));
-    assert!(rt; says(&rt, rt.alloc(), AwaiterRefused, refused));
-    assert!(rt; says(&rt, rt.alloc(), NextUntilError::Refused, refused));
-    assert!(rt; says(&rt, rt.alloc(), NextUntilError::Elapsed, late));
+    [
+        says(rt, alloc, TaskClosed, "the task is closed"),
+        says(rt, alloc, BlockOnError::Closed, "the task is closed"),
+        says(rt, alloc, AwaiterRefused, refused),
+        says(rt, alloc, NextUntilError::Refused, refused),
+        says(rt, alloc, NextUntilError::Elapsed, late),
+    ]
+}
+
+// A future of the kit that has no output, and one that was refused memory.
+fn bridges_say<R: Abort>(rt: &R, alloc: Global) -> [bool; 4] {
+    let refused = AwaitsRefused { task: 5u64 };
+    [
+        says(rt, alloc, AwaitError::Closed, "the task is closed"),
+        says(rt, alloc, AwaitError::Refused, "the awaiter was refused"),
+        shows(rt, alloc, &refused, "AwaitsRefused"),
+        io_text(rt, alloc, refused) == io_text(rt, alloc, AllocError),
+    ]
 }
 
 #[test]
-fn a_future_of_the_kit_says_why_it_has_no_output(rt: HostRuntime) {
-    let refused = AwaitsRefused { task: 5u64 };
-    let text = shown(&rt, rt.alloc(), &refused);
-    assert!(rt; says(&rt, rt.alloc(), AwaitError::Closed, "the task is closed"));
-    assert!(rt;
-        says(
-            &rt,
-            rt.alloc(),
-            AwaitError::Refused,
-            "the awaiter was refused"
-        )
-    );
-    assert!(rt;
-        text.as_str() == "AwaitsRefused"
-            && io_text(&rt, rt.alloc(), refused) == io_text(&rt, rt.alloc(), AllocError)
-    );
+fn errors_say_why(rt: HostRuntime) {
+    assert!(rt; groups_say(&rt, rt.alloc()) == [true; 4]);
+    assert!(rt; waits_say(&rt, rt.alloc()) == [true; 5]);
+    assert!(rt; bridges_say(&rt, rt.alloc()) == [true; 4]);
 }
