@@ -11,8 +11,6 @@ use Rattle.task_replay.specs.declared.line.SlotEdit.TheVariants as edit
 use Rattle.task_replay.specs.declared.line.Next.{Next}
 use Rattle.task_replay.specs.declared.line.Next.TheVariants as next
 use Rattle.task_replay.specs.declared.line.Line.{Line}
-use Rattle.task_replay.specs.declared.line.Way.{Way}
-use Rattle.task_replay.specs.declared.line.Way.TheVariants as way
 
 -- what a line asks
 abbrev pub guard_of : Guard → table.Guard
@@ -50,14 +48,6 @@ next_of (next.LooksFirst i) = table.LooksFirst i
 next_of (next.LooksAgain i) = table.LooksAgain i
 next_of (next.StoresOver i) = table.StoresOver i
 next_of (next.Releases way) = table.Releases way
-
--- the line of a way
-abbrev pub line_on : Way → Line
-line_on (way.Goes p) = (guard.Always, edit.KeepsSlots, next.MovesTo p, None)
-line_on (way.GoesOn n) = (guard.Always, edit.KeepsSlots, n, None)
-line_on (way.Asks g p) = (g, edit.KeepsSlots, next.MovesTo p, None)
-line_on (way.Changes e p) = (guard.Always, e, next.MovesTo p, None)
-line_on (way.Does l) = l
 
 -- a party, or none, as a list
 abbrev pub listed : Option Position → List Position
