@@ -8,6 +8,7 @@ use Rattle.task_core.specs.declared.traits.Poll.{Poll}
 use Rattle.task_core.specs.declared.traits.Poll.TheVariants.{Pending as Unready, Ready as Answered}
 use Rattle.task_cell.specs.RunPaths.{finds_closed as closed_path, answers_ready, answers_pending}
 use Rattle.task_cell.proofs.Moved as moved
+use Rattle.task_core.specs.Word.{HasRoom}
 
 module _ {F T A : Type 0} where
   -- what a run has done that is not polled
@@ -53,7 +54,7 @@ module _ {F T A : Type 0} where
   noted_ready held p q w v x (notes_ready y g) is = g
   noted_ready held p q w v x (notes_pending room a) is = absurd (cc)
 
-  pub noted_pending : {O : Type 0} (held : List (ℕ × Slot F T A)) (p q : Party F T A) (w : State) (v : Poll O) → NotesAnswer held p q w v → v ≡ Unready → (w.references < 72057594037927935) × AnswersPending held p q w.closed
+  pub noted_pending : {O : Type 0} (held : List (ℕ × Slot F T A)) (p q : Party F T A) (w : State) (v : Poll O) → NotesAnswer held p q w v → v ≡ Unready → HasRoom w × AnswersPending held p q w.closed
   noted_pending held p q w v (notes_ready y g) is = absurd (cc)
   noted_pending held p q w v (notes_pending room a) is = (room, a)
 

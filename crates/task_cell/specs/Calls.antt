@@ -2,7 +2,7 @@
 use Rattle.std.specs.Prelude.{◌≡◌, ◌<◌, ℕ, List, [], ◌∷◌, Bool, true, false, Option, Some, None}
 use Rattle.atomic_table.specs.Table.{Me, Allows, Splits}
 use Rattle.counted_block.specs.Counts.{Same, More, Less, Notes}
-use Rattle.task_core.specs.Word.{State, state_of}
+use Rattle.task_core.specs.Word.{HasRoom, State, state_of}
 use Rattle.task_core.specs.Rows.{found}
 use Rattle.task_core.specs.declared.acts.Act.{Act}
 use Rattle.task_laws.specs.declared.positions.Position.{Position}
@@ -89,7 +89,7 @@ module _ {F T A : Type 0} where
   pub record Sees (w : State) (p q : Party F T A) : Type 0 where
     pub cell : q.seat.block ≡ p.seat.block
     pub number : q.seat.id ≡ p.seat.id
-    pub room : w.references < 72057594037927935
+    pub room : HasRoom w
     pub seen : HasSeen w p.seat.me q.seat.me
 
   abbrev pub Did : List Deed → Position → Party F T A → Party F T A → Type 0

@@ -1,6 +1,6 @@
 -- What the steps of a run and of a Runnable's drop come to.
 use Rattle.std.specs.Prelude.{◌≡◌, ◌<◌, ℕ, ◌||◌, nat_lt, Bool, true, false, List, [], ◌∷◌, Option, Some, None, Result, Ok, Err, is_some}
-use Rattle.task_core.specs.Word.{State}
+use Rattle.task_core.specs.Word.{HasRoom, State}
 use Rattle.task_laws.specs.declared.positions.Answer.{Answer}
 use Rattle.task_laws.specs.declared.positions.Position.TheVariants.{At, AwaiterInHand, Deliverer, Emptier, Pending, PendingFutureDropped}
 use Rattle.task_laws.specs.declared.positions.Position.TheVariants.{OutputInHand, Ready}
@@ -62,7 +62,7 @@ module _ {F T A : Type 0} where
   -- what a poll answered was written down, on this word
   pub data NotesAnswer {O : Type 0} (held : List (ℕ × Slot F T A)) (p q : Party F T A) (w : State) : Poll O → Type 0 where
     notes_ready : (x : O) → DidWith (act AnswerReady ∷ []) Ready held p q → NotesAnswer held p q w (Answered x)
-    notes_pending : w.references < 72057594037927935 → AnswersPending held p q w.closed → NotesAnswer held p q w Unready
+    notes_pending : HasRoom w → AnswersPending held p q w.closed → NotesAnswer held p q w Unready
 
   -- a run has ended without an output, or has found the task closed
   pub data EndsPending (held : List (ℕ × Slot F T A)) (p q : Party F T A) : Option PendingEnd → Type 0 where

@@ -10,11 +10,11 @@ use std::sync::Wait;
 use task_core::{Wake, Yields};
 use task_steps::table::{Kept, TaskSeat, discard};
 
-/// What all handles of a task see: the schedule value, the metadata, the limit of references and the allocator. It lies in one block with the word and the places.
+/// What all handles of a task see: the metadata, the schedule value, the limit of references, the runtime value and the allocator, which are dropped in this order. It lies in one block with the word and the places.
 #[derive(Drop)]
 pub struct Cell<R, Q, M, B = Global> {
-    pub(crate) schedule: Q,
     pub(crate) metadata: M,
+    pub(crate) schedule: Q,
     pub(crate) limit: u64,
     pub(crate) rt: R,
     pub(crate) alloc: B,

@@ -9,6 +9,7 @@ use Rattle.task_steps.specs.Rule.{deed, view, fresh, found_by, opening_at, lende
 use Rattle.task_steps.proofs.Explains.{next_machine, at_append, joined_by}
 use Rattle.task_steps.proofs.Facts.{law, low, many_next}
 use Rattle.task_steps.proofs.Seats.{just, retold}
+use Rattle.task_core.specs.Word.{HasRoom}
 
 -- the lender stays at rest, and adds a lent waker
 abbrev lent_by : Machine → Outcome
@@ -33,7 +34,7 @@ module _ (F T A : Type 0) (limit : ℕ) where
   }
 
   -- whoever reads the word may have a lent waker
-  pub enters : (slots : ℕ) → Enters Rule slots 0 (λ n w. (came w ≡ came (view limit (fresh (At Lent) ∷ []))) × ((state_of n).references < 72057594037927935))
+  pub enters : (slots : ℕ) → Enters Rule slots 0 (λ n w. (came w ≡ came (view limit (fresh (At Lent) ∷ []))) × HasRoom (state_of n))
   enters slots s r homes fits = let run = r.running in let m : Machine = run.machine in let w : View = view limit (fresh (At Lent) ∷ []) in let N : Machine = next_machine m lender (At Lent) (lent_by m) in (
     w,
     retold F T A limit s r.capped run (s.views ++ w ∷ []) (record { party = lender; deed = deed Look (found_by Look m.word); parties = length m.parties } ∷ run.log) N
@@ -44,6 +45,6 @@ module _ (F T A : Type 0) (limit : ℕ) where
         (at_append s.views (w ∷ []) j v e)),
     (
       refl,
-      subst (λ (v : State). v.references < 72057594037927935) (sym (state_of_number_of m.word) ∙ ap state_of (sym run.word_is)) (let h = low m (law limit run.log m run.told.reaches) in let e = run.limited in let c = r.capped in omega arith),
+      subst HasRoom (sym (state_of_number_of m.word) ∙ ap state_of (sym run.word_is)) (let h = low m (law limit run.log m run.told.reaches) in let e = run.limited in let c = r.capped in omega arith),
     ),
   )

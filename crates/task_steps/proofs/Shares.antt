@@ -19,6 +19,7 @@ use Rattle.task_steps.proofs.Numbers.{same_word}
 use Rattle.task_steps.proofs.Acts.{leads_word}
 use Rattle.task_steps.proofs.Advance.{Finds, Steps}
 use Rattle.task_steps.proofs.Allowed.{Owes, OwesChange, makes_change, finds_trying}
+use Rattle.task_core.specs.Word.{HasRoom}
 
 -- so many shares belong to a word
 abbrev pub shares_of : State → ℕ
@@ -44,7 +45,7 @@ Brings b before after = (b ≡ false) × (after ≡ before) ⊎ (b ≡ true) × 
 abbrev pub Gives : Bool → ℕ → ℕ → Type 0
 Gives b before after = (b ≡ false) × (after ≡ before) ⊎ (b ≡ true) × (after + 1 ≡ before)
 
-below : (w : State) → w.references < 72057594037927935 → number_of w < 18446744073709551616
+below : (w : State) → HasRoom w → number_of w < 18446744073709551616
 below w h = let h1 = bit_le w.scheduled in let h2 = bit_le w.running in let h3 = bit_le w.completed in let h4 = bit_le w.closed in let h5 = bit_le w.task in let h6 = bit_le w.awaiter in let h7 = bit_le w.registering in let h8 = bit_le w.notifying in omega arith
 
 -- an exchange that was made counts by its change, and one that missed changes nothing

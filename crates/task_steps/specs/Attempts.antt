@@ -3,7 +3,7 @@ use Rattle.std.specs.Prelude.{◌≡◌, ◌≢◌, ◌<◌, ℕ, ◌+◌, ◌==
 use mathlib.Core.Option.{none}
 use prog.Atomic.{either}
 use Rattle.atomic_table.specs.Table.{Me, Step, step, Allows}
-use Rattle.task_core.specs.Word.{State, state_of, number_of}
+use Rattle.task_core.specs.Word.{HasRoom, State, state_of, number_of}
 use Rattle.task_steps.specs.declared.attempt.TriedOnce.{TriedOnce}
 use Rattle.task_steps.specs.declared.attempt.TriedOnce.TheVariants.{Made, Ended, Again}
 use Rattle.task_steps.specs.declared.table.Slot.{Slot}
@@ -83,7 +83,7 @@ module _ {F T A : Type 0} where
   abbrev pub HasTried : {Row M K : Type 0} → ℕ → Attempt Row → TriedOnce Row M K → Me (Slot F T A) View → Me (Slot F T A) View → Type 0
   HasTried limit a (Made row m) me me' = HasChanged limit a row me me'
   HasTried limit a (Ended w k) me me' = HasEnded limit a w me me'
-  HasTried limit a (Again w k) me me' = (w.references < 72057594037927935) × HasSeen w me me'
+  HasTried limit a (Again w k) me me' = HasRoom w × HasSeen w me me'
 
 -- where it was made, or was not, this holds of what is answered
 abbrev pub IfMade : {Row M K : Type 0} → TriedOnce Row M K → (Row → M → Type 0) → (K → Type 0) → Type 0

@@ -1,7 +1,7 @@
 -- What a waker may do, and what its seat knows after it.
 use Rattle.std.specs.Prelude.{ℕ, ◌<◌, Bool, true, false, List, [], ◌∷◌, ◌≡◌}
 use Rattle.atomic_table.specs.Table.{Me, Step}
-use Rattle.task_core.specs.Word.{state_of}
+use Rattle.task_core.specs.Word.{HasRoom, state_of}
 use Rattle.task_laws.specs.declared.positions.Position.TheVariants.{At}
 use Rattle.task_laws.specs.declared.positions.Rest.{Rest}
 use Rattle.task_laws.specs.declared.positions.Rest.TheVariants.{Waker, Lent}
@@ -19,7 +19,7 @@ may_call _ = false
 module _ {F T A : Type 0} where
   -- who has a waker by reference gets a party of its own, and the count of the word that it finds has room for one more
   abbrev pub borrowing : Step (Slot F T A) → Me (Slot F T A) View → ℕ → Me (Slot F T A) View → Type 0
-  borrowing st m r m' = (m' ≡ (view m.0.limit (fresh (At Lent) ∷ []), [])) × ((state_of r).references < 72057594037927935)
+  borrowing st m r m' = (m' ≡ (view m.0.limit (fresh (At Lent) ∷ []), [])) × HasRoom (state_of r)
 
 -- all but the newest party
 abbrev pub others : List Member → List Member

@@ -1,7 +1,7 @@
 -- What a party knows of the word that it finds, by what it has seen before.
 use Rattle.std.specs.Prelude.{◌≡◌, ℕ, ◌<◌, true, false, List}
 use Rattle.atomic_table.specs.Table.{Me, Step}
-use Rattle.task_core.specs.Word.{State, state_of, is_open}
+use Rattle.task_core.specs.Word.{HasRoom, State, state_of, is_open}
 use Rattle.task_core.specs.declared.acts.Act.{Act}
 use Rattle.task_steps.specs.declared.table.Slot.{Slot}
 use Rattle.task_steps.specs.declared.table.Deed.{Deed}
@@ -14,7 +14,7 @@ pub record Knows (ds : List Deed) (w : State) : Type 0 where
   pub over : saw_over ds ≡ true → is_open w ≡ false
   pub closed : saw_closed ds ≡ true → w.closed ≡ true
   pub ended : saw_ended ds ≡ true → has_ended w ≡ true
-  pub room : w.references < 72057594037927935
+  pub room : HasRoom w
 
 module _ {F T A : Type 0} where
   -- what a step tells that always makes its acts, and what is known of the word that it finds

@@ -1,5 +1,6 @@
 //! Changes of the word that are tried until they are made, by compare and exchange.
 ghost use Rattle.std.specs.Prelude.{◌≡◌, ◌<◌};
+ghost use Rattle.task_core.specs.Word.{HasRoom};
 ghost use Rattle.task_steps.specs.Attempt.{Attempt, next_of, counts_on};
 ghost use Rattle.task_steps.specs.Attempts.{observed, attempted};
 ghost use Rattle.task_steps.specs.Shares.{counted};
@@ -18,7 +19,7 @@ pub trait Change {
 
     /// The word to write on this one, and its row, or `None` where the change can't be made on it. `limit` is the limit of references.
     fn next(word: Word, limit: u64) -> Option<(Word, Self::Row)>
-        requires room { word.references < 72057594037927935 }
+        requires room { HasRoom word }
         ensures { result ≡ next_of Self.attempt limit word };
 
     /// Whether this word ends the attempt.

@@ -2,7 +2,7 @@
 //!
 //! One try cannot wait, and the loop may. After a call that may wait the compiler tests whether it has to stop, at each function in between. So a call that is to be fast begins with one try, and the loop is a function of its own, marked as rare.
 ghost use Rattle.std.specs.Prelude.{◌≡◌, ◌<◌, not, IfOk, IfErr, Option, None, false, ⊤};
-ghost use Rattle.task_core.specs.Word.{State};
+ghost use Rattle.task_core.specs.Word.{HasRoom, State};
 ghost use Rattle.task_steps.specs.declared.table.Tries.{Tries};
 ghost use Rattle.task_steps.specs.Attempts.{Names, having_seen, MayTry, HasChanged, HasEnded, HasSeen, HasTried, IfMade};
 ghost use Rattle.task_steps.specs.Shares.{MayBring, MayGive};
@@ -25,7 +25,7 @@ impl<R: Drop, F: Yields, Q: Drop, M: Drop, A: Drop, B: Allocator + Copy> Share<R
         requires seen { (t : Option Tries) × (party.old.seat.me.0 ≡ having_seen t party.old.seat.me.0) }
         requires allowed { MayTry (limit_in self.now) 3 party.old.seat.id party.old.seat.me P.attempt }
         ensures seat { (party.new.seat.block ≡ party.old.seat.block) × (party.new.seat.id ≡ party.old.seat.id) }
-        ensures again { IfOk result (λ w. (w.references < 72057594037927935) × HasSeen w party.old.seat.me party.new.seat.me) }
+        ensures again { IfOk result (λ w. HasRoom w × HasSeen w party.old.seat.me party.new.seat.me) }
         ensures ended { IfErr result (λ w. HasEnded (limit_in self.now) P.attempt w party.old.seat.me party.new.seat.me) }
     {
         let word = Word::from_bits(self.block.load::<Observing<P>>(&mut party.seat));
@@ -45,7 +45,7 @@ impl<R: Drop, F: Yields, Q: Drop, M: Drop, A: Drop, B: Allocator + Copy> Share<R
     ) -> TriedOnce<P::Row, MaybeShare<R, F, Q, M, A, B>, ()>
         requires cell { IsOf self.now party.old }
         requires limit { (w : State) → P.attempt.ends party.old.seat.me.0.limit w ≡ P.attempt.ends (limit_in self.now) w }
-        requires room { word.references < 72057594037927935 }
+        requires room { HasRoom word }
         requires seen { (t : Option Tries) × Names word t × (party.old.seat.me.0 ≡ having_seen t party.old.seat.me.0) }
         requires allowed { MayTry (limit_in self.now) 3 party.old.seat.id party.old.seat.me P.attempt }
         requires shares { MayBring (limit_in self.now) party.old.seat.id party.old.seat.me P.attempt }
@@ -80,7 +80,7 @@ impl<R: Drop, F: Yields, Q: Drop, M: Drop, A: Drop, B: Allocator + Copy> Share<R
     ) -> TriedOnce<P::Row, MaybeShare<R, F, Q, M, A, B>, Self>
         requires cell { IsOf self party.old }
         requires limit { (w : State) → P.attempt.ends party.old.seat.me.0.limit w ≡ P.attempt.ends (limit_in self) w }
-        requires room { word.references < 72057594037927935 }
+        requires room { HasRoom word }
         requires seen { (t : Option Tries) × Names word t × (party.old.seat.me.0 ≡ having_seen t party.old.seat.me.0) }
         requires allowed { MayTry (limit_in self) 3 party.old.seat.id party.old.seat.me P.attempt }
         requires shares { MayGive (limit_in self) party.old.seat.id party.old.seat.me P.attempt }
@@ -124,7 +124,7 @@ impl<R: Wait + Drop + Copy, F: Yields, Q: Drop, M: Drop, A: Drop, B: Allocator +
     ) -> Result<(P::Row, MaybeShare<R, F, Q, M, A, B>), Word>
         requires cell { IsOf self.now party.old }
         requires limit { (w : State) → P.attempt.ends party.old.seat.me.0.limit w ≡ P.attempt.ends (limit_in self.now) w }
-        requires room { word.references < 72057594037927935 }
+        requires room { HasRoom word }
         requires seen { (t : Option Tries) × Names word t × (party.old.seat.me.0 ≡ having_seen t party.old.seat.me.0) }
         requires allowed { MayTry (limit_in self.now) 3 party.old.seat.id party.old.seat.me P.attempt }
         requires shares { MayBring (limit_in self.now) party.old.seat.id party.old.seat.me P.attempt }
@@ -152,7 +152,7 @@ impl<R: Wait + Drop + Copy, F: Yields, Q: Drop, M: Drop, A: Drop, B: Allocator +
     ) -> Result<(P::Row, MaybeShare<R, F, Q, M, A, B>), Word>
         requires cell { IsOf self.now party.old }
         requires limit { (w : State) → P.attempt.ends party.old.seat.me.0.limit w ≡ P.attempt.ends (limit_in self.now) w }
-        requires room { word.references < 72057594037927935 }
+        requires room { HasRoom word }
         requires seen { (t : Option Tries) × Names word t × (party.old.seat.me.0 ≡ having_seen t party.old.seat.me.0) }
         requires allowed { MayTry (limit_in self.now) 3 party.old.seat.id party.old.seat.me P.attempt }
         requires shares { MayBring (limit_in self.now) party.old.seat.id party.old.seat.me P.attempt }
@@ -222,7 +222,7 @@ impl<R: Wait + Drop + Copy, F: Yields, Q: Drop, M: Drop, A: Drop, B: Allocator +
     ) -> Result<(P::Row, MaybeShare<R, F, Q, M, A, B>), (Word, Self)>
         requires cell { IsOf self party.old }
         requires limit { (w : State) → P.attempt.ends party.old.seat.me.0.limit w ≡ P.attempt.ends (limit_in self) w }
-        requires room { word.references < 72057594037927935 }
+        requires room { HasRoom word }
         requires seen { (t : Option Tries) × Names word t × (party.old.seat.me.0 ≡ having_seen t party.old.seat.me.0) }
         requires allowed { MayTry (limit_in self) 3 party.old.seat.id party.old.seat.me P.attempt }
         requires shares { MayGive (limit_in self) party.old.seat.id party.old.seat.me P.attempt }
@@ -256,7 +256,7 @@ impl<R: Wait + Drop + Copy, F: Yields, Q: Drop, M: Drop, A: Drop, B: Allocator +
     ) -> Result<(P::Row, MaybeShare<R, F, Q, M, A, B>), (Word, Self)>
         requires cell { IsOf self party.old }
         requires limit { (w : State) → P.attempt.ends party.old.seat.me.0.limit w ≡ P.attempt.ends (limit_in self) w }
-        requires room { word.references < 72057594037927935 }
+        requires room { HasRoom word }
         requires seen { (t : Option Tries) × Names word t × (party.old.seat.me.0 ≡ having_seen t party.old.seat.me.0) }
         requires allowed { MayTry (limit_in self) 3 party.old.seat.id party.old.seat.me P.attempt }
         requires shares { MayGive (limit_in self) party.old.seat.id party.old.seat.me P.attempt }

@@ -1,5 +1,6 @@
 //! The ends of a run whose poll has answered.
 ghost use Rattle.std.specs.Prelude.{◌≡◌, ◌<◌, ℕ, ◌∷◌, [], List, Bool, true, not, IfOk, IfErr};
+ghost use Rattle.task_core.specs.Word.{HasRoom};
 ghost use Rattle.task_laws.specs.declared.positions.Position.TheVariants.{Polling, Ready, Pending, PendingFutureDropped, OutputInHand};
 ghost use Rattle.task_laws.specs.declared.positions.NotifyingCall.TheVariants.{OfRun};
 ghost use Rattle.task_core.specs.declared.acts.Act.TheVariants.{AnswerReady, DropOutput, EndClosed};
@@ -47,7 +48,7 @@ impl<R: Wait + Drop + Copy, F: Yields, Q: Drop, M: Drop, A: Drop, B: Allocator +
     pub(crate) fn answer_pending(&self, party: &mut Party<F, Kept<F>, A>) -> Word
         requires cell { IsOf self.now party.old }
         requires party { (held : List (ℕ × Slot F _ A)) × StandsWith Polling held party.old }
-        ensures room { result.references < 72057594037927935 }
+        ensures room { HasRoom result }
         ensures path { (held : List (ℕ × Slot F _ A)) → StandsWith Polling held party.old → AnswersPending held party.old party.new result.closed }
     {
         self.load::<AnsweringPending>(party)
@@ -103,7 +104,7 @@ impl<R: Wait + Drop + Copy, F: Yields, Q: Drop, M: Drop, A: Drop, B: Allocator +
         word: Word,
     ) -> Result<(PendingEnd, MaybeShare<R, F, Q, M, A, B>), Self>
         requires cell { IsOf self party.old × (limit_of party.old ≡ limit_in self) }
-        requires room { word.references < 72057594037927935 }
+        requires room { HasRoom word }
         requires party { (y : Slot F _ A) × StandsWith Pending (future_first y []) party.old × IsFuture y }
         ensures path { (y : Slot F _ A) → StandsWith Pending (future_first y []) party.old → EndsPending (future_first y []) party.old party.new (end_of result) }
         ensures share { IfOk result (λ r. Leaves self r.1 (not (ends_run r.0))) }

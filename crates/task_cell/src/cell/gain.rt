@@ -1,5 +1,6 @@
 //! Gaining a reference for a new waker.
 ghost use Rattle.std.specs.Prelude.{◌≡◌, ◌<◌, List, [], ◌∷◌, IfSome, is_some};
+ghost use Rattle.task_core.specs.Word.{HasRoom};
 ghost use Rattle.task_steps.specs.Rule.{view, fresh};
 ghost use Rattle.task_steps.specs.declared.table.Deed.{Deed};
 ghost use Rattle.task_cell.specs.Belongs.{HasMade, IsOf, cell_of, limit_in};
@@ -32,7 +33,7 @@ impl<R: Wait + Drop + Copy, F: Yields, Q: Drop, M: Drop, A: Drop, B: Allocator +
         word: Word,
     ) -> Option<(Self, Party<F, Kept<F>, A>)>
         requires cell { IsOf self.now party.old × (limit_of party.old ≡ limit_in self.now) }
-        requires room { word.references < 72057594037927935 }
+        requires room { HasRoom word }
         requires party { Stands as_lent party.old }
         ensures path { Gains (limit_in self.now) party.old party.new (second result) }
         ensures share { IfSome result (λ gained. cell_of gained.0 ≡ cell_of self.now) }

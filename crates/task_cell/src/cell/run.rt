@@ -1,5 +1,6 @@
 //! The steps of a run and of a Runnable's drop.
 ghost use Rattle.std.specs.Prelude.{◌≡◌, ◌<◌, ℕ, ◌∷◌, []};
+ghost use Rattle.task_core.specs.Word.{HasRoom};
 ghost use Rattle.task_laws.specs.declared.positions.WithoutPoll.TheVariants.{ClosedRun};
 ghost use Rattle.task_laws.specs.declared.positions.WithoutPoll.{WithoutPoll};
 ghost use Rattle.task_laws.specs.declared.positions.Position.TheVariants.{FutureInHand, Ready, PendingFutureDropped};
@@ -129,7 +130,7 @@ impl<R: Wait + Drop + Copy, F: Yields, Q: Drop, M: Drop, A: Wake, B: Allocator +
     where
         Q: Schedule<Runnable<R, F, Q, M, A, X, B>>,
         requires cell { IsOf self party.old × (limit_of party.old ≡ limit_in self) }
-        requires room { found.references < 72057594037927935 }
+        requires room { HasRoom found }
         requires party { (p : _) × (y : Slot F _ A) × AnswersPending (future_first y []) p party.old found.closed × IsFuture y }
         ensures { (p : _) (y : Slot F _ A) → AnswersPending (future_first y []) p party.old found.closed → EndsUnready ((a : A) × A.woken a) (HandedOver Q.scheduled (cell_of self) around) result p party.new }
     {

@@ -1,5 +1,6 @@
 //! Waking the task, and the party that each call by a reference to a handle gets, by a load of the word.
 ghost use Rattle.std.specs.Prelude.{◌≡◌, ◌<◌, [], ◌∷◌, IfSome, IfOk, IfErr};
+ghost use Rattle.task_core.specs.Word.{HasRoom};
 ghost use Rattle.task_steps.specs.Rule.{view, fresh};
 ghost use Rattle.task_steps.specs.Attempts.{HasChanged};
 ghost use Rattle.task_steps.specs.Standing.{as_lent};
@@ -22,7 +23,7 @@ impl<R: Drop, F: Yields, Q: Drop, M: Drop, A: Drop, B: Allocator + Copy> Share<R
     #[inline(always)]
     pub(crate) fn borrow(&self) -> (Word, Party<F, Kept<F>, A>)
         ensures cell { IsOf self.now result.1 }
-        ensures room { result.0.references < 72057594037927935 }
+        ensures room { HasRoom result.0 }
         ensures party { result.1.seat.me ≡ (view (limit_in self.now) (fresh as_lent ∷ []), []) }
     {
         let (found, seat) = self.block.load_new_seat::<Borrowing>();

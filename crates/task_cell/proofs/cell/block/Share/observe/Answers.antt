@@ -1,6 +1,7 @@
 use Rattle.task_cell.proofs.Vocabulary.{sym, refl, ap, ◌∙◌, subst, ◌<◌, State}
 use Rattle.task_cell.proofs.Attempts.{seen_word, seeing_any, may_load, seeing_next, ends_at, ended}
 use Rattle.task_cell.proofs.cell.block.Share.observe.Goals as goal
+use Rattle.task_core.specs.Word.{HasRoom}
 
 pub load-requires-clause-allowed : goal.load-requires-clause-allowed
 load-requires-clause-allowed g c = let s = c.requires.seen in let self = c.args.self.now in
@@ -14,7 +15,7 @@ returns-then-is_end-clause-ended g c = let s = c.requires.seen in let self = c.a
 
 pub returns-else-is_end-clause-again : goal.returns-else-is_end-clause-again
 returns-else-is_end-clause-again g c = let s = c.requires.seen in let self = c.args.self.now in let seeing = seeing_any c.args.party.now.seat.me s.0 s.1 in let e = c.load.ensures in let limit = ap (λ x. x.limit) c.cell.ensures ∙ sym self.fitting.0 in let w = c.from_bits-word.result in (
-  subst (λ (w : State). w.references < 72057594037927935) (sym c.from_bits-word.ensures) e.2.2.room,
+  subst HasRoom (sym c.from_bits-word.ensures) e.2.2.room,
   seeing_next _ (seen_word s.0) w _ _ _ seeing c.from_bits-word.ensures
       (e.2.1 (ends_at g.P.Change.attempt.ends _ _ (seen_word s.0) _ _ _ _ c.requires.limit seeing c.from_bits-word.ensures (sym (c.is_end.ensures ∙ ap (λ l. g.P.Change.attempt.ends l w) limit) ∙ c.if-is_end.false))),
 )

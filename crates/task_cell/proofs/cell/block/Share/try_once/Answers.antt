@@ -1,6 +1,7 @@
 use Rattle.task_cell.proofs.Vocabulary.{◌<◌, sym, refl, ap, ◌∙◌, subst, State, number_of}
 use Rattle.task_cell.proofs.Attempts.{answered, changed_by, counts_made, counts_missed, seeing_first, seeing_missed, may_exchange, may_more}
 use Rattle.task_cell.proofs.cell.block.Share.try_once.Goals as goal
+use Rattle.task_core.specs.Word.{HasRoom}
 
 pub observe-requires-clause-seen : goal.observe-requires-clause-seen
 observe-requires-clause-seen g c = let s = c.requires.seen in (s.0, s.2)
@@ -33,6 +34,6 @@ none-requires g c = record { there = c.gain_at-found.ensures.share.is_there ∙ 
 
 pub returns-clause-tried : goal.returns-clause-tried
 returns-clause-tried g c = let s = c.requires.seen in let e = c.gain_at-found.ensures.seat.2 in (
-  subst (λ (w : State). w.references < 72057594037927935) (sym c.from_bits.ensures) e.2.room,
+  subst HasRoom (sym c.from_bits.ensures) e.2.room,
   seeing_missed _ c.args.word c.from_bits.result _ _ _ (seeing_first c.args.word c.args.party.now.seat.me s.0 s.1 s.2) c.from_bits.ensures (e.1 (λ h. c.if-found-bits.false (h ∙ (c.bits.ensures ∙ sym c.bits-3.ensures)))),
 )
