@@ -299,8 +299,9 @@ class Definitions:
                     name, patterns, body = Parser(item).equation()
                     self.equations.setdefault(name, []).append((patterns, body))
 
+    @functools.lru_cache(maxsize=None)
     def __call__(self, name, *arguments):
-        """What the first equation that fits the arguments comes to."""
+        """What the first equation that fits the arguments comes to. Most calls are made again, so what they come to is kept."""
         heads = tuple(value[0] if isinstance(value, tuple) else None for value in arguments)
         for patterns, body in self.candidates(name, heads):
             scope = {}
@@ -400,14 +401,17 @@ class Exploration:
         outcome = self.definitions("rule", scene, (act,), position)
         return dict(outcome[1]) if outcome[0] == "Some" else None
 
+    @functools.lru_cache(maxsize=None)
+    def moves(self, scene, position):
+        """The acts that the table allows, and what each leaves. The Task begins no more than so many polls."""
+        outcomes = ((act, self.outcome(scene, act, position)) for act in self.acts)
+        return [(act, left) for act, left in outcomes if left and ("TaskPollBegins", POLLS + 1) not in items_of(left["told"])]
+
     def follow(self, state):
         """The new states after one step of one party."""
         word, slots, parties = state
         scene, new = self.scene(word, slots), []
-        for party, act in ((party, act) for party in sorted(set(parties)) for act in self.acts):
-            left = self.outcome(scene, act, party)
-            if left is None or ("TaskPollBegins", POLLS + 1) in items_of(left["told"]):
-                continue
+        for party, act, left in ((party, *move) for party in sorted(set(parties)) for move in self.moves(scene, party)):
             self.steps.add((act, role(self.definitions, party), word, left["word"]))
             others = list(parties)
             others.remove(party)

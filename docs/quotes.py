@@ -1,6 +1,6 @@
 #!/usr/bin/env python3
 """quotes.py --check compares the code blocks of README.md and of other pages with the files that they are quoted from, and looks for what pages name:
-the tests of docs/API.md, and each name with an underscore on the pages of NAMING. quotes.py FOLDER writes the files below FOLDER as a reader who types
+the tests of docs/API.md, each name with an underscore on the pages of NAMING, and the kit's logic in README.md. quotes.py FOLDER writes the files below FOLDER as a reader who types
 the blocks of README.md and docs/GUIDE.md in would, to try them in another repository.
 
 A block between fences is quoted from the file that the last path in backticks before it names. In README.md and docs/GUIDE.md all blocks of a file, in
@@ -9,6 +9,7 @@ block is some lines. What is indented by four instead, as commands are, is no qu
 """
 import pathlib
 import re
+import subprocess
 import sys
 import textwrap
 
@@ -22,9 +23,11 @@ EXCERPTS = ("docs/EXECUTOR_POOL.md", "crates/executor_parts/KIT.md") + tuple(f"c
 # the pages that name hardly anything but what this repository has, and what they name of the kit
 NAMING = WHOLE + EXCERPTS + (
     "docs/API.md", "docs/ARCHITECTURE.md", "docs/DEVELOPING.md", "docs/EXAMPLES.md",
-    "docs/MACHINE.md", "docs/PROOFS.md", "docs/RULES.md", "crates/rows_program/README.md",
+    "docs/MACHINE.md", "docs/PROOFS.md", "docs/RULES.md", "crates/taskrows/README.md",
     "crates/replay_trace/README.md")
 OF_THE_KIT = {"from_event_fd", "from_raw_fd", "get_mut", "pop_front"}
+# a line of `rt version`: the kit, and the logic that its proofs are of. Kits of one logic judge alike
+KIT = re.compile(r"rattle-kit-\w+ logic (\w+)")
 # a definition of Rust or of a spec, a clause of a contract, a variable; or a field, a parameter or a constructor
 DEFINED = re.compile(
     r"\b(?:fn|struct|enum|trait|mod|const|static|type|let|mut|ghost|requires|ensures|abbrev pub|pub data|pub record)\s+(\w+)"
@@ -84,10 +87,18 @@ def lost_names():
         yield from ((page, name) for name in sorted(names - known))
 
 
+def other_logic():
+    """The line of `rt version`, where README.md has another logic, or none."""
+    here = subprocess.run(["rt", "version"], stdout=subprocess.PIPE, text=True, check=True).stdout.strip()
+    if KIT.findall((HERE / "README.md").read_text(encoding="utf-8")) != KIT.findall(here):
+        yield here
+
+
 def check():
     """Prints what is not as the code has it, and answers whether anything was."""
     wrong = [f"docs/API.md: no test has the name {name}" for name in lost_tests()]
     wrong += [f"{page}: nothing has the name {name}" for page, name in lost_names()]
+    wrong += [f"README.md: `rt version` prints {here}, which is of another logic" for here in other_logic()]
     for page in WHOLE + EXCERPTS:
         for path, blocks in blocks_of(page).items():
             if not agrees(page, path, blocks):

@@ -1,10 +1,10 @@
 //! What rows and tests stand on: futures and schedule values that count what happens to them, a queue, and stores of handles; calls of handles;
 //! what they look at afterwards, as counters, an awaiter, outputs, how a row ended, and what an allocator was asked for; a writer that fails;
-//! and the names of the rows, with what `rows_program` prints of them.
+//! and the names of the rows, with what `taskrows` prints of them.
 //! It stands on `async_task` and `executor_parts`.
 //! A user calls nothing of it; rows and tests do, and `bench_tasks` of the allocator that counts.
 //! Nothing is public only to carry a claim.
-//! The page is that of `rows_program`.
+//! The page is that of `taskrows`.
 #![tactic(auto)]
 
 pub mod behaviour;

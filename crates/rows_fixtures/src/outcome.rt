@@ -2,6 +2,32 @@
 ghost use Rattle.std.specs.Prelude.{◌≡◌, ◌↔◌, IsTrue, false};
 
 use crate::counters::Counts;
+use std::alloc::AllocError;
+use std::fmt;
+
+/// What a row lacks that has no outcome.
+#[derive(Clone, Copy, Debug)]
+pub enum Missing {
+    /// There is no memory for it.
+    Memory,
+    /// No second thread can be started.
+    Thread,
+}
+
+impl From<AllocError> for Missing {
+    fn from(_refused: AllocError) -> Missing {
+        Missing::Memory
+    }
+}
+
+impl fmt::Display for Missing {
+    fn fmt<W: fmt::Write>(&self, f: &mut fmt::Formatter<W>) -> fmt::Result {
+        f.write_str(match self {
+            Missing::Memory => "NO MEMORY",
+            Missing::Thread => "NO THREAD",
+        })
+    }
+}
 
 /// What a row answers.
 #[derive(Clone, Copy, Debug)]

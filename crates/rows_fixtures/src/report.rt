@@ -1,14 +1,13 @@
-//! What the program `rows_program` is asked for, and what it prints.
+//! What the program `taskrows` is asked for, and what it prints.
 ghost use Rattle.std.specs.Prelude.{◌≡◌, ◌==◌, ◌<◌, ◌≤◌, ◌↔◌, if◌then◌else◌, []};
 ghost use Rattle.std.specs.Prelude.{IsTrue, IsSome, IfSome, IfOk, IsOkAnd, codes};
 ghost use Rattle.rows_fixtures.specs.Arguments.{AreTheWord, AskForRows, AskForHelp};
 
-use crate::outcome::Outcome;
+use crate::outcome::{Missing, Outcome};
 use crate::row::Row;
-use std::alloc::AllocError;
 use std::io;
 
-const USAGE: &str = "usage: rows_program [threads | all]";
+const USAGE: &str = "usage: taskrows [threads | all | --help]";
 
 const HELP: &str = "
 Runs worked rows, and prints a line for each. Without arguments these are the rows that need no threads.
@@ -29,7 +28,7 @@ pub fn answer<N, W: io::Write, E: io::Write>(
     err: &mut E,
 ) -> u8
 where
-    N: Fn(Row) -> Result<Outcome, AllocError>,
+    N: Fn(Row) -> Result<Outcome, Missing>,
     requires { N.IsAlwaysCallable run.now }
     ensures status { result ≤ 2 }
     ensures asked { AskForRows args.now → result ≤ 1 }
@@ -53,7 +52,7 @@ pub fn refuse<E: io::Write>(err: &mut E) -> u8
 fn failed<E: io::Write>(error: io::Error, err: &mut E) -> u8
     ensures { result ≡ 1 }
 {
-    let _ = writeln!(err, "rows_program: {error}");
+    let _ = writeln!(err, "taskrows: {error}");
     let _ = err.flush();
     1
 }
@@ -74,7 +73,7 @@ fn try_answer<N, W: io::Write, E: io::Write>(
     err: &mut E,
 ) -> io::Result<u8>
 where
-    N: Fn(Row) -> Result<Outcome, AllocError>,
+    N: Fn(Row) -> Result<Outcome, Missing>,
     requires { N.IsAlwaysCallable run.now }
     ensures asked { AskForRows args.now → IfOk result (λ status. status ≤ 1) }
     ensures help { AskForHelp args.now → IfOk result (λ status. status ≡ 0) }
@@ -125,7 +124,7 @@ fn asked_rows(args: &[String]) -> Option<&'static [Row]>
 // Runs these rows, prints a line for each and the last line, and answers the status.
 fn print_rows<N, W: io::Write>(rows: &[Row], run: &N, out: &mut W) -> io::Result<u8>
 where
-    N: Fn(Row) -> Result<Outcome, AllocError>,
+    N: Fn(Row) -> Result<Outcome, Missing>,
     requires { N.IsAlwaysCallable run.now }
     ensures { IfOk result (λ status. status ≤ 1) }
 {
@@ -150,15 +149,18 @@ fn print_total<W: io::Write>(agreeing: usize, total: usize, out: &mut W) -> io::
 // Prints what a row answered, and says whether it agrees.
 fn print_row<W: io::Write>(
     row: Row,
-    outcome: Result<Outcome, AllocError>,
+    outcome: Result<Outcome, Missing>,
     out: &mut W,
 ) -> io::Result<bool>
     ensures { IfOk result (λ agrees.
         IsTrue agrees ↔ IsOkAnd outcome (λ ended. IsTrue ended.agrees)) }
 {
-    let Ok(outcome) = outcome else {
-        writeln!(out, "{row} NO MEMORY")?;
-        return Ok(false);
+    let outcome = match outcome {
+        Ok(outcome) => outcome,
+        Err(missing) => {
+            writeln!(out, "{row} {missing}")?;
+            return Ok(false);
+        }
     };
     let counts = outcome.counts;
     let mark = if outcome.agrees { "" } else { " FAILED" };

@@ -1,5 +1,5 @@
 //! The tests of tasks that no worked row makes: of their handles, of executors of other kinds and of what awaits tasks; of the block below the cell; and of
-//! what `rows_program` prints and an allocator counts.
+//! what `taskrows` prints and an allocator counts.
 //! It stands on `rows_fixtures`, `executor_parts`, `async_task` and `counted_block`. The pointer over a block alone is public. The page is docs/PROOFS.md, of the block that of `counted_block`.
 #![tactic(auto)]
 

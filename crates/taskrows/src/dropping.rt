@@ -1,6 +1,6 @@
 //! The rows whose schedule value drops each Runnable: their handles carry no surroundings.
 ghost use Rattle.std.specs.Prelude.{IfOk};
-ghost use Rattle.rows_program.specs.Row.{AgreesAt};
+ghost use Rattle.taskrows.specs.Row.{AgreesAt};
 
 use async_task::TaskPoll;
 use rows_fixtures::behaviour::Behaviour;

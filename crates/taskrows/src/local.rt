@@ -1,6 +1,6 @@
 //! The row of a task of one thread.
 ghost use Rattle.std.specs.Prelude.{IfOk};
-ghost use Rattle.rows_program.specs.Row.{AgreesAt};
+ghost use Rattle.taskrows.specs.Row.{AgreesAt};
 
 use async_task::{ScheduleInfo, TaskPoll, Wake};
 use local_task::{LocalTask, Settled, Start};

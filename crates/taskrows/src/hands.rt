@@ -1,6 +1,6 @@
 //! What a row has in its hands: the handles of its tasks, and its awaiters.
 ghost use Rattle.std.specs.Prelude.{IfOk};
-ghost use Rattle.rows_program.specs.Row.{AgreesAt};
+ghost use Rattle.taskrows.specs.Row.{AgreesAt};
 
 use crate::step::{Answer, Awaiter, Step};
 use async_task::{TaskClosed, TaskPoll};

@@ -1,6 +1,6 @@
 //! The rows of the executor by priority. In each, the tasks are spawned and scheduled in the order given.
 ghost use Rattle.std.specs.Prelude.{IfOk};
-ghost use Rattle.rows_program.specs.Row.{AgreesAt};
+ghost use Rattle.taskrows.specs.Row.{AgreesAt};
 
 use async_task::{TaskClosed, TaskPoll};
 use rows_fixtures::behaviour::Behaviour;

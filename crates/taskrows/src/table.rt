@@ -1,20 +1,21 @@
 //! What each row does, and the counters at its end.
 ghost use Rattle.std.specs.Prelude.{◌≡◌, IfOk};
-ghost use Rattle.rows_program.specs.Row.{AgreesAt, AgreesAs};
-ghost use Rattle.rows_program.specs.Row as rows;
+ghost use Rattle.taskrows.specs.Row.{AgreesAt, AgreesAs};
+ghost use Rattle.taskrows.specs.Row as rows;
 
+use crate::priority::Order;
 use crate::script::Script;
 use crate::{dropping, local, priority, script, scripts};
 use rows_fixtures::counters::Counts;
 use rows_fixtures::fixture::Fixture;
-use rows_fixtures::outcome::Outcome;
+use rows_fixtures::outcome::{Missing, Outcome};
 use rows_fixtures::row::Row;
-use std::alloc::{AllocError, Global};
+use std::alloc::Global;
 use std::sync::Wait;
 use std::thread::Threads;
 
-/// Runs a row in surroundings of its own, unless memory for them or for what it spawns is refused.
-pub fn run<R>(row: Row, rt: R, alloc: Global) -> Result<Outcome, AllocError>
+/// Runs a row in surroundings of its own, unless memory for them or for what it spawns is refused, or the second thread that it needs.
+pub fn run<R>(row: Row, rt: R, alloc: Global) -> Result<Outcome, Missing>
 where
     R: Wait + Threads + Drop + Copy + Send + Sync,
     ensures { IfOk result (AgreesAs row) }
@@ -28,24 +29,33 @@ fn run_in<R>(
     alloc: Global,
     row: Row,
     counts: Counts,
-) -> Result<Outcome, AllocError>
+) -> Result<Outcome, Missing>
 where
     R: Wait + Threads + Drop + Copy + Send + Sync,
     ensures { IfOk result (AgreesAt counts) }
 {
     match row {
-        Row::Local => local::local(fixture, counts),
-        Row::DropInSchedule => dropping::drop_in_schedule(fixture, counts),
-        Row::WakeIntoDrop => dropping::wake_into_drop(fixture, counts),
-        Row::Priorities => priority::play(fixture, alloc, priority::PRIORITIES, counts),
-        Row::Priority => priority::play(fixture, alloc, priority::PRIORITY, counts),
-        Row::PriorityYield => priority::play(fixture, alloc, priority::PRIORITY_YIELD, counts),
-        Row::PriorityFull => priority::play(fixture, alloc, priority::PRIORITY_FULL, counts),
-        _ => match script_of(row) {
-            Some(script) => script::play(fixture, alloc, script, counts),
-            None => Ok(fixture.give_up()),
+        Row::Local => Ok(local::local(fixture, counts)?),
+        Row::DropInSchedule => Ok(dropping::drop_in_schedule(fixture, counts)?),
+        Row::WakeIntoDrop => Ok(dropping::wake_into_drop(fixture, counts)?),
+        _ => match (order_of(row), script_of(row)) {
+            (Some(order), _) => Ok(priority::play(fixture, alloc, order, counts)?),
+            (None, Some(script)) => script::play(fixture, alloc, script, counts),
+            (None, None) => Ok(fixture.give_up()),
         },
     }
+}
+
+// The tasks of a row that runs them by priority.
+fn order_of(row: Row) -> Option<&'static Order> {
+    let order = match row {
+        Row::Priorities => priority::PRIORITIES,
+        Row::Priority => priority::PRIORITY,
+        Row::PriorityYield => priority::PRIORITY_YIELD,
+        Row::PriorityFull => priority::PRIORITY_FULL,
+        _ => return None,
+    };
+    Some(order)
 }
 
 // The script of a row that has one.

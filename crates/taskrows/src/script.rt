@@ -1,16 +1,16 @@
 //! A row that is run by steps, which a second thread may make too while a poll is under way.
 ghost use Rattle.std.specs.Prelude.{IfOk};
-ghost use Rattle.rows_program.specs.Row.{AgreesAt};
+ghost use Rattle.taskrows.specs.Row.{AgreesAt};
 
 use crate::hands::Hands;
 use crate::step::Step;
 use rows_fixtures::calls;
 use rows_fixtures::counters::Counts;
 use rows_fixtures::fixture::Fixture;
-use rows_fixtures::outcome::Outcome;
+use rows_fixtures::outcome::{Missing, Outcome};
 use rows_fixtures::rendezvous::Rendezvous;
 use rows_fixtures::surroundings::RowRunnable;
-use std::alloc::{AllocError, Global};
+use std::alloc::Global;
 use std::sync::Wait;
 use std::thread;
 use std::thread::Threads;
@@ -27,41 +27,58 @@ pub struct Script {
     pub after: &'static [Step],
 }
 
-/// Makes the steps: the row's end, which agrees where each step was as it says, and its counters are these.
+/// Makes the steps: the row's end, which agrees where each step was as it says, and its counters are these. An error where there is no memory, or no second
+/// thread that the row needs: then its Runnable is not run.
 pub fn play<R>(
     fixture: &Fixture<R>,
     alloc: Global,
-    script: &Script,
+    script: &'static Script,
     counts: Counts,
-) -> Result<Outcome, AllocError>
+) -> Result<Outcome, Missing>
 where
     R: Wait + Threads + Drop + Copy + Send + Sync,
     ensures { IfOk result (AgreesAt counts) }
 {
     let mut hands = Hands::new(fixture, alloc)?;
     let before = hands.play(script.steps);
-    let meanwhile = script.beside.is_empty() || run_beside(fixture, &mut hands, script);
+    let Some((meanwhile, mut hands)) = run_beside(fixture, hands, script) else {
+        return Err(Missing::Thread);
+    };
     let after = hands.play(script.after);
-    hands.end(before & meanwhile & after, counts)
+    Ok(hands.end(before & meanwhile & after, counts)?)
 }
 
-// Runs, and has a second thread make its steps: whether all was as the script says, and the poll did not go on alone.
-fn run_beside<'x, R>(fixture: &'x Fixture<R>, hands: &mut Hands<'x, R>, script: &Script) -> bool
+// Runs, and has a second thread make its steps, where there are any: whether all was as the script says, and the poll did not go on alone. `None` where no
+// second thread can be started: then nothing is run, since a poll would wait for it.
+fn run_beside<'x, R>(
+    fixture: &'x Fixture<R>,
+    mut hands: Hands<'x, R>,
+    script: &'static Script,
+) -> Option<(bool, Hands<'x, R>)>
 where
     R: Wait + Threads + Drop + Copy + Send + Sync,
 {
+    if script.beside.is_empty() {
+        return Some((true, hands));
+    }
     let Some(runnable) = hands.take_runnable() else {
-        return false;
+        return Some((false, hands));
     };
     let rt = fixture.rt;
     let rendezvous = &fixture.surroundings.rendezvous;
     rendezvous.arm();
-    let (agrees, answer) = thread::join(
-        &rt,
-        || play_beside(rendezvous, hands, script.beside),
-        || calls::run(runnable),
-    );
-    agrees & (answer == script.answer) & rendezvous.met()
+    thread::scope(thread::scope_env(), &rt, |scope| {
+        let second = scope.spawn(move || {
+            let agrees = play_beside(rendezvous, &mut hands, script.beside);
+            (agrees, hands)
+        });
+        let Ok(second) = second else {
+            return None;
+        };
+        let answer = calls::run(runnable);
+        let (agrees, hands) = second.join(&rt);
+        Some((agrees & (answer == script.answer) & rendezvous.met(), hands))
+    })
 }
 
 // What the second thread does: whether the poll came, and each step was as it says.
