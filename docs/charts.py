@@ -295,7 +295,7 @@ class Definitions:
             # an item goes on until a line begins with a letter; types, imports and claims are no equations
             for item in re.findall(r"^\w.*(?:\n(?!\w).*)*", text, re.MULTILINE):
                 # nor are statements, which nothing here asks for, and the search of a constant is a primitive
-                if not re.match(r"(use|pub|abbrev) |\w+ : ", item) and not re.search("[→≡λ]", item):
+                if not re.match(r"(use|pub|abbrev) |\w+ : ", item) and not re.search("[→≡λ<≤]", item):
                     name, patterns, body = Parser(item).equation()
                     self.equations.setdefault(name, []).append((patterns, body))
 
