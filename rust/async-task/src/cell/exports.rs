@@ -1,0 +1,87 @@
+//! The exports of the archive, what they answer, and how a handle is passed to them.
+use core::ptr::NonNull;
+
+/// A place that is lent to an export: 8 bytes with a handle in them, or room for one.
+#[repr(C)]
+pub(crate) struct Place {
+    at: *mut NonNull<()>,
+}
+
+/// An export of one handle.
+pub(crate) type Export = unsafe extern "C" fn(*mut Place) -> u32;
+
+/// An export of one handle that is told something.
+pub(crate) type ExportTold = unsafe extern "C" fn(*mut Place, bool) -> u32;
+
+/// An export that may leave a second handle at the second place.
+pub(crate) type ExportTwo = unsafe extern "C" fn(*mut Place, *mut Place) -> u32;
+
+/// Declares exports of each form.
+macro_rules! exports {
+    ($($one:ident)* ; $($told:ident)* ; $($two:ident)*) => {
+        extern "C" {
+            $(pub(crate) fn $one(handle: *mut Place) -> u32;)*
+            $(pub(crate) fn $told(handle: *mut Place, told: bool) -> u32;)*
+            $(pub(crate) fn $two(handle: *mut Place, room: *mut Place) -> u32;)*
+        }
+    };
+}
+
+exports! {
+    async_task_start async_task_run_closed async_task_complete async_task_pending async_task_pending_closed async_task_finish
+    async_task_discard async_task_discarded async_task_discard_taken async_task_discard_woken
+    async_task_drop_waker async_task_schedule async_task_release
+    async_task_cancel_taken async_task_cancel_woken async_task_detach async_task_detach_dropped
+    async_task_poll async_task_register async_task_taken_back async_task_clone_woken async_task_clone_dropped
+    async_task_poll_taken async_task_poll_woken async_task_poll_dropped
+    async_task_claim_taken async_task_claim_woken async_task_claim_dropped async_task_output_taken
+    async_task_is_finished;
+    async_task_output_dropped async_task_empty async_task_cancel_scheduled async_task_registered;
+    async_task_new async_task_wake async_task_gain async_task_hold async_task_cancel
+}
+
+/// Defines the numbers that exports answer.
+macro_rules! answers {
+    ($($name:ident = $number:literal)*) => { $(pub(crate) const $name: u32 = $number;)* };
+}
+
+answers! {
+    OVER = 1 ENDED = 2 POLL = 3 DROP_FUTURE = 4 DROP_OUTPUT = 5 DROP_OUTPUT_DUE = 6 TAKE = 7 WAKE = 8 LAST = 9
+    SCHEDULE = 10 SCHEDULE_WOKEN = 11 DONE = 12 WAKE_FIRST = 14 LAST_WAKE = 15 SCHEDULE_DUE = 15
+    OUTPUT = 16 CLOSED = 17 PENDING = 18 CLONE = 19 STORE = 20 REPLACE = 21 WAKE_CALLER = 22 TAKE_BACK = 23 TAKE_CLAIMED = 24
+}
+
+/// Calls an export with these bits in a place of its own.
+#[inline]
+pub(crate) fn call(export: Export, mut bits: NonNull<()>) -> u32 {
+    let mut place = Place { at: &mut bits };
+    // SAFETY: `At` calls each export by a handle that stands where the export wants it; the place outlives the call.
+    unsafe { export(&mut place) }
+}
+
+/// The same, and tells it something.
+#[inline]
+pub(crate) fn call_told(export: ExportTold, mut bits: NonNull<()>, told: bool) -> u32 {
+    let mut place = Place { at: &mut bits };
+    // SAFETY: as in `call`.
+    unsafe { export(&mut place, told) }
+}
+
+/// The same, with room for a second handle: its bits, too.
+#[inline]
+pub(crate) fn call_two(export: ExportTwo, mut bits: NonNull<()>) -> (u32, NonNull<()>) {
+    let mut second = NonNull::dangling();
+    let (mut place, mut room) = (Place { at: &mut bits }, Place { at: &mut second });
+    // SAFETY: as in `call`; the second place is room for 8 bytes.
+    let answer = unsafe { export(&mut place, &mut room) };
+    (answer, second)
+}
+
+/// Makes a cell: whether both of its handles have these bits.
+pub(crate) fn make(bits: NonNull<()>) -> bool {
+    let (mut first, mut second) = (NonNull::dangling(), NonNull::dangling());
+    let (mut runnable, mut task) = (Place { at: &mut first }, Place { at: &mut second });
+    // SAFETY: both places are room for 8 bytes, and outlive the call.
+    let answer = unsafe { async_task_new(&mut runnable, &mut task) };
+    answer == DONE && first == bits && second == bits
+}
