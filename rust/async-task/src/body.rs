@@ -85,7 +85,7 @@ where
         let layout = Layout::new::<Self>();
         // SAFETY: the layout has a size, since a block has one; each field is written once, and its place is in the allocation; the future may borrow the metadata, which stays where it is until the allocation ends.
         unsafe {
-            let Some(body) = NonNull::new(alloc(layout).cast::<Self>()) else { handle_alloc_error(layout) };
+            let body = NonNull::new(alloc(layout).cast::<Self>()).unwrap_or_else(|| handle_alloc_error(layout));
             let at = body.as_ptr();
             addr_of_mut!((*at).with.header).write(Header {
                 block: UnsafeCell::new(MaybeUninit::uninit()),

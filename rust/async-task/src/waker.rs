@@ -16,7 +16,7 @@ pub(crate) fn raw(task: NonNull<()>) -> RawWaker {
 /// The handle of the waker with this data, at `P`.
 #[inline]
 unsafe fn at<P>(data: *const ()) -> At<P> {
-    At::of(NonNull::new_unchecked(data.cast_mut()))
+    At::of(NonNull::new_unchecked(data as *mut ()))
 }
 
 unsafe fn clone(data: *const ()) -> RawWaker {

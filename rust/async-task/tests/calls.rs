@@ -298,17 +298,27 @@ fn a_schedule_function_that_runs_in_place() {
 
 #[test]
 fn a_task_that_ends_inside_its_schedule_function() {
-    let kept = Count::default();
-    let guard = kept.dropped();
+    let (kept, futures) = (Count::default(), Count::default());
+    let (guard, seen, future) = (kept.dropped(), kept.clone(), futures.dropped());
     let schedule = move |runnable: Runnable| {
+        let _guard = &guard;
         drop(runnable);
-        assert_eq!(guard_count(&guard), 0);
+        assert_eq!(seen.get(), 0, "the schedule function outlives its own call");
     };
-    fn guard_count(_: &Dropped) -> usize {
-        0
-    }
-    let (runnable, task) = spawn(async {}, schedule);
+    let (runnable, task) = spawn(async move { drop(future) }, schedule);
     task.detach();
     runnable.schedule();
-    assert_eq!(kept.get(), 1);
+    assert_eq!((futures.get(), kept.get()), (1, 1));
+}
+
+#[test]
+fn a_builder_keeps_what_it_was_told() {
+    let builder = Builder::new().propagate_panic(true).metadata(1).propagate_panic(true);
+    let (runnable, task) = builder.spawn(|_| async { panic!("of the future") }, |_| {});
+    assert!(!runnable.run());
+    task.detach();
+    let builder = Builder::new().propagate_panic(true).metadata(1);
+    let (runnable, task) = builder.spawn(|_| async { panic!("of the future") }, |_| {});
+    assert!(!runnable.run());
+    task.detach();
 }

@@ -135,9 +135,8 @@ fn race(polls: usize, yields: bool, scheduling: Scheduling, first: bool, task_ac
     at_once(acts);
     // What is left is run until nothing is.
     drop(catch_unwind(AssertUnwindSafe(move || drop(waker))));
-    loop {
-        let next = queue.lock().unwrap().pop();
-        let Some(next) = next else { break };
+    let pop = || queue.lock().unwrap().pop();
+    while let Some(next) = pop() {
         let _caught = catch_unwind(AssertUnwindSafe(|| next.run()));
     }
     let said = format!("{polls} {yields} {scheduling:?} {first} {task_acts} {run}");

@@ -186,8 +186,9 @@ const OPERATIONS: &[Operation] = &[
     }),
     ("b6_task_poll_pending_register", |times| {
         let (_runnable, mut task) = spawn(Never, queue(1));
+        let waker = nobody();
         for _ in 0..times {
-            black_box(Pin::new(black_box(&mut task)).poll(&mut Context::from_waker(Waker::noop())).is_ready());
+            poll(black_box(&mut task), &waker);
         }
     }),
     ("c_waker_clone_drop", |times| {
