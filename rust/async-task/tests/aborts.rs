@@ -8,8 +8,12 @@ use std::sync::atomic::{AtomicBool, Ordering::SeqCst};
 use std::sync::Arc;
 use std::task::{Wake, Waker};
 
-use async_task::{spawn, spawn_local, Runnable};
-use common::{poll, Count};
+use async_task::spawn;
+#[cfg(feature = "std")]
+use async_task::{spawn_local, Runnable};
+use common::poll;
+#[cfg(feature = "std")]
+use common::Count;
 
 /// Whether the heap refuses memory.
 static REFUSES: AtomicBool = AtomicBool::new(false);
@@ -139,6 +143,7 @@ fn the_making_of_a_future_panics() {
     });
 }
 
+#[cfg(feature = "std")]
 #[test]
 fn a_local_task_is_run_on_another_thread() {
     aborts("a_local_task_is_run_on_another_thread", || {
@@ -149,6 +154,7 @@ fn a_local_task_is_run_on_another_thread() {
     });
 }
 
+#[cfg(feature = "std")]
 #[test]
 fn a_local_task_is_dropped_on_another_thread() {
     aborts("a_local_task_is_dropped_on_another_thread", || {
@@ -158,6 +164,7 @@ fn a_local_task_is_dropped_on_another_thread() {
     });
 }
 
+#[cfg(feature = "std")]
 #[test]
 fn a_local_task_comes_back_to_its_thread() {
     let woken = Count::default();

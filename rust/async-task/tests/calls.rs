@@ -311,6 +311,7 @@ fn a_task_that_ends_inside_its_schedule_function() {
     assert_eq!((futures.get(), kept.get()), (1, 1));
 }
 
+#[cfg(feature = "std")]
 #[test]
 fn a_builder_keeps_what_it_was_told() {
     let builder = Builder::new().propagate_panic(true).metadata(1).propagate_panic(true);

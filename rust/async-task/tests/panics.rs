@@ -4,7 +4,7 @@ mod common;
 use std::panic::{catch_unwind, AssertUnwindSafe};
 use std::task::Poll;
 
-use async_task::{spawn, Builder, Runnable};
+use async_task::{spawn, Runnable};
 use common::{poll, Count, Dropped};
 
 /// Whether it panics.
@@ -66,10 +66,12 @@ fn a_future_that_wakes_or_cancels_and_panics() {
     }
 }
 
+#[cfg(feature = "std")]
 #[test]
 fn a_panic_that_goes_to_who_awaits() {
     let (dropped, woken) = (Count::default(), Count::default());
-    let (runnable, mut task) = Builder::new().propagate_panic(true).spawn(|()| panicking(dropped.dropped()), |_| {});
+    let (runnable, mut task) =
+        async_task::Builder::new().propagate_panic(true).spawn(|()| panicking(dropped.dropped()), |_| {});
     assert!(poll(&mut task, &woken.waker()).is_pending());
     assert!(!runnable.run());
     assert_eq!((dropped.get(), woken.get()), (1, 1));

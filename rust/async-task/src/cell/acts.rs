@@ -71,7 +71,7 @@ impl At<StoresOutput> {
     pub(crate) unsafe fn store<T>(self, outcome: Outcome<T>) -> At<Completes> {
         let place = (self.header().methods.output)(self.task);
         place.cast::<Outcome<T>>().as_ptr().write(outcome);
-        At::at(self.task)
+        At::stands(self.task)
     }
 }
 
@@ -148,11 +148,11 @@ impl<W, D> At<WakesOther, (W, D)> {
         match taken {
             Some(awaiter) if awaiter.will_wake(caller) => {
                 or_abort(|| drop(awaiter));
-                Err(At::at(self.task))
+                Err(At::stands(self.task))
             }
             Some(awaiter) => {
                 or_abort(|| awaiter.wake());
-                Ok(At::at(self.task))
+                Ok(At::stands(self.task))
             }
             None => abort(),
         }
@@ -193,7 +193,7 @@ impl<N> At<Delivers, N> {
     /// Hands the Runnable over, and then goes on, also where the schedule function panics.
     #[inline]
     pub(crate) fn hand_over<A>(self, then: impl FnOnce(At<N>) -> A) -> A {
-        let then = Finally::new(|| then(At::at(self.task)));
+        let then = Finally::new(|| then(At::stands(self.task)));
         self.call_schedule(false);
         then.now()
     }

@@ -2,9 +2,6 @@
 use core::marker::PhantomData;
 use core::ptr::NonNull;
 
-use super::abort;
-use super::exports::{call, call_told, call_two, Export, ExportTold, ExportTwo};
-
 /// A handle that stands at the position `P`, and goes on to `N` once the act is done that `P` asks for.
 ///
 /// It is used up by the one step or act of `P`, and neither copied nor cloned. Its bits are the address of the block, with which the task's allocation begins: each handle that an export leaves is looked at for that.
@@ -28,52 +25,30 @@ impl<P, N> At<P, N> {
     /// There is such a handle, it stands at `P`, and nobody else uses it; or `P` is `Lent`, and there is a handle of the task.
     #[inline]
     pub(crate) unsafe fn of(task: NonNull<()>) -> Self {
-        At::at(task)
+        At::stands(task)
     }
 
     /// The same, for the steps and acts alone.
     #[inline]
-    pub(super) fn at(task: NonNull<()>) -> Self {
+    pub(super) fn stands(task: NonNull<()>) -> Self {
         At { task, position: PhantomData }
     }
 
     /// The same handle, after the act was done that `P` asks for.
     #[inline]
     pub(super) fn done(self) -> At<N> {
-        At::at(self.task)
+        At::stands(self.task)
     }
 
     /// The same handle, lent for a call that every handle may be lent for.
     #[inline]
     pub(crate) fn lent(&self) -> At<super::Lent> {
-        At::at(self.task)
+        At::stands(self.task)
     }
 
     /// The address of the task, for who keeps the handle in another form.
     #[inline]
     pub(crate) fn into_raw(self) -> NonNull<()> {
         self.task
-    }
-
-    /// Calls an export by this handle.
-    #[inline]
-    pub(super) fn call(&self, export: Export) -> u32 {
-        call(export, self.task)
-    }
-
-    /// Calls an export by this handle, and tells it something.
-    #[inline]
-    pub(super) fn call_told(&self, export: ExportTold, told: bool) -> u32 {
-        call_told(export, self.task, told)
-    }
-
-    /// Calls an export that leaves a second handle, unless it answers one of `without`.
-    #[inline]
-    pub(super) fn call_two(&self, export: ExportTwo, without: &[u32]) -> u32 {
-        let (answer, second) = call_two(export, self.task);
-        if second != self.task && !without.contains(&answer) {
-            abort();
-        }
-        answer
     }
 }

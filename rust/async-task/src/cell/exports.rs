@@ -1,6 +1,9 @@
 //! The exports of the archive, what they answer, and how a handle is passed to them.
 use core::ptr::NonNull;
 
+use super::abort;
+use super::at::At;
+
 /// A place that is lent to an export: 8 bytes with a handle in them, or room for one.
 #[repr(C)]
 pub(crate) struct Place {
@@ -51,37 +54,32 @@ answers! {
     OUTPUT = 16 CLOSED = 17 PENDING = 18 CLONE = 19 STORE = 20 REPLACE = 21 WAKE_CALLER = 22 TAKE_BACK = 23 TAKE_CLAIMED = 24
 }
 
-/// Calls an export with these bits in a place of its own.
-#[inline]
-pub(crate) fn call(export: Export, mut bits: NonNull<()>) -> u32 {
-    let mut place = Place { at: &mut bits };
-    // SAFETY: `At` calls each export by a handle that stands where the export wants it; the place outlives the call.
-    unsafe { export(&mut place) }
-}
+impl<P, N> At<P, N> {
+    /// Calls an export by this handle, whose bits lie in a place of this call's.
+    #[inline]
+    pub(super) fn call(&self, export: Export) -> u32 {
+        let mut bits = self.task;
+        // SAFETY: this handle stands where the export wants it, since the steps say so; the place outlives the call.
+        unsafe { export(&mut Place { at: &mut bits }) }
+    }
 
-/// The same, and tells it something.
-#[inline]
-pub(crate) fn call_told(export: ExportTold, mut bits: NonNull<()>, told: bool) -> u32 {
-    let mut place = Place { at: &mut bits };
-    // SAFETY: as in `call`.
-    unsafe { export(&mut place, told) }
-}
+    /// The same, and tells the export something.
+    #[inline]
+    pub(super) fn call_told(&self, export: ExportTold, told: bool) -> u32 {
+        let mut bits = self.task;
+        // SAFETY: as in `call`.
+        unsafe { export(&mut Place { at: &mut bits }, told) }
+    }
 
-/// The same, with room for a second handle: its bits, too.
-#[inline]
-pub(crate) fn call_two(export: ExportTwo, mut bits: NonNull<()>) -> (u32, NonNull<()>) {
-    let mut second = NonNull::dangling();
-    let (mut place, mut room) = (Place { at: &mut bits }, Place { at: &mut second });
-    // SAFETY: as in `call`; the second place is room for 8 bytes.
-    let answer = unsafe { export(&mut place, &mut room) };
-    (answer, second)
-}
-
-/// Makes a cell: whether both of its handles have these bits.
-pub(crate) fn make(bits: NonNull<()>) -> bool {
-    let (mut first, mut second) = (NonNull::dangling(), NonNull::dangling());
-    let (mut runnable, mut task) = (Place { at: &mut first }, Place { at: &mut second });
-    // SAFETY: both places are room for 8 bytes, and outlive the call.
-    let answer = unsafe { async_task_new(&mut runnable, &mut task) };
-    answer == DONE && first == bits && second == bits
+    /// The same, with room for a second handle, which the export leaves unless it answers one of `without`.
+    #[inline]
+    pub(super) fn call_two(&self, export: ExportTwo, without: &[u32]) -> u32 {
+        let (mut first, mut second) = (self.task, NonNull::dangling());
+        // SAFETY: as in `call`; the second place is room for 8 bytes. A cell that is made finds room in both.
+        let answer = unsafe { export(&mut Place { at: &mut first }, &mut Place { at: &mut second }) };
+        if (first != self.task || second != self.task) && !without.contains(&answer) {
+            abort();
+        }
+        answer
+    }
 }

@@ -98,7 +98,7 @@ macro_rules! answers {
             #[inline]
             fn answer(task: NonNull<()>, number: u32) -> Self {
                 match number {
-                    $($number => $name::$variant(At::at(task)),)*
+                    $($number => $name::$variant(At::stands(task)),)*
                     $(_ if true => $name::$other(<$rest>::answer(task, number)),)?
                     _ => abort(),
                 }
@@ -170,7 +170,7 @@ macro_rules! steps {
             pub(crate) fn $step(self) -> $($answer $(<$next>)?)? $($at)? {
                 let number = steps!(@call self $export $($told)?);
                 $(<$answer $(<$next>)?>::answer(self.task, number))?
-                $(if number == $number { <$at>::at(self.task) } else { abort() })?
+                $(if number == $number { <$at>::stands(self.task) } else { abort() })?
             }
         }
     )* };
@@ -217,7 +217,7 @@ impl At<Polling> {
     /// The poll has answered ready: a step without an export.
     #[inline]
     pub(crate) fn ready(self) -> At<DropsFuture, StoresOutput> {
-        At::at(self.task)
+        At::stands(self.task)
     }
 
     /// The poll has panicked. The task is woken, so that its run leaves a Runnable, and that is dropped, which closes the task.
@@ -225,7 +225,7 @@ impl At<Polling> {
     pub(crate) fn panicked(self) -> Result<At<DropsFuture, Discarded>, At<DropsFuture, PendingClosed>> {
         let idle = self.lent().wake();
         match self.pending() {
-            Pended::Woken(at) if idle.is_none() => Ok(At::<Scheduled>::at(at.task).discard()),
+            Pended::Woken(at) if idle.is_none() => Ok(At::<Scheduled>::stands(at.task).discard()),
             Pended::Closed(at) if idle.is_none() => Err(at),
             _ => abort(),
         }
@@ -245,7 +245,7 @@ impl At<Lent> {
     #[inline]
     pub(crate) fn wake(&self) -> Option<At<Delivers, Gone>> {
         match self.call_two(async_task_wake, &[DONE]) {
-            SCHEDULE => Some(At::at(self.task)),
+            SCHEDULE => Some(At::stands(self.task)),
             DONE => None,
             _ => abort(),
         }
@@ -264,7 +264,7 @@ impl At<Lent> {
     #[inline]
     pub(super) fn hold(&self) -> Hold {
         match self.call_two(async_task_hold, &[]) {
-            DONE => Hold(At::at(self.task)),
+            DONE => Hold(At::stands(self.task)),
             _ => abort(),
         }
     }
@@ -290,8 +290,9 @@ impl Drop for Hold {
 #[inline]
 pub(crate) fn make(room: NonNull<()>) -> (At<Scheduled>, At<Resting>) {
     heap::offer(room);
-    if !super::exports::make(room) {
+    let runnable = At::stands(room);
+    if runnable.call_two(async_task_new, &[]) != DONE {
         abort();
     }
-    (At::at(room), At::at(room))
+    (runnable, At::stands(room))
 }
