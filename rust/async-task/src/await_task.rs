@@ -15,6 +15,7 @@ pub(crate) fn cancel<A>(task: At<Resting>, then: impl FnOnce(At<Resting>) -> A) 
 }
 
 /// Ends a cancel after its Runnable was handed over, if it had one.
+#[inline]
 fn end_scheduled(closed: Closed) -> At<Resting> {
     match closed {
         Closed::Over(task) => task,

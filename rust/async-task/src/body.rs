@@ -2,7 +2,7 @@
 use alloc::alloc::{alloc, dealloc, handle_alloc_error, Layout};
 use core::cell::UnsafeCell;
 use core::future::Future;
-use core::mem::{ManuallyDrop, MaybeUninit};
+use core::mem::{needs_drop, size_of, ManuallyDrop, MaybeUninit};
 use core::pin::Pin;
 use core::ptr::{addr_of, addr_of_mut, NonNull};
 use core::task::{Context, Poll, Waker};
@@ -25,6 +25,8 @@ pub(crate) type Outcome<T> = Result<T, Panic>;
 /// What depends on the types of a task that its handles do not name.
 pub(crate) struct Methods {
     pub(crate) schedule: unsafe fn(NonNull<()>, ScheduleInfo),
+    /// Whether the schedule function has to be kept while it is called.
+    pub(crate) keeps_schedule: bool,
     pub(crate) run: unsafe fn(NonNull<()>) -> bool,
     pub(crate) drop_future: unsafe fn(NonNull<()>),
     pub(crate) output: unsafe fn(NonNull<()>) -> NonNull<()>,
@@ -69,6 +71,7 @@ where
 {
     const METHODS: &'static Methods = &Methods {
         schedule: Self::schedule,
+        keeps_schedule: size_of::<S>() > 0 || needs_drop::<S>(),
         run: run::run::<F, T, S, M>,
         drop_future: Self::drop_future,
         output: Self::output,

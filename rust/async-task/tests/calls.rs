@@ -212,13 +212,15 @@ fn an_awaiter_that_is_left_is_dropped() {
 
 #[test]
 fn wakers_of_one_task_wake_alike() {
-    let (runnable, task, seen, _) = task(2, false);
+    let (runnable, task, seen, queue) = task(2, false);
     let waker = runnable.waker();
     runnable.run();
     assert!(waker.will_wake(&seen.waker()) && waker.will_wake(&waker.clone()));
     let (other, _task, ..) = self::task(1, false);
     assert!(!waker.will_wake(&other.waker()));
     drop(task);
+    // A Runnable in its own queue would keep itself.
+    queue.take().run();
 }
 
 #[test]

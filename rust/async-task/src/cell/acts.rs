@@ -200,10 +200,10 @@ impl<N> At<Delivers, N> {
 }
 
 impl<const WOKEN: bool> At<HandsOn<WOKEN>> {
-    /// Hands the Runnable over, by a hold that keeps the schedule function until it has returned. Whether the task was woken while it ran.
+    /// Hands the Runnable over, by a hold that keeps the schedule function until it has returned, unless there is nothing to keep. Whether the task was woken while it ran.
     #[inline]
     pub(crate) fn hand_over(self) -> bool {
-        let _hold = self.lent().hold();
+        let _hold = self.header().methods.keeps_schedule.then(|| self.lent().hold());
         self.call_schedule(WOKEN);
         WOKEN
     }

@@ -1,5 +1,5 @@
 //! The exports of the archive, what they answer, and how a handle is passed to them.
-use core::ptr::NonNull;
+use core::ptr::null_mut;
 
 use super::abort;
 use super::at::At;
@@ -7,7 +7,7 @@ use super::at::At;
 /// A place that is lent to an export: 8 bytes with a handle in them, or room for one.
 #[repr(C)]
 pub(crate) struct Place {
-    at: *mut NonNull<()>,
+    at: *mut *mut (),
 }
 
 /// An export of one handle.
@@ -58,7 +58,7 @@ impl<P, N> At<P, N> {
     /// Calls an export by this handle, whose bits lie in a place of this call's.
     #[inline]
     pub(super) fn call(&self, export: Export) -> u32 {
-        let mut bits = self.task;
+        let mut bits = self.task.as_ptr();
         // SAFETY: this handle stands where the export wants it, since the steps say so; the place outlives the call.
         unsafe { export(&mut Place { at: &mut bits }) }
     }
@@ -66,7 +66,7 @@ impl<P, N> At<P, N> {
     /// The same, and tells the export something.
     #[inline]
     pub(super) fn call_told(&self, export: ExportTold, told: bool) -> u32 {
-        let mut bits = self.task;
+        let mut bits = self.task.as_ptr();
         // SAFETY: as in `call`.
         unsafe { export(&mut Place { at: &mut bits }, told) }
     }
@@ -74,10 +74,11 @@ impl<P, N> At<P, N> {
     /// The same, with room for a second handle, which the export leaves unless it answers one of `without`.
     #[inline]
     pub(super) fn call_two(&self, export: ExportTwo, without: &[u32]) -> u32 {
-        let (mut first, mut second) = (self.task, NonNull::dangling());
+        let task = self.task.as_ptr();
+        let (mut first, mut second) = (task, null_mut());
         // SAFETY: as in `call`; the second place is room for 8 bytes. A cell that is made finds room in both.
         let answer = unsafe { export(&mut Place { at: &mut first }, &mut Place { at: &mut second }) };
-        if (first != self.task || second != self.task) && !without.contains(&answer) {
+        if (first != task || second != task) && !without.contains(&answer) {
             abort();
         }
         answer
