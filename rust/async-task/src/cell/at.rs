@@ -4,7 +4,7 @@ use core::ptr::NonNull;
 
 /// A handle that stands at the position `P`, and goes on to `N` once the act is done that `P` asks for.
 ///
-/// It is used up by the one step or act of `P`, and neither copied nor cloned. Its bits are the address of the block, with which the task's allocation begins: each handle that an export leaves is looked at for that.
+/// It is used up by the one step or act of `P`, and neither copied nor cloned. Its bits are the address of the block, with which the task's allocation begins, and the same for each handle of a task: where a task is made, they are looked at.
 #[must_use = "the cell waits for the step or act that this stands for"]
 pub(crate) struct At<P, N = ()> {
     pub(super) task: NonNull<()>,

@@ -1,7 +1,7 @@
 //! The exports of the archive, what they answer, and how a handle is passed to them.
+use core::mem::MaybeUninit;
 use core::ptr::null_mut;
 
-use super::abort;
 use super::at::At;
 
 /// A place that is lent to an export: 8 bytes with a handle in them, or room for one.
@@ -71,16 +71,20 @@ impl<P, N> At<P, N> {
         unsafe { export(&mut Place { at: &mut bits }, told) }
     }
 
-    /// The same, with room for a second handle, which the export leaves unless it answers one of `without`.
+    /// The same, with room for a second handle, whose bits would be the same.
     #[inline]
-    pub(super) fn call_two(&self, export: ExportTwo, without: &[u32]) -> u32 {
-        let task = self.task.as_ptr();
-        let (mut first, mut second) = (task, null_mut());
-        // SAFETY: as in `call`; the second place is room for 8 bytes. A cell that is made finds room in both.
-        let answer = unsafe { export(&mut Place { at: &mut first }, &mut Place { at: &mut second }) };
-        if (first != task || second != task) && !without.contains(&answer) {
-            abort();
-        }
-        answer
+    pub(super) fn call_two(&self, export: ExportTwo) -> u32 {
+        let (mut first, mut second) = (self.task.as_ptr(), MaybeUninit::uninit());
+        // SAFETY: as in `call`; the second place is room for 8 bytes.
+        unsafe { export(&mut Place { at: &mut first }, &mut Place { at: second.as_mut_ptr() }) }
     }
+}
+
+/// Makes a cell: whether it is there, and the bits of both its handles are these.
+#[inline]
+pub(super) fn make(bits: *mut ()) -> bool {
+    let (mut runnable, mut task) = (null_mut(), null_mut());
+    // SAFETY: both places are room for 8 bytes, and outlive the call.
+    let answer = unsafe { async_task_new(&mut Place { at: &mut runnable }, &mut Place { at: &mut task }) };
+    answer == DONE && runnable == bits && task == bits
 }

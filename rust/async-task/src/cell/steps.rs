@@ -236,7 +236,7 @@ impl At<Resting> {
     /// Closes the task, unless it is over.
     #[inline]
     pub(crate) fn cancel(self) -> Cancelled {
-        Cancelled::answer(self.task, self.call_two(async_task_cancel, &[DONE, TAKE]))
+        Cancelled::answer(self.task, self.call_two(async_task_cancel))
     }
 }
 
@@ -244,7 +244,7 @@ impl At<Lent> {
     /// Wakes the task: its Runnable, where it was idle.
     #[inline]
     pub(crate) fn wake(&self) -> Option<At<Delivers, Gone>> {
-        match self.call_two(async_task_wake, &[DONE]) {
+        match self.call_two(async_task_wake) {
             SCHEDULE => Some(At::stands(self.task)),
             DONE => None,
             _ => abort(),
@@ -254,7 +254,7 @@ impl At<Lent> {
     /// Gains a reference for a waker: its address. At the limit the process ends.
     #[inline]
     pub(crate) fn gain(&self) -> NonNull<()> {
-        match self.call_two(async_task_gain, &[]) {
+        match self.call_two(async_task_gain) {
             DONE => self.task,
             _ => abort(),
         }
@@ -263,7 +263,7 @@ impl At<Lent> {
     /// A hold of the body, which its drop releases.
     #[inline]
     pub(super) fn hold(&self) -> Hold {
-        match self.call_two(async_task_hold, &[]) {
+        match self.call_two(async_task_hold) {
             DONE => Hold(At::stands(self.task)),
             _ => abort(),
         }
@@ -290,9 +290,8 @@ impl Drop for Hold {
 #[inline]
 pub(crate) fn make(room: NonNull<()>) -> (At<Scheduled>, At<Resting>) {
     heap::offer(room);
-    let runnable = At::stands(room);
-    if runnable.call_two(async_task_new, &[]) != DONE {
+    if !super::exports::make(room.as_ptr()) {
         abort();
     }
-    (runnable, At::stands(room))
+    (At::stands(room), At::stands(room))
 }
