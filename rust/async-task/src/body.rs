@@ -106,26 +106,32 @@ where
         }
     }
 
+    // SAFETY, of all methods below: the task is of these types, and somebody keeps it; what is used has been given to the caller by the cell.
+
     /// The place of the future or the output.
     #[inline]
     unsafe fn stage(task: NonNull<()>) -> *mut Stage<F, T> {
         UnsafeCell::raw_get(addr_of!((*task.as_ptr().cast::<Self>()).stage))
     }
 
+    /// Calls the schedule function with the task's Runnable.
     #[inline]
     unsafe fn schedule(task: NonNull<()>, info: ScheduleInfo) {
         let schedule = &*addr_of!((*task.as_ptr().cast::<Self>()).schedule);
         schedule.schedule(Runnable::from_raw(task), info);
     }
 
+    /// Drops the future.
     unsafe fn drop_future(task: NonNull<()>) {
         Self::stage(task).cast::<F>().drop_in_place();
     }
 
+    /// The place of the output.
     unsafe fn output(task: NonNull<()>) -> NonNull<()> {
         NonNull::new_unchecked(Self::stage(task).cast())
     }
 
+    /// Drops the metadata and the schedule function, and frees the memory.
     unsafe fn destroy(task: NonNull<()>) {
         let at = task.as_ptr().cast::<Self>();
         or_abort(|| {
@@ -136,10 +142,6 @@ where
     }
 
     /// Polls the future.
-    ///
-    /// # Safety
-    ///
-    /// The task is of these types, and the cell has given its future to the caller.
     #[inline]
     pub(crate) unsafe fn poll(task: NonNull<()>, context: &mut Context<'_>) -> Poll<T> {
         Pin::new_unchecked(&mut *Self::stage(task).cast::<F>()).poll(context)

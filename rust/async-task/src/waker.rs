@@ -13,6 +13,8 @@ pub(crate) fn raw(task: NonNull<()>) -> RawWaker {
     RawWaker::new(task.as_ptr(), &WAKER)
 }
 
+// SAFETY, of all below: a waker calls them with the data of `raw`, by value where it ends; so there is its handle.
+
 /// The handle of the waker with this data, at `P`.
 #[inline]
 unsafe fn at<P>(data: *const ()) -> At<P> {
