@@ -13,18 +13,19 @@ pub(crate) struct Place {
 /// An export of one handle.
 pub(crate) type Export = unsafe extern "C" fn(*mut Place) -> u32;
 
-/// An export of one handle that is told something.
-pub(crate) type ExportTold = unsafe extern "C" fn(*mut Place, bool) -> u32;
+/// An export of one handle that is told something, by a truth value or by 0 or 1.
+pub(crate) type ExportTold<B> = unsafe extern "C" fn(*mut Place, B) -> u32;
 
 /// An export that may leave a second handle at the second place.
 pub(crate) type ExportTwo = unsafe extern "C" fn(*mut Place, *mut Place) -> u32;
 
 /// Declares exports of each form.
 macro_rules! exports {
-    ($($one:ident)* ; $($told:ident)* ; $($two:ident)*) => {
+    ($($one:ident)* ; $($told:ident)* ; $($number:ident)* ; $($two:ident)*) => {
         extern "C" {
             $(pub(crate) fn $one(handle: *mut Place) -> u32;)*
             $(pub(crate) fn $told(handle: *mut Place, told: bool) -> u32;)*
+            $(pub(crate) fn $number(handle: *mut Place, told: u32) -> u32;)*
             $(pub(crate) fn $two(handle: *mut Place, room: *mut Place) -> u32;)*
         }
     };
@@ -39,7 +40,8 @@ exports! {
     async_task_poll_taken async_task_poll_woken async_task_poll_dropped
     async_task_claim_taken async_task_claim_woken async_task_claim_dropped async_task_output_taken
     async_task_is_finished;
-    async_task_output_dropped async_task_empty async_task_cancel_scheduled async_task_registered;
+    async_task_output_dropped async_task_empty;
+    async_task_cancel_scheduled async_task_registered;
     async_task_new async_task_wake async_task_gain async_task_hold async_task_cancel
 }
 
@@ -65,10 +67,10 @@ impl<P, N> At<P, N> {
 
     /// The same, and tells the export something.
     #[inline]
-    pub(super) fn call_told(&self, export: ExportTold, told: bool) -> u32 {
+    pub(super) fn call_told<B: From<bool>>(&self, export: ExportTold<B>, told: bool) -> u32 {
         let mut bits = self.task.as_ptr();
         // SAFETY: as in `call`.
-        unsafe { export(&mut Place { at: &mut bits }, told) }
+        unsafe { export(&mut Place { at: &mut bits }, told.into()) }
     }
 
     /// The same, with room for a second handle, whose bits would be the same.
