@@ -1,0 +1,69 @@
+//! The heap of the archive. It asks for one thing, the block of a cell, and gets the room that the task's own allocation has for it.
+use core::ptr::{null_mut, NonNull};
+
+/// The words of the room for a block.
+pub(crate) const ROOM: usize = 6;
+
+/// What the archive is answered: whether there is memory, and where.
+#[repr(C)]
+struct Tried {
+    ok: bool,
+    at: NonNull<u8>,
+}
+
+#[cfg(feature = "std")]
+std::thread_local! {
+    /// The room of the spawn that this thread is in.
+    static OFFERED: core::cell::Cell<*mut u8> = const { core::cell::Cell::new(null_mut()) };
+}
+
+/// Offers this room to the one call of the archive's heap that follows on this thread.
+#[cfg(feature = "std")]
+#[inline]
+pub(super) fn offer(room: NonNull<()>) {
+    OFFERED.with(|offered| offered.set(room.as_ptr().cast()));
+}
+
+#[cfg(feature = "std")]
+fn take_offered() -> *mut u8 {
+    OFFERED.with(|offered| offered.replace(null_mut()))
+}
+
+#[cfg(not(feature = "std"))]
+use core::sync::atomic::{AtomicPtr, Ordering::SeqCst};
+
+/// The room of the one spawn that is at its block: without places of each thread they go one by one.
+#[cfg(not(feature = "std"))]
+static OFFERED: AtomicPtr<u8> = AtomicPtr::new(null_mut());
+
+/// Offers this room to the one call of the archive's heap that follows on this thread.
+#[cfg(not(feature = "std"))]
+pub(super) fn offer(room: NonNull<()>) {
+    while OFFERED.compare_exchange(null_mut(), room.as_ptr().cast(), SeqCst, SeqCst).is_err() {
+        core::hint::spin_loop();
+    }
+}
+
+#[cfg(not(feature = "std"))]
+fn take_offered() -> *mut u8 {
+    OFFERED.swap(null_mut(), SeqCst)
+}
+
+/// Hands out the room that is offered, once, where `size` bytes fit.
+#[no_mangle]
+extern "C" fn rattle_alloc(size: usize, align: usize) -> Tried {
+    match NonNull::new(take_offered()) {
+        Some(at) if size <= ROOM * 8 && align <= 8 => Tried { ok: true, at },
+        _ => Tried { ok: false, at: NonNull::dangling() },
+    }
+}
+
+/// Keeps the room: the task's own allocation ends after the export that answers that the cell has ended.
+#[no_mangle]
+extern "C" fn rattle_dealloc(_at: *mut u8) {}
+
+/// Refuses: a block is never made longer.
+#[no_mangle]
+extern "C" fn rattle_realloc(_at: *mut u8, _kept: usize, _size: usize, _align: usize) -> Tried {
+    Tried { ok: false, at: NonNull::dangling() }
+}

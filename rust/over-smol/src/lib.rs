@@ -1,0 +1,1 @@
+//! A program over smol whose tasks are proved: `cargo run --example tasks`.
