@@ -1,5 +1,6 @@
--- 2 of 8: each step of the machine is an act on the small task, which makes of it what the step makes, and answers what is so; or it is none.
-use Rattle.std.specs.Prelude.{◌≡◌, ℕ, Bool, true, false, List, [], ◌∷◌, Some, is_some, unwrap_or, option_map, slice_get}
+-- 2 of 10: each step of the machine is an act on the small task, which may be made then, and leaves of it what the step leaves; or it is none. So
+-- each interleaving is a run of the small task.
+use Rattle.std.specs.Prelude.{◌≡◌, ℕ, Bool, true, false, List, [], ◌∷◌, Option, Some, None, is_some, unwrap_or, option_map, slice_get}
 use Rattle.std.specs.List.{find}
 use Rattle.task_core.specs.contracts.acts.ActPartialEq.TheImpl as act_eq
 use Rattle.task_core.specs.declared.acts.Act.{Act}
@@ -14,10 +15,10 @@ use Rattle.task_laws.specs.declared.positions.Position.TheVariants.{CallEnding, 
 use Rattle.task_laws.specs.declared.positions.Answer.TheVariants.{Finished}
 use Rattle.task_laws.specs.declared.positions.PollAnswer.TheVariants.{IsPending}
 use Rattle.task_laws.specs.declared.positions.NotifyingCall.TheVariants.{OfPoll}
-use Rattle.task_laws.specs.Machine.{Machine, Step, run, scene}
+use Rattle.task_laws.specs.Machine.{Machine, Step, opening, scene, step, run}
 use Rattle.task_laws.specs.Table.{Outcome, rule}
-use Rattle.task_atomic.specs.Small.{small_task, SmallAct, Gains, Drops, Orphans, Wakes, Discards, Cancels, Claims, GivesOutputUp}
-use Rattle.task_atomic.specs.Small.{Detaches, Starts, EndsUnpolled, EndsReady, EndsPending, SeesFinished, SeesPending, SeesClosed, NoAct, makes, is_so}
+use Rattle.task_atomic.specs.Small.{small_task, spawned, SmallAct, Gains, Drops, Orphans, Wakes, Discards, Cancels, Claims, GivesOutputUp, Detaches}
+use Rattle.task_atomic.specs.Small.{Starts, EndsUnpolled, EndsReady, EndsPending, SeesFinished, SeesPending, SeesClosed, NoAct, acted, all_acted}
 
 -- the rows of each act: whichever of them a call makes, it is that act
 abbrev pub rows : List (SmallAct × List Act)
@@ -40,12 +41,36 @@ act_of Look (Answering i IsPending) = SeesPending
 act_of Look (Notifier (OfPoll i)) = SeesClosed
 act_of act p = unwrap_or (option_map (λ (row : SmallAct × List Act). row.0) (find (is_row act) rows)) NoAct
 
--- what a step leaves of the task, and what it answers
-pub record IsAtomic (m : Machine) (act : Act) (left : Outcome) : Type 0 where
-  pub leaves : small_task left.word ≡ makes m.limit (act_of act left.next) (small_task m.word)
-  pub answers : is_so m.limit (act_of act left.next) (small_task m.word) ≡ true
-
 -- after every list of steps, for each step that a party may make
 abbrev pub StepsAreAtomic : Type 0
 StepsAreAtomic = (limit : ℕ) (steps : List Step) (m : Machine) → run limit steps ≡ Some m → (i : ℕ) (p : Position) → slice_get m.parties i ≡ Some p
-    → (act : Act) (left : Outcome) → rule (scene m) act p ≡ Some left → IsAtomic m act left
+    → (act : Act) (left : Outcome) → rule (scene m) act p ≡ Some left
+    → acted m.limit (act_of act left.next) (small_task m.word) ≡ Some (small_task left.word)
+
+-- who makes an act
+pub record SmallStep : Type 0 where
+  pub party : ℕ
+  pub act : SmallAct
+
+-- the acts of a list of steps on the machine, the first one first
+abbrev pub act_in : Act → Option Position → SmallAct
+act_in act None = NoAct
+act_in act (Some next) = act_of act next
+
+abbrev pub act_at : Step → Option Machine → SmallAct
+act_at s None = NoAct
+act_at s (Some left) = act_in s.act (slice_get left.parties s.party)
+
+abbrev pub small_steps : Option Machine → List Step → List SmallStep
+small_steps m [] = []
+small_steps None (s ∷ steps) = []
+small_steps (Some m) (s ∷ steps) = record { party = s.party; act = act_at s (step m s) } ∷ small_steps (step m s) steps
+
+-- from the spawn each list of steps is a run of the small task, which leaves what the word reads as
+abbrev pub acts_in : List SmallStep → List SmallAct
+acts_in [] = []
+acts_in (s ∷ steps) = s.act ∷ acts_in steps
+
+abbrev pub StepsAreRuns : Type 0
+StepsAreRuns = (limit : ℕ) (steps : List Step) (m : Machine) → run limit steps ≡ Some m
+    → all_acted limit (acts_in (small_steps (Some (opening limit)) steps)) (Some spawned) ≡ Some (small_task m.word)

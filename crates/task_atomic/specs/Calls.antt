@@ -1,4 +1,4 @@
--- 3 of 8: each call makes its acts, and no other: how a party comes to the end of a call.
+-- 4 of 10: each call makes its acts, and no other: how a party comes to the end of a call.
 use Rattle.std.specs.Prelude.{◌≡◌, ◌⊎◌, ℕ, Bool, true, false, nat_eq, if◌then◌else◌, List, [], ◌∷◌, Option, Some, None, option_and_then, slice_get}
 use Rattle.task_core.specs.declared.acts.Act.{Act}
 use Rattle.task_core.specs.declared.acts.Act.TheVariants.{EndCall}

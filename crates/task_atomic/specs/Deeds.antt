@@ -1,4 +1,4 @@
--- 5 of 8: the acts on the small task that a party makes by a list of deeds.
+-- 6 of 10: the acts on the small task that a party makes by a list of deeds.
 use Rattle.std.specs.Prelude.{◌≡◌, not, List, [], ◌∷◌, Option, Some, None}
 use Rattle.task_core.specs.Word.{State, is_open}
 use Rattle.task_core.specs.declared.acts.Act.{Act}

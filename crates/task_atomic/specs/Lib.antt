@@ -1,9 +1,11 @@
 pub mod Small
 pub mod Atomic
+pub mod Finds
 pub mod Calls
 pub mod Registered
 pub mod Tables
 pub mod Deeds
 pub mod Paths
+pub mod CodeActs
 pub mod Tokens
 pub mod Runs

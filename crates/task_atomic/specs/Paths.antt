@@ -1,4 +1,4 @@
--- 6 of 8: which acts the path of each call is.
+-- 7 of 10: which acts the path of each call is.
 use Rattle.std.specs.Prelude.{◌≡◌, ◌⊎◌, ℕ, Bool, false, not, List, [], ◌∷◌, ◌++◌, if◌then◌else◌, Option, Some, None}
 use Rattle.task_core.specs.Word.{State, is_open}
 use Rattle.task_core.specs.declared.acts.Act.TheVariants.{HandOver, EndCall, LookFinished}

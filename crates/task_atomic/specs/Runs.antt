@@ -1,4 +1,4 @@
--- 8 of 8: each list of calls of a task of one thread is a run of the abstract task of a cell.
+-- 10 of 10: each list of calls of a task of one thread is a run of the abstract task of a cell.
 use Rattle.std.specs.Prelude.{◌≡◌, ℕ, false, if◌then◌else◌, List, [], ◌∷◌, ◌++◌, Option, Some, None}
 use Rattle.task_core.specs.Local.{Phase, Local, Started, IsPolled, IsEnded, IsNotDue, starts, settles, discards, claims, registers, has_room, is_done, is_started}
 use Rattle.task_laws.specs.Event.{Event, CallEnds}

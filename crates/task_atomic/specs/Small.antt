@@ -1,5 +1,5 @@
--- 1 of 8: a task as its callers see it, and the acts on it.
-use Rattle.std.specs.Prelude.{ℕ, ◌+◌, ◌-◌, Bool, true, false, not, ◌&&◌, ◌||◌, nat_lt, if◌then◌else◌}
+-- 1 of 10: a task as its callers see it: when each act on it may be made, what the act leaves of it, and what it answers.
+use Rattle.std.specs.Prelude.{ℕ, ◌+◌, ◌-◌, Bool, true, false, not, ◌&&◌, ◌||◌, nat_lt, if◌then◌else◌, List, [], ◌∷◌, Option, Some, None}
 use Rattle.task_core.specs.Word.{State}
 use Rattle.task_core.specs.Local.{Phase, Idle, Queued, Polled, PolledAndWoken, Done}
 
@@ -10,79 +10,81 @@ pub record SmallTask : Type 0 where
   pub has_task : Bool
   pub references : ℕ
 
--- how it is read from the word
-abbrev pub phase_of : State → Phase
-phase_of w =
-    if w.scheduled then (if w.running then PolledAndWoken else Queued)
-    else (if w.running then Polled else (if w.completed || w.closed then Done else Idle))
+-- after a spawn; and once it has lost its last handle, so that it is closed, and queued once more
+abbrev pub spawned : SmallTask
+spawned = record { phase = Queued; closed = false; has_task = true; references = 1 }
 
-abbrev pub small_task : State → SmallTask
-small_task w = record { phase = phase_of w; closed = w.closed; has_task = w.task; references = w.references }
+abbrev pub orphaned : SmallTask
+orphaned = record { phase = Queued; closed = true; has_task = false; references = 1 }
+
+-- what is asked of its phase
+abbrev pub is_idle : Phase → Bool
+is_idle Idle = true
+is_idle _ = false
+
+abbrev pub is_queued : Phase → Bool
+is_queued Queued = true
+is_queued _ = false
+
+abbrev pub is_polled : Phase → Bool
+is_polled Polled = true
+is_polled PolledAndWoken = true
+is_polled _ = false
+
+abbrev pub is_woken : Phase → Bool
+is_woken PolledAndWoken = true
+is_woken _ = false
 
 abbrev pub is_done : Phase → Bool
 is_done Done = true
 is_done _ = false
 
+-- .. and of the task: it is over; it has an output; it has a handle
 abbrev pub is_over : SmallTask → Bool
 is_over s = is_done s.phase || s.closed
 
--- a task that lost its last handle: it is closed, and queued once more
-abbrev pub orphaned : SmallTask
-orphaned = record { phase = Queued; closed = true; has_task = false; references = 1 }
+abbrev pub has_output : SmallTask → Bool
+has_output s = is_done s.phase && not s.closed
 
--- a waker is gained, unless the count is at the limit
-abbrev pub gain : ℕ → SmallTask → SmallTask
-gain limit s = if nat_lt s.references limit then record s { references = s.references + 1 } else s
+abbrev pub has_handle : SmallTask → Bool
+has_handle s = s.has_task || nat_lt 0 s.references
 
--- a waker is dropped, or a run gives its reference up
-abbrev pub drop : SmallTask → SmallTask
-drop s = record s { references = s.references - 1 }
+-- a Runnable is made of an idle task
+abbrev pub queue : SmallTask → SmallTask
+queue s = record s { phase = Queued; references = s.references + 1 }
 
 -- a wake queues an idle task, and marks one that is polled
 abbrev pub wake : SmallTask → SmallTask
 wake s = if is_over s then s else woken s.phase
   where
     woken : Phase → SmallTask
-    woken Idle = record s { phase = Queued; references = s.references + 1 }
+    woken Idle = queue s
     woken Polled = record s { phase = PolledAndWoken }
     woken _ = s
 
--- a cancel closes it, and queues an idle one for its future to be dropped
-abbrev pub cancel : SmallTask → SmallTask
-cancel s = if is_over s then s else cancelled s.phase
-  where
-    cancelled : Phase → SmallTask
-    cancelled Idle = record s { phase = Queued; closed = true; references = s.references + 1 }
-    cancelled _ = record s { closed = true }
-
--- a Runnable is dropped, an output is taken, or is given up with the Task
+-- closed by a cancel, which queues an idle task for its future to be dropped; by the drop of a Runnable; or as its output is taken or given up
 abbrev pub close : SmallTask → SmallTask
 close s = record s { closed = true }
+
+abbrev pub cancel : SmallTask → SmallTask
+cancel s = if is_over s then s else (if is_idle s.phase then close (queue s) else close s)
 
 -- the Task is given up: without another handle a closed task is gone, and an open one is closed
 abbrev pub detach : SmallTask → SmallTask
 detach s = if nat_lt 0 s.references || s.closed then record s { has_task = false } else orphaned
 
--- a run starts: a poll, unless the task is closed
+-- a run starts, with a poll unless the task is closed; and ends after one that was ready, and after one that was pending
 abbrev pub start : SmallTask → SmallTask
 start s = if s.closed then s else record s { phase = Polled }
-
--- .. and ends: without a poll, after one that was ready, and after one that was pending
-abbrev pub end_unpolled : SmallTask → SmallTask
-end_unpolled s = record s { phase = Done }
 
 abbrev pub end_ready : SmallTask → SmallTask
 end_ready s = record s { phase = Done; closed = s.closed || not s.has_task }
 
 abbrev pub end_pending : SmallTask → SmallTask
-end_pending s = if s.closed then record s { phase = Done } else ended s.phase
-  where
-    idle : SmallTask
-    idle = if nat_lt 1 s.references || s.has_task then record s { phase = Idle; references = s.references - 1 } else orphaned
-
-    ended : Phase → SmallTask
-    ended PolledAndWoken = record s { phase = Queued }
-    ended _ = idle
+end_pending s =
+    if s.closed then record s { phase = Done }
+    else (if is_woken s.phase then record s { phase = Queued }
+    else (if nat_lt 1 s.references || s.has_task then record s { phase = Idle; references = s.references - 1 } else orphaned))
 
 -- an act, with what it answers
 pub data SmallAct : Type 0 where
@@ -93,37 +95,47 @@ pub data SmallAct : Type 0 where
   SeesPending SeesClosed : SmallAct  -- that it is not done; that it is done without an output
   NoAct : SmallAct
 
--- what it makes of the task
-abbrev pub makes : ℕ → SmallAct → SmallTask → SmallTask
-makes limit (Gains gained) s = gain limit s
-makes limit Drops s = drop s
-makes limit Orphans s = orphaned
-makes limit Wakes s = wake s
-makes limit Discards s = close s
-makes limit Cancels s = cancel s
-makes limit Claims s = close s
-makes limit GivesOutputUp s = close s
-makes limit Detaches s = detach s
-makes limit Starts s = start s
-makes limit EndsUnpolled s = end_unpolled s
-makes limit EndsReady s = end_ready s
-makes limit (EndsPending woken) s = end_pending s
-makes limit _ s = s
-
--- whether what it answers is so
+-- whether the answer is this
 abbrev pub same : Bool → Bool → Bool
 same true b = b
 same false b = not b
 
-abbrev pub is_woken : Phase → Bool
-is_woken PolledAndWoken = true
-is_woken _ = false
+abbrev pub only_if : Bool → SmallTask → Option SmallTask
+only_if may s = if may then Some s else None
 
-abbrev pub is_so : ℕ → SmallAct → SmallTask → Bool
-is_so limit (Gains gained) s = same gained (nat_lt s.references limit)
-is_so limit Claims s = is_done s.phase && not s.closed
-is_so limit (EndsPending woken) s = same woken (is_woken s.phase && not s.closed)
-is_so limit (SeesFinished finished) s = same finished (is_over s)
-is_so limit SeesPending s = not (is_done s.phase)
-is_so limit SeesClosed s = is_done s.phase && s.closed
-is_so limit _ s = true
+-- what an act leaves, and None where it may not be made with this answer: `Drops` is of a waker or of a run's reference, `Orphans` comes after
+-- it where no handle is left, and the Task alone makes the acts from `Cancels` to `Detaches`, and sees
+abbrev pub acted : ℕ → SmallAct → SmallTask → Option SmallTask
+acted limit (Gains true) s = only_if (has_handle s && nat_lt s.references limit) (record s { references = s.references + 1 })
+acted limit (Gains false) s = only_if (not (nat_lt s.references limit)) s
+acted limit Drops s = only_if (nat_lt 0 s.references) (record s { references = s.references - 1 })
+acted limit Orphans s = only_if (is_idle s.phase && not s.closed && not (has_handle s)) orphaned
+acted limit Wakes s = only_if (has_handle s || is_over s) (wake s)
+acted limit Discards s = only_if (is_queued s.phase) (close s)
+acted limit Cancels s = only_if s.has_task (cancel s)
+acted limit Claims s = only_if (s.has_task && has_output s) (close s)
+acted limit GivesOutputUp s = only_if (s.has_task && has_output s) (close s)
+acted limit Detaches s = only_if (s.has_task && not (has_output s)) (detach s)
+acted limit Starts s = only_if (is_queued s.phase) (start s)
+acted limit EndsUnpolled s = only_if (is_queued s.phase && s.closed) (record s { phase = Done })
+acted limit EndsReady s = only_if (is_polled s.phase) (end_ready s)
+acted limit (EndsPending woken) s = only_if (is_polled s.phase && same woken (is_woken s.phase && not s.closed)) (end_pending s)
+acted limit (SeesFinished finished) s = only_if (s.has_task && same finished (is_over s)) s
+acted limit SeesPending s = only_if (s.has_task && not (is_done s.phase)) s
+acted limit SeesClosed s = only_if (s.has_task && is_done s.phase && s.closed) s
+acted limit NoAct s = Some s
+
+-- .. and a list of acts, the first one first
+abbrev pub all_acted : ℕ → List SmallAct → Option SmallTask → Option SmallTask
+all_acted limit [] s = s
+all_acted limit (act ∷ acts) None = None
+all_acted limit (act ∷ acts) (Some s) = all_acted limit acts (acted limit act s)
+
+-- how the small task is read from the word
+abbrev pub phase_of : State → Phase
+phase_of w =
+    if w.scheduled then (if w.running then PolledAndWoken else Queued)
+    else (if w.running then Polled else (if w.completed || w.closed then Done else Idle))
+
+abbrev pub small_task : State → SmallTask
+small_task w = record { phase = phase_of w; closed = w.closed; has_task = w.task; references = w.references }

@@ -1,4 +1,4 @@
--- 7 of 8: a task of one thread with tokens for its future and output, and a number for each awaiter.
+-- 9 of 10: a task of one thread with tokens for its future and output, and a number for each awaiter.
 use Rattle.std.specs.Prelude.{ℕ, Option, Some, None}
 use Rattle.task_core.specs.declared.traits.TaskPoll.{TaskPoll}
 use Rattle.task_core.specs.declared.traits.TaskPoll.TheVariants as answer

@@ -1,14 +1,17 @@
 //! What each call does to a task, as its callers see it: atomic acts on a small task, whatever other calls do meanwhile; that the paths which the
-//! contracts of the public calls promise are these acts; and that lists of calls of a task of one thread are runs of the abstract task of a cell.
+//! contracts of the public calls promise are these acts, made in the interleaving that the rule of a cell speaks of; and that lists of calls of a task
+//! of one thread are runs of the abstract task of a cell.
 //! It stands on `task_laws`, `async_task` and `local_task`, and takes from `task_progress` how a table of moves is run.
-//! A user calls nothing of it: the contracts of `atomic`, `calls` and `runs` are the theorems.
+//! A user calls nothing of it: the contracts of `atomic`, `calls`, `code` and `runs` are the theorems.
 //! `wrong_table` is public to show that a table which meets the laws, and by which a call acts twice, is refused.
 //! The page is README.md.
 #![tactic(auto)]
 
-ghost use Rattle.task_atomic.specs.Atomic.{StepsAreAtomic};
+ghost use Rattle.task_atomic.specs.Atomic.{StepsAreAtomic, StepsAreRuns};
 ghost use Rattle.task_atomic.specs.Calls.{CallsEndByAnswers, CallsMakeTheirActs};
+ghost use Rattle.task_atomic.specs.CodeActs.{CallsAreActs, CellsAreRuns, DeedsAreActs};
 ghost use Rattle.task_atomic.specs.Deeds.{DeedsAreSteps};
+ghost use Rattle.task_atomic.specs.Finds.{RowsFind};
 ghost use Rattle.task_atomic.specs.Paths.{PathsAreActs};
 ghost use Rattle.task_atomic.specs.Registered.{OpenTaskKeepsAwaiter, PendingIsRegistered};
 ghost use Rattle.task_atomic.specs.Runs.{CallsAreRuns};
@@ -24,6 +27,8 @@ use task_core::{Future, Schedule, Wake, Yields};
 /// What holds of every interleaving of the machine, for every limit of references and any number of parties. It has no body: the contract is the claim.
 pub fn atomic()
     ensures steps { StepsAreAtomic }
+    ensures refines { StepsAreRuns }
+    ensures finds { RowsFind }
     ensures calls { CallsMakeTheirActs rule }
     ensures ends { CallsEndByAnswers }
     ensures pending { PendingIsRegistered }
@@ -52,6 +57,15 @@ where
     F: Future<TaskWaker<R, F, Q, M, A, X, B>>,
     ensures deeds { DeedsAreSteps }
     ensures paths { (cell : _) (around : _) → PathsAreActs (HandedOver Q.scheduled cell around) (PolledOnce F.polled cell around) ((a : A) × A.woken a) A.cloned A.woken A.woken_by_ref A.compared }
+{}
+
+/// Wherever the rule of a cell holds, its interleaving is a run of the small task that ends in the present word, in which each party of a seat did last
+/// what the seat knows (`cells`). In it a deed is its act, made at that moment (`deeds`), and a call made the acts of its path, in their order, between
+/// its first deed and its answer (`calls`).
+pub fn code<F, T, A>()
+    ensures cells { CellsAreRuns F T A }
+    ensures deeds { DeedsAreActs }
+    ensures calls { CallsAreActs }
 {}
 
 /// Every list of calls of a `LocalTask`, each made where its condition holds, is a run of the abstract task, with the same answers, Runnables, ends and
