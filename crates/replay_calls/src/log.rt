@@ -1,24 +1,35 @@
 //! What happened in a script, in order.
 
 use std::alloc::{AllocError, Global};
-use std::cell::Cell;
-use std::fmt;
+use std::sync::{Mutex, Wait};
+use std::{fmt, mem};
+
+// The words so far, and whether one was lost for want of memory.
+#[derive(Drop)]
+struct Words {
+    text: String,
+    is_lost: bool,
+}
 
 /// The words of what happened so far.
 #[derive(Drop)]
-pub struct Log {
+pub struct Log<R: Wait + Drop + Copy> {
+    rt: R,
     alloc: Global,
-    text: Cell<String>,
-    lost: Cell<bool>,
+    words: Mutex<Words>,
 }
 
-impl Log {
+impl<R: Wait + Drop + Copy> Log<R> {
     /// An empty log.
-    pub fn new(alloc: Global) -> Log {
+    pub fn new(rt: R, alloc: Global) -> Log<R> {
+        let words = Words {
+            text: String::new(alloc),
+            is_lost: false,
+        };
         Log {
+            rt,
             alloc,
-            text: Cell::new(String::new(alloc)),
-            lost: Cell::new(false),
+            words: Mutex::new(words),
         }
     }
 
@@ -61,24 +72,22 @@ impl Log {
 
     /// Notes that something could not be made for want of memory.
     pub fn lose(&self) {
-        self.lost.set(true);
+        self.words.lock(&self.rt).is_lost = true;
     }
 
     /// Takes what was noted. An error if anything was lost.
     pub fn take(&self) -> Result<String, AllocError> {
-        let text = self.text.replace(String::new(self.alloc));
-        if self.lost.get() {
+        let mut words = self.words.lock(&self.rt);
+        if words.is_lost {
             return Err(AllocError);
         }
-        Ok(text)
+        Ok(mem::replace(&mut words.text, String::new(self.alloc)))
     }
 
     fn write(&self, text: &str) {
-        let mut all = self.text.replace(String::new(self.alloc));
-        let written = all.push_str(text);
-        self.text.set(all);
-        if written.is_err() {
-            self.lose();
+        let mut words = self.words.lock(&self.rt);
+        if words.text.push_str(text).is_err() {
+            words.is_lost = true;
         }
     }
 }

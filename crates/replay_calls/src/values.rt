@@ -2,162 +2,177 @@
 ghost use Rattle.std.specs.Prelude.{⊤};
 
 use crate::handles::{CarriedRunnable, CarriedWaker, HeldRunnable};
-use crate::log::Log;
+use crate::script::Moment;
+use crate::stage::Stage;
 use async_task::{Future, Poll, Schedule, ScheduleInfo, Wake, Yields};
 use std::fmt;
-use std::rc::Rc;
-use std::sync::Wait;
+use std::sync::{Arc, Wait};
 
 /// The output of the future.
-pub struct Output {
-    log: Rc<Log>,
+pub struct Output<R: Wait + Drop + Copy> {
+    stage: Arc<Stage<R>>,
 }
 
-impl Drop for Output {
+impl<R: Wait + Drop + Copy> Drop for Output<R> {
     fn drop(self) {
-        let Output { log } = self;
-        log.note("output_dropped");
+        let Output { stage } = self;
+        stage.log.note("output_dropped");
+        stage.reach(Moment::OutputDrop);
     }
 }
 
 /// The future, which does what the script says.
-pub struct ScriptFuture {
+pub struct ScriptFuture<R: Wait + Drop + Copy> {
     // The word at which its next poll begins.
     next: usize,
-    log: Rc<Log>,
+    stage: Arc<Stage<R>>,
 }
 
-impl ScriptFuture {
+impl<R: Wait + Drop + Copy> ScriptFuture<R> {
     /// The future of a script, before its first poll.
-    pub fn new(log: Rc<Log>) -> ScriptFuture {
-        ScriptFuture { next: 0, log }
+    pub fn new(stage: Arc<Stage<R>>) -> ScriptFuture<R> {
+        ScriptFuture { next: 0, stage }
     }
 
     // Ready with an output, or pending where there is none.
-    fn ready(&self) -> Poll<Output> {
-        match self.log.clone() {
-            Ok(log) => Poll::Ready(Output { log }),
+    fn ready(&self) -> Poll<Output<R>> {
+        match Arc::try_clone(&self.stage) {
+            Ok(stage) => Poll::Ready(Output { stage }),
             Err(_) => {
-                self.log.lose();
+                self.stage.log.lose();
                 Poll::Pending
             }
         }
     }
 }
 
-impl Drop for ScriptFuture {
+impl<R: Wait + Drop + Copy> Drop for ScriptFuture<R> {
     fn drop(self) {
-        let ScriptFuture { next: _, log } = self;
-        log.note("future_dropped");
+        let ScriptFuture { next: _, stage } = self;
+        stage.log.note("future_dropped");
+        stage.reach(Moment::FutureDrop);
     }
 }
 
-impl Yields for ScriptFuture {
-    type Output = Output;
+impl<R: Wait + Drop + Copy> Yields for ScriptFuture<R> {
+    type Output = Output<R>;
 }
 
-impl<'x, R: Wait + Drop + Copy> Future<CarriedWaker<'x, R>> for ScriptFuture {
+impl<'x, R: Wait + Drop + Copy> Future<CarriedWaker<'x, R>> for ScriptFuture<R>
+where
+    ScriptFuture<R>: Yields<Output = Output<R>>,
+    Awaiter<R>: Wake,
+{
     ghost polled = { λ _ _ _ _. ⊤ };
 
-    fn poll(&mut self, waker: &CarriedWaker<'x, R>) -> Poll<Output> {
-        self.log.begin("future_polled");
+    fn poll(&mut self, waker: &CarriedWaker<'x, R>) -> Poll<Output<R>> {
+        self.stage.log.begin("future_polled");
         if waker.around().play_poll(&mut self.next, waker) {
-            self.log.end("ready");
+            self.stage.log.end("ready");
             self.ready()
         } else {
-            self.log.end("pending");
+            self.stage.log.end("pending");
             Poll::Pending
         }
     }
 }
 
 /// The metadata.
-pub struct Metadata {
-    log: Rc<Log>,
+pub struct Metadata<R: Wait + Drop + Copy> {
+    stage: Arc<Stage<R>>,
 }
 
-impl Metadata {
+impl<R: Wait + Drop + Copy> Metadata<R> {
     /// Metadata that notes here.
-    pub fn new(log: Rc<Log>) -> Metadata {
-        Metadata { log }
+    pub fn new(stage: Arc<Stage<R>>) -> Metadata<R> {
+        Metadata { stage }
     }
 }
 
-impl fmt::Debug for Metadata {
+impl<R: Wait + Drop + Copy> fmt::Debug for Metadata<R> {
     fn fmt<W: fmt::Write>(&self, f: &mut fmt::Formatter<W>) -> fmt::Result {
         f.write_str("Metadata")
     }
 }
 
-impl Drop for Metadata {
+impl<R: Wait + Drop + Copy> Drop for Metadata<R> {
     fn drop(self) {
-        let Metadata { log } = self;
-        log.note("metadata_dropped");
+        let Metadata { stage } = self;
+        stage.log.note("metadata_dropped");
+        stage.reach(Moment::MetadataDrop);
     }
 }
 
 /// The schedule value.
-pub struct Scheduler {
-    log: Rc<Log>,
+pub struct Scheduler<R: Wait + Drop + Copy> {
+    stage: Arc<Stage<R>>,
 }
 
-impl Scheduler {
+impl<R: Wait + Drop + Copy> Scheduler<R> {
     /// A schedule value that notes here.
-    pub fn new(log: Rc<Log>) -> Scheduler {
-        Scheduler { log }
+    pub fn new(stage: Arc<Stage<R>>) -> Scheduler<R> {
+        Scheduler { stage }
     }
 }
 
-impl Drop for Scheduler {
+impl<R: Wait + Drop + Copy> Drop for Scheduler<R> {
     fn drop(self) {
-        let Scheduler { log } = self;
-        log.note("schedule_dropped");
+        let Scheduler { stage } = self;
+        stage.log.note("schedule_dropped");
+        stage.reach(Moment::ScheduleDrop);
     }
 }
 
-impl<'x, R: Wait + Drop + Copy> Schedule<CarriedRunnable<'x, R>> for Scheduler {
+impl<'x, R: Wait + Drop + Copy> Schedule<CarriedRunnable<'x, R>> for Scheduler<R>
+where
+    ScriptFuture<R>: Yields<Output = Output<R>>,
+    Awaiter<R>: Wake,
+{
     ghost scheduled = { λ _ _ _. ⊤ };
 
     fn schedule(&self, runnable: CarriedRunnable<'x, R>, info: ScheduleInfo) {
-        self.log.note(if info.woken_while_running {
+        self.stage.log.begin(if info.woken_while_running {
             "scheduled_woken"
         } else {
             "scheduled"
         });
         runnable.around().accept(runnable);
+        self.stage.reach(Moment::Schedule);
+        self.stage.log.end("");
     }
 }
 
 // No call is made with a handle that carries nothing.
-impl<R: Wait + Drop + Copy> Schedule<HeldRunnable<R>> for Scheduler {
+impl<R: Wait + Drop + Copy> Schedule<HeldRunnable<R>> for Scheduler<R> {
     ghost scheduled = { λ _ _ _. ⊤ };
 
     fn schedule(&self, _runnable: HeldRunnable<R>, _info: ScheduleInfo) {
-        self.log.note("scheduled_bare");
+        self.stage.log.note("scheduled_bare");
     }
 }
 
 /// An awaiter.
-pub struct Awaiter {
+pub struct Awaiter<R: Wait + Drop + Copy> {
     number: u8,
-    log: Rc<Log>,
+    stage: Arc<Stage<R>>,
 }
 
-impl Awaiter {
+impl<R: Wait + Drop + Copy> Awaiter<R> {
     /// An awaiter of that number, 0 or 1, which its clones have too.
-    pub fn new(number: u8, log: Rc<Log>) -> Awaiter {
-        Awaiter { number, log }
+    pub fn new(number: u8, stage: Arc<Stage<R>>) -> Awaiter<R> {
+        Awaiter { number, stage }
     }
 }
 
-impl Drop for Awaiter {
+impl<R: Wait + Drop + Copy> Drop for Awaiter<R> {
     fn drop(self) {
-        let Awaiter { number, log } = self;
-        log.note_of("dropped", number);
+        let Awaiter { number, stage } = self;
+        stage.log.note_of("dropped", number);
+        stage.reach(Moment::AwaiterDrop);
     }
 }
 
-impl Wake for Awaiter {
+impl<R: Wait + Drop + Copy> Wake for Awaiter<R> {
     ghost woken = { λ _. ⊤ };
 
     ghost woken_by_ref = { λ _. ⊤ };
@@ -167,24 +182,27 @@ impl Wake for Awaiter {
     ghost compared = { λ _ _ _. ⊤ };
 
     fn wake(self) {
-        let Awaiter { number, log } = self;
-        log.note_of("woken", number);
+        let Awaiter { number, stage } = self;
+        stage.log.note_of("woken", number);
+        stage.reach(Moment::AwaiterWake);
     }
 
     fn wake_by_ref(&self) {
-        self.log.note_of("woken_by_ref", self.number);
+        self.stage.log.note_of("woken_by_ref", self.number);
+        self.stage.reach(Moment::AwaiterWake);
     }
 
-    fn try_clone(&self) -> Option<Awaiter> {
-        let log = self.log.clone().ok()?;
-        log.note_of("cloned", self.number);
+    fn try_clone(&self) -> Option<Awaiter<R>> {
+        let stage = Arc::try_clone(&self.stage).ok()?;
+        stage.log.note_of("cloned", self.number);
+        stage.reach(Moment::AwaiterClone);
         Some(Awaiter {
             number: self.number,
-            log,
+            stage,
         })
     }
 
-    fn will_wake(&self, other: &Awaiter) -> bool {
+    fn will_wake(&self, other: &Awaiter<R>) -> bool {
         self.number == other.number
     }
 }
