@@ -155,6 +155,7 @@ impl<
 }
 
 pub use block::{MaybeShare, Share};
+pub use hold::CellHold;
 pub use waker::TaskWaker;
 
 mod attempt;

@@ -1,5 +1,5 @@
 //! Gaining a reference for a new waker.
-ghost use Rattle.std.specs.Prelude.{◌≡◌, ◌<◌, List, [], ◌∷◌, IfSome, is_some};
+ghost use Rattle.std.specs.Prelude.{◌≡◌, ◌<◌, List, [], ◌∷◌, IfSome, IfOk, is_some};
 ghost use Rattle.task_core.specs.Word.{HasRoom};
 ghost use Rattle.task_steps.specs.Rule.{view, fresh};
 ghost use Rattle.task_steps.specs.declared.table.Deed.{Deed};
@@ -13,6 +13,7 @@ use std::alloc::Allocator;
 use std::sync::Wait;
 use task_core::Yields;
 use task_core::word::Word;
+use task_steps::attempt::TriedOnce;
 use task_steps::table::Kept;
 use task_steps::waker::{Gaining, Parting};
 
@@ -61,5 +62,34 @@ impl<R: Wait + Drop + Copy, F: Yields, Q: Drop, M: Drop, A: Drop, B: Allocator +
         let (word, mut party) = self.borrow();
         let gained = self.gain(&mut party, word);
         (gained, party.give_back())
+    }
+}
+
+impl<R: Drop, F: Yields, Q: Drop, M: Drop, A: Drop, B: Allocator + Copy> Share<R, F, Q, M, A, B> {
+    /// A gain by whoever has a handle by reference, by at most 2^64 - 1 tries: the record of the call, and a share for the new waker, with its party, unless the count that is found is at the limit. The error is that each try has missed.
+    pub fn gain_some(
+        &self,
+    ) -> Result<
+        (
+            EndedCall<F, Kept<F>, A>,
+            Option<(Self, Party<F, Kept<F>, A>)>,
+        ),
+        (),
+    >
+        ensures path { IfOk result (λ r. (path : List Deed) × GainPath (limit_in self.now) (is_some r.1) path × HasMade self.now path r.0.party) }
+        ensures waker { IfOk result (λ r. IfSome r.1 (λ n. (cell_of n.0 ≡ cell_of self.now) × IsOf self.now n.1 × (n.1.seat.me ≡ (view (limit_in self.now) (fresh as_waker ∷ []), [])))) }
+    {
+        let (word, mut party) = self.borrow();
+        match self.attempt_some::<Gaining>(&mut party, word) {
+            TriedOnce::Made((), maybe) => {
+                let gained = self.split::<Parting>(&mut party);
+                Ok((party.give_back(), Some((maybe.share(), gained))))
+            }
+            TriedOnce::Ended(_, ()) => Ok((party.give_back(), None)),
+            TriedOnce::Again(_, ()) => {
+                let Party { seat: _ } = party;
+                Err(())
+            }
+        }
     }
 }

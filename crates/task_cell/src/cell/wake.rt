@@ -1,15 +1,16 @@
 //! Waking the task, and the party that each call by a reference to a handle gets, by a load of the word.
-ghost use Rattle.std.specs.Prelude.{◌≡◌, ◌<◌, [], ◌∷◌, IfSome, IfOk, IfErr};
+ghost use Rattle.std.specs.Prelude.{◌≡◌, ◌<◌, List, [], ◌∷◌, IfSome, IfOk, IfErr, is_some};
 ghost use Rattle.task_core.specs.Word.{HasRoom};
 ghost use Rattle.task_steps.specs.Rule.{view, fresh};
 ghost use Rattle.task_steps.specs.Attempts.{HasChanged};
-ghost use Rattle.task_steps.specs.Standing.{as_lent};
+ghost use Rattle.task_steps.specs.Standing.{as_lent, as_runnable, as_deliverer};
+ghost use Rattle.task_steps.specs.declared.table.Deed.{Deed};
 ghost use Rattle.task_steps.specs.WakerScripts.{brings_runnable, to_wake};
 ghost use Rattle.task_cell.specs.Belongs.{HasMade, IsOf, Leaves, cell_of, limit_in};
 ghost use Rattle.task_cell.specs.Calls.{Sees, Stands, limit_of, second};
-ghost use Rattle.task_cell.specs.WakerPaths.{WakesTask};
+ghost use Rattle.task_cell.specs.WakerPaths.{TaskWakePath, WakesTask};
 
-use super::{MaybeShare, Party, Share};
+use super::{EndedCall, MaybeShare, Party, Share};
 use std::alloc::Allocator;
 use std::sync::Wait;
 use task_core::Yields;
@@ -77,6 +78,51 @@ impl<R: Drop, F: Yields, Q: Drop, M: Drop, A: Drop, B: Allocator + Copy> Share<R
             TriedOnce::Ended(_, ()) => (party, Ok(None)),
             TriedOnce::Again(found, ()) => (party, Err(found)),
         }
+    }
+
+    /// A wake of the task by a handle that is lent for it, by at most 2^64 - 1 tries: the record of the call, and the Runnable that is to be handed to the schedule function, if it brought one. The error is that each try has missed.
+    pub fn wake_some(
+        &self,
+    ) -> Result<
+        (
+            EndedCall<F, Kept<F>, A>,
+            Option<(Self, Party<F, Kept<F>, A>)>,
+        ),
+        (),
+    >
+        ensures path { IfOk result (λ r. (path : List Deed) × TaskWakePath (is_some r.1) path × HasMade self.now path r.0.party) }
+        ensures runnable { IfOk result (λ r. IfSome r.1 (λ n. (cell_of n.0 ≡ cell_of self.now) × IsOf self.now n.1 × (limit_of n.1 ≡ limit_in self.now) × Stands as_runnable n.1)) }
+    {
+        let (word, mut party) = self.borrow();
+        match self.attempt_some::<WakingTask>(&mut party, word) {
+            TriedOnce::Made(found, maybe) => {
+                let woken = self.deliverer_of(&mut party, found, maybe);
+                match woken {
+                    Some((share, deliverer)) => {
+                        let runnable = self.runnable_of(deliverer);
+                        Ok((party.give_back(), Some((share, runnable))))
+                    }
+                    None => Ok((party.give_back(), None)),
+                }
+            }
+            TriedOnce::Ended(_, ()) => Ok((party.give_back(), None)),
+            TriedOnce::Again(_, ()) => {
+                let Party { seat: _ } = party;
+                Err(())
+            }
+        }
+    }
+
+    // The Runnable of a deliverer, which has ended then.
+    fn runnable_of(&self, mut deliverer: Party<F, Kept<F>, A>) -> Party<F, Kept<F>, A>
+        requires cell { IsOf self.now deliverer × (limit_of deliverer ≡ limit_in self.now) }
+        requires deliverer { Stands as_deliverer deliverer }
+        ensures { IsOf self.now result × (limit_of result ≡ limit_in self.now) × Stands as_runnable result }
+    {
+        let runnable = self.hand_over(&mut deliverer);
+        self.ledger().end(&mut deliverer);
+        deliverer.let_go();
+        runnable
     }
 }
 

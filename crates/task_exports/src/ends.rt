@@ -1,0 +1,120 @@
+//! How calls end that give a reference up: the awaiter is taken where one is due, and the last handle empties the places.
+ghost use Rattle.std.specs.Prelude.{◌≡◌, ℕ, [], ◌∷◌, Option, None, is_some, true, false};
+ghost use Rattle.task_cell.specs.Calls.{Stands, StandsWith};
+ghost use Rattle.task_exports.specs.Answers.{BeginsDue, Finishes, GivesBack, GivesUpNext, GoesOn, IsFull};
+ghost use Rattle.task_exports.specs.Hands.{IsLive};
+ghost use Rattle.task_laws.specs.Table.{notifies};
+ghost use Rattle.task_laws.specs.declared.positions.Answer.{Answer};
+ghost use Rattle.task_laws.specs.declared.positions.Answer.TheVariants.{Ran};
+ghost use Rattle.task_laws.specs.declared.positions.NotifyingCall.{NotifyingCall};
+ghost use Rattle.task_laws.specs.declared.positions.NotifyingCall.TheVariants.{OfRun};
+ghost use Rattle.task_laws.specs.declared.positions.Position.TheVariants.{Emptier, GivingUp, Releaser};
+ghost use Rattle.task_steps.specs.Rule.{Waits};
+
+use crate::answers::{DONE, ENDED, LAST, LAST_WAKE, OVER, TAKE, WAKE};
+use crate::hand::Hand;
+use crate::handle::{Handle, put, take};
+
+// Gives the reference up: 1, the call has ended; 9, it was the last handle.
+pub(crate) fn give_back(hand: Hand) -> (Hand, u32)
+    requires hand { IsLive hand }
+    requires party { (answer : Answer) × Stands (GivingUp None answer) hand.party }
+    ensures { GivesBack [] hand result.0 result.1 }
+{
+    let Hand { share, mut party } = hand;
+    let share = share.share();
+    let ledger = share.ledger();
+    let (last, maybe) = share.give_up(&mut party);
+    if last {
+        return (Hand { share: maybe, party }, LAST);
+    }
+    ledger.end(&mut party);
+    (Hand { share: maybe, party }, OVER)
+}
+
+// Begins to take the awaiter where one is due: whether its place is the party's now.
+fn begin_due(hand: Hand, due: bool) -> (Hand, bool)
+    requires hand { IsLive hand }
+    requires party { (way : NotifyingCall) × Stands (notifies due way) hand.party }
+    ensures hand { IsLive result.0 }
+    ensures path { (way : NotifyingCall) → Stands (notifies due way) hand.party → BeginsDue way due hand result.0 result.1 }
+{
+    if !due {
+        return (hand, false);
+    }
+    let Hand { share, mut party } = hand;
+    let share = share.share();
+    let taken = share.begin_notify(&mut party);
+    let share = share.into_maybe();
+    (Hand { share, party }, taken)
+}
+
+// Takes the awaiter where one is due, or else gives the reference up: 7, its place is the party's; 1, the call has ended; 9, it was the last handle.
+pub(crate) fn go_on(hand: Hand, due: bool) -> (Hand, u32)
+    requires hand { IsLive hand }
+    requires party { (way : NotifyingCall) × GivesUpNext way × Stands (notifies due way) hand.party }
+    ensures { (way : NotifyingCall) → GivesUpNext way → Stands (notifies due way) hand.party → GoesOn way due [] hand result.0 result.1 }
+{
+    let (hand, taken) = begin_due(hand, due);
+    if taken { (hand, TAKE) } else { give_back(hand) }
+}
+
+// Takes the awaiter out of its place, which the caller has done, and gives the reference up.
+fn finish(hand: Hand) -> (Hand, u32)
+    requires hand { IsLive hand }
+    requires party { (awaiter : Option ℕ) × (y : _) × StandsWith (Releaser awaiter OfRun) ((2, y) ∷ []) hand.party × Waits awaiter y }
+    ensures { (awaiter : Option ℕ) × Finishes hand result.0 awaiter result.1 }
+{
+    let Hand { share, mut party } = hand;
+    let share = share.share();
+    let ledger = share.ledger();
+    let awaiter = share.end_notify(&mut party);
+    let (last, maybe) = share.give_up(&mut party);
+    match (awaiter, last) {
+        (Some(awaiter), true) => {
+            awaiter.discard();
+            (Hand { share: maybe, party }, LAST_WAKE)
+        }
+        (Some(awaiter), false) => {
+            awaiter.discard();
+            ledger.note_woken(&mut party);
+            ledger.end(&mut party);
+            (Hand { share: maybe, party }, WAKE)
+        }
+        (None, true) => (Hand { share: maybe, party }, LAST),
+        (None, false) => {
+            ledger.end(&mut party);
+            (Hand { share: maybe, party }, OVER)
+        }
+    }
+}
+
+/// Goes on with a run whose awaiter the caller has moved out of its place: 1 or 8, the call has ended; 9 or 15, it was the last handle; in 8 and 15 the awaiter is to be woken.
+#[unsafe(no_mangle)]
+pub extern "C" fn async_task_finish(h: &mut Handle) -> u32
+    requires handle { IsFull h.old }
+    requires party { (awaiter : Option ℕ) × (y : _) × StandsWith (Releaser awaiter OfRun) ((2, y) ∷ []) h.old.hand.party × Waits awaiter y }
+    ensures there { h.new.there ≡ true }
+    ensures path { (awaiter : Option ℕ) × Finishes h.old.hand h.new.hand awaiter result }
+{
+    let (hand, answer) = finish(take(h));
+    put(h, hand);
+    answer
+}
+
+/// Empties the places of a cell, by its last handle, and ends the call: 2, the cell has ended; 12, a hold keeps it. `took` says whether the call has an awaiter in hand, which is woken after this.
+#[unsafe(no_mangle)]
+pub extern "C" fn async_task_empty(h: &mut Handle, took: bool) -> u32
+    requires handle { IsFull h.old }
+    requires party { (awaiter : Option ℕ) × (answer : Answer) × (y : _) × StandsWith (Emptier awaiter answer) ((2, y) ∷ []) h.old.hand.party × (is_some awaiter ≡ took) }
+    ensures { h.new.there ≡ false }
+{
+    let Hand { share, mut party } = take(h);
+    let (ledger, ended) = share.share().empty(&mut party);
+    if took {
+        ledger.note_woken(&mut party);
+    }
+    ledger.end(&mut party);
+    party.let_go();
+    if ended { ENDED } else { DONE }
+}
