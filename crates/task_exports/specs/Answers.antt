@@ -3,7 +3,7 @@ use Rattle.std.specs.Prelude.{◌≡◌, ℕ, ◌||◌, nat_lt, Bool, true, fals
 use Rattle.task_core.specs.Word.{State, is_open}
 use Rattle.task_core.specs.declared.acts.Act.TheVariants.{GiveUpReference, GiveUpLastReference, EndCall, BeginNotify, EndNotify, TakeAwaiter}
 use Rattle.task_core.specs.declared.acts.Act.TheVariants.{WakeAwaiter, AnswerReady, AnswerPending, DropFuture, StoreOutput, Complete}
-use Rattle.task_core.specs.declared.acts.Act.TheVariants.{CompleteDetached, EndIdle, DropWaker, DropLastWaker}
+use Rattle.task_core.specs.declared.acts.Act.TheVariants.{CompleteDetached, EndIdle, DropWaker, DropLastWaker, EmptySlots}
 use Rattle.task_laws.specs.declared.positions.Answer.{Answer}
 use Rattle.task_laws.specs.declared.positions.Answer.TheVariants.{Nothing, Ran}
 use Rattle.task_laws.specs.declared.positions.NotifyingCall.{NotifyingCall}
@@ -11,18 +11,19 @@ use Rattle.task_laws.specs.declared.positions.NotifyingCall.TheVariants.{OfRun, 
 use Rattle.task_laws.specs.declared.positions.Position.TheVariants.{AwaiterInHand, Emptier, GivingUp, OutputInHand, PendingFutureDropped, Releaser}
 use Rattle.task_laws.specs.Table.{after_taking}
 use Rattle.task_steps.specs.declared.table.Deed.{Deed}
-use Rattle.task_steps.specs.Deeds.{row, act}
-use Rattle.task_steps.specs.Rule.{Waits}
-use Rattle.task_steps.specs.Standing.{as_runnable, as_task, as_waker, as_ended}
+use Rattle.task_steps.specs.Deeds.{row, act, after}
+use Rattle.task_steps.specs.Rule.{Waits, member, view}
+use Rattle.task_steps.specs.Standing.{as_runnable, as_task, as_waker, as_lent, as_ended}
 use Rattle.task_steps.specs.Steps.{future_first, output_first}
 use Rattle.task_steps.specs.WakerScripts.{others_left}
 use Rattle.task_cell.specs.Calls.{Did, DidWith, Fits, Stands}
 use Rattle.task_cell.specs.RunPaths.{NotifyPath}
 use Rattle.task_cell.specs.Starts.{TakesUp}
+use Rattle.task_cell.specs.WakerPaths.{GainPath, TaskWakePath}
 use Rattle.task_exports.specs.Hands.{IsLive, IsGone, cell_in}
 use Rattle.task_exports.specs.declared.hand.Hand.{Hand}
 use Rattle.task_exports.specs.declared.handle.Handle.{Handle}
-use Rattle.task_exports.specs.declared.hold.Hold.{Hold}
+use Rattle.task_exports.specs.declared.grip.Hold.{Hold}
 
 -- a place with a handle that is there
 abbrev pub IsFull : Handle → Type 0
@@ -101,20 +102,33 @@ pub data Pends (x k : Hand) : ℕ → Type 0 where
 
 -- a Runnable's drop whose awaiter is out of its place: 14, it is to be woken; else the reference is given up
 pub data Discarded (x k : Hand) : Option ℕ → ℕ → Type 0 where
-  wakes : (v : State) (i : ℕ) → IsLive k → Did (row EndNotify v ∷ []) (AwaiterInHand i OfDrop) x.party k.party → Discarded x k (Some i) 14
-  gives : (v : State) (r : ℕ) → GivesBack (row EndNotify v ∷ []) x k r → Discarded x k None r
+  wakes_first : (v : State) (i : ℕ) → IsLive k → Did (row EndNotify v ∷ []) (AwaiterInHand i OfDrop) x.party k.party → Discarded x k (Some i) 14
+  gives_back : (v : State) (r : ℕ) → GivesBack (row EndNotify v ∷ []) x k r → Discarded x k None r
 
--- a wake: 10, a Runnable is to be scheduled
-pub data Wakes (x : Hand) (k : Handle) : ℕ → Type 0 where
-  missed : k.there ≡ false → Wakes x k 0
-  done : k.there ≡ false → Wakes x k 12
-  delivers : IsFull k → cell_in k.hand ≡ cell_in x → Stands as_runnable k.hand.party → Wakes x k 10
+-- what a call by reference in the cell of x has left of itself: a party that was lent for it, and did this and nothing else
+abbrev pub Records : List Deed → Hand → Hand → Type 0
+Records path x k =
+    IsGone k × (k.party.seat.block ≡ x.share.maybe.id) × (k.party.seat.me ≡ (view x.share.maybe.key (member as_lent (after path []) ∷ []), []))
+
+-- a wake: 10, a Runnable is to be scheduled; 12, there is none
+pub data Wakes (x k : Hand) : ℕ → Type 0 where
+  nothing : (path : List Deed) → TaskWakePath false path → Records path x k → Wakes x k 12
+  delivers : IsLive k → cell_in k ≡ cell_in x → Stands as_runnable k.party → Wakes x k 10
 
 -- a gain: 12, a new waker; 13, the count is at its limit
-pub data Gains (x : Hand) (k : Handle) : ℕ → Type 0 where
-  missed : k.there ≡ false → Gains x k 0
-  at_limit : k.there ≡ false → Gains x k 13
-  gains : IsFull k → cell_in k.hand ≡ cell_in x → Stands as_waker k.hand.party → Gains x k 12
+pub data Gains (x k : Hand) : ℕ → Type 0 where
+  at_limit : (path : List Deed) → GainPath x.share.maybe.key false path → Records path x k → Gains x k 13
+  gains : IsLive k → cell_in k ≡ cell_in x → Stands as_waker k.party → Gains x k 12
+
+-- what a call has put into a place, unless each of its tries has missed
+pub data Puts (Says : Hand → ℕ → Type 0) (k : Handle) : ℕ → Type 0 where
+  missed : k.there ≡ false → Puts Says k 0
+  puts : (n : ℕ) → k.there ≡ true → Says k.hand n → Puts Says k n
+
+-- the last handle has emptied the places, and its call has ended
+abbrev pub empties : Bool → List Deed
+empties true = act EmptySlots ∷ act WakeAwaiter ∷ act EndCall ∷ []
+empties false = act EmptySlots ∷ act EndCall ∷ []
 
 -- a waker's drop: 1, others are left; 9, it was the last handle of a task that is over; 10, of an open task: its Runnable
 pub data DropsWaker (x k : Hand) : ℕ → Type 0 where

@@ -1,8 +1,8 @@
 //! How calls end that give a reference up: the awaiter is taken where one is due, and the last handle empties the places.
-ghost use Rattle.std.specs.Prelude.{◌≡◌, ℕ, [], ◌∷◌, Option, None, is_some, true, false};
-ghost use Rattle.task_cell.specs.Calls.{Stands, StandsWith};
-ghost use Rattle.task_exports.specs.Answers.{BeginsDue, Finishes, GivesBack, GivesUpNext, GoesOn, IsFull};
-ghost use Rattle.task_exports.specs.Hands.{IsLive};
+ghost use Rattle.std.specs.Prelude.{◌≡◌, ℕ, [], ◌∷◌, Option, None, is_some, true, false, if◌then◌else◌};
+ghost use Rattle.task_cell.specs.Calls.{Did, Stands, StandsWith};
+ghost use Rattle.task_exports.specs.Answers.{BeginsDue, Finishes, GivesBack, GivesUpNext, GoesOn, IsFull, empties};
+ghost use Rattle.task_exports.specs.Hands.{IsGone, IsLive};
 ghost use Rattle.task_laws.specs.Table.{notifies};
 ghost use Rattle.task_laws.specs.declared.positions.Answer.{Answer};
 ghost use Rattle.task_laws.specs.declared.positions.Answer.TheVariants.{Ran};
@@ -10,6 +10,7 @@ ghost use Rattle.task_laws.specs.declared.positions.NotifyingCall.{NotifyingCall
 ghost use Rattle.task_laws.specs.declared.positions.NotifyingCall.TheVariants.{OfRun};
 ghost use Rattle.task_laws.specs.declared.positions.Position.TheVariants.{Emptier, GivingUp, Releaser};
 ghost use Rattle.task_steps.specs.Rule.{Waits};
+ghost use Rattle.task_steps.specs.Standing.{as_ended};
 
 use crate::answers::{DONE, ENDED, LAST, LAST_WAKE, OVER, TAKE, WAKE};
 use crate::hand::Hand;
@@ -70,19 +71,20 @@ fn finish(hand: Hand) -> (Hand, u32)
     let ledger = share.ledger();
     let awaiter = share.end_notify(&mut party);
     let (last, maybe) = share.give_up(&mut party);
-    match (awaiter, last) {
-        (Some(awaiter), true) => {
+    match awaiter {
+        Some(awaiter) => {
             awaiter.discard();
-            (Hand { share: maybe, party }, LAST_WAKE)
-        }
-        (Some(awaiter), false) => {
-            awaiter.discard();
+            if last {
+                return (Hand { share: maybe, party }, LAST_WAKE);
+            }
             ledger.note_woken(&mut party);
             ledger.end(&mut party);
             (Hand { share: maybe, party }, WAKE)
         }
-        (None, true) => (Hand { share: maybe, party }, LAST),
-        (None, false) => {
+        None => {
+            if last {
+                return (Hand { share: maybe, party }, LAST);
+            }
             ledger.end(&mut party);
             (Hand { share: maybe, party }, OVER)
         }
@@ -102,19 +104,42 @@ pub extern "C" fn async_task_finish(h: &mut Handle) -> u32
     answer
 }
 
+// Whether the cell has ended, as a number.
+fn told(ended: bool) -> u32
+    ensures { result ≡ (if ended then 2 else 12) }
+{
+    if ended { ENDED } else { DONE }
+}
+
+// Empties the places by the last handle, and ends the call.
+fn empty(hand: Hand, took: bool) -> (Hand, u32)
+    requires hand { IsLive hand }
+    requires party { (awaiter : Option ℕ) × (answer : Answer) × (y : _) × StandsWith (Emptier awaiter answer) ((2, y) ∷ []) hand.party × (is_some awaiter ≡ took) }
+    ensures { IsGone result.0 × Did (empties took) as_ended hand.party result.0.party }
+{
+    let Hand { share, mut party } = hand;
+    let share = share.share();
+    let gone = share.gone();
+    let (ledger, ended) = share.empty(&mut party);
+    let answer = told(ended);
+    if took {
+        ledger.note_woken(&mut party);
+        ledger.end(&mut party);
+        return (Hand { share: gone, party }, answer);
+    }
+    ledger.end(&mut party);
+    (Hand { share: gone, party }, answer)
+}
+
 /// Empties the places of a cell, by its last handle, and ends the call: 2, the cell has ended; 12, a hold keeps it. `took` says whether the call has an awaiter in hand, which is woken after this.
 #[unsafe(no_mangle)]
 pub extern "C" fn async_task_empty(h: &mut Handle, took: bool) -> u32
     requires handle { IsFull h.old }
     requires party { (awaiter : Option ℕ) × (answer : Answer) × (y : _) × StandsWith (Emptier awaiter answer) ((2, y) ∷ []) h.old.hand.party × (is_some awaiter ≡ took) }
-    ensures { h.new.there ≡ false }
+    ensures there { h.new.there ≡ true }
+    ensures path { IsGone h.new.hand × Did (empties took) as_ended h.old.hand.party h.new.hand.party }
 {
-    let Hand { share, mut party } = take(h);
-    let (ledger, ended) = share.share().empty(&mut party);
-    if took {
-        ledger.note_woken(&mut party);
-    }
-    ledger.end(&mut party);
-    party.let_go();
-    if ended { ENDED } else { DONE }
+    let (hand, answer) = empty(take(h), took);
+    put(h, hand);
+    answer
 }

@@ -7,6 +7,7 @@
 pub mod answers;
 pub mod discard;
 pub mod ends;
+pub mod grip;
 pub mod hand;
 pub mod handle;
 pub mod hold;

@@ -1,7 +1,7 @@
 //! The calls of a waker.
-ghost use Rattle.std.specs.Prelude.{◌≡◌, true, false};
+ghost use Rattle.std.specs.Prelude.{◌≡◌, ℕ, IfSome, true, false};
 ghost use Rattle.task_cell.specs.Calls.{Stands};
-ghost use Rattle.task_exports.specs.Answers.{DropsWaker, Gains, IsFull, Wakes};
+ghost use Rattle.task_exports.specs.Answers.{DropsWaker, Gains, IsFull, Puts, Wakes};
 ghost use Rattle.task_exports.specs.Hands.{IsLive};
 ghost use Rattle.task_steps.specs.Standing.{as_waker};
 
@@ -11,63 +11,103 @@ use crate::handle::{Handle, put, take};
 use crate::schedule::hand_on;
 use task_steps::waker::Dropped;
 
-/// Wakes the task by a handle that is lent for it: 10, `out` has a Runnable that is to be scheduled; 12, nothing is due; 0, each try has missed.
+fn wake(hand: Hand) -> (Hand, Option<(Hand, u32)>)
+    requires { IsLive hand }
+    ensures lent { IsLive result.0 × (result.0.party ≡ hand.party) }
+    ensures woken { IfSome result.1 (λ woken. Wakes hand woken.0 woken.1) }
+{
+    let Hand { share, party } = hand;
+    let share = share.share();
+    match share.wake_some() {
+        Ok(Ok((brought, runnable))) => {
+            let due = Hand {
+                share: brought.into_maybe(),
+                party: runnable,
+            };
+            let share = share.into_maybe();
+            (Hand { share, party }, Some((due, SCHEDULE)))
+        }
+        Ok(Err(record)) => {
+            let told = Hand {
+                share: share.gone(),
+                party: record,
+            };
+            let share = share.into_maybe();
+            (Hand { share, party }, Some((told, DONE)))
+        }
+        Err(()) => {
+            let share = share.into_maybe();
+            (Hand { share, party }, None)
+        }
+    }
+}
+
+/// Wakes the task by a handle that is lent for it: 10, `out` has a Runnable that is to be scheduled; 12, nothing is due, and `out` has the record of the call, which the caller forgets; 0, each try has missed.
 #[unsafe(no_mangle)]
 pub extern "C" fn async_task_wake(h: &mut Handle, out: &mut Handle) -> u32
     requires handle { IsFull h.old }
     requires room { out.old.there ≡ false }
-    ensures same { IsFull h.new × (h.new.hand.party ≡ h.old.hand.party) }
-    ensures answer { Wakes h.old.hand out.new result }
+    ensures lent { IsFull h.new × (h.new.hand.party ≡ h.old.hand.party) }
+    ensures answer { Puts (λ k n. Wakes h.old.hand k n) out.new result }
 {
-    let Hand { share, party } = take(h);
-    let share = share.share();
-    let woken = share.wake_some();
-    let share = share.into_maybe();
-    put(h, Hand { share, party });
+    let (hand, woken) = wake(take(h));
+    put(h, hand);
     match woken {
-        Ok((_, Some((share, runnable)))) => {
-            let share = share.into_maybe();
-            put(
-                out,
-                Hand {
-                    share,
-                    party: runnable,
-                },
-            );
-            SCHEDULE
+        Some((hand, answer)) => {
+            put(out, hand);
+            answer
         }
-        Ok((_, None)) => DONE,
-        Err(()) => MISSED,
+        None => MISSED,
     }
 }
 
-/// Gains a reference for a new waker, by a handle that is lent for it: 12, `out` has the waker; 13, the count is at its limit; 0, each try has missed.
+fn gain(hand: Hand) -> (Hand, Option<(Hand, u32)>)
+    requires { IsLive hand }
+    ensures lent { IsLive result.0 × (result.0.party ≡ hand.party) }
+    ensures gained { IfSome result.1 (λ gained. Gains hand gained.0 gained.1) }
+{
+    let Hand { share, party } = hand;
+    let share = share.share();
+    match share.gain_some() {
+        Ok(Ok((brought, waker))) => {
+            let new = Hand {
+                share: brought.into_maybe(),
+                party: waker,
+            };
+            let share = share.into_maybe();
+            (Hand { share, party }, Some((new, DONE)))
+        }
+        Ok(Err(record)) => {
+            let told = Hand {
+                share: share.gone(),
+                party: record,
+            };
+            let share = share.into_maybe();
+            (Hand { share, party }, Some((told, LIMIT)))
+        }
+        Err(()) => {
+            let share = share.into_maybe();
+            (Hand { share, party }, None)
+        }
+    }
+}
+
+/// Gains a reference for a new waker, by a handle that is lent for it: 12, `out` has the waker; 13, the count is at its limit, and `out` has the record of the call, which the caller forgets; 0, each try has missed.
 #[unsafe(no_mangle)]
 pub extern "C" fn async_task_gain(h: &mut Handle, out: &mut Handle) -> u32
     requires handle { IsFull h.old }
     requires room { out.old.there ≡ false }
-    ensures same { IsFull h.new × (h.new.hand.party ≡ h.old.hand.party) }
-    ensures answer { Gains h.old.hand out.new result }
+    ensures lent { IsFull h.new × (h.new.hand.party ≡ h.old.hand.party) }
+    ensures answer { Puts (λ k n. Gains h.old.hand k n) out.new result }
 {
-    let Hand { share, party } = take(h);
-    let share = share.share();
-    let gained = share.gain_some();
-    let share = share.into_maybe();
-    put(h, Hand { share, party });
+    let (hand, gained) = gain(take(h));
+    put(h, hand);
     match gained {
-        Ok((_, Some((share, waker)))) => {
-            let share = share.into_maybe();
-            put(
-                out,
-                Hand {
-                    share,
-                    party: waker,
-                },
-            );
-            DONE
+        Some((hand, answer)) => {
+            put(out, hand);
+            answer
         }
-        Ok((_, None)) => LIMIT,
-        Err(()) => MISSED,
+        None => MISSED,
     }
 }
 
@@ -78,12 +118,12 @@ fn drop_waker(hand: Hand) -> (Hand, u32)
 {
     let Hand { share, mut party } = hand;
     let share = share.share();
-    let (found, share) = share.drop_reference(&mut party);
+    let (found, maybe) = share.drop_reference(&mut party);
     match found {
-        Dropped::Shared => (Hand { share, party }, OVER),
-        Dropped::Last => (Hand { share, party }, LAST),
+        Dropped::Shared => (Hand { share: maybe, party }, OVER),
+        Dropped::Last => (Hand { share: maybe, party }, LAST),
         Dropped::Orphaned => {
-            let share = share.share();
+            let share = maybe.share();
             share.close_orphan(&mut party);
             (hand_on(share, party), SCHEDULE)
         }

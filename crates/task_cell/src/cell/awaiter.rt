@@ -1,5 +1,5 @@
 //! The stored awaiter: taken out by whoever ends or closes the task.
-ghost use Rattle.std.specs.Prelude.{◌≡◌, ◌∷◌, [], ℕ, List, Option, true};
+ghost use Rattle.std.specs.Prelude.{◌≡◌, ◌||◌, ◌∷◌, [], ℕ, List, Option, true};
 ghost use Rattle.task_core.specs.declared.acts.Act.TheVariants.{DropAwaiter, WakeAwaiter};
 ghost use Rattle.task_laws.specs.declared.positions.NotifyingCall.{NotifyingCall};
 ghost use Rattle.task_laws.specs.declared.positions.Position.TheVariants.{AwaiterInHand, Notifier, Releaser};
@@ -16,10 +16,17 @@ ghost use Rattle.task_cell.specs.Belongs.{IsOf};
 use super::{Party, Share};
 use std::alloc::Allocator;
 use task_core::Yields;
-use task_core::word::{AWAITER, NOTIFYING};
+use task_core::word::{AWAITER, NOTIFYING, Word};
 use task_steps::common::{ReleasingAwaiter, TakingAwaiter};
 use task_steps::places::{Held, take_out};
 use task_steps::table::Kept;
+
+// Whether a party is at the place of the awaiter.
+fn is_taken(found: Word) -> bool
+    ensures { result ≡ (found.notifying || found.registering) }
+{
+    found.notifying() || found.registering()
+}
 
 impl<R: Drop, F: Yields, Q: Drop, M: Drop, A: Drop, B: Allocator + Copy> Share<R, F, Q, M, A, B> {
     /// Takes the place of the stored awaiter, and answers whether it did: it does not where another party is at it. A single fetch, never tried again.
@@ -29,7 +36,7 @@ impl<R: Drop, F: Yields, Q: Drop, M: Drop, A: Drop, B: Allocator + Copy> Share<R
         ensures { BeginsNotify party.old party.new result }
     {
         let found = self.fetch_or::<TakingAwaiter>(party, NOTIFYING);
-        !(found.notifying() || found.registering())
+        !is_taken(found)
     }
 
     /// Takes out what lies in the place of the awaiter, and gives the place back: a single fetch, never tried again. The awaiter, if there is one.

@@ -1,5 +1,5 @@
 //! Gaining a reference for a new waker.
-ghost use Rattle.std.specs.Prelude.{◌≡◌, ◌<◌, List, [], ◌∷◌, IfSome, IfOk, is_some};
+ghost use Rattle.std.specs.Prelude.{◌≡◌, ◌<◌, List, [], ◌∷◌, IfSome, IfOk, IfErr, is_some, false};
 ghost use Rattle.task_core.specs.Word.{HasRoom};
 ghost use Rattle.task_steps.specs.Rule.{view, fresh};
 ghost use Rattle.task_steps.specs.declared.table.Deed.{Deed};
@@ -66,26 +66,22 @@ impl<R: Wait + Drop + Copy, F: Yields, Q: Drop, M: Drop, A: Drop, B: Allocator +
 }
 
 impl<R: Drop, F: Yields, Q: Drop, M: Drop, A: Drop, B: Allocator + Copy> Share<R, F, Q, M, A, B> {
-    /// A gain by whoever has a handle by reference, by at most 2^64 - 1 tries: the record of the call, and a share for the new waker, with its party, unless the count that is found is at the limit. The error is that each try has missed.
+    /// A gain by whoever has a handle by reference, by at most 2^64 - 1 tries: a share for the new waker, and its party; or, where the count that is found is at the limit, the party of the call, which tells so. The outer error is that each try has missed.
     pub fn gain_some(
         &self,
-    ) -> Result<
-        (
-            EndedCall<F, Kept<F>, A>,
-            Option<(Self, Party<F, Kept<F>, A>)>,
-        ),
-        (),
-    >
-        ensures path { IfOk result (λ r. (path : List Deed) × GainPath (limit_in self.now) (is_some r.1) path × HasMade self.now path r.0.party) }
-        ensures waker { IfOk result (λ r. IfSome r.1 (λ n. (cell_of n.0 ≡ cell_of self.now) × IsOf self.now n.1 × (n.1.seat.me ≡ (view (limit_in self.now) (fresh as_waker ∷ []), [])))) }
+    ) -> Result<Result<(Self, Party<F, Kept<F>, A>), Party<F, Kept<F>, A>>, ()>
+        ensures share { IfOk result (λ gained. IfOk gained (λ n. cell_of n.0 ≡ cell_of self.now)) }
+        ensures gains { IfOk result (λ gained. IfOk gained (λ n. IsOf self.now n.1 × (n.1.seat.me ≡ (view (limit_in self.now) (fresh as_waker ∷ []), [])))) }
+        ensures at_limit { IfOk result (λ gained. IfErr gained (λ party. (path : List Deed) × GainPath (limit_in self.now) false path × HasMade self.now path party)) }
     {
         let (word, mut party) = self.borrow();
         match self.attempt_some::<Gaining>(&mut party, word) {
             TriedOnce::Made((), maybe) => {
                 let gained = self.split::<Parting>(&mut party);
-                Ok((party.give_back(), Some((maybe.share(), gained))))
+                let Party { seat: _ } = party;
+                Ok(Ok((maybe.share(), gained)))
             }
-            TriedOnce::Ended(_, ()) => Ok((party.give_back(), None)),
+            TriedOnce::Ended(_, ()) => Ok(Err(party)),
             TriedOnce::Again(_, ()) => {
                 let Party { seat: _ } = party;
                 Err(())

@@ -46,6 +46,15 @@ impl<R, F: Yields, Q, M, A, B: Allocator + Copy> Share<R, F, Q, M, A, B> {
         }
     }
 
+    /// What a step leaves where it leaves no share: it is not there. A call by reference keeps its record with it.
+    pub fn gone(&self) -> MaybeShare<R, F, Q, M, A, B>
+        ensures { Leaves self.now result false }
+    {
+        MaybeShare {
+            maybe: self.block.gone(),
+        }
+    }
+
     // Gives the share of a lent waker up, which nobody takes back: the cell stays for ever.
     pub(crate) fn leak(self) {
         let Share { block } = self;

@@ -1,5 +1,5 @@
 //! Waking the task, and the party that each call by a reference to a handle gets, by a load of the word.
-ghost use Rattle.std.specs.Prelude.{◌≡◌, ◌<◌, List, [], ◌∷◌, IfSome, IfOk, IfErr, is_some};
+ghost use Rattle.std.specs.Prelude.{◌≡◌, ◌<◌, List, [], ◌∷◌, IfSome, IfOk, IfErr, false};
 ghost use Rattle.task_core.specs.Word.{HasRoom};
 ghost use Rattle.task_steps.specs.Rule.{view, fresh};
 ghost use Rattle.task_steps.specs.Attempts.{HasChanged};
@@ -10,7 +10,7 @@ ghost use Rattle.task_cell.specs.Belongs.{HasMade, IsOf, Leaves, cell_of, limit_
 ghost use Rattle.task_cell.specs.Calls.{Sees, Stands, limit_of, second};
 ghost use Rattle.task_cell.specs.WakerPaths.{TaskWakePath, WakesTask};
 
-use super::{EndedCall, MaybeShare, Party, Share};
+use super::{MaybeShare, Party, Share};
 use std::alloc::Allocator;
 use std::sync::Wait;
 use task_core::Yields;
@@ -80,18 +80,13 @@ impl<R: Drop, F: Yields, Q: Drop, M: Drop, A: Drop, B: Allocator + Copy> Share<R
         }
     }
 
-    /// A wake of the task by a handle that is lent for it, by at most 2^64 - 1 tries: the record of the call, and the Runnable that is to be handed to the schedule function, if it brought one. The error is that each try has missed.
+    /// A wake of the task by a handle that is lent for it, by at most 2^64 - 1 tries: the Runnable that is to be handed to the schedule function; or, where there is none, the party of the call, which tells why. The outer error is that each try has missed.
     pub fn wake_some(
         &self,
-    ) -> Result<
-        (
-            EndedCall<F, Kept<F>, A>,
-            Option<(Self, Party<F, Kept<F>, A>)>,
-        ),
-        (),
-    >
-        ensures path { IfOk result (λ r. (path : List Deed) × TaskWakePath (is_some r.1) path × HasMade self.now path r.0.party) }
-        ensures runnable { IfOk result (λ r. IfSome r.1 (λ n. (cell_of n.0 ≡ cell_of self.now) × IsOf self.now n.1 × (limit_of n.1 ≡ limit_in self.now) × Stands as_runnable n.1)) }
+    ) -> Result<Result<(Self, Party<F, Kept<F>, A>), Party<F, Kept<F>, A>>, ()>
+        ensures share { IfOk result (λ woken. IfOk woken (λ n. cell_of n.0 ≡ cell_of self.now)) }
+        ensures delivers { IfOk result (λ woken. IfOk woken (λ n. IsOf self.now n.1 × (limit_of n.1 ≡ limit_in self.now) × Stands as_runnable n.1)) }
+        ensures nothing { IfOk result (λ woken. IfErr woken (λ party. (path : List Deed) × TaskWakePath false path × HasMade self.now path party)) }
     {
         let (word, mut party) = self.borrow();
         match self.attempt_some::<WakingTask>(&mut party, word) {
@@ -99,13 +94,14 @@ impl<R: Drop, F: Yields, Q: Drop, M: Drop, A: Drop, B: Allocator + Copy> Share<R
                 let woken = self.deliverer_of(&mut party, found, maybe);
                 match woken {
                     Some((share, deliverer)) => {
+                        let Party { seat: _ } = party;
                         let runnable = self.runnable_of(deliverer);
-                        Ok((party.give_back(), Some((share, runnable))))
+                        Ok(Ok((share, runnable)))
                     }
-                    None => Ok((party.give_back(), None)),
+                    None => Ok(Err(party)),
                 }
             }
-            TriedOnce::Ended(_, ()) => Ok((party.give_back(), None)),
+            TriedOnce::Ended(_, ()) => Ok(Err(party)),
             TriedOnce::Again(_, ()) => {
                 let Party { seat: _ } = party;
                 Err(())

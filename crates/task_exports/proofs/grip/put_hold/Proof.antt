@@ -3,11 +3,11 @@ use Rattle.task_exports.proofs.Walks.{!, Bool, Goes-blank, Goes-ref, Is, List, M
 use Rattle.task_exports.specs.Places.{grip_if}
 use Rattle.task_exports.specs.contracts.hand.Grip as lying
 use Rattle.task_exports.proofs.hand.Grip.TheLaws.{the_row_laws as lying_laws, lowers as lying_lowers}
-use Rattle.task_exports.specs.contracts.hold.Hold.{the_row as Row}
-use Rattle.task_exports.proofs.hold.Hold.TheLaws.{lowers}
-use Rattle.task_exports.specs.contracts.hold.put_hold as contract
-use Rattle.task_exports.proofs.hold.put_hold.Statement.{statement}
-use Rattle.task_exports.proofs.hold.put_hold.Code as code
+use Rattle.task_exports.specs.contracts.grip.Hold.{the_row as Row}
+use Rattle.task_exports.proofs.grip.Hold.TheLaws.{lowers}
+use Rattle.task_exports.specs.contracts.grip.put_hold as contract
+use Rattle.task_exports.proofs.grip.put_hold.Statement.{statement}
+use Rattle.task_exports.proofs.grip.put_hold.Code as code
 
 abbrev Lying : RattleType
 Lying = lying.the_row

@@ -3,11 +3,11 @@ use Rattle.task_exports.proofs.Walks.{!, Bool, Goes-ref, Is, List, MutRef, Ptr, 
 use Rattle.task_exports.specs.Places.{grip_if}
 use Rattle.task_exports.specs.contracts.hand.Grip as lying
 use Rattle.task_exports.proofs.hand.Grip.TheLaws.{the_row_laws as lying_laws}
-use Rattle.task_exports.specs.contracts.hold.Hold.{the_row as Row}
-use Rattle.task_exports.proofs.hold.Hold.TheLaws.{lowers}
-use Rattle.task_exports.specs.contracts.hold.take_hold as contract
-use Rattle.task_exports.proofs.hold.take_hold.Statement.{statement}
-use Rattle.task_exports.proofs.hold.take_hold.Code as code
+use Rattle.task_exports.specs.contracts.grip.Hold.{the_row as Row}
+use Rattle.task_exports.proofs.grip.Hold.TheLaws.{lowers}
+use Rattle.task_exports.specs.contracts.grip.take_hold as contract
+use Rattle.task_exports.proofs.grip.take_hold.Statement.{statement}
+use Rattle.task_exports.proofs.grip.take_hold.Code as code
 
 abbrev Lying : RattleType
 Lying = lying.the_row
