@@ -44,14 +44,20 @@ module _ {F T A : Type 0} where
 
 pub finished_over : (hand : Option ℕ) (x k : Hand) (q r : _) (v : State) → IsGone k → Did (row EndNotify v ∷ []) (GivingUp hand (Ran false)) x.party q → Others hand (Ran false) q r → is_some hand ≡ false
     → Did (act EndCall ∷ []) (rest_of (position r)) r k.party → (awaiter : Option ℕ) × Finishes x k awaiter 1
-finished_over None x k q r v gone g o is e = (None, over v o.word o.fits gone
-    (and_ends (row EndNotify v ∷ row GiveUpReference o.word ∷ []) (Ran false) x.party r k.party (moved.did_then x.party q r (row EndNotify v ∷ []) (row GiveUpReference o.word ∷ []) (GivingUp None (Ran false)) (CallEnding (Ran false) Ended) [] [] g o.did) e))
+finished_over None x k q r v gone g o is e = (
+  None,
+  over v o.word o.fits gone
+      (and_ends (row EndNotify v ∷ row GiveUpReference o.word ∷ []) (Ran false) x.party r k.party (moved.did_then x.party q r (row EndNotify v ∷ []) (row GiveUpReference o.word ∷ []) (GivingUp None (Ran false)) (CallEnding (Ran false) Ended) [] [] g o.did) e),
+)
 finished_over (Some i) x k q r v gone g o is e = absurd (cc)
 
 pub finished_wakes : (hand : Option ℕ) (x k : Hand) (q r s : _) (v : State) → IsGone k → Did (row EndNotify v ∷ []) (GivingUp hand (Ran false)) x.party q → Others hand (Ran false) q r → is_some hand ≡ true
     → DidWith (act WakeAwaiter ∷ []) (after_waking (way_of (position r))) (places_of r) r s → Did (act EndCall ∷ []) (rest_of (position s)) s k.party → (awaiter : Option ℕ) × Finishes x k awaiter 8
-finished_wakes (Some i) x k q r s v gone g o is w e = let rest : List Deed = row GiveUpReference o.word ∷ act WakeAwaiter ∷ [] in (Some i, wakes v o.word i o.fits gone
-    (and_ends (row EndNotify v ∷ rest) (Ran false) x.party s k.party (moved.did_then x.party q s (row EndNotify v ∷ []) rest (GivingUp (Some i) (Ran false)) (CallEnding (Ran false) Ended) [] [] g
-    (moved.did_then q r s (row GiveUpReference o.word ∷ []) (act WakeAwaiter ∷ []) (AwaiterInHand i OfRun) (CallEnding (Ran false) Ended) [] [] o.did
-    (woken_at OfRun i r s (moved.stands q r (row GiveUpReference o.word ∷ []) (AwaiterInHand i OfRun) [] o.did) w))) e))
+finished_wakes (Some i) x k q r s v gone g o is w e = let rest : List Deed = row GiveUpReference o.word ∷ act WakeAwaiter ∷ [] in (
+  Some i,
+  wakes v o.word i o.fits gone
+      (and_ends (row EndNotify v ∷ rest) (Ran false) x.party s k.party (moved.did_then x.party q s (row EndNotify v ∷ []) rest (GivingUp (Some i) (Ran false)) (CallEnding (Ran false) Ended) [] [] g
+      (moved.did_then q r s (row GiveUpReference o.word ∷ []) (act WakeAwaiter ∷ []) (AwaiterInHand i OfRun) (CallEnding (Ran false) Ended) [] [] o.did
+      (woken_at OfRun i r s (moved.stands q r (row GiveUpReference o.word ∷ []) (AwaiterInHand i OfRun) [] o.did) w))) e),
+)
 finished_wakes None x k q r s v gone g o is w e = absurd (cc)

@@ -87,7 +87,7 @@ pub data Completed (x k : Hand) : ℕ → Type 0 where
       → Completed x k (if w.awaiter then 6 else 5)
   finds_detached : (w : State) (z : _) → w.task ≡ false → IsLive k
       → DidWith (act AnswerReady ∷ act DropFuture ∷ act StoreOutput ∷ row CompleteDetached w ∷ []) (OutputInHand w.awaiter) (output_first z [])
-          x.party k.party
+      x.party k.party
       → Completed x k (if w.awaiter then 6 else 5)
 
 -- a run whose poll answered Pending: 4, the task was closed; 11 and 10, its Runnable; 1, the call has ended

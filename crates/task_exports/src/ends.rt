@@ -25,12 +25,12 @@ pub(crate) fn give_back(hand: Hand) -> (Hand, u32)
     let Hand { share, mut party } = hand;
     let share = share.share();
     let ledger = share.ledger();
-    let (last, maybe) = share.give_up(&mut party);
+    let (last, share) = share.give_up(&mut party);
     if last {
-        return (Hand { share: maybe, party }, LAST);
+        return (Hand { share, party }, LAST);
     }
     ledger.end(&mut party);
-    (Hand { share: maybe, party }, OVER)
+    (Hand { share, party }, OVER)
 }
 
 // Begins to take the awaiter where one is due: whether its place is the party's now.
@@ -70,23 +70,23 @@ fn finish(hand: Hand) -> (Hand, u32)
     let share = share.share();
     let ledger = share.ledger();
     let awaiter = share.end_notify(&mut party);
-    let (last, maybe) = share.give_up(&mut party);
+    let (last, share) = share.give_up(&mut party);
     match awaiter {
         Some(awaiter) => {
             awaiter.discard();
             if last {
-                return (Hand { share: maybe, party }, LAST_WAKE);
+                return (Hand { share, party }, LAST_WAKE);
             }
             ledger.note_woken(&mut party);
             ledger.end(&mut party);
-            (Hand { share: maybe, party }, WAKE)
+            (Hand { share, party }, WAKE)
         }
         None => {
             if last {
-                return (Hand { share: maybe, party }, LAST);
+                return (Hand { share, party }, LAST);
             }
             ledger.end(&mut party);
-            (Hand { share: maybe, party }, OVER)
+            (Hand { share, party }, OVER)
         }
     }
 }

@@ -93,16 +93,18 @@ fn complete(hand: Hand) -> (Hand, u32)
     let completed = share.complete_some(&mut party, output);
     let share = share.into_maybe();
     let hand = Hand { share, party };
-    let Some(found) = completed else {
-        return (hand, MISSED);
-    };
-    if keeps_output(found) {
-        return go_on(hand, found.awaiter());
-    }
-    if found.awaiter() {
-        (hand, DROP_OUTPUT_DUE)
-    } else {
-        (hand, DROP_OUTPUT)
+    match completed {
+        Some(found) => {
+            if keeps_output(found) {
+                return go_on(hand, found.awaiter());
+            }
+            if found.awaiter() {
+                (hand, DROP_OUTPUT_DUE)
+            } else {
+                (hand, DROP_OUTPUT)
+            }
+        }
+        None => (hand, MISSED),
     }
 }
 
@@ -157,21 +159,23 @@ fn pend(hand: Hand) -> (Hand, u32)
         return (Hand { share, party }, DROP_FUTURE);
     }
     match share.end_pending_some(&mut party, found) {
-        Ok(Ok((PendingEnd::Rescheduled, maybe))) => {
-            let hand = hand_on(maybe.share(), party);
-            (hand, SCHEDULE_WOKEN)
-        }
-        Ok(Ok((PendingEnd::Orphaned, maybe))) => {
-            let hand = hand_on(maybe.share(), party);
-            (hand, SCHEDULE)
-        }
-        Ok(Ok((PendingEnd::Idle, share))) => (Hand { share, party }, OVER),
-        Ok(Err(share)) => {
-            let share = share.into_maybe();
+        Ok(Ok(ended)) => match ended.0 {
+            PendingEnd::Rescheduled => (hand_on(ended.1.share(), party), SCHEDULE_WOKEN),
+            PendingEnd::Idle => (
+                Hand {
+                    share: ended.1,
+                    party,
+                },
+                OVER,
+            ),
+            PendingEnd::Orphaned => (hand_on(ended.1.share(), party), SCHEDULE),
+        },
+        Ok(Err(kept)) => {
+            let share = kept.into_maybe();
             (Hand { share, party }, DROP_FUTURE)
         }
-        Err(share) => {
-            let share = share.into_maybe();
+        Err(kept) => {
+            let share = kept.into_maybe();
             (Hand { share, party }, MISSED)
         }
     }

@@ -118,14 +118,14 @@ fn drop_waker(hand: Hand) -> (Hand, u32)
 {
     let Hand { share, mut party } = hand;
     let share = share.share();
-    let (found, maybe) = share.drop_reference(&mut party);
+    let (found, share) = share.drop_reference(&mut party);
     match found {
-        Dropped::Shared => (Hand { share: maybe, party }, OVER),
-        Dropped::Last => (Hand { share: maybe, party }, LAST),
+        Dropped::Shared => (Hand { share, party }, OVER),
+        Dropped::Last => (Hand { share, party }, LAST),
         Dropped::Orphaned => {
-            let share = maybe.share();
-            share.close_orphan(&mut party);
-            (hand_on(share, party), SCHEDULE)
+            let owned = share.share();
+            owned.close_orphan(&mut party);
+            (hand_on(owned, party), SCHEDULE)
         }
     }
 }

@@ -1,5 +1,5 @@
 -- `take_hold` reads what lies at the place, which is room from then on.
-use Rattle.task_exports.proofs.Walks.{!, Bool, Goes-ref, Is, List, MutRef, Ptr, RattleType, Stays, Ty, Val, [], after, alloc_all, ap, at_ret, blocks, cell_at, closes, done, ends_at, enter, env, exec, fact, false, fat, first, fjoin, fld, flft, frame, free_all, froom, fsplit, fsplit3, ftrue, full_share, get, group, heard, id⊢, in_a_block, join, keep, lies_at, load, lone, look, look_at, look_in, move, mut_Tells, mut_vals, named, nothing, of_opd, opens, part_out, pass_all, peeks, pick, plain, proved, qed, raw, refl, returns, rewrite, room_at, says, sets, sets_last, shows, some, split, stay_ref, stop, sub, suffices, sym, tables, through, true, use1, walk_of, whole, ‵, ◌$◌, ◌∙◌, ◌∵◌, ◌∷◌, ◌≡◌, ◌⊛◌}
+use Rattle.task_exports.proofs.Walks.{ !, Bool, Goes-ref, Is, List, MutRef, Ptr, RattleType, Stays, Ty, Val, [], after, alloc_all, ap, at_ret, blocks, cell_at, closes, done, ends_at, enter, env, exec, fact, false, fat, first, fjoin, fld, flft, frame, free_all, froom, fsplit, fsplit3, ftrue, full_share, get, group, heard, id⊢, in_a_block, join, keep, lies_at, load, lone, look, look_at, look_in, move, mut_Tells, mut_vals, named, nothing, of_opd, opens, part_out, pass_all, peeks, pick, plain, proved, qed, raw, refl, returns, rewrite, room_at, says, sets, sets_last, shows, some, split, stay_ref, stop, sub, suffices, sym, tables, through, true, use1, walk_of, whole, ‵, ◌$◌, ◌∙◌, ◌∵◌, ◌∷◌, ◌≡◌, ◌⊛◌}
 use Rattle.task_exports.specs.Places.{grip_if}
 use Rattle.task_exports.specs.contracts.hand.Grip as lying
 use Rattle.task_exports.proofs.hand.Grip.TheLaws.{the_row_laws as lying_laws}

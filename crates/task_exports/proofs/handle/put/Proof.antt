@@ -1,5 +1,5 @@
 -- `put` writes into room, which the place then owns as what lies there.
-use Rattle.task_exports.proofs.Walks.{!, Bool, Goes-blank, Goes-ref, Is, List, MutRef, Ptr, RattleType, Stays, Ty, Val, [], after, alloc_all, ap, assigns_last, at_ret, blocks, cell_at, closes, done, ends_at, enter, env, exec, fact, false, feq_i, first, fjoin, fld, flft, frame, free_all, froom, fsplit, fsplit3, ftrue, full_share, get, group, heard, id⊢, in_a_block, init, join, keep, lies_at, load, lone, look_at, look_in, move, mut_Tells, mut_vals, named, nothing, of_opd, opens, part_at, part_in, pass_all, peeks, plain, proved, qed, raw, refl, rest, returns, rewrite, room_at, says, sets, shows, split, stay_dropped, stay_ref, stop, sub, suffices, sym, tables, through, true, unit_lit, use1, use2, vunit, walk_of, whole, yes, ‵, ◌$◌, ◌∙◌, ◌∵◌, ◌∷◌, ◌≡◌, ◌⊛◌}
+use Rattle.task_exports.proofs.Walks.{ !, Bool, Goes-blank, Goes-ref, Is, List, MutRef, Ptr, RattleType, Stays, Ty, Val, [], after, alloc_all, ap, assigns_last, at_ret, blocks, cell_at, closes, done, ends_at, enter, env, exec, fact, false, feq_i, first, fjoin, fld, flft, frame, free_all, froom, fsplit, fsplit3, ftrue, full_share, get, group, heard, id⊢, in_a_block, init, join, keep, lies_at, load, lone, look_at, look_in, move, mut_Tells, mut_vals, named, nothing, of_opd, opens, part_at, part_in, pass_all, peeks, plain, proved, qed, raw, refl, rest, returns, rewrite, room_at, says, sets, shows, split, stay_dropped, stay_ref, stop, sub, suffices, sym, tables, through, true, unit_lit, use1, use2, vunit, walk_of, whole, yes, ‵, ◌$◌, ◌∙◌, ◌∵◌, ◌∷◌, ◌≡◌, ◌⊛◌}
 use Rattle.task_exports.specs.Places.{hand_if}
 use Rattle.task_exports.specs.contracts.hand.Hand as lying
 use Rattle.task_exports.proofs.hand.Hand.TheLaws.{the_row_laws as lying_laws, lowers as lying_lowers}

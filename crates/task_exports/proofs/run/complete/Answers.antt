@@ -20,3 +20,21 @@ complete_some-completed-requires-clause-cell c = let s = c.requires.party in let
 
 pub complete_some-completed-requires-clause-party : goal.complete_some-completed-requires-clause-party
 complete_some-completed-requires-clause-party c = let s = c.requires.party in let a = c.answer_ready.ensures (future_first s.0 []) s.1 in let x = c.clear.ensures Ready s.0 ((1, Empty) ∷ []) (stands _ _ _ _ _ a) in stands _ _ _ _ _ x
+
+pub go_on-requires-clause-hand : goal.go_on-requires-clause-hand
+go_on-requires-clause-hand c = let s = c.requires.party in let a = c.answer_ready.ensures (future_first s.0 []) s.1 in let x = c.clear.ensures Ready s.0 ((1, Empty) ∷ []) (stands _ _ _ _ _ a) in
+    let g = did_then _ _ _ (act AnswerReady ∷ []) [] _ _ _ _ a x in let d = subst (λ o. IfSome o (λ w. Completes c.clear.new.party c.complete_some-completed.new.party w)) c.in-Some.is c.complete_some-completed.ensures in
+    completed _ _ _ _ _ _ _ c.requires.hand c.share-share.ensures c.into_maybe-share.ensures g d
+
+pub go_on-requires-clause-party : goal.go_on-requires-clause-party
+go_on-requires-clause-party c = let d = subst (λ o. IfSome o (λ w. Completes c.clear.new.party c.complete_some-completed.new.party w)) c.in-Some.is c.complete_some-completed.ensures in
+    (OfRun, (Ran false, refl), subst (λ b. Stands (notifies b OfRun) c.complete_some-completed.new.party) (sym c.awaiter.ensures) (kept_stands _ _ _ d (sym c.keeps_output.ensures ∙ c.if-keeps_output.true)))
+
+pub returns-then-keeps_output : goal.returns-then-keeps_output
+returns-then-keeps_output c = let s = c.requires.party in let a = c.answer_ready.ensures (future_first s.0 []) s.1 in let x = c.clear.ensures Ready s.0 ((1, Empty) ∷ []) (stands _ _ _ _ _ a) in
+    let g = did_then _ _ _ (act AnswerReady ∷ []) [] _ _ _ _ a x in let d = subst (λ o. IfSome o (λ w. Completes c.clear.new.party c.complete_some-completed.new.party w)) c.in-Some.is c.complete_some-completed.ensures in
+    let keep = sym c.keeps_output.ensures ∙ c.if-keeps_output.true in let t = subst (λ b. Stands (notifies b OfRun) c.complete_some-completed.new.party) (sym c.awaiter.ensures) (kept_stands _ _ _ d keep) in
+    completed_keeps _ _ _ _ _ _ g d keep (subst (λ b. GoesOn OfRun b [] _ c.go_on.result.0 c.go_on.result.1) c.awaiter.ensures (c.go_on.ensures OfRun (Ran false, refl) t))
+
+pub returns-in-None : goal.returns-in-None
+returns-in-None c = missed

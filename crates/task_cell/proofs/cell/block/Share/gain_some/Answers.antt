@@ -17,7 +17,7 @@ split-gained-requires-clause-allowed g c = let p = c.borrow-word.result.1 in par
 
 pub returns-in-Made-clause-gains : goal.returns-in-Made-clause-gains
 returns-in-Made-clause-gains g c = let p = c.borrow-word.result.1 in let b = c.borrow-word.ensures in let e = c.in-Made.ensures in let s = c.split-gained.ensures in
-    gain_gives _ _ p c.split-gained.new.party (Some (tt, c.split-gained.result)) b.cell (ap (λ m. m.0.limit) b.party)
+    gain_gives _ _ p c.split-gained.new.party (Some (tt {0}, c.split-gained.result)) b.cell (ap (λ m. m.0.limit) b.party)
     (gains_waker _ _ p c.attempt_some.new.party c.split-gained.new.party c.split-gained.result (fresh_stands as_lent _ p b.party) e.seat.0 e.tried s.cell.0 s.left s.cell.1 s.right)
 
 pub returns-in-Ended-clause-at_limit : goal.returns-in-Ended-clause-at_limit
