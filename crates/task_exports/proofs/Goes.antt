@@ -7,7 +7,7 @@ use Rattle.task_cell.proofs.RunRest.{at_way}
 use Rattle.task_cell.specs.Calls.{BeginsNotify, finds_another, takes_place, EndsNotify}
 use Rattle.task_cell.specs.RunPaths.{NotifyPath, not_due, missed}
 use Rattle.task_exports.specs.Hands.{IsLive, IsGone}
-use Rattle.task_exports.specs.Answers.{GivesBack, others, none, GoesOn, takes, gives, BeginsDue, is_past, GivesUpNext}
+use Rattle.task_exports.specs.Answers.{GivesBack, others, none_left, GoesOn, takes, gives, BeginsDue, is_past, GivesUpNext}
 use Rattle.task_exports.specs.Answers as answers
 use Rattle.task_exports.specs.declared.hand.Hand.{Hand}
 
@@ -19,8 +19,8 @@ joined (d ∷ a) b c = ap (λ l. d ∷ l) (joined a b c)
 pub gives_on : (before more : List Deed) (at : Position) (held : _) (x m k : Hand) (r : ℕ) → DidWith before at held x.party m.party → GivesBack more m k r → GivesBack (before ++ more) x k r
 gives_on before more at held x m k _ g (others w f gone d) = let rest : List Deed = row GiveUpReference w ∷ act EndCall ∷ [] in
     others w f gone (subst (λ (l : List Deed). Did l as_ended x.party k.party) (joined before more rest) (moved.did_then x.party m.party k.party before (more ++ rest) at as_ended held [] g d))
-gives_on before more at held x m k _ g (none w answer y f live d) = let rest : List Deed = row GiveUpLastReference w ∷ [] in
-    none w answer y f live (subst (λ (l : List Deed). DidWith l (Emptier None answer) ((2, y) ∷ []) x.party k.party) (joined before more rest) (moved.did_then x.party m.party k.party before (more ++ rest) at (Emptier None answer) held ((2, y) ∷ []) g d))
+gives_on before more at held x m k _ g (none_left w answer y f live d) = let rest : List Deed = row GiveUpLastReference w ∷ [] in
+    none_left w answer y f live (subst (λ (l : List Deed). DidWith l (Emptier None answer) ((2, y) ∷ []) x.party k.party) (joined before more rest) (moved.did_then x.party m.party k.party before (more ++ rest) at (Emptier None answer) held ((2, y) ∷ []) g d))
 
 pub goes_on : (way : NotifyingCall) (due : Bool) (before : List Deed) (at : Position) (held : _) (x m k : Hand) (r : ℕ) → DidWith before at held x.party m.party → GoesOn way due [] m k r → GoesOn way due before x k r
 goes_on way due before at held x m k _ g (takes w hand y is f live waits d) = takes w hand y is f live waits (moved.did_then x.party m.party k.party before _ at _ held ((2, y) ∷ []) g d)

@@ -3,5 +3,5 @@ pub mod Along
 pub mod Live
 pub mod Given
 pub mod Goes
-pub mod Ends
+pub mod Ending
 pub mod Runs

@@ -1,5 +1,6 @@
 -- What the steps of a run come to for its hand.
-use Rattle.task_cell.proofs.Vocabulary.{◌≡◌, ℕ, Bool, true, false, ◌&&◌, not, if◌then◌else◌, List, [], ◌∷◌, Option, Some, ap, ◌∙◌, sym, subst, Party, Slot, State, Empty, TakesUp, finds_closed, starts}
+use Rattle.task_cell.specs.declared.cell.Party.{Party}
+use Rattle.task_cell.proofs.Vocabulary.{◌≡◌, ℕ, Bool, true, false, ◌&&◌, not, if◌then◌else◌, List, [], ◌∷◌, Option, Some, ap, ◌∙◌, sym, subst, Slot, State, Empty, TakesUp, finds_closed, starts}
 use Rattle.task_cell.proofs.Vocabulary.{Completes, keeps, finds_detached, DidWith, Did, StandsWith, Stands, limit_of, row, act, notifies, OfRun, Ready, OutputInHand, future_first, output_first}
 use Rattle.task_cell.proofs.Vocabulary.{AnswerReady, DropFuture, StoreOutput, Complete, CompleteDetached}
 use Rattle.task_cell.specs.RunCalls.{finds_closed as found_closed}
@@ -44,5 +45,5 @@ completed_keeps x m k q w n g (finds_detached z h d) e go = absurd (cc)
 
 pub completed_drops : (x k : Hand) (q : _) (w : State) (n : ℕ) → DidWith (act AnswerReady ∷ []) Ready (future_first Empty []) x.party q → Completes q k.party w → (w.task && not w.closed) ≡ false → IsLive k → (if w.awaiter then 6 else 5) ≡ n → Completed x k n
 completed_drops x k q w n g (keeps h c d) e live is = let t = ap (λ b. b && not w.closed) h ∙ ap not c in absurd (cc)
-completed_drops x k q w n g (found_closed z h c d) e live is = subst (λ r. Completed x k r) is (answers.finds_closed w z h c live (ready_then x.party q k.party _ _ _ g d))
-completed_drops x k q w n g (finds_detached z h d) e live is = subst (λ r. Completed x k r) is (answers.finds_detached w z h live (ready_then x.party q k.party _ _ _ g d))
+completed_drops x k q w n g (found_closed z h c d) e live is = subst (λ r. Completed x k r) is (answers.unclaimed w z h c live (ready_then x.party q k.party _ _ _ g d))
+completed_drops x k q w n g (finds_detached z h d) e live is = subst (λ r. Completed x k r) is (answers.detached w z h live (ready_then x.party q k.party _ _ _ g d))

@@ -20,7 +20,7 @@ use Rattle.task_cell.specs.Calls.{Did, DidWith, Fits, Stands}
 use Rattle.task_cell.specs.RunPaths.{NotifyPath}
 use Rattle.task_cell.specs.Starts.{TakesUp}
 use Rattle.task_cell.specs.WakerPaths.{GainPath, TaskWakePath}
-use Rattle.task_exports.specs.Hands.{IsLive, IsGone, cell_in}
+use Rattle.task_exports.specs.Hands.{IsLive, IsGone, SameCell}
 use Rattle.task_exports.specs.declared.hand.Hand.{Hand}
 use Rattle.task_exports.specs.declared.handle.Handle.{Handle}
 use Rattle.task_exports.specs.declared.grip.Hold.{Hold}
@@ -32,12 +32,12 @@ IsFull h = (h.there ≡ true) × IsLive h.hand
 -- 0 or 12: a Runnable and a Task of one cell
 pub data Made : ℕ → Handle → Handle → Type 0 where
   refused : (r t : Handle) → r.there ≡ false → t.there ≡ false → Made 0 r t
-  made : (r t : Handle) → IsFull r → IsFull t → cell_in t.hand ≡ cell_in r.hand → Stands as_runnable r.hand.party → Stands (as_task 0) t.hand.party
+  made : (r t : Handle) → IsFull r → IsFull t → SameCell t.hand r.hand → Stands as_runnable r.hand.party → Stands (as_task 0) t.hand.party
       → Made 12 r t
 
 -- a run begins: 3, the future is to be polled; 4, the task was closed
 pub data Starts (x k : Hand) : ℕ → Type 0 where
-  missed : Starts x k 0
+  start_missed : Starts x k 0
   polls : IsLive k → TakesUp x.party k.party true → Starts x k 3
   finds_closed : IsLive k → TakesUp x.party k.party false → Starts x k 4
 
@@ -45,7 +45,7 @@ pub data Starts (x k : Hand) : ℕ → Type 0 where
 pub data GivesBack (before : List Deed) (x k : Hand) : ℕ → Type 0 where
   others : (w : State) → Fits GiveUpReference w → IsGone k → Did (before ++ row GiveUpReference w ∷ act EndCall ∷ []) as_ended x.party k.party
       → GivesBack before x k 1
-  none : (w : State) (answer : Answer) (y : _) → Fits GiveUpLastReference w → IsLive k
+  none_left : (w : State) (answer : Answer) (y : _) → Fits GiveUpLastReference w → IsLive k
       → DidWith (before ++ row GiveUpLastReference w ∷ []) (Emptier None answer) ((2, y) ∷ []) x.party k.party → GivesBack before x k 9
 
 -- after these deeds the awaiter is taken where it is due: 7, its place is the party's; else the reference is given up
@@ -79,20 +79,20 @@ GivesUpNext way = (answer : Answer) × (after_taking None way ≡ GivingUp None 
 
 -- a run that has ended with its output: 5 and 6, nobody will claim it; else the run goes on
 pub data Completed (x k : Hand) : ℕ → Type 0 where
-  missed : Completed x k 0
+  complete_missed : Completed x k 0
   keeps : (w : State) (r : ℕ) → w.task ≡ true → w.closed ≡ false
       → GoesOn OfRun w.awaiter (act AnswerReady ∷ act DropFuture ∷ act StoreOutput ∷ row Complete w ∷ []) x k r → Completed x k r
-  finds_closed : (w : State) (z : _) → w.task ≡ true → w.closed ≡ true → IsLive k
+  unclaimed : (w : State) (z : _) → w.task ≡ true → w.closed ≡ true → IsLive k
       → DidWith (act AnswerReady ∷ act DropFuture ∷ act StoreOutput ∷ row Complete w ∷ []) (OutputInHand w.awaiter) (output_first z []) x.party k.party
       → Completed x k (if w.awaiter then 6 else 5)
-  finds_detached : (w : State) (z : _) → w.task ≡ false → IsLive k
+  detached : (w : State) (z : _) → w.task ≡ false → IsLive k
       → DidWith (act AnswerReady ∷ act DropFuture ∷ act StoreOutput ∷ row CompleteDetached w ∷ []) (OutputInHand w.awaiter) (output_first z [])
       x.party k.party
       → Completed x k (if w.awaiter then 6 else 5)
 
 -- a run whose poll answered Pending: 4, the task was closed; 11 and 10, its Runnable; 1, the call has ended
 pub data Pends (x k : Hand) : ℕ → Type 0 where
-  missed : Pends x k 0
+  pend_missed : Pends x k 0
   closed : (y : _) → IsLive k → DidWith (act AnswerPending ∷ act DropFuture ∷ []) PendingFutureDropped (future_first y []) x.party k.party → Pends x k 4
   woken : (w : State) → w.closed ≡ false → w.scheduled ≡ true → IsLive k → Stands as_runnable k.party → Pends x k 11
   orphaned : (w : State) → w.closed ≡ false → w.scheduled ≡ false → (nat_lt 1 w.references || w.task) ≡ false → IsLive k → Stands as_runnable k.party
@@ -103,7 +103,7 @@ pub data Pends (x k : Hand) : ℕ → Type 0 where
 -- a Runnable's drop whose awaiter is out of its place: 14, it is to be woken; else the reference is given up
 pub data Discarded (x k : Hand) : Option ℕ → ℕ → Type 0 where
   wakes_first : (v : State) (i : ℕ) → IsLive k → Did (row EndNotify v ∷ []) (AwaiterInHand i OfDrop) x.party k.party → Discarded x k (Some i) 14
-  gives_back : (v : State) (r : ℕ) → GivesBack (row EndNotify v ∷ []) x k r → Discarded x k None r
+  without_awaiter : (v : State) (r : ℕ) → GivesBack (row EndNotify v ∷ []) x k r → Discarded x k None r
 
 -- what a call by reference in the cell of x has left of itself: a party that was lent for it, and did this and nothing else
 abbrev pub Records : List Deed → Hand → Hand → Type 0
@@ -113,16 +113,16 @@ Records path x k =
 -- a wake: 10, a Runnable is to be scheduled; 12, there is none
 pub data Wakes (x k : Hand) : ℕ → Type 0 where
   nothing : (path : List Deed) → TaskWakePath false path → Records path x k → Wakes x k 12
-  delivers : IsLive k → cell_in k ≡ cell_in x → Stands as_runnable k.party → Wakes x k 10
+  delivers : IsLive k → SameCell k x → Stands as_runnable k.party → Wakes x k 10
 
 -- a gain: 12, a new waker; 13, the count is at its limit
 pub data Gains (x k : Hand) : ℕ → Type 0 where
   at_limit : (path : List Deed) → GainPath x.share.maybe.key false path → Records path x k → Gains x k 13
-  gains : IsLive k → cell_in k ≡ cell_in x → Stands as_waker k.party → Gains x k 12
+  gains : IsLive k → SameCell k x → Stands as_waker k.party → Gains x k 12
 
 -- what a call has put into a place, unless each of its tries has missed
 pub data Puts (Says : Hand → ℕ → Type 0) (k : Handle) : ℕ → Type 0 where
-  missed : k.there ≡ false → Puts Says k 0
+  puts_none : k.there ≡ false → Puts Says k 0
   puts : (n : ℕ) → k.there ≡ true → Says k.hand n → Puts Says k n
 
 -- the last handle has emptied the places, and its call has ended
@@ -133,11 +133,11 @@ empties false = act EmptySlots ∷ act EndCall ∷ []
 -- a waker's drop: 1, others are left; 9, it was the last handle of a task that is over; 10, of an open task: its Runnable
 pub data DropsWaker (x k : Hand) : ℕ → Type 0 where
   shared : (w : State) → others_left w ≡ true → IsGone k → Did (row DropWaker w ∷ act EndCall ∷ []) as_ended x.party k.party → DropsWaker x k 1
-  last : (w : State) (y : _) → others_left w ≡ false → is_open w ≡ false → IsLive k
+  last_waker : (w : State) (y : _) → others_left w ≡ false → is_open w ≡ false → IsLive k
       → DidWith (row DropLastWaker w ∷ []) (Emptier None Nothing) ((2, y) ∷ []) x.party k.party → DropsWaker x k 9
-  orphaned : (w : State) → others_left w ≡ false → is_open w ≡ true → IsLive k → Stands as_runnable k.party → DropsWaker x k 10
+  orphan_waker : (w : State) → others_left w ≡ false → is_open w ≡ true → IsLive k → Stands as_runnable k.party → DropsWaker x k 10
 
 -- a hold: 12, it is made
 pub data Holds (k : Hold) : ℕ → Type 0 where
-  missed : k.there ≡ false → Holds k 0
+  hold_missed : k.there ≡ false → Holds k 0
   held : k.there ≡ true → Holds k 12

@@ -1,16 +1,11 @@
 -- What a handle's place has: a share of a cell that is there or gone, and a party.
-use Rattle.std.specs.Prelude.{◌≡◌, ℕ, true, false}
-use Rattle.counted_block.specs.Blocks.{BlockId}
+use Rattle.std.specs.Prelude.{◌≡◌, true, false}
 use Rattle.task_cell.specs.Calls.{limit_of}
-use Rattle.task_cell.specs.declared.cell.Cell.{Cell}
 use Rattle.task_exports.specs.declared.hand.Hand.{Hand}
 
--- which cell it is, and its limit of references
-abbrev pub cell_in : Hand → BlockId × Cell Unit Unit Unit Unit
-cell_in x = (x.share.maybe.id, x.share.maybe.value)
-
-abbrev pub limit_at : Hand → ℕ
-limit_at x = x.share.maybe.key
+-- two hands of one cell
+abbrev pub SameCell : Hand → Hand → Type 0
+SameCell x y = (x.share.maybe.id ≡ y.share.maybe.id) × (x.share.maybe.value ≡ y.share.maybe.value)
 
 -- the share is there, and the party is one of its cell
 abbrev pub IsLive : Hand → Type 0

@@ -40,14 +40,14 @@ fn begin_due(hand: Hand, due: bool) -> (Hand, bool)
     ensures hand { IsLive result.0 }
     ensures path { (way : NotifyingCall) → Stands (notifies due way) hand.party → BeginsDue way due hand result.0 result.1 }
 {
-    if !due {
-        return (hand, false);
+    if due {
+        let Hand { share, mut party } = hand;
+        let share = share.share();
+        let taken = share.begin_notify(&mut party);
+        let share = share.into_maybe();
+        return (Hand { share, party }, taken);
     }
-    let Hand { share, mut party } = hand;
-    let share = share.share();
-    let taken = share.begin_notify(&mut party);
-    let share = share.into_maybe();
-    (Hand { share, party }, taken)
+    (hand, false)
 }
 
 // Takes the awaiter where one is due, or else gives the reference up: 7, its place is the party's; 1, the call has ended; 9, it was the last handle.

@@ -1,9 +1,9 @@
 //! Runnables that go to the schedule function.
 ghost use Rattle.std.specs.Prelude.{◌≡◌, true};
-ghost use Rattle.task_cell.specs.Belongs.{IsOf, cell_of, limit_in};
+ghost use Rattle.task_cell.specs.Belongs.{IsOf, limit_in};
 ghost use Rattle.task_cell.specs.Calls.{Stands, limit_of};
 ghost use Rattle.task_exports.specs.Answers.{IsFull};
-ghost use Rattle.task_exports.specs.Hands.{IsLive, cell_in};
+ghost use Rattle.task_exports.specs.Hands.{IsLive};
 ghost use Rattle.task_laws.specs.declared.positions.Answer.{Answer};
 ghost use Rattle.task_laws.specs.declared.positions.OnceDelivered.TheVariants.{ThenEnds};
 ghost use Rattle.task_laws.specs.declared.positions.Position.{Position};
@@ -19,7 +19,7 @@ use crate::handle::{Handle, put, take};
 pub(crate) fn hand_on(share: CellShare, mut party: CellParty) -> Hand
     requires cell { IsOf share party × (limit_of party ≡ limit_in share) }
     requires party { (at : Position) × (answer : Answer) × (hands_over at ≡ true) × (handed_over at ≡ CallEnding answer Ended) × Stands at party }
-    ensures { IsLive result × (cell_in result ≡ cell_of share) × Stands as_runnable result.party }
+    ensures { IsLive result × ((result.share.maybe.id ≡ share.block.id) × (result.share.maybe.value ≡ share.block.value)) × Stands as_runnable result.party }
 {
     let runnable = share.hand_over(&mut party);
     share.ledger().end(&mut party);

@@ -1,6 +1,6 @@
 use Rattle.task_cell.proofs.Vocabulary.{[], ◌∷◌, ◌∙◌, sym, ap, is_some, Some, None, OfDrop, Releaser}
 use Rattle.task_exports.proofs.Live.{of_cell, lives_on}
-use Rattle.task_exports.proofs.Ends.{taken_wakes, taken_gives, taken_none}
+use Rattle.task_exports.proofs.Ending.{taken_wakes, taken_gives, taken_none}
 use Rattle.task_exports.proofs.discard.discard_taken.Goals as goal
 
 pub end_notify-awaiter-requires-clause-party : goal.end_notify-awaiter-requires-clause-party

@@ -1,4 +1,4 @@
-use Rattle.task_exports.specs.Answers.{missed, held}
+use Rattle.task_exports.specs.Answers.{hold_missed, held}
 use Rattle.task_exports.proofs.Along.{lent_back}
 use Rattle.task_exports.proofs.hold.async_task_hold.Goals as goal
 
@@ -12,4 +12,4 @@ pub returns-in-None-clause-lent : goal.returns-in-None-clause-lent
 returns-in-None-clause-lent c = let x = lent_back _ _ _ _ c.take.ensures.0 c.put.ensures.0 c.keep-hand.ensures in ((c.put.ensures.1, x.0), x.1)
 
 pub returns-in-None-clause-answer : goal.returns-in-None-clause-answer
-returns-in-None-clause-answer c = missed c.requires.room
+returns-in-None-clause-answer c = hold_missed c.requires.room

@@ -1,6 +1,7 @@
 use Rattle.task_cell.proofs.Vocabulary.{◌∙◌, sym, ap, subst, refl, ◌∷◌, [], false, if◌then◌else◌, IfSome, OfRun, Ran, Ready, AnswerReady, Empty, Completes, Stands, notifies, act, future_first}
 use Rattle.task_cell.proofs.Moved.{stands, did_then}
-use Rattle.task_exports.specs.Answers.{GoesOn, missed}
+use Rattle.task_exports.specs.Answers.{GoesOn, complete_missed}
+use Rattle.task_exports.specs.declared.hand.Hand.{Hand}
 use Rattle.task_exports.proofs.Live.{of_cell}
 use Rattle.task_exports.proofs.Runs.{completed, kept_stands, completed_keeps, completed_drops}
 use Rattle.task_exports.proofs.run.complete.Goals as goal
@@ -34,7 +35,8 @@ pub returns-then-keeps_output : goal.returns-then-keeps_output
 returns-then-keeps_output c = let s = c.requires.party in let a = c.answer_ready.ensures (future_first s.0 []) s.1 in let x = c.clear.ensures Ready s.0 ((1, Empty) ∷ []) (stands _ _ _ _ _ a) in
     let g = did_then _ _ _ (act AnswerReady ∷ []) [] _ _ _ _ a x in let d = subst (λ o. IfSome o (λ w. Completes c.clear.new.party c.complete_some-completed.new.party w)) c.in-Some.is c.complete_some-completed.ensures in
     let keep = sym c.keeps_output.ensures ∙ c.if-keeps_output.true in let t = subst (λ b. Stands (notifies b OfRun) c.complete_some-completed.new.party) (sym c.awaiter.ensures) (kept_stands _ _ _ d keep) in
-    completed_keeps _ _ _ _ _ _ g d keep (subst (λ b. GoesOn OfRun b [] _ c.go_on.result.0 c.go_on.result.1) c.awaiter.ensures (c.go_on.ensures OfRun (Ran false, refl) t))
+    let m : Hand = record { share = c.into_maybe-share.result; party = c.complete_some-completed.new.party } in
+    completed_keeps _ m _ _ _ _ g d keep (subst (λ b. GoesOn OfRun b [] m c.go_on.result.0 c.go_on.result.1) c.awaiter.ensures (c.go_on.ensures OfRun (Ran false, refl) t))
 
 pub returns-in-None : goal.returns-in-None
-returns-in-None c = missed
+returns-in-None c = complete_missed

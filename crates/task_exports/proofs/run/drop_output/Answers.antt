@@ -5,7 +5,7 @@ use Rattle.task_exports.proofs.Goes.{goes_on}
 use Rattle.task_exports.proofs.run.drop_output.Goals as goal
 
 pub drop_output-requires-clause-party : goal.drop_output-requires-clause-party
-drop_output-requires-clause-party c = (c.args.due, c.requires.party)
+drop_output-requires-clause-party c = (c.args.due, c.requires.party.0, c.requires.party.1)
 
 pub go_on-requires-clause-hand : goal.go_on-requires-clause-hand
 go_on-requires-clause-hand c = lives_on _ _ _ _ _ _ _ _ c.requires.hand c.share-share.ensures c.into_maybe-share.ensures (c.drop_output.ensures c.args.due c.requires.party.0 c.requires.party.1)

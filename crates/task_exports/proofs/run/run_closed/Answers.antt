@@ -2,6 +2,7 @@ use Rattle.task_cell.proofs.Vocabulary.{◌∙◌, sym, subst, refl, ◌∷◌, 
 use Rattle.task_cell.proofs.Moved.{stands}
 use Rattle.task_cell.proofs.RunRest.{unscheduled}
 use Rattle.task_exports.specs.Answers.{GoesOn}
+use Rattle.task_exports.specs.declared.hand.Hand.{Hand}
 use Rattle.task_exports.proofs.Live.{of_cell, lives_on}
 use Rattle.task_exports.proofs.Goes.{goes_on}
 use Rattle.task_exports.proofs.run.run_closed.Goals as goal
@@ -26,5 +27,5 @@ go_on-requires-clause-party c = let s = c.requires.party in let x = c.clear.ensu
 pub returns : goal.returns
 returns c = let s = c.requires.party in let x = c.clear.ensures (FutureInHand ClosedRun) s.0 ((1, Empty) ∷ []) s.1 in let w = c.unschedule-found.result in
     let h = unscheduled ClosedRun w (future_first Empty []) _ _ _ x c.unschedule-found.ensures in
-    let t = subst (λ b. Stands (notifies b OfRun) c.unschedule-found.new.party) (sym c.awaiter.ensures) (stands _ _ _ _ _ h) in
-    (w, goes_on OfRun w.awaiter (act DropFuture ∷ row Unschedule w ∷ []) _ _ _ _ _ _ h (subst (λ b. GoesOn OfRun b [] _ c.go_on.result.0 c.go_on.result.1) c.awaiter.ensures (c.go_on.ensures OfRun (Ran false, refl) t)))
+    let m : Hand = record { share = c.into_maybe-share.result; party = c.unschedule-found.new.party } in let t = subst (λ b. Stands (notifies b OfRun) c.unschedule-found.new.party) (sym c.awaiter.ensures) (stands _ _ _ _ _ h) in
+    (w, goes_on OfRun w.awaiter (act DropFuture ∷ row Unschedule w ∷ []) _ _ _ m _ _ h (subst (λ b. GoesOn OfRun b [] m c.go_on.result.0 c.go_on.result.1) c.awaiter.ensures (c.go_on.ensures OfRun (Ran false, refl) t)))

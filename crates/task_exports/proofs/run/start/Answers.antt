@@ -1,5 +1,5 @@
 use Rattle.task_cell.proofs.Vocabulary.{subst, true, false, Some, IfSome, TakesUp}
-use Rattle.task_exports.specs.Answers.{missed, polls, finds_closed}
+use Rattle.task_exports.specs.Answers.{start_missed, polls, finds_closed}
 use Rattle.task_exports.proofs.Runs.{taken_up}
 use Rattle.task_exports.proofs.Live.{lives_on}
 use Rattle.task_exports.proofs.run.start.Goals as goal
@@ -13,4 +13,4 @@ returns-in-Some-false c = let t = subst (λ o. IfSome o (λ b. TakesUp c.args.ha
     finds_closed (taken_up _ _ _ _ _ _ c.requires.hand c.share-share.ensures c.into_maybe-share.ensures t) t
 
 pub returns-in-None : goal.returns-in-None
-returns-in-None c = missed
+returns-in-None c = start_missed

@@ -17,6 +17,6 @@ let_go-requires c = let s = c.requires.party in stands _ _ _ _ _ (and_ends (act 
 pub returns : goal.returns
 returns c = let n = c.hand_over-runnable.ensures.runnable in let m = c.into_maybe.ensures in (
   (m.is_there, n.cell ∙ (c.requires.cell.0 ∙ sym m.cell.0), new_limit _ _ _ n ∙ (c.requires.cell.1 ∙ sym m.limit)),
-  (λ i. (m.cell.0 i, m.cell.1 i)),
+  m.cell,
   fresh_stands as_runnable _ _ n.is,
 )

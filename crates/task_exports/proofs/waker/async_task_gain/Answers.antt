@@ -1,5 +1,5 @@
 use Rattle.task_cell.proofs.Vocabulary.{subst, IfSome}
-use Rattle.task_exports.specs.Answers.{Gains, missed, puts}
+use Rattle.task_exports.specs.Answers.{Gains, puts_none, puts}
 use Rattle.task_exports.proofs.Along.{along, lent_back}
 use Rattle.task_exports.proofs.waker.async_task_gain.Goals as goal
 
@@ -14,4 +14,4 @@ pub returns-in-None-clause-lent : goal.returns-in-None-clause-lent
 returns-in-None-clause-lent c = let x = lent_back _ _ _ _ c.take.ensures.0 c.put.ensures.0 c.gain-hand.ensures.lent in ((c.put.ensures.1, x.0), x.1)
 
 pub returns-in-None-clause-answer : goal.returns-in-None-clause-answer
-returns-in-None-clause-answer c = missed c.requires.room
+returns-in-None-clause-answer c = puts_none c.requires.room

@@ -5,7 +5,7 @@ use Rattle.task_steps.specs.WakerScripts.{ends_waker}
 use Rattle.task_cell.proofs.Moved.{stands, limit_is}
 use Rattle.task_cell.proofs.Sharing.{same_cell, same_block, same_limit}
 use Rattle.task_cell.proofs.WakerCalls.{orphan_closed}
-use Rattle.task_exports.specs.Answers.{shared, last, orphaned}
+use Rattle.task_exports.specs.Answers.{shared, last_waker, orphan_waker}
 use Rattle.task_exports.proofs.Live.{of_cell, of_limit, lives_left}
 use Rattle.task_exports.proofs.waker.drop_waker.Goals as goal
 
@@ -15,7 +15,7 @@ returns-in-Shared c = let x = subst (CellDrops c.args.hand.party c.drop_referenc
 
 pub returns-in-Last : goal.returns-in-Last
 returns-in-Last c = let x = subst (CellDrops c.args.hand.party c.drop_reference-found.new.party) c.in-Last.is c.drop_reference-found.ensures.path in
-    last x.0 x.1 x.2 x.3 (lives_left _ _ _ _ _ _ _ _ _ c.requires.hand c.share-share.ensures c.drop_reference-found.ensures.share (ap (λ x. not (ends_waker x)) c.in-Last.is) x.4) x.4
+    last_waker x.0 x.1 x.2 x.3 (lives_left _ _ _ _ _ _ _ _ _ c.requires.hand c.share-share.ensures c.drop_reference-found.ensures.share (ap (λ x. not (ends_waker x)) c.in-Last.is) x.4) x.4
 
 pub share-owned-requires : goal.share-owned-requires
 share-owned-requires c = record { there = c.drop_reference-found.ensures.share.is_there ∙ ap (λ x. not (ends_waker x)) c.in-Orphaned.is }
@@ -36,4 +36,4 @@ hand_on-requires-clause-party c = let x = orphan_closed _ _ _ (subst (CellDrops 
 
 pub returns-in-Orphaned : goal.returns-in-Orphaned
 returns-in-Orphaned c = let x = subst (CellDrops c.args.hand.party c.drop_reference-found.new.party) c.in-Orphaned.is c.drop_reference-found.ensures.path in
-    orphaned x.0 x.1 x.2 c.hand_on.ensures.0 c.hand_on.ensures.2
+    orphan_waker x.0 x.1 x.2 c.hand_on.ensures.0 c.hand_on.ensures.2

@@ -1,6 +1,7 @@
 -- What the awaiter that was taken out of its place comes to.
+use Rattle.task_cell.specs.declared.cell.Party.{Party}
 use Rattle.task_cell.proofs.Vocabulary.{◌≡◌, ℕ, Bool, true, false, List, [], ◌∷◌, ◌++◌, Option, Some, None, refl, sym, subst, is_some, State, Answer, Nothing, Ran, Ended, AwaiterInHand, Emptier, GivingUp, CallEnding}
-use Rattle.task_cell.proofs.Vocabulary.{GiveUpReference, GiveUpLastReference, EndCall, EndNotify, WakeAwaiter, OfRun, OfDrop, Slot, Deed, Party, DidWith, Did, Stands, row, act, as_ended, rest_of, position, places_of, way_of, after_taking, after_waking, after_giving_up}
+use Rattle.task_cell.proofs.Vocabulary.{GiveUpReference, GiveUpLastReference, EndCall, EndNotify, WakeAwaiter, OfRun, OfDrop, Slot, Deed, DidWith, Did, Stands, row, act, as_ended, rest_of, position, places_of, way_of, after_taking, after_waking, after_giving_up}
 use Rattle.task_cell.proofs.Moved as moved
 use Rattle.task_exports.specs.Hands.{IsLive, IsGone}
 use Rattle.task_exports.specs.Answers.{GivesBack, Finishes, over, wakes, last, last_wakes, Discarded}
@@ -20,7 +21,7 @@ module _ {F T A : Type 0} where
   taken_none (Some i) v p q is g = absurd (cc)
 
 pub taken_gives : (hand : Option ℕ) (x m k : Hand) (r : ℕ) → is_some hand ≡ false → (v : State) → Did (row EndNotify v ∷ []) (after_taking hand OfDrop) x.party m.party → GivesBack [] m k r → (awaiter : Option ℕ) × Discarded x k awaiter r
-taken_gives None x m k r is v g b = (None, answers.gives_back v r (gives_on (row EndNotify v ∷ []) [] (GivingUp None Nothing) [] x m k r g b))
+taken_gives None x m k r is v g b = (None, answers.without_awaiter v r (gives_on (row EndNotify v ∷ []) [] (GivingUp None Nothing) [] x m k r g b))
 taken_gives (Some i) x m k r is v g b = absurd (cc)
 
 -- in a run: after the reference was given up
