@@ -158,6 +158,7 @@ pub use block::{MaybeShare, Share};
 pub use hold::CellHold;
 pub use waker::TaskWaker;
 
+mod alter;
 mod attempt;
 mod awaiter;
 pub(crate) mod block;
