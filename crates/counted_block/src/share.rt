@@ -77,6 +77,27 @@ impl<S, V, K, P: BlockRule<S, V, K>, T, A: Allocator> Share<S, V, K, P, T, A> {
         unsafe { &(*self.at).value }
     }
 
+    /// The share as what a step may have made or left: it is `there`. It costs nothing.
+    pub fn into_maybe(self) -> MaybeShare<S, V, K, P, T, A>
+        ensures { (result.id ≡ self.id) × (result.key ≡ self.key) × (result.value ≡ self.value) × (result.heap ≡ self.heap) × (result.there ≡ true) }
+    {
+        let Share { at, marker: _ } = self;
+        MaybeShare {
+            at,
+            marker: PhantomData,
+        }
+    }
+
+    /// What a step leaves where it leaves no share: it is not `there`. It costs nothing.
+    pub fn gone(&self) -> MaybeShare<S, V, K, P, T, A>
+        ensures { (result.id ≡ self.now.id) × (result.key ≡ self.now.key) × (result.value ≡ self.now.value) × (result.heap ≡ self.now.heap) × (result.there ≡ false) }
+    {
+        MaybeShare {
+            at: self.at,
+            marker: PhantomData,
+        }
+    }
+
     /// Gives the share up without a step. Its block is never freed.
     pub fn leak(self) {
         let Share { at: _, marker: _ } = self;

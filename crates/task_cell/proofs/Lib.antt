@@ -20,3 +20,5 @@ pub mod PollAnswers
 pub mod WakerMoves
 pub mod WakerCalls
 pub mod PollSeen
+pub mod PollTried
+pub mod PollStores

@@ -1,18 +1,21 @@
 -- What a call of the cell asks of its party, and says of it.
-use Rattle.std.specs.Prelude.{◌≡◌, ◌<◌, ℕ, List, [], ◌∷◌, Bool, true, false, Option, Some, None}
+use Rattle.std.specs.Prelude.{◌≡◌, ◌<◌, ℕ, List, [], ◌∷◌, Bool, true, false, Option, Some, None, is_some}
 use Rattle.atomic_table.specs.Table.{Me, Allows, Splits}
 use Rattle.counted_block.specs.Counts.{Same, More, Less, Notes}
 use Rattle.task_core.specs.Word.{HasRoom, State, state_of}
 use Rattle.task_core.specs.Rows.{found}
 use Rattle.task_core.specs.declared.acts.Act.{Act}
+use Rattle.task_laws.specs.declared.positions.NotifyingCall.{NotifyingCall}
 use Rattle.task_laws.specs.declared.positions.Position.{Position}
+use Rattle.task_laws.specs.declared.positions.Position.TheVariants.{Releaser}
 use Rattle.task_core.specs.declared.acts.Act.TheVariants.{MissNotify, BeginNotify, TakeAwaiter, EndNotify}
 use Rattle.task_laws.specs.Table.{after_taking}
+use Rattle.task_steps.specs.declared.places.Held.{Held}
 use Rattle.task_steps.specs.declared.table.Slot.{Slot}
 use Rattle.task_steps.specs.declared.table.Deed.{Deed}
 use Rattle.task_steps.specs.declared.table.View.{View}
 use Rattle.task_cell.specs.declared.cell.Party.{Party}
-use Rattle.task_steps.specs.Rule.{member, view, fresh, RuleHolds}
+use Rattle.task_steps.specs.Rule.{member, view, fresh, RuleHolds, Waits}
 use Rattle.task_steps.specs.Deeds.{row, act, after}
 use Rattle.task_steps.specs.Standing.{way_of}
 use Rattle.task_steps.specs.Steps.{head_of, Makes}
@@ -100,6 +103,21 @@ module _ {F T A : Type 0} where
   pub record IsNew (at : Position) (p q : Party F T A) : Type 0 where
     pub cell : q.seat.block ≡ p.seat.block
     pub is : q.seat.me ≡ (view (limit_of p) (fresh at ∷ []), [])
+
+  -- the first step of a notifier: it takes the place of the awaiter, unless another party is at it
+  pub data BeginsNotify (p q : Party F T A) : Bool → Type 0 where
+    finds_another : (w : State) → Fits MissNotify w
+        → DidWith (row MissNotify w ∷ []) (after_taking None (way_of (position p))) (places_of p) p q → BeginsNotify p q false
+    takes_place : (w : State) (hand : Option ℕ) (y : Slot F T A) → Fits BeginNotify w → Waits hand y
+        → DidWith (row BeginNotify w ∷ act TakeAwaiter ∷ []) (Releaser hand (way_of (position p))) ((2, y) ∷ places_of p) p q
+        → BeginsNotify p q true
+
+  -- .. and the second: what lies there is taken out, and the place given back
+  pub record EndsNotify (hand : Option ℕ) (way : NotifyingCall) (held : List (ℕ × Slot F T A)) (p q : Party F T A) (found : Option (Held A))
+      : Type 0 where
+    pub word : State
+    pub is_there : is_some found ≡ is_some hand
+    pub did : DidWith (row EndNotify word ∷ []) (after_taking hand way) held p q
 
   -- a notifier: it finds another party at the awaiter, or takes it out
   pub data Notifies (p q : Party F T A) : Option A → Type 0 where

@@ -10,3 +10,4 @@ pub mod TaskPaths
 pub mod PollPaths
 pub mod Wakers
 pub mod WakerPaths
+pub mod Stores

@@ -155,8 +155,10 @@ impl<
 }
 
 pub use block::{MaybeShare, Share};
+pub use hold::CellHold;
 pub use waker::TaskWaker;
 
+mod alter;
 mod attempt;
 mod awaiter;
 pub(crate) mod block;

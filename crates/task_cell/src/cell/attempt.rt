@@ -104,6 +104,106 @@ impl<R: Drop, F: Yields, Q: Drop, M: Drop, A: Drop, B: Allocator + Copy> Share<R
         }
         TriedOnce::Again(Word::from_bits(found), maybe.share())
     }
+
+    // Tries a change from this word on, at most 2^64 - 1 times: what it found, and the share that it brought, if it did, or the word on which each try has missed. Each exchange that misses has met a write of another party. It cannot wait.
+    #[inline(always)]
+    pub(crate) fn attempt_some<P: Change>(
+        &self,
+        party: &mut Party<F, Kept<F>, A>,
+        mut word: Word,
+    ) -> TriedOnce<P::Row, MaybeShare<R, F, Q, M, A, B>, ()>
+        requires cell { IsOf self.now party.old }
+        requires limit { (w : State) → P.attempt.ends party.old.seat.me.0.limit w ≡ P.attempt.ends (limit_in self.now) w }
+        requires room { HasRoom word }
+        requires seen { (t : Option Tries) × Names word t × (party.old.seat.me.0 ≡ having_seen t party.old.seat.me.0) }
+        requires allowed { MayTry (limit_in self.now) 3 party.old.seat.id party.old.seat.me P.attempt }
+        requires shares { MayBring (limit_in self.now) party.old.seat.id party.old.seat.me P.attempt }
+        ensures seat { (party.new.seat.block ≡ party.old.seat.block) × (party.new.seat.id ≡ party.old.seat.id) }
+        ensures tried { HasTried (limit_in self.now) P.attempt result party.old.seat.me party.new.seat.me }
+        ensures share { IfMade result (λ row m. Leaves self.now m (P.attempt.counts row)) (λ k. ⊤) }
+    {
+        for _ in 0..u64::MAX {
+            match self.try_once::<P>(party, word) {
+                TriedOnce::Made(row, maybe) => return TriedOnce::Made(row, maybe),
+                TriedOnce::Ended(found, ()) => return TriedOnce::Ended(found, ()),
+                TriedOnce::Again(found, ()) => word = found,
+            }
+        }
+        TriedOnce::Again(word, ())
+    }
+
+    // The same from a look at the word on.
+    #[inline(always)]
+    pub(crate) fn change_some<P: Change>(
+        &self,
+        party: &mut Party<F, Kept<F>, A>,
+    ) -> TriedOnce<P::Row, MaybeShare<R, F, Q, M, A, B>, ()>
+        requires cell { IsOf self.now party.old }
+        requires limit { (w : State) → P.attempt.ends party.old.seat.me.0.limit w ≡ P.attempt.ends (limit_in self.now) w }
+        requires quiet { party.old.seat.me.0 ≡ having_seen None party.old.seat.me.0 }
+        requires allowed { MayTry (limit_in self.now) 3 party.old.seat.id party.old.seat.me P.attempt }
+        requires shares { MayBring (limit_in self.now) party.old.seat.id party.old.seat.me P.attempt }
+        ensures cell { party.new.seat.block ≡ party.old.seat.block }
+        ensures tried { HasTried (limit_in self.now) P.attempt result party.old.seat.me party.new.seat.me }
+        ensures share { IfMade result (λ row m. Leaves self.now m (P.attempt.counts row)) (λ k. ⊤) }
+    {
+        match self.observe::<P>(party) {
+            Ok(word) => self.attempt_some::<P>(party, word),
+            Err(word) => TriedOnce::Ended(word, ()),
+        }
+    }
+
+    // Tries a change that may give this share up, from this word on, at most 2^64 - 1 times: what it found, and the share, if it is left. A word that ended the attempt, or on which each try has missed, comes with the share. It cannot wait.
+    #[inline(always)]
+    pub(crate) fn give_some<P: Change>(
+        self,
+        party: &mut Party<F, Kept<F>, A>,
+        mut word: Word,
+    ) -> TriedOnce<P::Row, MaybeShare<R, F, Q, M, A, B>, Self>
+        requires cell { IsOf self party.old }
+        requires limit { (w : State) → P.attempt.ends party.old.seat.me.0.limit w ≡ P.attempt.ends (limit_in self) w }
+        requires room { HasRoom word }
+        requires seen { (t : Option Tries) × Names word t × (party.old.seat.me.0 ≡ having_seen t party.old.seat.me.0) }
+        requires allowed { MayTry (limit_in self) 3 party.old.seat.id party.old.seat.me P.attempt }
+        requires shares { MayGive (limit_in self) party.old.seat.id party.old.seat.me P.attempt }
+        ensures seat { (party.new.seat.block ≡ party.old.seat.block) × (party.new.seat.id ≡ party.old.seat.id) }
+        ensures tried { HasTried (limit_in self) P.attempt result party.old.seat.me party.new.seat.me }
+        ensures share { IfMade result (λ row m. Leaves self m (not (P.attempt.counts row))) (λ k. IsSame self k) }
+    {
+        let mut share = self;
+        for _ in 0..u64::MAX {
+            match share.try_giving::<P>(party, word) {
+                TriedOnce::Made(row, maybe) => return TriedOnce::Made(row, maybe),
+                TriedOnce::Ended(found, kept) => return TriedOnce::Ended(found, kept),
+                TriedOnce::Again(found, kept) => {
+                    word = found;
+                    share = kept;
+                }
+            }
+        }
+        TriedOnce::Again(word, share)
+    }
+
+    // The same from a look at the word on.
+    #[inline(always)]
+    pub(crate) fn give_change_some<P: Change>(
+        self,
+        party: &mut Party<F, Kept<F>, A>,
+    ) -> TriedOnce<P::Row, MaybeShare<R, F, Q, M, A, B>, Self>
+        requires cell { IsOf self party.old }
+        requires limit { (w : State) → P.attempt.ends party.old.seat.me.0.limit w ≡ P.attempt.ends (limit_in self) w }
+        requires quiet { party.old.seat.me.0 ≡ having_seen None party.old.seat.me.0 }
+        requires allowed { MayTry (limit_in self) 3 party.old.seat.id party.old.seat.me P.attempt }
+        requires shares { MayGive (limit_in self) party.old.seat.id party.old.seat.me P.attempt }
+        ensures cell { party.new.seat.block ≡ party.old.seat.block }
+        ensures tried { HasTried (limit_in self) P.attempt result party.old.seat.me party.new.seat.me }
+        ensures share { IfMade result (λ row m. Leaves self m (not (P.attempt.counts row))) (λ k. IsSame self k) }
+    {
+        match self.observe::<P>(party) {
+            Ok(word) => self.give_some::<P>(party, word),
+            Err(word) => TriedOnce::Ended(word, self),
+        }
+    }
 }
 
 impl<R: Wait + Drop + Copy, F: Yields, Q: Drop, M: Drop, A: Drop, B: Allocator + Copy> Share<
@@ -114,7 +214,7 @@ impl<R: Wait + Drop + Copy, F: Yields, Q: Drop, M: Drop, A: Drop, B: Allocator +
     A,
     B,
 > {
-    // Tries a change from this word on, until it is made: what it found, and the share that it brought, if it did. An `Err` is the word that ended the attempt. Each exchange that misses has met a write of another party.
+    // Tries a change from this word on, until it is made: what it found, and the share that it brought, if it did. An `Err` is the word that ended the attempt.
     #[cold]
     #[inline(never)]
     pub(crate) fn attempt_again<P: Change>(
@@ -134,7 +234,7 @@ impl<R: Wait + Drop + Copy, F: Yields, Q: Drop, M: Drop, A: Drop, B: Allocator +
         ensures ended { IfErr result (λ w. HasEnded (limit_in self.now) P.attempt w party.old.seat.me party.new.seat.me) }
     {
         for _ in self.cell().rt.forever() {
-            match self.try_once::<P>(party, word) {
+            match self.attempt_some::<P>(party, word) {
                 TriedOnce::Made(row, maybe) => return Ok((row, maybe)),
                 TriedOnce::Ended(found, ()) => return Err(found),
                 TriedOnce::Again(found, ()) => word = found,
@@ -235,7 +335,7 @@ impl<R: Wait + Drop + Copy, F: Yields, Q: Drop, M: Drop, A: Drop, B: Allocator +
         let rt = self.cell().rt;
         let mut share = self;
         for _ in rt.forever() {
-            match share.try_giving::<P>(party, word) {
+            match share.give_some::<P>(party, word) {
                 TriedOnce::Made(row, maybe) => return Ok((row, maybe)),
                 TriedOnce::Ended(found, kept) => return Err((found, kept)),
                 TriedOnce::Again(found, kept) => {

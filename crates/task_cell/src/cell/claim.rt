@@ -24,16 +24,9 @@ use task_steps::places::{Held, take_out};
 use task_steps::poll::HandingOut;
 use task_steps::table::Kept;
 
-impl<R: Wait + Drop + Copy, F: Yields, Q: Drop, M: Drop, A: Drop, B: Allocator + Copy> Share<
-    R,
-    F,
-    Q,
-    M,
-    A,
-    B,
-> {
-    // Hands the output out, and ends the poll. One load.
-    fn hand_out(&self, party: &mut Party<F, Kept<F>, A>) -> Held<Kept<F>>
+impl<R: Drop, F: Yields, Q: Drop, M: Drop, A: Drop, B: Allocator + Copy> Share<R, F, Q, M, A, B> {
+    /// Hands the output out, and ends the poll. One load.
+    pub fn hand_out(&self, party: &mut Party<F, Kept<F>, A>) -> Held<Kept<F>>
         requires cell { IsOf self.now party.old }
         requires party { (i : ℕ) × (z : Slot F _ A) × StandsWith (TookOutput i) (output_first z []) party.old × IsOutput z }
         ensures { Did (act HandOutOutput ∷ act EndCall ∷ []) (as_task (poll_number (position party.old))) party.old party.new }

@@ -19,16 +19,9 @@ use task_core::{Schedule, ScheduleInfo, Wake, Yields};
 use task_steps::common::HandingOver;
 use task_steps::table::Kept;
 
-impl<R: Wait + Drop + Copy, F: Yields, Q: Drop, M: Drop, A: Drop, B: Allocator + Copy> Share<
-    R,
-    F,
-    Q,
-    M,
-    A,
-    B,
-> {
-    // The Runnable of a party that hands one over. It makes no step.
-    fn hand_over(&self, party: &mut Party<F, Kept<F>, A>) -> Party<F, Kept<F>, A>
+impl<R: Drop, F: Yields, Q: Drop, M: Drop, A: Drop, B: Allocator + Copy> Share<R, F, Q, M, A, B> {
+    /// The Runnable of a party that hands one over. It makes no step.
+    pub fn hand_over(&self, party: &mut Party<F, Kept<F>, A>) -> Party<F, Kept<F>, A>
         requires cell { IsOf self.now party.old }
         requires party { (at : Position) × (hands_over at ≡ true) × Stands at party.old }
         ensures path { Did (act HandOver ∷ []) (handed_over (position party.old)) party.old party.new }

@@ -1,5 +1,5 @@
 //! Giving the Task up.
-ghost use Rattle.std.specs.Prelude.{◌≡◌, ℕ, List, [], ◌∷◌, true, false, not};
+ghost use Rattle.std.specs.Prelude.{◌≡◌, ℕ, List, [], ◌∷◌, true, false, not, IfOk, IfErr};
 ghost use Rattle.task_laws.specs.declared.positions.Position.TheVariants.{OutputCloser, Detacher};
 ghost use Rattle.task_core.specs.declared.acts.Act.TheVariants.{DropOutput};
 ghost use Rattle.task_steps.specs.declared.table.Deed.{Deed};
@@ -12,25 +12,19 @@ ghost use Rattle.task_cell.specs.Calls.{Stands, StandsWith, Did, deeds, limit_of
 ghost use Rattle.task_steps.specs.Deeds.{act};
 ghost use Rattle.task_steps.specs.TaskScripts.{ends_task};
 ghost use Rattle.task_steps.specs.Standing.{as_task, as_ended};
-ghost use Rattle.task_cell.specs.Belongs.{IsOf, Leaves, cell_of, limit_in};
+ghost use Rattle.task_cell.specs.Belongs.{IsOf, IsSame, Leaves, cell_of, limit_in};
 
 use super::{MaybeShare, Party, Runnable, Share};
 use std::alloc::Allocator;
 use std::sync::Wait;
 use task_core::word::TASK;
 use task_core::{Schedule, Wake, Yields};
+use task_steps::attempt::TriedOnce;
 use task_steps::common::DroppingOutput;
 use task_steps::table::Kept;
 use task_steps::task::{Detached, Detaching, GivingTaskUp};
 
-impl<R: Wait + Drop + Copy, F: Yields, Q: Drop, M: Drop, A: Drop, B: Allocator + Copy> Share<
-    R,
-    F,
-    Q,
-    M,
-    A,
-    B,
-> {
+impl<R: Drop, F: Yields, Q: Drop, M: Drop, A: Drop, B: Allocator + Copy> Share<R, F, Q, M, A, B> {
     // Writes down that the output in hand was dropped, and gives the places back. One load.
     fn note_output_dropped(&self, party: &mut Party<F, Kept<F>, A>)
         requires cell { IsOf self.now party.old }
@@ -40,8 +34,8 @@ impl<R: Wait + Drop + Copy, F: Yields, Q: Drop, M: Drop, A: Drop, B: Allocator +
         self.load::<DroppingOutput>(party);
     }
 
-    // The output that nobody claimed is dropped, and then the Task given up, by a single fetch. Whether the slots are to be emptied, and then the Task's share.
-    fn drop_unclaimed(
+    /// Drops the output that nobody claimed, and then gives the Task up, by a single fetch. Whether the slots are to be emptied, and then the Task's share.
+    pub fn drop_unclaimed(
         self,
         party: &mut Party<F, Kept<F>, A>,
     ) -> (bool, MaybeShare<R, F, Q, M, A, B>)
@@ -56,6 +50,33 @@ impl<R: Wait + Drop + Copy, F: Yields, Q: Drop, M: Drop, A: Drop, B: Allocator +
         (found.references() == 0, maybe)
     }
 
+    /// The row of a detach, by at most 2^64 - 1 tries: what it found, and the Task's share, if it is left. The error is the share, where each try has missed.
+    pub fn give_task_up_some(
+        self,
+        party: &mut Party<F, Kept<F>, A>,
+    ) -> Result<(Detached, MaybeShare<R, F, Q, M, A, B>), Self>
+        requires cell { IsOf self party.old }
+        requires party { (n : ℕ) × Stands (as_task n) party.old }
+        ensures path { IfOk result (λ found. Detaches party.old party.new found.0) }
+        ensures share { IfOk result (λ found. Leaves self found.1 (not (ends_task found.0))) }
+        ensures kept { IfErr result (λ kept. IsSame self kept) }
+    {
+        match self.give_change_some::<Detaching>(party) {
+            TriedOnce::Made(found, maybe) => Ok((found, maybe)),
+            TriedOnce::Ended(_, kept) => Err(kept),
+            TriedOnce::Again(_, kept) => Err(kept),
+        }
+    }
+}
+
+impl<R: Wait + Drop + Copy, F: Yields, Q: Drop, M: Drop, A: Drop, B: Allocator + Copy> Share<
+    R,
+    F,
+    Q,
+    M,
+    A,
+    B,
+> {
     // The row of a detach: what it found, and the Task's share, if it is left.
     fn give_task_up(
         self,

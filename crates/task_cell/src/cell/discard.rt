@@ -20,16 +20,9 @@ use task_core::{Wake, Yields};
 use task_steps::run::Discarding;
 use task_steps::table::Kept;
 
-impl<R: Wait + Drop + Copy, F: Yields, Q: Drop, M: Drop, A: Drop, B: Allocator + Copy> Share<
-    R,
-    F,
-    Q,
-    M,
-    A,
-    B,
-> {
-    // The task is closed, and its future taken over: a single fetch, never tried again.
-    pub(crate) fn discard_start(&self, party: &mut Party<F, Kept<F>, A>)
+impl<R: Drop, F: Yields, Q: Drop, M: Drop, A: Drop, B: Allocator + Copy> Share<R, F, Q, M, A, B> {
+    /// Closes the task, and takes its future over: a single fetch, never tried again.
+    pub fn discard_start(&self, party: &mut Party<F, Kept<F>, A>)
         requires cell { IsOf self.now party.old }
         requires party { Stands as_runnable party.old }
         ensures { (d : Deed) × (y : Slot F _ A) × DiscardStart d × DidWith (d ∷ []) (FutureInHand DroppedRunnable) (future_first y []) party.old party.new × IsFuture y }

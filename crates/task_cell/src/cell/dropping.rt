@@ -23,16 +23,9 @@ use task_steps::waker::{ClosingOrphan, Dropped, DroppingWaker, dropped_as};
 /// The word of a task that nobody has: scheduled, closed, and with the reference of its last Runnable.
 const ORPHAN: u64 = SCHEDULED | CLOSED | REFERENCE;
 
-impl<R: Wait + Drop + Copy, F: Yields, Q: Drop, M: Drop, A: Drop, B: Allocator + Copy> Share<
-    R,
-    F,
-    Q,
-    M,
-    A,
-    B,
-> {
-    // The row of a waker's drop: a single fetch, never tried again. What it found, and the waker's share, where it was the last handle.
-    fn drop_reference(
+impl<R: Drop, F: Yields, Q: Drop, M: Drop, A: Drop, B: Allocator + Copy> Share<R, F, Q, M, A, B> {
+    /// The row of a waker's drop: a single fetch, never tried again. What it found, and the waker's share, where it was the last handle.
+    pub fn drop_reference(
         self,
         party: &mut Party<F, Kept<F>, A>,
     ) -> (Dropped, MaybeShare<R, F, Q, M, A, B>)
@@ -45,8 +38,8 @@ impl<R: Wait + Drop + Copy, F: Yields, Q: Drop, M: Drop, A: Drop, B: Allocator +
         (dropped_as(found), maybe)
     }
 
-    // The last waker of an open task closes it, and schedules it once more. Nobody else is left to change the word.
-    fn close_orphan(&self, party: &mut Party<F, Kept<F>, A>)
+    /// Closes an open task, as its last waker, and schedules it once more. Nobody else is left to change the word.
+    pub fn close_orphan(&self, party: &mut Party<F, Kept<F>, A>)
         requires cell { IsOf self.now party.old }
         requires party { Stands OrphanHolder party.old }
         ensures { (v : State) × Did (row CloseOrphan v ∷ []) as_deliverer party.old party.new }

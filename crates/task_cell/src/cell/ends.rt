@@ -1,25 +1,26 @@
 //! The ends of a run whose poll has answered.
-ghost use Rattle.std.specs.Prelude.{◌≡◌, ◌<◌, ℕ, ◌∷◌, [], List, Bool, true, not, IfOk, IfErr};
+ghost use Rattle.std.specs.Prelude.{◌≡◌, ◌<◌, ℕ, ◌∷◌, [], List, Bool, true, not, IfOk, IfErr, IfSome};
 ghost use Rattle.task_core.specs.Word.{HasRoom};
 ghost use Rattle.task_laws.specs.declared.positions.Position.TheVariants.{Polling, Ready, Pending, PendingFutureDropped, OutputInHand};
 ghost use Rattle.task_laws.specs.declared.positions.NotifyingCall.TheVariants.{OfRun};
 ghost use Rattle.task_core.specs.declared.acts.Act.TheVariants.{AnswerReady, DropOutput, EndClosed};
 ghost use Rattle.task_laws.specs.Table.{notifies};
 ghost use Rattle.task_steps.specs.declared.table.Slot.{Slot};
-ghost use Rattle.task_steps.specs.declared.table.Slot.TheVariants.{Empty};
+ghost use Rattle.task_steps.specs.declared.table.Slot.TheVariants.{Empty, Output};
 ghost use Rattle.task_cell.specs.Calls.{StandsWith, Did, DidWith, limit_of};
 ghost use Rattle.task_steps.specs.Deeds.{row, act};
 ghost use Rattle.task_steps.specs.Rule.{IsFuture};
 ghost use Rattle.task_steps.specs.RunScripts.{ends_run};
 ghost use Rattle.task_steps.specs.Steps.{future_first, output_first};
 ghost use Rattle.task_cell.specs.RunCalls.{Completes, AnswersPending, EndsPending, end_of};
-ghost use Rattle.task_cell.specs.Belongs.{IsOf, Leaves, cell_of, limit_in};
+ghost use Rattle.task_cell.specs.Belongs.{IsOf, IsSame, Leaves, cell_of, limit_in};
 
 use super::{MaybeShare, Party, Share};
 use std::alloc::Allocator;
 use std::sync::Wait;
 use task_core::Yields;
 use task_core::word::{RUNNING, SCHEDULED, Word};
+use task_steps::attempt::TriedOnce;
 use task_steps::common::DroppingOutput;
 use task_steps::places::{Held, put_output};
 use task_steps::run::{
@@ -27,16 +28,9 @@ use task_steps::run::{
 };
 use task_steps::table::Kept;
 
-impl<R: Wait + Drop + Copy, F: Yields, Q: Drop, M: Drop, A: Drop, B: Allocator + Copy> Share<
-    R,
-    F,
-    Q,
-    M,
-    A,
-    B,
-> {
-    // The poll has answered Ready: the word that was found. One load.
-    pub(crate) fn answer_ready(&self, party: &mut Party<F, Kept<F>, A>) -> Word
+impl<R: Drop, F: Yields, Q: Drop, M: Drop, A: Drop, B: Allocator + Copy> Share<R, F, Q, M, A, B> {
+    /// Writes down that the poll has answered Ready: the word that was found. One load.
+    pub fn answer_ready(&self, party: &mut Party<F, Kept<F>, A>) -> Word
         requires cell { IsOf self.now party.old }
         requires party { (held : List (ℕ × Slot F _ A)) × StandsWith Polling held party.old }
         ensures { (held : List (ℕ × Slot F _ A)) → StandsWith Polling held party.old → DidWith (act AnswerReady ∷ []) Ready held party.old party.new }
@@ -44,8 +38,8 @@ impl<R: Wait + Drop + Copy, F: Yields, Q: Drop, M: Drop, A: Drop, B: Allocator +
         self.load::<AnsweringReady>(party)
     }
 
-    // The poll has answered Pending: the word that was found. Where it shows a closed task, the future is to be dropped. One load.
-    pub(crate) fn answer_pending(&self, party: &mut Party<F, Kept<F>, A>) -> Word
+    /// Writes down that the poll has answered Pending: the word that was found. Where it shows a closed task, the future is to be dropped. One load.
+    pub fn answer_pending(&self, party: &mut Party<F, Kept<F>, A>) -> Word
         requires cell { IsOf self.now party.old }
         requires party { (held : List (ℕ × Slot F _ A)) × StandsWith Polling held party.old }
         ensures room { HasRoom result }
@@ -54,8 +48,8 @@ impl<R: Wait + Drop + Copy, F: Yields, Q: Drop, M: Drop, A: Drop, B: Allocator +
         self.load::<AnsweringPending>(party)
     }
 
-    // The output that nobody will claim is dropped. One load.
-    pub(crate) fn drop_output(&self, party: &mut Party<F, Kept<F>, A>)
+    /// Drops the output that nobody will claim. One load.
+    pub fn drop_output(&self, party: &mut Party<F, Kept<F>, A>)
         requires cell { IsOf self.now party.old }
         requires party { (due : Bool) × (z : Slot F _ A) × StandsWith (OutputInHand due) (output_first z []) party.old }
         ensures { (due : Bool) (z : Slot F _ A) → StandsWith (OutputInHand due) (output_first z []) party.old → Did (act DropOutput ∷ []) (notifies due OfRun) party.old party.new }
@@ -64,14 +58,65 @@ impl<R: Wait + Drop + Copy, F: Yields, Q: Drop, M: Drop, A: Drop, B: Allocator +
         self.load::<DroppingOutput>(party);
     }
 
-    // The future of a closed task is dropped, and then its run ends: a single fetch, never tried again.
-    pub(crate) fn end_closed(&self, party: &mut Party<F, Kept<F>, A>) -> Word
+    /// Drops the future of a closed task, and ends its run then: a single fetch, never tried again. The word that was found.
+    pub fn end_closed(&self, party: &mut Party<F, Kept<F>, A>) -> Word
         requires cell { IsOf self.now party.old }
         requires party { (y : Slot F _ A) × StandsWith PendingFutureDropped (future_first y []) party.old }
         ensures { (result.closed ≡ true) × Did (row EndClosed result ∷ []) (notifies result.awaiter OfRun) party.old party.new }
     {
         self.clear(party, 0);
         self.fetch_and::<EndingClosed>(party, !(SCHEDULED | RUNNING))
+    }
+
+    // Puts the output in hand into its place, after the future was dropped. The seat turns, since only the place in front can be written. It is no step on the word.
+    fn lay_output(&self, party: &mut Party<F, Kept<F>, A>, output: Held<Kept<F>>)
+        requires cell { IsOf self.now party.old }
+        requires party { StandsWith Ready (future_first Empty []) party.old }
+        ensures { DidWith [] Ready (output_first (Output output.value) []) party.old party.new }
+    {
+        party.seat.turn();
+        put_output(&self.block, &mut party.seat, output).discard();
+    }
+
+    /// The end step of a run with its output, after its future was dropped, by at most 2^64 - 1 tries: the word that was found, or none where each try has missed.
+    pub fn complete_some(
+        &self,
+        party: &mut Party<F, Kept<F>, A>,
+        output: Held<Kept<F>>,
+    ) -> Option<Word>
+        requires cell { IsOf self.now party.old }
+        requires party { StandsWith Ready (future_first Empty []) party.old }
+        ensures { IfSome result (λ found. Completes party.old party.new found) }
+    {
+        self.lay_output(party, output);
+        match self.change_some::<Completing>(party) {
+            TriedOnce::Made(found, maybe) => {
+                maybe.none();
+                Some(found)
+            }
+            TriedOnce::Ended(_, ()) => unreachable!(),
+            TriedOnce::Again(_, ()) => None,
+        }
+    }
+
+    /// The end step of a run without an output, from the word on that its poll left, by at most 2^64 - 1 tries: how the run has ended, and its share, if it is left. An inner error is the share of a task that was closed meanwhile, which is left to the end step of a closed one. The outer error is the share, where each try has missed.
+    pub fn end_pending_some(
+        self,
+        party: &mut Party<F, Kept<F>, A>,
+        word: Word,
+    ) -> Result<Result<(PendingEnd, MaybeShare<R, F, Q, M, A, B>), Self>, Self>
+        requires cell { IsOf self party.old × (limit_of party.old ≡ limit_in self) }
+        requires room { HasRoom word }
+        requires party { (y : Slot F _ A) × StandsWith Pending (future_first y []) party.old × IsFuture y }
+        ensures path { (y : Slot F _ A) → StandsWith Pending (future_first y []) party.old → IfOk result (λ tried. EndsPending (future_first y []) party.old party.new (end_of tried)) }
+        ensures share { IfOk result (λ tried. IfOk tried (λ r. Leaves self r.1 (not (ends_run r.0)))) }
+        ensures kept { IfOk result (λ tried. IfErr tried (λ share. IsSame self share)) }
+    {
+        match self.give_some::<EndingPending>(party, word) {
+            TriedOnce::Made(end, maybe) => Ok(Ok((end, maybe))),
+            TriedOnce::Ended(_, share) => Ok(Err(share)),
+            TriedOnce::Again(_, share) => Err(share),
+        }
     }
 }
 
@@ -83,14 +128,13 @@ impl<R: Wait + Drop + Copy, F: Yields, Q: Drop, M: Drop, A: Drop, B: Allocator +
     A,
     B,
 > {
-    // The end step of a run with its output, after its future was dropped. The seat turns, since only the place in front can be written.
+    // The end step of a run with its output, after its future was dropped.
     pub(crate) fn complete(&self, party: &mut Party<F, Kept<F>, A>, output: Held<Kept<F>>) -> Word
         requires cell { IsOf self.now party.old }
         requires party { StandsWith Ready (future_first Empty []) party.old }
         ensures { Completes party.old party.new result }
     {
-        party.seat.turn();
-        put_output(&self.block, &mut party.seat, output).discard();
+        self.lay_output(party, output);
         match self.change::<Completing>(party) {
             Ok(found) => found,
             Err(_) => unreachable!(),

@@ -1,5 +1,5 @@
 //! Gaining a reference for a new waker.
-ghost use Rattle.std.specs.Prelude.{◌≡◌, ◌<◌, List, [], ◌∷◌, IfSome, is_some};
+ghost use Rattle.std.specs.Prelude.{◌≡◌, ◌<◌, List, [], ◌∷◌, IfSome, IfOk, IfErr, is_some, false};
 ghost use Rattle.task_core.specs.Word.{HasRoom};
 ghost use Rattle.task_steps.specs.Rule.{view, fresh};
 ghost use Rattle.task_steps.specs.declared.table.Deed.{Deed};
@@ -13,6 +13,7 @@ use std::alloc::Allocator;
 use std::sync::Wait;
 use task_core::Yields;
 use task_core::word::Word;
+use task_steps::attempt::TriedOnce;
 use task_steps::table::Kept;
 use task_steps::waker::{Gaining, Parting};
 
@@ -61,5 +62,30 @@ impl<R: Wait + Drop + Copy, F: Yields, Q: Drop, M: Drop, A: Drop, B: Allocator +
         let (word, mut party) = self.borrow();
         let gained = self.gain(&mut party, word);
         (gained, party.give_back())
+    }
+}
+
+impl<R: Drop, F: Yields, Q: Drop, M: Drop, A: Drop, B: Allocator + Copy> Share<R, F, Q, M, A, B> {
+    /// A gain by whoever has a handle by reference, by at most 2^64 - 1 tries: a share for the new waker, and its party; or, where the count that is found is at the limit, the party of the call, which tells so. The outer error is that each try has missed.
+    pub fn gain_some(
+        &self,
+    ) -> Result<Result<(Self, Party<F, Kept<F>, A>), Party<F, Kept<F>, A>>, ()>
+        ensures share { IfOk result (λ gained. IfOk gained (λ n. cell_of n.0 ≡ cell_of self.now)) }
+        ensures gains { IfOk result (λ gained. IfOk gained (λ n. IsOf self.now n.1 × (n.1.seat.me ≡ (view (limit_in self.now) (fresh as_waker ∷ []), [])))) }
+        ensures at_limit { IfOk result (λ gained. IfErr gained (λ party. (path : List Deed) × GainPath (limit_in self.now) false path × HasMade self.now path party)) }
+    {
+        let (word, mut party) = self.borrow();
+        match self.attempt_some::<Gaining>(&mut party, word) {
+            TriedOnce::Made((), maybe) => {
+                let gained = self.split::<Parting>(&mut party);
+                let Party { seat: _ } = party;
+                Ok(Ok((maybe.share(), gained)))
+            }
+            TriedOnce::Ended(_, ()) => Ok(Err(party)),
+            TriedOnce::Again(_, ()) => {
+                let Party { seat: _ } = party;
+                Err(())
+            }
+        }
     }
 }

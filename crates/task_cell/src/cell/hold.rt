@@ -1,5 +1,5 @@
 //! A hold of a cell: it keeps the schedule value while that is called by somebody who has no share left.
-ghost use Rattle.std.specs.Prelude.{◌≡◌};
+ghost use Rattle.std.specs.Prelude.{◌≡◌, IfSome};
 ghost use Rattle.task_cell.specs.Fitting.{Fitting};
 
 use super::{Cell, Share};
@@ -14,6 +14,16 @@ pub struct CellHold<R, F: Yields, Q, M, A, B: Allocator + Copy> {
     ghost fitting: { Fitting hold.key hold.value hold.heap },
 }
 
+impl<R: Drop, F: Yields, Q: Drop, M: Drop, A: Drop, B: Allocator + Copy> Share<R, F, Q, M, A, B> {
+    /// A hold of the cell, by one step beside the word. None where there are 2^63 - 1 holds.
+    pub fn hold_once(&self) -> Option<CellHold<R, F, Q, M, A, B>>
+        ensures { IfSome result (λ hold. hold.hold.value ≡ self.now.block.value) }
+    {
+        let hold = self.block.hold()?;
+        Some(CellHold { hold })
+    }
+}
+
 impl<R: Wait + Drop + Copy, F: Yields, Q: Drop, M: Drop, A: Drop, B: Allocator + Copy> Share<
     R,
     F,
@@ -22,20 +32,20 @@ impl<R: Wait + Drop + Copy, F: Yields, Q: Drop, M: Drop, A: Drop, B: Allocator +
     A,
     B,
 > {
-    // A hold of the cell, by one step beside the word. It tries again only where there are 2^63 - 1 holds.
+    // A hold of the cell. It tries again only where there are 2^63 - 1 holds.
     pub(crate) fn hold(&self) -> CellHold<R, F, Q, M, A, B>
         ensures { result.hold.value ≡ self.now.block.value }
     {
         for _ in self.cell().rt.forever() {
-            if let Some(hold) = self.block.hold() {
-                return CellHold { hold };
+            if let Some(hold) = self.hold_once() {
+                return hold;
             }
         }
         unreachable!()
     }
 }
 
-impl<R: Wait + Drop + Copy, F: Yields, Q: Drop, M: Drop, A: Drop, B: Allocator + Copy> CellHold<
+impl<R: Drop, F: Yields, Q: Drop, M: Drop, A: Drop, B: Allocator + Copy> CellHold<
     R,
     F,
     Q,
@@ -50,12 +60,16 @@ impl<R: Wait + Drop + Copy, F: Yields, Q: Drop, M: Drop, A: Drop, B: Allocator +
         self.hold.value()
     }
 
-    // Ends the hold, and the cell where nobody else keeps it.
-    pub(crate) fn release(self) {
+    /// Ends the hold, and the cell where nobody else keeps it: whether it has.
+    pub fn release(self) -> bool {
         let alloc = self.cell().alloc;
         let CellHold { hold } = self;
-        if let Some(bare) = hold.release() {
-            drop(bare.into_box(alloc));
+        match hold.release() {
+            Some(bare) => {
+                drop(bare.into_box(alloc));
+                true
+            }
+            None => false,
         }
     }
 }

@@ -42,8 +42,8 @@ impl<R, F: Yields, Q, M, A, B: Allocator> Ledger<R, F, Q, M, A, B> {
         self.ledger.note::<Knowing<S>>(&mut party.seat);
     }
 
-    // Writes down that the call has ended.
-    pub(crate) fn end(&self, party: &mut Party<F, Kept<F>, A>)
+    /// Writes down that the call has ended.
+    pub fn end(&self, party: &mut Party<F, Kept<F>, A>)
         requires cell { IsBeside self.now party.old }
         requires party { (answer : Answer) × (r : Rest) × Stands (CallEnding answer r) party.old }
         ensures { Did (act EndCall ∷ []) (rest_of (position party.old)) party.old party.new }
@@ -51,8 +51,8 @@ impl<R, F: Yields, Q, M, A, B: Allocator> Ledger<R, F, Q, M, A, B> {
         self.note::<Ending>(party);
     }
 
-    // Writes down that the awaiter in hand was woken.
-    pub(crate) fn note_woken(&self, party: &mut Party<F, Kept<F>, A>)
+    /// Writes down that the awaiter in hand was woken.
+    pub fn note_woken(&self, party: &mut Party<F, Kept<F>, A>)
         requires cell { IsBeside self.now party.old }
         requires party { (i : ℕ) × (way : NotifyingCall) × (held : List (ℕ × Slot F _ A)) × StandsWith (AwaiterInHand i way) held party.old }
         ensures { DidWith (act WakeAwaiter ∷ []) (after_waking (way_of (position party.old))) (places_of party.old) party.old party.new }

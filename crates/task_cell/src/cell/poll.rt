@@ -1,5 +1,5 @@
 //! Polls of the Task.
-ghost use Rattle.std.specs.Prelude.{◌≡◌, ℕ, ◌∷◌, ◌++◌, [], List, None, Err, true};
+ghost use Rattle.std.specs.Prelude.{◌≡◌, ℕ, ◌∷◌, ◌++◌, [], List, None, Err, true, IfSome};
 ghost use Rattle.task_core.specs.Word.{State};
 ghost use Rattle.task_laws.specs.declared.positions.PollAnswer.{PollAnswer};
 ghost use Rattle.task_laws.specs.declared.positions.Position.TheVariants.{Answering, Notifier, Looking as LookingAt};
@@ -23,21 +23,32 @@ use task_steps::common::Ending;
 use task_steps::poll::{Looking, LookingAgain, has_ended, has_to_wait};
 use task_steps::table::Kept;
 
-impl<R: Wait + Drop + Copy, F: Yields, Q: Drop, M: Drop, A: Drop, B: Allocator + Copy> Share<
-    R,
-    F,
-    Q,
-    M,
-    A,
-    B,
-> {
-    // Writes down that the poll has ended.
-    fn end_poll(&self, party: &mut Party<F, Kept<F>, A>)
+impl<R: Drop, F: Yields, Q: Drop, M: Drop, A: Drop, B: Allocator + Copy> Share<R, F, Q, M, A, B> {
+    /// Writes down that the poll has ended. It is no step.
+    pub fn end_poll(&self, party: &mut Party<F, Kept<F>, A>)
         requires cell { IsOf self.now party.old }
         requires party { (i : ℕ) × (answer : PollAnswer) × Stands (Answering i answer) party.old }
         ensures { Did (act EndCall ∷ []) (as_task (poll_number (position party.old))) party.old party.new }
     {
         self.ledger().note::<Ending>(party);
+    }
+    /// The first look of a poll, by at most 2^64 - 1 tries. It takes the output where it is there, and answers with the word that it was taken on; the error is a word without an output. `None` where each try has missed.
+    pub fn look_some(&self, party: &mut Party<F, Kept<F>, A>) -> Option<Result<Word, Word>>
+        requires cell { IsOf self.now party.old }
+        requires party { (n : ℕ) × Stands (as_task n) party.old }
+        ensures path { IfSome result (λ found. Looks party.old party.new found) }
+        ensures ended { saw_ended (deeds party.old) ≡ true → IfSome result (λ found. (w : State) × (found ≡ Err w) × (has_ended_word w ≡ true)) }
+    {
+        self.alter_some::<Looking>(party)
+    }
+
+    /// The look of a poll that has registered, by at most 2^64 - 1 tries. It takes the output where it is there, and ends the poll where it has to wait. `None` where each try has missed.
+    pub fn look_again_some(&self, party: &mut Party<F, Kept<F>, A>) -> Option<Result<Word, Word>>
+        requires cell { IsOf self.now party.old }
+        requires party { (i : ℕ) × Stands (LookingAt i) party.old }
+        ensures { IfSome result (λ found. LooksAgain party.old party.new found) }
+    {
+        self.alter_some::<LookingAgain>(party)
     }
 }
 

@@ -26,16 +26,9 @@ use task_steps::run::{Emptying, GivingReferenceUp};
 use task_steps::table::Kept;
 use task_steps::waker::is_last;
 
-impl<R: Wait + Drop + Copy, F: Yields, Q: Drop, M: Drop, A: Drop, B: Allocator + Copy> Share<
-    R,
-    F,
-    Q,
-    M,
-    A,
-    B,
-> {
-    // Drops what is in the place of the table that the party has in front, and leaves nothing there.
-    pub(crate) fn clear(&self, party: &mut Party<F, Kept<F>, A>, place: usize)
+impl<R: Drop, F: Yields, Q: Drop, M: Drop, A: Drop, B: Allocator + Copy> Share<R, F, Q, M, A, B> {
+    /// Drops what is in the place of the table that the party has in front, and leaves nothing there.
+    pub fn clear(&self, party: &mut Party<F, Kept<F>, A>, place: usize)
         requires place { place < 3 }
         requires cell { IsOf self.now party.old }
         requires party { (at : Position) × (y : Slot F _ A) × (held : List (ℕ × Slot F _ A)) × StandsWith at ((place, y) ∷ held) party.old }
@@ -44,8 +37,8 @@ impl<R: Wait + Drop + Copy, F: Yields, Q: Drop, M: Drop, A: Drop, B: Allocator +
         take_out(&self.block, &mut party.seat, place).discard();
     }
 
-    // The reference is given up: a single fetch, never tried again. Whether it was the last handle, and then its share.
-    pub(crate) fn give_up(
+    /// Gives the reference up: a single fetch, never tried again. Whether it was the last handle, and then its share.
+    pub fn give_up(
         self,
         party: &mut Party<F, Kept<F>, A>,
     ) -> (bool, MaybeShare<R, F, Q, M, A, B>)
@@ -58,18 +51,21 @@ impl<R: Wait + Drop + Copy, F: Yields, Q: Drop, M: Drop, A: Drop, B: Allocator +
         (is_last(found), maybe)
     }
 
-    // The last party empties the place of the awaiter, and gives it back by a load. Then its share ends, and the cell with it. The party goes on in its call: to the awaiter in hand, or to the end.
-    pub(crate) fn empty(self, party: &mut Party<F, Kept<F>, A>) -> Ledger<R, F, Q, M, A, B>
+    /// Empties the place of the awaiter, as the last party, and gives it back by a load. Then its share ends, and the cell with it, unless a schedule call holds it: whether it has. The party goes on in its call: to the awaiter in hand, or to the end.
+    pub fn empty(
+        self,
+        party: &mut Party<F, Kept<F>, A>,
+    ) -> (Ledger<R, F, Q, M, A, B>, bool)
         requires cell { IsOf self party.old }
         requires party { (hand : Option ℕ) × (answer : Answer) × (y : Slot F _ A) × StandsWith (Emptier hand answer) ((2, y) ∷ []) party.old }
         ensures path { (hand : Option ℕ) (answer : Answer) (y : Slot F _ A) → StandsWith (Emptier hand answer) ((2, y) ∷ []) party.old → Did (act EmptySlots ∷ []) (after_giving_up hand answer) party.old party.new }
-        ensures ledger { IsBeside result party.new }
+        ensures ledger { IsBeside result.0 party.new }
     {
         self.clear(party, 2);
         self.load::<Emptying>(party);
         let ledger = self.ledger();
-        self.close(party);
-        ledger
+        let word = self.close(party);
+        (ledger, word.is_some())
     }
 
     // The last handle empties the places, and its call ends.
@@ -78,7 +74,7 @@ impl<R: Wait + Drop + Copy, F: Yields, Q: Drop, M: Drop, A: Drop, B: Allocator +
         requires party { (y : Slot F _ A) × StandsWith (Emptier None Nothing) ((2, y) ∷ []) party.old }
         ensures { Did (act EmptySlots ∷ act EndCall ∷ []) as_ended party.old party.new }
     {
-        let ledger = self.empty(party);
+        let (ledger, _) = self.empty(party);
         ledger.end(party);
     }
 
@@ -91,7 +87,7 @@ impl<R: Wait + Drop + Copy, F: Yields, Q: Drop, M: Drop, A: Drop, B: Allocator +
     {
         let (last, maybe) = self.give_up(party);
         if last {
-            maybe.share().empty(party)
+            maybe.share().empty(party).0
         } else {
             maybe.none()
         }

@@ -1,7 +1,7 @@
 //! The registering of a poll's awaiter, beside parties that notify.
-ghost use Rattle.std.specs.Prelude.{◌≡◌, ℕ, ◌∷◌, [], List, Bool, true, Option, None};
+ghost use Rattle.std.specs.Prelude.{◌≡◌, ℕ, ◌∷◌, [], List, Bool, true, Option, None, IfSome};
 ghost use Rattle.task_core.specs.Word.{State};
-ghost use Rattle.task_laws.specs.declared.positions.Position.TheVariants.{Registrar, UnusedClone, Registered, TookBack, CloneInHand, Looking};
+ghost use Rattle.task_laws.specs.declared.positions.Position.TheVariants.{Registrar, UnusedClone, OldAwaiterInHand, Registered, TookBack, CloneInHand, Looking};
 ghost use Rattle.task_core.specs.declared.acts.Act.TheVariants.{EndRegisterNotified, RefuseClone, EndCall, DropAwaiter, WakeAwaiter};
 ghost use Rattle.task_laws.specs.Table.{after_storing};
 ghost use Rattle.task_steps.specs.declared.table.Slot.{Slot};
@@ -9,6 +9,7 @@ ghost use Rattle.task_steps.specs.declared.table.Slot.TheVariants.{Awaiter};
 ghost use Rattle.task_steps.specs.declared.table.Deed.{Deed};
 ghost use Rattle.task_steps.specs.Rule.{Waits};
 ghost use Rattle.task_cell.specs.PollPaths.{RegisterPath, Registers, BeginsRegister, EndsRegister, dropped_if};
+ghost use Rattle.task_cell.specs.Stores.{PutsClone};
 ghost use Rattle.task_steps.specs.Standing.{poll_number, as_task};
 ghost use Rattle.task_cell.specs.Calls.{Stands, StandsWith, Did, DidWith, position, places_of};
 ghost use Rattle.task_steps.specs.Deeds.{row, act};
@@ -24,16 +25,9 @@ use task_steps::places::{Held, put_awaiter, take_out};
 use task_steps::poll::{BeginningRegister, EndingNotified, EndingRegister, Refusing};
 use task_steps::table::Kept;
 
-impl<R: Wait + Drop + Copy, F: Yields, Q: Drop, M: Drop, A: Drop, B: Allocator + Copy> Share<
-    R,
-    F,
-    Q,
-    M,
-    A,
-    B,
-> {
-    // Writes down that the clone was refused, and that the poll ends so.
-    fn note_refused(&self, party: &mut Party<F, Kept<F>, A>)
+impl<R: Drop, F: Yields, Q: Drop, M: Drop, A: Drop, B: Allocator + Copy> Share<R, F, Q, M, A, B> {
+    /// Writes down that the clone was refused, and that the poll ends so. It is no step.
+    pub fn note_refused(&self, party: &mut Party<F, Kept<F>, A>)
         requires cell { IsOf self.now party.old }
         requires party { (i : ℕ) × Stands (Registrar i) party.old }
         ensures { Did (act RefuseClone ∷ act EndCall ∷ []) (as_task (poll_number (position party.old))) party.old party.new }
@@ -41,8 +35,8 @@ impl<R: Wait + Drop + Copy, F: Yields, Q: Drop, M: Drop, A: Drop, B: Allocator +
         self.ledger().note::<Refusing>(party);
     }
 
-    // Writes down that the clone which a notifier made useless was dropped.
-    fn note_clone_dropped(&self, party: &mut Party<F, Kept<F>, A>)
+    /// Writes down that the clone which a notifier made useless was dropped. It is no step.
+    pub fn note_clone_dropped(&self, party: &mut Party<F, Kept<F>, A>)
         requires cell { IsOf self.now party.old }
         requires party { (i : ℕ) × Stands (UnusedClone i) party.old }
         ensures { Did (act DropAwaiter ∷ []) (Looking (poll_number (position party.old))) party.old party.new }
@@ -50,13 +44,31 @@ impl<R: Wait + Drop + Copy, F: Yields, Q: Drop, M: Drop, A: Drop, B: Allocator +
         self.ledger().note::<Dropping>(party);
     }
 
-    // Writes down that the clone which was taken out again was woken.
-    fn note_clone_woken(&self, party: &mut Party<F, Kept<F>, A>)
+    /// Writes down that the clone which was taken out again was woken. It is no step.
+    pub fn note_clone_woken(&self, party: &mut Party<F, Kept<F>, A>)
         requires cell { IsOf self.now party.old }
         requires party { (i : ℕ) × Stands (CloneInHand i) party.old }
         ensures { Did (act WakeAwaiter ∷ []) (Looking (poll_number (position party.old))) party.old party.new }
     {
         self.ledger().note::<Waking>(party);
+    }
+
+    /// Puts the clone into the awaiter slot: the older awaiter that stood there, if one did.
+    pub fn put_clone(&self, party: &mut Party<F, Kept<F>, A>, clone: Held<A>) -> Option<Held<A>>
+        requires cell { IsOf self.now party.old }
+        requires party { (i : ℕ) × (hand : Option ℕ) × (y : Slot F _ A) × StandsWith (after_storing i hand) ((2, y) ∷ []) party.old × Waits hand y }
+        ensures { (i : ℕ) (hand : Option ℕ) (y : Slot F _ A) → StandsWith (after_storing i hand) ((2, y) ∷ []) party.old → Waits hand y → PutsClone i hand clone.value party.old party.new result }
+    {
+        put_awaiter(&self.block, &mut party.seat, clone).into_awaiter()
+    }
+
+    /// Writes down that the older awaiter was dropped. It is no step.
+    pub fn note_old_dropped(&self, party: &mut Party<F, Kept<F>, A>)
+        requires cell { IsOf self.now party.old }
+        requires party { (i : ℕ) × (old : ℕ) × (clone : A) × StandsWith (OldAwaiterInHand i old) ((2, Awaiter clone) ∷ []) party.old }
+        ensures { DidWith (act DropAwaiter ∷ []) (Registered (poll_number (position party.old))) (places_of party.old) party.old party.new }
+    {
+        self.ledger().note::<Dropping>(party);
     }
 
     // Puts the clone into the awaiter slot, and drops what stood there.
@@ -65,15 +77,14 @@ impl<R: Wait + Drop + Copy, F: Yields, Q: Drop, M: Drop, A: Drop, B: Allocator +
         requires party { (i : ℕ) × (hand : Option ℕ) × (y : Slot F _ A) × StandsWith (after_storing i hand) ((2, y) ∷ []) party.old × Waits hand y }
         ensures { (stood : Bool) × DidWith (dropped_if stood) (Registered (poll_number (position party.old))) ((2, Awaiter clone.value) ∷ []) party.old party.new }
     {
-        let old = put_awaiter(&self.block, &mut party.seat, clone).into_awaiter();
-        if let Some(old) = old {
+        if let Some(old) = self.put_clone(party, clone) {
             old.discard();
-            self.ledger().note::<Dropping>(party);
+            self.note_old_dropped(party);
         }
     }
 
-    // Takes the clone out again, since a notifier came, and gives the awaiter slot back: a single fetch, never tried again. A notifier stays while the slot is the Task's.
-    fn take_back(&self, party: &mut Party<F, Kept<F>, A>) -> Held<A>
+    /// Takes the clone out again, since a notifier came, and gives the awaiter slot back: a single fetch, never tried again. A notifier stays while the slot is the Task's.
+    pub fn take_back(&self, party: &mut Party<F, Kept<F>, A>) -> Held<A>
         requires cell { IsOf self.now party.old }
         requires party { (i : ℕ) × (clone : A) × StandsWith (TookBack i) ((2, Awaiter clone) ∷ []) party.old }
         ensures same { places_of party.old ≡ (2, Awaiter result.value) ∷ [] }
@@ -84,6 +95,29 @@ impl<R: Wait + Drop + Copy, F: Yields, Q: Drop, M: Drop, A: Drop, B: Allocator +
         };
         self.fetch_and::<EndingNotified>(party, !(AWAITER | REGISTERING | NOTIFYING));
         clone
+    }
+    /// Takes the awaiter slot, by at most 2^64 - 1 tries, and answers whether it did: it does not where there is a notifier. `None` where each try has missed.
+    pub fn begin_register_some(&self, party: &mut Party<F, Kept<F>, A>) -> Option<bool>
+        requires cell { IsOf self.now party.old }
+        requires party { (i : ℕ) × Stands (Registrar i) party.old }
+        ensures { IfSome result (λ began. BeginsRegister party.old party.new began) }
+    {
+        match self.alter_some::<BeginningRegister>(party)? {
+            Ok(()) => Some(true),
+            Err(_) => Some(false),
+        }
+    }
+
+    /// Gives the awaiter slot back with the clone in it, by at most 2^64 - 1 tries, and answers whether it did: where there is a notifier, the clone is to be taken out again. `None` where each try has missed.
+    pub fn end_register_some(&self, party: &mut Party<F, Kept<F>, A>) -> Option<bool>
+        requires cell { IsOf self.now party.old }
+        requires party { (i : ℕ) × (clone : A) × StandsWith (Registered i) ((2, Awaiter clone) ∷ []) party.old }
+        ensures { IfSome result (λ ended. EndsRegister party.old party.new ended) }
+    {
+        match self.alter_some::<EndingRegister>(party)? {
+            Ok(()) => Some(true),
+            Err(_) => Some(false),
+        }
     }
 }
 

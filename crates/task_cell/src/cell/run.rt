@@ -26,16 +26,9 @@ use task_steps::places::Held;
 use task_steps::run::{PendingEnd, Unscheduling, keeps_output};
 use task_steps::table::Kept;
 
-impl<R: Wait + Drop + Copy, F: Yields, Q: Drop, M: Drop, A: Drop, B: Allocator + Copy> Share<
-    R,
-    F,
-    Q,
-    M,
-    A,
-    B,
-> {
-    // SCHEDULED is cleared, after the future was dropped: a single fetch, never tried again.
-    pub(crate) fn unschedule(&self, party: &mut Party<F, Kept<F>, A>) -> Word
+impl<R: Drop, F: Yields, Q: Drop, M: Drop, A: Drop, B: Allocator + Copy> Share<R, F, Q, M, A, B> {
+    /// Clears SCHEDULED, after the future was dropped: a single fetch, never tried again. The word that was found.
+    pub fn unschedule(&self, party: &mut Party<F, Kept<F>, A>) -> Word
         requires cell { IsOf self.now party.old }
         requires party { (closer : WithoutPoll) × StandsWith (FutureInHand closer) (future_first Empty []) party.old }
         ensures { Did (act DropFuture ∷ row Unschedule result ∷ []) (notifies result.awaiter (closing_way (position party.old))) party.old party.new }

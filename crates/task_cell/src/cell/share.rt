@@ -1,6 +1,6 @@
 //! What a share of a cell shows, and how the last one ends.
 ghost use Rattle.std.specs.Prelude.{◌≡◌, [], true, false};
-ghost use Rattle.task_cell.specs.Belongs.{IsOf, limit_in};
+ghost use Rattle.task_cell.specs.Belongs.{IsOf, Leaves, limit_in};
 ghost use Rattle.task_cell.specs.LastWord.{LastWordIf};
 ghost use Rattle.task_cell.specs.Calls.{StandsWith, deeds};
 ghost use Rattle.task_laws.specs.declared.positions.Position.{Position};
@@ -9,7 +9,6 @@ ghost use Rattle.task_steps.specs.Shares.{has_emptied};
 use super::ledger::Ledger;
 use super::{Cell, MaybeShare, Party, Share};
 use std::alloc::Allocator;
-use std::sync::Wait;
 use task_core::Yields;
 use task_steps::table::Kept;
 
@@ -28,12 +27,31 @@ impl<R, F: Yields, Q, M, A, B: Allocator + Copy> Share<R, F, Q, M, A, B> {
         &self.cell().metadata
     }
 
-    // What notes the private acts of a call, also once the share is given up.
-    pub(crate) fn ledger(&self) -> Ledger<R, F, Q, M, A, B>
+    /// What notes the private acts of a call, also once the share is given up.
+    pub fn ledger(&self) -> Ledger<R, F, Q, M, A, B>
         ensures { result.ledger.id ≡ self.now.block.id }
     {
         Ledger {
             ledger: self.block.ledger(),
+        }
+    }
+
+    /// The share as what a step may have made or left: it is there.
+    pub fn into_maybe(self) -> MaybeShare<R, F, Q, M, A, B>
+        ensures { Leaves self result true }
+    {
+        let Share { block } = self;
+        MaybeShare {
+            maybe: block.into_maybe(),
+        }
+    }
+
+    /// What a step leaves where it leaves no share: it is not there. A call by reference keeps its record with it.
+    pub fn gone(&self) -> MaybeShare<R, F, Q, M, A, B>
+        ensures { Leaves self.now result false }
+    {
+        MaybeShare {
+            maybe: self.block.gone(),
         }
     }
 
@@ -44,14 +62,7 @@ impl<R, F: Yields, Q, M, A, B: Allocator + Copy> Share<R, F, Q, M, A, B> {
     }
 }
 
-impl<R: Wait + Drop + Copy, F: Yields, Q: Drop, M: Drop, A: Drop, B: Allocator + Copy> Share<
-    R,
-    F,
-    Q,
-    M,
-    A,
-    B,
-> {
+impl<R: Drop, F: Yields, Q: Drop, M: Drop, A: Drop, B: Allocator + Copy> Share<R, F, Q, M, A, B> {
     // Ends the last share, of a party that has emptied the places. The cell ends too, unless a schedule call holds it. The last word, and what it means.
     pub(crate) fn close(self, party: &mut Party<F, Kept<F>, A>) -> Option<u64>
         requires cell { IsOf self party.old }
@@ -71,8 +82,8 @@ impl<R: Wait + Drop + Copy, F: Yields, Q: Drop, M: Drop, A: Drop, B: Allocator +
 }
 
 impl<R, F: Yields, Q, M, A, B: Allocator + Copy> MaybeShare<R, F, Q, M, A, B> {
-    // The share, where the step made or left one.
-    pub(crate) fn share(self) -> Share<R, F, Q, M, A, B>
+    /// The share, where the step made or left one.
+    pub fn share(self) -> Share<R, F, Q, M, A, B>
         requires there { self.maybe.there ≡ true }
         ensures { (result.block.id ≡ self.maybe.id) × (result.block.key ≡ self.maybe.key) × (result.block.value ≡ self.maybe.value) }
     {
@@ -82,8 +93,8 @@ impl<R, F: Yields, Q, M, A, B: Allocator + Copy> MaybeShare<R, F, Q, M, A, B> {
         }
     }
 
-    // There is none: the party may note what it does next, and no more.
-    pub(crate) fn none(self) -> Ledger<R, F, Q, M, A, B>
+    /// There is none: the party may note what it does next, and no more.
+    pub fn none(self) -> Ledger<R, F, Q, M, A, B>
         requires there { self.maybe.there ≡ false }
         ensures { result.ledger.id ≡ self.maybe.id }
     {

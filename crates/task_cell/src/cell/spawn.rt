@@ -7,20 +7,12 @@ ghost use Rattle.task_steps.specs.Standing.{as_runnable, as_task};
 
 use super::{Cell, Party, Share};
 use std::alloc::Allocator;
-use std::sync::Wait;
 use task_core::Yields;
 use task_steps::places::{Held, put_future};
 use task_steps::spawn::{Filling, Opening, Spawning};
 use task_steps::table::{Kept, TaskSeat, lay};
 
-impl<R: Wait + Drop + Copy, F: Yields, Q: Drop, M: Drop, A: Drop, B: Allocator + Copy> Share<
-    R,
-    F,
-    Q,
-    M,
-    A,
-    B,
-> {
+impl<R: Drop, F: Yields, Q: Drop, M: Drop, A: Drop, B: Allocator + Copy> Share<R, F, Q, M, A, B> {
     /// Puts the future in, by the seat of a cell whose memory was found: the Runnable and the Task.
     pub fn fill(
         &self,

@@ -1,5 +1,5 @@
 //! The start of a run.
-ghost use Rattle.std.specs.Prelude.{◌≡◌, ℕ, ◌∷◌, []};
+ghost use Rattle.std.specs.Prelude.{◌≡◌, ℕ, ◌∷◌, [], IfSome};
 ghost use Rattle.task_cell.specs.Calls.{Stands};
 ghost use Rattle.task_steps.specs.Standing.{as_runnable};
 ghost use Rattle.task_cell.specs.Starts.{TakesUp};
@@ -9,6 +9,7 @@ use super::{Party, Share};
 use std::alloc::Allocator;
 use std::sync::Wait;
 use task_core::Yields;
+use task_steps::attempt::TriedOnce;
 use task_steps::start::StartingRun;
 use task_steps::table::Kept;
 
@@ -29,6 +30,24 @@ impl<R: Wait + Drop + Copy, F: Yields, Q: Drop, M: Drop, A: Drop, B: Allocator +
         match self.change::<StartingRun>(party) {
             Ok(_) => true,
             Err(_) => false,
+        }
+    }
+}
+
+impl<R: Drop, F: Yields, Q: Drop, M: Drop, A: Drop, B: Allocator + Copy> Share<R, F, Q, M, A, B> {
+    /// Takes the future for a run, by at most 2^64 - 1 tries: true where the run has started, false where the task was closed, none where each try has missed.
+    pub fn take_up_some(&self, party: &mut Party<F, Kept<F>, A>) -> Option<bool>
+        requires cell { IsOf self.now party.old }
+        requires party { Stands as_runnable party.old }
+        ensures { IfSome result (λ started. TakesUp party.old party.new started) }
+    {
+        match self.change_some::<StartingRun>(party) {
+            TriedOnce::Made((), maybe) => {
+                maybe.none();
+                Some(true)
+            }
+            TriedOnce::Ended(_, ()) => Some(false),
+            TriedOnce::Again(_, ()) => None,
         }
     }
 }

@@ -1,13 +1,14 @@
 //! Waking the task, and the party that each call by a reference to a handle gets, by a load of the word.
-ghost use Rattle.std.specs.Prelude.{◌≡◌, ◌<◌, [], ◌∷◌, IfSome, IfOk, IfErr};
+ghost use Rattle.std.specs.Prelude.{◌≡◌, ◌<◌, List, [], ◌∷◌, IfSome, IfOk, IfErr, false};
 ghost use Rattle.task_core.specs.Word.{HasRoom};
 ghost use Rattle.task_steps.specs.Rule.{view, fresh};
 ghost use Rattle.task_steps.specs.Attempts.{HasChanged};
-ghost use Rattle.task_steps.specs.Standing.{as_lent};
+ghost use Rattle.task_steps.specs.Standing.{as_lent, as_runnable, as_deliverer};
+ghost use Rattle.task_steps.specs.declared.table.Deed.{Deed};
 ghost use Rattle.task_steps.specs.WakerScripts.{brings_runnable, to_wake};
 ghost use Rattle.task_cell.specs.Belongs.{HasMade, IsOf, Leaves, cell_of, limit_in};
 ghost use Rattle.task_cell.specs.Calls.{Sees, Stands, limit_of, second};
-ghost use Rattle.task_cell.specs.WakerPaths.{WakesTask};
+ghost use Rattle.task_cell.specs.WakerPaths.{TaskWakePath, WakesTask};
 
 use super::{MaybeShare, Party, Share};
 use std::alloc::Allocator;
@@ -77,6 +78,47 @@ impl<R: Drop, F: Yields, Q: Drop, M: Drop, A: Drop, B: Allocator + Copy> Share<R
             TriedOnce::Ended(_, ()) => (party, Ok(None)),
             TriedOnce::Again(found, ()) => (party, Err(found)),
         }
+    }
+
+    /// A wake of the task by a handle that is lent for it, by at most 2^64 - 1 tries: the Runnable that is to be handed to the schedule function; or, where there is none, the party of the call, which tells why. The outer error is that each try has missed.
+    pub fn wake_some(
+        &self,
+    ) -> Result<Result<(Self, Party<F, Kept<F>, A>), Party<F, Kept<F>, A>>, ()>
+        ensures share { IfOk result (λ woken. IfOk woken (λ n. cell_of n.0 ≡ cell_of self.now)) }
+        ensures delivers { IfOk result (λ woken. IfOk woken (λ n. IsOf self.now n.1 × (limit_of n.1 ≡ limit_in self.now) × Stands as_runnable n.1)) }
+        ensures nothing { IfOk result (λ woken. IfErr woken (λ party. (path : List Deed) × TaskWakePath false path × HasMade self.now path party)) }
+    {
+        let (word, mut party) = self.borrow();
+        match self.attempt_some::<WakingTask>(&mut party, word) {
+            TriedOnce::Made(found, maybe) => {
+                let woken = self.deliverer_of(&mut party, found, maybe);
+                match woken {
+                    Some((share, deliverer)) => {
+                        let Party { seat: _ } = party;
+                        let runnable = self.runnable_of(deliverer);
+                        Ok(Ok((share, runnable)))
+                    }
+                    None => Ok(Err(party)),
+                }
+            }
+            TriedOnce::Ended(_, ()) => Ok(Err(party)),
+            TriedOnce::Again(_, ()) => {
+                let Party { seat: _ } = party;
+                Err(())
+            }
+        }
+    }
+
+    // The Runnable of a deliverer, which has ended then.
+    fn runnable_of(&self, mut deliverer: Party<F, Kept<F>, A>) -> Party<F, Kept<F>, A>
+        requires cell { IsOf self.now deliverer × (limit_of deliverer ≡ limit_in self.now) }
+        requires deliverer { Stands as_deliverer deliverer }
+        ensures { IsOf self.now result × (limit_of result ≡ limit_in self.now) × Stands as_runnable result }
+    {
+        let runnable = self.hand_over(&mut deliverer);
+        self.ledger().end(&mut deliverer);
+        deliverer.let_go();
+        runnable
     }
 }
 

@@ -5,11 +5,11 @@ use Rattle.task_cell.proofs.cell.block.Share.give_again.Goals as goal
 pub loop-init : goal.loop-init
 loop-init g c = let s = c.requires.seen in record { cell = refl; seat = refl; same = (refl, refl, refl); room = c.requires.room; seeing = seeing_first c.args.word c.args.party.now.seat.me s.0 s.1 s.2 }
 
-pub try_giving-requires-clause-allowed : goal.try_giving-requires-clause-allowed
-try_giving-requires-clause-allowed g c = let i = c.loop.invariant in may_still _ _ _ _ _ _ g.P.Change.attempt c.loop.word i.same.2 i.seat i.seeing c.requires.allowed
+pub give_some-requires-clause-allowed : goal.give_some-requires-clause-allowed
+give_some-requires-clause-allowed g c = let i = c.loop.invariant in may_still _ _ _ _ _ _ g.P.Change.attempt c.loop.word i.same.2 i.seat i.seeing c.requires.allowed
 
-pub try_giving-requires-clause-shares : goal.try_giving-requires-clause-shares
-try_giving-requires-clause-shares g c = let i = c.loop.invariant in give_still _ _ _ _ _ _ g.P.Change.attempt c.loop.word i.same.2 i.seat i.seeing c.requires.shares
+pub give_some-requires-clause-shares : goal.give_some-requires-clause-shares
+give_some-requires-clause-shares g c = let i = c.loop.invariant in give_still _ _ _ _ _ _ g.P.Change.attempt c.loop.word i.same.2 i.seat i.seeing c.requires.shares
 
 pub returns-in-Made-clause-changed : goal.returns-in-Made-clause-changed
 returns-in-Made-clause-changed g c = let i = c.loop.invariant in changed_after _ _ g.P.Change.attempt c.loop.word c.in-Made.row _ _ _ i.same.2 i.seeing c.in-Made.ensures.tried
@@ -17,11 +17,11 @@ returns-in-Made-clause-changed g c = let i = c.loop.invariant in changed_after _
 pub returns-in-Ended-clause-ended : goal.returns-in-Ended-clause-ended
 returns-in-Ended-clause-ended g c = let i = c.loop.invariant in ended_after _ _ g.P.Change.attempt c.loop.word c.in-Ended.found _ _ _ i.same.2 i.seeing c.in-Ended.ensures.tried
 
-pub try_giving-requires-clause-cell : goal.try_giving-requires-clause-cell
-try_giving-requires-clause-cell g c = let i = c.loop.invariant in i.cell ∙ (c.requires.cell ∙ sym i.same.0)
+pub give_some-requires-clause-cell : goal.give_some-requires-clause-cell
+give_some-requires-clause-cell g c = let i = c.loop.invariant in i.cell ∙ (c.requires.cell ∙ sym i.same.0)
 
-pub try_giving-requires-clause-limit : goal.try_giving-requires-clause-limit
-try_giving-requires-clause-limit g c = let i = c.loop.invariant in let ends = g.P.Change.attempt.ends in λ w. ap (λ m. ends m.0.limit w) i.seeing.is ∙ (c.requires.limit w ∙ ap (λ l. ends l w) (sym i.same.2))
+pub give_some-requires-clause-limit : goal.give_some-requires-clause-limit
+give_some-requires-clause-limit g c = let i = c.loop.invariant in let ends = g.P.Change.attempt.ends in λ w. ap (λ m. ends m.0.limit w) i.seeing.is ∙ (c.requires.limit w ∙ ap (λ l. ends l w) (sym i.same.2))
 
 pub returns-in-Made-clause-cell : goal.returns-in-Made-clause-cell
 returns-in-Made-clause-cell g c = c.in-Made.ensures.seat.0 ∙ c.loop.invariant.cell

@@ -1,13 +1,15 @@
-use Rattle.task_cell.proofs.Vocabulary.{◌∷◌, [], refl, ap, sym, ◌∙◌, Awaiter, after_storing, drops_stored, held}
-use Rattle.task_cell.proofs.Steps.{may_note}
-use Rattle.task_cell.proofs.Notified.{awaiter_there}
-use Rattle.task_cell.proofs.RunGoes.{at_rest}
-use Rattle.task_cell.proofs.Carried.{exchanges}
-use Rattle.task_cell.proofs.Moved.{stands}
+use Rattle.task_cell.proofs.Vocabulary.{◌∙◌}
+use Rattle.task_cell.proofs.PollStores.{stands_over, stored_over, stored_alone}
 use Rattle.task_cell.proofs.cell.block.Share.store.Goals as goal
 
-pub note-requires-clause-allowed : goal.note-requires-clause-allowed
-note-requires-clause-allowed g c = let s = c.requires.party in let p = c.args.party.now in let e = c.put_awaiter.ensures in let at = after_storing s.0 s.1 in
-    let x = exchanges p p (record { seat = c.put_awaiter.new.seat }) [] at 2 s.2 c.put_awaiter.result.slot (Awaiter c.args.clone.value) [] (at_rest at ((2, s.2) ∷ []) p p s.3 refl refl) e.0 e.2 e.3 in
-    may_note _ (record { seat = c.put_awaiter.new.seat }) at ((2, Awaiter c.args.clone.value) ∷ []) _ (stands p (record { seat = c.put_awaiter.new.seat }) [] at ((2, Awaiter c.args.clone.value) ∷ []) x.1)
-    (drops_stored _ s.0 s.1 s.2 c.in-Some.old.value s.4 (x.0 ∙ awaiter_there c.put_awaiter.result.slot c.in-Some.old.value (sym c.into_awaiter-old.ensures ∙ ap held c.in-Some.is)) _ _)
+pub note_old_dropped-requires-clause-cell : goal.note_old_dropped-requires-clause-cell
+note_old_dropped-requires-clause-cell g c = let s = c.requires.party in (c.put_clone.ensures s.0 s.1 s.2 s.3 s.4).1.cell ∙ c.requires.cell
+
+pub note_old_dropped-requires-clause-party : goal.note_old_dropped-requires-clause-party
+note_old_dropped-requires-clause-party g c = let s = c.requires.party in let t = stands_over s.0 s.1 c.args.clone.value c.args.party.now c.put_clone.new.party c.put_clone.result c.in-Some.old (c.put_clone.ensures s.0 s.1 s.2 s.3 s.4) c.in-Some.is in (s.0, t.0, c.args.clone.value, t.1)
+
+pub returns-in-Some : goal.returns-in-Some
+returns-in-Some g c = let s = c.requires.party in stored_over s.0 s.1 s.2 c.args.clone.value c.args.party.now c.put_clone.new.party c.note_old_dropped.new.party c.put_clone.result c.in-Some.old s.3 (c.put_clone.ensures s.0 s.1 s.2 s.3 s.4) c.in-Some.is c.note_old_dropped.ensures
+
+pub returns-in_default : goal.returns-in_default
+returns-in_default g c = let s = c.requires.party in stored_alone s.0 s.1 s.2 c.args.clone.value c.args.party.now c.put_clone.new.party c.put_clone.result s.3 (c.put_clone.ensures s.0 s.1 s.2 s.3 s.4) c.in_default.is

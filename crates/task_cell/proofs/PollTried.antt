@@ -1,0 +1,29 @@
+-- What the looks of a poll come to that are tried at most so many times, and the clone that is put in.
+use Rattle.task_cell.proofs.Vocabulary.{◌≡◌, ℕ, true, Option, Some, None, List, [], ◌∷◌, sym, ap, ◌∙◌, Result, Err, IfOk, IfErr, IfSome, State, Looking, after_storing, Slot, Awaiter, Party, Waits}
+use Rattle.task_cell.proofs.Vocabulary.{saw_ended, deeds, Stands, DidWith, has_ended, as_task, HasChanged, HasEnded, Looks, LooksAgain, held, awaiter_in}
+use Rattle.task_steps.specs.PollScripts.{to_look, to_look_again}
+use Rattle.task_cell.proofs.Notified.{there}
+use Rattle.task_cell.proofs.PollMoved.{looks_so, looks_again_so, finds_it_ended}
+use Rattle.task_cell.specs.Stores.{PutsClone}
+use Rattle.task_steps.specs.declared.places.Held.{Held}
+
+module _ {F T A : Type 0} where
+  -- the looks, by at most so many tries
+  pub tried_look : (limit n : ℕ) (x : Option (Result State State)) (p q : Party F T A) → Stands (as_task n) p → IfSome x (λ r. q.seat.block ≡ p.seat.block) → IfSome x (λ r. IfOk r (λ w. HasChanged limit to_look w p.seat.me q.seat.me))
+      → IfSome x (λ r. IfErr r (λ w. HasEnded limit to_look w p.seat.me q.seat.me)) → IfSome x (λ r. Looks p q r)
+  tried_look limit n None p q s cell c e = tt
+  tried_look limit n (Some x) p q s cell c e = looks_so limit n x p q s cell c e
+
+  pub tried_ended : (limit : ℕ) (x : Option (Result State State)) (p q : Party F T A) → IfSome x (λ r. IfOk r (λ w. HasChanged limit to_look w p.seat.me q.seat.me)) → IfSome x (λ r. IfErr r (λ w. HasEnded limit to_look w p.seat.me q.seat.me))
+      → saw_ended (deeds p) ≡ true → IfSome x (λ r. (w : State) × (r ≡ Err w) × (has_ended w ≡ true))
+  tried_ended limit None p q c e saw = tt
+  tried_ended limit (Some x) p q c e saw = finds_it_ended limit x p q c e saw
+
+  pub tried_look_again : (limit i : ℕ) (x : Option (Result State State)) (p q : Party F T A) → Stands (Looking i) p → IfSome x (λ r. q.seat.block ≡ p.seat.block) → IfSome x (λ r. IfOk r (λ w. HasChanged limit to_look_again w p.seat.me q.seat.me))
+      → IfSome x (λ r. IfErr r (λ w. HasEnded limit to_look_again w p.seat.me q.seat.me)) → IfSome x (λ r. LooksAgain p q r)
+  tried_look_again limit i None p q s cell c e = tt
+  tried_look_again limit i (Some x) p q s cell c e = looks_again_so limit i x p q s cell c e
+
+  -- the clone was put in, over what stood there
+  pub put : (i : ℕ) (hand : Option ℕ) (y x : Slot F T A) (clone : A) (p q : Party F T A) (found : Option (Held A)) → Waits hand y → (y ≡ x) × DidWith [] (after_storing i hand) ((2, Awaiter clone) ∷ []) p q → held found ≡ awaiter_in x → PutsClone i hand clone p q found
+  put i hand y x clone p q found waits g is = (there hand y found waits (is ∙ ap awaiter_in (sym g.0)), g.1)

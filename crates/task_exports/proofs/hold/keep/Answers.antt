@@ -1,0 +1,6 @@
+use Rattle.task_cell.proofs.Vocabulary.{refl}
+use Rattle.task_exports.proofs.Live.{lives_still}
+use Rattle.task_exports.proofs.hold.keep.Goals as goal
+
+pub returns : goal.returns
+returns c = (lives_still _ _ _ _ c.requires c.share-share.ensures c.into_maybe-share.ensures, refl)

@@ -1,0 +1,16 @@
+use Rattle.task_cell.proofs.Vocabulary.{subst, true, false, Some, IfSome, TakesUp}
+use Rattle.task_exports.specs.Answers.{start_missed, polls, finds_closed}
+use Rattle.task_exports.proofs.Runs.{taken_up}
+use Rattle.task_exports.proofs.Live.{lives_on}
+use Rattle.task_exports.proofs.run.start.Goals as goal
+
+pub returns-in-Some-true : goal.returns-in-Some-true
+returns-in-Some-true c = let t = subst (λ o. IfSome o (λ b. TakesUp c.args.hand.party c.take_up_some-started.new.party b)) c.in-Some-true.is c.take_up_some-started.ensures in
+    polls (taken_up _ _ _ _ _ _ c.requires.hand c.share-share.ensures c.into_maybe-share.ensures t) t
+
+pub returns-in-Some-false : goal.returns-in-Some-false
+returns-in-Some-false c = let t = subst (λ o. IfSome o (λ b. TakesUp c.args.hand.party c.take_up_some-started.new.party b)) c.in-Some-false.is c.take_up_some-started.ensures in
+    finds_closed (taken_up _ _ _ _ _ _ c.requires.hand c.share-share.ensures c.into_maybe-share.ensures t) t
+
+pub returns-in-None : goal.returns-in-None
+returns-in-None c = start_missed

@@ -1,0 +1,36 @@
+//! What lies in the caller's memory: a share of a cell, and its party; or a hold of a cell.
+use std::alloc::Global;
+use task_cell::{CellHold, Kept, MaybeShare, Party, Share};
+use task_core::Yields;
+
+/// Stands in the cell for a future, or an output, that lies in the caller's memory.
+#[derive(Drop)]
+pub struct Elsewhere;
+
+impl Yields for Elsewhere {
+    type Output = Elsewhere;
+}
+
+/// Stands in the cell for an awaiter that lies in the caller's memory.
+#[derive(Drop)]
+pub struct Waits;
+
+/// A share of a cell whose future, output, awaiter and schedule function lie in the caller's memory.
+pub type CellShare = Share<(), Elsewhere, (), (), Waits, Global>;
+
+/// What a step has left of such a share.
+pub type CellMaybe = MaybeShare<(), Elsewhere, (), (), Waits, Global>;
+
+/// A party of such a cell.
+pub type CellParty = Party<Elsewhere, Kept<Elsewhere>, Waits>;
+
+/// What a place for a handle has: a share, which is gone once its call has given it up, and the party, which tells what it did.
+pub struct Hand {
+    pub share: CellMaybe,
+    pub party: CellParty,
+}
+
+/// What a place for a hold has.
+pub struct Grip {
+    pub hold: CellHold<(), Elsewhere, (), (), Waits, Global>,
+}

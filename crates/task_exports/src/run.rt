@@ -1,0 +1,220 @@
+//! The steps of a run.
+ghost use Rattle.std.specs.Prelude.{◌≡◌, ℕ, [], ◌∷◌, true};
+ghost use Rattle.task_core.specs.Word.{State};
+ghost use Rattle.task_core.specs.declared.acts.Act.TheVariants.{DropFuture, DropOutput, EndClosed, Unschedule};
+ghost use Rattle.task_cell.specs.Calls.{Stands, StandsWith};
+ghost use Rattle.task_exports.specs.Answers.{Completed, GoesOn, IsFull, Pends, Starts};
+ghost use Rattle.task_exports.specs.Hands.{IsLive};
+ghost use Rattle.task_laws.specs.declared.positions.NotifyingCall.TheVariants.{OfRun};
+ghost use Rattle.task_laws.specs.declared.positions.Position.TheVariants.{FutureInHand, OutputInHand, PendingFutureDropped, Polling};
+ghost use Rattle.task_laws.specs.declared.positions.WithoutPoll.TheVariants.{ClosedRun};
+ghost use Rattle.task_steps.specs.Deeds.{row, act};
+ghost use Rattle.task_steps.specs.Rule.{IsFuture};
+ghost use Rattle.task_steps.specs.Standing.{as_runnable};
+ghost use Rattle.task_steps.specs.Steps.{future_first, output_first};
+
+use crate::answers::{
+    DROP_FUTURE, DROP_OUTPUT, DROP_OUTPUT_DUE, MISSED, OVER, POLL, SCHEDULE, SCHEDULE_WOKEN,
+};
+use crate::ends::go_on;
+use crate::hand::{Elsewhere, Hand};
+use crate::handle::{Handle, put, take};
+use crate::schedule::hand_on;
+use task_cell::Kept;
+use task_steps::places::Held;
+use task_steps::run::{PendingEnd, keeps_output};
+
+fn start(hand: Hand) -> (Hand, u32)
+    requires hand { IsLive hand }
+    requires party { Stands as_runnable hand.party }
+    ensures { Starts hand result.0 result.1 }
+{
+    let Hand { share, mut party } = hand;
+    let share = share.share();
+    let started = share.take_up_some(&mut party);
+    let share = share.into_maybe();
+    let hand = Hand { share, party };
+    match started {
+        Some(true) => (hand, POLL),
+        Some(false) => (hand, DROP_FUTURE),
+        None => (hand, MISSED),
+    }
+}
+
+/// Starts a run by a Runnable: 3, the future is to be polled; 4, the task was closed, and its future is to be dropped; 0, each try has missed.
+#[unsafe(no_mangle)]
+pub extern "C" fn async_task_start(h: &mut Handle) -> u32
+    requires handle { IsFull h.old }
+    requires party { Stands as_runnable h.old.hand.party }
+    ensures there { h.new.there ≡ true }
+    ensures path { Starts h.old.hand h.new.hand result }
+{
+    let (hand, answer) = start(take(h));
+    put(h, hand);
+    answer
+}
+
+fn run_closed(hand: Hand) -> (Hand, u32)
+    requires hand { IsLive hand }
+    requires party { (y : _) × StandsWith (FutureInHand ClosedRun) (future_first y []) hand.party }
+    ensures { (w : State) × GoesOn OfRun w.awaiter (act DropFuture ∷ row Unschedule w ∷ []) hand result.0 result.1 }
+{
+    let Hand { share, mut party } = hand;
+    let share = share.share();
+    share.clear(&mut party, 0);
+    let found = share.unschedule(&mut party);
+    let share = share.into_maybe();
+    go_on(Hand { share, party }, found.awaiter())
+}
+
+/// Goes on with a run of a closed task, whose future the caller has dropped: 7, the awaiter is to be moved out of its place; 1, the call has ended; 9, it was the last handle.
+#[unsafe(no_mangle)]
+pub extern "C" fn async_task_run_closed(h: &mut Handle) -> u32
+    requires handle { IsFull h.old }
+    requires party { (y : _) × StandsWith (FutureInHand ClosedRun) (future_first y []) h.old.hand.party }
+    ensures there { h.new.there ≡ true }
+    ensures path { (w : State) × GoesOn OfRun w.awaiter (act DropFuture ∷ row Unschedule w ∷ []) h.old.hand h.new.hand result }
+{
+    let (hand, answer) = run_closed(take(h));
+    put(h, hand);
+    answer
+}
+
+fn complete(hand: Hand) -> (Hand, u32)
+    requires hand { IsLive hand }
+    requires party { (y : _) × StandsWith Polling (future_first y []) hand.party }
+    ensures { Completed hand result.0 result.1 }
+{
+    let Hand { share, mut party } = hand;
+    let share = share.share();
+    share.answer_ready(&mut party);
+    share.clear(&mut party, 0);
+    let output = Held::new(Kept { output: Elsewhere });
+    let completed = share.complete_some(&mut party, output);
+    let share = share.into_maybe();
+    let hand = Hand { share, party };
+    match completed {
+        Some(found) => {
+            if keeps_output(found) {
+                return go_on(hand, found.awaiter());
+            }
+            if found.awaiter() {
+                (hand, DROP_OUTPUT_DUE)
+            } else {
+                (hand, DROP_OUTPUT)
+            }
+        }
+        None => (hand, MISSED),
+    }
+}
+
+/// Ends a run whose poll was ready, once the caller has dropped the future and stored the output: 5 and 6, nobody will claim the output, and it is to be dropped (in 6 an awaiter is due); 7, the awaiter is to be moved out of its place; 1, the call has ended; 9, it was the last handle; 0, each try has missed.
+#[unsafe(no_mangle)]
+pub extern "C" fn async_task_complete(h: &mut Handle) -> u32
+    requires handle { IsFull h.old }
+    requires party { (y : _) × StandsWith Polling (future_first y []) h.old.hand.party }
+    ensures there { h.new.there ≡ true }
+    ensures path { Completed h.old.hand h.new.hand result }
+{
+    let (hand, answer) = complete(take(h));
+    put(h, hand);
+    answer
+}
+
+fn drop_output(hand: Hand, due: bool) -> (Hand, u32)
+    requires hand { IsLive hand }
+    requires party { (z : _) × StandsWith (OutputInHand due) (output_first z []) hand.party }
+    ensures { GoesOn OfRun due (act DropOutput ∷ []) hand result.0 result.1 }
+{
+    let Hand { share, mut party } = hand;
+    let share = share.share();
+    share.drop_output(&mut party);
+    let share = share.into_maybe();
+    go_on(Hand { share, party }, due)
+}
+
+/// Goes on with a run whose output the caller has dropped: 7, the awaiter is to be moved out of its place; 1, the call has ended; 9, it was the last handle. `due` says whether an awaiter is due, as the answer before did.
+#[unsafe(no_mangle)]
+pub extern "C" fn async_task_output_dropped(h: &mut Handle, due: bool) -> u32
+    requires handle { IsFull h.old }
+    requires party { (z : _) × StandsWith (OutputInHand due) (output_first z []) h.old.hand.party }
+    ensures there { h.new.there ≡ true }
+    ensures path { GoesOn OfRun due (act DropOutput ∷ []) h.old.hand h.new.hand result }
+{
+    let (hand, answer) = drop_output(take(h), due);
+    put(h, hand);
+    answer
+}
+
+fn pend(hand: Hand) -> (Hand, u32)
+    requires hand { IsLive hand }
+    requires party { (y : _) × StandsWith Polling (future_first y []) hand.party × IsFuture y }
+    ensures { Pends hand result.0 result.1 }
+{
+    let Hand { share, mut party } = hand;
+    let share = share.share();
+    let found = share.answer_pending(&mut party);
+    if found.closed() {
+        let share = share.into_maybe();
+        return (Hand { share, party }, DROP_FUTURE);
+    }
+    match share.end_pending_some(&mut party, found) {
+        Ok(Ok(ended)) => match ended.0 {
+            PendingEnd::Rescheduled => (hand_on(ended.1.share(), party), SCHEDULE_WOKEN),
+            PendingEnd::Idle => (
+                Hand {
+                    share: ended.1,
+                    party,
+                },
+                OVER,
+            ),
+            PendingEnd::Orphaned => (hand_on(ended.1.share(), party), SCHEDULE),
+        },
+        Ok(Err(kept)) => {
+            let share = kept.into_maybe();
+            (Hand { share, party }, DROP_FUTURE)
+        }
+        Err(kept) => {
+            let share = kept.into_maybe();
+            (Hand { share, party }, MISSED)
+        }
+    }
+}
+
+/// Ends a run whose poll was pending: 4, the task was closed meanwhile, and its future is to be dropped; 11, it was woken meanwhile, and the handle is its Runnable, which is to be scheduled; 10, nobody else has a handle, and the handle is its Runnable, which is to be scheduled; 1, the call has ended; 0, each try has missed.
+#[unsafe(no_mangle)]
+pub extern "C" fn async_task_pending(h: &mut Handle) -> u32
+    requires handle { IsFull h.old }
+    requires party { (y : _) × StandsWith Polling (future_first y []) h.old.hand.party × IsFuture y }
+    ensures there { h.new.there ≡ true }
+    ensures path { Pends h.old.hand h.new.hand result }
+{
+    let (hand, answer) = pend(take(h));
+    put(h, hand);
+    answer
+}
+
+fn end_closed(hand: Hand) -> (Hand, u32)
+    requires hand { IsLive hand }
+    requires party { (y : _) × StandsWith PendingFutureDropped (future_first y []) hand.party }
+    ensures { (w : State) × (w.closed ≡ true) × GoesOn OfRun w.awaiter (row EndClosed w ∷ []) hand result.0 result.1 }
+{
+    let Hand { share, mut party } = hand;
+    let share = share.share();
+    let found = share.end_closed(&mut party);
+    let share = share.into_maybe();
+    go_on(Hand { share, party }, found.awaiter())
+}
+
+/// Goes on with a run of a task that was closed meanwhile, whose future the caller has dropped: 7, the awaiter is to be moved out of its place; 1, the call has ended; 9, it was the last handle.
+#[unsafe(no_mangle)]
+pub extern "C" fn async_task_pending_closed(h: &mut Handle) -> u32
+    requires handle { IsFull h.old }
+    requires party { (y : _) × StandsWith PendingFutureDropped (future_first y []) h.old.hand.party }
+    ensures there { h.new.there ≡ true }
+    ensures path { (w : State) × (w.closed ≡ true) × GoesOn OfRun w.awaiter (row EndClosed w ∷ []) h.old.hand h.new.hand result }
+{
+    let (hand, answer) = end_closed(take(h));
+    put(h, hand);
+    answer
+}
