@@ -14,8 +14,8 @@ use std::time::{Duration, Instant};
 // How long to sleep between two looks at the count, in milliseconds.
 const STEP: u64 = 5;
 
-// So many looks that see no task end say that one is lost: 20 seconds.
-const PATIENCE: u64 = 4000;
+// So many looks that see no task end say that one is lost: 10 seconds.
+const PATIENCE: u64 = 2000;
 
 // So many looks of a thread that does not sleep say the same.
 const LOOKS: u64 = 100_000_000;

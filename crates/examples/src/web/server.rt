@@ -7,7 +7,7 @@ use std::sync::Wait;
 use std::time::{Clock, Duration};
 
 /// How many milliseconds a request may take.
-const PATIENCE: u64 = 20;
+const PATIENCE: u64 = 1_000;
 
 /// Serves one request after another until none is left.
 #[derive(Drop)]
