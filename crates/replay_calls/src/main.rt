@@ -10,14 +10,23 @@ mod replay;
 mod script;
 mod values;
 
-use std::io;
 use std::io::{BufReader, BufWriter};
 use std::process::ExitCode;
+use std::{env, io};
 
 fn main(rt: HostRuntime) -> io::Result<ExitCode> {
+    let mut err = rt.stderr();
+    let is_given = match env::args(&rt) {
+        Ok(words) => words.len() > 1,
+        // An argument is not UTF-8.
+        Err(error) if error.kind() == io::ErrorKind::InvalidData => true,
+        Err(error) => return Err(error),
+    };
+    if is_given {
+        return Ok(ExitCode::from(replay::refuse(&mut err)));
+    }
     let input = BufReader::new(rt.alloc(), rt.reader())?;
     let mut out = BufWriter::new(rt.alloc(), io::writer(&rt))?;
-    let mut err = rt.stderr();
     let status = replay::answer(rt, rt.alloc(), input, &mut out, &mut err);
     Ok(ExitCode::from(status))
 }

@@ -9,9 +9,21 @@ use std::io;
 use std::rc::Rc;
 use std::sync::Wait;
 
+/// What was given to the program as an argument is refused, since it takes none: the status, 2. `err` is told so.
+pub fn refuse<E: io::Write>(err: &mut E) -> u8
+    ensures { result ≤ 2 }
+{
+    let _ = writeln!(
+        err,
+        "replay_calls: it takes no arguments, and reads scripts from its input"
+    );
+    let _ = err.flush();
+    2
+}
+
 /// Plays the scripts that are read from `input`, one a line, and prints a line of what happened in each.
 ///
-/// The status is 0 where all were played, 2 where a line is no script, which is told on `err` by its number, and 1 where memory, the reader or a
+/// The status is 0 where all were played, 2 where a line is no script or not UTF-8, which is told on `err` by its number, and 1 where memory, the reader or a
 /// writer fails, which is told there too.
 pub fn answer<R: Wait + Drop + Copy, I: io::BufRead + Drop, W: io::Write, E: io::Write>(
     rt: R,
@@ -44,12 +56,15 @@ fn play_lines<R: Wait + Drop + Copy, I: io::BufRead + Drop, W: io::Write, E: io:
     let mut number = 0u64;
     for line in input.lines(alloc) {
         number = number.saturating_add(1);
-        let line = line?;
+        let line = match line {
+            Ok(line) => line,
+            Err(error) if error.kind() == io::ErrorKind::InvalidData => {
+                return tell(out, err, number, "not UTF-8");
+            }
+            Err(error) => return Err(error),
+        };
         let Some(script) = Script::read(alloc, line.as_str())? else {
-            out.flush()?;
-            writeln!(err, "line {number}: no script")?;
-            err.flush()?;
-            return Ok(2);
+            return tell(out, err, number, "no script");
         };
         let played = play(rt, alloc, script)?;
         let played = played.as_str().trim_end();
@@ -57,6 +72,21 @@ fn play_lines<R: Wait + Drop + Copy, I: io::BufRead + Drop, W: io::Write, E: io:
     }
     out.flush()?;
     Ok(0)
+}
+
+// Says what is wrong with a line, behind what was printed so far: the status, 2.
+fn tell<W: io::Write, E: io::Write>(
+    out: &mut W,
+    err: &mut E,
+    number: u64,
+    what: &str,
+) -> io::Result<u8>
+    ensures { IfOk result (λ status. status ≤ 2) }
+{
+    out.flush()?;
+    writeln!(err, "line {number}: {what}")?;
+    err.flush()?;
+    Ok(2)
 }
 
 // What happens in a script.
