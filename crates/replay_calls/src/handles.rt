@@ -1,89 +1,89 @@
-//! The handles of the task of a script, and the calls on them. A handle is taken out for each call, so that no lock is held while it is made.
+//! The handles of the task of a script, and the calls on them.
 
+use crate::log::Log;
 use crate::script::{Call, Way, Word};
-use crate::stage::{MakesHandles, Plays, Stage};
 use crate::values::{Awaiter, Metadata, Output, Scheduler, ScriptFuture};
-use async_task::{
-    Builder, Cancel, FallibleTask, Runnable, Task, TaskClosed, TaskPoll, TaskWaker, Wake, Yields,
-};
+use async_task::{Builder, Cancel, FallibleTask, Runnable, Task, TaskClosed, TaskPoll, TaskWaker};
 use std::alloc::{AllocError, Global};
-use std::sync::{Arc, Mutex, Wait};
+use std::cell::Cell;
+use std::rc::Rc;
+use std::sync::Wait;
 
 /// A Runnable with its surroundings.
 pub type CarriedRunnable<'x, R> = Runnable<
     R,
-    ScriptFuture<R>,
-    Scheduler<R>,
-    Metadata<R>,
-    Awaiter<R>,
+    ScriptFuture,
+    Scheduler,
+    Metadata,
+    Awaiter,
     &'x Handles<R>,
 >;
 
 /// A waker with its surroundings.
 pub type CarriedWaker<'x, R> = TaskWaker<
     R,
-    ScriptFuture<R>,
-    Scheduler<R>,
-    Metadata<R>,
-    Awaiter<R>,
+    ScriptFuture,
+    Scheduler,
+    Metadata,
+    Awaiter,
     &'x Handles<R>,
 >;
 
 /// A Runnable as it is kept.
-pub type HeldRunnable<R> = Runnable<R, ScriptFuture<R>, Scheduler<R>, Metadata<R>, Awaiter<R>, ()>;
+pub type HeldRunnable<R> = Runnable<R, ScriptFuture, Scheduler, Metadata, Awaiter, ()>;
 
-type CarriedTask<'x, R> = Task<
-    R,
-    ScriptFuture<R>,
-    Scheduler<R>,
-    Metadata<R>,
-    Awaiter<R>,
-    &'x Handles<R>,
->;
+type CarriedTask<'x, R> = Task<R, ScriptFuture, Scheduler, Metadata, Awaiter, &'x Handles<R>>;
 
-type HeldWaker<R> = TaskWaker<R, ScriptFuture<R>, Scheduler<R>, Metadata<R>, Awaiter<R>, ()>;
+type HeldWaker<R> = TaskWaker<R, ScriptFuture, Scheduler, Metadata, Awaiter, ()>;
 
 // What is left of the Task.
 #[derive(Drop)]
-enum HeldTask<R: Wait + Drop + Copy>
-where
-    ScriptFuture<R>: Yields<Output = Output<R>>,
-    Awaiter<R>: Wake,
-{
-    Task(Task<R, ScriptFuture<R>, Scheduler<R>, Metadata<R>, Awaiter<R>, ()>),
-    Fallible(FallibleTask<R, ScriptFuture<R>, Scheduler<R>, Metadata<R>, Awaiter<R>, ()>),
-    Cancel(Cancel<R, ScriptFuture<R>, Scheduler<R>, Metadata<R>, Awaiter<R>, ()>),
+enum HeldTask<R: Wait + Drop + Copy> {
+    Task(Task<R, ScriptFuture, Scheduler, Metadata, Awaiter, ()>),
+    Fallible(FallibleTask<R, ScriptFuture, Scheduler, Metadata, Awaiter, ()>),
+    Cancel(Cancel<R, ScriptFuture, Scheduler, Metadata, Awaiter, ()>),
 }
 
 /// The handles of a task, which are its surroundings too. They are kept without surroundings.
 #[derive(Drop)]
-pub struct Handles<R: Wait + Drop + Copy>
-where
-    ScriptFuture<R>: Yields<Output = Output<R>>,
-    Awaiter<R>: Wake,
-{
-    rt: R,
+pub struct Handles<R: Wait + Drop + Copy> {
     alloc: Global,
-    stage: Arc<Stage<R>>,
+    log: Rc<Log>,
     way: Way,
     polls: Vec<Word>,
-    awaiters: (Awaiter<R>, Awaiter<R>),
-    runnable: Mutex<Option<HeldRunnable<R>>>,
-    wakers: Mutex<Vec<HeldWaker<R>>>,
-    task: Mutex<Option<HeldTask<R>>>,
+    awaiters: (Awaiter, Awaiter),
+    runnable: Cell<Option<HeldRunnable<R>>>,
+    wakers: Cell<Vec<HeldWaker<R>>>,
+    task: Cell<Option<HeldTask<R>>>,
 }
 
-impl<R: Wait + Drop + Copy> Handles<R>
-where
-    ScriptFuture<R>: Yields<Output = Output<R>>,
-    Awaiter<R>: Wake,
-{
-    // Spawns the task, and keeps its Runnable and its Task.
-    fn spawn(&self) -> Result<(), AllocError> {
-        let future = ScriptFuture::new(Arc::try_clone(&self.stage)?);
-        let schedule = Scheduler::new(Arc::try_clone(&self.stage)?);
-        let builder = Builder::new().metadata(Metadata::new(Arc::try_clone(&self.stage)?));
-        let spawned = builder.spawn(self.rt, self.alloc, |_| future, schedule, self);
+impl<R: Wait + Drop + Copy> Handles<R> {
+    /// No handles yet. `way` and `polls` are those of a script.
+    pub fn new(
+        alloc: Global,
+        log: Rc<Log>,
+        way: Way,
+        polls: Vec<Word>,
+    ) -> Result<Handles<R>, AllocError> {
+        let awaiters = (Awaiter::new(0, log.clone()?), Awaiter::new(1, log.clone()?));
+        Ok(Handles {
+            alloc,
+            log,
+            way,
+            polls,
+            awaiters,
+            runnable: Cell::new(None),
+            wakers: Cell::new(Vec::new(alloc)),
+            task: Cell::new(None),
+        })
+    }
+
+    /// Spawns the task, and keeps its Runnable and its Task.
+    pub fn spawn(&self, rt: R) -> Result<(), AllocError> {
+        let future = ScriptFuture::new(self.log.clone()?);
+        let schedule = Scheduler::new(self.log.clone()?);
+        let builder = Builder::new().metadata(Metadata::new(self.log.clone()?));
+        let spawned = builder.spawn(rt, self.alloc, |_| future, schedule, self);
         let (runnable, task): (CarriedRunnable<'_, R>, CarriedTask<'_, R>) = spawned.map_err(
             |_| AllocError,
         )?;
@@ -97,7 +97,7 @@ where
         match self.way {
             Way::Keeps => self.keep_runnable(runnable),
             Way::Shows => {
-                self.stage.log.show(&runnable);
+                self.log.show(&runnable);
                 self.keep_runnable(runnable);
             }
             Way::Drops => drop(runnable),
@@ -109,7 +109,7 @@ where
         for word in self.polls.iter().skip(*next) {
             *next = next.saturating_add(1);
             match word {
-                Word::Polled | Word::Pending | Word::Inside(_) | Word::Done => return false,
+                Word::Polled | Word::Pending => return false,
                 Word::Ready => return true,
                 Word::Call(Call::Keep) => self.keep_clone("keep", lent),
                 Word::Call(Call::WakeLent) => self.wake_by("wake_lent", lent),
@@ -119,28 +119,26 @@ where
         false
     }
 
-    // A call that is made outside of a poll.
-    fn call_outside(&self, call: Call) {
+    /// A call that is made outside of a poll.
+    pub fn call_outside(&self, call: Call) {
         match call {
             Call::Run => self.run(),
             Call::Schedule => self.schedule(),
-            Call::DropRunnable => {
-                self.drop_runnable();
-            }
+            Call::DropRunnable => self.drop_runnable(),
             Call::Waker => self.waker(),
             _ => self.call(call),
         }
     }
 
-    // Drops all handles that are left, also those that come meanwhile.
-    fn end(&self) {
-        self.stage.log.begin("end");
-        for _ in self.rt.forever() {
-            if !(self.drop_waker() || self.drop_task() || self.drop_runnable()) {
-                break;
-            }
+    /// Drops all handles that are left.
+    pub fn end(&self) {
+        self.log.begin("end");
+        for _ in 0..self.wakers() {
+            self.drop_waker();
         }
-        self.stage.log.end("");
+        self.drop_task();
+        self.drop_runnable();
+        self.log.end("");
     }
 
     // A call that may be made inside a poll too.
@@ -149,16 +147,12 @@ where
             Call::Wake => self.wake(),
             Call::WakeByRef => self.wake_by_ref(),
             Call::CloneWaker => self.clone_waker(),
-            Call::DropWaker => {
-                self.drop_waker();
-            }
+            Call::DropWaker => self.drop_waker(),
             Call::Poll(number) => self.poll(number),
             Call::Fallible => self.fallible(),
             Call::Cancel => self.cancel(),
             Call::Detach => self.detach(),
-            Call::DropTask => {
-                self.drop_task();
-            }
+            Call::DropTask => self.drop_task(),
             Call::IsFinished => self.is_finished(),
             Call::Show => self.show(),
             _ => {}
@@ -166,87 +160,14 @@ where
     }
 }
 
-/// What makes handles: the runtime value and the allocator of their tasks.
-#[derive(Drop)]
-pub struct Maker<R> {
-    /// The runtime value.
-    pub rt: R,
-    /// The allocator.
-    pub alloc: Global,
-}
-
-impl<R: Wait + Drop + Copy + Send + Sync> MakesHandles<R> for Maker<R>
-where
-    ScriptFuture<R>: Yields<Output = Output<R>>,
-    Awaiter<R>: Wake,
-{
-    type Handles = Handles<R>;
-
-    fn handles(
-        &self,
-        stage: &Arc<Stage<R>>,
-        way: Way,
-        polls: Vec<Word>,
-    ) -> Result<Handles<R>, AllocError> {
-        let awaiters = (
-            Awaiter::new(0, Arc::try_clone(stage)?),
-            Awaiter::new(1, Arc::try_clone(stage)?),
-        );
-        Ok(Handles {
-            rt: self.rt,
-            alloc: self.alloc,
-            stage: Arc::try_clone(stage)?,
-            way,
-            polls,
-            awaiters,
-            runnable: Mutex::new(None),
-            wakers: Mutex::new(Vec::new(self.alloc)),
-            task: Mutex::new(None),
-        })
-    }
-}
-
-impl<R: Wait + Drop + Copy> Plays for Handles<R>
-where
-    ScriptFuture<R>: Yields<Output = Output<R>>,
-    Awaiter<R>: Wake,
-{
-    fn play(&self, calls: &[Call]) -> Result<(), AllocError> {
-        self.spawn()?;
-        for call in calls {
-            self.call_outside(*call);
-        }
-        self.end();
-        Ok(())
-    }
-
-    fn serve(&self, number: usize) {
-        for _ in self.rt.forever() {
-            let Some(calls) = self.stage.next(number) else {
-                return;
-            };
-            self.stage.log.begin("inside");
-            for call in calls.iter() {
-                self.call_outside(*call);
-            }
-            self.stage.log.end("");
-            self.stage.finish(number);
-        }
-    }
-}
-
 /// The calls on the Runnable.
-impl<R: Wait + Drop + Copy> Handles<R>
-where
-    ScriptFuture<R>: Yields<Output = Output<R>>,
-    Awaiter<R>: Wake,
-{
+impl<R: Wait + Drop + Copy> Handles<R> {
     fn keep_runnable<'x>(&'x self, runnable: CarriedRunnable<'x, R>) {
-        *self.runnable.lock(&self.rt) = Some(runnable.with_around(()));
+        self.runnable.set(Some(runnable.with_around(())));
     }
 
     fn runnable(&self) -> Option<CarriedRunnable<'_, R>> {
-        let held = self.runnable.lock(&self.rt).take()?;
+        let held = self.runnable.replace(None)?;
         Some(held.with_around(self))
     }
 
@@ -254,81 +175,88 @@ where
         let Some(runnable) = self.runnable() else {
             return;
         };
-        self.stage.log.begin("run");
+        self.log.begin("run");
         let woken = runnable.run();
-        self.stage.log.end_with(woken);
+        self.log.end_with(woken);
     }
 
     fn schedule(&self) {
         let Some(runnable) = self.runnable() else {
             return;
         };
-        self.stage.log.begin("schedule");
+        self.log.begin("schedule");
         runnable.schedule();
-        self.stage.log.end("");
+        self.log.end("");
     }
 
-    fn drop_runnable(&self) -> bool {
+    fn drop_runnable(&self) {
         let Some(runnable) = self.runnable() else {
-            return false;
+            return;
         };
-        self.stage.log.begin("drop_runnable");
+        self.log.begin("drop_runnable");
         drop(runnable);
-        self.stage.log.end("");
-        true
+        self.log.end("");
     }
 
     fn waker(&self) {
         let Some(runnable) = self.runnable() else {
             return;
         };
-        self.stage.log.note("waker");
+        self.log.note("waker");
         self.keep_waker(runnable.waker());
         self.keep_runnable(runnable);
     }
 }
 
 /// The calls on wakers.
-impl<R: Wait + Drop + Copy> Handles<R>
-where
-    ScriptFuture<R>: Yields<Output = Output<R>>,
-    Awaiter<R>: Wake,
-{
+impl<R: Wait + Drop + Copy> Handles<R> {
+    // How many wakers are kept.
+    fn wakers(&self) -> usize {
+        let kept = self.wakers.replace(Vec::new(self.alloc));
+        let count = kept.len();
+        self.wakers.set(kept);
+        count
+    }
+
     fn keep_waker<'x>(&'x self, given: Option<CarriedWaker<'x, R>>) {
         let Some(waker) = given else {
-            self.stage.log.note("refused");
+            self.log.note("refused");
             return;
         };
-        let pushed = self.wakers.lock(&self.rt).push(waker.with_around(()));
+        let mut kept = self.wakers.replace(Vec::new(self.alloc));
+        let pushed = kept.push(waker.with_around(()));
+        self.wakers.set(kept);
         if pushed.is_err() {
-            self.stage.log.lose();
+            self.log.lose();
         }
     }
 
     // The waker that was kept last.
     fn last_waker(&self) -> Option<CarriedWaker<'_, R>> {
-        let last = self.wakers.lock(&self.rt).pop();
+        let mut kept = self.wakers.replace(Vec::new(self.alloc));
+        let last = kept.pop();
+        self.wakers.set(kept);
         Some(last?.with_around(self))
     }
 
     fn keep_clone<'x>(&'x self, call: &str, waker: &CarriedWaker<'x, R>) {
-        self.stage.log.note(call);
+        self.log.note(call);
         self.keep_waker(waker.try_clone());
     }
 
     fn wake_by<'x>(&'x self, call: &str, waker: &CarriedWaker<'x, R>) {
-        self.stage.log.begin(call);
+        self.log.begin(call);
         waker.wake_by_ref();
-        self.stage.log.end("");
+        self.log.end("");
     }
 
     fn wake(&self) {
         let Some(waker) = self.last_waker() else {
             return;
         };
-        self.stage.log.begin("wake");
+        self.log.begin("wake");
         waker.wake();
-        self.stage.log.end("");
+        self.log.end("");
     }
 
     fn wake_by_ref(&self) {
@@ -347,42 +275,27 @@ where
         self.keep_waker(Some(waker));
     }
 
-    fn drop_waker(&self) -> bool {
+    fn drop_waker(&self) {
         let Some(waker) = self.last_waker() else {
-            return false;
+            return;
         };
-        self.stage.log.begin("drop_waker");
+        self.log.begin("drop_waker");
         drop(waker);
-        self.stage.log.end("");
-        true
+        self.log.end("");
     }
 }
 
 /// The calls on the Task.
-impl<R: Wait + Drop + Copy> Handles<R>
-where
-    ScriptFuture<R>: Yields<Output = Output<R>>,
-    Awaiter<R>: Wake,
-{
-    fn held_task(&self) -> Option<HeldTask<R>> {
-        self.task.lock(&self.rt).take()
-    }
-
-    fn hold_task(&self, held: Option<HeldTask<R>>) {
-        *self.task.lock(&self.rt) = held;
-    }
-
+impl<R: Wait + Drop + Copy> Handles<R> {
     fn keep_task(&self, task: CarriedTask<'_, R>) {
-        self.hold_task(Some(HeldTask::Task(task.with_around(()))));
+        self.task.set(Some(HeldTask::Task(task.with_around(()))));
     }
 
     fn poll(&self, number: u8) {
-        let Some(task) = self.held_task() else {
+        let Some(task) = self.task.replace(None) else {
             return;
         };
-        self.stage
-            .log
-            .begin(if number == 0 { "poll0" } else { "poll1" });
+        self.log.begin(if number == 0 { "poll0" } else { "poll1" });
         let awaiter = if number == 0 {
             &self.awaiters.0
         } else {
@@ -395,7 +308,7 @@ where
         }
     }
 
-    fn poll_task<'x>(&'x self, task: CarriedTask<'x, R>, awaiter: &Awaiter<R>) {
+    fn poll_task<'x>(&'x self, task: CarriedTask<'x, R>, awaiter: &Awaiter) {
         let mut task = task;
         let answer = match task.poll(awaiter) {
             TaskPoll::Pending => TaskPoll::Pending,
@@ -409,33 +322,34 @@ where
 
     fn poll_fallible(
         &self,
-        task: FallibleTask<R, ScriptFuture<R>, Scheduler<R>, Metadata<R>, Awaiter<R>, ()>,
-        awaiter: &Awaiter<R>,
+        task: FallibleTask<R, ScriptFuture, Scheduler, Metadata, Awaiter, ()>,
+        awaiter: &Awaiter,
     ) {
         let mut task = task.with_around(self);
         let answer = task.poll(awaiter);
-        self.hold_task(Some(HeldTask::Fallible(task.with_around(()))));
+        self.task
+            .set(Some(HeldTask::Fallible(task.with_around(()))));
         self.end_poll(answer);
     }
 
     // A Cancel that is ready is dropped, as a future that was awaited.
     fn poll_cancel(
         &self,
-        task: Cancel<R, ScriptFuture<R>, Scheduler<R>, Metadata<R>, Awaiter<R>, ()>,
-        awaiter: &Awaiter<R>,
+        task: Cancel<R, ScriptFuture, Scheduler, Metadata, Awaiter, ()>,
+        awaiter: &Awaiter,
     ) {
         let mut task = task.with_around(self);
         let answer = task.poll(awaiter);
         if matches!(answer, TaskPoll::Ready(_)) {
             drop(task);
         } else {
-            self.hold_task(Some(HeldTask::Cancel(task.with_around(()))));
+            self.task.set(Some(HeldTask::Cancel(task.with_around(()))));
         }
         self.end_poll(answer);
     }
 
-    fn end_poll(&self, answer: TaskPoll<Option<Output<R>>>) {
-        self.stage.log.end(match &answer {
+    fn end_poll(&self, answer: TaskPoll<Option<Output>>) {
+        self.log.end(match &answer {
             TaskPoll::Pending => "pending",
             TaskPoll::Refused => "refused",
             TaskPoll::Ready(Some(_)) => "output",
@@ -444,76 +358,75 @@ where
     }
 
     fn fallible(&self) {
-        let changed = match self.held_task() {
+        let changed = match self.task.replace(None) {
             Some(HeldTask::Task(task)) => HeldTask::Fallible(task.fallible()),
             Some(other) => other,
             None => return,
         };
-        self.hold_task(Some(changed));
+        self.task.set(Some(changed));
     }
 
     fn cancel(&self) {
-        let changed = match self.held_task() {
+        let changed = match self.task.replace(None) {
             Some(HeldTask::Task(task)) => HeldTask::Cancel(task.cancel()),
             Some(HeldTask::Fallible(task)) => HeldTask::Cancel(task.cancel()),
             Some(other) => other,
             None => return,
         };
-        self.hold_task(Some(changed));
+        self.task.set(Some(changed));
     }
 
     fn detach(&self) {
-        match self.held_task() {
+        match self.task.replace(None) {
             Some(HeldTask::Task(task)) => {
-                self.stage.log.begin("detach");
+                self.log.begin("detach");
                 task.with_around(self).detach();
-                self.stage.log.end("");
+                self.log.end("");
             }
             Some(HeldTask::Fallible(task)) => {
-                self.stage.log.begin("detach");
+                self.log.begin("detach");
                 task.with_around(self).detach();
-                self.stage.log.end("");
+                self.log.end("");
             }
-            other => self.hold_task(other),
+            other => self.task.set(other),
         }
     }
 
-    fn drop_task(&self) -> bool {
-        let Some(task) = self.held_task() else {
-            return false;
+    fn drop_task(&self) {
+        let Some(task) = self.task.replace(None) else {
+            return;
         };
-        self.stage.log.begin("drop_task");
+        self.log.begin("drop_task");
         match task {
             HeldTask::Task(task) => drop(task.with_around(self)),
             HeldTask::Fallible(task) => drop(task.with_around(self)),
             HeldTask::Cancel(task) => drop(task.with_around(self)),
         }
-        self.stage.log.end("");
-        true
+        self.log.end("");
     }
 
     fn is_finished(&self) {
-        let mut held = self.held_task();
+        let mut held = self.task.replace(None);
         match &mut held {
             Some(HeldTask::Task(task)) => self.note_finished(task.is_finished()),
             Some(HeldTask::Fallible(task)) => self.note_finished(task.is_finished()),
             _ => {}
         }
-        self.hold_task(held);
+        self.task.set(held);
     }
 
     fn note_finished(&self, answer: bool) {
-        self.stage.log.begin("is_finished");
-        self.stage.log.end_with(answer);
+        self.log.begin("is_finished");
+        self.log.end_with(answer);
     }
 
     fn show(&self) {
-        let held = self.held_task();
+        let held = self.task.replace(None);
         match &held {
-            Some(HeldTask::Task(task)) => self.stage.log.show(task),
-            Some(HeldTask::Fallible(task)) => self.stage.log.show(task),
+            Some(HeldTask::Task(task)) => self.log.show(task),
+            Some(HeldTask::Fallible(task)) => self.log.show(task),
             _ => {}
         }
-        self.hold_task(held);
+        self.task.set(held);
     }
 }

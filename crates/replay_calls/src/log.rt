@@ -1,35 +1,24 @@
 //! What happened in a script, in order.
 
 use std::alloc::{AllocError, Global};
-use std::sync::{Mutex, Wait};
-use std::{fmt, mem};
-
-// The words so far, and whether one was lost for want of memory.
-#[derive(Drop)]
-struct Words {
-    text: String,
-    is_lost: bool,
-}
+use std::cell::Cell;
+use std::fmt;
 
 /// The words of what happened so far.
 #[derive(Drop)]
-pub struct Log<R: Wait + Drop + Copy> {
-    rt: R,
+pub struct Log {
     alloc: Global,
-    words: Mutex<Words>,
+    text: Cell<String>,
+    lost: Cell<bool>,
 }
 
-impl<R: Wait + Drop + Copy> Log<R> {
+impl Log {
     /// An empty log.
-    pub fn new(rt: R, alloc: Global) -> Log<R> {
-        let words = Words {
-            text: String::new(alloc),
-            is_lost: false,
-        };
+    pub fn new(alloc: Global) -> Log {
         Log {
-            rt,
             alloc,
-            words: Mutex::new(words),
+            text: Cell::new(String::new(alloc)),
+            lost: Cell::new(false),
         }
     }
 
@@ -72,22 +61,24 @@ impl<R: Wait + Drop + Copy> Log<R> {
 
     /// Notes that something could not be made for want of memory.
     pub fn lose(&self) {
-        self.words.lock(&self.rt).is_lost = true;
+        self.lost.set(true);
     }
 
     /// Takes what was noted. An error if anything was lost.
     pub fn take(&self) -> Result<String, AllocError> {
-        let mut words = self.words.lock(&self.rt);
-        if words.is_lost {
+        let text = self.text.replace(String::new(self.alloc));
+        if self.lost.get() {
             return Err(AllocError);
         }
-        Ok(mem::replace(&mut words.text, String::new(self.alloc)))
+        Ok(text)
     }
 
     fn write(&self, text: &str) {
-        let mut words = self.words.lock(&self.rt);
-        if words.text.push_str(text).is_err() {
-            words.is_lost = true;
+        let mut all = self.text.replace(String::new(self.alloc));
+        let written = all.push_str(text);
+        self.text.set(all);
+        if written.is_err() {
+            self.lose();
         }
     }
 }

@@ -8,10 +8,8 @@ mod handles;
 mod log;
 mod replay;
 mod script;
-mod stage;
 mod values;
 
-use handles::Maker;
 use std::io::{BufReader, BufWriter};
 use std::process::ExitCode;
 use std::{env, io};
@@ -29,8 +27,6 @@ fn main(rt: HostRuntime) -> io::Result<ExitCode> {
     }
     let input = BufReader::new(rt.alloc(), rt.reader())?;
     let mut out = BufWriter::new(rt.alloc(), io::writer(&rt))?;
-    let alloc = rt.alloc();
-    let maker = Maker { rt, alloc };
-    let status = replay::answer(rt, alloc, &maker, input, &mut out, &mut err);
+    let status = replay::answer(rt, rt.alloc(), input, &mut out, &mut err);
     Ok(ExitCode::from(status))
 }

@@ -1,12 +1,13 @@
 //! The scripts that are read, and what is printed of each.
 ghost use Rattle.std.specs.Prelude.{◌≤◌, IfOk};
 
-use crate::script::{Call, Script};
-use crate::stage::{DEPTH, MakesHandles, Plays, Stage};
+use crate::handles::Handles;
+use crate::log::Log;
+use crate::script::Script;
 use std::alloc::{AllocError, Global};
 use std::io;
-use std::sync::{Arc, Wait};
-use std::thread::{self, Threads};
+use std::rc::Rc;
+use std::sync::Wait;
 
 /// What was given to the program as an argument is refused, since it takes none: the status, 2. `err` is told so.
 pub fn refuse<E: io::Write>(err: &mut E) -> u8
@@ -22,24 +23,18 @@ pub fn refuse<E: io::Write>(err: &mut E) -> u8
 
 /// Plays the scripts that are read from `input`, one a line, and prints a line of what happened in each.
 ///
-/// `maker` makes the handles of each task.
-///
-/// The status is 0 where all were played, 2 where a line is no script or not UTF-8, which is told on `err` by its number, and 1 where memory, a thread, the
-/// reader or a writer fails, which is told there too.
-pub fn answer<R, K, I: io::BufRead + Drop, W: io::Write, E: io::Write>(
+/// The status is 0 where all were played, 2 where a line is no script or not UTF-8, which is told on `err` by its number, and 1 where memory, the reader or a
+/// writer fails, which is told there too.
+pub fn answer<R: Wait + Drop + Copy, I: io::BufRead + Drop, W: io::Write, E: io::Write>(
     rt: R,
     alloc: Global,
-    maker: &K,
     input: I,
     out: &mut W,
     err: &mut E,
 ) -> u8
-where
-    R: Wait + Threads + Drop + Copy + Send + Sync,
-    K: MakesHandles<R>,
     ensures { result ≤ 2 }
 {
-    match play_lines(rt, alloc, maker, input, out, err) {
+    match play_lines(rt, alloc, input, out, err) {
         Ok(status) => status,
         Err(error) => {
             let _ = writeln!(err, "replay_calls: {error}");
@@ -49,17 +44,13 @@ where
     }
 }
 
-fn play_lines<R, K, I: io::BufRead + Drop, W: io::Write, E: io::Write>(
+fn play_lines<R: Wait + Drop + Copy, I: io::BufRead + Drop, W: io::Write, E: io::Write>(
     rt: R,
     alloc: Global,
-    maker: &K,
     input: I,
     out: &mut W,
     err: &mut E,
 ) -> io::Result<u8>
-where
-    R: Wait + Threads + Drop + Copy + Send + Sync,
-    K: MakesHandles<R>,
     ensures { IfOk result (λ status. status ≤ 2) }
 {
     let mut number = 0u64;
@@ -75,7 +66,7 @@ where
         let Some(script) = Script::read(alloc, line.as_str())? else {
             return tell(out, err, number, "no script");
         };
-        let played = play(rt, alloc, maker, script)?;
+        let played = play(rt, alloc, script)?;
         let played = played.as_str().trim_end();
         writeln!(out, "{played}")?;
     }
@@ -99,43 +90,14 @@ fn tell<W: io::Write, E: io::Write>(
 }
 
 // What happens in a script.
-fn play<R, K>(rt: R, alloc: Global, maker: &K, script: Script) -> io::Result<String>
-where
-    R: Wait + Threads + Drop + Copy + Send + Sync,
-    K: MakesHandles<R>,
-{
-    let Script {
-        way,
-        polls,
-        inside,
-        calls,
-    } = script;
-    let is_reached = !inside.is_empty();
-    let stage = Arc::new(alloc, Stage::new(rt, alloc, inside))?;
-    let handles = maker.handles(&stage, way, polls)?;
-    if is_reached {
-        play_with_threads(rt, &handles, &stage, calls.as_slice())?;
-    } else {
-        handles.play(calls.as_slice())?;
+fn play<R: Wait + Drop + Copy>(rt: R, alloc: Global, script: Script) -> Result<String, AllocError> {
+    let Script { way, polls, calls } = script;
+    let log = Rc::new(alloc, Log::new(alloc))?;
+    let handles = Handles::new(alloc, log.clone()?, way, polls)?;
+    handles.spawn(rt)?;
+    for call in calls.iter() {
+        handles.call_outside(*call);
     }
-    Ok(stage.log.take()?)
-}
-
-// Plays beside the threads that make the calls inside foreign code.
-fn play_with_threads<R, S>(rt: R, handles: &S, stage: &Stage<R>, calls: &[Call]) -> io::Result<()>
-where
-    R: Wait + Threads + Drop + Copy + Send + Sync,
-    S: Plays + Sync,
-{
-    thread::scope(thread::scope_env(), &rt, |scope| {
-        for number in 1..=DEPTH {
-            if scope.spawn(move || handles.serve(number)).is_err() {
-                stage.end();
-                return Err(io::Error::from(io::ErrorKind::OutOfMemory));
-            }
-        }
-        let played = handles.play(calls);
-        stage.end();
-        Ok(played?)
-    })
+    handles.end();
+    log.take()
 }

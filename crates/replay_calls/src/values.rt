@@ -2,177 +2,162 @@
 ghost use Rattle.std.specs.Prelude.{⊤};
 
 use crate::handles::{CarriedRunnable, CarriedWaker, HeldRunnable};
-use crate::script::Moment;
-use crate::stage::Stage;
+use crate::log::Log;
 use async_task::{Future, Poll, Schedule, ScheduleInfo, Wake, Yields};
 use std::fmt;
-use std::sync::{Arc, Wait};
+use std::rc::Rc;
+use std::sync::Wait;
 
 /// The output of the future.
-pub struct Output<R: Wait + Drop + Copy> {
-    stage: Arc<Stage<R>>,
+pub struct Output {
+    log: Rc<Log>,
 }
 
-impl<R: Wait + Drop + Copy> Drop for Output<R> {
+impl Drop for Output {
     fn drop(self) {
-        let Output { stage } = self;
-        stage.log.note("output_dropped");
-        stage.reach(Moment::OutputDrop);
+        let Output { log } = self;
+        log.note("output_dropped");
     }
 }
 
 /// The future, which does what the script says.
-pub struct ScriptFuture<R: Wait + Drop + Copy> {
+pub struct ScriptFuture {
     // The word at which its next poll begins.
     next: usize,
-    stage: Arc<Stage<R>>,
+    log: Rc<Log>,
 }
 
-impl<R: Wait + Drop + Copy> ScriptFuture<R> {
+impl ScriptFuture {
     /// The future of a script, before its first poll.
-    pub fn new(stage: Arc<Stage<R>>) -> ScriptFuture<R> {
-        ScriptFuture { next: 0, stage }
+    pub fn new(log: Rc<Log>) -> ScriptFuture {
+        ScriptFuture { next: 0, log }
     }
 
     // Ready with an output, or pending where there is none.
-    fn ready(&self) -> Poll<Output<R>> {
-        match Arc::try_clone(&self.stage) {
-            Ok(stage) => Poll::Ready(Output { stage }),
+    fn ready(&self) -> Poll<Output> {
+        match self.log.clone() {
+            Ok(log) => Poll::Ready(Output { log }),
             Err(_) => {
-                self.stage.log.lose();
+                self.log.lose();
                 Poll::Pending
             }
         }
     }
 }
 
-impl<R: Wait + Drop + Copy> Drop for ScriptFuture<R> {
+impl Drop for ScriptFuture {
     fn drop(self) {
-        let ScriptFuture { next: _, stage } = self;
-        stage.log.note("future_dropped");
-        stage.reach(Moment::FutureDrop);
+        let ScriptFuture { next: _, log } = self;
+        log.note("future_dropped");
     }
 }
 
-impl<R: Wait + Drop + Copy> Yields for ScriptFuture<R> {
-    type Output = Output<R>;
+impl Yields for ScriptFuture {
+    type Output = Output;
 }
 
-impl<'x, R: Wait + Drop + Copy> Future<CarriedWaker<'x, R>> for ScriptFuture<R>
-where
-    ScriptFuture<R>: Yields<Output = Output<R>>,
-    Awaiter<R>: Wake,
-{
+impl<'x, R: Wait + Drop + Copy> Future<CarriedWaker<'x, R>> for ScriptFuture {
     ghost polled = { λ _ _ _ _. ⊤ };
 
-    fn poll(&mut self, waker: &CarriedWaker<'x, R>) -> Poll<Output<R>> {
-        self.stage.log.begin("future_polled");
+    fn poll(&mut self, waker: &CarriedWaker<'x, R>) -> Poll<Output> {
+        self.log.begin("future_polled");
         if waker.around().play_poll(&mut self.next, waker) {
-            self.stage.log.end("ready");
+            self.log.end("ready");
             self.ready()
         } else {
-            self.stage.log.end("pending");
+            self.log.end("pending");
             Poll::Pending
         }
     }
 }
 
 /// The metadata.
-pub struct Metadata<R: Wait + Drop + Copy> {
-    stage: Arc<Stage<R>>,
+pub struct Metadata {
+    log: Rc<Log>,
 }
 
-impl<R: Wait + Drop + Copy> Metadata<R> {
+impl Metadata {
     /// Metadata that notes here.
-    pub fn new(stage: Arc<Stage<R>>) -> Metadata<R> {
-        Metadata { stage }
+    pub fn new(log: Rc<Log>) -> Metadata {
+        Metadata { log }
     }
 }
 
-impl<R: Wait + Drop + Copy> fmt::Debug for Metadata<R> {
+impl fmt::Debug for Metadata {
     fn fmt<W: fmt::Write>(&self, f: &mut fmt::Formatter<W>) -> fmt::Result {
         f.write_str("Metadata")
     }
 }
 
-impl<R: Wait + Drop + Copy> Drop for Metadata<R> {
+impl Drop for Metadata {
     fn drop(self) {
-        let Metadata { stage } = self;
-        stage.log.note("metadata_dropped");
-        stage.reach(Moment::MetadataDrop);
+        let Metadata { log } = self;
+        log.note("metadata_dropped");
     }
 }
 
 /// The schedule value.
-pub struct Scheduler<R: Wait + Drop + Copy> {
-    stage: Arc<Stage<R>>,
+pub struct Scheduler {
+    log: Rc<Log>,
 }
 
-impl<R: Wait + Drop + Copy> Scheduler<R> {
+impl Scheduler {
     /// A schedule value that notes here.
-    pub fn new(stage: Arc<Stage<R>>) -> Scheduler<R> {
-        Scheduler { stage }
+    pub fn new(log: Rc<Log>) -> Scheduler {
+        Scheduler { log }
     }
 }
 
-impl<R: Wait + Drop + Copy> Drop for Scheduler<R> {
+impl Drop for Scheduler {
     fn drop(self) {
-        let Scheduler { stage } = self;
-        stage.log.note("schedule_dropped");
-        stage.reach(Moment::ScheduleDrop);
+        let Scheduler { log } = self;
+        log.note("schedule_dropped");
     }
 }
 
-impl<'x, R: Wait + Drop + Copy> Schedule<CarriedRunnable<'x, R>> for Scheduler<R>
-where
-    ScriptFuture<R>: Yields<Output = Output<R>>,
-    Awaiter<R>: Wake,
-{
+impl<'x, R: Wait + Drop + Copy> Schedule<CarriedRunnable<'x, R>> for Scheduler {
     ghost scheduled = { λ _ _ _. ⊤ };
 
     fn schedule(&self, runnable: CarriedRunnable<'x, R>, info: ScheduleInfo) {
-        self.stage.log.begin(if info.woken_while_running {
+        self.log.note(if info.woken_while_running {
             "scheduled_woken"
         } else {
             "scheduled"
         });
         runnable.around().accept(runnable);
-        self.stage.reach(Moment::Schedule);
-        self.stage.log.end("");
     }
 }
 
 // No call is made with a handle that carries nothing.
-impl<R: Wait + Drop + Copy> Schedule<HeldRunnable<R>> for Scheduler<R> {
+impl<R: Wait + Drop + Copy> Schedule<HeldRunnable<R>> for Scheduler {
     ghost scheduled = { λ _ _ _. ⊤ };
 
     fn schedule(&self, _runnable: HeldRunnable<R>, _info: ScheduleInfo) {
-        self.stage.log.note("scheduled_bare");
+        self.log.note("scheduled_bare");
     }
 }
 
 /// An awaiter.
-pub struct Awaiter<R: Wait + Drop + Copy> {
+pub struct Awaiter {
     number: u8,
-    stage: Arc<Stage<R>>,
+    log: Rc<Log>,
 }
 
-impl<R: Wait + Drop + Copy> Awaiter<R> {
+impl Awaiter {
     /// An awaiter of that number, 0 or 1, which its clones have too.
-    pub fn new(number: u8, stage: Arc<Stage<R>>) -> Awaiter<R> {
-        Awaiter { number, stage }
+    pub fn new(number: u8, log: Rc<Log>) -> Awaiter {
+        Awaiter { number, log }
     }
 }
 
-impl<R: Wait + Drop + Copy> Drop for Awaiter<R> {
+impl Drop for Awaiter {
     fn drop(self) {
-        let Awaiter { number, stage } = self;
-        stage.log.note_of("dropped", number);
-        stage.reach(Moment::AwaiterDrop);
+        let Awaiter { number, log } = self;
+        log.note_of("dropped", number);
     }
 }
 
-impl<R: Wait + Drop + Copy> Wake for Awaiter<R> {
+impl Wake for Awaiter {
     ghost woken = { λ _. ⊤ };
 
     ghost woken_by_ref = { λ _. ⊤ };
@@ -182,27 +167,24 @@ impl<R: Wait + Drop + Copy> Wake for Awaiter<R> {
     ghost compared = { λ _ _ _. ⊤ };
 
     fn wake(self) {
-        let Awaiter { number, stage } = self;
-        stage.log.note_of("woken", number);
-        stage.reach(Moment::AwaiterWake);
+        let Awaiter { number, log } = self;
+        log.note_of("woken", number);
     }
 
     fn wake_by_ref(&self) {
-        self.stage.log.note_of("woken_by_ref", self.number);
-        self.stage.reach(Moment::AwaiterWake);
+        self.log.note_of("woken_by_ref", self.number);
     }
 
-    fn try_clone(&self) -> Option<Awaiter<R>> {
-        let stage = Arc::try_clone(&self.stage).ok()?;
-        stage.log.note_of("cloned", self.number);
-        stage.reach(Moment::AwaiterClone);
+    fn try_clone(&self) -> Option<Awaiter> {
+        let log = self.log.clone().ok()?;
+        log.note_of("cloned", self.number);
         Some(Awaiter {
             number: self.number,
-            stage,
+            log,
         })
     }
 
-    fn will_wake(&self, other: &Awaiter<R>) -> bool {
+    fn will_wake(&self, other: &Awaiter) -> bool {
         self.number == other.number
     }
 }
