@@ -11,9 +11,9 @@ use Rattle.task_exports.proofs.Given.{Last, Others, and_ends, woken_at}
 use Rattle.task_exports.proofs.Goes.{gives_on}
 
 -- in the drop of a Runnable: the awaiter is woken first, or there is none
-pub taken_wakes : (hand : Option ℕ) (b : Bool) (x k : Hand) → is_some hand ≡ true → (v : State) → IsLive k → Did (row EndNotify v ∷ []) (after_taking hand OfDrop) x.party k.party → (awaiter : Option ℕ) × Discarded x k awaiter 14
-taken_wakes (Some i) b x k is v live g = (Some i, answers.wakes_first v i live g)
-taken_wakes None b x k is v live g = absurd (cc)
+pub taken_wakes : (hand : Option ℕ) (x k : Hand) → is_some hand ≡ true → (v : State) → IsLive k → Did (row EndNotify v ∷ []) (after_taking hand OfDrop) x.party k.party → (awaiter : Option ℕ) × Discarded x k awaiter 14
+taken_wakes (Some i) x k is v live g = (Some i, answers.wakes_first v i live g)
+taken_wakes None x k is v live g = absurd (cc)
 
 module _ {F T A : Type 0} where
   pub taken_none : (hand : Option ℕ) (v : State) (p q : Party F T A) → is_some hand ≡ false → Did (row EndNotify v ∷ []) (after_taking hand OfDrop) p q → (answer : Answer) × Stands (GivingUp None answer) q

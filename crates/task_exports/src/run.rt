@@ -95,10 +95,11 @@ fn complete(hand: Hand) -> (Hand, u32)
     let hand = Hand { share, party };
     match completed {
         Some(found) => {
+            let due = found.awaiter();
             if keeps_output(found) {
-                return go_on(hand, found.awaiter());
+                return go_on(hand, due);
             }
-            if found.awaiter() {
+            if due {
                 (hand, DROP_OUTPUT_DUE)
             } else {
                 (hand, DROP_OUTPUT)

@@ -9,7 +9,7 @@ pub end_notify-awaiter-requires-clause-party : goal.end_notify-awaiter-requires-
 end_notify-awaiter-requires-clause-party c = let s = c.requires.party in (s.0, OfRun, s.1, [], s.2, s.3)
 
 pub give_up-last-requires-clause-cell : goal.give_up-last-requires-clause-cell
-give_up-last-requires-clause-cell c = let s = c.requires.party in let e = c.end_notify-awaiter.ensures s.0 OfRun s.1 [] s.2 s.3 in e.did.cell ∙ of_cell _ _ _ c.requires.hand c.share-share.ensures
+give_up-last-requires-clause-cell c = let s = c.requires.party in let e = c.end_notify-awaiter.ensures s.0 OfRun s.1 [] s.2 s.3 in e.did.cell ∙ of_cell c.args.hand.share c.share-share.result c.args.hand.party c.requires.hand c.share-share.ensures
 
 pub give_up-last-requires-clause-party : goal.give_up-last-requires-clause-party
 give_up-last-requires-clause-party c = let s = c.requires.party in let e = c.end_notify-awaiter.ensures s.0 OfRun s.1 [] s.2 s.3 in (s.0, Ran false, stands _ _ _ _ _ e.did)
@@ -17,12 +17,12 @@ give_up-last-requires-clause-party c = let s = c.requires.party in let e = c.end
 pub returns-then-last : goal.returns-then-last
 returns-then-last c = let s = c.requires.party in let e = c.end_notify-awaiter.ensures s.0 OfRun s.1 [] s.2 s.3 in
     let l = was_last _ _ _ _ _ (c.give_up-last.ensures.path s.0 (Ran false) (stands _ _ _ _ _ e.did)) c.if-last.true in
-    finished_last_wakes s.0 _ _ _ e.word (lives_left _ _ _ _ _ _ _ _ _ c.requires.hand c.share-share.ensures c.give_up-last.ensures.share c.if-last.true (did_then _ _ _ _ _ _ _ _ _ e.did l.did)) e.did l (sym e.is_there ∙ ap is_some c.in-Some.is)
+    finished_last_wakes s.0 _ _ _ e.word (lives_left c.args.hand.share c.give_up-last.result.1 c.share-share.result c.args.hand.party _ _ _ _ _ c.requires.hand c.share-share.ensures c.give_up-last.ensures.share c.if-last.true (did_then _ _ _ _ _ _ _ _ _ e.did l.did)) e.did l (sym e.is_there ∙ ap is_some c.in-Some.is)
 
 pub note_woken-requires-clause-cell : goal.note_woken-requires-clause-cell
 note_woken-requires-clause-cell c = let s = c.requires.party in let e = c.end_notify-awaiter.ensures s.0 OfRun s.1 [] s.2 s.3 in
     let o = left_others _ _ _ _ _ (c.give_up-last.ensures.path s.0 (Ran false) (stands _ _ _ _ _ e.did)) c.if-last.false in
-    o.did.cell ∙ (e.did.cell ∙ (of_cell _ _ _ c.requires.hand c.share-share.ensures ∙ sym c.ledger-ledger.ensures))
+    o.did.cell ∙ (e.did.cell ∙ (of_cell c.args.hand.share c.share-share.result c.args.hand.party c.requires.hand c.share-share.ensures ∙ sym c.ledger-ledger.ensures))
 
 pub note_woken-requires-clause-party : goal.note_woken-requires-clause-party
 note_woken-requires-clause-party c = let s = c.requires.party in let e = c.end_notify-awaiter.ensures s.0 OfRun s.1 [] s.2 s.3 in
@@ -32,7 +32,7 @@ note_woken-requires-clause-party c = let s = c.requires.party in let e = c.end_n
 pub end-requires-clause-cell : goal.end-requires-clause-cell
 end-requires-clause-cell c = let s = c.requires.party in let e = c.end_notify-awaiter.ensures s.0 OfRun s.1 [] s.2 s.3 in
     let o = left_others _ _ _ _ _ (c.give_up-last.ensures.path s.0 (Ran false) (stands _ _ _ _ _ e.did)) c.if-last.false in
-    c.note_woken.ensures.cell ∙ (o.did.cell ∙ (e.did.cell ∙ (of_cell _ _ _ c.requires.hand c.share-share.ensures ∙ sym c.ledger-ledger.ensures)))
+    c.note_woken.ensures.cell ∙ (o.did.cell ∙ (e.did.cell ∙ (of_cell c.args.hand.share c.share-share.result c.args.hand.party c.requires.hand c.share-share.ensures ∙ sym c.ledger-ledger.ensures)))
 
 pub end-requires-clause-party : goal.end-requires-clause-party
 end-requires-clause-party c = let s = c.requires.party in let e = c.end_notify-awaiter.ensures s.0 OfRun s.1 [] s.2 s.3 in
@@ -47,12 +47,12 @@ returns-in-Some c = let s = c.requires.party in let e = c.end_notify-awaiter.ens
 pub returns-then-last-2 : goal.returns-then-last-2
 returns-then-last-2 c = let s = c.requires.party in let e = c.end_notify-awaiter.ensures s.0 OfRun s.1 [] s.2 s.3 in
     let l = was_last _ _ _ _ _ (c.give_up-last.ensures.path s.0 (Ran false) (stands _ _ _ _ _ e.did)) c.if-last-2.true in
-    finished_last s.0 _ _ _ e.word (lives_left _ _ _ _ _ _ _ _ _ c.requires.hand c.share-share.ensures c.give_up-last.ensures.share c.if-last-2.true (did_then _ _ _ _ _ _ _ _ _ e.did l.did)) e.did l (sym e.is_there ∙ ap is_some c.in-None.is)
+    finished_last s.0 _ _ _ e.word (lives_left c.args.hand.share c.give_up-last.result.1 c.share-share.result c.args.hand.party _ _ _ _ _ c.requires.hand c.share-share.ensures c.give_up-last.ensures.share c.if-last-2.true (did_then _ _ _ _ _ _ _ _ _ e.did l.did)) e.did l (sym e.is_there ∙ ap is_some c.in-None.is)
 
 pub end-requires-in-None-clause-cell : goal.end-requires-in-None-clause-cell
 end-requires-in-None-clause-cell c = let s = c.requires.party in let e = c.end_notify-awaiter.ensures s.0 OfRun s.1 [] s.2 s.3 in
     let o = left_others _ _ _ _ _ (c.give_up-last.ensures.path s.0 (Ran false) (stands _ _ _ _ _ e.did)) c.if-last-2.false in
-    o.did.cell ∙ (e.did.cell ∙ (of_cell _ _ _ c.requires.hand c.share-share.ensures ∙ sym c.ledger-ledger.ensures))
+    o.did.cell ∙ (e.did.cell ∙ (of_cell c.args.hand.share c.share-share.result c.args.hand.party c.requires.hand c.share-share.ensures ∙ sym c.ledger-ledger.ensures))
 
 pub end-requires-in-None-clause-party : goal.end-requires-in-None-clause-party
 end-requires-in-None-clause-party c = let s = c.requires.party in let e = c.end_notify-awaiter.ensures s.0 OfRun s.1 [] s.2 s.3 in

@@ -10,11 +10,11 @@ give_up-last-requires-clause-party c = (None, c.requires.party.0, c.requires.par
 
 pub returns-then-last : goal.returns-then-last
 returns-then-last c = let s = c.requires.party in let l = was_last _ _ _ _ _ (c.give_up-last.ensures.path None s.0 s.1) c.if-last.true in
-    none_left l.word s.0 l.place l.fits (lives_left _ _ _ _ _ _ _ _ _ c.requires.hand c.share-share.ensures c.give_up-last.ensures.share c.if-last.true l.did) l.did
+    none_left l.word s.0 l.place l.fits (lives_left c.args.hand.share c.give_up-last.result.1 c.share-share.result c.args.hand.party _ _ _ _ _ c.requires.hand c.share-share.ensures c.give_up-last.ensures.share c.if-last.true l.did) l.did
 
 pub end-requires-clause-cell : goal.end-requires-clause-cell
 end-requires-clause-cell c = let s = c.requires.party in let l = left_others _ _ _ _ _ (c.give_up-last.ensures.path None s.0 s.1) c.if-last.false in
-    l.did.cell ∙ (of_cell _ _ _ c.requires.hand c.share-share.ensures ∙ sym c.ledger-ledger.ensures)
+    l.did.cell ∙ (of_cell c.args.hand.share c.share-share.result c.args.hand.party c.requires.hand c.share-share.ensures ∙ sym c.ledger-ledger.ensures)
 
 pub end-requires-clause-party : goal.end-requires-clause-party
 end-requires-clause-party c = let s = c.requires.party in let l = left_others _ _ _ _ _ (c.give_up-last.ensures.path None s.0 s.1) c.if-last.false in (s.0, Ended, stands _ _ _ _ _ l.did)

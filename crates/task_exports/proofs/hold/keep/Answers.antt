@@ -3,4 +3,4 @@ use Rattle.task_exports.proofs.Live.{lives_still}
 use Rattle.task_exports.proofs.hold.keep.Goals as goal
 
 pub returns : goal.returns
-returns c = (lives_still _ _ _ _ c.requires c.share-share.ensures c.into_maybe-share.ensures, refl)
+returns c = (lives_still c.args.hand.share c.into_maybe-share.result c.share-share.result c.args.hand.party c.requires c.share-share.ensures c.into_maybe-share.ensures, refl)

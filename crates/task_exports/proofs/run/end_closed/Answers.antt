@@ -7,7 +7,7 @@ use Rattle.task_exports.proofs.Goes.{goes_on}
 use Rattle.task_exports.proofs.run.end_closed.Goals as goal
 
 pub go_on-requires-clause-hand : goal.go_on-requires-clause-hand
-go_on-requires-clause-hand c = lives_on _ _ _ _ _ _ _ _ c.requires.hand c.share-share.ensures c.into_maybe-share.ensures c.end_closed-found.ensures.1
+go_on-requires-clause-hand c = lives_on c.args.hand.share c.into_maybe-share.result c.share-share.result c.args.hand.party _ _ _ _ c.requires.hand c.share-share.ensures c.into_maybe-share.ensures c.end_closed-found.ensures.1
 
 pub go_on-requires-clause-party : goal.go_on-requires-clause-party
 go_on-requires-clause-party c = (OfRun, (Ran false, refl), subst (λ b. Stands (notifies b OfRun) c.end_closed-found.new.party) (sym c.awaiter.ensures) (stands _ _ _ _ _ c.end_closed-found.ensures.1))

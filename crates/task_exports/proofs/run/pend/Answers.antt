@@ -14,11 +14,11 @@ answer_pending-found-requires-clause-party c = let s = c.requires.party in (futu
 
 pub returns-then-closed : goal.returns-then-closed
 returns-then-closed c = let s = c.requires.party in let a = c.answer_pending-found.ensures.path (future_first s.0 []) s.1 in
-    let d = cleared_first _ _ _ _ a (sym c.closed.ensures ∙ c.if-closed.true) in closed s.0 (lives_on _ _ _ _ _ _ _ _ c.requires.hand c.share-share.ensures c.into_maybe-share.ensures d) d
+    let d = cleared_first _ _ _ _ a (sym c.closed.ensures ∙ c.if-closed.true) in closed s.0 (lives_on c.args.hand.share c.into_maybe-share.result c.share-share.result c.args.hand.party _ _ _ _ c.requires.hand c.share-share.ensures c.into_maybe-share.ensures d) d
 
 pub end_pending_some-requires-clause-cell : goal.end_pending_some-requires-clause-cell
 end_pending_some-requires-clause-cell c = let s = c.requires.party in let a = left_pending _ _ _ _ (c.answer_pending-found.ensures.path (future_first s.0 []) s.1) (sym c.closed.ensures ∙ c.if-closed.false) in
-    (a.cell ∙ of_cell _ _ _ c.requires.hand c.share-share.ensures, limit_is _ _ _ _ _ a ∙ of_limit _ _ _ c.requires.hand c.share-share.ensures)
+    (a.cell ∙ of_cell c.args.hand.share c.share-share.result c.args.hand.party c.requires.hand c.share-share.ensures, limit_is _ _ _ _ _ a ∙ of_limit c.args.hand.share c.share-share.result c.args.hand.party c.requires.hand c.share-share.ensures)
 
 pub end_pending_some-requires-clause-party : goal.end_pending_some-requires-clause-party
 end_pending_some-requires-clause-party c = let s = c.requires.party in (s.0, stands _ _ _ _ _ (left_pending _ _ _ _ (c.answer_pending-found.ensures.path (future_first s.0 []) s.1) (sym c.closed.ensures ∙ c.if-closed.false)), s.2)
@@ -28,7 +28,7 @@ share-requires c = let l = subst (λ t. IfOk t (λ r. Leaves c.share-share.resul
 
 pub hand_on-requires-clause-cell : goal.hand_on-requires-clause-cell
 hand_on-requires-clause-cell c = let s = c.requires.party in let x = by_end _ _ _ _ _ s.0 (c.answer_pending-found.ensures.path (future_first s.0 []) s.1) (sym c.closed.ensures ∙ c.if-closed.false) c.in-Ok-Ok.ensures.path (Some Rescheduled) (ap end_of c.in-Ok-Ok.field-0-is ∙ ap (λ x. Some x) c.in-Rescheduled.is) in let l = subst (λ t. IfOk t (λ r. Leaves c.share-share.result r.1 (not (ends_run r.0)))) c.in-Ok-Ok.field-0-is c.in-Ok-Ok.ensures.share in
-    (x.3.cell ∙ (of_cell _ _ _ c.requires.hand c.share-share.ensures ∙ sym (same_block c.share-share.result c.share.result c.in-Ok-Ok.ended.1 _ l c.share.ensures)), limit_is _ _ _ _ _ x.3 ∙ (of_limit _ _ _ c.requires.hand c.share-share.ensures ∙ sym (same_limit c.share-share.result c.share.result c.in-Ok-Ok.ended.1 _ l c.share.ensures)))
+    (x.3.cell ∙ (of_cell c.args.hand.share c.share-share.result c.args.hand.party c.requires.hand c.share-share.ensures ∙ sym (same_block c.share-share.result c.share.result c.in-Ok-Ok.ended.1 _ l c.share.ensures)), limit_is _ _ _ _ _ x.3 ∙ (of_limit c.args.hand.share c.share-share.result c.args.hand.party c.requires.hand c.share-share.ensures ∙ sym (same_limit c.share-share.result c.share.result c.in-Ok-Ok.ended.1 _ l c.share.ensures)))
 
 pub hand_on-requires-clause-party : goal.hand_on-requires-clause-party
 hand_on-requires-clause-party c = let s = c.requires.party in let x = by_end _ _ _ _ _ s.0 (c.answer_pending-found.ensures.path (future_first s.0 []) s.1) (sym c.closed.ensures ∙ c.if-closed.false) c.in-Ok-Ok.ensures.path (Some Rescheduled) (ap end_of c.in-Ok-Ok.field-0-is ∙ ap (λ x. Some x) c.in-Rescheduled.is) in (Deliverer true (ThenEnds (Ran true)), Ran true, refl, refl, stands _ _ _ _ _ x.3)
@@ -41,7 +41,7 @@ share-requires-in-Orphaned c = let l = subst (λ t. IfOk t (λ r. Leaves c.share
 
 pub hand_on-requires-in-Orphaned-clause-cell : goal.hand_on-requires-in-Orphaned-clause-cell
 hand_on-requires-in-Orphaned-clause-cell c = let s = c.requires.party in let x = by_end _ _ _ _ _ s.0 (c.answer_pending-found.ensures.path (future_first s.0 []) s.1) (sym c.closed.ensures ∙ c.if-closed.false) c.in-Ok-Ok.ensures.path (Some Orphaned) (ap end_of c.in-Ok-Ok.field-0-is ∙ ap (λ x. Some x) c.in-Orphaned.is) in let l = subst (λ t. IfOk t (λ r. Leaves c.share-share.result r.1 (not (ends_run r.0)))) c.in-Ok-Ok.field-0-is c.in-Ok-Ok.ensures.share in
-    (x.4.cell ∙ (of_cell _ _ _ c.requires.hand c.share-share.ensures ∙ sym (same_block c.share-share.result c.share-in-Orphaned.result c.in-Ok-Ok.ended.1 _ l c.share-in-Orphaned.ensures)), limit_is _ _ _ _ _ x.4 ∙ (of_limit _ _ _ c.requires.hand c.share-share.ensures ∙ sym (same_limit c.share-share.result c.share-in-Orphaned.result c.in-Ok-Ok.ended.1 _ l c.share-in-Orphaned.ensures)))
+    (x.4.cell ∙ (of_cell c.args.hand.share c.share-share.result c.args.hand.party c.requires.hand c.share-share.ensures ∙ sym (same_block c.share-share.result c.share-in-Orphaned.result c.in-Ok-Ok.ended.1 _ l c.share-in-Orphaned.ensures)), limit_is _ _ _ _ _ x.4 ∙ (of_limit c.args.hand.share c.share-share.result c.args.hand.party c.requires.hand c.share-share.ensures ∙ sym (same_limit c.share-share.result c.share-in-Orphaned.result c.in-Ok-Ok.ended.1 _ l c.share-in-Orphaned.ensures)))
 
 pub hand_on-requires-in-Orphaned-clause-party : goal.hand_on-requires-in-Orphaned-clause-party
 hand_on-requires-in-Orphaned-clause-party c = let s = c.requires.party in let x = by_end _ _ _ _ _ s.0 (c.answer_pending-found.ensures.path (future_first s.0 []) s.1) (sym c.closed.ensures ∙ c.if-closed.false) c.in-Ok-Ok.ensures.path (Some Orphaned) (ap end_of c.in-Ok-Ok.field-0-is ∙ ap (λ x. Some x) c.in-Orphaned.is) in (Deliverer false (ThenEnds (Ran false)), Ran false, refl, refl, stands _ _ _ _ _ x.4)
@@ -55,7 +55,7 @@ returns-in-Idle c = let s = c.requires.party in let x = by_end _ _ _ _ _ s.0 (c.
 pub returns-in-Ok-Err : goal.returns-in-Ok-Err
 returns-in-Ok-Err c = let s = c.requires.party in let x = by_end _ _ _ _ _ s.0 (c.answer_pending-found.ensures.path (future_first s.0 []) s.1) (sym c.closed.ensures ∙ c.if-closed.false) c.in-Ok-Err.ensures.path None (ap end_of c.in-Ok-Err.field-0-is) in
     let same = subst (λ t. IfErr t (λ k. IsSame c.share-share.result k)) c.in-Ok-Err.field-0-is c.in-Ok-Err.ensures.kept in
-    closed s.0 (lives_kept _ _ _ _ _ _ _ _ _ c.requires.hand c.share-share.ensures same c.into_maybe-share-in-Ok-Err.ensures x) x
+    closed s.0 (lives_kept c.args.hand.share c.into_maybe-share-in-Ok-Err.result c.share-share.result c.in-Ok-Err.kept c.args.hand.party _ _ _ _ c.requires.hand c.share-share.ensures same c.into_maybe-share-in-Ok-Err.ensures x) x
 
 pub returns-in-Err : goal.returns-in-Err
 returns-in-Err c = pend_missed

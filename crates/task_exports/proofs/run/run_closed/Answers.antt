@@ -11,14 +11,14 @@ pub clear-requires-clause-party : goal.clear-requires-clause-party
 clear-requires-clause-party c = let s = c.requires.party in (FutureInHand ClosedRun, s.0, (1, Empty) ∷ [], s.1)
 
 pub unschedule-found-requires-clause-cell : goal.unschedule-found-requires-clause-cell
-unschedule-found-requires-clause-cell c = let s = c.requires.party in let x = c.clear.ensures (FutureInHand ClosedRun) s.0 ((1, Empty) ∷ []) s.1 in x.cell ∙ of_cell _ _ _ c.requires.hand c.share-share.ensures
+unschedule-found-requires-clause-cell c = let s = c.requires.party in let x = c.clear.ensures (FutureInHand ClosedRun) s.0 ((1, Empty) ∷ []) s.1 in x.cell ∙ of_cell c.args.hand.share c.share-share.result c.args.hand.party c.requires.hand c.share-share.ensures
 
 pub unschedule-found-requires-clause-party : goal.unschedule-found-requires-clause-party
 unschedule-found-requires-clause-party c = let s = c.requires.party in let x = c.clear.ensures (FutureInHand ClosedRun) s.0 ((1, Empty) ∷ []) s.1 in (ClosedRun, stands _ _ _ _ _ x)
 
 pub go_on-requires-clause-hand : goal.go_on-requires-clause-hand
 go_on-requires-clause-hand c = let s = c.requires.party in let x = c.clear.ensures (FutureInHand ClosedRun) s.0 ((1, Empty) ∷ []) s.1 in let w = c.unschedule-found.result in
-    let h = unscheduled ClosedRun w (future_first Empty []) _ _ _ x c.unschedule-found.ensures in lives_on _ _ _ _ _ _ _ _ c.requires.hand c.share-share.ensures c.into_maybe-share.ensures h
+    let h = unscheduled ClosedRun w (future_first Empty []) _ _ _ x c.unschedule-found.ensures in lives_on c.args.hand.share c.into_maybe-share.result c.share-share.result c.args.hand.party _ _ _ _ c.requires.hand c.share-share.ensures c.into_maybe-share.ensures h
 
 pub go_on-requires-clause-party : goal.go_on-requires-clause-party
 go_on-requires-clause-party c = let s = c.requires.party in let x = c.clear.ensures (FutureInHand ClosedRun) s.0 ((1, Empty) ∷ []) s.1 in let w = c.unschedule-found.result in

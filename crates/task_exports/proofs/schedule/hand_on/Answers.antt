@@ -18,5 +18,5 @@ pub returns : goal.returns
 returns c = let n = c.hand_over-runnable.ensures.runnable in let m = c.into_maybe.ensures in (
   (m.is_there, n.cell ∙ (c.requires.cell.0 ∙ sym m.cell.0), new_limit _ _ _ n ∙ (c.requires.cell.1 ∙ sym m.limit)),
   m.cell,
-  fresh_stands as_runnable _ _ n.is,
+  fresh_stands as_runnable _ c.hand_over-runnable.result n.is,
 )

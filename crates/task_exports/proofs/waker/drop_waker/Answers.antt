@@ -15,21 +15,21 @@ returns-in-Shared c = let x = subst (CellDrops c.args.hand.party c.drop_referenc
 
 pub returns-in-Last : goal.returns-in-Last
 returns-in-Last c = let x = subst (CellDrops c.args.hand.party c.drop_reference-found.new.party) c.in-Last.is c.drop_reference-found.ensures.path in
-    last_waker x.0 x.1 x.2 x.3 (lives_left _ _ _ _ _ _ _ _ _ c.requires.hand c.share-share.ensures c.drop_reference-found.ensures.share (ap (λ x. not (ends_waker x)) c.in-Last.is) x.4) x.4
+    last_waker x.0 x.1 x.2 x.3 (lives_left c.args.hand.share c.drop_reference-found.result.1 c.share-share.result c.args.hand.party _ _ _ _ _ c.requires.hand c.share-share.ensures c.drop_reference-found.ensures.share (ap (λ x. not (ends_waker x)) c.in-Last.is) x.4) x.4
 
 pub share-owned-requires : goal.share-owned-requires
 share-owned-requires c = record { there = c.drop_reference-found.ensures.share.is_there ∙ ap (λ x. not (ends_waker x)) c.in-Orphaned.is }
 
 pub close_orphan-requires-clause-cell : goal.close_orphan-requires-clause-cell
 close_orphan-requires-clause-cell c = let x = subst (CellDrops c.args.hand.party c.drop_reference-found.new.party) c.in-Orphaned.is c.drop_reference-found.ensures.path in
-    x.3.cell ∙ (of_cell _ _ _ c.requires.hand c.share-share.ensures ∙ sym (same_block c.share-share.result c.share-owned.result c.drop_reference-found.result.1 _ c.drop_reference-found.ensures.share c.share-owned.ensures))
+    x.3.cell ∙ (of_cell c.args.hand.share c.share-share.result c.args.hand.party c.requires.hand c.share-share.ensures ∙ sym (same_block c.share-share.result c.share-owned.result c.drop_reference-found.result.1 _ c.drop_reference-found.ensures.share c.share-owned.ensures))
 
 pub close_orphan-requires-clause-party : goal.close_orphan-requires-clause-party
 close_orphan-requires-clause-party c = let x = subst (CellDrops c.args.hand.party c.drop_reference-found.new.party) c.in-Orphaned.is c.drop_reference-found.ensures.path in stands _ _ _ _ _ x.3
 
 pub hand_on-requires-clause-cell : goal.hand_on-requires-clause-cell
 hand_on-requires-clause-cell c = let x = orphan_closed _ _ _ (subst (CellDrops c.args.hand.party c.drop_reference-found.new.party) c.in-Orphaned.is c.drop_reference-found.ensures.path) c.close_orphan.ensures in
-    (x.cell ∙ (of_cell _ _ _ c.requires.hand c.share-share.ensures ∙ sym (same_block c.share-share.result c.share-owned.result c.drop_reference-found.result.1 _ c.drop_reference-found.ensures.share c.share-owned.ensures)), limit_is _ _ _ _ _ x ∙ (of_limit _ _ _ c.requires.hand c.share-share.ensures ∙ sym (same_limit c.share-share.result c.share-owned.result c.drop_reference-found.result.1 _ c.drop_reference-found.ensures.share c.share-owned.ensures)))
+    (x.cell ∙ (of_cell c.args.hand.share c.share-share.result c.args.hand.party c.requires.hand c.share-share.ensures ∙ sym (same_block c.share-share.result c.share-owned.result c.drop_reference-found.result.1 _ c.drop_reference-found.ensures.share c.share-owned.ensures)), limit_is _ _ _ _ _ x ∙ (of_limit c.args.hand.share c.share-share.result c.args.hand.party c.requires.hand c.share-share.ensures ∙ sym (same_limit c.share-share.result c.share-owned.result c.drop_reference-found.result.1 _ c.drop_reference-found.ensures.share c.share-owned.ensures)))
 
 pub hand_on-requires-clause-party : goal.hand_on-requires-clause-party
 hand_on-requires-clause-party c = let x = orphan_closed _ _ _ (subst (CellDrops c.args.hand.party c.drop_reference-found.new.party) c.in-Orphaned.is c.drop_reference-found.ensures.path) c.close_orphan.ensures in (as_deliverer, Nothing, refl, refl, stands _ _ _ _ _ x)
