@@ -38,6 +38,7 @@ fn discard(hand: Hand) -> Hand
 pub extern "C" fn async_task_discard(h: &mut Handle) -> u32
     requires handle { IsFull h.old }
     requires party { Stands as_runnable h.old.hand.party }
+    ensures answer { result ≡ 4 }
     ensures handle { IsFull h.new }
     ensures path { (d : Deed) × (y : _) × DiscardStart d × DidWith (d ∷ []) (FutureInHand DroppedRunnable) (future_first y []) h.old.hand.party h.new.hand.party }
 {

@@ -35,7 +35,8 @@ pub(crate) fn hand_on(share: CellShare, mut party: CellParty) -> Hand
 pub extern "C" fn async_task_schedule(h: &mut Handle) -> u32
     requires handle { IsFull h.old }
     requires party { Stands as_runnable h.old.hand.party }
-    ensures { IsFull h.new × Stands as_runnable h.new.hand.party }
+    ensures answer { result ≡ 10 }
+    ensures runnable { IsFull h.new × Stands as_runnable h.new.hand.party }
 {
     let Hand { share, party } = take(h);
     put(h, hand_on(share.share(), party));

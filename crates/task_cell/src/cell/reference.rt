@@ -38,10 +38,7 @@ impl<R: Drop, F: Yields, Q: Drop, M: Drop, A: Drop, B: Allocator + Copy> Share<R
     }
 
     /// Gives the reference up: a single fetch, never tried again. Whether it was the last handle, and then its share.
-    pub fn give_up(
-        self,
-        party: &mut Party<F, Kept<F>, A>,
-    ) -> (bool, MaybeShare<R, F, Q, M, A, B>)
+    pub fn give_up(self, party: &mut Party<F, Kept<F>, A>) -> (bool, MaybeShare<R, F, Q, M, A, B>)
         requires cell { IsOf self party.old }
         requires party { (hand : Option ℕ) × (answer : Answer) × Stands (GivingUp hand answer) party.old }
         ensures path { (hand : Option ℕ) (answer : Answer) → Stands (GivingUp hand answer) party.old → GivesUp hand answer party.old party.new result.0 }
@@ -52,10 +49,7 @@ impl<R: Drop, F: Yields, Q: Drop, M: Drop, A: Drop, B: Allocator + Copy> Share<R
     }
 
     /// Empties the place of the awaiter, as the last party, and gives it back by a load. Then its share ends, and the cell with it, unless a schedule call holds it: whether it has. The party goes on in its call: to the awaiter in hand, or to the end.
-    pub fn empty(
-        self,
-        party: &mut Party<F, Kept<F>, A>,
-    ) -> (Ledger<R, F, Q, M, A, B>, bool)
+    pub fn empty(self, party: &mut Party<F, Kept<F>, A>) -> (Ledger<R, F, Q, M, A, B>, bool)
         requires cell { IsOf self party.old }
         requires party { (hand : Option ℕ) × (answer : Answer) × (y : Slot F _ A) × StandsWith (Emptier hand answer) ((2, y) ∷ []) party.old }
         ensures path { (hand : Option ℕ) (answer : Answer) (y : Slot F _ A) → StandsWith (Emptier hand answer) ((2, y) ∷ []) party.old → Did (act EmptySlots ∷ []) (after_giving_up hand answer) party.old party.new }

@@ -7,5 +7,5 @@ use Rattle.task_exports.proofs.schedule.async_task_schedule.Goals as goal
 pub hand_on-requires-clause-party : goal.hand_on-requires-clause-party
 hand_on-requires-clause-party c = (as_runnable, Nothing, refl, refl, subst (λ (x : Hand). Stands as_runnable x.party) (sym c.take-share.ensures.0) c.requires.party)
 
-pub returns : goal.returns
-returns c = ((c.put.ensures.1, subst (λ (x : Hand). IsLive x) (sym c.put.ensures.0) c.hand_on.ensures.0), subst (λ (x : Hand). Stands as_runnable x.party) (sym c.put.ensures.0) c.hand_on.ensures.2)
+pub returns-clause-runnable : goal.returns-clause-runnable
+returns-clause-runnable c = ((c.put.ensures.1, subst (λ (x : Hand). IsLive x) (sym c.put.ensures.0) c.hand_on.ensures.0), subst (λ (x : Hand). Stands as_runnable x.party) (sym c.put.ensures.0) c.hand_on.ensures.2)
