@@ -289,7 +289,7 @@ def take():
 
 
 # A WAIT IN THE POOL: the columns, and by sections each message from one to another. The order is that of `await_kept` and `wake_posted` in kept.rt, of
-# `wake_by_ref` in bell_awaiter.rt, of `await_next` and `take_turn` in turns.rt, of `schedule` in pool.rt, and of `rest` and `sleep` in
+# `wake_by_ref` in bell_awaiter.rt, of `await_within` and `turn` in turns.rt, of `schedule` in pool.rt, and of `rest` and `sleep` in
 # crew.rt of work_queues
 COLUMNS = {
     "task": (72, ("the task", "that waits")),

@@ -1,5 +1,6 @@
 //! Turns that end at a deadline: so a worker with nothing to do can drive timers.
 ghost use Rattle.std.specs.Prelude.{◌≡◌, IfSome};
+ghost use Rattle.work_queues.specs.Settled.{OwesNothing};
 
 use crate::pool::PoolRunnable;
 use crate::turns::Turns;
@@ -7,8 +8,21 @@ use async_task::{Wake, Yields};
 use executor_parts::left_until;
 use std::alloc::Allocator;
 use std::sync::Wait;
-use std::time::{Clock, Instant};
-use work_queues::Bells;
+use std::time::{Clock, Duration, Instant};
+use work_queues::Limit;
+
+/// The limit of a rest that ends at a deadline. Where the clock of the runtime has no answer, it is over.
+#[derive(Drop)]
+pub(crate) struct Deadline<R: Clock + Drop> {
+    pub(crate) rt: R,
+    pub(crate) at: Instant,
+}
+
+impl<R: Clock + Drop> Limit for Deadline<R> {
+    fn left(&self) -> Option<Duration> {
+        Some(left_until(&self.rt, self.at))
+    }
+}
 
 impl<'x, R: Wait + Clock + Drop + Copy, F: Yields, A: Wake, B: Allocator + Copy, M: Drop> Turns<
     'x,
@@ -18,42 +32,32 @@ impl<'x, R: Wait + Clock + Drop + Copy, F: Yields, A: Wake, B: Allocator + Copy,
     B,
     M,
 > {
-    /// As `take_turn`, where a sleep ends at the deadline.
+    /// As `take_turn`, where a rest ends at the deadline.
     pub fn take_turn_until(
         &mut self,
         interruptions: u64,
         deadline: Instant,
     ) -> Option<PoolRunnable<'x, R, F, A, B, M>>
         ensures place { IfSome result (λ runnable. runnable.around.1 ≡ self.old.worker.number) }
+        ensures settled { OwesNothing self.new.worker }
     {
-        let most = left_until(&self.pool.rt, deadline);
-        self.take_turn_for(interruptions, Some(most))
+        let limit = Deadline {
+            rt: self.pool.rt,
+            at: deadline,
+        };
+        self.take_turn_within(interruptions, &limit)
     }
 
-    /// As `await_next`, but `None` also at the deadline, if none is found before.
-    pub fn await_next_until(
-        &mut self,
-        deadline: Instant,
-    ) -> Option<PoolRunnable<'x, R, F, A, B, M>> {
-        let pool = self.pool;
-        let bells: &Bells = pool.bells();
-        for _ in pool.rt.forever() {
-            let interruptions = bells.interruptions();
-            if self.ends() {
-                return None;
-            }
-            if pool.stage.is_finishing() {
-                match self.take_last_turn() {
-                    None if !pool.is_finished() => {}
-                    last => return last,
-                }
-            } else if let Some(runnable) = self.take_turn_until(interruptions, deadline) {
-                return Some(runnable);
-            }
-            if left_until(&pool.rt, deadline).is_zero() {
-                return None;
-            }
-        }
-        unreachable!()
+    /// As `await_next`, but `None` also at the deadline, if none is found before. What woke this worker then, another one looks for.
+    pub fn await_next_until(&mut self, deadline: Instant) -> Option<PoolRunnable<'x, R, F, A, B, M>>
+        ensures settled { OwesNothing self.new.worker }
+    {
+        let limit = Deadline {
+            rt: self.pool.rt,
+            at: deadline,
+        };
+        let next = self.await_within(&limit);
+        self.worker.pay();
+        next
     }
 }

@@ -1,7 +1,6 @@
 //! The two ends of a pool: it finishes what is queued, or it is shut down.
-use crate::kept::{cancel_kept, collect, wake_posted};
-use crate::pool::{Pool, PoolRunnable};
-use crate::turns::Turns;
+use crate::kept::cancel_kept;
+use crate::pool::Pool;
 use async_task::{Wake, Yields};
 use std::alloc::Allocator;
 use std::sync::Wait;
@@ -58,22 +57,5 @@ impl<R: Wait + Drop + Copy, F: Yields, A: Wake, B: Allocator, M: Drop> Pool<R, F
             }
         }
         unreachable!()
-    }
-}
-
-impl<'x, R: Wait + Drop + Copy, F: Yields, A: Wake, B: Allocator + Copy, M: Drop> Turns<
-    'x,
-    R,
-    F,
-    A,
-    B,
-    M,
-> {
-    // As `take_turn`, but it frees what keys left each time, and never rests: a turn of a pool that finishes.
-    pub(crate) fn take_last_turn(&mut self) -> Option<PoolRunnable<'x, R, F, A, B, M>> {
-        let place = self.place();
-        collect(place);
-        wake_posted(place);
-        self.next()
     }
 }

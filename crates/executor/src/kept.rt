@@ -94,13 +94,17 @@ pub fn wake_kept<'x, R: Wait + Drop + Copy, F: Yields, A: Wake, B: Allocator + C
     wake_taken(place, place.0.wakers.take(&place.0.rt, number))
 }
 
-/// Wakes a task whose number an awaiter posted, as `wake_kept` does. False where none is posted. Each worker does it between its turns, and a loop around `Turns::tick` has to.
+/// Wakes a task whose number an awaiter posted, as `wake_kept` does, and where more are posted has a worker look for them. False where none is posted. Each worker does it between its turns, and a loop around `Turns::tick` has to.
 pub fn wake_posted<'x, R: Wait + Drop + Copy, F: Yields, A: Wake, B: Allocator + Copy, M: Drop>(
     place: Place<'x, R, F, A, B, M>,
 ) -> bool {
     match place.0.mail.take() {
         Some(number) => {
             wake_kept(place, number);
+            // This worker may be in a long poll before it takes the next one.
+            if place.0.mail.is_due() {
+                place.0.bells().interrupt();
+            }
             true
         }
         None => false,

@@ -2,17 +2,19 @@
 ghost use Rattle.std.specs.Prelude.{◌≡◌, ◌≢◌, true, false, IfSome, IsNone, OnErr};
 ghost use Rattle.slab.specs.Slab.{slab_len};
 ghost use Rattle.executor_parts.specs.Members.{Leaves, SameMembers, IfNext, is_over};
+ghost use Rattle.work_queues.specs.Settled.{OwesNothing};
 
 use crate::bell_awaiter::BellAwaiter;
+use crate::deadlines::Deadline;
 use crate::errors::NextMemberError;
 use crate::pool::{Place, PoolWaker, ToPool};
 use crate::turns::{Turns, run_if_any};
 use async_task::{Future, Yields};
-use executor_parts::{Ended, TaskGroup, left_until};
+use executor_parts::{Ended, TaskGroup};
 use std::alloc::{Allocator, Global};
 use std::sync::Wait;
 use std::time::{Clock, Instant};
-use work_queues::Bells;
+use work_queues::{Bells, Limit, NoLimit};
 
 /// A group of tasks of a pool. Push the Tasks that `spawn` answers.
 pub type PoolGroup<'x, R, F, B = Global, M = ()> = TaskGroup<
@@ -45,18 +47,22 @@ impl<'x, R: Wait + Drop + Copy, F: Yields, B: Allocator + Copy, M: Drop> Turns<
         ensures refused { OnErr result (SameMembers group.old.members group.new.members) }
         ensures no_deadline { result ≢ Err NextMemberError.Elapsed }
         ensures room { group.new.members.capacity ≡ group.old.members.capacity }
+        ensures settled { OwesNothing self.new.worker }
     {
         if group.is_empty() {
+            self.worker.pay();
             return Ok(None);
         }
         let pool = self.pool;
+        let place = self.place();
         let bells: &Bells = pool.bells();
         for _ in pool.rt.forever() {
             let interruptions = bells.interruptions();
             if let Some(next) = self.look(group) {
+                self.worker.pay();
                 return next;
             }
-            run_if_any(self.take_turn(interruptions));
+            run_if_any(self.turn(place, interruptions, &NoLimit));
         }
         unreachable!()
     }
@@ -79,15 +85,12 @@ impl<'x, R: Wait + Drop + Copy, F: Yields, B: Allocator + Copy, M: Drop> Turns<
             return Some(Err(NextMemberError::Refused));
         };
         group.listen(bell);
-        let next = match group.try_next() {
-            Ok(Some(ended)) => Ok(Some(ended)),
-            Ok(None) if ends => return Some(Err(NextMemberError::ShutDown)),
-            Ok(None) => return None,
-            Err(_) => Err(NextMemberError::Refused),
-        };
-        // What woke this worker may have been meant for a task that another one has to run now.
-        self.pool.bells().interrupt();
-        Some(next)
+        match group.try_next() {
+            Ok(Some(ended)) => Some(Ok(Some(ended))),
+            Ok(None) if ends => Some(Err(NextMemberError::ShutDown)),
+            Ok(None) => None,
+            Err(_) => Some(Err(NextMemberError::Refused)),
+        }
     }
 }
 
@@ -112,24 +115,30 @@ impl<'x, R: Wait + Clock + Drop + Copy, F: Yields, B: Allocator + Copy, M: Drop>
         ensures leaves { IfNext result (λ ended. Leaves group.old.members group.new.members ended.number) }
         ensures refused { OnErr result (SameMembers group.old.members group.new.members) }
         ensures room { group.new.members.capacity ≡ group.old.members.capacity }
+        ensures settled { OwesNothing self.new.worker }
     {
         if group.is_empty() {
+            self.worker.pay();
             return Ok(None);
         }
         let pool = self.pool;
+        let place = self.place();
+        let limit = Deadline {
+            rt: pool.rt,
+            at: deadline,
+        };
         let bells: &Bells = pool.bells();
         for _ in pool.rt.forever() {
             let interruptions = bells.interruptions();
             if let Some(next) = self.look(group) {
+                self.worker.pay();
                 return next;
             }
-            let left = left_until(&pool.rt, deadline);
-            if left.is_zero() {
-                // As in `look`: another worker may have to run what woke this one.
-                bells.interrupt();
+            if limit.is_over() {
+                self.worker.pay();
                 return Err(NextMemberError::Elapsed);
             }
-            run_if_any(self.take_turn_for(interruptions, Some(left)));
+            run_if_any(self.turn(place, interruptions, &limit));
         }
         unreachable!()
     }

@@ -5,6 +5,7 @@ ghost use mathlib.Core.Option.{some};
 ghost use lib.ListN.{get_elem?};
 ghost use Rattle.executor_parts.specs.Answered.{answer_of};
 ghost use Rattle.executor.specs.Wakes.{RingsWorker};
+ghost use Rattle.work_queues.specs.Settled.{OwesNothing};
 
 use crate::bell_awaiter::BellAwaiter;
 use crate::errors::TurnsError;
@@ -15,13 +16,14 @@ use async_task::{Future, TaskClosed, TaskPoll, Wake, Yields};
 use executor_parts::{Awaited, BlockOnError};
 use std::alloc::{Allocator, Global};
 use std::sync::Wait;
-use std::time::Duration;
-use work_queues::{Bells, Worker, WorkerCounts, WorkerError};
+use work_queues::{Bells, Limit, NoLimit, Worker, WorkerCounts, WorkerError};
 
 /// A worker frees what keys left once in so many turns.
 const COLLECTS: u64 = 64;
 
 /// The turns of one worker of a pool: the thread that has them is that worker. No other turns have its number while these live.
+///
+/// Each call hands the thread back with a worker that owes nothing (`settled`), so the thread may do anything else then: what woke the worker is run, answered, or told to another one.
 ///
 /// Their drop puts the Runnables in the hands of the worker into the queue for what comes from outside, and has another worker look once more. A Runnable for which that queue has no memory is dropped, which cancels its task.
 #[must_use]
@@ -129,9 +131,19 @@ impl<'x, R: Wait + Drop + Copy, F: Yields, A: Wake, B: Allocator + Copy, M: Drop
     /// The next Runnable for this worker: its own, one that came from outside, or one of another worker. `None` where there is none, or only such as this worker leaves to another one that is about to run them. Run it; its drop cancels its task.
     pub fn next(&mut self) -> Option<PoolRunnable<'x, R, F, A, B, M>>
         ensures place { IfSome result (λ runnable. runnable.around.1 ≡ self.old.worker.number) }
+        ensures settled { OwesNothing self.new.worker }
     {
         let place = self.place();
-        let runnable = place.0.crew.find(&place.0.rt, &mut self.worker)?;
+        let next = self.find(place);
+        self.worker.pay();
+        next
+    }
+
+    // As `next`, but where it finds none the worker owes what it did before.
+    fn find(&mut self, place: Place<'x, R, F, A, B, M>) -> Option<PoolRunnable<'x, R, F, A, B, M>>
+        ensures place { IfSome result (λ runnable. runnable.around.1 ≡ place.entry.1) }
+    {
+        let runnable = self.pool.crew.find(&self.pool.rt, &mut self.worker)?;
         Some(runnable.with_around(place))
     }
 
@@ -139,80 +151,145 @@ impl<'x, R: Wait + Drop + Copy, F: Yields, A: Wake, B: Allocator + Copy, M: Drop
     pub fn tick(&mut self) -> bool
     where
         F: Future<PoolWaker<'x, R, F, A, B, M>>,
+        ensures settled { OwesNothing self.new.worker }
     {
         run_if_any(self.next())
     }
 
-    /// Searches for a while, if no other worker does, and then sleeps, if no queue shows a Runnable, the pool was not shut down, and the bells counted no interruption since `interruptions`. It may also return for no reason. `take_turn` calls it where it is due.
-    pub fn rest(&mut self, interruptions: u64) {
-        self.rest_for(interruptions, None);
+    /// Searches for a while, if no other worker does, and then sleeps, if no queue shows a Runnable, the pool was not shut down, and the bells counted no interruption since `interruptions`. It may also end its rest for no reason. Then it wakes one task whose number was posted, and takes the next Runnable, if there is one. Run it. `take_turn` rests where it is due.
+    pub fn rest(&mut self, interruptions: u64) -> Option<PoolRunnable<'x, R, F, A, B, M>>
+        ensures place { IfSome result (λ runnable. runnable.around.1 ≡ self.old.worker.number) }
+        ensures settled { OwesNothing self.new.worker }
+    {
+        let place = self.place();
+        self.rest_within(interruptions, &NoLimit);
+        self.look_again(place)
     }
 
-    // As `rest`, where a sleep lasts no longer than `most`.
-    fn rest_for(&mut self, interruptions: u64, most: Option<Duration>) {
+    // Searches and sleeps, as `rest` says, no longer than a limit. The worker may owe something then.
+    fn rest_within<L: Limit>(&mut self, interruptions: u64, limit: &L) {
         // A caller who counted the interruptions after the shutdown would sleep for ever.
         if self.pool.is_shut_down() {
             return;
         }
         self.pool
             .crew
-            .rest(&self.pool.rt, &mut self.worker, interruptions, most);
+            .rest(&self.pool.rt, &mut self.worker, interruptions, limit);
     }
 
-    /// A turn but for the run of what it takes: wakes one task whose number was posted, and takes the next Runnable. At the first and each 64th turn, and where there is none, it frees what keys left. Where there is neither it searches and then sleeps, as `rest` says, if the bells counted no interruption since `interruptions`: so ask for them before the last look at what the loop waits for. Run what it answers.
+    // The look after a rest, which ends what the worker owes.
+    fn look_again(
+        &mut self,
+        place: Place<'x, R, F, A, B, M>,
+    ) -> Option<PoolRunnable<'x, R, F, A, B, M>>
+        ensures place { IfSome result (λ runnable. runnable.around.1 ≡ place.entry.1) }
+        ensures settled { OwesNothing self.new.worker }
+    {
+        wake_posted(place);
+        let next = self.find(place);
+        self.worker.settle();
+        next
+    }
+
+    /// A turn but for the run of what it takes: wakes one task whose number was posted, and takes the next Runnable. At the first and each 64th turn, and where there is none, it frees what keys left. Where there is neither it rests, as `rest` says, if the bells counted no interruption since `interruptions`: so ask for them before the last look at what the loop waits for. Run what it answers.
     pub fn take_turn(&mut self, interruptions: u64) -> Option<PoolRunnable<'x, R, F, A, B, M>>
         ensures place { IfSome result (λ runnable. runnable.around.1 ≡ self.old.worker.number) }
+        ensures settled { OwesNothing self.new.worker }
     {
-        self.take_turn_for(interruptions, None)
+        self.take_turn_within(interruptions, &NoLimit)
     }
 
-    // As `take_turn`, where a sleep lasts no longer than `most`.
-    pub(crate) fn take_turn_for(
+    // As `take_turn`, where a rest is no longer than a limit.
+    pub(crate) fn take_turn_within<L: Limit>(
         &mut self,
         interruptions: u64,
-        most: Option<Duration>,
+        limit: &L,
     ) -> Option<PoolRunnable<'x, R, F, A, B, M>>
         ensures place { IfSome result (λ runnable. runnable.around.1 ≡ self.old.worker.number) }
+        ensures settled { OwesNothing self.new.worker }
     {
         let place = self.place();
+        match self.turn(place, interruptions, limit) {
+            Some(runnable) => {
+                self.worker.pay();
+                Some(runnable)
+            }
+            None => self.look_again(place),
+        }
+    }
+
+    // As `take_turn_within`, but without a look after the rest: the worker may owe something then, and the loop that calls it looks again, or pays.
+    pub(crate) fn turn<L: Limit>(
+        &mut self,
+        place: Place<'x, R, F, A, B, M>,
+        interruptions: u64,
+        limit: &L,
+    ) -> Option<PoolRunnable<'x, R, F, A, B, M>>
+        ensures place { IfSome result (λ runnable. runnable.around.1 ≡ place.entry.1) }
+    {
         if self.count % COLLECTS == 0 {
             collect(place);
         }
         self.count = self.count.wrapping_add(1);
         let woke = wake_posted(place);
-        let next = self.next();
+        let next = self.find(place);
         if next.is_none() && !woke && !collect(place) {
-            self.rest_for(interruptions, most);
+            self.rest_within(interruptions, limit);
         }
         next
     }
 
     /// The next Runnable for this worker, for which it searches and sleeps where `next` answers `None`. Run it. `None` once the pool is shut down, or has finished: then no Runnable is left that this worker can find.
-    pub fn await_next(&mut self) -> Option<PoolRunnable<'x, R, F, A, B, M>> {
+    pub fn await_next(&mut self) -> Option<PoolRunnable<'x, R, F, A, B, M>>
+        ensures settled { OwesNothing self.new.worker }
+    {
+        let next = self.await_within(&NoLimit);
+        self.worker.pay();
+        next
+    }
+
+    // As `await_next`, but `None` also where the limit is over. The worker may owe something then.
+    pub(crate) fn await_within<L: Limit>(
+        &mut self,
+        limit: &L,
+    ) -> Option<PoolRunnable<'x, R, F, A, B, M>> {
         let pool = self.pool;
+        let place = self.place();
         let bells: &Bells = pool.bells();
         for _ in pool.rt.forever() {
             let interruptions = bells.interruptions();
             if self.ends() {
-                collect(self.place());
+                collect(place);
                 return None;
             }
-            if pool.stage.is_finishing() {
-                match self.take_last_turn() {
-                    None if !pool.is_finished() => {}
-                    last => return last,
-                }
-            } else if let Some(runnable) = self.take_turn(interruptions) {
-                return Some(runnable);
+            let finishes = pool.stage.is_finishing();
+            let next = if finishes {
+                self.take_last_turn(place)
+            } else {
+                self.turn(place, interruptions, limit)
+            };
+            if next.is_some() || (finishes && pool.is_finished()) || limit.is_over() {
+                return next;
             }
         }
         unreachable!()
+    }
+
+    // As a turn, but it frees what keys left each time, and never rests: a turn of a pool that finishes.
+    fn take_last_turn(
+        &mut self,
+        place: Place<'x, R, F, A, B, M>,
+    ) -> Option<PoolRunnable<'x, R, F, A, B, M>> {
+        collect(place);
+        wake_posted(place);
+        self.find(place)
     }
 
     /// Is the worker until the pool is shut down, or has finished: runs each Runnable that `await_next` answers.
     pub fn work(&mut self)
     where
         F: Future<PoolWaker<'x, R, F, A, B, M>>,
+        ensures settled { OwesNothing self.new.worker }
     {
         let pool = self.pool;
         for _ in pool.rt.forever() {
@@ -222,7 +299,7 @@ impl<'x, R: Wait + Drop + Copy, F: Yields, A: Wake, B: Allocator + Copy, M: Drop
         }
     }
 
-    // Takes turns until a handle has an answer. `Pending` says that the pool was shut down before.
+    // Takes turns until a handle has an answer. `Pending` says that the pool was shut down before. The worker may owe something then.
     fn await_answer<T: Awaited<A>>(
         &mut self,
         task: &mut T,
@@ -233,21 +310,17 @@ impl<'x, R: Wait + Drop + Copy, F: Yields, A: Wake, B: Allocator + Copy, M: Drop
         ensures { T.Awaited.answers task.old result task.new }
     {
         let pool = self.pool;
+        let place = self.place();
         let bells: &Bells = pool.bells();
         for _ in pool.rt.forever() {
             let interruptions = bells.interruptions();
             let answer = task.poll_once(awaiter);
             let ends = self.ends();
             match answer {
-                TaskPoll::Pending if ends => return answer,
-                TaskPoll::Pending => {
-                    run_if_any(self.take_turn(interruptions));
+                TaskPoll::Pending if !ends => {
+                    run_if_any(self.turn(place, interruptions, &NoLimit));
                 }
-                answer => {
-                    // What woke this worker may have been meant for a task that another one has to run now.
-                    bells.interrupt();
-                    return answer;
-                }
+                answer => return answer,
             }
         }
         unreachable!()
@@ -265,8 +338,9 @@ impl<'x, R: Wait + Drop + Copy, F: Yields, A: Wake, B: Allocator + Copy, M: Drop
     // Drops the Runnables that this worker has in its hands, and those that it finds.
     fn cancel_found(&mut self) {
         let pool = self.pool;
+        let place = self.place();
         for _ in pool.rt.forever() {
-            match self.next() {
+            match self.find(place) {
                 Some(runnable) => drop(runnable),
                 None => return,
             }
@@ -312,12 +386,16 @@ impl<'x, R: Wait + Drop + Copy, F: Yields, B: Allocator + Copy, M: Drop> Turns<
     ) -> Result<T::Output, BlockOnError>
     where
         F: Future<PoolWaker<'x, R, F, BellAwaiter<R>, B, M>>,
-        ensures { T.Awaited.answers task.old (answer_of result) task.new }
+        ensures answer { T.Awaited.answers task.old (answer_of result) task.new }
+        ensures settled { OwesNothing self.new.worker }
     {
         let Some(awaiter) = BellAwaiter::new(self.pool, self.worker.number()) else {
+            self.worker.pay();
             return Err(BlockOnError::Refused);
         };
-        match self.await_answer(task, &awaiter) {
+        let answer = self.await_answer(task, &awaiter);
+        self.worker.pay();
+        match answer {
             TaskPoll::Ready(Ok(output)) => Ok(output),
             TaskPoll::Ready(Err(_)) => Err(BlockOnError::Closed),
             TaskPoll::Refused => Err(BlockOnError::Refused),

@@ -172,17 +172,16 @@ fn a_key_of_another_pool_keeps_no_task(rt: HostRuntime) {
     assert!(rt; keep_elsewhere(rt, rt.alloc()));
 }
 
-// Whether a worker rests after the shutdown, and the interruptions were counted.
+// Whether a worker rests after the shutdown and finds nothing, and the interruptions were counted.
 fn rest_late<R: Wait + Abort + Drop + Copy + 'static>(rt: R, alloc: Global) -> bool {
     let pool = new_pool(rt, alloc, 1);
     let mut turns = turns_of(&pool, 0);
     shut_down(&pool);
     let interruptions = pool.bells().interruptions();
-    turns.rest(interruptions);
-    let ended = pool.is_shut_down();
+    let found = turns.rest(interruptions).is_some();
     drop_turns(turns);
     drop_pool(pool);
-    interruptions > 0 && ended
+    interruptions > 0 && !found
 }
 
 // The interruptions are counted after the shutdown, so they do not keep it from a sleep.

@@ -8,7 +8,7 @@ use std::sync::Wait;
 use std::sync::atomic::{AtomicBool, AtomicU64, Ordering};
 use std::thread::{self, Threads};
 use std::time::{Clock, Duration};
-use work_queues::{Crew, Worker};
+use work_queues::{Crew, NoLimit, Worker};
 
 /// How many workers there are.
 const WORKERS: usize = 3;
@@ -108,7 +108,7 @@ impl Storm {
             }
             match self.crew.find(rt, worker) {
                 Some(item) => add(&self.taken, item),
-                None => self.crew.rest(rt, worker, interruptions, None),
+                None => self.crew.rest(rt, worker, interruptions, &NoLimit),
             }
             dice.delay(rt);
         }

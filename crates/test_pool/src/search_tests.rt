@@ -9,7 +9,7 @@ use std::thread;
 use std::thread::yield_now;
 use std::time::{Clock, Duration, Instant};
 use work_queues::bells::Look;
-use work_queues::{Bells, Board, Crew, Worker};
+use work_queues::{Bells, Board, Crew, NoLimit, Worker};
 
 /// How many items each queue has room for.
 const ROOM: usize = 2;
@@ -194,7 +194,7 @@ fn what_a_worker_leaves_is_found(rt: HostRuntime) {
     let crew = Crew::new(rt.alloc(), rt.alloc(), 2, ROOM).expect(&rt, "refused");
     let mut thief = crew.worker(rt.alloc(), 1).expect(&rt, "refused");
     let pushed = crew.push(&rt, 0, 5u64).is_ok();
-    crew.rest(&rt, &mut thief, crew.bells().interruptions(), None);
+    crew.rest(&rt, &mut thief, crew.bells().interruptions(), &NoLimit);
     let found = crew.find(&rt, &mut thief);
     let nothing = crew.find(&rt, &mut thief);
     drop(crew.end_turns(&rt, thief));
@@ -209,10 +209,43 @@ fn a_worker_of_another_crew_finds_what_is_there(rt: HostRuntime) {
     let mut thief = crew.worker(rt.alloc(), 1).expect(&rt, "refused");
     let pushed = other.push(&rt, 0, 5u64).is_ok();
     let found = other.find(&rt, &mut thief);
-    let most = Some(Duration::from_millis(1));
-    other.rest(&rt, &mut thief, other.bells().interruptions(), most);
+    let most = Duration::from_millis(1);
+    other.rest(&rt, &mut thief, other.bells().interruptions(), &most);
     drop(other.end_turns(&rt, thief));
     assert!(rt; pushed && found == Some(5));
+}
+
+// Whom a look wakes beside an item from outside, once worker 0 has paid where it owed nothing, and once it has paid where its search has seen the item. Worker 1 sleeps.
+fn wakes_of_two_looks<R: Wait + Abort>(
+    rt: &R,
+    crew: &Crew<u64>,
+    worker: &mut Worker<u64>,
+) -> (usize, usize) {
+    let bells = crew.bells();
+    let claim = bells.claim(1).expect(rt, "refused");
+    let sleeper = allowed(rt, bells.lie_down(rt, bells.look(), &claim));
+    worker.pay();
+    let first = pay(bells, bells.look());
+    bells.settle(bells.get_up(sleeper));
+    crew.rest(rt, worker, bells.interruptions(), &NoLimit);
+    let sleeper = allowed(rt, bells.lie_down(rt, bells.look(), &claim));
+    worker.pay();
+    let second = pay(bells, bells.look());
+    bells.settle(bells.get_up(sleeper));
+    bells.settle(bells.give_back(claim));
+    (first, second)
+}
+
+// The second look finds nobody who is still asleep.
+#[test]
+fn a_worker_that_pays_wakes_another_one_if_it_owes_a_look(rt: HostRuntime) {
+    let crew = Crew::new(rt.alloc(), rt.alloc(), 2, ROOM).expect(&rt, "refused");
+    let mut worker = crew.worker(rt.alloc(), 0).expect(&rt, "refused");
+    let pushed = crew.push(&rt, 2, 5u64).is_ok();
+    let woken = wakes_of_two_looks(&rt, &crew, &mut worker);
+    let found = crew.find(&rt, &mut worker);
+    drop(crew.end_turns(&rt, worker));
+    assert!(rt; pushed && woken == (1, NOBODY) && found == Some(5));
 }
 
 // How many seconds a worker rests that finds nothing and may sleep for `LONG`.
@@ -220,8 +253,8 @@ fn rest_of<R: Wait + Clock>(rt: &R, crew: &Crew<u64>, worker: &mut Worker<u64>) 
     let Ok(begin) = Instant::now(rt) else {
         return LONG;
     };
-    let most = Some(Duration::from_secs(LONG));
-    crew.rest(rt, worker, crew.bells().interruptions(), most);
+    let most = Duration::from_secs(LONG);
+    crew.rest(rt, worker, crew.bells().interruptions(), &most);
     match begin.elapsed(rt) {
         Ok(rested) => rested.as_secs(),
         Err(_) => LONG,

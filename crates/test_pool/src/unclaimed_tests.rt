@@ -4,7 +4,7 @@ use std::alloc::Global;
 use std::process::Abort;
 use std::sync::Wait;
 use std::time::{Clock, Duration, Instant};
-use work_queues::{Crew, Worker};
+use work_queues::{Crew, NoLimit, Worker};
 
 /// How many items each queue has room for.
 const ROOM: usize = 16;
@@ -91,7 +91,7 @@ fn rest_after<R: Wait + Clock>(
     let Ok(begin) = Instant::now(rt) else {
         return u128::MAX;
     };
-    crew.rest(rt, worker, interruptions, Some(Duration::from_nanos(1)));
+    crew.rest(rt, worker, interruptions, &Duration::from_nanos(1));
     begin.elapsed(rt).map_or(u128::MAX, |it| it.as_nanos())
 }
 
@@ -127,7 +127,7 @@ fn a_worker_that_leaves_passes_an_interruption_on(rt: HostRuntime) {
     let crew = crew_of(&rt, rt.alloc(), 1);
     let mut worker = crew.worker(rt.alloc(), 0).expect(&rt, "refused");
     crew.bells().interrupt();
-    crew.rest(&rt, &mut worker, crew.bells().interruptions(), None);
+    crew.rest(&rt, &mut worker, crew.bells().interruptions(), &NoLimit);
     let hears = !crew.bells().is_due();
     drop(crew.end_turns(&rt, worker));
     let is_due = crew.bells().is_due();

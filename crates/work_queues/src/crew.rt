@@ -1,5 +1,5 @@
 //! What the workers of a pool share, and what each does with it: push, find, and rest.
-ghost use Rattle.std.specs.Prelude.{◌≡◌, ◌<◌, ◌≤◌, ◌↔◌, IfErr, IfOk, IfSome, IsSome};
+ghost use Rattle.std.specs.Prelude.{◌≡◌, ◌<◌, ◌≤◌, ◌↔◌, IfErr, IfOk, IfSome, IsNone, IsSome};
 ghost use Rattle.std.specs.Arc.{arc_value};
 ghost use Rattle.std.proofs.Props.{props};
 ghost use Rattle.work_queues.specs.Duties.{IsClaim};
@@ -8,12 +8,12 @@ mod sharing;
 
 use crate::bells::{Bells, Claim, Heard, Look, Woken};
 use crate::board::{Board, pause};
+use crate::limit::Limit;
 use crate::settings::Settings;
 use std::alloc::{AllocError, Allocator, Global};
 use std::collections::VecDeque;
 use std::mem;
 use std::sync::{Arc, Wait};
-use std::time::Duration;
 
 /// A worker looks at the queue of the next other worker first, once in so many times that it looks first at that for what comes from outside. The thread of that one may be in a long poll, or gone.
 const OTHERS_EVERY: u64 = 16;
@@ -83,6 +83,8 @@ pub struct Worker<T, A: Allocator = Global> {
 }
 
 impl<T, A: Allocator> Worker<T, A> {
+    ghost use Rattle.work_queues.specs.Settled.{OwesNothing};
+
     /// Its number: that of its queue.
     pub fn number(&self) -> usize
         ensures { result ≡ self.now.number }
@@ -97,15 +99,38 @@ impl<T, A: Allocator> Worker<T, A> {
         self.counts
     }
 
-    // Ends the looks that it owes: it has found an item, or finds none any more.
-    fn settle(&mut self) {
+    // Ends the looks that it owes: where a flag shows something, another worker is woken.
+    fn pay_looks(&mut self)
+        ensures owed { IsNone self.new.owed }
+        ensures heard { self.new.heard ≡ self.old.heard }
+    {
         if let Some(look) = self.owed.take() {
             self.bells.settle(look);
         }
     }
 
+    /// Ends what it owes, where it owes something: it has looked once more, for items and for what interruptions are for.
+    pub fn settle(&mut self)
+        ensures { OwesNothing self.new }
+    {
+        self.pay_looks();
+        if let Some(heard) = self.heard.take() {
+            self.bells.answer(heard, &self.claim);
+        }
+    }
+
+    /// Has another worker do what it owes, where it owes something: it looks no more for now. Where a queue shows an item, one that sleeps is woken, if none searches. An interruption that it has heard is due again.
+    pub fn pay(&mut self)
+        ensures { OwesNothing self.new }
+    {
+        self.pay_looks();
+        if let Some(heard) = self.heard.take() {
+            self.bells.pass_on(heard);
+        }
+    }
+
     // Lies down, looks at each flag, and sleeps if none shows anything.
-    fn sleep<R: Wait>(&self, rt: &R, look: Look, interruptions: u64, most: Option<Duration>) -> Look
+    fn sleep<R: Wait, L: Limit>(&self, rt: &R, look: Look, interruptions: u64, limit: &L) -> Look
         requires { look.place.seat.table_id ≡ (arc_value self.now.bells).table.shared.table_id }
         ensures { result.place.seat.table_id ≡ (arc_value self.now.bells).table.shared.table_id }
     {
@@ -114,7 +139,7 @@ impl<T, A: Allocator> Worker<T, A> {
                 if !self.bells.sees_something(&mut sleeper)
                     && self.bells.interruptions() == interruptions
                 {
-                    self.bells.sleep(rt, &sleeper, most);
+                    self.bells.sleep(rt, &sleeper, limit.left());
                 }
                 self.bells.get_up(sleeper)
             }
@@ -123,19 +148,19 @@ impl<T, A: Allocator> Worker<T, A> {
     }
 
     // Counts that it lies down, and does so.
-    fn lie_down<R: Wait>(
+    fn lie_down<R: Wait, L: Limit>(
         &mut self,
         rt: &R,
         look: Look,
         interruptions: u64,
-        most: Option<Duration>,
+        limit: &L,
     ) -> Look
         requires { look.place.seat.table_id ≡ (arc_value self.old.bells).table.shared.table_id }
         ensures look { result.place.seat.table_id ≡ (arc_value self.old.bells).table.shared.table_id }
         ensures kept { (self.new.bells ≡ self.old.bells) × (self.new.owed ≡ self.old.owed) }
     {
         self.counts.sleeps = self.counts.sleeps.wrapping_add(1);
-        self.sleep(rt, look, interruptions, most)
+        self.sleep(rt, look, interruptions, limit)
     }
 
     // It owes these looks until it has found an item.
@@ -220,6 +245,8 @@ impl<T: Drop, A: Allocator + Copy> Crew<T, A> {
 }
 
 impl<T, A: Allocator> Crew<T, A> {
+    ghost use Rattle.work_queues.specs.Settled.{OwesNothing};
+
     /// How many workers it has.
     pub fn workers(&self) -> usize
         ensures { result ≡ (arc_value self.now.bells).workers }
@@ -306,14 +333,19 @@ impl<T, A: Allocator> Crew<T, A> {
         None
     }
 
-    // Looks for a while, as the one worker that searches. True where there is something to do.
-    fn sees_work(&self, worker: usize, interruptions: u64) -> bool {
+    // Looks for a while, as the one worker that searches, and no longer than the limit, for which it asks once in a round. True where there is something to do.
+    fn sees_work<L: Limit>(&self, worker: usize, interruptions: u64, limit: &L) -> bool {
         for look in 0..self.settings.search_looks {
             if self.has_news(interruptions) {
                 return true;
             }
-            if look % LOOKS_A_ROUND == 0 && self.board.has_some_for(worker) {
-                return true;
+            if look % LOOKS_A_ROUND == 0 {
+                if limit.is_over() {
+                    return false;
+                }
+                if self.board.has_some_for(worker) {
+                    return true;
+                }
             }
             pause();
         }
@@ -342,7 +374,11 @@ impl<T, A: Allocator> Crew<T, A> {
     }
 
     /// The next item for this worker: what a batch left in its hands, then that at the front of its queue, then half of what came from outside or of another worker's queue. Once in 61 looks what came from outside is first, and once in 976 looks the queue of another worker, of each in turn, but for other `Settings`. `None` also where another worker's queue shows items that this one leaves to it.
-    pub fn find<R: Wait>(&self, rt: &R, worker: &mut Worker<T, A>) -> Option<T> {
+    ///
+    /// Where it finds one, the worker owes nothing from here on. So look first at what interruptions are for, if it has heard one.
+    pub fn find<R: Wait>(&self, rt: &R, worker: &mut Worker<T, A>) -> Option<T>
+        ensures { IsSome result → OwesNothing worker.new }
+    {
         let item = self.find_next(rt, worker);
         if item.is_some() {
             worker.counts.found = worker.counts.found.wrapping_add(1);
@@ -397,13 +433,15 @@ impl<T, A: Allocator> Crew<T, A> {
         batch
     }
 
-    /// Searches for a while, if no other worker does, and then sleeps, for `most` or without an end, if no queue has an item and there was no interruption since `interruptions` were counted. It may also return for no reason.
-    pub fn rest<R: Wait>(
+    /// Searches for a while, if no other worker does, and then sleeps, if no queue has an item and there was no interruption since `interruptions` were counted. It ends at the limit, a search at most one round of looks later. It may also return for no reason.
+    ///
+    /// The worker owes a look then, and may have heard an interruption. A `find` that answers an item ends what is owed, and the next rest takes it over. Else call `settle` once the worker has looked again, or `pay` where it does not.
+    pub fn rest<R: Wait, L: Limit>(
         &self,
         rt: &R,
         worker: &mut Worker<T, A>,
         interruptions: u64,
-        most: Option<Duration>,
+        limit: &L,
     )
         ensures { IsSome worker.new.owed }
     {
@@ -413,15 +451,15 @@ impl<T, A: Allocator> Crew<T, A> {
         };
         let look = match worker.bells.begin_search(look) {
             Ok(search) => {
-                let sees = self.sees_work(worker.number, interruptions);
+                let sees = self.sees_work(worker.number, interruptions, limit);
                 let look = worker.bells.end_search(search);
                 if sees {
                     look
                 } else {
-                    worker.lie_down(rt, look, interruptions, most)
+                    worker.lie_down(rt, look, interruptions, limit)
                 }
             }
-            Err(look) => worker.lie_down(rt, look, interruptions, most),
+            Err(look) => worker.lie_down(rt, look, interruptions, limit),
         };
         worker.owe(look);
         worker.hear();

@@ -1,4 +1,4 @@
-//! The mail of a pool goes round its parts: a number that is posted again and again keeps no other one waiting.
+//! The mail of a pool goes round its parts: a number that is posted again and again keeps no other one waiting. Who takes one of several has the others looked for.
 ghost use Rattle.std.specs.Prelude.{⊤};
 
 use async_task::{Future, Poll, Wake, Yields};
@@ -115,4 +115,35 @@ fn post_beside_an_eager_one<R: Wait + Abort + Drop + Copy>(
 fn a_number_that_is_always_posted_keeps_no_other_waiting(rt: HostRuntime) {
     let seen = post_beside_an_eager_one(rt, rt.alloc());
     assert!(rt; seen == ((true, true), 4, (4, 2)));
+}
+
+// Of two posters whose numbers are posted: whether a worker that hears of them takes one and runs its task, whether an interruption is due then, and how often both were polled.
+fn post_two<R: Wait + Abort + Drop + Copy>(rt: R, alloc: Global) -> (bool, bool, u64) {
+    let pool = PosterPool::new(rt, alloc, 1).expect(&rt, "refused");
+    let first = spawn_poster(&pool, 0, false);
+    let second = spawn_poster(&pool, 0, false);
+    let mut turns = pool.turns(0).expect(&rt, "refused");
+    tick(&mut turns);
+    tick(&mut turns);
+    post(&pool, first.number.load(Ordering::SeqCst) as usize);
+    post(&pool, second.number.load(Ordering::SeqCst) as usize);
+    let ran = match turns.rest(pool.bells().interruptions()) {
+        Some(runnable) => {
+            runnable.run();
+            true
+        }
+        None => false,
+    };
+    let is_due = pool.bells().is_due();
+    let polls = first
+        .polls
+        .load(Ordering::SeqCst)
+        .saturating_add(second.polls.load(Ordering::SeqCst));
+    (ran, is_due, polls)
+}
+
+// While it runs that task, another worker is to take the other number.
+#[test]
+fn who_takes_one_of_two_numbers_has_the_other_looked_for(rt: HostRuntime) {
+    assert!(rt; post_two(rt, rt.alloc()) == (true, true, 3));
 }

@@ -1,9 +1,11 @@
-//! `block_on` of a pool, of Tasks and of a Cancel: alone, and where the pool ends meanwhile. Beside another worker it stands in `awaiting_tests`.
+//! `block_on` of a pool, of Tasks and of a Cancel: alone, and where the pool ends meanwhile. Beside another worker it stands in `awaiting_tests`. And a loop of one's own that does the same.
 use crate::future_tests::calls::{
-    block_on, drop_both, drop_pool, drop_turns, link_task, new_counts, new_pool, tick, turns_of,
+    block_on, drop_both, drop_pool, drop_turns, link_task, new_counts, new_pool, shut_down, tick,
+    turns_of,
 };
 use crate::future_tests::link::{Counts, Errand, LinkTask, LinkTurns};
-use executor::BlockOnError;
+use async_task::TaskPoll;
+use executor::{BellAwaiter, BlockOnError};
 use std::alloc::Global;
 use std::process::Abort;
 use std::sync::{Arc, Wait};
@@ -94,4 +96,51 @@ fn wait_for_cancel<R: Wait + Abort + Drop + Copy + 'static>(
 #[test]
 fn block_on_of_a_cancel_waits_until_the_future_is_gone(rt: HostRuntime) {
     assert!(rt; wait_for_cancel(rt, rt.alloc()) == (true, (Ok(None), 1)));
+}
+
+// Is the worker until the task of a Task is over, or the pool is shut down: what that answers.
+fn await_by_turns<'x, R: Wait + Drop + Copy>(
+    turns: &mut LinkTurns<'x, R>,
+    task: &mut LinkTask<'x, R>,
+) -> Option<u64> {
+    let (pool, worker) = turns.place();
+    let awaiter = BellAwaiter::new(pool, worker)?;
+    for _ in pool.rt().forever() {
+        let interruptions = pool.bells().interruptions();
+        match task.poll(&awaiter) {
+            TaskPoll::Pending if pool.is_shut_down() => return None,
+            TaskPoll::Pending => {
+                if let Some(runnable) = turns.take_turn(interruptions) {
+                    runnable.run();
+                }
+            }
+            TaskPoll::Ready(answer) => return answer.ok(),
+            TaskPoll::Refused => return None,
+        }
+    }
+    unreachable!()
+}
+
+// What a loop of one's own has of a task beside another one, and of one that stays pending, after a shutdown.
+fn await_in_a_loop<R: Wait + Abort + Drop + Copy>(
+    rt: R,
+    alloc: Global,
+) -> (Option<u64>, Option<u64>) {
+    let pool = new_pool(rt, alloc, 1);
+    let counts = new_counts(&pool);
+    let mut staying = link_task(&pool, 1, 0, Errand::Stay, &counts);
+    let mut task = link_task(&pool, 1, 0, Errand::GiveWay(10), &counts);
+    let mut turns = turns_of(&pool);
+    let output = await_by_turns(&mut turns, &mut task);
+    shut_down(&pool);
+    let none = await_by_turns(&mut turns, &mut staying);
+    drop_both(turns, task);
+    drop(staying);
+    drop_pool(pool);
+    (output, none)
+}
+
+#[test]
+fn a_loop_of_ones_own_awaits_a_task(rt: HostRuntime) {
+    assert!(rt; await_in_a_loop(rt, rt.alloc()) == (Some(1), None));
 }

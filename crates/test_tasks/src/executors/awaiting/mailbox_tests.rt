@@ -6,12 +6,13 @@ use std::process::Abort;
 use std::sync::atomic::{AtomicU64, Ordering};
 use std::sync::{Arc, Wait};
 use std::thread::{self, Threads};
+use std::time::{Clock, Duration};
 
 // How often two threads wait at a mailbox. In some of these rounds both of them sleep as the numbers come.
 const ROUNDS: usize = 20;
 
-// How often the third thread gives way to them before it posts.
-const YIELDS: usize = 500;
+// How many milliseconds the third thread sleeps before it posts: nobody sees who sleeps at a mailbox.
+const SLEEP: u64 = 1;
 
 // Posts 2, 0, 2 and 3 to a mailbox with room for three numbers, one by an awaiter, and takes out what is there: whether each post
 // but the last was answered yes, and 2 and 0 came out, and no more before the awaiter posted again.
@@ -50,21 +51,19 @@ fn say_and_wait<R: Wait + Drop + Copy>(mailbox: &Mailbox<R>, said: &AtomicU64) -
 }
 
 // Posts two numbers, the second right after the first, once two threads had time to fall asleep.
-fn post_both<R: Wait + Drop + Copy>(rt: R, mailbox: &Mailbox<R>, said: &AtomicU64) -> bool {
+fn post_both<R: Wait + Clock + Drop + Copy>(rt: R, mailbox: &Mailbox<R>, said: &AtomicU64) -> bool {
     for _ in rt.forever() {
         if said.load(Ordering::SeqCst) == 2 {
             break;
         }
         thread::yield_now();
     }
-    for _ in 0..YIELDS {
-        thread::yield_now();
-    }
+    thread::sleep(&rt, Duration::from_millis(SLEEP));
     mailbox.post(0) && mailbox.post(1)
 }
 
 // What two threads get that wait while a third one posts 0 and 1.
-fn wait_in_two<R: Wait + Abort + Threads + Drop + Copy + Send + Sync>(
+fn wait_in_two<R: Wait + Clock + Abort + Threads + Drop + Copy + Send + Sync>(
     rt: R,
     alloc: Global,
 ) -> (usize, usize) {

@@ -8,5 +8,5 @@ returns-in-Some-look-clause-leaves g c = next-later c.args.group.now.members c.l
 pub returns-in-Some-look-clause-refused : goal.returns-in-Some-look-clause-refused
 returns-in-Some-look-clause-refused g c = refused-later c.args.group.now.members c.loop.group.members c.look.new.group.members _ c.in-Some-look.ensures.refused c.loop.invariant.same
 
-pub returns-then-is_zero-clause-refused : goal.returns-then-is_zero-clause-refused
-returns-then-is_zero-clause-refused g c number = c.in_default.ensures.stays refl number ∙ c.loop.invariant.same number
+pub returns-then-is_over-clause-refused : goal.returns-then-is_over-clause-refused
+returns-then-is_over-clause-refused g c number = c.in_default.ensures.stays refl number ∙ c.loop.invariant.same number
