@@ -5,3 +5,11 @@ pub mod Given
 pub mod Goes
 pub mod Ending
 pub mod Runs
+pub mod Notices
+pub mod Looks
+pub mod LooksOn
+pub mod Cancelling
+pub mod Registering
+pub mod Detaching
+pub mod Polling
+pub mod Crossing

@@ -1,3 +1,5 @@
 pub mod Hands
 pub mod Places
 pub mod Answers
+pub mod Parties
+pub mod TaskAnswers

@@ -5,13 +5,21 @@
 #![tactic(auto)]
 
 pub mod answers;
+pub mod cancel;
+pub mod detach;
 pub mod discard;
 pub mod ends;
 pub mod grip;
 pub mod hand;
 pub mod handle;
 pub mod hold;
+pub mod look;
+pub mod poll;
+pub mod poll_exports;
+pub mod register;
 pub mod run;
 pub mod schedule;
 pub mod spawn;
+pub mod step;
+pub mod task_answers;
 pub mod waker;

@@ -1,0 +1,17 @@
+use Rattle.std.proofs.Common.{[], ◌∷◌, subst}
+use Rattle.task_cell.proofs.Moved.{position_is, stands}
+use Rattle.task_cell.specs.Calls.{Did}
+use Rattle.task_core.specs.declared.acts.Act.TheVariants.{WakeAwaiter}
+use Rattle.task_laws.specs.declared.positions.Position.TheVariants.{CloneInHand, Looking}
+use Rattle.task_steps.specs.Deeds.{act}
+use Rattle.task_steps.specs.Standing.{poll_number}
+use Rattle.task_exports.proofs.register.CloneWokenStep.make.Goals as goal
+
+pub look_again-requires-clause-party : goal.look_again-requires-clause-party
+look_again-requires-clause-party c = let s = c.requires.starts in (s.0, stands _ _ _ _ _ (subst (λ at. Did (act WakeAwaiter ∷ []) (Looking (poll_number at)) c.args.party.now c.note_clone_woken.new.party) (position_is c.args.party.now (CloneInHand s.0) _ s.1) c.note_clone_woken.ensures))
+
+pub returns : goal.returns
+returns c = record {
+  does = λ n s1. let g = subst (λ at. Did (act WakeAwaiter ∷ []) (Looking (poll_number at)) c.args.party.now c.note_clone_woken.new.party) (position_is c.args.party.now (CloneInHand n) _ s1) c.note_clone_woken.ensures in
+      ((c.note_clone_woken.new.party, g, c.look_again.ensures n (stands _ _ _ _ _ g)));
+}
