@@ -184,6 +184,22 @@ impl<'a, R: Wait + Clock + Abort + Drop + Copy> Meeting<'a, R> {
     }
 }
 
+// Runs worker 1, who spawns, and the worker that waits, each on a thread. False where a task was run by nobody.
+fn meet_in_threads<R: Wait + Clock + Abort + Threads + Drop + Copy + Send + Sync + 'static>(
+    rt: &R,
+    meeting: &Meeting<'_, R>,
+) -> bool {
+    let beside = || {
+        thread::join(
+            rt,
+            || refusal_of_run(meeting.pool, 1),
+            || meeting.spawn_all(),
+        );
+    };
+    let (_, all_ran) = thread::join(rt, beside, || meeting.meet_all());
+    all_ran
+}
+
 // Whether each task is run that comes while worker 0 waits until a deadline, or soon after it, and worker 1 sleeps.
 fn meet_by_deadlines<R: Wait + Clock + Abort + Threads + Drop + Copy + Send + Sync + 'static>(
     rt: R,
@@ -201,12 +217,7 @@ fn meet_by_deadlines<R: Wait + Clock + Abort + Threads + Drop + Copy + Send + Sy
         wait,
         spread,
     };
-    let (_, all_ran) = thread::join(
-        &rt,
-        || thread::join(&rt, || refusal_of_run(&pool, 1), || meeting.spawn_all()),
-        || meeting.meet_all(),
-    );
-    all_ran
+    meet_in_threads(&rt, &meeting)
 }
 
 // The worker mostly searches until its deadline, and a push wakes nobody meanwhile.
