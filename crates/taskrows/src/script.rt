@@ -32,53 +32,47 @@ pub struct Script {
 pub fn play<R>(
     fixture: &Fixture<R>,
     alloc: Global,
-    script: &'static Script,
+    script: &Script,
     counts: Counts,
 ) -> Result<Outcome, Missing>
 where
     R: Wait + Threads + Drop + Copy + Send + Sync,
     ensures { IfOk result (AgreesAt counts) }
 {
+    if !script.beside.is_empty() && !starts_a_thread(&fixture.rt) {
+        return Err(Missing::Thread);
+    }
     let mut hands = Hands::new(fixture, alloc)?;
     let before = hands.play(script.steps);
-    let Some((meanwhile, mut hands)) = run_beside(fixture, hands, script) else {
-        return Err(Missing::Thread);
-    };
+    let meanwhile = script.beside.is_empty() || run_beside(fixture, &mut hands, script);
     let after = hands.play(script.after);
     Ok(hands.end(before & meanwhile & after, counts)?)
 }
 
-// Runs, and has a second thread make its steps, where there are any: whether all was as the script says, and the poll did not go on alone. `None` where no
-// second thread can be started: then nothing is run, since a poll would wait for it.
-fn run_beside<'x, R>(
-    fixture: &'x Fixture<R>,
-    mut hands: Hands<'x, R>,
-    script: &'static Script,
-) -> Option<(bool, Hands<'x, R>)>
+// Whether a second thread can be started: without one a poll would wait for it.
+fn starts_a_thread<R: Wait + Threads + Drop + Copy + Send + Sync>(rt: &R) -> bool {
+    thread::scope(thread::scope_env(), rt, |scope| {
+        scope.spawn(|| ()).is_ok()
+    })
+}
+
+// Runs, and has a second thread make its steps: whether all was as the script says, and the poll did not go on alone.
+fn run_beside<'x, R>(fixture: &'x Fixture<R>, hands: &mut Hands<'x, R>, script: &Script) -> bool
 where
     R: Wait + Threads + Drop + Copy + Send + Sync,
 {
-    if script.beside.is_empty() {
-        return Some((true, hands));
-    }
     let Some(runnable) = hands.take_runnable() else {
-        return Some((false, hands));
+        return false;
     };
     let rt = fixture.rt;
     let rendezvous = &fixture.surroundings.rendezvous;
     rendezvous.arm();
-    thread::scope(thread::scope_env(), &rt, |scope| {
-        let second = scope.spawn(move || {
-            let agrees = play_beside(rendezvous, &mut hands, script.beside);
-            (agrees, hands)
-        });
-        let Ok(second) = second else {
-            return None;
-        };
-        let answer = calls::run(runnable);
-        let (agrees, hands) = second.join(&rt);
-        Some((agrees & (answer == script.answer) & rendezvous.met(), hands))
-    })
+    let (agrees, answer) = thread::join(
+        &rt,
+        || play_beside(rendezvous, hands, script.beside),
+        || calls::run(runnable),
+    );
+    agrees & (answer == script.answer) & rendezvous.met()
 }
 
 // What the second thread does: whether the poll came, and each step was as it says.
